@@ -7,16 +7,16 @@ every set of updates that a placement can have before its position.
 import itertools
 import re
 
-MOST_LINES = 2_000_000
+MAX_LINES = 2_000_000
 LONGEST_LINE = 200
-LARGEST_VALUE = 10**12
-LARGEST_LIMIT = 10**18
-LARGEST_WEIGHT = 1_000
-MOST_ITEMS = 4_096
-MOST_TRANSACTIONS = 65_535
-MOST_READS = 1_000
-MOST_ENTRIES = 1_000_000
-MOST_BLOCKS = 64
+MAX_VALUE = 10**12
+MAX_LIMIT = 10**18
+MAX_WEIGHT = 1_000
+MAX_ITEMS = 4_096
+MAX_TRANSACTIONS = 65_535
+MAX_READS = 1_000
+MAX_ENTRIES = 1_000_000
+MAX_BLOCKS = 64
 TURNS = 100
 
 NAME = rb"[A-Za-z][A-Za-z0-9_]{0,15}"
@@ -159,9 +159,9 @@ class Machine:
             return 3
         if writes and account.kind == "query":
             return 4
-        if writes and abs(value) > LARGEST_VALUE:
+        if writes and abs(value) > MAX_VALUE:
             return 5
-        if account.kind == "query" and len(account.reads) >= MOST_READS:
+        if account.kind == "query" and len(account.reads) >= MAX_READS:
             return 8
         return None
 
@@ -176,9 +176,9 @@ class Machine:
     def begin(self, name, kind, limit, is_strict):
         """The answer to a begin."""
         self.entries += 1
-        if limit > LARGEST_LIMIT:
+        if limit > MAX_LIMIT:
             return "refused 6 limit out of range"
-        if len(self.transactions) >= MOST_TRANSACTIONS:
+        if len(self.transactions) >= MAX_TRANSACTIONS:
             return "refused 7 too many transactions"
         must = self.committed_updates() if is_strict else []
         self.transactions.append(Transaction(name, kind, limit, must))
@@ -274,9 +274,9 @@ class Script:
         errors = {
             2: self.is_closed,
             3: name in self.items,
-            4: abs(value) > LARGEST_VALUE,
-            5: len(self.items) >= MOST_ITEMS,
-            7: weight is not None and not 1 <= weight <= LARGEST_WEIGHT,
+            4: abs(value) > MAX_VALUE,
+            5: len(self.items) >= MAX_ITEMS,
+            7: weight is not None and not 1 <= weight <= MAX_WEIGHT,
         }
         for error, applies in errors.items():
             if applies:
@@ -331,7 +331,7 @@ def run(text):
     """The output of a script, the fault that ends it or None, and the state at the end."""
     script, output = Script(), []
     for place, line in enumerate(lines_of(text)):
-        if place >= MOST_LINES:
+        if place >= MAX_LINES:
             return output, "too many lines", script
         if len(line) > LONGEST_LINE:
             return output, "line too long", script
@@ -401,7 +401,7 @@ class Drive:
             self.declared.append(answer)
             return None
         if kind == "session":
-            if len(self.blocks) >= MOST_BLOCKS:
+            if len(self.blocks) >= MAX_BLOCKS:
                 return 7
             self.blocks.append([])
             return None
@@ -420,7 +420,7 @@ def planned(text):
     plan = Drive()
     first = None
     for place, line in enumerate(lines_of(text)):
-        if place >= MOST_LINES:
+        if place >= MAX_LINES:
             return None, "too many lines"
         if len(line) > LONGEST_LINE:
             return None, "line too long"

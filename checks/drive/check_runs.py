@@ -20,7 +20,7 @@ from check_texts import block, committed_queries, event, file_text, generated, i
 from model import TURNS
 
 ROOT = pathlib.Path(__file__).resolve().parent.parent.parent
-MOST_ORDERS = 300
+MAX_ORDERS = 300
 DRAWN = 10
 WORD = 2**64
 
@@ -169,7 +169,7 @@ def compare_file(program, items, blocks, goes_through_all):
     data, counts = file_text(items, blocks), [len(lines) for lines in blocks]
     runs = [Run(items, blocks, drawn(counts, seed)) for seed in range(DRAWN)]
     compare(program, data, ["--seeds", str(DRAWN)], summary(runs, blocks))
-    if not goes_through_all or count_of(counts) > MOST_ORDERS:
+    if not goes_through_all or count_of(counts) > MAX_ORDERS:
         return len(runs)
     every = [Run(items, blocks, order) for order in all_of(counts)]
     compare(program, data, ["--all"], summary(every, blocks))

@@ -22,10 +22,10 @@ import random
 import subprocess
 import sys
 
-from model import LARGEST_LIMIT, TOP, TURNS, Machine
+from model import MAX_LIMIT, TOP, TURNS, Machine
 
 ROOT = pathlib.Path(__file__).resolve().parent.parent.parent
-MOST_NODES = 4000
+MAX_NODES = 4000
 
 
 # ---- files
@@ -44,7 +44,7 @@ def block(chance, k, items):
     lines = []
     for t in range(chance.randint(1, 3)):
         name, kind = f"t{k}_{t}", chance.choice(["update", "query"])
-        limit = chance.choice([0, 5, 30, 10**6, LARGEST_LIMIT, LARGEST_LIMIT + 1 if chance.random() < 0.2 else 100])
+        limit = chance.choice([0, 5, 30, 10**6, MAX_LIMIT, MAX_LIMIT + 1 if chance.random() < 0.2 else 100])
         own = [("begin", name, kind, str(limit)) + (("strict",) if kind == "query" and chance.random() < 0.3 else ())]
         for _ in range(chance.randint(0, 5)):
             item = "none" if chance.random() < 0.03 else chance.choice(items)
@@ -191,7 +191,7 @@ def check_reply(line, answer, block_state, file_state):
     kinds, values, names = file_state
     words = answer.split(" ")
     if line[0] == "begin":
-        if int(line[3]) > LARGEST_LIMIT:
+        if int(line[3]) > MAX_LIMIT:
             expect(answer == "refused 6 limit out of range", answer)
         else:
             expect(words[:2] == ["begun", line[1]] and words[2].isdigit(), answer)
@@ -291,7 +291,7 @@ def explained(items, blocks, answers, audits, totals):
     places, imports = places_of(items), totals.rsplit(" ", 1)[0]
     seen, nodes = set(), 0
     stack = [(machine_of(items), [0] * len(blocks), [{} for _ in blocks])]
-    while stack and nodes < MOST_NODES:
+    while stack and nodes < MAX_NODES:
         machine, at, numbers = stack.pop()
         nodes += 1
         if all(place == len(lines) for place, lines in zip(at, blocks)):

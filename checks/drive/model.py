@@ -3,7 +3,7 @@
 import itertools
 
 TOP = 10**12  # the largest value of an item
-LARGEST_LIMIT = 10**18
+MAX_LIMIT = 10**18
 TURNS = 100
 
 
@@ -77,7 +77,7 @@ class Machine:
         """The first reason to refuse the event, or None."""
         word = event[0]
         if word == "begin":
-            if event[2] > LARGEST_LIMIT:
+            if event[2] > MAX_LIMIT:
                 return ("refused", 6)
             return ("refused", 7) if len(self.transactions) >= 65535 else None
         txn = self.of(event[1])

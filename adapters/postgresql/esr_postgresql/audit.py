@@ -22,7 +22,7 @@ from .record import Record
 from .result import AuditedReport, ExplainedReport, Result
 from .script import Conversion, Script, convert
 
-MOST_WORKERS = 64
+MAX_WORKERS = 64
 
 
 def write_scripts(conversion: Conversion, folder: pathlib.Path) -> list[str]:
@@ -78,7 +78,7 @@ def audited(record: Record, folder: str, program: Program, worst: int = 3, worke
     room = pathlib.Path(folder)
     history = history_of(record)
     conversion = convert(history)
-    workers = workers or min(os.cpu_count() or 1, MOST_WORKERS)
+    workers = workers or min(os.cpu_count() or 1, MAX_WORKERS)
     reports: list[AuditedReport] = []
     for script, path in zip(conversion.scripts, write_scripts(conversion, room)):
         reports += _audited_script(script, path, program, workers)

@@ -23,7 +23,7 @@ from .order import History
 from .record import Transaction
 from .versions import Read
 
-MOST_READS = 1_000
+MAX_READS = 1_000
 
 
 class PlacedRead(NamedTuple):
@@ -80,7 +80,7 @@ class Positions:
 
     def place(self, report: Transaction, reads: list[Read]) -> PlacedReport:
         """A report, with at most as many reads as a script may have of it."""
-        kept = [reads[place] for place in spread(len(reads), MOST_READS)]
+        kept = [reads[place] for place in spread(len(reads), MAX_READS)]
         spans = [self.span(read) for read in kept]
         begin = min([self.at(report.began)] + [last for _, last in spans])
         reached, placed = begin, []

@@ -19,8 +19,8 @@ from dataclasses import dataclass, field
 from enum import Enum
 from typing import IO, Any, Iterable, Iterator, NamedTuple, Optional
 
-LARGEST_VALUE = 10**12
-LARGEST_WEIGHT = 1_000
+MAX_VALUE = 10**12
+MAX_WEIGHT = 1_000
 FORMAT = 1
 
 
@@ -177,9 +177,9 @@ class _Line:
             return None, version
         if not isinstance(value, int) or isinstance(value, bool):
             raise self.error(f"the value of {item} is {value!r}, and has to be a whole number (scale it) or null")
-        if abs(value) > LARGEST_VALUE:
+        if abs(value) > MAX_VALUE:
             raise self.error(
-                f"the value of {item} is {value}, and has to be within {LARGEST_VALUE} (use a smaller scale)"
+                f"the value of {item} is {value}, and has to be within {MAX_VALUE} (use a smaller scale)"
             )
         if not isinstance(version, str):
             raise self.error(f"the version of {item} has to be a text")
@@ -191,8 +191,8 @@ def _item(line: _Line) -> Item:
     name = line.text("item")
     value, version = line.version(name, line.content.get("value"), line.content.get("version"))
     weight, scale = line.number_of("weight", 1), line.number_of("scale", 0)
-    if not 1 <= weight <= LARGEST_WEIGHT:
-        raise line.error(f"the weight of {name} has to be from 1 to {LARGEST_WEIGHT}")
+    if not 1 <= weight <= MAX_WEIGHT:
+        raise line.error(f"the weight of {name} has to be from 1 to {MAX_WEIGHT}")
     return Item(name, value, version, weight, scale)
 
 

@@ -118,10 +118,10 @@ def _conversion(conversion: Conversion) -> Iterator[str]:
     if conversion.sampled:
         yield line(
             "sample",
-            f"{placement.MOST_READS:,} reads of {_counted(len(conversion.sampled), 'report')} that read more",
+            f"{placement.MAX_READS:,} reads of {_counted(len(conversion.sampled), 'report')} that read more",
         )
     if len(conversion.scripts) > 1:
-        limits = f"{windows.MOST_TRANSACTIONS:,} transactions and {windows.MOST_ENTRIES:,} entries"
+        limits = f"{windows.MAX_TRANSACTIONS:,} transactions and {windows.MAX_ENTRIES:,} entries"
         yield line("windows", f"{len(conversion.scripts)}, since a script has at most {limits}")
     for each in conversion.too_long:
         yield line("", f"{each.report.name} is too long for a window: left out")

@@ -12,7 +12,7 @@ from dataclasses import dataclass
 from decimal import Decimal
 from typing import Any, NamedTuple, Sequence
 
-from .record import LARGEST_VALUE
+from .record import MAX_VALUE
 
 XID_TYPE = 28  # the number of the type xid
 EXACT = ("smallint", "integer", "bigint", "numeric")
@@ -58,9 +58,9 @@ class Table:
             raise RecordingError(
                 f"{item}: {self.value} is {value}: more than {self.scale} digits behind the point; give a larger scale"
             )
-        if abs(scaled) > LARGEST_VALUE:
+        if abs(scaled) > MAX_VALUE:
             raise RecordingError(
-                f"{item}: {self.value} is {value}: beyond {LARGEST_VALUE} units of its scale; give a smaller one"
+                f"{item}: {self.value} is {value}: beyond {MAX_VALUE} units of its scale; give a smaller one"
             )
         return int(scaled)
 

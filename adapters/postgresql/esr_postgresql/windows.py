@@ -18,9 +18,9 @@ from itertools import accumulate
 from .order import History
 from .placement import PlacedReport, spread
 
-MOST_ITEMS = 4_096
-MOST_TRANSACTIONS = 65_535
-MOST_ENTRIES = 1_000_000
+MAX_ITEMS = 4_096
+MAX_TRANSACTIONS = 65_535
+MAX_ENTRIES = 1_000_000
 
 
 @dataclass(frozen=True)
@@ -40,13 +40,13 @@ def items_used(history: History) -> list[str]:
 
 def sample_of_items(items: list[str], reports: list[PlacedReport]) -> list[str]:
     """As many of some items as a script can have: all, or those that reports read and then others."""
-    if len(items) <= MOST_ITEMS:
+    if len(items) <= MAX_ITEMS:
         return items
     wanted = {read.item for report in reports for read in report.reads}
     first = [item for item in items if item in wanted]
-    kept = {first[place] for place in spread(len(first), MOST_ITEMS)}
+    kept = {first[place] for place in spread(len(first), MAX_ITEMS)}
     others = [item for item in items if item not in wanted]
-    kept.update(others[place] for place in spread(len(others), MOST_ITEMS - len(kept)))
+    kept.update(others[place] for place in spread(len(others), MAX_ITEMS - len(kept)))
     return [item for item in items if item in kept]
 
 
@@ -70,7 +70,7 @@ class _Sizes:
     def fits(self, first: int, last: int, reports: int, entries: int) -> bool:
         transactions = self.updates[last] - self.updates[first] + reports
         return (
-            transactions <= MOST_TRANSACTIONS and self.entries[last] - self.entries[first] + entries <= MOST_ENTRIES
+            transactions <= MAX_TRANSACTIONS and self.entries[last] - self.entries[first] + entries <= MAX_ENTRIES
         )
 
 

@@ -108,8 +108,8 @@ worst      report: off by 100; {self.room}/out/worst/report.svg
         self.assertEqual(audits[1], "report\tread committed\t2\t100\t100\treport\tscript.esr")
 
     def test_what_was_left_out_is_told(self):
-        with mock.patch.multiple(windows, MOST_ITEMS=3, MOST_TRANSACTIONS=6), mock.patch.object(
-            placement, "MOST_READS", 4
+        with mock.patch.multiple(windows, MAX_ITEMS=3, MAX_TRANSACTIONS=6), mock.patch.object(
+            placement, "MAX_READS", 4
         ):
             made = bank(9, 3, 5, 4, 3)
             made.transactions.append(transaction("endless", 0, 9, read("account/0", 1000, "opening")))

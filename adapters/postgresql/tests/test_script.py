@@ -141,7 +141,7 @@ class Limits(unittest.TestCase):
     def test_windows_tell_each_report_once_and_no_differently(self):
         made = bank(60, 12, 5, 6, 3)
         whole = told_large(made)
-        for most in (dict(MOST_TRANSACTIONS=18), dict(MOST_ENTRIES=90)):
+        for most in (dict(MAX_TRANSACTIONS=18), dict(MAX_ENTRIES=90)):
             with mock.patch.multiple(windows, **most):
                 conversion = convert(history_of(made))
             self.assertGreater(len(conversion.scripts), 3)
@@ -151,20 +151,20 @@ class Limits(unittest.TestCase):
                 self.assertEqual(answers(one), one.answers)
                 begun = sum(line.startswith("begin ") for line in one.lines)
                 entries = sum(not line.startswith("item ") for line in one.lines)
-                self.assertLessEqual(begun, most.get("MOST_TRANSACTIONS", begun))
-                self.assertLessEqual(entries, most.get("MOST_ENTRIES", entries))
+                self.assertLessEqual(begun, most.get("MAX_TRANSACTIONS", begun))
+                self.assertLessEqual(entries, most.get("MAX_ENTRIES", entries))
 
     def test_a_report_that_is_too_long_for_a_window_is_named(self):
         made = bank(60, 3, 5, 6, 3)
         made.transactions.append(transaction("endless", 0, 60, read("account/0", 1000, "opening")))
-        with mock.patch.object(windows, "MOST_TRANSACTIONS", 30):
+        with mock.patch.object(windows, "MAX_TRANSACTIONS", 30):
             conversion = convert(history_of(made))
         self.assertEqual([each.report.name for each in conversion.too_long], ["endless"])
         self.assertEqual(sum(len(one.window.reports) for one in conversion.scripts), 3)
 
     def test_a_sample_of_items(self):
         made = bank(9, 2, 8, 4, 5)
-        with mock.patch.object(windows, "MOST_ITEMS", 3):
+        with mock.patch.object(windows, "MAX_ITEMS", 3):
             conversion = convert(history_of(made))
         (one,) = conversion.scripts
         self.assertEqual((len(conversion.items), conversion.all_items), (3, 8))
@@ -187,12 +187,12 @@ class Limits(unittest.TestCase):
             transaction("a", 0, 1, read("x", 0, "opening"), read("y", 0, "opening")),
             transaction("b", 0, 1, read("y", 0, "opening")),
         )
-        with mock.patch.object(windows, "MOST_ITEMS", 1):
+        with mock.patch.object(windows, "MAX_ITEMS", 1):
             conversion = convert(history_of(made))
         self.assertEqual((conversion.items, conversion.all_items, conversion.untold), (["x"], 2, 1))
 
     def test_a_sample_of_reads(self):
-        with mock.patch.object(placement, "MOST_READS", 4):
+        with mock.patch.object(placement, "MAX_READS", 4):
             conversion = convert(history_of(bank(9, 2, 8, 4, 5)))
         (one,) = conversion.scripts
         self.assertEqual([len(each.reads) for each in one.window.reports], [4, 4])

@@ -50,7 +50,7 @@ ROUND = 0.01
 """In so long everybody who waits has tried again."""
 SHARE = 0.05
 """How many seconds the first attempt waits for one event. Each attempt waits twice as long as the one before."""
-MOST_RERUNS = 64
+MAX_RERUNS = 64
 """How often a function that was overtaken runs anew before its update is run step by step."""
 LARGEST = 10**12
 """The largest value to either side of 0."""
@@ -277,7 +277,7 @@ class Bank:
         waiting, age = _Waiting(self._patience, SHARE), None
         if self._optimistic:
             draft = _Draft(self, limit, waiting)
-            for _ in range(MOST_RERUNS):
+            for _ in range(MAX_RERUNS):
                 draft._restart()
                 try:
                     told = body(draft)

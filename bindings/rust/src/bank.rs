@@ -28,7 +28,7 @@
 //! each has to fetch what the other's processor has in its cache.
 
 use crate::{
-    Active, Counts, Engine, Error, Event, Finding, MOST_ENTRIES, MOST_TRANSACTIONS, Metrics,
+    Active, Counts, Engine, Error, Event, Finding, MAX_ENTRIES, MAX_TRANSACTIONS, Metrics,
     Patience, Refusal, Reply, Standing, Totals, Txn,
     draft::{Draft, Mirror, commit_of},
     patience::{Rounds, Waiting},
@@ -50,23 +50,23 @@ use std::{
 };
 
 /// Where no more entries are left nothing begins until the bank has been renewed: what is active has room to go on.
-const NEARLY_FULL: u64 = MOST_ENTRIES / 10;
+const NEARLY_FULL: u64 = MAX_ENTRIES / 10;
 /// Where a renewal may fail, so many numbers are kept for the time until it is tried again.
-const FEW_NUMBERS: u64 = MOST_TRANSACTIONS as u64 / 10;
+const FEW_NUMBERS: u64 = MAX_TRANSACTIONS as u64 / 10;
 /// So many entries more, and nothing begins in a history whose renewal was put off.
 const FULL: u64 = 10_000;
 /// How long after a renewal was put off it is tried again.
 const PUT_OFF: Duration = Duration::from_millis(100);
 /// So often a body that was overtaken runs anew before its update is run step by step.
-const MOST_RERUNS: u32 = 64;
+const MAX_RERUNS: u32 = 64;
 /// So often an update that met a lock waits for its end and is tried whole again.
-const MOST_BLOCKED: u32 = 4;
+const MAX_BLOCKED: u32 = 4;
 /// No more events than these are given again for those who go on in a new history.
-const MOST_CARRIED: usize = 400_000;
+const MAX_CARRIED: usize = 400_000;
 /// A lock that is taken is tried so often before this thread sleeps. It does not let others run in between: on a busy
 /// machine that may be a stranger, for as long as ten thousand updates take.
 const SPINS: u32 = 100;
-const LARGEST_LIMIT: u64 = 1_000_000_000_000_000_000;
+const MAX_LIMIT: u64 = 1_000_000_000_000_000_000;
 
 /// A committed report, by which it can be audited until the bank is renewed.
 ///
@@ -234,7 +234,7 @@ impl Shared {
     fn may_renew(&self) -> bool {
         let events = |begun: &Begun| 1 + begun.reads.len() + begun.wrote.len();
         let all: usize = self.begun.iter().map(events).sum();
-        all <= MOST_CARRIED && !self.begun.iter().any(|begun| begun.is_query)
+        all <= MAX_CARRIED && !self.begun.iter().any(|begun| begun.is_query)
     }
 
     /// Begins an active update again in a history that has just begun: it takes its locks by the same reads and writes.
@@ -1170,12 +1170,12 @@ impl Bank {
                     other,
                     renewals,
                     ends,
-                } if blocked < MOST_BLOCKED => {
+                } if blocked < MAX_BLOCKED => {
                     blocked += 1;
                     reruns += 1;
                     self.wait_for_lock(other, renewals, ends, self.patience_in(waiting));
                 }
-                Given::Stale if reruns < MOST_RERUNS => reruns += 1,
+                Given::Stale if reruns < MAX_RERUNS => reruns += 1,
                 _ => break None,
             }
         };
@@ -1224,7 +1224,7 @@ impl Bank {
         mut body: impl FnMut(&mut BankUpdate<'_, '_>) -> Result<T, E>,
     ) -> Result<T, E> {
         let mut waiting = None;
-        if self.is_optimistic && limit <= LARGEST_LIMIT {
+        if self.is_optimistic && limit <= MAX_LIMIT {
             if let Some(answer) = self.ahead(limit, &mut waiting, &mut body) {
                 return answer;
             }

@@ -63,29 +63,29 @@ use std::fmt;
 /// The most items of an engine.
 ///
 /// ```
-/// assert!(esr::Engine::open(&[0; esr::MOST_ITEMS]).is_ok());
-/// assert!(esr::Engine::open(&[0; esr::MOST_ITEMS + 1]).is_err());
+/// assert!(esr::Engine::open(&[0; esr::MAX_ITEMS]).is_ok());
+/// assert!(esr::Engine::open(&[0; esr::MAX_ITEMS + 1]).is_err());
 /// ```
-pub const MOST_ITEMS: usize = 4_096;
+pub const MAX_ITEMS: usize = 4_096;
 
 /// The most entries of a history. One is kept free for the end of each active transaction: what has no room beside these
 /// is answered `HistoryFull`, and a commit or an abort always goes through.
 ///
 /// ```
 /// let mut engine = esr::Engine::open(&[500])?;
-/// assert_eq!(engine.counts().entries_left, esr::MOST_ENTRIES);
+/// assert_eq!(engine.counts().entries_left, esr::MAX_ENTRIES);
 /// # Ok::<(), esr::Error>(())
 /// ```
-pub const MOST_ENTRIES: u64 = 1_000_000;
+pub const MAX_ENTRIES: u64 = 1_000_000;
 
 /// The most transactions of a history: after them a begin is answered `HistoryFull` until [`Engine::renew`].
 ///
 /// ```
 /// let mut engine = esr::Engine::open(&[500])?;
-/// assert_eq!(engine.counts().transactions_left, u64::from(esr::MOST_TRANSACTIONS));
+/// assert_eq!(engine.counts().transactions_left, u64::from(esr::MAX_TRANSACTIONS));
 /// # Ok::<(), esr::Error>(())
 /// ```
-pub const MOST_TRANSACTIONS: u32 = 65_535;
+pub const MAX_TRANSACTIONS: u32 = 65_535;
 
 /// An engine. It is closed where it is dropped.
 ///
@@ -575,7 +575,7 @@ impl Engine {
     pub fn values(&mut self) -> Result<Vec<i64>, Error> {
         // SAFETY: the pointer and the length are those of one list, whose head the call writes.
         unsafe {
-            list_by(MOST_ITEMS, |values, room, count| {
+            list_by(MAX_ITEMS, |values, room, count| {
                 sys::esr_values(&mut self.raw, values, room, count)
             })
         }
@@ -772,7 +772,7 @@ impl Engine {
     }
 
     /// Goes on from the committed values with an empty history, in which transactions are numbered from 1 again. A
-    /// history ends at [`MOST_ENTRIES`] and at [`MOST_TRANSACTIONS`]: then let what is active end, audit what is of
+    /// history ends at [`MAX_ENTRIES`] and at [`MAX_TRANSACTIONS`]: then let what is active end, audit what is of
     /// interest, and renew.
     ///
     /// ```

@@ -1,7 +1,7 @@
 //! The bank as threads use it: nothing is lost, nothing stays active, and reports are off by no more than they import.
 //! `ESR_SOAK_SECONDS` says how long the soak runs: two seconds where it is not set.
 
-use esr::{Bank, Error, MOST_TRANSACTIONS, Patience, Refusal};
+use esr::{Bank, Error, MAX_TRANSACTIONS, Patience, Refusal};
 use std::{
     env, panic,
     sync::{
@@ -206,13 +206,13 @@ fn a_bank_renews_itself() {
     let (_, due) = bank
         .report_unaudited(0, |report| report.read("hits"))
         .expect("nothing is in its way");
-    for _ in 0..MOST_TRANSACTIONS {
+    for _ in 0..MAX_TRANSACTIONS {
         bank.transact(1, |update| update.add("hits", 1))
             .expect("nothing is in its way");
     }
     assert_eq!((bank.renewals(), audits.load(Ordering::Relaxed)), (1, 1));
     assert_eq!(bank.audit(due), Err(Error::NotACommittedQuery));
-    assert_eq!(bank.value("hits"), Ok(i64::from(MOST_TRANSACTIONS)));
+    assert_eq!(bank.value("hits"), Ok(i64::from(MAX_TRANSACTIONS)));
 }
 
 /// A weighted item's differences count as money, and what was charged can be asked while a report goes on.

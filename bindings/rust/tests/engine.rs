@@ -1,6 +1,6 @@
 //! Errors and refusals, a full history, renewal, and updates of several threads.
 
-use esr::{Engine, Error, Event, MOST_ENTRIES, Patience, Refusal, Reply, Standing, Txn, transact};
+use esr::{Engine, Error, Event, MAX_ENTRIES, Patience, Refusal, Reply, Standing, Txn, transact};
 use std::{
     error, panic,
     sync::Mutex,
@@ -53,7 +53,7 @@ fn a_full_history_is_renewed() {
     engine.write(txn, 1, 5).unwrap();
     engine.commit(txn).unwrap();
     while engine.step(Event::Commit { txn }).is_ok() {}
-    assert_eq!(engine.totals().entries, MOST_ENTRIES);
+    assert_eq!(engine.totals().entries, MAX_ENTRIES);
     assert_eq!(engine.begin_update(0), Err(Error::HistoryFull));
     engine.renew().unwrap();
     assert_eq!(engine.totals().entries, 0);

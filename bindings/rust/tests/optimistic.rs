@@ -1,7 +1,7 @@
 //! Updates whose bodies run beside the engine: what they see is of one moment, nothing is lost, and what is in their way
 //! they wait for as others do. Audits beside the bank find what it finds itself.
 
-use esr::{Bank, BankBuilder, Error, MOST_TRANSACTIONS, Patience, Refusal};
+use esr::{Bank, BankBuilder, Error, MAX_TRANSACTIONS, Patience, Refusal};
 use std::{
     panic,
     sync::{
@@ -329,7 +329,7 @@ fn a_renewal_may_be_put_off() {
             })
             .open()
             .expect("two accounts are within the limits");
-        for n in 1..=i64::from(MOST_TRANSACTIONS) {
+        for n in 1..=i64::from(MAX_TRANSACTIONS) {
             assert_eq!(
                 bank.transact(1, |update| update.add("checking", 1)),
                 Ok(500 + n)
@@ -343,7 +343,7 @@ fn a_renewal_may_be_put_off() {
         FAILS.store(false, Ordering::Relaxed);
         assert!(bank.transact(1, |update| update.add("checking", 1)).is_ok());
         assert_eq!((bank.renewals(), bank.renewal_failure()), (1, None));
-        assert_eq!(bank.metrics().updates, u64::from(MOST_TRANSACTIONS) + 1);
+        assert_eq!(bank.metrics().updates, u64::from(MAX_TRANSACTIONS) + 1);
     }
 }
 
@@ -444,17 +444,17 @@ fn a_report_holds_a_renewal_off() {
     let bank = bank.expect("two accounts are within the limits");
     let count = || {
         let one = |_| bank.transact(2, |update| update.add("savings", 1)).err();
-        (0..=MOST_TRANSACTIONS).find_map(one)
+        (0..=MAX_TRANSACTIONS).find_map(one)
     };
     let (told, finding) = bank
-        .report(u64::from(MOST_TRANSACTIONS), |report| {
+        .report(u64::from(MAX_TRANSACTIONS), |report| {
             let before = report.read("checking")?;
             let why = thread::scope(|threads| threads.spawn(count).join().expect("no panic"));
             assert_eq!((why, bank.renewals()), (Some(Error::HistoryFull), 0));
             Ok::<_, Error>((before, report.read("checking")?, report.read("savings")?))
         })
         .expect("its limit is never met");
-    let last = 1500 + i64::from(MOST_TRANSACTIONS) - 1;
+    let last = 1500 + i64::from(MAX_TRANSACTIONS) - 1;
     assert_eq!((told, finding.distance), ((500, 500, last), 0));
     assert_eq!(
         bank.transact(2, |update| update.add("savings", 1)),

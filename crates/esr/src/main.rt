@@ -13,6 +13,10 @@ ghost use Rattle.esr_drive.specs.Drive.{HasWorkers};
 
 use either::{Left, Right};
 use esr_cli::{Format, Job, Progress, Task, command};
+use esr_commands::{
+    DriveText, Question, RenderQuery, RenderScript, RunScript, WriteBundle, audit_script, check,
+    execute_command, fail, is_shown, line_at_fault, list_faults, open_file,
+};
 use esr_drive::{Form, NoGate, drive};
 use esr_explain::Explaining;
 use esr_explore::{ExploreFault, Measure, Search, explore};
@@ -21,13 +25,9 @@ use esr_lint::{KeptLine, Source};
 use esr_page::Page;
 use esr_picture::Drawing;
 use esr_prose::{Passage, Prose};
-use esr_script::Copied;
-use esr_sheet::{AuditSheet, Data, ExplanationSheet, Ledger};
+use esr_script::TeeReader;
+use esr_tables::{AuditTable, Data, ExplanationTable, Ledger};
 use esr_why::Why;
-use esr_work::{
-    Certifying, DriveText, Question, Running, SurveyOf, TellingOf, audit_script, check, fail,
-    is_shown, line_at_fault, list_faults, open_file, work_on,
-};
 use std::alloc::AllocError;
 use std::io;
 use std::io::Read;
@@ -102,56 +102,56 @@ fn do_task<
     requires { HasItsWorkers (work_of job.task) }
 {
     match job.task {
-        Task::Run => work_on(rt, shows, job, source, input, &Running),
+        Task::Run => execute_command(rt, shows, job, source, input, &RunScript),
         Task::Certify { name, steps } => {
-            let work = Certifying { name, steps };
-            work_on(rt, shows, job, source, input, &work)
+            let work = WriteBundle { name, steps };
+            execute_command(rt, shows, job, source, input, &work)
         }
         Task::Explain { name, prose: true } => {
-            let survey = &Prose { name };
-            work_on(rt, shows, job, source, input, &SurveyOf { survey })
+            let script_view = &Prose { name };
+            execute_command(rt, shows, job, source, input, &RenderScript { script_view })
         }
         Task::Explain { name, prose: false } => match data_of(job.format) {
             Some(data) => {
-                let telling = &ExplanationSheet { data };
-                let work = TellingOf { name, telling };
-                work_on(rt, shows, job, source, input, &work)
+                let query_view = &ExplanationTable { data };
+                let work = RenderQuery { name, query_view };
+                execute_command(rt, shows, job, source, input, &work)
             }
             None => {
-                let telling = &Explaining;
-                let work = TellingOf { name, telling };
-                work_on(rt, shows, job, source, input, &work)
+                let query_view = &Explaining;
+                let work = RenderQuery { name, query_view };
+                execute_command(rt, shows, job, source, input, &work)
             }
         },
         Task::Picture { name } => {
-            let telling = &Drawing;
-            let work = TellingOf { name, telling };
-            work_on(rt, shows, job, source, input, &work)
+            let query_view = &Drawing;
+            let work = RenderQuery { name, query_view };
+            execute_command(rt, shows, job, source, input, &work)
         }
         Task::Page { worst } => {
-            let survey = &Page {
+            let script_view = &Page {
                 worst,
                 picture: &Drawing,
                 words: &Passage,
             };
-            work_on(rt, shows, job, source, input, &SurveyOf { survey })
+            execute_command(rt, shows, job, source, input, &RenderScript { script_view })
         }
         Task::Audit { workers } => match data_of(job.format) {
             Some(data) => {
-                let survey = &AuditSheet { data };
-                work_on(rt, shows, job, source, input, &SurveyOf { survey })
+                let script_view = &AuditTable { data };
+                execute_command(rt, shows, job, source, input, &RenderScript { script_view })
             }
             None => audit_script(rt, shows, job, source, input, workers),
         },
         Task::Ledger => {
-            let survey = &Ledger {
-                format: sheet_format(job.format),
+            let script_view = &Ledger {
+                format: table_format(job.format),
             };
-            work_on(rt, shows, job, source, input, &SurveyOf { survey })
+            execute_command(rt, shows, job, source, input, &RenderScript { script_view })
         }
         Task::Why { name } => {
-            let survey = &Why { name };
-            work_on(rt, shows, job, source, input, &SurveyOf { survey })
+            let script_view = &Why { name };
+            execute_command(rt, shows, job, source, input, &RenderScript { script_view })
         }
         Task::Check {
             script,
@@ -191,11 +191,11 @@ fn data_of(format: Option<Format>) -> Option<Data> {
 }
 
 /// How a ledger is written.
-fn sheet_format(format: Option<Format>) -> esr_sheet::Format {
+fn table_format(format: Option<Format>) -> esr_tables::Format {
     match format {
-        Some(Format::Csv) => esr_sheet::Format::Csv,
-        Some(Format::Json) => esr_sheet::Format::Json,
-        Some(Format::Text) | None => esr_sheet::Format::Text,
+        Some(Format::Csv) => esr_tables::Format::Csv,
+        Some(Format::Json) => esr_tables::Format::Json,
+        Some(Format::Text) | None => esr_tables::Format::Text,
     }
 }
 
@@ -230,7 +230,7 @@ fn explore_file<R: Print + Eprint + AllocGlobal, I: Read + Drop>(
 ) -> u8 {
     let alloc = rt.alloc();
     // A copy has the line at fault, and tells on which line a file stopped that has not been read whole.
-    let mut reader = Watched::new(Copied::new(alloc, input));
+    let mut reader = Watched::new(TeeReader::new(alloc, input));
     let mut writer = Watched::new(io::writer(rt));
     match explore(alloc, &mut reader, &mut writer, search) {
         Ok(()) => 0,
@@ -260,7 +260,7 @@ fn drive_file<R: Print + Eprint + AllocGlobal + Threads + Wait + Sync, I: Read +
 {
     let alloc = rt.alloc();
     // A copy tells on which line a drive file stopped that has not been read whole.
-    let mut reader = Watched::new(Copied::new(alloc, input));
+    let mut reader = Watched::new(TeeReader::new(alloc, input));
     let mut writer = Watched::new(io::writer(rt));
     let mut kept = KeptLine::new(alloc);
     match drive(

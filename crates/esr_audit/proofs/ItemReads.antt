@@ -5,7 +5,7 @@ use Rattle.std.proofs.lemmas.List.{length-map}
 use Rattle.std.proofs.lemmas.List.Elements.{All-from_recursion}
 use Rattle.esr_items.specs.Values.{IsValue}
 use Rattle.esr_history.specs.Events.{is_query}
-use Rattle.esr_history.specs.Machine.{Schedule, done}
+use Rattle.esr_history.specs.Machine.{Schedule, accepted_in}
 use Rattle.esr_history.specs.Operations.{Operation}
 use Rattle.esr_history.specs.Queries.{reads_by}
 use Rattle.esr_history.specs.Ranges.{IsWithinRanges}
@@ -24,7 +24,7 @@ item_reads_are h q = ap (map item_read_in) (reads_are h q) ∙ twice (reads_by h
     twice (o ∷ os) = ap (λ l. item_read_of o ∷ l) (twice os)
 
 module _ (h : Schedule) (q : ℕ) (range : IsWithinRanges h) (opened : All IsValue h.opening) where
-  pub item_reads_few : IsTrue (is_query (done h) q) → length (map item_read_of (reads_by h q)) ≤ 1000
+  pub item_reads_few : IsTrue (is_query (accepted_in h) q) → length (map item_read_of (reads_by h q)) ≤ 1000
   item_reads_few query = let r = range.reads q query in omega (arith, length-map (reads_by h q) item_read_of, reads_counted h q, r)
 
   pub item_reads_in_range : All (λ (r : ItemRead). IsValue r.value) (map item_read_of (reads_by h q))

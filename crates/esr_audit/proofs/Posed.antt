@@ -4,7 +4,7 @@ use Rattle.std.specs.List.{range_with_len}
 use Rattle.std.proofs.lemmas.List.Elements.{All-from_recursion}
 use Rattle.esr_items.specs.Values.{IsValue}
 use Rattle.esr_base.specs.declared.numbers.TxnId.{TxnId}
-use Rattle.esr_history.specs.Machine.{Distance, Schedule, done, distance_in, IsLegal}
+use Rattle.esr_history.specs.Machine.{Distance, Schedule, accepted_in, distance_in, IsLegal}
 use Rattle.esr_history.specs.Events.{is_query}
 use Rattle.esr_history.specs.Serial.{state}
 use Rattle.esr_history.specs.Queries.{reads_by}
@@ -21,7 +21,7 @@ use Rattle.esr_audit.proofs.Within.{state_in_range, sound, each_mapped}
 use Rattle.esr_audit.proofs.ItemReads as reads
 
 module _ (d : Distance) (h : Schedule) (q : ℕ) (legal : IsLegal d h) (opened : All IsValue h.opening) where
-  pub item_reads_few : (rs : List ItemRead) → rs ≡ map item_read_of (reads_by h q) → IsTrue (is_query (done h) q) → length rs ≤ 1000
+  pub item_reads_few : (rs : List ItemRead) → rs ≡ map item_read_of (reads_by h q) → IsTrue (is_query (accepted_in h) q) → length rs ≤ 1000
   item_reads_few rs are query = subst (λ (rs : List ItemRead). length rs ≤ 1000) (sym are) (reads.item_reads_few h q (legal_within_ranges d h opened legal) opened query)
 
   pub item_reads_in_range : (rs : List ItemRead) → rs ≡ map item_read_of (reads_by h q) → All (λ (r : ItemRead). IsValue r.value) rs
@@ -44,5 +44,5 @@ module _ (d : Distance) (h : Schedule) (q : ℕ) (legal : IsLegal d h) (opened :
         let E : List _ → Problem = λ cs. record { updates = map (λ (t : TxnId). t.0) o.commits; before = o.before; chains = cs; must = o.must } in
         ap A a ∙ ap B b ∙ ap C c ∙ ap E parts
 
-    pub posed_sound : length h.opening ≤ 4096 → IsTrue (is_query (done h) q) → ((w : List ℕ) (x : ℕ) (a b : ℤ) → IsValue a → IsValue b → d w x a b ≤ 2 * 10 ^ 15) → is_sound (problem_from d h q o) ≡ true
+    pub posed_sound : length h.opening ≤ 4096 → IsTrue (is_query (accepted_in h) q) → ((w : List ℕ) (x : ℕ) (a b : ℤ) → IsValue a → IsValue b → d w x a b ≤ 2 * 10 ^ 15) → is_sound (problem_from d h q o) ≡ true
     posed_sound few query bounded = sound d h q (legal_within_ranges d h opened legal) opened bounded legal us near o good few query

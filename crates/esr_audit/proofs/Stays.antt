@@ -5,7 +5,7 @@ use Rattle.esr_base.specs.declared.numbers.TxnId.{TxnId}
 use Rattle.esr_history.specs.declared.event.Entry.{Entry}
 use Rattle.esr_history.specs.Events.{is_committed}
 use Rattle.esr_history.specs.Legal.{along}
-use Rattle.esr_history.specs.Machine.{Distance, Schedule, done, IsLegal}
+use Rattle.esr_history.specs.Machine.{Distance, Schedule, accepted_in, IsLegal}
 use Rattle.esr_history.proofs.Laws.{audit_stays}
 use Rattle.esr_history.proofs.Membership.{In, each_in, each_at}
 use Rattle.esr_history.specs.Queries.{updates_of, cost, IsAlike}
@@ -68,7 +68,7 @@ module _ (d : Distance) (h longer : Schedule) (q : ℕ) (alike : IsAlike d h lon
       }
 
 -- the answer to a query that has committed
-pub stays : (d : Distance) (h : Schedule) (q distance import : ℕ) (before : List ℕ) → is_committed (done h) q ≡ true → IsAnswer d h q distance import before
+pub stays : (d : Distance) (h : Schedule) (q distance import : ℕ) (before : List ℕ) → is_committed (accepted_in h) q ≡ true → IsAnswer d h q distance import before
     → (rest : List Entry) → IsLegal d (along h rest) → IsAnswer d (along h rest) q distance import before
 stays d h q distance import before committed a = λ rest legal. answer_stays d h (along h rest) q (audit_stays d h rest q legal committed) legal distance import before a
 

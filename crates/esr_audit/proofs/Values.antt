@@ -6,7 +6,7 @@ use Rattle.esr_items.specs.Values.{value_at}
 use Rattle.esr_history.specs.declared.event.Event.{Event}
 use Rattle.esr_history.specs.declared.event.Event.TheVariants.{BeginUpdate, BeginQuery, Read, Write, Commit, Abort}
 use Rattle.esr_history.specs.Events.{writes, written, last_value}
-use Rattle.esr_history.specs.Machine.{Schedule, done}
+use Rattle.esr_history.specs.Machine.{Schedule, accepted_in}
 use Rattle.esr_history.specs.Serial.{values_by, state}
 use Rattle.esr_history.proofs.LastWriter.{last_value-append, last_value-some}
 use Rattle.esr_cert.specs.Problem.{version}
@@ -97,7 +97,7 @@ writers_leave h x [] = tt
 writers_leave h x (u ∷ us) = at (has_written h x u) refl (writers_leave h x us)
   where
     at : (b : Bool) → has_written h x u ≡ b → AllByRecursion (λ u. values_by h x u ≡ [] → ⊥) (filter (has_written h x) us) → AllByRecursion (λ u. values_by h x u ≡ [] → ⊥) (cond b (u ∷ filter (has_written h x) us) (filter (has_written h x) us))
-    at true e rest = (values_some x u (done h) e, rest)
+    at true e rest = (values_some x u (accepted_in h) e, rest)
     at false e rest = rest
 
 -- only the writers of an item decide its value
@@ -109,7 +109,7 @@ only_writers h x S (u ∷ us) = at (has_written h x u) refl (S u) refl (only_wri
         → flat_map (values_by h x) (cond c (u ∷ filter S us) (filter S us)) ≡ flat_map (values_by h x) (filter S (cond b (u ∷ filter (has_written h x) us) (filter (has_written h x) us)))
     at true e true f rest = ap (λ vs. values_by h x u ++ vs) rest ∙ sym (ap (λ d. flat_map (values_by h x) (cond d (u ∷ filter S (filter (has_written h x) us)) (filter S (filter (has_written h x) us)))) f)
     at true e false f rest = rest ∙ sym (ap (λ d. flat_map (values_by h x) (cond d (u ∷ filter S (filter (has_written h x) us)) (filter S (filter (has_written h x) us)))) f)
-    at false e true f rest = ap (λ vs. vs ++ flat_map (values_by h x) (filter S us)) (values_none x u (done h) e) ∙ rest
+    at false e true f rest = ap (λ vs. vs ++ flat_map (values_by h x) (filter S us)) (values_none x u (accepted_in h) e) ∙ rest
     at false e false f rest = rest
 
 -- the value that a set of updates leaves, by the version that it leaves of the item's writers

@@ -6,7 +6,7 @@ use Rattle.std.proofs.lemmas.Option.{get_or_from_slice_get}
 use Rattle.std.proofs.lemmas.List.FromFn.{length-map-range_with_len}
 use Rattle.esr_items.specs.Values.{value_at}
 use Rattle.esr_history.specs.Events.{last_value}
-use Rattle.esr_history.specs.Machine.{Distance, Schedule, done, distance_in}
+use Rattle.esr_history.specs.Machine.{Distance, Schedule, accepted_in, distance_in}
 use Rattle.esr_history.specs.Operations.{Operation}
 use Rattle.esr_history.specs.Serial.{values_by, state}
 use Rattle.esr_history.specs.Queries.{reads_by}
@@ -37,8 +37,8 @@ module _ (h : Schedule) (x : ℕ) where
   wrote_some u = at (has_written h x u) refl
     where
       at : (b : Bool) → has_written h x u ≡ b → is_some (last_of (values_by h x u)) ≡ b
-      at true e = ap is_some (last_some (value_at h.opening x) (values_by h x u) (values_some x u (done h) e))
-      at false e = ap (λ vs. is_some (last_of vs)) (values_none x u (done h) e)
+      at true e = ap is_some (last_some (value_at h.opening x) (values_by h x u) (values_some x u (accepted_in h) e))
+      at false e = ap (λ vs. is_some (last_of vs)) (values_none x u (accepted_in h) e)
 
   -- the last values of those who wrote
   values_of_writers : (o : ℤ) (us : List ℕ) → filter_map (λ u. last_of (values_by h x u)) us ≡ map (λ u. last_value o (values_by h x u)) (filter (has_written h x) us)
@@ -47,8 +47,8 @@ module _ (h : Schedule) (x : ℕ) where
     where
       at : (b : Bool) → has_written h x u ≡ b → filter_map (λ u. last_of (values_by h x u)) us ≡ map (λ u. last_value o (values_by h x u)) (filter (has_written h x) us)
           → cons_option (last_of (values_by h x u)) (filter_map (λ u. last_of (values_by h x u)) us) ≡ map (λ u. last_value o (values_by h x u)) (cond b (u ∷ filter (has_written h x) us) (filter (has_written h x) us))
-      at true e rest = ap (λ (v : Option ℤ). cons_option v (filter_map (λ u. last_of (values_by h x u)) us)) (last_some o (values_by h x u) (values_some x u (done h) e)) ∙ ap (λ vs. last_value o (values_by h x u) ∷ vs) rest
-      at false e rest = ap (λ vs. cons_option (last_of vs) (filter_map (λ u. last_of (values_by h x u)) us)) (values_none x u (done h) e) ∙ rest
+      at true e rest = ap (λ (v : Option ℤ). cons_option v (filter_map (λ u. last_of (values_by h x u)) us)) (last_some o (values_by h x u) (values_some x u (accepted_in h) e)) ∙ ap (λ vs. last_value o (values_by h x u) ∷ vs) rest
+      at false e rest = ap (λ vs. cons_option (last_of vs) (filter_map (λ u. last_of (values_by h x u)) us)) (values_none x u (accepted_in h) e) ∙ rest
 
 -- the value after each further writer is the one that the writer left
 after_each : (w : ℕ → List ℤ) (o : ℤ) (ws : List ℕ) (a : ℕ) → AllByRecursion (λ u. w u ≡ [] → ⊥) ws → map (λ j. last_value o (flat_map w (take (suc j) ws))) (range_with_len 0 (length ws)) ≡ map (λ u. last_value o (w u)) ws

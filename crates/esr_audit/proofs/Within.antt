@@ -12,7 +12,7 @@ use Rattle.esr_history.specs.declared.event.Event.TheVariants.{BeginUpdate, Begi
 use Rattle.esr_history.specs.declared.event.Reply.{Reply}
 use Rattle.esr_history.specs.declared.event.Entry.{Entry}
 use Rattle.esr_history.specs.Events.{Beginning, beginnings, is_query, is_update, is_refusal, reads_any, all_reads_of, last_value}
-use Rattle.esr_history.specs.Machine.{Distance, Schedule, IsLegal, done, distance_in}
+use Rattle.esr_history.specs.Machine.{Distance, Schedule, IsLegal, accepted_in, distance_in}
 use Rattle.esr_history.specs.Operations.{Operation, operations, operation_by, operation_of, answer, commit_order}
 use Rattle.esr_history.specs.Ranges.{IsWithinRanges}
 use Rattle.esr_history.specs.Serial.{is_before, state, values_by}
@@ -24,7 +24,7 @@ use Rattle.esr_order.specs.Chains.{nth}
 use Rattle.esr_order.specs.Orders.{Ordered, IsOrderAmong}
 use Rattle.esr_order.specs.Near.{AreNear, has_written}
 use Rattle.esr_order.proofs.NearLaws.{near_updates}
-use Rattle.esr_base.specs.declared.limits.TheConstants.{MOST_ITEMS, MOST_TRANSACTIONS}
+use Rattle.esr_base.specs.declared.limits.TheConstants.{MAX_ITEMS, MAX_TRANSACTIONS}
 use Rattle.esr_cert.specs.declared.range.TheConstants.{MAX_COST}
 use Rattle.esr_cert.specs.Problem.{Chain, Problem, size, greatest, chain_is_in_range, is_in_range, is_sound}
 use Rattle.esr_cert.proofs.Sound.{all_from}
@@ -34,7 +34,7 @@ use Rattle.esr_audit.proofs.Standing.{problem_from}
 use Rattle.esr_audit.proofs.Shape as shape
 
 -- a query's accepted reads are as many as its reads
-pub reads_counted : (h : Schedule) (q : ℕ) → length (reads_by h q) ≡ all_reads_of (done h) q
+pub reads_counted : (h : Schedule) (q : ℕ) → length (reads_by h q) ≡ all_reads_of (accepted_in h) q
 reads_counted h q = go (filter (λ (e : Entry). not (is_refusal e.reply)) h.entries)
   where
     at : (t : ℕ) (ev : Event) (r : Reply) (os : List Operation) → length (filter (λ o. not o.writes && (eqb o.txn t)) (cons_option (operation_by ev r) os)) ≡ cond (reads_any t ev) 1 0 + length (filter (λ o. not o.writes && (eqb o.txn t)) os)
@@ -102,9 +102,9 @@ module _ (h : Schedule) (range : IsWithinRanges h) (opened : All IsValue h.openi
       ))
 
   -- the number of an update
-  number_in_range : (u : ℕ) → is_update (done h) u ≡ true → (0 < u) × (u ≤ 65535)
+  number_in_range : (u : ℕ) → is_update (accepted_in h) u ≡ true → (0 < u) × (u ≤ 65535)
   number_in_range zero is = absurd (true≢false (sym is))
-  number_in_range (suc k) is = let l = below (beginnings (done h)) k (some (slice_get (beginnings (done h)) k) is) in let r = range.begins in (omega arith, omega arith)
+  number_in_range (suc k) is = let l = below (beginnings (accepted_in h)) k (some (slice_get (beginnings (accepted_in h)) k) is) in let r = range.begins in (omega arith, omega arith)
     where
       some : (b : Option Beginning) → unwrap_or (option_map (λ c. not c.query) b) false ≡ true → is_some b ≡ true
       some None e = e
@@ -158,18 +158,18 @@ module _ (d : Distance) (h : Schedule) (q : ℕ) (range : IsWithinRanges h) (ope
       let all : sum_by (λ (o : Operation). B) (reads_by h q) ≤ length (reads_by h q) * B = sum_by-le (λ (o : Operation). B) B (reads_by h q) (All-from_recursion (λ (o : Operation). B ≤ B) (reads_by h q) (each_in (λ (o : Operation). B ≤ B) (reads_by h q) (λ o i. omega arith))) in
       omega arith
 
-  module _ (legal : IsLegal d h) (us : List ℕ) (near : AreNear h q us) (o : Ordered) (good : IsOrderAmong h q us o) (few : length h.opening ≤ 4096) (query : IsTrue (is_query (done h) q)) where
+  module _ (legal : IsLegal d h) (us : List ℕ) (near : AreNear h q us) (o : Ordered) (good : IsOrderAmong h q us o) (few : length h.opening ≤ 4096) (query : IsTrue (is_query (accepted_in h) q)) where
     abbrev p : Problem
     p = problem_from d h q o
 
     sized : size p ≡ length o.commits
     sized = length-map o.commits (λ (t : TxnId). t.0)
 
-    numbers : list_all (λ t. nat_lt 0 t && nat_le t MOST_TRANSACTIONS) p.updates ≡ true
-    numbers = all_from (λ t. nat_lt 0 t && nat_le t MOST_TRANSACTIONS) p.updates (λ t c.
+    numbers : list_all (λ t. nat_lt 0 t && nat_le t MAX_TRANSACTIONS) p.updates ≡ true
+    numbers = all_from (λ t. nat_lt 0 t && nat_le t MAX_TRANSACTIONS) p.updates (λ t c.
         let i : In t (updates_of h q) = Contains-In (updates_of h q) t (near_updates d h q legal us near t (subst (λ vs. Contains vs t) good.commits c)) in
-        let r = number_in_range h range opened t (In-of_filter (is_update (done h)) (before_first (λ t. eqb t q) (commit_order (done h))) t i).1 in
-        and_from (nat_lt 0 t) (nat_le t MOST_TRANSACTIONS) (lt-ltb 0 t r.0) (le-leb t MOST_TRANSACTIONS r.1))
+        let r = number_in_range h range opened t (In-of_filter (is_update (accepted_in h)) (before_first (λ t. eqb t q) (commit_order (accepted_in h))) t i).1 in
+        and_from (nat_lt 0 t) (nat_le t MAX_TRANSACTIONS) (lt-ltb 0 t r.0) (le-leb t MAX_TRANSACTIONS r.1))
 
     before : list_all (λ (e : ℕ × ℕ). nat_lt e.0 (size p) && nat_lt e.1 (size p)) o.before ≡ true
     before = all_from (λ (e : ℕ × ℕ). nat_lt e.0 (size p) && nat_lt e.1 (size p)) o.before (λ e c.
@@ -182,8 +182,8 @@ module _ (d : Distance) (h : Schedule) (q : ℕ) (range : IsWithinRanges h) (ope
     chain_within : (x : ℕ) → In x (items_read h q) → chain_is_in_range (size p) (chain_for d h q us x) ≡ true
     chain_within x i =
         let l = below (λ x. list_any (λ (o : Operation). eqb o.item x) (reads_by h q)) 0 (length h.opening) x i in
-        and_from (nat_lt x MOST_ITEMS) (list_all (λ w. nat_lt w (size p)) (places us (has_written h x)))
-        (lt-ltb x MOST_ITEMS (omega arith))
+        and_from (nat_lt x MAX_ITEMS) (list_all (λ w. nat_lt w (size p)) (places us (has_written h x)))
+        (lt-ltb x MAX_ITEMS (omega arith))
         (all_from (λ w. nat_lt w (size p)) (places us (has_written h x)) (λ w c.
         let k = below (passes_at us (has_written h x)) 0 (length us) w (Contains-In (places us (has_written h x)) w c) in
         lt-ltb w (size p) (omega (arith, k, ap length good.commits))))

@@ -1,7 +1,7 @@
 -- What an audit finds of a committed query.
 use Rattle.std.specs.Prelude.{◌≡◌, ◌≤◌, ℕ, List, All, filter, map, Some, None, filter_map, slice_get}
 use Rattle.esr_history.specs.Events.{is_query}
-use Rattle.esr_history.specs.Machine.{Distance, Schedule, done, charges_in, import_in}
+use Rattle.esr_history.specs.Machine.{Distance, Schedule, accepted_in, charges_in, import_in}
 use Rattle.esr_history.specs.Operations.{commit_order}
 use Rattle.esr_history.specs.Queries.{members, cost}
 use Rattle.esr_history.specs.Serial.{committed_updates}
@@ -66,7 +66,7 @@ IsFinding d h f = IsFindingOf d h f.query.0 f
 
 -- the committed queries, in commit order
 abbrev pub committed_queries : Schedule → List ℕ
-committed_queries h = filter (is_query (done h)) (commit_order (done h))
+committed_queries h = filter (is_query (accepted_in h)) (commit_order (accepted_in h))
 
 -- the summary of a finding: its query, its distance, its import, and the updates before the position
 abbrev pub summary : Finding → ℕ × ℕ × ℕ × List ℕ

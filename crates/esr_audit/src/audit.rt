@@ -6,7 +6,7 @@
 ghost use Rattle.std.specs.Prelude.{◌≡◌, ◌↔◌, false, List, None, map, All, IfOk, IfErr, IsErrOf, IsTrue, filter_map, slice_get};
 ghost use Rattle.esr_history.specs.declared.event.Entry.{Entry};
 ghost use Rattle.esr_history.specs.Legal.{along};
-ghost use Rattle.esr_history.specs.Machine.{IsLegal, done};
+ghost use Rattle.esr_history.specs.Machine.{IsLegal, accepted_in};
 ghost use Rattle.esr_history.specs.Operations.{commit_order};
 ghost use Rattle.esr_history.specs.Queries.{is_committed_query};
 ghost use Rattle.esr_history.specs.Serial.{IsSerializable};
@@ -133,7 +133,7 @@ pub fn audit_query_in<M: Metric>(
     committed: &[TxnId],
     q: TxnId,
 ) -> Result<Finding, AuditError>
-    requires { map (λ t. t.0) committed.now ≡ commit_order (done history.now.schedule) }
+    requires { map (λ t. t.0) committed.now ≡ commit_order (accepted_in history.now.schedule) }
     ensures query { IfOk result (λ f. f.query ≡ q) }
     ensures finding { IfOk result (IsFindingOf M.distance_by history.now.schedule q.0) }
     ensures refused { IsErrOf result AuditError.NotACommittedQuery
@@ -173,7 +173,7 @@ fn find_committed<M: Metric>(
     committed: &[TxnId],
     q: TxnId,
 ) -> Result<Finding, AuditError>
-    requires list { map (λ t. t.0) committed.now ≡ commit_order (done history.now.schedule) }
+    requires list { map (λ t. t.0) committed.now ≡ commit_order (accepted_in history.now.schedule) }
     requires query { IsTrue (is_committed_query history.now.schedule q.0) }
     ensures query { IfOk result (λ f. f.query ≡ q) }
     ensures finding { IfOk result (IsFindingOf M.distance_by history.now.schedule q.0) }
@@ -191,7 +191,7 @@ fn findings_of<M: Metric>(
     committed: &[TxnId],
     queries: &[TxnId],
 ) -> Result<Vec<Finding>, AuditError>
-    requires list { map (λ t. t.0) committed.now ≡ commit_order (done history.now.schedule) }
+    requires list { map (λ t. t.0) committed.now ≡ commit_order (accepted_in history.now.schedule) }
     requires queries { All (λ t. IsTrue (is_committed_query history.now.schedule t.0)) queries.now }
     ensures queries { IfOk result (λ v. map (λ f. f.query) v.items ≡ queries.now) }
     ensures findings { IfOk result (λ v. All (IsFinding M.distance_by history.now.schedule) v.items) }

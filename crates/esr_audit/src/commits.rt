@@ -1,9 +1,9 @@
 //! The committed updates and the committed queries of a history, each in commit order. An audit of a whole history computes
 //! the two lists once for all queries.
 ghost use Rattle.std.specs.Prelude.{◌≡◌, ◌≤◌, not, filter, map, All, IfOk, IsTrue, vec_len};
-ghost use Rattle.esr_base.specs.declared.limits.TheConstants.{MOST_TRANSACTIONS};
+ghost use Rattle.esr_base.specs.declared.limits.TheConstants.{MAX_TRANSACTIONS};
 ghost use Rattle.esr_history.specs.Events.{is_query};
-ghost use Rattle.esr_history.specs.Machine.{done};
+ghost use Rattle.esr_history.specs.Machine.{accepted_in};
 ghost use Rattle.esr_history.specs.Operations.{commit_order};
 ghost use Rattle.esr_history.specs.Queries.{is_committed_query};
 ghost use Rattle.esr_history.specs.Serial.{committed_updates};
@@ -31,9 +31,9 @@ fn lists_among<M: Metric>(
 ) -> Result<CommitLists, AllocError>
     ensures all { IfOk result (λ lists. lists.all.items ≡ txns.items) }
     ensures updates { IfOk result (λ lists. lists.updates.items
-        ≡ filter (λ t. not (is_query (done history.now.schedule) t.0)) txns.items) }
+        ≡ filter (λ t. not (is_query (accepted_in history.now.schedule) t.0)) txns.items) }
     ensures queries { IfOk result (λ lists. lists.queries.items
-        ≡ filter (λ t. is_query (done history.now.schedule) t.0) txns.items) }
+        ≡ filter (λ t. is_query (accepted_in history.now.schedule) t.0) txns.items) }
 {
     let mut updates = Vec::new(alloc);
     let mut queries = Vec::new(alloc);
@@ -54,14 +54,14 @@ fn lists_among<M: Metric>(
 /// The transactions that committed in a history, its committed updates and its committed queries,
 /// each in commit order.
 pub fn commit_lists<M: Metric>(alloc: Global, history: &History<M>) -> Result<CommitLists, NoMemory>
-    ensures all { IfOk result (λ lists. map (λ t. t.0) lists.all.items ≡ commit_order (done history.now.schedule)) }
+    ensures all { IfOk result (λ lists. map (λ t. t.0) lists.all.items ≡ commit_order (accepted_in history.now.schedule)) }
     ensures updates { IfOk result (λ lists. map (λ t. t.0) lists.updates.items
         ≡ committed_updates history.now.schedule) }
     ensures queries { IfOk result (λ lists. map (λ t. t.0) lists.queries.items
         ≡ committed_queries history.now.schedule) }
     ensures committed { IfOk result (λ lists. All (λ t. IsTrue
         (is_committed_query history.now.schedule t.0)) lists.queries.items) }
-    ensures few { IfOk result (λ lists. vec_len lists.queries ≤ MOST_TRANSACTIONS) }
+    ensures few { IfOk result (λ lists. vec_len lists.queries ≤ MAX_TRANSACTIONS) }
 {
     let _legal = history.log(); // brings the invariant into the proof
     let txns = committed(alloc, history)?;

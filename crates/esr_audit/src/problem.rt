@@ -2,7 +2,7 @@
 //! items that it read. `Problem::of_sound` constructs it without validation, because it is proved to satisfy every rule.
 ghost use Rattle.std.specs.Prelude.{map, IfOk, IsTrue};
 ghost use Rattle.esr_history.specs.Events.{is_query};
-ghost use Rattle.esr_history.specs.Machine.{done};
+ghost use Rattle.esr_history.specs.Machine.{accepted_in};
 ghost use Rattle.esr_order.specs.Orders.{IsOrderAmong};
 ghost use Rattle.esr_order.specs.Near.{AreNear};
 ghost use Rattle.esr_audit.specs.Problems.{StandsFor};
@@ -24,7 +24,7 @@ pub fn problem_of<M: Metric>(
 ) -> Result<Problem, NoMemory>
     requires order { IsOrderAmong history.now.schedule q.0 (map (λ t. t.0) order.commits) order }
     requires near { AreNear history.now.schedule q.0 (map (λ t. t.0) order.commits) }
-    requires query { IsTrue (is_query (done history.now.schedule) q.0) }
+    requires query { IsTrue (is_query (accepted_in history.now.schedule) q.0) }
     ensures stands { IfOk result (λ p. StandsFor M.distance_by history.now.schedule q.0 p) }
     ensures near { IfOk result (λ p. AreNear history.now.schedule q.0 p.updates) }
 {

@@ -1,7 +1,7 @@
 //! The reads of a query, grouped by item, in order.
 ghost use Rattle.std.specs.Prelude.{◌≡◌, not, filter, map, IfOk};
 ghost use Rattle.esr_history.specs.Events.{is_query};
-ghost use Rattle.esr_history.specs.Machine.{done};
+ghost use Rattle.esr_history.specs.Machine.{accepted_in};
 ghost use Rattle.esr_history.specs.Queries.{reads_by};
 ghost use Rattle.esr_audit.specs.Reads.{item_read_in, item_read_of};
 
@@ -45,7 +45,7 @@ pub fn item_reads<M: Metric>(
 
 /// Whether the transaction is a query.
 pub fn is_query<M: Metric>(history: &History<M>, t: TxnId) -> bool
-    ensures { result ≡ is_query (done history.now.schedule) t.0 }
+    ensures { result ≡ is_query (accepted_in history.now.schedule) t.0 }
 {
     match history.facts(t) {
         None => false,

@@ -13,8 +13,7 @@ mod output;
 mod watched;
 
 pub use limits::{
-    LARGEST_LIMIT, LARGEST_VALUE, LARGEST_WEIGHT, MOST_ENTRIES, MOST_ITEMS, MOST_READS,
-    MOST_TRANSACTIONS,
+    MAX_ENTRIES, MAX_ITEMS, MAX_LIMIT, MAX_READS, MAX_TRANSACTIONS, MAX_VALUE, MAX_WEIGHT,
 };
 pub use no_memory::NoMemory;
 pub use numbers::{ItemId, TxnId};

@@ -8,7 +8,7 @@ use anyhow::{Result, anyhow};
 use esr_core::Machine;
 use esr_history::{Event, Reply};
 use esr_items::{ItemId, Plain, Store};
-use esr_session::{Engine, LEDGER_PARTS, MOST_SESSIONS, Naming, Session};
+use esr_session::{Engine, LEDGER_PARTS, MAX_SESSIONS, Naming, Session};
 use std::alloc::Global;
 use std::marker::Brand;
 use std::rt::Clock;
@@ -164,7 +164,7 @@ fn measure_engine<N: Naming + Send + Sync, R: Threads + Wait + Clock + Sync>(
     requires opening { map (λ w. w.committed) items ≡ N.opening }
     requires weights { [] ≡ N.weights }
 {
-    if sessions == 0 || sessions > MOST_SESSIONS as u32 {
+    if sessions == 0 || sessions > MAX_SESSIONS as u32 {
         return Err(anyhow!("1 to 64 sessions"));
     }
     let Ok(mut engine) = Engine::<Plain, N>::new(alloc, blank, items, Plain) else {

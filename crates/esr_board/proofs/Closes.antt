@@ -9,7 +9,7 @@ use Rattle.std.proofs.lemmas.List.Concat.{flat_map-cons}
 use Rattle.esr_audit.proofs.Costs.{sum_mapped}
 use Rattle.atomic_table.proofs.Lists.{at_set}
 use Rattle.esr_board.specs.Claims.{times, below, EachOnceBelow, passes_of, IdleIsEmpty, IsFair, IsKept, IsBoardAt, joined, spent, BoardSize, Hand}
-use Rattle.esr_board.specs.Boards.{hand_of, drawn, all_drawn, BoardSeat}
+use Rattle.esr_board.specs.Boards.{hand_of, claimed, all_claimed, BoardSeat}
 use Rattle.esr_board.proofs.Weights.{sum_set, ones, length-below, times-below-none, times-below-one}
 
 module _ {X : Type 0} where
@@ -51,38 +51,38 @@ sum_each_one jobs (x ∷ xs) a = let r = sum_each_one jobs xs (λ j d l. a (suc 
 
 -- the hand that has all of the seats' numbers and passes, in their place
 pub given_at : (jobs seats word : ℕ) (given : List BoardSeat) (views : List Hand) (id : ℕ) (v : Hand) → IsFair jobs seats word views → get_elem? views id ≡ some v
-    → ((weight : ℕ → ℕ) → sum_by weight v.drawn ≡ sum_by (λ s. sum_by weight (drawn s)) given) → passes_of jobs v ≡ sum_by (λ s. passes_of jobs (hand_of s)) given
+    → ((weight : ℕ → ℕ) → sum_by weight v.claimed ≡ sum_by (λ s. sum_by weight (claimed s)) given) → passes_of jobs v ≡ sum_by (λ s. passes_of jobs (hand_of s)) given
     → All (λ s. s.seat.me.0.jobs ≡ jobs) given → IsBoardAt jobs seats (map hand_of given) word
 given_at jobs seats word given views id v r at numbers passes its = let kept : List Hand = set views id spent in let hands : List Hand = map hand_of given in (
   kept,
   (
     (λ weight.
-        let change = sum_set (λ (h : Hand). sum_by weight h.drawn) views id v spent at in
-        let two = sum_by-append (λ (h : Hand). sum_by weight h.drawn) hands kept in
-        let mapped = sum_mapped (λ (h : Hand). sum_by weight h.drawn) hand_of given in
+        let change = sum_set (λ (h : Hand). sum_by weight h.claimed) views id v spent at in
+        let two = sum_by-append (λ (h : Hand). sum_by weight h.claimed) hands kept in
+        let mapped = sum_mapped (λ (h : Hand). sum_by weight h.claimed) hand_of given in
         let same = numbers weight in
         let was = r.0 weight in omega arith),
     (let change = sum_set (passes_of jobs) views id v spent at in
         let two = sum_by-append (passes_of jobs) hands kept in
         let mapped = sum_mapped (passes_of jobs) hand_of given in let was = r.1 in omega arith),
-    at_append (λ h. passes_of jobs h ≡ 0 → h.drawn ≡ []) hands kept
-        (at_map_of (λ h. passes_of jobs h ≡ 0 → h.drawn ≡ []) given (λ k d l none_left. let one = each_one jobs given its k d l in absurd (omega arith)))
+    at_append (λ h. passes_of jobs h ≡ 0 → h.claimed ≡ []) hands kept
+        (at_map_of (λ h. passes_of jobs h ≡ 0 → h.claimed ≡ []) given (λ k d l none_left. let one = each_one jobs given its k d l in absurd (omega arith)))
         (λ j h there idle. ⊎_elim
-        (λ (t : (j ≡ id) × (spent ≡ h)). ap (λ (z : Hand). z.drawn) (sym t.1))
+        (λ (t : (j ≡ id) × (spent ≡ h)). ap (λ (z : Hand). z.claimed) (sym t.1))
         (λ (t : (j ≢ id) × (get_elem? views j ≡ some h)). r.2 j h t.1 idle)
         (at_set views id j spent h there)),
   ),
 )
 
-count_all : (given : List BoardSeat) → length (all_drawn given) ≡ sum_by (λ s. sum_by (λ _. 1) (drawn s)) given
-count_all given = sym (ones (all_drawn given)) ∙ sum_flat (λ _. 1) drawn given
+count_all : (given : List BoardSeat) → length (all_claimed given) ≡ sum_by (λ s. sum_by (λ _. 1) (claimed s)) given
+count_all given = sym (ones (all_claimed given)) ∙ sum_flat (λ _. 1) claimed given
 
 -- the count of what the seats drew, and of what the others drew, is the word
-count_parts : (jobs seats word : ℕ) (given : List BoardSeat) (st : IsBoardAt jobs seats (map hand_of given) word) → length (all_drawn given) + sum_by (λ (h : Hand). sum_by (λ _. 1) h.drawn) st.0 ≡ word
+count_parts : (jobs seats word : ℕ) (given : List BoardSeat) (st : IsBoardAt jobs seats (map hand_of given) word) → length (all_claimed given) + sum_by (λ (h : Hand). sum_by (λ _. 1) h.claimed) st.0 ≡ word
 count_parts jobs seats word given st =
     grind (arith, sum_by-append, sum_by, map hand_of given, sum_mapped, count_all given, ones (below word), length-below word)
 
-pub count_le : (jobs seats word : ℕ) (given : List BoardSeat) → IsBoardAt jobs seats (map hand_of given) word → length (all_drawn given) ≤ word
+pub count_le : (jobs seats word : ℕ) (given : List BoardSeat) → IsBoardAt jobs seats (map hand_of given) word → length (all_claimed given) ≤ word
 count_le jobs seats word given st = let p = count_parts jobs seats word given st in omega arith
 
 empty_if : (weight : ℕ → ℕ) (xs : List ℕ) → sum_by (λ _. 1) xs ≡ 0 → sum_by weight xs ≡ 0
@@ -90,22 +90,22 @@ empty_if weight [] h = refl
 empty_if weight (x ∷ xs) h = absurd (let p = sum_by-cons (λ (_ : ℕ). 1) x xs in omega arith)
 
 -- where the counts agree, the seats hold each number below the word once
-pub once : (jobs seats word : ℕ) (given : List BoardSeat) → IsBoardAt jobs seats (map hand_of given) word → length (all_drawn given) ≡ word → EachOnceBelow word (all_drawn given)
+pub once : (jobs seats word : ℕ) (given : List BoardSeat) → IsBoardAt jobs seats (map hand_of given) word → length (all_claimed given) ≡ word → EachOnceBelow word (all_claimed given)
 once jobs seats word given st same n =
     let p = count_parts jobs seats word given st in
     let weight : ℕ → ℕ = λ m. cond {A = ℕ} (eqb m n) 1 0 in
-    let others = zero_sum (λ (h : Hand). sum_by weight h.drawn) st.0 (λ k h e. empty_if weight h.drawn (sum_zero (λ (h : Hand). sum_by (λ _. 1) h.drawn) st.0 (omega arith) k h e)) in
-    let two = sum_by-append (λ (h : Hand). sum_by weight h.drawn) (map hand_of given) st.0 in
-    let mapped = sum_mapped (λ (h : Hand). sum_by weight h.drawn) hand_of given in
-    let flat = sum_flat weight drawn given in
+    let others = zero_sum (λ (h : Hand). sum_by weight h.claimed) st.0 (λ k h e. empty_if weight h.claimed (sum_zero (λ (h : Hand). sum_by (λ _. 1) h.claimed) st.0 (omega arith) k h e)) in
+    let two = sum_by-append (λ (h : Hand). sum_by weight h.claimed) (map hand_of given) st.0 in
+    let mapped = sum_mapped (λ (h : Hand). sum_by weight h.claimed) hand_of given in
+    let flat = sum_flat weight claimed given in
     let all = st.1.0 weight in
-    let is : times n (all_drawn given) ≡ times n (below word) = omega arith in
+    let is : times n (all_claimed given) ≡ times n (below word) = omega arith in
     ⊎_elim (λ (l : n < word). is ∙ times-below-one n word l ∙ sym (ap (λ b. cond {A = ℕ} b 1 0) (lt-ltb n word l)))
     (λ (g : word ≤ n). is ∙ times-below-none n word g ∙ sym (ap (λ b. cond {A = ℕ} b 1 0) (le-ltb n word g)))
     (cases_lt n word)
 
 -- a number is missing only where a seat is
-pub missing : (jobs seats word : ℕ) (given : List BoardSeat) → IsBoardAt jobs seats (map hand_of given) word → All (λ s. s.seat.me.0.jobs ≡ jobs) given → length (all_drawn given) < word → length given < seats
+pub missing : (jobs seats word : ℕ) (given : List BoardSeat) → IsBoardAt jobs seats (map hand_of given) word → All (λ s. s.seat.me.0.jobs ≡ jobs) given → length (all_claimed given) < word → length given < seats
 missing jobs seats word given st its less = ⊎_elim (λ (l : length given < seats). l)
     (λ (g : seats ≤ length given).
     let two = sum_by-append (passes_of jobs) (map hand_of given) st.0 in
@@ -113,8 +113,8 @@ missing jobs seats word given st its less = ⊎_elim (λ (l : length given < sea
     let each = sum_each_one jobs given (each_one jobs given its) in
     let all = st.1.1 in
     let idle : sum_by (passes_of jobs) st.0 ≡ 0 = omega arith in
-    let nothing = zero_sum (λ (h : Hand). sum_by (λ _. 1) h.drawn) st.0 (λ k h e.
-    let none_drawn : h.drawn ≡ [] = at_end st k h e (sum_zero (passes_of jobs) st.0 idle k h e) in ap (sum_by (λ _. 1)) none_drawn) in
+    let nothing = zero_sum (λ (h : Hand). sum_by (λ _. 1) h.claimed) st.0 (λ k h e.
+    let none_claimed : h.claimed ≡ [] = at_end st k h e (sum_zero (passes_of jobs) st.0 idle k h e) in ap (sum_by (λ _. 1)) none_claimed) in
     let p = count_parts jobs seats word given st in absurd (omega arith))
     (cases_lt (length given) seats)
   where
@@ -153,15 +153,15 @@ module _ {X : Type 0} where
   pub all_popped : (P : X → Type 0) (old new : List X) (x : X) → old ≡ new ++ x ∷ [] → All P old → All P new × P x
   all_popped P old new x e a = all_parts P new x (subst (All P) e a)
 
-pub joined_numbers : (m m' : Me (Unit {0}) Hand) (k : Hand) → m' ≡ (joined m.0 k, m.1) → (weight : ℕ → ℕ) → sum_by weight m'.0.drawn ≡ sum_by weight m.0.drawn + sum_by weight k.drawn
-joined_numbers m m' k e weight = ap (λ (z : Me (Unit {0}) Hand). sum_by weight z.0.drawn) e ∙ sum_by-append weight m.0.drawn k.drawn
+pub joined_numbers : (m m' : Me (Unit {0}) Hand) (k : Hand) → m' ≡ (joined m.0 k, m.1) → (weight : ℕ → ℕ) → sum_by weight m'.0.claimed ≡ sum_by weight m.0.claimed + sum_by weight k.claimed
+joined_numbers m m' k e weight = ap (λ (z : Me (Unit {0}) Hand). sum_by weight z.0.claimed) e ∙ sum_by-append weight m.0.claimed k.claimed
 
 pub joined_passes : (jobs : ℕ) (m m' : Me (Unit {0}) Hand) (k : Hand) → m' ≡ (joined m.0 k, m.1) → passes_of jobs m'.0 ≡ passes_of jobs m.0 + passes_of jobs k
 joined_passes jobs m m' k e = let n = joined_numbers m m' k e (λ x. cond {A = ℕ} (leb jobs x) 1 0) in let p : m'.0.passes ≡ m.0.passes + k.passes = ap (λ (z : Me (Unit {0}) Hand). z.0.passes) e in omega arith
 
-pub joined_count : (m m' : Me (Unit {0}) Hand) (k : Hand) → m' ≡ (joined m.0 k, m.1) → length m'.0.drawn ≡ length m.0.drawn + length k.drawn
-joined_count m m' k e = ap (λ (z : Me (Unit {0}) Hand). length z.0.drawn) e ∙ length-append m.0.drawn k.drawn
+pub joined_count : (m m' : Me (Unit {0}) Hand) (k : Hand) → m' ≡ (joined m.0 k, m.1) → length m'.0.claimed ≡ length m.0.claimed + length k.claimed
+joined_count m m' k e = ap (λ (z : Me (Unit {0}) Hand). length z.0.claimed) e ∙ length-append m.0.claimed k.claimed
 
 -- the count by weights, back to the list
-pub counted_all : (given : List BoardSeat) (xs : List ℕ) → ((weight : ℕ → ℕ) → sum_by weight xs ≡ sum_by (λ s. sum_by weight (drawn s)) given) → length xs ≡ length (all_drawn given)
+pub counted_all : (given : List BoardSeat) (xs : List ℕ) → ((weight : ℕ → ℕ) → sum_by weight xs ≡ sum_by (λ s. sum_by weight (claimed s)) given) → length xs ≡ length (all_claimed given)
 counted_all given xs h = sym (ones xs) ∙ h (λ _. 1) ∙ sym (count_all given)

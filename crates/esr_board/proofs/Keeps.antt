@@ -14,23 +14,23 @@ pub word_le : (jobs seats word : ℕ) (hands : List Hand) → IsFair jobs seats 
 word_le jobs seats word hands r = grind (arith, cond, leb, count_past-below jobs word, sum_by-le-sum_by)
 
 -- a list of numbers drawn is no longer than the word
-pub drawn_le : (jobs seats word : ℕ) (hands : List Hand) (id : ℕ) (v : Hand) → IsFair jobs seats word hands → get_elem? hands id ≡ some v → length v.drawn ≤ word
-drawn_le jobs seats word hands id v r at = grind (arith, part_le, sum_by, ones (below word), ones v.drawn, length-below word)
+pub claimed_le : (jobs seats word : ℕ) (hands : List Hand) (id : ℕ) (v : Hand) → IsFair jobs seats word hands → get_elem? hands id ≡ some v → length v.claimed ≤ word
+claimed_le jobs seats word hands id v r at = grind (arith, part_le, sum_by, ones (below word), ones v.claimed, length-below word)
 
 -- each number drawn is below the word
-pub drawn_below : (jobs seats word : ℕ) (hands : List Hand) (id : ℕ) (v : Hand) → IsFair jobs seats word hands → get_elem? hands id ≡ some v → All (λ x. x < word) v.drawn
-drawn_below jobs seats word hands id v r at k d h =
-    let x : ℕ = get_or v.drawn k d in
+pub claimed_below : (jobs seats word : ℕ) (hands : List Hand) (id : ℕ) (v : Hand) → IsFair jobs seats word hands → get_elem? hands id ≡ some v → All (λ x. x < word) v.claimed
+claimed_below jobs seats word hands id v r at k d h =
+    let x : ℕ = get_or v.claimed k d in
     ⊎_elim (λ (l : x < word). l)
     (λ (g : word ≤ x).
-    let part = part_le (λ (h : Hand). times x h.drawn) hands id v at in
+    let part = part_le (λ (h : Hand). times x h.claimed) hands id v at in
     let all = r.0 (λ y. cond {A = ℕ} (eqb y x) 1 0) in
     let none_there = times-below-none x word g in
-    let one = times_at v.drawn k d h in absurd (omega arith))
+    let one = times_at v.claimed k d h in absurd (omega arith))
     (cases_lt x word)
 
 pub passes-claim : (v : Hand) (n : ℕ) → 0 < v.passes → passes_of v.jobs (with_claim v n) ≡ passes_of v.jobs v
-passes-claim v n some_pass = let p = count_past_push v.jobs v.drawn n in
+passes-claim v n some_pass = let p = count_past_push v.jobs v.claimed n in
     ⊎_elim (λ (l : n < v.jobs). let z = past_no v.jobs n l in let c : cond {A = ℕ} (ltb n v.jobs) v.passes (v.passes - 1) ≡ v.passes = ap (λ b. cond b v.passes (v.passes - 1)) (lt-ltb n v.jobs l) in omega arith)
     (λ (g : v.jobs ≤ n). let z = past_yes v.jobs n g in let c : cond {A = ℕ} (ltb n v.jobs) v.passes (v.passes - 1) ≡ v.passes - 1 = ap (λ b. cond b v.passes (v.passes - 1)) (le-ltb n v.jobs g) in omega arith)
     (cases_lt n v.jobs)
@@ -62,11 +62,11 @@ claims size slots id me its few_jobs few_seats some_pass s r _ at fits =
       keeps,
       tt,
       subst (λ (n : ℕ). IsKept size (stepped s 0 n id me.1 w keeps)) next now,
-      (refl, drawn_below v.jobs size.seats word s.views id v fair at, drawn_le v.jobs size.seats word s.views id v fair at, omega arith),
+      (refl, claimed_below v.jobs size.seats word s.views id v fair at, claimed_le v.jobs size.seats word s.views id v fair at, omega arith),
     )
 
 -- one pass goes to a new seat
-pub splits : (size : BoardSize) (id : ℕ) (v : Hand) → v.jobs ≡ size.jobs → 0 < v.passes → v.drawn ≡ [] → Splits (IsKept size) id v (with_one_less v) (one_pass v)
+pub splits : (size : BoardSize) (id : ℕ) (v : Hand) → v.jobs ≡ size.jobs → 0 < v.passes → v.claimed ≡ [] → Splits (IsKept size) id v (with_one_less v) (one_pass v)
 splits size id v its some_pass nothing s r at = grind (arith, sum_set, sum_by, sum_by_push, set, ⊎_elim, at_set, at_snoc)
 
 -- a seat gets what another has
@@ -78,8 +78,8 @@ joins size id v other w s r at apart there =
 abbrev pub M : Type 0
 M = Me (Unit {0}) Hand
 
-pub counted-claim : (m m' : M) (n k : ℕ) → m' ≡ (with_claim m.0 n, m.1) → k ≡ length m.0.drawn → k + 1 ≡ length m'.0.drawn
-counted-claim m m' n k e is = subst (λ (z : M). k + 1 ≡ length z.0.drawn) (sym e) (let a = length-append m.0.drawn (n ∷ []) in omega arith)
+pub counted-claim : (m m' : M) (n k : ℕ) → m' ≡ (with_claim m.0 n, m.1) → k ≡ length m.0.claimed → k + 1 ≡ length m'.0.claimed
+counted-claim m m' n k e is = subst (λ (z : M). k + 1 ≡ length z.0.claimed) (sym e) (let a = length-append m.0.claimed (n ∷ []) in omega arith)
 
 pub one_pass-claim : (m m' : M) (n : ℕ) → m' ≡ (with_claim m.0 n, m.1) → false ≡ eqb m.0.passes 0 → passes_of m.0.jobs m.0 ≡ 1 → passes_of m'.0.jobs m'.0 ≡ 1
 one_pass-claim m m' n e has one = subst (λ (z : M). passes_of z.0.jobs z.0 ≡ 1) (sym e) (let p = passes-claim m.0 n (has_pass m.0.passes has) in p ∙ one)
@@ -95,5 +95,5 @@ ended-claim m m' n e has one =
     )
 
 -- a seat that has its pass drew nothing past the jobs
-pub not_ended : (jobs : ℕ) (v : Hand) → v.jobs ≡ jobs → false ≡ eqb v.passes 0 → passes_of v.jobs v ≡ 1 → 0 < count_past jobs v.drawn → ⊥
-not_ended jobs v its has one past = let p = has_pass v.passes has in let same : count_past v.jobs v.drawn ≡ count_past jobs v.drawn = ap (λ (j : ℕ). count_past j v.drawn) its in omega arith
+pub not_ended : (jobs : ℕ) (v : Hand) → v.jobs ≡ jobs → false ≡ eqb v.passes 0 → passes_of v.jobs v ≡ 1 → 0 < count_past jobs v.claimed → ⊥
+not_ended jobs v its has one past = let p = has_pass v.passes has in let same : count_past v.jobs v.claimed ≡ count_past jobs v.claimed = ap (λ (j : ℕ). count_past j v.claimed) its in omega arith

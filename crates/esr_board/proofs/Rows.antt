@@ -1,6 +1,6 @@
 -- The definitions at a board of three jobs and two seats: the first draws 0 and 1, the second 2 and 3, and the first 4.
 use Rattle.std.proofs.Common.{◌≡◌, [], ◌∷◌, map, refl}
-use Rattle.esr_board.specs.Claims.{hand, times, count_past, below, with_claim, with_one_less, one_pass, joined, passes_of, Drew, first_hand}
+use Rattle.esr_board.specs.Claims.{hand, times, count_past, below, with_claim, with_one_less, one_pass, joined, passes_of, HasClaimed, first_hand}
 
 both : map (λ n. times n (0 ∷ 1 ∷ 4 ∷ 2 ∷ 3 ∷ [])) (below 7) ≡ 1 ∷ 1 ∷ 1 ∷ 1 ∷ 1 ∷ 0 ∷ 0 ∷ []
 both = refl
@@ -38,5 +38,5 @@ together = refl
 used_up : passes_of 3 (hand 3 0 (0 ∷ 1 ∷ 4 ∷ [])) ≡ 1
 used_up = refl
 
-drew : Drew 3 (0 ∷ []) (0 ∷ 1 ∷ 4 ∷ []) (1 ∷ [])
-drew = (1 ∷ 4 ∷ [], refl, refl)
+has_claimed : HasClaimed 3 (0 ∷ []) (0 ∷ 1 ∷ 4 ∷ []) (1 ∷ [])
+has_claimed = (1 ∷ 4 ∷ [], refl, refl)

@@ -10,7 +10,7 @@ use Rattle.esr_audit.specs.declared.finding.Finding.{Finding}
 use Rattle.esr_audit.specs.declared.finding.AuditError.{AuditError}
 use Rattle.esr_audit.specs.declared.finding.AuditError.TheVariants.{NotACommittedQuery, NoMemory, WorkersOutOfRange}
 use Rattle.esr_board.specs.declared.worker.Share.{Share}
-use Rattle.esr_board.specs.Claims.{times, Drew, count_past}
+use Rattle.esr_board.specs.Claims.{times, HasClaimed, count_past}
 use Rattle.esr_board.specs.Shares.{IsKeptOf, AreCommitted, AreKept, IsShareOf, IsFilled, AreRight, query_of}
 use Rattle.esr_board.proofs.Closes.{all_popped}
 
@@ -19,13 +19,13 @@ any_holds P xs a = a.4
 
 -- what a worker ends with
 pub worked_is : {T : Type 0} (keeps : Finding → T → Type 0) (d : Distance) (h : Schedule) (queries : List TxnId) (jobs : ℕ) (old new : List ℕ) (r : Result (Share T) AuditError) → old ≡ [] → length queries ≡ jobs → AreCommitted h queries
-    → IfOk r (λ s. Drew jobs old new (map (λ p. p.0) s.found.items)) → IfOk r (λ s. AreKept keeps d h queries jobs s.found.items) → IfOk r (λ _. 0 < count_past jobs new)
-    → IfErr r (λ e. (js : List ℕ) × Drew jobs old new js × (e ≡ NotACommittedQuery → Any (λ n. (n < jobs) × (is_committed_query h (query_of queries n).0 ≡ false)) js)) → IfErr r (λ e. e ≢ WorkersOutOfRange)
+    → IfOk r (λ s. HasClaimed jobs old new (map (λ p. p.0) s.found.items)) → IfOk r (λ s. AreKept keeps d h queries jobs s.found.items) → IfOk r (λ _. 0 < count_past jobs new)
+    → IfErr r (λ e. (js : List ℕ) × HasClaimed jobs old new js × (e ≡ NotACommittedQuery → Any (λ n. (n < jobs) × (is_committed_query h (query_of queries n).0 ≡ false)) js)) → IfErr r (λ e. e ≢ WorkersOutOfRange)
     → MatchResult r (IsShareOf keeps d h queries jobs new) (λ e. e ≡ NoMemory)
-worked_is keeps d h queries jobs old new (Ok s) none_yet len committed drew found ended err other = (subst (λ (l : List ℕ). Drew jobs l new (map (λ p. p.0) s.found.items)) none_yet drew, found, ended)
-worked_is keeps d h queries jobs old new (Err NoMemory) none_yet len committed drew found ended err other = refl
-worked_is keeps d h queries jobs old new (Err WorkersOutOfRange) none_yet len committed drew found ended err other = absurd (other refl)
-worked_is keeps d h queries jobs old new (Err NotACommittedQuery) none_yet len committed drew found ended err other =
+worked_is keeps d h queries jobs old new (Ok s) none_yet len committed has_claimed found ended err other = (subst (λ (l : List ℕ). HasClaimed jobs l new (map (λ p. p.0) s.found.items)) none_yet has_claimed, found, ended)
+worked_is keeps d h queries jobs old new (Err NoMemory) none_yet len committed has_claimed found ended err other = refl
+worked_is keeps d h queries jobs old new (Err WorkersOutOfRange) none_yet len committed has_claimed found ended err other = absurd (other refl)
+worked_is keeps d h queries jobs old new (Err NotACommittedQuery) none_yet len committed has_claimed found ended err other =
     grind (arith, any_holds, true≢false)
 
 module _ {T : Type 0} (keeps : Finding → T → Type 0) (d : Distance) (h : Schedule) (queries : List TxnId) (slots after : List (Option T)) (job : ℕ) (x : T) (is : after ≡ set slots job (Some x)) (room : job < length slots) where

@@ -4,8 +4,8 @@ use Rattle.std.proofs.lemmas.Bool.{cases_lt}
 use Rattle.std.proofs.lemmas.List.Sums.{sum_by-cons, sum_by_push}
 use Rattle.std.proofs.lemmas.List.Elements.{All-append}
 use borrow.Author.Tests.{lt-leb}
-use Rattle.esr_board.specs.Claims.{times, count_past, Drew, EachOnceBelow}
-use Rattle.esr_board.specs.Boards.{drawn, all_drawn, BoardSeat}
+use Rattle.esr_board.specs.Claims.{times, count_past, HasClaimed, EachOnceBelow}
+use Rattle.esr_board.specs.Boards.{claimed, all_claimed, BoardSeat}
 use Rattle.esr_board.specs.Shares.{IsFilled}
 use Rattle.esr_board.proofs.Closes.{sum_flat}
 
@@ -36,17 +36,17 @@ times_kept jobs k (x ∷ xs) l = let r = times_kept jobs k xs l in let c = times
     (cases_lt x jobs)
 
 -- one seat more
-pub seat_more : (jobs k : ℕ) (old new : List BoardSeat) (s : BoardSeat) (js : List ℕ) → new ≡ old ++ s ∷ [] → Drew jobs [] (drawn s) js → k < jobs → 0 < times k (all_drawn new) → (0 < times k (all_drawn old)) ⊎ (0 < times k js)
+pub seat_more : (jobs k : ℕ) (old new : List BoardSeat) (s : BoardSeat) (js : List ℕ) → new ≡ old ++ s ∷ [] → HasClaimed jobs [] (claimed s) js → k < jobs → 0 < times k (all_claimed new) → (0 < times k (all_claimed old)) ⊎ (0 < times k js)
 seat_more jobs k old new s js e d l h =
     let weight : ℕ → ℕ = λ y. cond {A = ℕ} (eqb y k) 1 0 in
-    let p = sum_by_push (λ (t : BoardSeat). times k (drawn t)) old s in
-    let flat_old = sum_flat weight drawn old in
-    let flat_new = sum_flat weight drawn new in
-    let q : sum_by (λ (t : BoardSeat). times k (drawn t)) new ≡ sum_by (λ (t : BoardSeat). times k (drawn t)) (old ++ s ∷ []) = ap (sum_by (λ (t : BoardSeat). times k (drawn t))) e in
-    let same : times k (drawn s) ≡ times k d.0 = ap (times k) d.1 in
+    let p = sum_by_push (λ (t : BoardSeat). times k (claimed t)) old s in
+    let flat_old = sum_flat weight claimed old in
+    let flat_new = sum_flat weight claimed new in
+    let q : sum_by (λ (t : BoardSeat). times k (claimed t)) new ≡ sum_by (λ (t : BoardSeat). times k (claimed t)) (old ++ s ∷ []) = ap (sum_by (λ (t : BoardSeat). times k (claimed t))) e in
+    let same : times k (claimed s) ≡ times k d.0 = ap (times k) d.1 in
     let kept = times_kept jobs k d.0 l in
     let is : times k (filter (λ n. ltb n jobs) d.0) ≡ times k js = ap (times k) d.2 in
-    ⊎_elim (λ (some_old : 0 < times k (all_drawn old)). inl some_old) (λ (none_old : times k (all_drawn old) ≤ 0). inr (omega arith)) (cases_lt 0 (times k (all_drawn old)))
+    ⊎_elim (λ (some_old : 0 < times k (all_claimed old)). inl some_old) (λ (none_old : times k (all_claimed old) ≤ 0). inr (omega arith)) (cases_lt 0 (times k (all_claimed old)))
 
 -- a number past the jobs occurs in the list
 past_there : (jobs : ℕ) (xs : List ℕ) → 0 < count_past jobs xs → (m : ℕ) × (jobs ≤ m) × (0 < times m xs)
@@ -58,15 +58,15 @@ past_there jobs (x ∷ xs) h = let c = sum_by-cons (λ y. cond {A = ℕ} (leb jo
     (λ (past : jobs ≤ x). let t = times_cons x x xs in let one : cond {A = ℕ} (eqb x x) 1 0 ≡ 1 = ap (λ b. cond {A = ℕ} b 1 0) (eq-eqb x x refl) in (x, past, omega arith))
     (cases_lt x jobs)
 
-pub all_filled : {T : Type 0} (jobs : ℕ) (seats : List BoardSeat) (slots : List (Option T)) → 0 < length seats → All (λ s. 0 < count_past jobs (drawn s)) seats → EachOnceBelow (length (all_drawn seats)) (all_drawn seats)
-    → ((k : ℕ) → k < jobs → 0 < times k (all_drawn seats) → IsFilled slots k) → (k : ℕ) → k < jobs → IsFilled slots k
+pub all_filled : {T : Type 0} (jobs : ℕ) (seats : List BoardSeat) (slots : List (Option T)) → 0 < length seats → All (λ s. 0 < count_past jobs (claimed s)) seats → EachOnceBelow (length (all_claimed seats)) (all_claimed seats)
+    → ((k : ℕ) → k < jobs → 0 < times k (all_claimed seats) → IsFilled slots k) → (k : ℕ) → k < jobs → IsFilled slots k
 all_filled jobs [] slots some_seat past once filled k l = absurd (omega arith)
 all_filled jobs (s ∷ ss) slots some_seat past once filled k l =
-    let seats : List BoardSeat = s ∷ ss in let word : ℕ = length (all_drawn seats) in
+    let seats : List BoardSeat = s ∷ ss in let word : ℕ = length (all_claimed seats) in
     let weight : ℕ → ℕ = λ y. cond {A = ℕ} (leb jobs y) 1 0 in
-    let flat = sum_flat weight drawn seats in let c = sum_by-cons (λ (t : BoardSeat). count_past jobs (drawn t)) s ss in
+    let flat = sum_flat weight claimed seats in let c = sum_by-cons (λ (t : BoardSeat). count_past jobs (claimed t)) s ss in
     let first = past 0 s (omega arith) in
-    let m = past_there jobs (all_drawn seats) (omega arith) in
+    let m = past_there jobs (all_claimed seats) (omega arith) in
     let m_once = once m.0 in let k_once = once k in
     let reached : m.0 < word = ⊎_elim (λ (h : m.0 < word). h) (λ (h : word ≤ m.0). let z : cond {A = ℕ} (ltb m.0 word) 1 0 ≡ 0 = ap (λ b. cond {A = ℕ} b 1 0) (le-ltb m.0 word h) in absurd (let q = m.2 in omega arith)) (cases_lt m.0 word) in
     let low : k < word = (let q = m.1 in omega arith) in

@@ -15,12 +15,12 @@ seats_of b = b.seats
 abbrev pub hand_of : BoardSeat → Hand
 hand_of s = s.seat.me.0
 
-abbrev pub drawn : BoardSeat → List ℕ
-drawn s = s.seat.me.0.drawn
+abbrev pub claimed : BoardSeat → List ℕ
+claimed s = s.seat.me.0.claimed
 
 -- the numbers that the seats drew
-abbrev pub all_drawn : List BoardSeat → List ℕ
-all_drawn seats = flat_map drawn seats
+abbrev pub all_claimed : List BoardSeat → List ℕ
+all_claimed seats = flat_map claimed seats
 
 -- the seat is one of the board's
 abbrev pub IsSeatOf : Board → BoardSeat → Type 0

@@ -7,7 +7,7 @@ pub use Rattle.esr_board.specs.declared.hand.Hand.{Hand}
 pub use Rattle.esr_board.specs.declared.hand.BoardSize.{BoardSize}
 
 abbrev pub hand : ℕ → ℕ → List ℕ → Hand
-hand jobs passes drawn = record { jobs = jobs; passes = passes; drawn = drawn }
+hand jobs passes claimed = record { jobs = jobs; passes = passes; claimed = claimed }
 
 -- how often n occurs in the list
 abbrev pub times : ℕ → List ℕ → ℕ
@@ -29,15 +29,15 @@ below (suc n) = below n ++ n ∷ []
 -- The numbers below the word were drawn, each once, and no other: however numbers are weighed,
 -- those in the lists weigh what these weigh.
 abbrev pub HoldsEachOnce : ℕ → List Hand → Type 0
-HoldsEachOnce word hands = (weight : ℕ → ℕ) → sum_by (λ h. sum_by weight h.drawn) hands ≡ sum_by weight (below word)
+HoldsEachOnce word hands = (weight : ℕ → ℕ) → sum_by (λ h. sum_by weight h.claimed) hands ≡ sum_by weight (below word)
 
 -- the passes that are left, and the numbers past the jobs, each of which used one up
 abbrev pub passes_of : ℕ → Hand → ℕ
-passes_of jobs h = h.passes + count_past jobs h.drawn
+passes_of jobs h = h.passes + count_past jobs h.claimed
 
 -- who never had a pass has drawn nothing
 abbrev pub IdleIsEmpty : ℕ → List Hand → Type 0
-IdleIsEmpty jobs hands = (id : ℕ) (h : Hand) → get_elem? hands id ≡ some h → passes_of jobs h ≡ 0 → h.drawn ≡ []
+IdleIsEmpty jobs hands = (id : ℕ) (h : Hand) → get_elem? hands id ≡ some h → passes_of jobs h ≡ 0 → h.claimed ≡ []
 
 -- what holds of all hands of a board between two steps
 abbrev pub IsFair : ℕ → ℕ → ℕ → List Hand → Type 0
@@ -56,25 +56,25 @@ first_hand size = hand size.jobs size.seats []
 
 -- a claim: the hand after it drew n
 abbrev pub with_claim : Hand → ℕ → Hand
-with_claim h n = hand h.jobs (if nat_lt n h.jobs then h.passes else h.passes - 1) (h.drawn ++ n ∷ [])
+with_claim h n = hand h.jobs (if nat_lt n h.jobs then h.passes else h.passes - 1) (h.claimed ++ n ∷ [])
 
 -- what a claim tells: the number found is above all in the seat's list, at least as large as their count,
 -- and the word has room
 abbrev pub Claimed : Step (Unit {0}) → Me (Unit {0}) Hand → ℕ → Me (Unit {0}) Hand → Type 0
 Claimed st m n m' =
-    (m' ≡ (with_claim m.0 n, m.1)) × All (λ x. x < n) m.0.drawn × (length m.0.drawn ≤ n)
+    (m' ≡ (with_claim m.0 n, m.1)) × All (λ x. x < n) m.0.claimed × (length m.0.claimed ≤ n)
     × (n + 1 < 18446744073709551616)
 
 -- a split: one pass goes to a new seat
 abbrev pub with_one_less : Hand → Hand
-with_one_less h = hand h.jobs (h.passes - 1) h.drawn
+with_one_less h = hand h.jobs (h.passes - 1) h.claimed
 
 abbrev pub one_pass : Hand → Hand
 one_pass h = hand h.jobs 1 []
 
 -- a join: two hands in one, and what is left of the second
 abbrev pub joined : Hand → Hand → Hand
-joined h k = hand h.jobs (h.passes + k.passes) (h.drawn ++ k.drawn)
+joined h k = hand h.jobs (h.passes + k.passes) (h.claimed ++ k.claimed)
 
 abbrev pub spent : Hand
 spent = hand 0 0 []
@@ -84,5 +84,5 @@ abbrev pub IsBoardAt : ℕ → ℕ → List Hand → ℕ → Type 0
 IsBoardAt jobs seats hands word = (kept : List Hand) × IsFair jobs seats word (hands ++ kept)
 
 -- the list grew, and the jobs among the new numbers are js, in order
-abbrev pub Drew : ℕ → List ℕ → List ℕ → List ℕ → Type 0
-Drew jobs old new js = (more : List ℕ) × (new ≡ old ++ more) × (filter (λ n. nat_lt n jobs) more ≡ js)
+abbrev pub HasClaimed : ℕ → List ℕ → List ℕ → List ℕ → Type 0
+HasClaimed jobs old new js = (more : List ℕ) × (new ≡ old ++ more) × (filter (λ n. nat_lt n jobs) more ≡ js)

@@ -10,8 +10,8 @@ use Rattle.esr_audit.specs.Findings.{IsFinding}
 use Rattle.esr_board.specs.declared.worker.Share.{Share}
 use Rattle.esr_board.specs.declared.worker.Worked.{Worked}
 use Rattle.esr_board.specs.declared.board.Board.{Board}
-use Rattle.esr_board.specs.Claims.{Drew, count_past}
-use Rattle.esr_board.specs.Boards.{IsSeatOf, drawn, jobs_of}
+use Rattle.esr_board.specs.Claims.{HasClaimed, count_past}
+use Rattle.esr_board.specs.Boards.{IsSeatOf, claimed, jobs_of}
 
 -- the query of a job
 abbrev pub query_of : List TxnId → ℕ → TxnId
@@ -51,13 +51,13 @@ AreKept keeps d h queries jobs found = All (λ p. (p.0 < jobs) × IsKeptOf keeps
 abbrev pub IsShareOf : {T : Type 0} → (Finding → T → Type 0) → Distance → Schedule → List TxnId → ℕ → List ℕ → Share T
     → Type 0
 IsShareOf keeps d h queries jobs numbers s =
-    Drew jobs [] numbers (map (λ p. p.0) s.found.items) × AreKept keeps d h queries jobs s.found.items
+    HasClaimed jobs [] numbers (map (λ p. p.0) s.found.items) × AreKept keeps d h queries jobs s.found.items
     × (0 < count_past jobs numbers)
 
 -- a worker gave its seat back, with its share, or out of memory
 abbrev pub IsWorked : {T : Type 0} → (Finding → T → Type 0) → Distance → Schedule → List TxnId → Board → Worked T → Type 0
 IsWorked keeps d h queries board w =
-    IsSeatOf board w.seat × MatchResult w.share (IsShareOf keeps d h queries (jobs_of board) (drawn w.seat))
+    IsSeatOf board w.seat × MatchResult w.share (IsShareOf keeps d h queries (jobs_of board) (claimed w.seat))
     (λ e. e ≡ NoMemory)
 
 -- there is something for a job

@@ -4,23 +4,23 @@
 //! clause can read a word without a step on it; the key of a table is fixed when it is made and can be read in a proof
 //! at any time, so it is what ties the rule to the board's own fields.
 ghost use Rattle.std.specs.Prelude.{◌≡◌, ◌≤◌, [], length, nat_eq};
-ghost use Rattle.esr_board.specs.declared.board.TheConstants.{MOST_JOBS, MOST_SEATS};
+ghost use Rattle.esr_board.specs.declared.board.TheConstants.{MAX_JOBS, MAX_SEATS};
 ghost use Rattle.esr_board.specs.Claims.{passes_of};
 
 use crate::hand::{BoardSize, Hand};
 use crate::rule::Fair;
 use atomic_table::{Seat, Table};
-use esr_history::MOST_TRANSACTIONS;
+use esr_history::MAX_TRANSACTIONS;
 use std::alloc::Global;
 use thiserror::Error;
 
 mod calls;
 
 /// The most jobs that a board has: one for each transaction of a history.
-pub const MOST_JOBS: u64 = MOST_TRANSACTIONS as u64;
+pub const MAX_JOBS: u64 = MAX_TRANSACTIONS as u64;
 
 /// The most seats that a board has.
-pub const MOST_SEATS: u64 = 64;
+pub const MAX_SEATS: u64 = 64;
 
 /// The numbers from 0 on, which seats claim.
 #[derive(Drop)]
@@ -30,10 +30,10 @@ pub struct Board {
     seats: u64,
     ghost words: { table.shared.table_id.words ≡ 3 },
     ghost slots: { table.shared.table_id.slots ≡ 0 },
-    ghost jobs_told: { table.shared.key.jobs ≡ jobs },
-    ghost seats_told: { table.shared.key.seats ≡ seats },
-    ghost few_jobs: { jobs ≤ MOST_JOBS },
-    ghost few_seats: { seats ≤ MOST_SEATS },
+    ghost jobs_known: { table.shared.key.jobs ≡ jobs },
+    ghost seats_known: { table.shared.key.seats ≡ seats },
+    ghost few_jobs: { jobs ≤ MAX_JOBS },
+    ghost few_seats: { seats ≤ MAX_SEATS },
 }
 
 /// The right to claim numbers of one board, until a claim gave none.
@@ -42,7 +42,7 @@ pub struct BoardSeat {
     seat: Seat<(), Hand>,
     claims: u64,
     ended: bool,
-    ghost counted: { claims ≡ length seat.me.0.drawn },
+    ghost counted: { claims ≡ length seat.me.0.claimed },
     ghost one_pass: { passes_of seat.me.0.jobs seat.me.0 ≡ 1 },
     ghost ended_without: { ended ≡ nat_eq seat.me.0.passes 0 },
     ghost no_slot: { seat.me.1 ≡ [] },

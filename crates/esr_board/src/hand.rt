@@ -7,7 +7,7 @@ use std::collections::LinkedList;
 pub struct Hand {
     pub jobs: u64,
     pub passes: u64,
-    pub drawn: LinkedList<u64>,
+    pub claimed: LinkedList<u64>,
 }
 
 /// How many jobs and seats a board has.

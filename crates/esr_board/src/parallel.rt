@@ -18,12 +18,12 @@ ghost use Rattle.esr_history.specs.Totals.{IsWithinLimits};
 ghost use Rattle.esr_audit.specs.Findings.{IsAnswer, IsBook, AreSummaries, committed_queries};
 ghost use Rattle.esr_audit.specs.Stretches.{listed};
 ghost use Rattle.esr_order.specs.Index.{IsWholeIndexOf};
-ghost use Rattle.esr_board.specs.declared.board.TheConstants.{MOST_JOBS};
+ghost use Rattle.esr_board.specs.declared.board.TheConstants.{MAX_JOBS};
 ghost use Rattle.esr_board.specs.Claims.{times, count_past};
-ghost use Rattle.esr_board.specs.Boards.{IsSeatOf, drawn, all_drawn, jobs_of};
+ghost use Rattle.esr_board.specs.Boards.{IsSeatOf, claimed, all_claimed, jobs_of};
 ghost use Rattle.esr_board.specs.Shares.{AreCommitted, AreKept, IsWorked, IsFilled, AreRight, IsKeptOf, KeepsFindings};
 
-use crate::board::{Board, BoardError, BoardSeat, MOST_SEATS};
+use crate::board::{Board, BoardError, BoardSeat, MAX_SEATS};
 use crate::gate::Gate;
 use crate::worker::{Share, Worked, take_turns};
 use esr_audit::{AuditError, Book, CommitLists, Finding, Summaries, commit_lists};
@@ -75,7 +75,7 @@ fn shares<M: Metric + Sync, R: Threads + Sync, G: Gate + Sync, T: From<Finding> 
     gate: &G,
 ) -> Result<Vec<Worked<T>>, AllocError>
     requires index { IsWholeIndexOf history.now.schedule.entries index.now }
-    requires seats { All (λ s. IsSeatOf board.now s × (drawn s ≡ [])) seats.items }
+    requires seats { All (λ s. IsSeatOf board.now s × (claimed s ≡ [])) seats.items }
     requires jobs { (length jobs.now ≡ jobs_of board.now) × AreCommitted history.now.schedule jobs.now }
     ensures { IfOk result (λ v. (vec_len v ≡ vec_len seats)
         × All (IsWorked T.from_gives M.distance_by history.now.schedule jobs.now board.now) v.items) }
@@ -84,7 +84,7 @@ fn shares<M: Metric + Sync, R: Threads + Sync, G: Gate + Sync, T: From<Finding> 
         rt,
         seats,
         &|seat: BoardSeat| -> Worked<T>
-            requires { IsSeatOf board.now seat × (drawn seat ≡ []) × (length jobs.now ≡ jobs_of board.now)
+            requires { IsSeatOf board.now seat × (claimed seat ≡ []) × (length jobs.now ≡ jobs_of board.now)
                 × AreCommitted history.now.schedule jobs.now
                 × IsWholeIndexOf history.now.schedule.entries index.now }
             ensures { IsWorked T.from_gives M.distance_by history.entry.now.schedule jobs.entry.now board.entry.now result }
@@ -100,7 +100,7 @@ struct KeptAndSeats<T> {
 }
 
 /// So many places with nothing in them.
-fn vacant<T: Drop>(alloc: Global, count: usize) -> Result<Vec<Option<T>>, AllocError>
+fn empty_slots<T: Drop>(alloc: Global, count: usize) -> Result<Vec<Option<T>>, AllocError>
     ensures { IfOk result (λ v. (vec_len v ≡ count) × ((k : ℕ) → slice_index_or v.items k None ≡ None)) }
 {
     let mut slots = Vec::with_capacity(alloc, count)?;
@@ -121,14 +121,14 @@ fn gather<M: Metric, T: From<Finding> + Drop>(
     requires all { All (IsWorked T.from_gives M.distance_by history.now.schedule jobs.now board.now) all.items }
     requires len { length jobs.now ≡ jobs_of board.now }
     ensures seats { IfOk result (λ g. (vec_len g.seats ≡ vec_len all)
-        × All (λ s. IsSeatOf board.now s × (0 < count_past (jobs_of board.now) (drawn s))) g.seats.items) }
+        × All (λ s. IsSeatOf board.now s × (0 < count_past (jobs_of board.now) (claimed s))) g.seats.items) }
     ensures slots { IfOk result (λ g. (vec_len g.slots ≡ length jobs.now)
         × AreRight T.from_gives M.distance_by history.now.schedule jobs.now g.slots.items) }
-    ensures filled { IfOk result (λ g. (k : ℕ) → k < jobs_of board.now → 0 < times k (all_drawn g.seats.items)
+    ensures filled { IfOk result (λ g. (k : ℕ) → k < jobs_of board.now → 0 < times k (all_claimed g.seats.items)
         → IsFilled g.slots.items k) }
     ensures err { IfErr result (λ e. e ≡ AuditError.NoMemory) }
 {
-    let Ok(mut slots) = vacant(alloc, jobs.len()) else {
+    let Ok(mut slots) = empty_slots(alloc, jobs.len()) else {
         return Err(AuditError::NoMemory);
     };
     let mut seats = Vec::new(alloc);
@@ -184,8 +184,8 @@ fn kept_by<M: Metric + Sync, R: Threads + Sync, G: Gate + Sync, T: From<Finding>
     gate: &G,
 ) -> Result<Vec<T>, AuditError>
     requires index { IsWholeIndexOf history.now.schedule.entries index.now }
-    requires jobs { (length jobs.now ≤ MOST_JOBS) × AreCommitted history.now.schedule jobs.now }
-    requires workers { (1 ≤ workers) × (workers ≤ MOST_SEATS) }
+    requires jobs { (length jobs.now ≤ MAX_JOBS) × AreCommitted history.now.schedule jobs.now }
+    requires workers { (1 ≤ workers) × (workers ≤ MAX_SEATS) }
     ensures kept { IfOk result (λ v. AllZip (IsKeptOf T.from_gives M.distance_by history.now.schedule)
         jobs.now v.items) }
     ensures err { IfErr result (λ e. e ≡ AuditError.NoMemory) }
@@ -228,10 +228,10 @@ fn pages_by<M: Metric + Sync, R: Threads + Sync, G: Gate + Sync, T: From<Finding
     ensures order { IfOk result (λ p. map (λ t. t.0) p.order.items ≡ committed_updates history.now.schedule) }
     ensures kept { IfOk result (λ p. KeepsFindings T.from_gives M.distance_by history.now.schedule
         (committed_queries history.now.schedule) p.kept.items) }
-    ensures workers { (result ≡ Err AuditError.WorkersOutOfRange) ↔ ((workers ≡ 0) ⊎ (MOST_SEATS < workers)) }
+    ensures workers { (result ≡ Err AuditError.WorkersOutOfRange) ↔ ((workers ≡ 0) ⊎ (MAX_SEATS < workers)) }
     ensures err { IfErr result (λ e. (e ≡ AuditError.NoMemory) ⊎ (e ≡ AuditError.WorkersOutOfRange)) }
 {
-    if workers == 0 || workers > MOST_SEATS {
+    if workers == 0 || workers > MAX_SEATS {
         return Err(AuditError::WorkersOutOfRange);
     }
     let Ok(
@@ -275,7 +275,7 @@ pub fn audit_parallel<M: Metric + Sync, R: Threads + Sync, G: Gate + Sync>(
     ensures serializable { IsSerializable history.now.schedule }
     ensures limits { IsWithinLimits M.distance_by history.now.schedule }
     ensures book { IfOk result (IsBook M.distance_by history.now.schedule) }
-    ensures workers { (result ≡ Err AuditError.WorkersOutOfRange) ↔ ((workers ≡ 0) ⊎ (MOST_SEATS < workers)) }
+    ensures workers { (result ≡ Err AuditError.WorkersOutOfRange) ↔ ((workers ≡ 0) ⊎ (MAX_SEATS < workers)) }
     ensures err { IfErr result (λ e. (e ≡ AuditError.NoMemory) ⊎ (e ≡ AuditError.WorkersOutOfRange)) }
     ensures stays { IfOk result (λ b. (rest : List Entry) → IsLegal M.distance_by (along history.now.schedule rest)
         → All (λ f. IsAnswer M.distance_by (along history.now.schedule rest) f.query.0 f.distance f.import
@@ -308,7 +308,7 @@ pub fn summarize_parallel<M: Metric + Sync, R: Threads + Sync, G: Gate + Sync>(
     ensures serializable { IsSerializable history.now.schedule }
     ensures limits { IsWithinLimits M.distance_by history.now.schedule }
     ensures summaries { IfOk result (AreSummaries M.distance_by history.now.schedule) }
-    ensures workers { (result ≡ Err AuditError.WorkersOutOfRange) ↔ ((workers ≡ 0) ⊎ (MOST_SEATS < workers)) }
+    ensures workers { (result ≡ Err AuditError.WorkersOutOfRange) ↔ ((workers ≡ 0) ⊎ (MAX_SEATS < workers)) }
     ensures err { IfErr result (λ e. (e ≡ AuditError.NoMemory) ⊎ (e ≡ AuditError.WorkersOutOfRange)) }
     ensures stays { IfOk result (λ b. (rest : List Entry) → IsLegal M.distance_by (along history.now.schedule rest)
         → All (λ s. IsAnswer M.distance_by (along history.now.schedule rest) s.query.0 s.distance s.import

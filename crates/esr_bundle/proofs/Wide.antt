@@ -3,7 +3,7 @@ use Rattle.std.proofs.Common.{List, [], ◌∷◌, suc, get_or, Fits, w32, ◌�
 use Rattle.std.specs.List.{list_all}
 use Rattle.std.proofs.lemmas.Bool.{and_parts, and_from, cases_Bool}
 use Rattle.std.proofs.lemmas.Bool.Decides.{nat_tests}
-use Rattle.esr_base.specs.declared.limits.TheConstants.{MOST_ITEMS, MOST_TRANSACTIONS}
+use Rattle.esr_base.specs.declared.limits.TheConstants.{MAX_ITEMS, MAX_TRANSACTIONS}
 use Rattle.esr_cert.specs.Problem.{Problem, size, has_shape, is_in_range, is_sound, chain_is_in_range}
 use Rattle.esr_cert.specs.Faults.{problem_fault}
 use Rattle.esr_cert.specs.declared.problem.BundleFault.TheVariants.{Range}
@@ -21,12 +21,12 @@ pub record ArePositions (p : Problem) : Type 0 where
 
 pub positions : (p : Problem) → is_sound p ≡ true → ArePositions p
 positions p h = record {
-  updates = all_from is_position p.updates (λ t k. let b : (ltb 0 t ≡ true) × (leb t MOST_TRANSACTIONS ≡ true) = and_parts _ _ (all_in (λ t. ltb 0 t && leb t MOST_TRANSACTIONS) p.updates t r.numbers k) in is_small t (leb-true _ _ b.1));
+  updates = all_from is_position p.updates (λ t k. let b : (ltb 0 t ≡ true) × (leb t MAX_TRANSACTIONS ≡ true) = and_parts _ _ (all_in (λ t. ltb 0 t && leb t MAX_TRANSACTIONS) p.updates t r.numbers k) in is_small t (leb-true _ _ b.1));
   before = all_from is_pair_of_positions p.before (λ e k.
       let b : (ltb e.0 (size p) ≡ true) × (ltb e.1 (size p) ≡ true) = and_parts _ _ (all_in (λ (e : ℕ × ℕ). ltb e.0 (size p) && ltb e.1 (size p)) p.before e r.pairs k) in
       and_from (is_position e.0) (is_position e.1) (below e.0 b.0) (below e.1 b.1));
   chains = all_from is_chain_of_positions p.chains (λ chain k.
-      let b : (ltb chain.item MOST_ITEMS ≡ true) × (list_all (λ w. ltb w (size p)) chain.writers ≡ true) = and_parts _ _ (all_in (chain_is_in_range (size p)) p.chains chain r.chains k) in
+      let b : (ltb chain.item MAX_ITEMS ≡ true) × (list_all (λ w. ltb w (size p)) chain.writers ≡ true) = and_parts _ _ (all_in (chain_is_in_range (size p)) p.chains chain r.chains k) in
       and_from (is_position chain.item) (list_all is_position chain.writers)
       (is_small chain.item (omega (arith, ltb-true _ _ b.0)))
       (all_from is_position chain.writers (λ w l. below w (all_in (λ w. ltb w (size p)) chain.writers w b.1 l))));

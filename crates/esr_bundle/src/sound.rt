@@ -15,7 +15,7 @@ use esr_cert::{
 };
 use std::alloc::Global;
 
-const LARGEST: u64 = 4_294_967_295;
+const MAX_NUMBER: u64 = 4_294_967_295;
 
 /// A number as one of 32 bits, where it fits.
 fn position(number: u64) -> Result<u32, BundleFault>
@@ -23,7 +23,7 @@ fn position(number: u64) -> Result<u32, BundleFault>
     ensures fits { IsOk result → is_position number ≡ true }
     ensures err { IfErr result (λ e. (e ≡ BundleFault.Range) × (is_position number ≡ false)) }
 {
-    if number > LARGEST {
+    if number > MAX_NUMBER {
         return Err(BundleFault::Range);
     }
     Ok(number as u32)

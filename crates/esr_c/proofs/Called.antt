@@ -14,11 +14,11 @@ use Rattle.esr_c.specs.Answers.{IsEventCall, reply_fields, status_number}
 
 module _ (event : Event) (h g : Schedule) (before after : EsrReply) where
   call_done : (r : Reply) → r ≡ reply_to weighted h event → g ≡ extended h event r → after ≡ reply_fields r → ¬ (is_full h event ≡ true) → IsEventCall event (Some h) (Some g) before after 0
-  call_done r is added told roomy = record {
+  call_done r is added reported roomy = record {
     known = inl refl;
     closed = (λ e. absurd (omega arith), λ e. absurd (cc));
     full = (λ e. absurd (omega arith), λ p. absurd (roomy p));
-    reply = λ _. (ap (λ k. Some k) (added ∙ ap (extended h event) is), told ∙ ap reply_fields is);
+    reply = λ _. (ap (λ k. Some k) (added ∙ ap (extended h event) is), reported ∙ ap reply_fields is);
     err = λ ne. absurd (ne refl);
   }
 
@@ -44,12 +44,12 @@ module _ (event : Event) (h g : Schedule) (before after : EsrReply) where
       → (IsErrOf answered unanswered.Full ↔ (is_full h event ≡ true)) → OnErr answered (g ≡ h)
       → IfOk answered (λ r. (s ≡ Done) × (after ≡ reply_fields r)) → (s ≡ Full ↔ IsErrOf answered unanswered.Full)
       → IfErr answered (λ _. ((s ≡ Full) ⊎ (s ≡ NoMemory)) × (after ≡ before)) → IsEventCall event (Some h) (Some g) before after (status_number s)
-  called (Ok r) s reply added full same ok told err =
+  called (Ok r) s reply added full same ok reported err =
       subst (λ (k : Status). IsEventCall event (Some h) (Some g) before after (status_number k)) (sym ok.0) (call_done r reply added ok.1 (λ p. let bad : Ok r ≡ Err unanswered.Full = full.1 p in absurd (cc)))
-  called (Err e) s reply added full same ok told err = by_status err.0
+  called (Err e) s reply added full same ok reported err = by_status err.0
     where
       by_status : (s ≡ Full) ⊎ (s ≡ NoMemory) → IsEventCall event (Some h) (Some g) before after (status_number s)
-      by_status (inl is) = subst (λ (k : Status). IsEventCall event (Some h) (Some g) before after (status_number k)) (sym is) (call_full (full.0 (told.0 is)) same err.1)
+      by_status (inl is) = subst (λ (k : Status). IsEventCall event (Some h) (Some g) before after (status_number k)) (sym is) (call_full (full.0 (reported.0 is)) same err.1)
       by_status (inr is) =
-          let roomy : ¬ (is_full h event ≡ true) = λ p. let bad : s ≡ Full = told.1 (full.1 p) in absurd (cc) in
+          let roomy : ¬ (is_full h event ≡ true) = λ p. let bad : s ≡ Full = reported.1 (full.1 p) in absurd (cc) in
           subst (λ (k : Status). IsEventCall event (Some h) (Some g) before after (status_number k)) (sym is) (call_refused roomy same err.1)

@@ -8,29 +8,29 @@ use Rattle.esr_audit.specs.Findings.{IsFindingOf, summary, summary_of}
 use Rattle.esr_audit.proofs.SummaryLaws.{summary_is}
 use Rattle.esr_explain.specs.Explain.{explanation}
 use Rattle.esr_engine.specs.Room.{begun}
-use Rattle.esr_past.specs.Naming.{transaction_names}
-use Rattle.esr_c.specs.Past.{IsExplanationOf, names_of}
+use Rattle.esr_dump.specs.Naming.{transaction_names}
+use Rattle.esr_c.specs.Dumps.{IsExplanationOf, names_of}
 
 pub explained : {E : Type 0} (h k : Schedule) (items names : List (List ℕ)) (q : ℕ) (f : Finding) (r : Result (Vec ℕ Global) E) (text : Vec ℕ Global)
     → IsFindingOf weighted h q f → f.query.0 ≡ q → k ≡ h → r ≡ Ok text
     → (summary f ≡ summary_of weighted k f.query.0 → IfOk r (λ v. v.items ≡ explanation weighted k items names f.query.0))
     → text.items ≡ explanation weighted h items names q
-explained h k items names q f r text found is same ok told =
+explained h k items names q f r text found is same ok reported =
     let first : summary f ≡ summary_of weighted h f.query.0 = summary_is weighted h f (subst (λ (n : ℕ). IsFindingOf weighted h n f) (sym is) found) in
     let here : summary f ≡ summary_of weighted k f.query.0 = subst (λ (s : Schedule). summary f ≡ summary_of weighted s f.query.0) (sym same) first in
     let text_is : text.items ≡ explanation weighted k items names f.query.0 =
-    subst (λ (x : Result (Vec ℕ Global) _). IfOk x (λ v. v.items ≡ explanation weighted k items names f.query.0)) ok (told here) in
+    subst (λ (x : Result (Vec ℕ Global) _). IfOk x (λ v. v.items ≡ explanation weighted k items names f.query.0)) ok (reported here) in
     text_is ∙ (ap (λ (s : Schedule). explanation weighted s items names f.query.0) same ∙ ap (explanation weighted h items names) is)
 
 -- the explanation in the words of the history that the engine had before
 module _ (h : Schedule) (q : ℕ) (names : List ℕ) (items transactions : List (List ℕ)) (text : List ℕ) where
   at_first : names_of h names ≡ Some items → transactions ≡ transaction_names (begun h) → text ≡ explanation weighted h items transactions q → IsExplanationOf h q names text
-  at_first named numbered told = record {
+  at_first named numbered reported = record {
     items = items;
     named = named;
-    text_is = told ∙ ap (λ ts. explanation weighted h items ts q) numbered;
+    text_is = reported ∙ ap (λ ts. explanation weighted h items ts q) numbered;
   }
 
   pub explained_as : (g : Schedule) → g ≡ h → names_of g names ≡ Some items → transactions ≡ transaction_names (begun g) → text ≡ explanation weighted g items transactions q → IsExplanationOf h q names text
-  explained_as g same named numbered told =
-      at_first (subst (λ k. names_of k names ≡ Some items) same named) (subst (λ k. transactions ≡ transaction_names (begun k)) same numbered) (subst (λ k. text ≡ explanation weighted k items transactions q) same told)
+  explained_as g same named numbered reported =
+      at_first (subst (λ k. names_of k names ≡ Some items) same named) (subst (λ k. transactions ≡ transaction_names (begun k)) same numbered) (subst (λ k. text ≡ explanation weighted k items transactions q) same reported)

@@ -77,7 +77,7 @@ fullness g f e same is = ap (λ (s : Schedule). is_full s e) (sym same) ∙ is
 -- ---- from the first event on
 
 pub at_first : (h : Schedule) (events : List EsrEvent) (room : List EsrReply) → AreAnswered h h events 0 room
-at_first h events room = record { within = omega arith; each = refl; after = refl; told = refl }
+at_first h events room = record { within = omega arith; each = refl; after = refl; reported = refl }
 
 module _ (h g : Schedule) (events : List EsrEvent) (n : ℕ) (room : List EsrReply) (d : EsrEvent) (so_far : AreAnswered h g events n room) (within : n < length events) where
   module _ (r : Reply) (f : Schedule) (one : IsOne g (get_or events n d) f r) where
@@ -101,10 +101,10 @@ module _ (h g : Schedule) (events : List EsrEvent) (n : ℕ) (room : List EsrRep
       each = ap length grown ∙ (length-append (events_in n events) (one.0 ∷ []) ∙ ap (λ k. k + 1) so_far.each);
       after = one.3 ∙ (ap (λ (s : Reply). extended g one.0 s) one.2
           ∙ (ap (λ (s : Schedule). after_one s one.0) so_far.after ∙ (sym (after_push h (events_in n events) one.0) ∙ sym (ap (after_all h) grown))));
-      told =
+      reported =
           let next : n + 1 ≡ suc n = omega arith in
           ap (λ k. take k (set room n x)) next ∙ (take_set room n x roomy
-          ∙ (ap (λ l. l ++ x ∷ []) so_far.told ∙ (ap (λ y. map reply_fields (replies_to h (events_in n events)) ++ y ∷ []) is
+          ∙ (ap (λ l. l ++ x ∷ []) so_far.reported ∙ (ap (λ y. map reply_fields (replies_to h (events_in n events)) ++ y ∷ []) is
           ∙ (sym (map-append reply_fields (replies_to h (events_in n events)) (r ∷ [])) ∙ ap (map reply_fields) (sym replies_grown)))));
     }
 

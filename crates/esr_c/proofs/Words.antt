@@ -1,4 +1,4 @@
--- The machine values of a box, of a `Loose` and of an `EngineHandle`: one word each. Assumes `Logic`.
+-- The machine values of a box, of a `RawBox` and of an `EngineHandle`: one word each. Assumes `Logic`.
 use Rattle.std.proofs.Common.{◌≡◌, List, [], ◌∷◌, ◌++◌, refl, subst}
 use mir.Syntax.{dnil, impl, tnil}
 use mir.Raw.{raw as bare}
@@ -25,7 +25,7 @@ use Rattle.std.proofs.alloc.Global.TheLaws as heap_laws
 use Rattle.std.specs.contracts.impls.GlobalAllocator.TheImpl as Heap
 use Rattle.esr_c.specs.Owned.{owned}
 use Rattle.esr_c.specs.contracts.handle.EngineHandle as handle
-use Rattle.esr_c.specs.contracts.pointer.Loose as loose
+use Rattle.esr_c.specs.contracts.pointer.RawBox as raw_box
 
 abbrev pub alone : Val → Val
 alone v = vstruct (vcons v vnil)
@@ -52,20 +52,20 @@ module _ (T : RattleType) where
   one_box L = one_word Boxed (box_laws.the_row_laws (param 0 T) heap.the_row Heap.ghosts (param_laws 0 T L) heap_laws.the_row_laws)
 
 module _ (R : RattleType) where
-  abbrev pub Loosened : RattleType
-  Loosened = loose.the_row R
+  abbrev pub RawBoxes : RattleType
+  RawBoxes = raw_box.the_row R
 
   module _ {M : Type 1} {𝓤 : Ura M} {𝓛 : Logic 𝓤} {K : Type 0} {Γ : List (Item 𝓤)} {G : Goal 𝓤 𝓛.H} where
-    pub loose_in : K → (l : Loosened.Denot)
-        → Step K 𝓛 (‵ (Loosened.own_val l (alone (ptr_val l.at) ∷ [])) ∷ Γ) G (‵ (box_owns (Heap.ghosts.dealloc_token _) R l.at l.value) ∷ Γ) G
-    loose_in t l = step (λ s. let v : Val = alone (ptr_val l.at) in
+    pub raw_in : K → (l : RawBoxes.Denot)
+        → Step K 𝓛 (‵ (RawBoxes.own_val l (alone (ptr_val l.at) ∷ [])) ∷ Γ) G (‵ (box_owns (Heap.ghosts.dealloc_token _) R l.at l.value) ∷ Γ) G
+    raw_in t l = step (λ s. let v : Val = alone (ptr_val l.at) in
         nothing t $ feq_i t (List Val) (ptr_val l.at ∷ []) (ptr_val l.at ∷ []) refl $ fjoin t $ feq_i t (List Val) (v ∷ []) (v ∷ []) refl $ fjoin t $
-        fpack t (Valss (RawPtr ∷ [])) (within (shape (loose.the_type R)) (l.at, tt) (v ∷ [])) (ptr_val l.at ∷ [], tt) $ fjoin t $ s)
+        fpack t (Valss (RawPtr ∷ [])) (within (shape (raw_box.the_type R)) (l.at, tt) (v ∷ [])) (ptr_val l.at ∷ [], tt) $ fjoin t $ s)
 
-    pub loose_out : K → (l : Loosened.Denot) (vs : List Val)
+    pub raw_out : K → (l : RawBoxes.Denot) (vs : List Val)
         → (vs ≡ alone (ptr_val l.at) ∷ [] → Seq K 𝓛 (‵ (box_owns (Heap.ghosts.dealloc_token _) R l.at l.value) ∷ Γ) G)
-        → Seq K 𝓛 (‵ (Loosened.own_val l vs) ∷ Γ) G
-    loose_out t l vs k =
+        → Seq K 𝓛 (‵ (RawBoxes.own_val l vs) ∷ Γ) G
+    raw_out t l vs k =
         fsplit t $ fpick t (λ vss. fsplit t $ feq_l t (λ ev. fsplit t $ feq_l t (λ ep. drop t $
         k (subst (λ (ps : List Val). vs ≡ vstruct (of_list (ps ++ [])) ∷ []) ep ev))))
 

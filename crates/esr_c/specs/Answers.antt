@@ -23,8 +23,8 @@ use Rattle.esr_engine.specs.Accounts.{account_of}
 use Rattle.esr_engine.specs.ForUpdate.{after_for_update, no_pair, reply_for_update, IsPartlyDone}
 use Rattle.esr_engine.specs.Room.{is_full}
 use Rattle.esr_engine.specs.declared.account.Account.{Account}
-use Rattle.esr_engine.specs.declared.account.Standing.{Standing}
-use Rattle.esr_engine.specs.declared.account.Standing.TheVariants as standing
+use Rattle.esr_engine.specs.declared.account.TxnStatus.{TxnStatus}
+use Rattle.esr_engine.specs.declared.account.TxnStatus.TheVariants as txn_status
 use Rattle.esr_cert.specs.Certificate.{Certificate}
 use Rattle.esr_cert.specs.Views.{certificate_of}
 use Rattle.esr_audit.specs.Findings.{IsAnswer, IsFindingOf}
@@ -76,16 +76,16 @@ abbrev pub IsTotal : EsrTotals → Schedule → Type 0
 IsTotal t h = (t.high * 2 ^ 64 + t.low ≡ all_imports weighted h) × (t.entries ≡ length h.entries)
 
 -- the answer of an audit, with the count of the updates before the position, which are listed
-abbrev pub IsTold : Schedule → ℕ → EsrFinding → List ℕ → Type 0
-IsTold h q f before = IsAnswer weighted h q f.distance f.import before × (f.count ≡ length before)
+abbrev pub IsFinding : Schedule → ℕ → EsrFinding → List ℕ → Type 0
+IsFinding h q f before = IsAnswer weighted h q f.distance f.import before × (f.count ≡ length before)
 
 -- the same, where they are at the head of a room
 abbrev pub IsFound : Schedule → ℕ → EsrFinding → List ℕ → Type 0
-IsFound h q f room = IsTold h q f (take f.count room)
+IsFound h q f room = IsFinding h q f (take f.count room)
 
 -- the same, where there is no room for them
 abbrev pub IsCounted : Schedule → ℕ → EsrFinding → Type 0
-IsCounted h q f = (before : List ℕ) × IsTold h q f before
+IsCounted h q f = (before : List ℕ) × IsFinding h q f before
 
 -- a certificate that does not tell how many augmentations lead to its flow
 abbrev pub untold : Certificate → Certificate
@@ -110,7 +110,7 @@ abbrev pub AreValuesIn : Schedule → ℕ → List ℤ → Type 0
 AreValuesIn h count room = (take count room ≡ committed_values h) × (count ≡ length h.opening)
 
 -- whatever the history of a renewed engine comes to be, it and the one before it are serializable as one
-pub record GoesOn (h : Schedule) : Type 0 where
+pub record IsRenewed (h : Schedule) : Type 0 where
   pub as_one : (later : List Entry) → IsLegal weighted (along (renewed h h.weights) later)
       → AreSerializableAsOne h (along (renewed h h.weights) later)
 
@@ -171,13 +171,13 @@ pub record IsForUpdateCall (t : TxnId) (x : ItemId) (old new : Option Schedule) 
   pub err : status ≢ 0 → (after ≡ before) × IsPartly old new t x
 
 -- how a transaction stands, and its account
-abbrev pub standing_number : Standing → ℕ
-standing_number standing.Active = 0
-standing_number standing.Committed = 4
-standing_number standing.Aborted = 5
+abbrev pub txn_status_number : TxnStatus → ℕ
+txn_status_number txn_status.Active = 0
+txn_status_number txn_status.Committed = 4
+txn_status_number txn_status.Aborted = 5
 
 abbrev pub account_fields : Account → EsrAccount
-account_fields a = record { query = is_query_kind a.kind; standing = standing_number a.standing; limit = a.limit; charged = a.charged }
+account_fields a = record { query = is_query_kind a.kind; txn_status = txn_status_number a.txn_status; limit = a.limit; charged = a.charged }
 
 abbrev pub IsAccount : Schedule → ℕ → EsrAccount → Type 0
 IsAccount h t a = Some a ≡ option_map account_fields (account_of weighted h t)

@@ -60,7 +60,7 @@ pub record AreAnswered (h g : Schedule) (events : List EsrEvent) (n : ℕ) (room
   pub within : n ≤ length events
   pub each : length (events_in n events) ≡ n
   pub after : g ≡ after_all h (events_in n events)
-  pub told : take n room ≡ map reply_fields (replies_to h (events_in n events))
+  pub reported : take n room ≡ map reply_fields (replies_to h (events_in n events))
 
 -- the last of the replies to the first n events is a refusal
 abbrev pub IsRefusedAtLast : Schedule → List EsrEvent → ℕ → Type 0

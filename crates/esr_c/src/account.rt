@@ -2,11 +2,11 @@
 
 ghost use Rattle.std.specs.Prelude.{◌≡◌, ◌≢◌, ◌↔◌, ◌⊎◌, false};
 ghost use Rattle.esr_history.specs.Events.{is_begun};
-ghost use Rattle.esr_history.specs.Machine.{done};
-ghost use Rattle.esr_c.specs.Answers.{IsAccount, account_fields, standing_number};
+ghost use Rattle.esr_history.specs.Machine.{accepted_in};
+ghost use Rattle.esr_c.specs.Answers.{IsAccount, account_fields, txn_status_number};
 
 use crate::engine::Status;
-use esr_engine::{Account, Engine, Kind, Standing};
+use esr_engine::{Account, Engine, Kind, TxnStatus};
 use esr_history::TxnId;
 
 /// An account: whether it is a query's, how it stands (0 while active, else 4 committed or 5 aborted), its limit, and
@@ -15,18 +15,18 @@ use esr_history::TxnId;
 #[derive(Clone, Copy)]
 pub struct EsrAccount {
     pub query: bool,
-    pub standing: u32,
+    pub txn_status: u32,
     pub limit: u64,
     pub charged: u64,
 }
 
-fn standing_number(standing: Standing) -> u32
-    ensures { result ≡ standing_number standing }
+fn txn_status_number(txn_status: TxnStatus) -> u32
+    ensures { result ≡ txn_status_number txn_status }
 {
-    match standing {
-        Standing::Active => 0,
-        Standing::Committed => 4,
-        Standing::Aborted => 5,
+    match txn_status {
+        TxnStatus::Active => 0,
+        TxnStatus::Committed => 4,
+        TxnStatus::Aborted => 5,
     }
 }
 
@@ -36,7 +36,7 @@ fn fields(account: Account) -> EsrAccount
 {
     EsrAccount {
         query: matches!(account.kind, Kind::Query),
-        standing: standing_number(account.standing),
+        txn_status: txn_status_number(account.txn_status),
         limit: account.limit,
         charged: account.charged,
     }
@@ -44,7 +44,7 @@ fn fields(account: Account) -> EsrAccount
 
 pub(crate) fn show_account(engine: &Engine, txn: u32, account: &mut EsrAccount) -> Status
     ensures known { (result ≡ Status.Done) ⊎ (result ≡ Status.NotBegun) }
-    ensures refused { (result ≡ Status.NotBegun) ↔ (is_begun (done engine.now) txn ≡ false) }
+    ensures refused { (result ≡ Status.NotBegun) ↔ (is_begun (accepted_in engine.now) txn ≡ false) }
     ensures account { result ≡ Status.Done → IsAccount engine.now txn account.new }
     ensures err { result ≢ Status.Done → account.new ≡ account.old }
 {

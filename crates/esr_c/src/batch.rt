@@ -7,7 +7,7 @@ ghost use Rattle.esr_c.specs.Answers.{status_number};
 ghost use Rattle.esr_c.specs.Many.{AreAnswered, IsAnsweredStatus, IsEnd, IsFullFor, IsOne, event_of};
 
 use crate::engine::Status;
-use crate::reply::{EsrReply, tell};
+use crate::reply::{EsrReply, to_reply};
 use esr_engine::{Engine, Unanswered};
 use esr_history::{Event, Reply, TxnId};
 use esr_items::ItemId;
@@ -99,7 +99,7 @@ pub(crate) fn answer_all(
             Ok(reply) => reply,
             Err(why) => return why,
         };
-        replies[i] = tell(reply);
+        replies[i] = to_reply(reply);
         *count = i + 1;
         if stop && is_refusal(reply) {
             return Status::Done;

@@ -4,16 +4,16 @@
 //! itself.
 
 ghost use Rattle.std.specs.Prelude.{◌⊎◌, ◌<◌, ◌≤◌, All, Any, true, ◌≡◌, ◌≢◌, ◌↔◌, length, is_some, IfOk, IfErr, IsErrOf, None, Some, IsSome, MatchOption};
-ghost use Rattle.esr_base.specs.declared.limits.TheConstants.{MOST_ITEMS};
+ghost use Rattle.esr_base.specs.declared.limits.TheConstants.{MAX_ITEMS};
 ghost use Rattle.esr_items.specs.Values.{IsValue};
 ghost use Rattle.esr_items.specs.Weights.{IsWeight};
 ghost use Rattle.esr_history.specs.declared.event.Event.TheVariants.{Read, Write};
 ghost use Rattle.esr_core.specs.Renewed.{has_active, renewed};
 ghost use Rattle.esr_engine.specs.ForUpdate.{after_for_update, no_pair, reply_for_update, IsPartlyDone};
-ghost use Rattle.esr_c.specs.Answers.{opened, reply_fields, status_number, IsEventCall, IsForUpdateCall, IsWeightedOpenStatus, IsRenewStatus, IsSound, GoesOn};
+ghost use Rattle.esr_c.specs.Answers.{opened, reply_fields, status_number, IsEventCall, IsForUpdateCall, IsWeightedOpenStatus, IsRenewStatus, IsSound, IsRenewed};
 
-use crate::handle::{EngineHandle, give, nothing, take};
-use crate::reply::{EsrReply, tell};
+use crate::handle::{EngineHandle, from_handle, into_handle, null_handle};
+use crate::reply::{EsrReply, to_reply};
 use esr_core::RenewError;
 use esr_engine::{Engine, OpenError, Unanswered};
 use esr_history::{Event, Reply, TxnId};
@@ -63,21 +63,21 @@ pub(crate) fn closed_engine() -> EsrEngine
 {
     EsrEngine {
         is_open: false,
-        held: nothing(),
+        held: null_handle(),
     }
 }
 
-pub(crate) fn open_with(engine: Box<Engine, Global>) -> EsrEngine
+pub(crate) fn open_engine(engine: Box<Engine, Global>) -> EsrEngine
     ensures { result.held.history ≡ Some engine.value }
 {
     EsrEngine {
         is_open: true,
-        held: give(engine),
+        held: into_handle(engine),
     }
 }
 
 /// The engine of a variable, which is closed from then on.
-pub(crate) fn out_of(alloc: Global, variable: &mut EsrEngine) -> Option<Box<Engine, Global>>
+pub(crate) fn take_engine(alloc: Global, variable: &mut EsrEngine) -> Option<Box<Engine, Global>>
     ensures engine { MatchOption result (variable.old.held.history ≡ None)
         (λ b. variable.old.held.history ≡ Some b.value) }
     ensures closed { variable.new.held.history ≡ None }
@@ -86,18 +86,18 @@ pub(crate) fn out_of(alloc: Global, variable: &mut EsrEngine) -> Option<Box<Engi
         return None;
     }
     let EsrEngine { is_open: _, held } = mem::replace(variable, closed_engine());
-    Some(take(alloc, held))
+    Some(from_handle(alloc, held))
 }
 
 /// An engine of these values and weights on the heap, where they may be such.
 fn make(alloc: Global, opening: &[i64], weights: &[u32]) -> Result<Box<Engine, Global>, Status>
     ensures ok { IfOk result (λ b. b.value ≡ opened opening.now weights.now) }
     ensures many { IsErrOf result Status.TooManyItems
-        ↔ ((MOST_ITEMS < length opening.now) ⊎ (MOST_ITEMS < length weights.now)) }
-    ensures range { IsErrOf result Status.OutOfRange ↔ ((length opening.now ≤ MOST_ITEMS)
-        × (length weights.now ≤ MOST_ITEMS) × Any (λ v. ¬ IsValue v) opening.now) }
-    ensures weights { IsErrOf result Status.WeightOutOfRange ↔ ((length opening.now ≤ MOST_ITEMS)
-        × (length weights.now ≤ MOST_ITEMS) × All IsValue opening.now × Any (λ w. ¬ IsWeight w) weights.now) }
+        ↔ ((MAX_ITEMS < length opening.now) ⊎ (MAX_ITEMS < length weights.now)) }
+    ensures range { IsErrOf result Status.OutOfRange ↔ ((length opening.now ≤ MAX_ITEMS)
+        × (length weights.now ≤ MAX_ITEMS) × Any (λ v. ¬ IsValue v) opening.now) }
+    ensures weights { IsErrOf result Status.WeightOutOfRange ↔ ((length opening.now ≤ MAX_ITEMS)
+        × (length weights.now ≤ MAX_ITEMS) × All IsValue opening.now × Any (λ w. ¬ IsWeight w) weights.now) }
     ensures err { IfErr result (λ e. (e ≡ Status.TooManyItems) ⊎ ((e ≡ Status.OutOfRange)
         ⊎ ((e ≡ Status.WeightOutOfRange) ⊎ (e ≡ Status.NoMemory)))) }
 {
@@ -124,11 +124,11 @@ pub(crate) fn open(
     ensures known { IsWeightedOpenStatus (status_number result) }
     ensures open { result ≡ Status.Open ↔ IsSome variable.old.held.history }
     ensures many { result ≡ Status.TooManyItems ↔ (variable.old.held.history ≡ None)
-        × ((MOST_ITEMS < length opening.now) ⊎ (MOST_ITEMS < length weights.now)) }
+        × ((MAX_ITEMS < length opening.now) ⊎ (MAX_ITEMS < length weights.now)) }
     ensures range { result ≡ Status.OutOfRange ↔ (variable.old.held.history ≡ None)
-        × (length opening.now ≤ MOST_ITEMS) × (length weights.now ≤ MOST_ITEMS) × Any (λ v. ¬ IsValue v) opening.now }
+        × (length opening.now ≤ MAX_ITEMS) × (length weights.now ≤ MAX_ITEMS) × Any (λ v. ¬ IsValue v) opening.now }
     ensures weights { result ≡ Status.WeightOutOfRange ↔ (variable.old.held.history ≡ None)
-        × (length opening.now ≤ MOST_ITEMS) × (length weights.now ≤ MOST_ITEMS) × All IsValue opening.now
+        × (length opening.now ≤ MAX_ITEMS) × (length weights.now ≤ MAX_ITEMS) × All IsValue opening.now
         × Any (λ w. ¬ IsWeight w) weights.now }
     ensures opened { result ≡ Status.Done → variable.new.held.history ≡ Some (opened opening.now weights.now) }
     ensures err { result ≢ Status.Done → variable.new.held.history ≡ variable.old.held.history }
@@ -138,7 +138,7 @@ pub(crate) fn open(
     }
     match make(alloc, opening, weights) {
         Ok(engine) => {
-            *variable = open_with(engine);
+            *variable = open_engine(engine);
             Status::Done
         }
         Err(why) => why,
@@ -153,7 +153,7 @@ fn answer(answered: Result<Reply, Unanswered>, reply: &mut EsrReply) -> Status
 {
     match answered {
         Ok(answer) => {
-            *reply = tell(answer);
+            *reply = to_reply(answer);
             Status::Done
         }
         Err(Unanswered::Full) => Status::Full,
@@ -176,9 +176,9 @@ pub(crate) fn step(
     if !variable.is_open {
         return Status::Closed;
     }
-    let mut engine = take(alloc, mem::replace(&mut variable.held, nothing()));
+    let mut engine = from_handle(alloc, mem::replace(&mut variable.held, null_handle()));
     let status = answer(engine.step(event), reply);
-    variable.held = give(engine);
+    variable.held = into_handle(engine);
     status
 }
 
@@ -197,9 +197,9 @@ pub(crate) fn read(
     if !variable.is_open {
         return Status::Closed;
     }
-    let mut engine = take(alloc, mem::replace(&mut variable.held, nothing()));
+    let mut engine = from_handle(alloc, mem::replace(&mut variable.held, null_handle()));
     let status = answer(engine.read(txn, item), reply);
-    variable.held = give(engine);
+    variable.held = into_handle(engine);
     status
 }
 
@@ -219,14 +219,14 @@ pub(crate) fn write(
     if !variable.is_open {
         return Status::Closed;
     }
-    let mut engine = take(alloc, mem::replace(&mut variable.held, nothing()));
+    let mut engine = from_handle(alloc, mem::replace(&mut variable.held, null_handle()));
     let status = answer(engine.write(txn, item, value), reply);
-    variable.held = give(engine);
+    variable.held = into_handle(engine);
     status
 }
 
 /// Takes the write lock on an item and reads it, and tells the reply.
-fn tell_for_update(engine: &mut Engine, txn: TxnId, item: ItemId, reply: &mut EsrReply) -> Status
+fn read_and_reply(engine: &mut Engine, txn: TxnId, item: ItemId, reply: &mut EsrReply) -> Status
     ensures known { (result ≡ Status.Done) ⊎ ((result ≡ Status.Full) ⊎ (result ≡ Status.NoMemory)) }
     ensures full { result ≡ Status.Full ↔ (no_pair engine.old ≡ true) }
     ensures done { result ≡ Status.Done → (engine.new ≡ after_for_update engine.old txn item)
@@ -235,7 +235,7 @@ fn tell_for_update(engine: &mut Engine, txn: TxnId, item: ItemId, reply: &mut Es
 {
     match engine.read_for_update(txn, item) {
         Ok(read) => {
-            *reply = tell(read);
+            *reply = to_reply(read);
             Status::Done
         }
         Err(Unanswered::Full) => Status::Full,
@@ -254,21 +254,21 @@ pub(crate) fn read_for_update(
     ensures { IsForUpdateCall txn item variable.old.held.history variable.new.held.history reply.old reply.new
         (status_number result) }
 {
-    let Some(mut engine) = out_of(alloc, variable) else {
+    let Some(mut engine) = take_engine(alloc, variable) else {
         return Status::Closed;
     };
-    let status = tell_for_update(&mut engine, txn, item, reply);
-    *variable = open_with(engine);
+    let status = read_and_reply(&mut engine, txn, item, reply);
+    *variable = open_engine(engine);
     status
 }
 
 /// Renews an engine.
-pub(crate) fn go_on(alloc: Global, engine: &mut Engine) -> Status
+pub(crate) fn renew_engine(alloc: Global, engine: &mut Engine) -> Status
     ensures known { IsRenewStatus (status_number result) }
     ensures open { result ≢ Status.Closed }
     ensures active { (result ≡ Status.Active) ↔ (has_active engine.old ≡ true) }
     ensures renewed { status_number result ≡ 0 → engine.new ≡ renewed engine.old engine.old.weights }
-    ensures serializable { result ≡ Status.Done → GoesOn engine.old }
+    ensures serializable { result ≡ Status.Done → IsRenewed engine.old }
     ensures err { result ≢ Status.Done → engine.new ≡ engine.old }
 {
     match engine.renew(alloc) {
@@ -279,10 +279,10 @@ pub(crate) fn go_on(alloc: Global, engine: &mut Engine) -> Status
 }
 
 /// Renews an engine, with what is active aborted.
-pub(crate) fn go_on_aborting(alloc: Global, engine: &mut Engine) -> Status
+pub(crate) fn renew_engine_aborting(alloc: Global, engine: &mut Engine) -> Status
     ensures known { (result ≡ Status.Done) ⊎ (result ≡ Status.NoMemory) }
     ensures renewed { status_number result ≡ 0 → engine.new ≡ renewed engine.old engine.old.weights }
-    ensures serializable { result ≡ Status.Done → GoesOn engine.old }
+    ensures serializable { result ≡ Status.Done → IsRenewed engine.old }
     ensures err { result ≢ Status.Done → engine.new ≡ engine.old }
 {
     match engine.renew_aborting(alloc) {

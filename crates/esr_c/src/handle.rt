@@ -1,10 +1,10 @@
 //! An engine that is handed to C, as its pointer: the few functions at the engine's own type whose proofs are by hand
-//! (`wrap`, `unwrap`, `nothing`). They make no call but those of `pointer`.
+//! (`wrap`, `unwrap`, `null_handle`). They make no call but those of `pointer`.
 
 ghost use Rattle.std.specs.Prelude.{◌≡◌, Option, Some, None, IsSome};
 ghost use Rattle.esr_history.specs.Machine.{Schedule};
 
-use crate::pointer::{Loose, fasten, loosen};
+use crate::pointer::{RawBox, box_from_raw, box_into_raw};
 use esr_engine::Engine;
 use std::alloc::Global;
 use std::marker::Model;
@@ -24,7 +24,7 @@ impl Model for EngineHandle {
 }
 
 /// Nothing.
-pub(crate) fn nothing() -> EngineHandle
+pub(crate) fn null_handle() -> EngineHandle
     ensures { result.history ≡ None }
 {
     EngineHandle {
@@ -32,36 +32,36 @@ pub(crate) fn nothing() -> EngineHandle
     }
 }
 
-fn wrap(l: Loose<Engine>) -> EngineHandle
+fn wrap(l: RawBox<Engine>) -> EngineHandle
     ensures { result.history ≡ Some l.value }
 {
-    let Loose { at } = l;
+    let RawBox { at } = l;
     EngineHandle { at: at as *mut u8 }
 }
 
-fn unwrap(h: EngineHandle) -> Loose<Engine>
+fn unwrap(h: EngineHandle) -> RawBox<Engine>
     requires { IsSome h.history }
     ensures { h.history ≡ Some result.value }
 {
     let EngineHandle { at } = h;
-    Loose {
+    RawBox {
         at: at as *mut Engine,
     }
 }
 
 /// The engine in a box.
-pub(crate) fn give(b: Box<Engine, Global>) -> EngineHandle
+pub(crate) fn into_handle(b: Box<Engine, Global>) -> EngineHandle
     ensures { result.history ≡ Some b.value }
 {
-    wrap(loosen(b))
+    wrap(box_into_raw(b))
 }
 
 /// The box again.
-pub(crate) fn take(alloc: Global, h: EngineHandle) -> Box<Engine, Global>
+pub(crate) fn from_handle(alloc: Global, h: EngineHandle) -> Box<Engine, Global>
     requires { IsSome h.history }
     ensures { h.history ≡ Some result.value }
 {
-    fasten(alloc, unwrap(h))
+    box_from_raw(alloc, unwrap(h))
 }
 
 // It may go to another thread, as the box of an engine may.

@@ -7,21 +7,21 @@
 //! with the count told where the room is too small, so C frees nothing that the library made.
 #![tactic(auto)]
 
-ghost use Rattle.esr_base.specs.declared.limits.TheConstants.{MOST_ITEMS};
+ghost use Rattle.esr_base.specs.declared.limits.TheConstants.{MAX_ITEMS};
 ghost use Rattle.std.specs.Prelude.{IsSome, All, Any, ◌≡◌, ◌≢◌, ◌↔◌, ◌⊎◌, ◌<◌, ◌≤◌, [], length, None, Some, IfSome, true, false};
 ghost use Rattle.esr_items.specs.Values.{IsValue};
 ghost use Rattle.esr_items.specs.Weights.{IsWeight, weighted};
 ghost use Rattle.esr_history.specs.declared.event.Event.TheVariants.{BeginUpdate, BeginQuery, Read, Write, Commit, Abort};
 ghost use Rattle.esr_history.specs.Events.{is_begun};
-ghost use Rattle.esr_history.specs.Machine.{done};
+ghost use Rattle.esr_history.specs.Machine.{accepted_in};
 ghost use Rattle.esr_history.specs.Queries.{is_committed_query};
 ghost use Rattle.esr_history.specs.Totals.{IsWithinLimits};
 ghost use Rattle.esr_core.specs.Renewed.{has_active, renewed};
 ghost use Rattle.esr_engine.specs.Room.{NeverStuck, counts_of};
 ghost use Rattle.esr_c.specs.Many.{AreAnswered, IsAnsweredStatus, IsEnd};
 ghost use Rattle.esr_picture.specs.Picture.{IsSvg};
-ghost use Rattle.esr_c.specs.Past.{AreNamed, IsExplanationOf, IsLedgerOf, IsScriptOf, IsScriptStatus, IsTellingStatus, IsTextIn, IsTextLong, names_of};
-ghost use Rattle.esr_c.specs.Answers.{opened, IsEventCall, IsForUpdateCall, IsTotal, IsAccount, IsFound, IsCounted, IsBundleIn, IsBundleLong, AreValuesIn, GoesOn, IsSound, IsOpenStatus, IsWeightedOpenStatus, IsRenewStatus, IsValuesStatus, IsAuditStatus, IsVerdictIn};
+ghost use Rattle.esr_c.specs.Dumps.{AreNamed, IsExplanationOf, IsLedgerOf, IsScriptOf, IsScriptStatus, IsTellingStatus, IsTextIn, IsTextLong, names_of};
+ghost use Rattle.esr_c.specs.Answers.{opened, IsEventCall, IsForUpdateCall, IsTotal, IsAccount, IsFound, IsCounted, IsBundleIn, IsBundleLong, AreValuesIn, IsRenewed, IsSound, IsOpenStatus, IsWeightedOpenStatus, IsRenewStatus, IsValuesStatus, IsAuditStatus, IsVerdictIn};
 
 mod account;
 mod audit;
@@ -42,7 +42,8 @@ pub use batch::EsrEvent;
 use batch::answer_all;
 pub use engine::EsrEngine;
 use engine::{
-    Status, end, go_on, go_on_aborting, open, open_with, out_of, read, read_for_update, step, write,
+    Status, end, open, open_engine, read, read_for_update, renew_engine, renew_engine_aborting,
+    step, take_engine, write,
 };
 use esr_engine::Counts;
 use esr_history::{Event, TxnId};
@@ -62,8 +63,8 @@ use verdict::show_verdict;
 pub extern "C" fn esr_open(alloc: Global, engine: &mut EsrEngine, opening: &[i64]) -> u32
     ensures status { IsOpenStatus result }
     ensures open { result ≡ 15 ↔ IsSome engine.old.held.history }
-    ensures many { result ≡ 1 ↔ (engine.old.held.history ≡ None) × (MOST_ITEMS < length opening.now) }
-    ensures range { result ≡ 2 ↔ (engine.old.held.history ≡ None) × (length opening.now ≤ MOST_ITEMS)
+    ensures many { result ≡ 1 ↔ (engine.old.held.history ≡ None) × (MAX_ITEMS < length opening.now) }
+    ensures range { result ≡ 2 ↔ (engine.old.held.history ≡ None) × (length opening.now ≤ MAX_ITEMS)
         × Any (λ v. ¬ IsValue v) opening.now }
     ensures opened { result ≡ 0 → engine.new.held.history ≡ Some (opened opening.now []) }
     ensures err { result ≢ 0 → engine.new.held.history ≡ engine.old.held.history }
@@ -84,11 +85,11 @@ pub extern "C" fn esr_open_weighted(
     ensures status { IsWeightedOpenStatus result }
     ensures open { result ≡ 15 ↔ IsSome engine.old.held.history }
     ensures many { result ≡ 1 ↔ (engine.old.held.history ≡ None)
-        × ((MOST_ITEMS < length opening.now) ⊎ (MOST_ITEMS < length weights.now)) }
-    ensures range { result ≡ 2 ↔ (engine.old.held.history ≡ None) × (length opening.now ≤ MOST_ITEMS)
-        × (length weights.now ≤ MOST_ITEMS) × Any (λ v. ¬ IsValue v) opening.now }
-    ensures weights { result ≡ 4 ↔ (engine.old.held.history ≡ None) × (length opening.now ≤ MOST_ITEMS)
-        × (length weights.now ≤ MOST_ITEMS) × All IsValue opening.now × Any (λ w. ¬ IsWeight w) weights.now }
+        × ((MAX_ITEMS < length opening.now) ⊎ (MAX_ITEMS < length weights.now)) }
+    ensures range { result ≡ 2 ↔ (engine.old.held.history ≡ None) × (length opening.now ≤ MAX_ITEMS)
+        × (length weights.now ≤ MAX_ITEMS) × Any (λ v. ¬ IsValue v) opening.now }
+    ensures weights { result ≡ 4 ↔ (engine.old.held.history ≡ None) × (length opening.now ≤ MAX_ITEMS)
+        × (length weights.now ≤ MAX_ITEMS) × All IsValue opening.now × Any (λ w. ¬ IsWeight w) weights.now }
     ensures opened { result ≡ 0 → engine.new.held.history ≡ Some (opened opening.now weights.now) }
     ensures err { result ≢ 0 → engine.new.held.history ≡ engine.old.held.history }
 {
@@ -230,7 +231,7 @@ pub extern "C" fn esr_do(
         (λ g. AreAnswered h g events.now count.new replies.new)) }
     ensures end { result ≢ 7 → IfSome engine.old.held.history (λ h. IsEnd h events.now stop count.new result) }
 {
-    let Some(mut inner) = out_of(alloc, engine) else {
+    let Some(mut inner) = take_engine(alloc, engine) else {
         return Status::Closed.number();
     };
     let status = if replies.len() < events.len() {
@@ -238,7 +239,7 @@ pub extern "C" fn esr_do(
     } else {
         answer_all(&mut inner, events, replies, stop, count)
     };
-    *engine = open_with(inner);
+    *engine = open_engine(inner);
     status.number()
 }
 
@@ -257,11 +258,11 @@ pub extern "C" fn esr_totals_of(
     ensures limits { result ≡ 0 → IfSome engine.old.held.history (IsWithinLimits weighted) }
     ensures err { result ≢ 0 → totals.new ≡ totals.old }
 {
-    let Some(inner) = out_of(alloc, engine) else {
+    let Some(inner) = take_engine(alloc, engine) else {
         return Status::Closed.number();
     };
     *totals = totals_of(&inner);
-    *engine = open_with(inner);
+    *engine = open_engine(inner);
     Status::Done.number()
 }
 
@@ -276,11 +277,11 @@ pub extern "C" fn esr_counts_of(alloc: Global, engine: &mut EsrEngine, counts: &
     ensures never_stuck { IfSome engine.old.held.history (NeverStuck weighted) }
     ensures err { result ≢ 0 → counts.new ≡ counts.old }
 {
-    let Some(inner) = out_of(alloc, engine) else {
+    let Some(inner) = take_engine(alloc, engine) else {
         return Status::Closed.number();
     };
     *counts = inner.counts();
-    *engine = open_with(inner);
+    *engine = open_engine(inner);
     Status::Done.number()
 }
 
@@ -294,16 +295,16 @@ pub extern "C" fn esr_account_of(
 ) -> u32
     ensures closed { result ≡ 14 ↔ (engine.old.held.history ≡ None) }
     ensures known { (result ≡ 0) ⊎ ((result ≡ 3) ⊎ (result ≡ 14)) }
-    ensures refused { IfSome engine.old.held.history (λ h. (result ≡ 3) ↔ (is_begun (done h) txn ≡ false)) }
+    ensures refused { IfSome engine.old.held.history (λ h. (result ≡ 3) ↔ (is_begun (accepted_in h) txn ≡ false)) }
     ensures same { engine.new.held.history ≡ engine.old.held.history }
     ensures account { result ≡ 0 → IfSome engine.old.held.history (λ h. IsAccount h txn account.new) }
     ensures err { result ≢ 0 → account.new ≡ account.old }
 {
-    let Some(inner) = out_of(alloc, engine) else {
+    let Some(inner) = take_engine(alloc, engine) else {
         return Status::Closed.number();
     };
     let status = show_account(&inner, txn, account);
-    *engine = open_with(inner);
+    *engine = open_engine(inner);
     status.number()
 }
 
@@ -327,11 +328,11 @@ pub extern "C" fn esr_values(
     ensures kept { result ≢ 0 → values.new ≡ values.old }
     ensures untold { result ≢ 0 → result ≢ 7 → count.new ≡ count.old }
 {
-    let Some(inner) = out_of(alloc, engine) else {
+    let Some(inner) = take_engine(alloc, engine) else {
         return Status::Closed.number();
     };
     let status = show_values(alloc, &inner, values, count);
-    *engine = open_with(inner);
+    *engine = open_engine(inner);
     status.number()
 }
 
@@ -357,11 +358,11 @@ pub extern "C" fn esr_audit(
     ensures kept { result ≢ 0 → before.new ≡ before.old }
     ensures untold { result ≢ 0 → result ≢ 7 → finding.new ≡ finding.old }
 {
-    let Some(mut inner) = out_of(alloc, engine) else {
+    let Some(mut inner) = take_engine(alloc, engine) else {
         return Status::Closed.number();
     };
     let status = show_finding(alloc, &mut inner, query, before, finding);
-    *engine = open_with(inner);
+    *engine = open_engine(inner);
     status.number()
 }
 
@@ -387,11 +388,11 @@ pub extern "C" fn esr_bundle(
     ensures kept { result ≢ 0 → bytes.new ≡ bytes.old }
     ensures untold { result ≢ 0 → result ≢ 7 → count.new ≡ count.old }
 {
-    let Some(mut inner) = out_of(alloc, engine) else {
+    let Some(mut inner) = take_engine(alloc, engine) else {
         return Status::Closed.number();
     };
     let status = show_bundle(alloc, &mut inner, query, bytes, count);
-    *engine = open_with(inner);
+    *engine = open_engine(inner);
     status.number()
 }
 
@@ -420,11 +421,11 @@ pub extern "C" fn esr_history_script(
     ensures kept { result ≢ 0 → bytes.new ≡ bytes.old }
     ensures untold { result ≢ 0 → result ≢ 7 → count.new ≡ count.old }
 {
-    let Some(inner) = out_of(alloc, engine) else {
+    let Some(inner) = take_engine(alloc, engine) else {
         return Status::Closed.number();
     };
     let status = show_script(alloc, &inner, names, bytes, count);
-    *engine = open_with(inner);
+    *engine = open_engine(inner);
     status.number()
 }
 
@@ -455,11 +456,11 @@ pub extern "C" fn esr_explain(
     ensures kept { result ≢ 0 → bytes.new ≡ bytes.old }
     ensures untold { result ≢ 0 → result ≢ 7 → count.new ≡ count.old }
 {
-    let Some(mut inner) = out_of(alloc, engine) else {
+    let Some(mut inner) = take_engine(alloc, engine) else {
         return Status::Closed.number();
     };
     let status = show_explanation(alloc, &mut inner, query, names, bytes, count);
-    *engine = open_with(inner);
+    *engine = open_engine(inner);
     status.number()
 }
 
@@ -484,11 +485,11 @@ pub extern "C" fn esr_picture(
     ensures kept { result ≢ 0 → bytes.new ≡ bytes.old }
     ensures untold { result ≢ 0 → result ≢ 7 → count.new ≡ count.old }
 {
-    let Some(mut inner) = out_of(alloc, engine) else {
+    let Some(mut inner) = take_engine(alloc, engine) else {
         return Status::Closed.number();
     };
     let status = show_picture(alloc, &mut inner, query, names, bytes, count);
-    *engine = open_with(inner);
+    *engine = open_engine(inner);
     status.number()
 }
 
@@ -515,11 +516,11 @@ pub extern "C" fn esr_ledger(
     ensures kept { result ≢ 0 → bytes.new ≡ bytes.old }
     ensures untold { result ≢ 0 → result ≢ 7 → count.new ≡ count.old }
 {
-    let Some(inner) = out_of(alloc, engine) else {
+    let Some(inner) = take_engine(alloc, engine) else {
         return Status::Closed.number();
     };
     let status = show_ledger(alloc, &inner, bytes, count);
-    *engine = open_with(inner);
+    *engine = open_engine(inner);
     status.number()
 }
 
@@ -544,14 +545,14 @@ pub extern "C" fn esr_renew(alloc: Global, engine: &mut EsrEngine) -> u32
     ensures active { IfSome engine.old.held.history (λ h. (result ≡ 16) ↔ (has_active h ≡ true)) }
     ensures renewed { result ≡ 0 → IfSome engine.old.held.history
         (λ h. engine.new.held.history ≡ Some (renewed h h.weights)) }
-    ensures serializable { result ≡ 0 → IfSome engine.old.held.history GoesOn }
+    ensures serializable { result ≡ 0 → IfSome engine.old.held.history IsRenewed }
     ensures err { result ≢ 0 → engine.new.held.history ≡ engine.old.held.history }
 {
-    let Some(mut inner) = out_of(alloc, engine) else {
+    let Some(mut inner) = take_engine(alloc, engine) else {
         return Status::Closed.number();
     };
-    let status = go_on(alloc, &mut inner);
-    *engine = open_with(inner);
+    let status = renew_engine(alloc, &mut inner);
+    *engine = open_engine(inner);
     status.number()
 }
 
@@ -563,14 +564,14 @@ pub extern "C" fn esr_renew_aborting(alloc: Global, engine: &mut EsrEngine) -> u
     ensures closed { result ≡ 14 ↔ (engine.old.held.history ≡ None) }
     ensures renewed { result ≡ 0 → IfSome engine.old.held.history
         (λ h. engine.new.held.history ≡ Some (renewed h h.weights)) }
-    ensures serializable { result ≡ 0 → IfSome engine.old.held.history GoesOn }
+    ensures serializable { result ≡ 0 → IfSome engine.old.held.history IsRenewed }
     ensures err { result ≢ 0 → engine.new.held.history ≡ engine.old.held.history }
 {
-    let Some(mut inner) = out_of(alloc, engine) else {
+    let Some(mut inner) = take_engine(alloc, engine) else {
         return Status::Closed.number();
     };
-    let status = go_on_aborting(alloc, &mut inner);
-    *engine = open_with(inner);
+    let status = renew_engine_aborting(alloc, &mut inner);
+    *engine = open_engine(inner);
     status.number()
 }
 
@@ -582,7 +583,7 @@ pub extern "C" fn esr_close(alloc: Global, engine: &mut EsrEngine)
     ensures closed { engine.new.held.history ≡ None }
     ensures sound { IfSome engine.old.held.history IsSound }
 {
-    if let Some(inner) = out_of(alloc, engine) {
+    if let Some(inner) = take_engine(alloc, engine) {
         end(inner);
     }
 }

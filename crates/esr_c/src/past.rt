@@ -2,16 +2,16 @@
 
 ghost use Rattle.std.specs.Prelude.{◌≡◌, ◌≢◌, ◌⊎◌, ◌<◌, Some, None, length, IfOk, IfErr, IsErrOf};
 ghost use Rattle.esr_engine.specs.Room.{begun};
-ghost use Rattle.esr_past.specs.Naming.{transaction_names};
+ghost use Rattle.esr_dump.specs.Naming.{transaction_names};
 ghost use Rattle.esr_c.specs.Answers.{IsValuesStatus, status_number};
-ghost use Rattle.esr_c.specs.Past.{IsLedgerOf, IsScriptOf, IsScriptStatus, IsTextIn, IsTextLong, names_of};
+ghost use Rattle.esr_c.specs.Dumps.{IsLedgerOf, IsScriptOf, IsScriptStatus, IsTextIn, IsTextLong, names_of};
 
 use crate::audit::hand_out;
 use crate::engine::Status;
+use esr_dump::{item_names, script, transaction_names};
 use esr_engine::Engine;
-use esr_past::{item_names, script, transaction_names};
 use esr_report::Names;
-use esr_sheet::history_ledger;
+use esr_tables::history_ledger;
 use std::alloc::Global;
 
 /// The names of the items of an engine.

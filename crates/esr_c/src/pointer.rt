@@ -6,12 +6,12 @@ use std::alloc::Global;
 use std::marker::Model;
 
 /// The pointer of a box, with its block.
-pub(crate) struct Loose<T> {
+pub(crate) struct RawBox<T> {
     pub(crate) at: *mut T,
     pub(crate) ghost value: { T },
 }
 
-impl<T> Model for Loose<T> {
+impl<T> Model for RawBox<T> {
     ghost use Rattle.std_alloc.specs.Box.Ownership.{box_owns};
     ghost use Rattle.std.specs.contracts.impls.GlobalAllocator.TheImpl as Heap;
 
@@ -19,18 +19,18 @@ impl<T> Model for Loose<T> {
 }
 
 /// The pointer of a box.
-pub(crate) fn loosen<T: Drop>(b: Box<T, Global>) -> Loose<T>
+pub(crate) fn box_into_raw<T: Drop>(b: Box<T, Global>) -> RawBox<T>
     ensures { result.value ≡ b.value }
 {
-    Loose {
+    RawBox {
         at: Box::into_raw(b),
     }
 }
 
 /// The box again.
-pub(crate) fn fasten<T>(alloc: Global, l: Loose<T>) -> Box<T, Global>
+pub(crate) fn box_from_raw<T>(alloc: Global, l: RawBox<T>) -> Box<T, Global>
     ensures { result.value ≡ l.value }
 {
-    let Loose { at } = l;
+    let RawBox { at } = l;
     unsafe { Box::from_raw(alloc, at) }
 }

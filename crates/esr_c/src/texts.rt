@@ -9,7 +9,7 @@ ghost use Rattle.esr_audit.specs.Findings.{IsFindingOf};
 ghost use Rattle.esr_explain.specs.Explain.{explanation};
 ghost use Rattle.esr_picture.specs.Picture.{IsSvg};
 ghost use Rattle.esr_c.specs.Answers.{status_number};
-ghost use Rattle.esr_c.specs.Past.{AreNamed, IsExplanationOf, IsTellingStatus, IsTextIn, IsTextLong, names_of};
+ghost use Rattle.esr_c.specs.Dumps.{AreNamed, IsExplanationOf, IsTellingStatus, IsTextIn, IsTextLong, names_of};
 
 use crate::audit::{find, hand_out};
 use crate::engine::Status;
@@ -21,7 +21,7 @@ use esr_history::History;
 use esr_items::Weighted;
 use esr_picture::picture;
 use esr_report::Names;
-use esr_story::Audited;
+use esr_trace::Audited;
 use std::alloc::Global;
 
 /// The explanation of a query of which this was found, or why there is none.

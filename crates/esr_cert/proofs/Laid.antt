@@ -3,7 +3,7 @@ use Rattle.std.proofs.Common.{◌≡◌, refl, ℕ, ◌+◌, ◌-◌, ◌*◌, �
 use Rattle.std.specs.List.Sorted.{IsNonDecreasingBy, IsPartitionPoint}
 use Rattle.std.proofs.lemmas.Bool.{cases_lt, ltb-true, ltb-false}
 use Rattle.std.proofs.lemmas.List.{get_or_default}
-use Rattle.esr_cert.specs.declared.rows.TheConstants.{MOST_ARCS}
+use Rattle.esr_cert.specs.declared.rows.TheConstants.{MAX_ARCS}
 use Rattle.esr_cert.specs.Network.{arc_at, HaveEnds, Arc}
 use Rattle.esr_cert.specs.Steps.{arc_of, order_of, start, step_at, AreOnce, ResidualArc, Forward, Backward}
 use Rattle.esr_cert.specs.Rows.{span_at, row_in, first_steps, steps_from, row_of, AreRows, AreSteps, Filled, Laid, lengthen, Span}
@@ -65,7 +65,7 @@ laid_rows {arcs} {nodes} {i} {spans} {steps} e laid =
     filled_all arcs nodes h.degrees spans steps h.are h.filled
 
 -- a step lies in the row of the node where it starts, and there once
-pub laid_steps : {arcs : List Arc} {nodes i : ℕ} {spans : List Span} {steps : List ResidualArc} → length arcs ≤ MOST_ARCS → i ≡ length arcs → Laid arcs nodes i spans steps → AreSteps arcs steps
+pub laid_steps : {arcs : List Arc} {nodes i : ℕ} {spans : List Span} {steps : List ResidualArc} → length arcs ≤ MAX_ARCS → i ≡ length arcs → Laid arcs nodes i spans steps → AreSteps arcs steps
 laid_steps {arcs} {nodes} {i} {spans} {steps} few e laid = record { few = few; count = laid_long laid; in_arcs = in_arcs; once = once }
   where
     h : Laid arcs nodes (length arcs) spans steps

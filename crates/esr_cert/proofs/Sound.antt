@@ -3,7 +3,7 @@ use Rattle.std.proofs.Common.{◌*◌, ◌≡◌, ℕ, zero, suc, ◌+◌, ◌<�
 use Rattle.std.specs.List.{list_all, list_any}
 use Rattle.std.proofs.lemmas.Bool.{and_parts, and_from, or_cases, ltb-true, leb-true, eqb-true, lt-ltb}
 use Rattle.std.proofs.lemmas.List.{length-map}
-use Rattle.esr_base.specs.declared.limits.TheConstants.{MOST_ITEMS, MOST_TRANSACTIONS}
+use Rattle.esr_base.specs.declared.limits.TheConstants.{MAX_ITEMS, MAX_TRANSACTIONS}
 use Rattle.esr_cert.specs.declared.range.TheConstants.{MAX_COST}
 use Rattle.esr_cert.specs.Problem.{Chain, Problem, size, is_closed, is_ascending, pair_lt, are_pairs_ascending, has_pair, are_linked, is_distinct, chain_has_shape, has_shape, greatest, chain_is_in_range, is_in_range, is_sound}
 use Rattle.esr_cert.proofs.Distinct.{distinct_few, ascending_few, all_at}
@@ -78,7 +78,7 @@ shape_facts p h =
     record { distinct = e.0; pairs = e.1; forward = d.1; items = c.1; chains = b.1; must = a.1 }
 
 pub record InRange (p : Problem) : Type 0 where
-  pub numbers : list_all (λ t. ltb 0 t && leb t MOST_TRANSACTIONS) p.updates ≡ true
+  pub numbers : list_all (λ t. ltb 0 t && leb t MAX_TRANSACTIONS) p.updates ≡ true
   pub chains : list_all (chain_is_in_range (size p)) p.chains ≡ true
   pub pairs : list_all (λ (e : ℕ × ℕ). ltb e.0 (size p) && ltb e.1 (size p)) p.before ≡ true
   pub must : list_all (λ u. ltb u (size p)) p.must ≡ true
@@ -86,10 +86,10 @@ pub record InRange (p : Problem) : Type 0 where
 
 pub range_facts : (p : Problem) → is_in_range p ≡ true → InRange p
 range_facts p h =
-    let a : ((list_all (λ t. ltb 0 t && leb t MOST_TRANSACTIONS) p.updates && list_all (chain_is_in_range (size p)) p.chains && list_all (λ (e : ℕ × ℕ). ltb e.0 (size p) && ltb e.1 (size p)) p.before && list_all (λ u. ltb u (size p)) p.must) ≡ true) × (leb (sum_by (λ (chain : Chain). greatest chain.costs) p.chains) MAX_COST ≡ true) = and_parts _ _ h in
-    let b : ((list_all (λ t. ltb 0 t && leb t MOST_TRANSACTIONS) p.updates && list_all (chain_is_in_range (size p)) p.chains && list_all (λ (e : ℕ × ℕ). ltb e.0 (size p) && ltb e.1 (size p)) p.before) ≡ true) × (list_all (λ u. ltb u (size p)) p.must ≡ true) = and_parts _ _ a.0 in
-    let c : ((list_all (λ t. ltb 0 t && leb t MOST_TRANSACTIONS) p.updates && list_all (chain_is_in_range (size p)) p.chains) ≡ true) × (list_all (λ (e : ℕ × ℕ). ltb e.0 (size p) && ltb e.1 (size p)) p.before ≡ true) = and_parts _ _ b.0 in
-    let d : (list_all (λ t. ltb 0 t && leb t MOST_TRANSACTIONS) p.updates ≡ true) × (list_all (chain_is_in_range (size p)) p.chains ≡ true) = and_parts _ _ c.0 in
+    let a : ((list_all (λ t. ltb 0 t && leb t MAX_TRANSACTIONS) p.updates && list_all (chain_is_in_range (size p)) p.chains && list_all (λ (e : ℕ × ℕ). ltb e.0 (size p) && ltb e.1 (size p)) p.before && list_all (λ u. ltb u (size p)) p.must) ≡ true) × (leb (sum_by (λ (chain : Chain). greatest chain.costs) p.chains) MAX_COST ≡ true) = and_parts _ _ h in
+    let b : ((list_all (λ t. ltb 0 t && leb t MAX_TRANSACTIONS) p.updates && list_all (chain_is_in_range (size p)) p.chains && list_all (λ (e : ℕ × ℕ). ltb e.0 (size p) && ltb e.1 (size p)) p.before) ≡ true) × (list_all (λ u. ltb u (size p)) p.must ≡ true) = and_parts _ _ a.0 in
+    let c : ((list_all (λ t. ltb 0 t && leb t MAX_TRANSACTIONS) p.updates && list_all (chain_is_in_range (size p)) p.chains) ≡ true) × (list_all (λ (e : ℕ × ℕ). ltb e.0 (size p) && ltb e.1 (size p)) p.before ≡ true) = and_parts _ _ b.0 in
+    let d : (list_all (λ t. ltb 0 t && leb t MAX_TRANSACTIONS) p.updates ≡ true) × (list_all (chain_is_in_range (size p)) p.chains ≡ true) = and_parts _ _ c.0 in
     record { numbers = d.0; chains = d.1; pairs = c.1; must = b.1; costs = a.1 }
 
 -- each two neighbours are a pair
@@ -129,7 +129,7 @@ chain_facts : (p : Problem) (chain : Chain) → chain_has_shape p.before chain �
 chain_facts p chain h r =
     let a : ((eqb (length chain.costs) (suc (length chain.writers)) && is_ascending chain.writers) ≡ true) × (are_linked p.before chain.writers ≡ true) = and_parts _ _ h in
     let b : (eqb (length chain.costs) (suc (length chain.writers)) ≡ true) × (is_ascending chain.writers ≡ true) = and_parts _ _ a.0 in
-    let c : (ltb chain.item MOST_ITEMS ≡ true) × (list_all (λ w. ltb w (size p)) chain.writers ≡ true) = and_parts _ _ r in
+    let c : (ltb chain.item MAX_ITEMS ≡ true) × (list_all (λ w. ltb w (size p)) chain.writers ≡ true) = and_parts _ _ r in
     record {
       one_more = omega (arith, eqb-true _ _ b.0);
       ascending = b.1;
@@ -153,7 +153,7 @@ facts p h =
 pub few : (p : Problem) → is_sound p ≡ true → size p ≤ 65535
 few p h =
     let both : (has_shape p ≡ true) × (is_in_range p ≡ true) = and_parts _ _ h in
-    distinct_few MOST_TRANSACTIONS p.updates (shape_facts p both.0).distinct (range_facts p both.1).numbers
+    distinct_few MAX_TRANSACTIONS p.updates (shape_facts p both.0).distinct (range_facts p both.1).numbers
 
 -- how many parts there are, so that their places fit 32 bits
 pub record AreFew (p : Problem) : Type 0 where
@@ -197,7 +197,7 @@ are_few p h =
       writers = λ i d l.
           let shape : chain_has_shape p.before (get_or p.chains i d) ≡ true = all_at (chain_has_shape p.before) p.chains s.chains i d l in
           let range : chain_is_in_range (size p) (get_or p.chains i d) ≡ true = all_at (chain_is_in_range (size p)) p.chains r.chains i d l in
-          omega (arith, ascending_few (size p) (get_or p.chains i d).writers (chain_facts p (get_or p.chains i d) shape range).ascending (and_parts (ltb (get_or p.chains i d).item MOST_ITEMS) (list_all (λ w. ltb w (size p)) (get_or p.chains i d).writers) range).1);
+          omega (arith, ascending_few (size p) (get_or p.chains i d).writers (chain_facts p (get_or p.chains i d) shape range).ascending (and_parts (ltb (get_or p.chains i d).item MAX_ITEMS) (list_all (λ w. ltb w (size p)) (get_or p.chains i d).writers) range).1);
       must = omega (arith, ascending_few (size p) p.must s.must r.must);
     }
   where
@@ -212,7 +212,7 @@ are_few p h =
     items_small [] k = refl
     items_small (chain ∷ chains) k =
         let b : (chain_is_in_range (size p) chain ≡ true) × (list_all (chain_is_in_range (size p)) chains ≡ true) = and_parts (chain_is_in_range (size p) chain) (list_all (chain_is_in_range (size p)) chains) k in
-        let f : (ltb chain.item MOST_ITEMS ≡ true) × (list_all (λ w. ltb w (size p)) chain.writers ≡ true) = and_parts (ltb chain.item MOST_ITEMS) (list_all (λ w. ltb w (size p)) chain.writers) b.0 in
-        and_from (ltb chain.item 4096) (list_all (λ t. ltb t 4096) (map (λ (chain : Chain). chain.item) chains)) (lt-ltb chain.item 4096 (omega (arith, ltb-true chain.item MOST_ITEMS f.0))) (items_small chains b.1)
+        let f : (ltb chain.item MAX_ITEMS ≡ true) × (list_all (λ w. ltb w (size p)) chain.writers ≡ true) = and_parts (ltb chain.item MAX_ITEMS) (list_all (λ w. ltb w (size p)) chain.writers) b.0 in
+        and_from (ltb chain.item 4096) (list_all (λ t. ltb t 4096) (map (λ (chain : Chain). chain.item) chains)) (lt-ltb chain.item 4096 (omega (arith, ltb-true chain.item MAX_ITEMS f.0))) (items_small chains b.1)
 
 -- ---- positions are below the count of updates, read from the lists of the code

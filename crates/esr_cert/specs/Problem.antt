@@ -2,7 +2,7 @@
 -- Updates are named by their positions, and a set of them is a test of positions.
 use Rattle.std.specs.Prelude.{◌≡◌, ℕ, suc, ◌<◌, ◌≤◌, max, List, [], ◌∷◌, length, get_or, Bool, true, not, ◌&&◌, ◌||◌, ◌==◌, nat_lt, nat_le, if◌then◌else◌, map}
 use Rattle.std.specs.List.{list_all, list_any, sum_by}
-use Rattle.esr_base.specs.declared.limits.TheConstants.{MOST_ITEMS, MOST_TRANSACTIONS}
+use Rattle.esr_base.specs.declared.limits.TheConstants.{MAX_ITEMS, MAX_TRANSACTIONS}
 use Rattle.esr_cert.specs.declared.range.TheConstants.{MAX_COST}
 
 -- an item that a query read: its writers, ascending, and the cost of each version, of which there is one more
@@ -97,11 +97,11 @@ greatest [] = 0
 greatest (x ∷ xs) = max x (greatest xs)
 
 abbrev pub chain_is_in_range : ℕ → Chain → Bool
-chain_is_in_range n chain = nat_lt chain.item MOST_ITEMS && list_all (λ w. nat_lt w n) chain.writers
+chain_is_in_range n chain = nat_lt chain.item MAX_ITEMS && list_all (λ w. nat_lt w n) chain.writers
 
 abbrev pub is_in_range : Problem → Bool
 is_in_range p =
-    list_all (λ t. nat_lt 0 t && nat_le t MOST_TRANSACTIONS) p.updates && list_all (chain_is_in_range (size p)) p.chains
+    list_all (λ t. nat_lt 0 t && nat_le t MAX_TRANSACTIONS) p.updates && list_all (chain_is_in_range (size p)) p.chains
     && list_all (λ e. nat_lt e.0 (size p) && nat_lt e.1 (size p)) p.before
     && list_all (λ u. nat_lt u (size p)) p.must && nat_le (sum_by (λ chain. greatest chain.costs) p.chains) MAX_COST
 

@@ -2,7 +2,7 @@
 use Rattle.std.specs.Prelude.{◌≡◌, ℕ, zero, suc, ◌+◌, ◌*◌, ◌-◌, ◌<◌, ◌≤◌, ◌==◌, List, [], ◌∷◌, ◌++◌, length, get_or, set, take, drop, filter, sum}
 pub use Rattle.esr_cert.specs.declared.rows.Span.{Span}
 use Rattle.esr_cert.specs.declared.rows.Rows.{Rows}
-use Rattle.esr_cert.specs.declared.rows.TheConstants.{MOST_ARCS}
+use Rattle.esr_cert.specs.declared.rows.TheConstants.{MAX_ARCS}
 use Rattle.esr_cert.specs.Network.{Network, Arc}
 use Rattle.esr_cert.specs.Steps.{arc_of, start, step_at, AreOnce, ResidualArc, Forward, Backward}
 
@@ -47,7 +47,7 @@ pub record AreRows (arcs : List Arc) (n : ℕ) (spans : List Span) (steps : List
 
 -- the two steps of each of some arcs, each once, and few enough for their numbers
 pub record AreSteps (arcs : List Arc) (steps : List ResidualArc) : Type 0 where
-  pub few : length arcs ≤ MOST_ARCS
+  pub few : length arcs ≤ MAX_ARCS
   pub count : length steps ≡ 2 * length arcs
   pub in_arcs : (k : ℕ) → k < length steps → arc_of (step_at steps k) < length arcs
   pub once : AreOnce steps

@@ -4,7 +4,7 @@
 //! Where the arcs of each chain begin is a list; the chain of an arc is kept in two bytes an arc, since the solver asks
 //! often: with a binary search there too a solve took 1.4 to 1.7 times as long.
 ghost use Rattle.std.specs.Prelude.{◌≡◌, ◌+◌, ◌^◌, ◌<◌, ◌≤◌, [], ◌∷◌, ◌++◌, length, get_or, map, sum_by, List, true};
-ghost use Rattle.esr_base.specs.declared.limits.TheConstants.{MOST_ITEMS, MOST_TRANSACTIONS};
+ghost use Rattle.esr_base.specs.declared.limits.TheConstants.{MAX_ITEMS, MAX_TRANSACTIONS};
 ghost use Rattle.esr_cert.specs.Views.{chain_of, problem_of};
 ghost use Rattle.esr_cert.specs.Network.{arc_at, chain_links, network};
 ghost use Rattle.esr_cert.specs.declared.network.Arc.{Arc};
@@ -19,7 +19,7 @@ use esr_base::TxnId;
 use std::marker::Model;
 
 /// Where an arc of a chain leaves, by its place there: the source or a writer.
-pub fn leaves_at(chain: &Chain, source: u32, j: usize) -> u32
+pub fn arc_tail(chain: &Chain, source: u32, j: usize) -> u32
     requires count { length chain.now.costs.items ≡ length chain.now.writers.items + 1 }
     requires place { j < length chain.now.costs.items }
     ensures { result ≡ get_or (source ∷ chain.now.writers.items) j 0 }
@@ -28,10 +28,10 @@ pub fn leaves_at(chain: &Chain, source: u32, j: usize) -> u32
 }
 
 /// Where it comes to: the next writer, or the sink.
-pub fn comes_to(chain: &Chain, source: u32, j: usize) -> u32
+pub fn arc_head(chain: &Chain, source: u32, j: usize) -> u32
     requires count { length chain.now.costs.items ≡ length chain.now.writers.items + 1 }
     requires place { j < length chain.now.costs.items }
-    requires source { source ≤ MOST_TRANSACTIONS }
+    requires source { source ≤ MAX_TRANSACTIONS }
     ensures { result ≡ get_or (chain.now.writers.items ++ (source + 1) ∷ []) j 0 }
 {
     if j < chain.writers.len() {
@@ -45,12 +45,12 @@ pub fn comes_to(chain: &Chain, source: u32, j: usize) -> u32
 fn link_at(chain: &Chain, source: u32, j: usize) -> Arc
     requires count { length chain.now.costs.items ≡ length chain.now.writers.items + 1 }
     requires place { j < length chain.now.costs.items }
-    requires source { source ≤ MOST_TRANSACTIONS }
+    requires source { source ≤ MAX_TRANSACTIONS }
     ensures { result ≡ arc_at (chain_links source (chain_of chain.now)) j }
 {
     Arc {
-        from: leaves_at(chain, source, j),
-        to: comes_to(chain, source, j),
+        from: arc_tail(chain, source, j),
+        to: arc_head(chain, source, j),
         capacity: Some(chain.costs[j]),
     }
 }
@@ -88,7 +88,7 @@ impl<'a> Arcs<'a> {
     /// The chains, whose arcs come first, and the source.
     pub fn chains(&self) -> (&'a [Chain], u32)
         ensures links { HaveLinks self.now result.1 result.0.now }
-        ensures few { result.1 ≤ MOST_TRANSACTIONS }
+        ensures few { result.1 ≤ MAX_TRANSACTIONS }
     {
         let source = self.updates.len() as u32;
         (self.chains, source)
@@ -122,7 +122,7 @@ impl<'a> Arcs<'a> {
 
 /// How many arcs the chains have.
 fn link_count(chains: &[Chain]) -> u128
-    requires { length chains.now ≤ MOST_ITEMS }
+    requires { length chains.now ≤ MAX_ITEMS }
     ensures value { result ≡ sum_by (λ chain. length chain.costs) (map chain_of chains.now) }
     ensures small { result < 2 ^ 76 }
 {
@@ -135,7 +135,7 @@ fn link_count(chains: &[Chain]) -> u128
 
 /// How many arcs the network of a problem of these parts has.
 pub fn arc_count(before: &[(u32, u32)], chains: &[Chain], must: &[u32]) -> u128
-    requires { length chains.now ≤ MOST_ITEMS }
+    requires { length chains.now ≤ MAX_ITEMS }
     ensures value { result
         ≡ sum_by (λ chain. length chain.costs) (map chain_of chains.now) + length before.now + length must.now }
     ensures small { result < 2 ^ 77 }

@@ -7,7 +7,7 @@
 //! direction.
 
 ghost use Rattle.std.specs.Prelude.{◌≡◌, ◌≢◌, ◌<◌, ◌≤◌, length, map, true, IsOk, IfOk, IfErr, Some, None};
-ghost use Rattle.esr_base.specs.declared.limits.TheConstants.{MOST_TRANSACTIONS};
+ghost use Rattle.esr_base.specs.declared.limits.TheConstants.{MAX_TRANSACTIONS};
 ghost use Rattle.esr_cert.specs.Problem.{size, has_shape, is_sound};
 ghost use Rattle.esr_cert.specs.Faults.{problem_fault, bundle_fault_number};
 ghost use Rattle.esr_cert.specs.Network.{arc_at, network};
@@ -20,7 +20,7 @@ use crate::arcs::{Arcs, arc_count};
 use crate::network::Arc;
 use crate::parts::have_shape;
 use crate::range::is_in_range;
-use crate::rows::{MOST_ARCS, Rows, rows_of};
+use crate::rows::{MAX_ARCS, Rows, rows_of};
 use crate::starts::{owners_of, starts_of};
 use esr_base::{ItemId, TxnId};
 use std::alloc::{AllocError, Global};
@@ -123,7 +123,7 @@ fn network_of(alloc: Global, parts: &ProblemParts) -> Result<(Vec<u32>, Vec<u16>
     ensures owners { IfOk result (λ n. n.1.items ≡ owners_from 0 (posed_by parts.now).chains) }
     ensures laid { IfOk result (λ n. AreLaid (network (posed_by parts.now)) n.2) }
 {
-    if arc_count(&parts.before, &parts.chains, &parts.must) > MOST_ARCS as u128 {
+    if arc_count(&parts.before, &parts.chains, &parts.must) > MAX_ARCS as u128 {
         return Err(AllocError);
     }
     let starts = starts_of(alloc, &parts.chains)?;
@@ -210,7 +210,7 @@ impl Problem {
     /// The numbers of the updates. Elsewhere an update is named by its position here.
     pub fn updates(&self) -> &[TxnId]
         ensures list { map (λ t. t.0) result.now ≡ self.now.updates }
-        ensures few { size self.now ≤ MOST_TRANSACTIONS }
+        ensures few { size self.now ≤ MAX_TRANSACTIONS }
         ensures sound { is_sound self.now ≡ true }
     {
         &self.parts.updates

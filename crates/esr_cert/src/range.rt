@@ -7,20 +7,20 @@ ghost use Rattle.esr_cert.specs.Views.{chain_of, posed_by};
 
 use crate::lists::are_below;
 use crate::problem::{Chain, ProblemParts};
-use esr_base::{LARGEST_VALUE, LARGEST_WEIGHT, MOST_ITEMS, MOST_READS, MOST_TRANSACTIONS, TxnId};
+use esr_base::{MAX_ITEMS, MAX_READS, MAX_TRANSACTIONS, MAX_VALUE, MAX_WEIGHT, TxnId};
 
 /// The largest sum of the greatest cost of each chain: each read of a query is off by at most twice the largest value,
 /// weighed.
-pub const MAX_COST: u128 = MOST_READS as u128 * 2 * LARGEST_VALUE as u128 * LARGEST_WEIGHT as u128;
+pub const MAX_COST: u128 = MAX_READS as u128 * 2 * MAX_VALUE as u128 * MAX_WEIGHT as u128;
 
 fn is_update_in_range(number: u32) -> bool
-    ensures { result ≡ (nat_lt 0 number && nat_le number MOST_TRANSACTIONS) }
+    ensures { result ≡ (nat_lt 0 number && nat_le number MAX_TRANSACTIONS) }
 {
-    0 < number && number as usize <= MOST_TRANSACTIONS
+    0 < number && number as usize <= MAX_TRANSACTIONS
 }
 
 fn are_updates_in_range(updates: &[TxnId]) -> bool
-    ensures { result ≡ list_all (λ t. nat_lt 0 t && nat_le t MOST_TRANSACTIONS) (map (λ t. t.0) updates.now) }
+    ensures { result ≡ list_all (λ t. nat_lt 0 t && nat_le t MAX_TRANSACTIONS) (map (λ t. t.0) updates.now) }
 {
     for update in updates {
         if !is_update_in_range(update.0) {
@@ -33,7 +33,7 @@ fn are_updates_in_range(updates: &[TxnId]) -> bool
 fn chain_is_in_range(chain: &Chain, n: usize) -> bool
     ensures { result ≡ chain_is_in_range n (chain_of chain.now) }
 {
-    if chain.item.0 as usize >= MOST_ITEMS {
+    if chain.item.0 as usize >= MAX_ITEMS {
         return false;
     }
     are_below(&chain.writers, n)

@@ -12,10 +12,10 @@ ghost use Rattle.esr_cert.specs.Steps.{arc_of, order_of, step_at};
 ghost use Rattle.esr_cert.specs.Rows.{row_in, span_at, lengthen, first_steps, AreDegrees, AreBegun, AreRows, AreSteps, Counted, Laid};
 ghost use Rattle.esr_cert.specs.Network.{HaveEnds};
 ghost use Rattle.esr_cert.specs.Links.{HasLinks};
-ghost use Rattle.esr_base.specs.declared.limits.TheConstants.{MOST_TRANSACTIONS};
-ghost use Rattle.esr_cert.specs.declared.rows.TheConstants.{MOST_ARCS};
+ghost use Rattle.esr_base.specs.declared.limits.TheConstants.{MAX_TRANSACTIONS};
+ghost use Rattle.esr_cert.specs.declared.rows.TheConstants.{MAX_ARCS};
 
-use crate::arcs::{Arcs, comes_to, leaves_at};
+use crate::arcs::{Arcs, arc_head, arc_tail};
 use crate::problem::Chain;
 use crate::residual::{ResidualArc, ShortArc};
 use std::alloc::{AllocError, Global};
@@ -28,7 +28,7 @@ pub struct Span {
 }
 
 /// The most arcs whose steps numbers of 32 bits count.
-pub const MOST_ARCS: usize = 2_147_483_647;
+pub const MAX_ARCS: usize = 2_147_483_647;
 
 /// Counts the steps of the arcs of a chain, which begin at a number.
 fn count_links(
@@ -39,24 +39,24 @@ fn count_links(
     _begin: usize,
     degrees: &mut Vec<u32>,
 )
-    requires few { length _arcs.now ≤ MOST_ARCS }
+    requires few { length _arcs.now ≤ MAX_ARCS }
     requires ends { HaveEnds _arcs.now _nodes }
-    requires source { source ≤ MOST_TRANSACTIONS }
+    requires source { source ≤ MAX_TRANSACTIONS }
     requires links { HasLinks _arcs.now source chain.now _begin }
     requires counted { Counted _arcs.now _nodes (first_steps _begin) degrees.old.items }
     ensures { Counted _arcs.now _nodes (first_steps (_begin + length chain.now.costs.items)) degrees.new.items }
 {
     for j in 0..chain.costs.len() {
-        let from = leaves_at(chain, source, j);
+        let from = arc_tail(chain, source, j);
         degrees[from as usize] += 1;
-        let to = comes_to(chain, source, j);
+        let to = arc_head(chain, source, j);
         degrees[to as usize] += 1;
     }
 }
 
 /// Counts the steps of the arcs from a number on.
 fn count_others(arcs: &Arcs, _nodes: usize, first: usize, degrees: &mut Vec<u32>)
-    requires few { length arcs.now ≤ MOST_ARCS }
+    requires few { length arcs.now ≤ MAX_ARCS }
     requires ends { HaveEnds arcs.now _nodes }
     requires first { first ≤ length arcs.now }
     requires counted { Counted arcs.now _nodes (first_steps first) degrees.old.items }
@@ -74,7 +74,7 @@ fn count_others(arcs: &Arcs, _nodes: usize, first: usize, degrees: &mut Vec<u32>
 /// How many steps start at each node: the arcs that leave it, and those that come to it. The ends of a chain's arcs are
 /// read off the chain, since an arc that is asked for by its number is looked up.
 fn degrees_of(alloc: Global, nodes: usize, arcs: &Arcs) -> Result<Vec<u32>, AllocError>
-    requires few { length arcs.now ≤ MOST_ARCS }
+    requires few { length arcs.now ≤ MAX_ARCS }
     requires ends { HaveEnds arcs.now nodes }
     ensures { IfOk result (λ degrees. AreDegrees arcs.now nodes degrees.items) }
 {
@@ -154,25 +154,25 @@ impl Rows {
 
 /// Puts the steps of the arcs of a chain, which begin at a number, into their rows.
 fn lay_links(_arcs: &Arcs, _nodes: usize, source: u32, chain: &Chain, begin: usize, rows: &mut Rows)
-    requires few { length _arcs.now ≤ MOST_ARCS }
+    requires few { length _arcs.now ≤ MAX_ARCS }
     requires ends { HaveEnds _arcs.now _nodes }
-    requires source { source ≤ MOST_TRANSACTIONS }
+    requires source { source ≤ MAX_TRANSACTIONS }
     requires links { HasLinks _arcs.now source chain.now begin }
     requires laid { Laid _arcs.now _nodes begin rows.old.spans.items rows.old.steps.items }
     ensures { Laid _arcs.now _nodes (begin + length chain.now.costs.items) rows.new.spans.items rows.new.steps.items }
 {
     for j in 0..chain.costs.len() {
         let number = (begin + j) as u32;
-        let from = leaves_at(chain, source, j);
+        let from = arc_tail(chain, source, j);
         rows.add_step(from as usize, ResidualArc::Forward(number));
-        let to = comes_to(chain, source, j);
+        let to = arc_head(chain, source, j);
         rows.add_step(to as usize, ResidualArc::Backward(number));
     }
 }
 
 /// Puts the steps of the arcs from a number on into their rows.
 fn lay_others(arcs: &Arcs, _nodes: usize, first: usize, rows: &mut Rows)
-    requires few { length arcs.now ≤ MOST_ARCS }
+    requires few { length arcs.now ≤ MAX_ARCS }
     requires ends { HaveEnds arcs.now _nodes }
     requires first { first ≤ length arcs.now }
     requires laid { Laid arcs.now _nodes first rows.old.spans.items rows.old.steps.items }
@@ -189,7 +189,7 @@ fn lay_others(arcs: &Arcs, _nodes: usize, first: usize, rows: &mut Rows)
 /// For each node the steps that start at it: first they are counted, then each is put into its row.
 #[tactic(auto, using(crate::proofs::LinksLaws::starts_first))]
 pub fn rows_of(alloc: Global, nodes: usize, arcs: &Arcs) -> Result<Rows, AllocError>
-    requires few { length arcs.now ≤ MOST_ARCS }
+    requires few { length arcs.now ≤ MAX_ARCS }
     requires ends { HaveEnds arcs.now nodes }
     ensures rows { IfOk result (λ rows. AreRows arcs.now nodes rows.spans.items rows.steps.items) }
     ensures steps { IfOk result (λ rows. AreSteps arcs.now rows.steps.items) }

@@ -2,7 +2,7 @@
 //! chain, and the check finds an arc's amount by these starts.
 ghost use Rattle.std.specs.Prelude.{◌≡◌, ◌+◌, ◌<◌, ◌≤◌, ◌++◌, length, get_or, map, replicate, sum_by, IfOk};
 ghost use Rattle.std.specs.List.Sorted.{IsNonDecreasingBy};
-ghost use Rattle.esr_base.specs.declared.limits.TheConstants.{MOST_ITEMS};
+ghost use Rattle.esr_base.specs.declared.limits.TheConstants.{MAX_ITEMS};
 ghost use Rattle.esr_cert.specs.Starts.{starts_from, owners_from};
 ghost use Rattle.esr_cert.specs.Views.{chain_of};
 
@@ -47,7 +47,7 @@ fn push_owner(owners: &mut Vec<u16>, chain: u16, count: usize) -> Result<(), All
 
 /// The chain of each arc of the chains, of which there are so many.
 pub fn owners_of(alloc: Global, chains: &[Chain], count: usize) -> Result<Vec<u16>, AllocError>
-    requires { length chains.now ≤ MOST_ITEMS }
+    requires { length chains.now ≤ MAX_ITEMS }
     ensures { IfOk result (λ owners. owners.items ≡ owners_from 0 (map chain_of chains.now)) }
 {
     let mut owners = Vec::with_capacity(alloc, count)?;

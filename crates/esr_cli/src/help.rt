@@ -112,8 +112,7 @@ For example:
   committed u
   totals import 0 export 0 entries 3";
 
-pub const EXPLORE: &str =
-    "Runs the sessions of a drive file on one thread, line by line, in many
+pub const EXPLORE: &str = "Runs the sessions of a drive file on one thread, line by line, in many
 interleavings: random ones, or all. Prints how often the lines of each session
 were blocked, and the maximum and median import and distance of each query.
 
@@ -149,8 +148,7 @@ For example:
   $ printf 'item a 1\\nbegin u update 9\\nbegin v update 9\\nwrite u a 2\\nread v a\\ncommit u\\n' | esr why
   line 5: read v a: blocked by the write lock of u; u ended at line 6";
 
-pub const LINT: &str =
-    "Lists invalid lines, lines that produce an error or a refusal 1 to 8, and
+pub const LINT: &str = "Lists invalid lines, lines that produce an error or a refusal 1 to 8, and
 transactions that are still active at the end, as FILE:LINE:COLUMN: REASON, for
 each FILE in turn. The exit status is 1 if anything was listed.
 

@@ -15,7 +15,7 @@ use Rattle.esr_history.proofs.Sums.{query_begun}
 use Rattle.esr_history.proofs.Orderly.{update_begun}
 use Rattle.esr_ledgers.specs.declared.account.Account.{Account}
 use Rattle.esr_ledgers.specs.Books.{number, account_of, is_open, is_open_query, is_open_update, limit_at, account_amount, new_account, with_account}
-use Rattle.esr_core.specs.Tied.{account_after, books_of}
+use Rattle.esr_core.specs.Represented.{account_after, books_of}
 use Rattle.esr_core.proofs.Held.{IsBegin, numbers-kept, query-kept, limit-kept, beginnings-begin, beginning-begin, beginning-new, update_or_query}
 use Rattle.esr_core.proofs.Rows.{begun_at}
 use Rattle.std.proofs.lemmas.Grind.{common_steps}

@@ -2,7 +2,7 @@
 use Rattle.std.proofs.Common.{◌≡◌, ℕ, ℤ, ◌+◌, List, [], ◌∷◌, length, Bool, true, false, ◌&&◌, refl, None}
 use Rattle.esr_core.specs.Words.{Begun, Event}
 use Rattle.esr_history.specs.Events.{Beginning, beginnings, written}
-use Rattle.esr_history.specs.Machine.{Distance, Schedule, done, due, refusal, acceptance, first_reason, limit_too_high, too_many}
+use Rattle.esr_history.specs.Machine.{Distance, Schedule, accepted_in, due, refusal, acceptance, first_reason, limit_too_high, too_many}
 use Rattle.esr_core.specs.States.{begin_event}
 use Rattle.esr_core.proofs.Held.{IsBegin, begin_update, begin_query}
 
@@ -21,7 +21,7 @@ pub begin_writes : (query : Bool) (limit : ℕ) (strict : Bool) (x : ℕ) (k : �
 begin_writes true limit strict x k = refl
 begin_writes false limit strict x k = refl
 
-pub begin_accepted : (h : Schedule) (query : Bool) (limit : ℕ) (strict : Bool) → Begun (record { 0 = length (beginnings (done h)) + 1 }) ≡ acceptance h (begin_event query limit strict)
+pub begin_accepted : (h : Schedule) (query : Bool) (limit : ℕ) (strict : Bool) → Begun (record { 0 = length (beginnings (accepted_in h)) + 1 }) ≡ acceptance h (begin_event query limit strict)
 begin_accepted h true limit strict = refl
 begin_accepted h false limit strict = refl
 

@@ -7,7 +7,7 @@ use Rattle.std.proofs.lemmas.List.Sums.{sum_by-cons}
 use Rattle.std.proofs.lemmas.List.Elements.{All-from_recursion}
 use Rattle.esr_core.specs.Words.{ItemId, TxnId, Event, Write, Refusal, BlockedByImport, BlockedByExport}
 use Rattle.esr_history.specs.Events.{kind_of, beginning_of, beginnings, numbers, limit_of, is_begun, is_query, is_update, holds_read, reads_of, current_value}
-use Rattle.esr_history.specs.Machine.{Distance, Schedule, Charge, done, due, charges, charges_in, charge_of_write, import_in, export_in, total, import_full, export_full, first_reason}
+use Rattle.esr_history.specs.Machine.{Distance, Schedule, Charge, accepted_in, due, charges, charges_in, charge_of_write, import_in, export_in, total, import_full, export_full, first_reason}
 use Rattle.esr_history.specs.ItemLocks.{query_reads}
 use Rattle.esr_history.specs.Ascending.{IsAscendingBy}
 use Rattle.esr_history.proofs.Charges.{import-push, export-push}
@@ -18,7 +18,7 @@ use Rattle.esr_history.proofs.Sums.{query_begun}
 use Rattle.esr_history.proofs.Orderly.{update_begun}
 use Rattle.esr_ledgers.specs.declared.account.Account.{Account}
 use Rattle.esr_ledgers.specs.Books.{number, is_open_query, limit_at, account_amount, total_of, would_pass, quoted, quote_of, raised, charged_to_queries, charged, AreCharges}
-use Rattle.esr_core.specs.Tied.{account_after, books_of}
+use Rattle.esr_core.specs.Represented.{account_after, books_of}
 use Rattle.esr_core.specs.States.{reason_of, charges_to}
 use Rattle.esr_core.proofs.Held.{numbers-kept, query-kept, limit-kept}
 use Rattle.esr_core.proofs.Rows.{begun_at}
@@ -174,33 +174,33 @@ module _ (d : ℕ → ℤ → ℤ → ℕ) (opening : List ℤ) (events : List E
 
 -- the quote of charges as the history's reasons
 module _ (d : Distance) (h : Schedule) where
-  first_import : (u : ℕ) (cs : List (TxnId × ℕ)) → AllByRecursion (λ (c : TxnId × ℕ). is_query (done h) c.0.0 ≡ true) cs
-      → import_full d h (charges_by u cs) ≡ option_map (λ (c : TxnId × ℕ). BlockedByImport c.0) (find (λ (c : TxnId × ℕ). would_pass (books_of (d h.weights) h.opening (done h)) c.0.0 c.1) cs)
+  first_import : (u : ℕ) (cs : List (TxnId × ℕ)) → AllByRecursion (λ (c : TxnId × ℕ). is_query (accepted_in h) c.0.0 ≡ true) cs
+      → import_full d h (charges_by u cs) ≡ option_map (λ (c : TxnId × ℕ). BlockedByImport c.0) (find (λ (c : TxnId × ℕ). would_pass (books_of (d h.weights) h.opening (accepted_in h)) c.0.0 c.1) cs)
   first_import u [] all = refl
   first_import u (c ∷ cs) all =
-      let limit : limit_at (books_of (d h.weights) h.opening (done h)) c.0.0 ≡ limit_of (done h) c.0.0 = limit_is (d h.weights) h.opening (done h) c.0.0 (query_begun (done h) c.0.0 all.0) in
-      let amount : account_amount (books_of (d h.weights) h.opening (done h)) c.0.0 ≡ import_in (charges_in d h) c.0.0 = import_is (d h.weights) h.opening (done h) c.0.0 all.0 in
-      let same : would_pass (books_of (d h.weights) h.opening (done h)) c.0.0 c.1 ≡ nat_lt (limit_of (done h) c.0.0) (import_in (charges_in d h) c.0.0 + c.1) = ap (λ n. nat_lt n (account_amount (books_of (d h.weights) h.opening (done h)) c.0.0 + c.1)) limit ∙ ap (λ n. nat_lt (limit_of (done h) c.0.0) (n + c.1)) amount in
-      elim (cases_Bool (nat_lt (limit_of (done h) c.0.0) (import_in (charges_in d h) c.0.0 + c.1))) [
+      let limit : limit_at (books_of (d h.weights) h.opening (accepted_in h)) c.0.0 ≡ limit_of (accepted_in h) c.0.0 = limit_is (d h.weights) h.opening (accepted_in h) c.0.0 (query_begun (accepted_in h) c.0.0 all.0) in
+      let amount : account_amount (books_of (d h.weights) h.opening (accepted_in h)) c.0.0 ≡ import_in (charges_in d h) c.0.0 = import_is (d h.weights) h.opening (accepted_in h) c.0.0 all.0 in
+      let same : would_pass (books_of (d h.weights) h.opening (accepted_in h)) c.0.0 c.1 ≡ nat_lt (limit_of (accepted_in h) c.0.0) (import_in (charges_in d h) c.0.0 + c.1) = ap (λ n. nat_lt n (account_amount (books_of (d h.weights) h.opening (accepted_in h)) c.0.0 + c.1)) limit ∙ ap (λ n. nat_lt (limit_of (accepted_in h) c.0.0) (n + c.1)) amount in
+      elim (cases_Bool (nat_lt (limit_of (accepted_in h) c.0.0) (import_in (charges_in d h) c.0.0 + c.1))) [
         | inl over ↦ rw (over, same ∙ over) refl
         | inr fits ↦ rw (fits, same ∙ fits) (first_import u cs all.1)
       ]
 
-  export_over : (u : ℕ) (cs : List (TxnId × ℕ)) (n : ℕ) (b : Bool) → nat_lt (limit_of (done h) u) (export_in (charges_in d h) u + n) ≡ b
-      → option_map (λ (c : Charge). BlockedByExport (record { 0 = c.update })) (find (λ (c : Charge). nat_lt (limit_of (done h) c.update) (export_in (charges_in d h) c.update + n)) (charges_by u cs)) ≡ (if is_some_charge cs && b then Some (BlockedByExport (record { 0 = u })) else None)
+  export_over : (u : ℕ) (cs : List (TxnId × ℕ)) (n : ℕ) (b : Bool) → nat_lt (limit_of (accepted_in h) u) (export_in (charges_in d h) u + n) ≡ b
+      → option_map (λ (c : Charge). BlockedByExport (record { 0 = c.update })) (find (λ (c : Charge). nat_lt (limit_of (accepted_in h) c.update) (export_in (charges_in d h) c.update + n)) (charges_by u cs)) ≡ (if is_some_charge cs && b then Some (BlockedByExport (record { 0 = u })) else None)
   export_over u [] n b is = refl
   export_over u (c ∷ cs) n true is = rw is refl
   export_over u (c ∷ cs) n false is = grind (arith, export_over u cs n false is)
 
   -- a quote asks for the refusal that the history has
-  pub quote_reason : (u : TxnId) (c : TxnId × ℕ) (cs : List (TxnId × ℕ)) → is_update (done h) u.0 ≡ true → AllByRecursion (λ (g : TxnId × ℕ). is_query (done h) g.0.0 ≡ true) (c ∷ cs)
-      → first_reason (import_full d h (charges_by u.0 (c ∷ cs)) ∷ export_full d h (charges_by u.0 (c ∷ cs)) ∷ []) ≡ reason_of (quote_of (books_of (d h.weights) h.opening (done h)) u (c ∷ cs))
+  pub quote_reason : (u : TxnId) (c : TxnId × ℕ) (cs : List (TxnId × ℕ)) → is_update (accepted_in h) u.0 ≡ true → AllByRecursion (λ (g : TxnId × ℕ). is_query (accepted_in h) g.0.0 ≡ true) (c ∷ cs)
+      → first_reason (import_full d h (charges_by u.0 (c ∷ cs)) ∷ export_full d h (charges_by u.0 (c ∷ cs)) ∷ []) ≡ reason_of (quote_of (books_of (d h.weights) h.opening (accepted_in h)) u (c ∷ cs))
   quote_reason u c cs update all =
-      let books = books_of (d h.weights) h.opening (done h) in
-      let same : would_pass books u.0 (total_of (c ∷ cs)) ≡ nat_lt (limit_of (done h) u.0) (export_in (charges_in d h) u.0 + total_of (c ∷ cs)) =
-      ap (λ n. nat_lt n (account_amount books u.0 + total_of (c ∷ cs))) (limit_is (d h.weights) h.opening (done h) u.0 (update_begun (done h) u.0 update)) ∙ ap (λ n. nat_lt (limit_of (done h) u.0) (n + total_of (c ∷ cs))) (export_is (d h.weights) h.opening (done h) u.0 update) in
+      let books = books_of (d h.weights) h.opening (accepted_in h) in
+      let same : would_pass books u.0 (total_of (c ∷ cs)) ≡ nat_lt (limit_of (accepted_in h) u.0) (export_in (charges_in d h) u.0 + total_of (c ∷ cs)) =
+      ap (λ n. nat_lt n (account_amount books u.0 + total_of (c ∷ cs))) (limit_is (d h.weights) h.opening (accepted_in h) u.0 (update_begun (accepted_in h) u.0 update)) ∙ ap (λ n. nat_lt (limit_of (accepted_in h) u.0) (n + total_of (c ∷ cs))) (export_is (d h.weights) h.opening (accepted_in h) u.0 update) in
       let exports : export_full d h (charges_by u.0 (c ∷ cs)) ≡ (if would_pass books u.0 (total_of (c ∷ cs)) then Some (BlockedByExport u) else None) =
-      ap (λ n. option_map (λ (g : Charge). BlockedByExport (record { 0 = g.update })) (find (λ (g : Charge). nat_lt (limit_of (done h) g.update) (export_in (charges_in d h) g.update + n)) (charges_by u.0 (c ∷ cs)))) (total_by u.0 (c ∷ cs))
+      ap (λ n. option_map (λ (g : Charge). BlockedByExport (record { 0 = g.update })) (find (λ (g : Charge). nat_lt (limit_of (accepted_in h) g.update) (export_in (charges_in d h) g.update + n)) (charges_by u.0 (c ∷ cs)))) (total_by u.0 (c ∷ cs))
       ∙ export_over u.0 (c ∷ cs) (total_of (c ∷ cs)) (would_pass books u.0 (total_of (c ∷ cs))) (sym same) in
       ap (λ (r : Option Refusal). first_reason (r ∷ export_full d h (charges_by u.0 (c ∷ cs)) ∷ [])) (first_import u.0 (c ∷ cs) all)
       ∙ (ap (λ (r : Option Refusal). first_reason (option_map (λ (g : TxnId × ℕ). BlockedByImport g.0) (find (λ (g : TxnId × ℕ). would_pass books g.0.0 g.1) (c ∷ cs)) ∷ r ∷ [])) exports

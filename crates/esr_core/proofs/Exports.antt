@@ -4,7 +4,7 @@ use Rattle.esr_core.specs.Words.{Entry}
 use Rattle.esr_history.specs.declared.back_links.Facts.{Facts}
 use Rattle.esr_history.specs.Events.{Beginning, accepted, beginning, is_update}
 use Rattle.esr_history.specs.BackLinks.{facts_by, facts_of}
-use Rattle.esr_history.specs.Machine.{Distance, Schedule, done, charges_in, export_in}
+use Rattle.esr_history.specs.Machine.{Distance, Schedule, accepted_in, charges_in, export_in}
 use Rattle.esr_history.proofs.Sides.{charges_kinds, no_export}
 
 kind_by : (b : Option Beginning) (end : Option ℕ) (f : Option Facts) → f ≡ facts_by b end
@@ -18,5 +18,5 @@ pub kind_of : (es : List Entry) (t : ℕ) (f : Option Facts) → f ≡ facts_of 
 kind_of es t f is = kind_by (beginning (accepted es) t) _ f is
 
 -- who is no update has exported nothing
-pub exports_nothing : (d : Distance) (h : Schedule) (t : ℕ) → is_update (done h) t ≡ false → 0 ≡ export_in (charges_in d h) t
-exports_nothing d h t isnt = sym (no_export (done h) (charges_in d h) (charges_kinds (d h.weights) h.opening (done h)) t isnt)
+pub exports_nothing : (d : Distance) (h : Schedule) (t : ℕ) → is_update (accepted_in h) t ≡ false → 0 ≡ export_in (charges_in d h) t
+exports_nothing d h t isnt = sym (no_export (accepted_in h) (charges_in d h) (charges_kinds (d h.weights) h.opening (accepted_in h)) t isnt)

@@ -7,7 +7,7 @@ use Rattle.std.proofs.lemmas.List.FromFn.{length-map-range_with_len}
 use Rattle.esr_core.specs.Words.{Event, BeginUpdate, BeginQuery, Read, Write, Commit, Abort, Value, Entry}
 use Rattle.esr_core.specs.Carried.{active_numbers, new_number, begin_again, update_again, read_again, LawOfRoom}
 use Rattle.esr_history.specs.Events.{is_refusal, beginning_of, beginnings, numbers, is_active, is_query, is_update, current_value}
-use Rattle.esr_history.specs.Machine.{Distance, Schedule, done}
+use Rattle.esr_history.specs.Machine.{Distance, Schedule, accepted_in}
 use Rattle.esr_history.specs.ReportBounds.{is_active_query}
 use Rattle.esr_history.proofs.Words.{query_not_update}
 
@@ -27,9 +27,9 @@ range_length : (a n : ℕ) → length (range_with_len a n) ≡ n
 range_length a n = sym (length-map (range_with_len a n) (λ k. k)) ∙ length-map-range_with_len (λ k. k) a n
 
 module _ (d : Distance) (h : Schedule) where
-  apart : (t : ℕ) → cond (is_update (done h) t && is_active (done h) t) 1 0 + cond (is_active_query h t) 1 0 ≤ 1
-  apart t = both (is_update (done h) t && is_active (done h) t) (is_active_query h t) (λ u q.
-      true≢false (sym (and_parts (is_update (done h) t) (is_active (done h) t) u).0 ∙ query_not_update (done h) t (and_parts (is_query (done h) t) (is_active (done h) t) q).0))
+  apart : (t : ℕ) → cond (is_update (accepted_in h) t && is_active (accepted_in h) t) 1 0 + cond (is_active_query h t) 1 0 ≤ 1
+  apart t = both (is_update (accepted_in h) t && is_active (accepted_in h) t) (is_active_query h t) (λ u q.
+      true≢false (sym (and_parts (is_update (accepted_in h) t) (is_active (accepted_in h) t) u).0 ∙ query_not_update (accepted_in h) t (and_parts (is_query (accepted_in h) t) (is_active (accepted_in h) t) q).0))
     where
       both : (u q : Bool) → (u ≡ true → q ≡ true → ⊥) → cond u 1 0 + cond q 1 0 ≤ 1
       both true true clash = absurd (clash refl refl)
@@ -56,12 +56,12 @@ module _ (d : Distance) (h : Schedule) where
       at (BeginQuery limit strict) rest = omega (arith, rest)
       at (Read t x) rest =
           let one = apart t.0 in
-          let u = count_if (is_update (done h) t.0 && is_active (done h) t.0) (record { event = Read (new_number h t.0) x; reply = e.reply }) (filter_map (λ e. update_again h e.reply e.event) es) in
-          let q = count_if (is_active_query h t.0) (record { event = Read (new_number h t.0) x; reply = Value (current_value h.opening (done h) x.0) }) (filter_map (read_again h) (map (λ e. e.event) es)) in
+          let u = count_if (is_update (accepted_in h) t.0 && is_active (accepted_in h) t.0) (record { event = Read (new_number h t.0) x; reply = e.reply }) (filter_map (λ e. update_again h e.reply e.event) es) in
+          let q = count_if (is_active_query h t.0) (record { event = Read (new_number h t.0) x; reply = Value (current_value h.opening (accepted_in h) x.0) }) (filter_map (read_again h) (map (λ e. e.event) es)) in
           rw (u, q) (omega (arith, rest, one))
       at (Write t x v) rest =
-          let one = most_one (is_update (done h) t.0 && is_active (done h) t.0) in
-          let u = count_if (is_update (done h) t.0 && is_active (done h) t.0) (record { event = Write (new_number h t.0) x v; reply = e.reply }) (filter_map (λ e. update_again h e.reply e.event) es) in
+          let one = most_one (is_update (accepted_in h) t.0 && is_active (accepted_in h) t.0) in
+          let u = count_if (is_update (accepted_in h) t.0 && is_active (accepted_in h) t.0) (record { event = Write (new_number h t.0) x v; reply = e.reply }) (filter_map (λ e. update_again h e.reply e.event) es) in
           rw u (omega (arith, rest, one))
       at (Commit t) rest = omega (arith, rest)
       at (Abort t) rest = omega (arith, rest)
@@ -70,12 +70,12 @@ pub law_of_room : LawOfRoom
 law_of_room d h =
     let es : List Entry = filter (λ e. not (is_refusal e.reply)) h.entries in
     let begins : length (map (begin_again d h) (active_numbers h)) ≡ length (active_numbers h) = length-map (active_numbers h) (begin_again d h) in
-    let active : length (active_numbers h) ≤ length (numbers (done h)) = kept_few (is_active (done h)) (numbers (done h)) in
-    let all : length (numbers (done h)) ≡ length (beginnings (done h)) = range_length 1 (length (beginnings (done h))) in
-    let few : length (beginnings (done h)) + (length (filter_map (λ e. update_again h e.reply e.event) es) + length (filter_map (read_again h) (done h))) ≤ length es = fewer d h es in
+    let active : length (active_numbers h) ≤ length (numbers (accepted_in h)) = kept_few (is_active (accepted_in h)) (numbers (accepted_in h)) in
+    let all : length (numbers (accepted_in h)) ≡ length (beginnings (accepted_in h)) = range_length 1 (length (beginnings (accepted_in h))) in
+    let few : length (beginnings (accepted_in h)) + (length (filter_map (λ e. update_again h e.reply e.event) es) + length (filter_map (read_again h) (accepted_in h))) ≤ length es = fewer d h es in
     let kept : length es ≤ length h.entries = kept_few (λ e. not (is_refusal e.reply)) h.entries in
     rw (
-      length-append (map (begin_again d h) (active_numbers h)) (filter_map (λ e. update_again h e.reply e.event) es ++ filter_map (read_again h) (done h)),
-      length-append (filter_map (λ e. update_again h e.reply e.event) es) (filter_map (read_again h) (done h)),
+      length-append (map (begin_again d h) (active_numbers h)) (filter_map (λ e. update_again h e.reply e.event) es ++ filter_map (read_again h) (accepted_in h)),
+      length-append (filter_map (λ e. update_again h e.reply e.event) es) (filter_map (read_again h) (accepted_in h)),
     )
     (omega (arith, begins, active, all, few, kept))

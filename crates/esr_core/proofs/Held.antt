@@ -10,8 +10,8 @@ use Rattle.esr_history.proofs.Orderly.{beginning-kept, beginning-push, is_begun-
 use Rattle.esr_history.proofs.Lawful.{begun_number}
 
 -- an event that begins and ends nothing leaves who is active
-pub active-kept : (done : List Event) (e : Event) → beginning_of e ≡ None → ((t : ℕ) → commits t e ≡ false) → ((t : ℕ) → aborts t e ≡ false) → (t : ℕ) → is_active (done ++ e ∷ []) t ≡ is_active done t
-active-kept done e begins c a t = rw (beginning-kept done e t begins, any_push_no (commits t) done e (c t), any_push_no (aborts t) done e (a t)) refl
+pub active-kept : (events : List Event) (e : Event) → beginning_of e ≡ None → ((t : ℕ) → commits t e ≡ false) → ((t : ℕ) → aborts t e ≡ false) → (t : ℕ) → is_active (events ++ e ∷ []) t ≡ is_active events t
+active-kept events e begins c a t = rw (beginning-kept events e t begins, any_push_no (commits t) events e (c t), any_push_no (aborts t) events e (a t)) refl
 
 -- a commit or an abort ends its transaction, and no other
 end_cases : (begun committed aborted ends : Bool) → ((begun && (not (committed || ends) && not aborted)) ≡ ((begun && (not committed && not aborted)) && not ends)) × ((begun && (not committed && not (aborted || ends))) ≡ ((begun && (not committed && not aborted)) && not ends))
@@ -22,11 +22,11 @@ end_cases true false true false = (refl, refl)
 end_cases true false false true = (refl, refl)
 end_cases true false false false = (refl, refl)
 
-pub active-commit : (done : List Event) (t : TxnId) (u : ℕ) → is_active (done ++ Commit t ∷ []) u ≡ (is_active done u && not (t.0 == u))
-active-commit done t u = rw (beginning-kept done (Commit t) u refl, any_push (commits u) done (Commit t), any_push_no (aborts u) done (Commit t) refl) (end_cases (is_begun done u) (is_committed done u) (is_aborted done u) (t.0 == u)).0
+pub active-commit : (events : List Event) (t : TxnId) (u : ℕ) → is_active (events ++ Commit t ∷ []) u ≡ (is_active events u && not (t.0 == u))
+active-commit events t u = rw (beginning-kept events (Commit t) u refl, any_push (commits u) events (Commit t), any_push_no (aborts u) events (Commit t) refl) (end_cases (is_begun events u) (is_committed events u) (is_aborted events u) (t.0 == u)).0
 
-pub active-abort : (done : List Event) (t : TxnId) (u : ℕ) → is_active (done ++ Abort t ∷ []) u ≡ (is_active done u && not (t.0 == u))
-active-abort done t u = rw (beginning-kept done (Abort t) u refl, any_push (aborts u) done (Abort t), any_push_no (commits u) done (Abort t) refl) (end_cases (is_begun done u) (is_committed done u) (is_aborted done u) (t.0 == u)).1
+pub active-abort : (events : List Event) (t : TxnId) (u : ℕ) → is_active (events ++ Abort t ∷ []) u ≡ (is_active events u && not (t.0 == u))
+active-abort events t u = rw (beginning-kept events (Abort t) u refl, any_push (aborts u) events (Abort t), any_push_no (commits u) events (Abort t) refl) (end_cases (is_begun events u) (is_committed events u) (is_aborted events u) (t.0 == u)).1
 
 pub any_implies : (p q : Event → Bool) → ((e : Event) → p e ≡ true → q e ≡ true) → (es : List Event) → list_any p es ≡ true → list_any q es ≡ true
 any_implies p q is [] none = absurd (false≢true none)
@@ -48,17 +48,17 @@ pub commits_name : (t : ℕ) (e : Event) → commits t e ≡ true → names t e 
 commits_name t (Commit u) is = is
 commits_name t _ is = absurd (false≢true is)
 
-pub active-same : (done : List Event) (e : Event) (u : ℕ) → ((t : ℕ) → commits t e ≡ false) → ((t : ℕ) → aborts t e ≡ false) → is_begun done u ≡ true → is_active (done ++ e ∷ []) u ≡ is_active done u
-active-same done e u c a begun = rw (is_begun-push done e u begun, begun, any_push_no (commits u) done e (c u), any_push_no (aborts u) done e (a u)) refl
+pub active-same : (events : List Event) (e : Event) (u : ℕ) → ((t : ℕ) → commits t e ≡ false) → ((t : ℕ) → aborts t e ≡ false) → is_begun events u ≡ true → is_active (events ++ e ∷ []) u ≡ is_active events u
+active-same events e u c a begun = rw (is_begun-push events e u begun, begun, any_push_no (commits u) events e (c u), any_push_no (aborts u) events e (a u)) refl
 
 -- a begin leaves the locks
-pub held-begin : (done : List Event) (o : IsOrderly done) (e : Event) (p : Event → Bool) (u : ℕ) → ((t : ℕ) → commits t e ≡ false) → ((t : ℕ) → aborts t e ≡ false) → p e ≡ false → ((g : Event) → p g ≡ true → names u g ≡ true)
-    → (is_active (done ++ e ∷ []) u && list_any p (done ++ e ∷ [])) ≡ (is_active done u && list_any p done)
-held-begin done o e p u c a fails names_it =
-    ap (λ b. is_active (done ++ e ∷ []) u && b) (any_push_no p done e fails)
-    ∙ elim (cases_Bool (list_any p done)) [
-      | inl did ↦ ap (λ b. b && list_any p done) (active-same done e u c a (o.begun u (any_implies p (names u) names_it done did)))
-      | inr not_done ↦ and_right (is_active (done ++ e ∷ []) u) (list_any p done) not_done ∙ sym (and_right (is_active done u) (list_any p done) not_done)
+pub held-begin : (events : List Event) (o : IsOrderly events) (e : Event) (p : Event → Bool) (u : ℕ) → ((t : ℕ) → commits t e ≡ false) → ((t : ℕ) → aborts t e ≡ false) → p e ≡ false → ((g : Event) → p g ≡ true → names u g ≡ true)
+    → (is_active (events ++ e ∷ []) u && list_any p (events ++ e ∷ [])) ≡ (is_active events u && list_any p events)
+held-begin events o e p u c a fails names_it =
+    ap (λ b. is_active (events ++ e ∷ []) u && b) (any_push_no p events e fails)
+    ∙ elim (cases_Bool (list_any p events)) [
+      | inl did ↦ ap (λ b. b && list_any p events) (active-same events e u c a (o.begun u (any_implies p (names u) names_it events did)))
+      | inr not_done ↦ and_right (is_active (events ++ e ∷ []) u) (list_any p events) not_done ∙ sym (and_right (is_active events u) (list_any p events) not_done)
     ]
 
 -- an event that begins a transaction
@@ -78,43 +78,43 @@ pub begin_query : (limit : ℕ) (strict : Bool) → IsBegin (BeginQuery limit st
 begin_query limit strict = record { begins = refl; commits_none = λ t. refl; aborts_none = λ t. refl; reads_none = λ t x. refl; reads_any_none = λ t. refl; writes_none = λ t x. refl; names_none = λ t. refl }
 
 -- an event of a transaction that has begun
-pub numbers-kept : (done : List Event) (e : Event) → beginning_of e ≡ None → numbers (done ++ e ∷ []) ≡ numbers done
-numbers-kept done e none = ap (λ (bs : List Beginning). range_with_len 1 (length bs)) (filter_map_push_none beginning_of done e none)
+pub numbers-kept : (events : List Event) (e : Event) → beginning_of e ≡ None → numbers (events ++ e ∷ []) ≡ numbers events
+numbers-kept events e none = ap (λ (bs : List Beginning). range_with_len 1 (length bs)) (filter_map_push_none beginning_of events e none)
 
-pub query-kept : (done : List Event) (e : Event) → beginning_of e ≡ None → (t : ℕ) → is_query (done ++ e ∷ []) t ≡ is_query done t
-query-kept done e none t = ap (λ (o : Option Beginning). unwrap_or (option_map (λ b. b.query) o) false) (beginning-kept done e t none)
+pub query-kept : (events : List Event) (e : Event) → beginning_of e ≡ None → (t : ℕ) → is_query (events ++ e ∷ []) t ≡ is_query events t
+query-kept events e none t = ap (λ (o : Option Beginning). unwrap_or (option_map (λ b. b.query) o) false) (beginning-kept events e t none)
 
-pub update-kept : (done : List Event) (e : Event) → beginning_of e ≡ None → (t : ℕ) → is_update (done ++ e ∷ []) t ≡ is_update done t
-update-kept done e none t = ap (λ (o : Option Beginning). unwrap_or (option_map (λ b. not b.query) o) false) (beginning-kept done e t none)
+pub update-kept : (events : List Event) (e : Event) → beginning_of e ≡ None → (t : ℕ) → is_update (events ++ e ∷ []) t ≡ is_update events t
+update-kept events e none t = ap (λ (o : Option Beginning). unwrap_or (option_map (λ b. not b.query) o) false) (beginning-kept events e t none)
 
-pub limit-kept : (done : List Event) (e : Event) → beginning_of e ≡ None → (t : ℕ) → limit_of (done ++ e ∷ []) t ≡ limit_of done t
-limit-kept done e none t = ap (λ (o : Option Beginning). unwrap_or (option_map (λ b. b.limit) o) 0) (beginning-kept done e t none)
+pub limit-kept : (events : List Event) (e : Event) → beginning_of e ≡ None → (t : ℕ) → limit_of (events ++ e ∷ []) t ≡ limit_of events t
+limit-kept events e none t = ap (λ (o : Option Beginning). unwrap_or (option_map (λ b. b.limit) o) 0) (beginning-kept events e t none)
 
-pub update_or_query : (done : List Event) (t : ℕ) → is_update done t ≡ true → is_query done t ≡ false
-update_or_query done t is = at (beginning done t) is
+pub update_or_query : (events : List Event) (t : ℕ) → is_update events t ≡ true → is_query events t ≡ false
+update_or_query events t is = at (beginning events t) is
   where
     at : (o : Option Beginning) → unwrap_or (option_map (λ b. not b.query) o) false ≡ true → unwrap_or (option_map (λ b. b.query) o) false ≡ false
     at None is' = absurd (false≢true is')
     at (Some b) is' = not-true b.query is'
 
 -- the beginnings after a begin
-pub beginnings-begin : (done : List Event) (e : Event) (b : Beginning) → IsBegin e b → beginnings (done ++ e ∷ []) ≡ beginnings done ++ b ∷ []
-beginnings-begin done e b is = filter_map_push_some beginning_of done e b is.begins
+pub beginnings-begin : (events : List Event) (e : Event) (b : Beginning) → IsBegin e b → beginnings (events ++ e ∷ []) ≡ beginnings events ++ b ∷ []
+beginnings-begin events e b is = filter_map_push_some beginning_of events e b is.begins
 
 -- a transaction that has begun stays as it began
-pub beginning-begin : (done : List Event) (e : Event) (t : ℕ) → is_begun done t ≡ true → beginning (done ++ e ∷ []) t ≡ beginning done t
-beginning-begin done e t is = at (beginning done t) refl is
+pub beginning-begin : (events : List Event) (e : Event) (t : ℕ) → is_begun events t ≡ true → beginning (events ++ e ∷ []) t ≡ beginning events t
+beginning-begin events e t is = at (beginning events t) refl is
   where
-    at : (o : Option Beginning) → beginning done t ≡ o → is_some o ≡ true → beginning (done ++ e ∷ []) t ≡ o
+    at : (o : Option Beginning) → beginning events t ≡ o → is_some o ≡ true → beginning (events ++ e ∷ []) t ≡ o
     at None none some = absurd (false≢true some)
-    at (Some b) some yes_some = beginning-push done e t b some
+    at (Some b) some yes_some = beginning-push events e t b some
 
-pub beginning-new : (done : List Event) (e : Event) (b : Beginning) → IsBegin e b → beginning (done ++ e ∷ []) (suc (length (beginnings done))) ≡ Some b
-beginning-new done e b is = ap (λ (bs : List Beginning). slice_get bs (length (beginnings done))) (beginnings-begin done e b is) ∙ slice_get_push_last (beginnings done) b
+pub beginning-new : (events : List Event) (e : Event) (b : Beginning) → IsBegin e b → beginning (events ++ e ∷ []) (suc (length (beginnings events))) ≡ Some b
+beginning-new events e b is = ap (λ (bs : List Beginning). slice_get bs (length (beginnings events))) (beginnings-begin events e b is) ∙ slice_get_push_last (beginnings events) b
 
 -- nobody has named the next transaction
-pub not_named : (done : List Event) → IsOrderly done → (p : Event → Bool) → ((e : Event) → p e ≡ true → names (suc (length (beginnings done))) e ≡ true) → list_any p done ≡ false
-not_named done o p names_it =
-    false_from_ne_true (list_any p done) (λ did.
-    let n : (1 ≤ suc (length (beginnings done))) × (suc (length (beginnings done)) < 1 + length (beginnings done)) = begun_number done (suc (length (beginnings done))) (o.begun (suc (length (beginnings done))) (any_implies p (names (suc (length (beginnings done)))) names_it done did)) in
+pub not_named : (events : List Event) → IsOrderly events → (p : Event → Bool) → ((e : Event) → p e ≡ true → names (suc (length (beginnings events))) e ≡ true) → list_any p events ≡ false
+not_named events o p names_it =
+    false_from_ne_true (list_any p events) (λ did.
+    let n : (1 ≤ suc (length (beginnings events))) × (suc (length (beginnings events)) < 1 + length (beginnings events)) = begun_number events (suc (length (beginnings events))) (o.begun (suc (length (beginnings events))) (any_implies p (names (suc (length (beginnings events)))) names_it events did)) in
     omega arith)

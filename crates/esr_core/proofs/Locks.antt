@@ -28,81 +28,81 @@ use Rattle.std.proofs.lemmas.Grind.{common_steps}
 
 -- who passes as a writer of an item, as a reader of it
 abbrev wrote : List Event → ℕ → ℕ → Bool
-wrote done x u = is_update done u && holds_write done u x
+wrote events x u = is_update events u && holds_write events u x
 
 abbrev read_it : List Event → ℕ → ℕ → Bool
-read_it done x u = is_update done u && holds_read done u x
+read_it events x u = is_update events u && holds_read events u x
 
-pub locks_len : (done : List Event) (n : ℕ) → length (locks_of done n) ≡ n
-locks_len done n = length-map-range_with_len (item_locks done) 0 n
+pub locks_len : (events : List Event) (n : ℕ) → length (locks_of events n) ≡ n
+locks_len events n = length-map-range_with_len (item_locks events) 0 n
 
-pub locks_here : (done : List Event) (n x : ℕ) → x < n → locks_at (locks_of done n) x ≡ item_locks done x
-locks_here done n x l = get_or-map-range_with_len (item_locks done) 0 n x x no_locks l (omega arith)
+pub locks_here : (events : List Event) (n x : ℕ) → x < n → locks_at (locks_of events n) x ≡ item_locks events x
+locks_here events n x l = get_or-map-range_with_len (item_locks events) 0 n x x no_locks l (omega arith)
 
 -- who holds a lock has a number
-holder_number : (done : List Event) (u : ℕ) (p : Bool) → (is_active done u && p) ≡ true → (1 ≤ u) × (u < 1 + length (beginnings done))
-holder_number done u p is = begun_number done u (active_parts done u (and_parts (is_active done u) p is).0).0
+holder_number : (events : List Event) (u : ℕ) (p : Bool) → (is_active events u && p) ≡ true → (1 ≤ u) × (u < 1 + length (beginnings events))
+holder_number events u p is = begun_number events u (active_parts events u (and_parts (is_active events u) p is).0).0
 
 filter_map_agree : {X : Type 0} (f g : ℕ → Option X) → ((u : ℕ) → f u ≡ g u) → (us : List ℕ) → filter_map f us ≡ filter_map g us
 filter_map_agree f g same [] = refl
 filter_map_agree f g same (u ∷ us) = rw (same u, filter_map_agree f g same us) refl
 
-module _ (done : List Event) (o : IsOrderly done) where
+module _ (events : List Event) (o : IsOrderly events) where
   -- at most one update holds the write lock on an item
-  pub one_writer : (x u v : ℕ) → wrote done x u ≡ true → wrote done x v ≡ true → u ≡ v
+  pub one_writer : (x u v : ℕ) → wrote events x u ≡ true → wrote events x v ≡ true → u ≡ v
   one_writer x u v is_u is_v =
-      same_Some u v (sym (o.exclusive u x (and_parts (is_update done u) (holds_write done u x) is_u).1) ∙ o.exclusive v x (and_parts (is_update done v) (holds_write done v x) is_v).1)
+      same_Some u v (sym (o.exclusive u x (and_parts (is_update events u) (holds_write events u x) is_u).1) ∙ o.exclusive v x (and_parts (is_update events v) (holds_write events v x) is_v).1)
 
-  wrote_number : (x u : ℕ) → wrote done x u ≡ true → (1 ≤ u) × (u < 1 + length (beginnings done))
-  wrote_number x u is = holder_number done u (list_any (writes u x) done) (and_parts (is_update done u) (holds_write done u x) is).1
+  wrote_number : (x u : ℕ) → wrote events x u ≡ true → (1 ≤ u) × (u < 1 + length (beginnings events))
+  wrote_number x u is = holder_number events u (list_any (writes u x) events) (and_parts (is_update events u) (holds_write events u x) is).1
 
   -- the holder of the write lock is found
-  pub writer_found : (x u : ℕ) → wrote done x u ≡ true → writer done x ≡ Some u
+  pub writer_found : (x u : ℕ) → wrote events x u ≡ true → writer events x ≡ Some u
   writer_found x u is =
-      find_least (wrote done x) (length (beginnings done)) (Some u)
-      (is, λ v l. false_from_ne_true (wrote done x v) (λ is_v. let e : v ≡ u = one_writer x v u is_v is in omega arith))
+      find_least (wrote events x) (length (beginnings events)) (Some u)
+      (is, λ v l. false_from_ne_true (wrote events x v) (λ is_v. let e : v ≡ u = one_writer x v u is_v is in omega arith))
       (wrote_number x)
 
   -- the writer of the locks on an item is who holds the write lock
-  pub writer_is : (x u : ℕ) → is_writer (item_locks done x) u ≡ wrote done x u
+  pub writer_is : (x u : ℕ) → is_writer (item_locks events x) u ≡ wrote events x u
   writer_is x u =
-      elim (cases_Bool (wrote done x u)) [
+      elim (cases_Bool (wrote events x u)) [
         | inl is ↦ rw (writer_found x u is) (eq-eqb u u refl ∙ sym is)
-        | inr isnt ↦ false_from_ne_true (is_writer (item_locks done x) u) (λ it. false≢true (sym isnt ∙ found (writer done x) refl it)) ∙ sym isnt
+        | inr isnt ↦ false_from_ne_true (is_writer (item_locks events x) u) (λ it. false≢true (sym isnt ∙ found (writer events x) refl it)) ∙ sym isnt
       ]
     where
-      found : (w : Option ℕ) → writer done x ≡ w → unwrap_or (option_map (λ v. v == u) w) false ≡ true → wrote done x u ≡ true
+      found : (w : Option ℕ) → writer events x ≡ w → unwrap_or (option_map (λ v. v == u) w) false ≡ true → wrote events x u ≡ true
       found None is it = absurd (false≢true it)
-      found (Some v) is it = ap (wrote done x) (sym (eqb-true v u it)) ∙ find_some (wrote done x) (numbers done) v is
+      found (Some v) is it = ap (wrote events x) (sym (eqb-true v u it)) ∙ find_some (wrote events x) (numbers events) v is
 
-  pub reader_is : (x u : ℕ) → is_reader (item_locks done x) u ≡ read_it done x u
+  pub reader_is : (x u : ℕ) → is_reader (item_locks events x) u ≡ read_it events x u
   reader_is x u =
-      elim (cases_Bool (read_it done x u)) [
+      elim (cases_Bool (read_it events x u)) [
         | inl is ↦
-            let n : (1 ≤ u) × (u < 1 + length (beginnings done)) = holder_number done u (list_any (reads u x) done) (and_parts (is_update done u) (holds_read done u x) is).1 in
-            filter_in_any (read_it done x) u 1 (length (beginnings done)) is n.0 n.1 ∙ sym is
-        | inr isnt ↦ false_from_ne_true (is_reader (item_locks done x) u) (λ it. false≢true (sym isnt ∙ any_in_filter (read_it done x) u (numbers done) it)) ∙ sym isnt
+            let n : (1 ≤ u) × (u < 1 + length (beginnings events)) = holder_number events u (list_any (reads u x) events) (and_parts (is_update events u) (holds_read events u x) is).1 in
+            filter_in_any (read_it events x) u 1 (length (beginnings events)) is n.0 n.1 ∙ sym is
+        | inr isnt ↦ false_from_ne_true (is_reader (item_locks events x) u) (λ it. false≢true (sym isnt ∙ any_in_filter (read_it events x) u (numbers events) it)) ∙ sym isnt
       ]
 
   -- the update that keeps another from reading, and the smallest that keeps it from writing
-  pub least_writer : (t x : ℕ) (r : Option ℕ) → IsSmallest (keeps_from_reading (item_locks done x) t) r → find (λ u. not (u == t) && wrote done x u) (numbers done) ≡ r
+  pub least_writer : (t x : ℕ) (r : Option ℕ) → IsSmallest (keeps_from_reading (item_locks events x) t) r → find (λ u. not (u == t) && wrote events x u) (numbers events) ≡ r
   least_writer t x r least =
-      find_least (λ u. not (u == t) && wrote done x u) (length (beginnings done)) r
-      (IsSmallest-same (keeps_from_reading (item_locks done x) t) (λ u. not (u == t) && wrote done x u) r (λ u. ap (λ b. not (u == t) && b) (writer_is x u)) least)
-      (λ u is. wrote_number x u (and_parts (not (u == t)) (wrote done x u) is).1)
+      find_least (λ u. not (u == t) && wrote events x u) (length (beginnings events)) r
+      (IsSmallest-same (keeps_from_reading (item_locks events x) t) (λ u. not (u == t) && wrote events x u) r (λ u. ap (λ b. not (u == t) && b) (writer_is x u)) least)
+      (λ u is. wrote_number x u (and_parts (not (u == t)) (wrote events x u) is).1)
 
-  either_update : (u x : ℕ) → (read_it done x u || wrote done x u) ≡ (is_update done u && (holds_read done u x || holds_write done u x))
+  either_update : (u x : ℕ) → (read_it events x u || wrote events x u) ≡ (is_update events u && (holds_read events u x || holds_write events u x))
   either_update u x = grind (arith, common_steps)
 
-  pub least_holder : (t x : ℕ) (r : Option ℕ) → IsSmallest (keeps_from_writing (item_locks done x) t) r → find (λ u. not (u == t) && (is_update done u && (holds_read done u x || holds_write done u x))) (numbers done) ≡ r
+  pub least_holder : (t x : ℕ) (r : Option ℕ) → IsSmallest (keeps_from_writing (item_locks events x) t) r → find (λ u. not (u == t) && (is_update events u && (holds_read events u x || holds_write events u x))) (numbers events) ≡ r
   least_holder t x r least =
-      find_least (λ u. not (u == t) && (is_update done u && (holds_read done u x || holds_write done u x))) (length (beginnings done)) r
-      (IsSmallest-same (keeps_from_writing (item_locks done x) t) (λ u. not (u == t) && (is_update done u && (holds_read done u x || holds_write done u x))) r
-      (λ u. ap (λ b. not (u == t) && b) (ap (λ b. b || is_writer (item_locks done x) u) (reader_is x u) ∙ (ap (λ b. read_it done x u || b) (writer_is x u) ∙ either_update u x))) least)
+      find_least (λ u. not (u == t) && (is_update events u && (holds_read events u x || holds_write events u x))) (length (beginnings events)) r
+      (IsSmallest-same (keeps_from_writing (item_locks events x) t) (λ u. not (u == t) && (is_update events u && (holds_read events u x || holds_write events u x))) r
+      (λ u. ap (λ b. not (u == t) && b) (ap (λ b. b || is_writer (item_locks events x) u) (reader_is x u) ∙ (ap (λ b. read_it events x u || b) (writer_is x u) ∙ either_update u x))) least)
       number
     where
-      number : (u : ℕ) → (not (u == t) && (is_update done u && (holds_read done u x || holds_write done u x))) ≡ true → (1 ≤ u) × (u < 1 + length (beginnings done))
-      number u is = begun_number done u (update_begun done u (and_parts (is_update done u) (holds_read done u x || holds_write done u x) (and_parts (not (u == t)) (is_update done u && (holds_read done u x || holds_write done u x)) is).1).0)
+      number : (u : ℕ) → (not (u == t) && (is_update events u && (holds_read events u x || holds_write events u x))) ≡ true → (1 ≤ u) × (u < 1 + length (beginnings events))
+      number u is = begun_number events u (update_begun events u (and_parts (is_update events u) (holds_read events u x || holds_write events u x) (and_parts (not (u == t)) (is_update events u && (holds_read events u x || holds_write events u x)) is).1).0)
 
 locks_same : (w v : Option ℕ) (r s : List ℕ) (q p : List (ℕ × ℕ)) → w ≡ v → r ≡ s → q ≡ p → ◌≡◌ {A = ItemLocks} (record { writer = w; readers = r; queries = q }) (record { writer = v; readers = s; queries = p })
 locks_same w v r s q p e f g = grind (arith, common_steps)
@@ -116,137 +116,137 @@ locks_agree old new x n w r q =
     let queries : filter_map (query_reads new x) (numbers new) ≡ filter_map (query_reads old x) (numbers old) = ap (filter_map (query_reads new x)) n ∙ filter_map_agree (query_reads new x) (query_reads old x) q (numbers old) in
     locks_same (writer new x) (writer old x) (filter (read_it new x) (numbers new)) (filter (read_it old x) (numbers old)) (filter_map (query_reads new x) (numbers new)) (filter_map (query_reads old x) (numbers old)) writers readers queries
 
-query_reads_own : (done : List Event) (x u : ℕ) (y : ℕ × ℕ) → query_reads done x u ≡ Some y → y.0 ≡ u
-query_reads_own done x u y is = at (is_query done u && holds_read done u x) is
+query_reads_own : (events : List Event) (x u : ℕ) (y : ℕ × ℕ) → query_reads events x u ≡ Some y → y.0 ≡ u
+query_reads_own events x u y is = at (is_query events u && holds_read events u x) is
   where
-    at : (b : Bool) → (if b then Some (u, reads_of done u x) else None) ≡ Some y → y.0 ≡ u
-    at true is' = ap (λ (z : ℕ × ℕ). z.0) (sym (same_Some (u, reads_of done u x) y is'))
+    at : (b : Bool) → (if b then Some (u, reads_of events u x) else None) ≡ Some y → y.0 ≡ u
+    at true is' = ap (λ (z : ℕ × ℕ). z.0) (sym (same_Some (u, reads_of events u x) y is'))
     at false is' = absurd (cc)
 
 -- An event that begins and ends nothing.
-module _ (done : List Event) (e : Event) (none : beginning_of e ≡ None) (c : (t : ℕ) → commits t e ≡ false) (a : (t : ℕ) → aborts t e ≡ false) (x : ℕ) where
-  wrote-step : (u : ℕ) → wrote (done ++ e ∷ []) x u ≡ (is_update done u && (is_active done u && (list_any (writes u x) done || writes u x e)))
-  wrote-step u = rw (update-kept done e none u, active-kept done e none c a u, any_push (writes u x) done e) refl
+module _ (events : List Event) (e : Event) (none : beginning_of e ≡ None) (c : (t : ℕ) → commits t e ≡ false) (a : (t : ℕ) → aborts t e ≡ false) (x : ℕ) where
+  wrote-step : (u : ℕ) → wrote (events ++ e ∷ []) x u ≡ (is_update events u && (is_active events u && (list_any (writes u x) events || writes u x e)))
+  wrote-step u = rw (update-kept events e none u, active-kept events e none c a u, any_push (writes u x) events e) refl
 
-  read-step : (u : ℕ) → read_it (done ++ e ∷ []) x u ≡ (is_update done u && (is_active done u && (list_any (reads u x) done || reads u x e)))
-  read-step u = rw (update-kept done e none u, active-kept done e none c a u, any_push (reads u x) done e) refl
+  read-step : (u : ℕ) → read_it (events ++ e ∷ []) x u ≡ (is_update events u && (is_active events u && (list_any (reads u x) events || reads u x e)))
+  read-step u = rw (update-kept events e none u, active-kept events e none c a u, any_push (reads u x) events e) refl
 
-  count-step : (u : ℕ) → reads_of (done ++ e ∷ []) u x ≡ reads_of done u x + (if reads u x e then 1 else 0)
-  count-step u = sum_by_push (λ f. if reads u x f then 1 else 0) done e
+  count-step : (u : ℕ) → reads_of (events ++ e ∷ []) u x ≡ reads_of events u x + (if reads u x e then 1 else 0)
+  count-step u = sum_by_push (λ f. if reads u x f then 1 else 0) events e
 
-  query-step : (u : ℕ) → query_reads (done ++ e ∷ []) x u ≡ (if is_query done u && (is_active done u && (list_any (reads u x) done || reads u x e)) then Some (u, reads_of done u x + (if reads u x e then 1 else 0)) else None)
-  query-step u = rw (query-kept done e none u, active-kept done e none c a u, any_push (reads u x) done e, count-step u) refl
+  query-step : (u : ℕ) → query_reads (events ++ e ∷ []) x u ≡ (if is_query events u && (is_active events u && (list_any (reads u x) events || reads u x e)) then Some (u, reads_of events u x + (if reads u x e then 1 else 0)) else None)
+  query-step u = rw (query-kept events e none u, active-kept events e none c a u, any_push (reads u x) events e, count-step u) refl
 
-  wrote-same : (u : ℕ) → writes u x e ≡ false → wrote (done ++ e ∷ []) x u ≡ wrote done x u
-  wrote-same u fails = wrote-step u ∙ ap (λ b. is_update done u && (is_active done u && b)) (ap (λ b. list_any (writes u x) done || b) fails ∙ or_false (list_any (writes u x) done))
+  wrote-same : (u : ℕ) → writes u x e ≡ false → wrote (events ++ e ∷ []) x u ≡ wrote events x u
+  wrote-same u fails = wrote-step u ∙ ap (λ b. is_update events u && (is_active events u && b)) (ap (λ b. list_any (writes u x) events || b) fails ∙ or_false (list_any (writes u x) events))
 
-  read-same : (u : ℕ) → reads u x e ≡ false → read_it (done ++ e ∷ []) x u ≡ read_it done x u
-  read-same u fails = read-step u ∙ ap (λ b. is_update done u && (is_active done u && b)) (ap (λ b. list_any (reads u x) done || b) fails ∙ or_false (list_any (reads u x) done))
+  read-same : (u : ℕ) → reads u x e ≡ false → read_it (events ++ e ∷ []) x u ≡ read_it events x u
+  read-same u fails = read-step u ∙ ap (λ b. is_update events u && (is_active events u && b)) (ap (λ b. list_any (reads u x) events || b) fails ∙ or_false (list_any (reads u x) events))
 
-  query-same : (u : ℕ) → reads u x e ≡ false → query_reads (done ++ e ∷ []) x u ≡ query_reads done x u
-  query-same u fails = grind (arith, query-step u, or_false (list_any (reads u x) done), add-zero (reads_of done u x))
+  query-same : (u : ℕ) → reads u x e ≡ false → query_reads (events ++ e ∷ []) x u ≡ query_reads events x u
+  query-same u fails = grind (arith, query-step u, or_false (list_any (reads u x) events), add-zero (reads_of events u x))
 
   -- an event on another item
-  locks-other : ((u : ℕ) → writes u x e ≡ false) → ((u : ℕ) → reads u x e ≡ false) → item_locks (done ++ e ∷ []) x ≡ item_locks done x
-  locks-other w r = locks_agree done (done ++ e ∷ []) x (numbers-kept done e none) (λ u. wrote-same u (w u)) (λ u. read-same u (r u)) (λ u. query-same u (r u))
+  locks-other : ((u : ℕ) → writes u x e ≡ false) → ((u : ℕ) → reads u x e ≡ false) → item_locks (events ++ e ∷ []) x ≡ item_locks events x
+  locks-other w r = locks_agree events (events ++ e ∷ []) x (numbers-kept events e none) (λ u. wrote-same u (w u)) (λ u. read-same u (r u)) (λ u. query-same u (r u))
 
 -- a read by an update
-module _ (done : List Event) (t : TxnId) (x : ItemId) where
+module _ (events : List Event) (t : TxnId) (x : ItemId) where
   reads_it : reads t.0 x.0 (Read t x) ≡ true
   reads_it = and_from (t.0 == t.0) (x.0 == x.0) (eq-eqb t.0 t.0 refl) (eq-eqb x.0 x.0 refl)
 
   no_other_reads : (u : ℕ) → (u ≡ t.0 → ⊥) → reads u x.0 (Read t x) ≡ false
   no_other_reads u ne = and_left (t.0 == u) (x.0 == x.0) (ne_eqb t.0 u (λ (f : t.0 ≡ u). ne (sym f)))
 
-  writer-read : writer (done ++ Read t x ∷ []) x.0 ≡ writer done x.0
-  writer-read = ap (find (wrote (done ++ Read t x ∷ []) x.0)) (numbers-kept done (Read t x) refl) ∙ find_same (wrote (done ++ Read t x ∷ []) x.0) (wrote done x.0) (λ u. wrote-same done (Read t x) refl (λ v. refl) (λ v. refl) x.0 u refl) (numbers done)
+  writer-read : writer (events ++ Read t x ∷ []) x.0 ≡ writer events x.0
+  writer-read = ap (find (wrote (events ++ Read t x ∷ []) x.0)) (numbers-kept events (Read t x) refl) ∙ find_same (wrote (events ++ Read t x ∷ []) x.0) (wrote events x.0) (λ u. wrote-same events (Read t x) refl (λ v. refl) (λ v. refl) x.0 u refl) (numbers events)
 
-  locks-read : is_update done t.0 ≡ true → is_active done t.0 ≡ true → item_locks (done ++ Read t x ∷ []) x.0 ≡ with_reader t.0 (item_locks done x.0)
+  locks-read : is_update events t.0 ≡ true → is_active events t.0 ≡ true → item_locks (events ++ Read t x ∷ []) x.0 ≡ with_reader t.0 (item_locks events x.0)
   locks-read update act =
-      let r : filter (read_it (done ++ Read t x ∷ []) x.0) (numbers (done ++ Read t x ∷ [])) ≡ placed (λ u. u) t.0 t.0 (λ u. u) (filter (read_it done x.0) (numbers done)) =
-      ap (filter (read_it (done ++ Read t x ∷ []) x.0)) (numbers-kept done (Read t x) refl)
-      ∙ (filter-filter_map (read_it (done ++ Read t x ∷ []) x.0) (numbers done)
-      ∙ (filter_map_placed (λ u. u) (kept_if (read_it done x.0)) (kept_if_own (read_it done x.0)) (kept_if (read_it (done ++ Read t x ∷ []) x.0)) t.0 t.0 (λ u. u)
-      (λ u ne. ap (λ b. if b then Some u else None) (read-same done (Read t x) refl (λ v. refl) (λ v. refl) x.0 u (no_other_reads u ne)))
-      (ap (λ b. if b then Some t.0 else None) reads_now ∙ was (read_it done x.0 t.0))
-      1 (length (beginnings done)) number.0 number.1
-      ∙ ap (placed (λ u. u) t.0 t.0 (λ u. u)) (sym (filter-filter_map (read_it done x.0) (numbers done))))) in
-      let q : filter_map (query_reads (done ++ Read t x ∷ []) x.0) (numbers (done ++ Read t x ∷ [])) ≡ filter_map (query_reads done x.0) (numbers done) =
-      ap (filter_map (query_reads (done ++ Read t x ∷ []) x.0)) (numbers-kept done (Read t x) refl) ∙ filter_map_agree (query_reads (done ++ Read t x ∷ []) x.0) (query_reads done x.0) queries (numbers done) in
-      locks_same (writer (done ++ Read t x ∷ []) x.0) (writer done x.0) (filter (read_it (done ++ Read t x ∷ []) x.0) (numbers (done ++ Read t x ∷ []))) (placed (λ u. u) t.0 t.0 (λ u. u) (filter (read_it done x.0) (numbers done)))
-      (filter_map (query_reads (done ++ Read t x ∷ []) x.0) (numbers (done ++ Read t x ∷ []))) (filter_map (query_reads done x.0) (numbers done)) writer-read r q
+      let r : filter (read_it (events ++ Read t x ∷ []) x.0) (numbers (events ++ Read t x ∷ [])) ≡ placed (λ u. u) t.0 t.0 (λ u. u) (filter (read_it events x.0) (numbers events)) =
+      ap (filter (read_it (events ++ Read t x ∷ []) x.0)) (numbers-kept events (Read t x) refl)
+      ∙ (filter-filter_map (read_it (events ++ Read t x ∷ []) x.0) (numbers events)
+      ∙ (filter_map_placed (λ u. u) (kept_if (read_it events x.0)) (kept_if_own (read_it events x.0)) (kept_if (read_it (events ++ Read t x ∷ []) x.0)) t.0 t.0 (λ u. u)
+      (λ u ne. ap (λ b. if b then Some u else None) (read-same events (Read t x) refl (λ v. refl) (λ v. refl) x.0 u (no_other_reads u ne)))
+      (ap (λ b. if b then Some t.0 else None) reads_now ∙ was (read_it events x.0 t.0))
+      1 (length (beginnings events)) number.0 number.1
+      ∙ ap (placed (λ u. u) t.0 t.0 (λ u. u)) (sym (filter-filter_map (read_it events x.0) (numbers events))))) in
+      let q : filter_map (query_reads (events ++ Read t x ∷ []) x.0) (numbers (events ++ Read t x ∷ [])) ≡ filter_map (query_reads events x.0) (numbers events) =
+      ap (filter_map (query_reads (events ++ Read t x ∷ []) x.0)) (numbers-kept events (Read t x) refl) ∙ filter_map_agree (query_reads (events ++ Read t x ∷ []) x.0) (query_reads events x.0) queries (numbers events) in
+      locks_same (writer (events ++ Read t x ∷ []) x.0) (writer events x.0) (filter (read_it (events ++ Read t x ∷ []) x.0) (numbers (events ++ Read t x ∷ []))) (placed (λ u. u) t.0 t.0 (λ u. u) (filter (read_it events x.0) (numbers events)))
+      (filter_map (query_reads (events ++ Read t x ∷ []) x.0) (numbers (events ++ Read t x ∷ []))) (filter_map (query_reads events x.0) (numbers events)) writer-read r q
     where
-      number : (1 ≤ t.0) × (t.0 < 1 + length (beginnings done))
-      number = begun_number done t.0 (update_begun done t.0 update)
+      number : (1 ≤ t.0) × (t.0 < 1 + length (beginnings events))
+      number = begun_number events t.0 (update_begun events t.0 update)
 
-      reads_now : read_it (done ++ Read t x ∷ []) x.0 t.0 ≡ true
+      reads_now : read_it (events ++ Read t x ∷ []) x.0 t.0 ≡ true
       reads_now =
-          read-step done (Read t x) refl (λ v. refl) (λ v. refl) x.0 t.0
-          ∙ (ap (λ b. b && (is_active done t.0 && (list_any (reads t.0 x.0) done || reads t.0 x.0 (Read t x)))) update
-          ∙ (ap (λ b. b && (list_any (reads t.0 x.0) done || reads t.0 x.0 (Read t x))) act
-          ∙ or_right (list_any (reads t.0 x.0) done) (reads t.0 x.0 (Read t x)) reads_it))
+          read-step events (Read t x) refl (λ v. refl) (λ v. refl) x.0 t.0
+          ∙ (ap (λ b. b && (is_active events t.0 && (list_any (reads t.0 x.0) events || reads t.0 x.0 (Read t x)))) update
+          ∙ (ap (λ b. b && (list_any (reads t.0 x.0) events || reads t.0 x.0 (Read t x))) act
+          ∙ or_right (list_any (reads t.0 x.0) events) (reads t.0 x.0 (Read t x)) reads_it))
 
       was : (b : Bool) → ◌≡◌ {A = Option ℕ} (Some t.0) (Some (unwrap_or (option_map (λ u. u) (if b then Some t.0 else None)) t.0))
       was true = refl
       was false = refl
 
-      queries : (u : ℕ) → query_reads (done ++ Read t x ∷ []) x.0 u ≡ query_reads done x.0 u
-      queries u = grind (arith, cases_eq u t.0, query-step done (Read t x) refl (λ v. refl) (λ v. refl) x.0 u, query-same done (Read t x) refl (λ v. refl) (λ v. refl) x.0 u, no_other_reads u, update_or_query done t.0 update)
+      queries : (u : ℕ) → query_reads (events ++ Read t x ∷ []) x.0 u ≡ query_reads events x.0 u
+      queries u = grind (arith, cases_eq u t.0, query-step events (Read t x) refl (λ v. refl) (λ v. refl) x.0 u, query-same events (Read t x) refl (λ v. refl) (λ v. refl) x.0 u, no_other_reads u, update_or_query events t.0 update)
 
   -- a read by a query
-  locks-query : is_query done t.0 ≡ true → is_active done t.0 ≡ true → item_locks (done ++ Read t x ∷ []) x.0 ≡ with_query_read t.0 (item_locks done x.0)
+  locks-query : is_query events t.0 ≡ true → is_active events t.0 ≡ true → item_locks (events ++ Read t x ∷ []) x.0 ≡ with_query_read t.0 (item_locks events x.0)
   locks-query query act =
-      let r : filter (read_it (done ++ Read t x ∷ []) x.0) (numbers (done ++ Read t x ∷ [])) ≡ filter (read_it done x.0) (numbers done) =
-      ap (filter (read_it (done ++ Read t x ∷ []) x.0)) (numbers-kept done (Read t x) refl) ∙ filter_agree (read_it (done ++ Read t x ∷ []) x.0) (read_it done x.0) readers (numbers done) in
-      let q : filter_map (query_reads (done ++ Read t x ∷ []) x.0) (numbers (done ++ Read t x ∷ [])) ≡ placed (λ (p : ℕ × ℕ). p.0) t.0 (t.0, 1) (λ (p : ℕ × ℕ). (p.0, p.1 + 1)) (filter_map (query_reads done x.0) (numbers done)) =
-      ap (filter_map (query_reads (done ++ Read t x ∷ []) x.0)) (numbers-kept done (Read t x) refl)
-      ∙ filter_map_placed (λ (p : ℕ × ℕ). p.0) (query_reads done x.0) (query_reads_own done x.0) (query_reads (done ++ Read t x ∷ []) x.0) t.0 (t.0, 1) (λ (p : ℕ × ℕ). (p.0, p.1 + 1))
-      (λ u ne. query-same done (Read t x) refl (λ v. refl) (λ v. refl) x.0 u (no_other_reads u ne))
-      (reads_now ∙ was (list_any (reads t.0 x.0) done) refl)
-      1 (length (beginnings done)) number.0 number.1 in
-      locks_same (writer (done ++ Read t x ∷ []) x.0) (writer done x.0) (filter (read_it (done ++ Read t x ∷ []) x.0) (numbers (done ++ Read t x ∷ []))) (filter (read_it done x.0) (numbers done))
-      (filter_map (query_reads (done ++ Read t x ∷ []) x.0) (numbers (done ++ Read t x ∷ []))) (placed (λ (p : ℕ × ℕ). p.0) t.0 (t.0, 1) (λ (p : ℕ × ℕ). (p.0, p.1 + 1)) (filter_map (query_reads done x.0) (numbers done))) writer-read r q
+      let r : filter (read_it (events ++ Read t x ∷ []) x.0) (numbers (events ++ Read t x ∷ [])) ≡ filter (read_it events x.0) (numbers events) =
+      ap (filter (read_it (events ++ Read t x ∷ []) x.0)) (numbers-kept events (Read t x) refl) ∙ filter_agree (read_it (events ++ Read t x ∷ []) x.0) (read_it events x.0) readers (numbers events) in
+      let q : filter_map (query_reads (events ++ Read t x ∷ []) x.0) (numbers (events ++ Read t x ∷ [])) ≡ placed (λ (p : ℕ × ℕ). p.0) t.0 (t.0, 1) (λ (p : ℕ × ℕ). (p.0, p.1 + 1)) (filter_map (query_reads events x.0) (numbers events)) =
+      ap (filter_map (query_reads (events ++ Read t x ∷ []) x.0)) (numbers-kept events (Read t x) refl)
+      ∙ filter_map_placed (λ (p : ℕ × ℕ). p.0) (query_reads events x.0) (query_reads_own events x.0) (query_reads (events ++ Read t x ∷ []) x.0) t.0 (t.0, 1) (λ (p : ℕ × ℕ). (p.0, p.1 + 1))
+      (λ u ne. query-same events (Read t x) refl (λ v. refl) (λ v. refl) x.0 u (no_other_reads u ne))
+      (reads_now ∙ was (list_any (reads t.0 x.0) events) refl)
+      1 (length (beginnings events)) number.0 number.1 in
+      locks_same (writer (events ++ Read t x ∷ []) x.0) (writer events x.0) (filter (read_it (events ++ Read t x ∷ []) x.0) (numbers (events ++ Read t x ∷ []))) (filter (read_it events x.0) (numbers events))
+      (filter_map (query_reads (events ++ Read t x ∷ []) x.0) (numbers (events ++ Read t x ∷ []))) (placed (λ (p : ℕ × ℕ). p.0) t.0 (t.0, 1) (λ (p : ℕ × ℕ). (p.0, p.1 + 1)) (filter_map (query_reads events x.0) (numbers events))) writer-read r q
     where
-      number : (1 ≤ t.0) × (t.0 < 1 + length (beginnings done))
-      number = begun_number done t.0 (active_parts done t.0 act).0
+      number : (1 ≤ t.0) × (t.0 < 1 + length (beginnings events))
+      number = begun_number events t.0 (active_parts events t.0 act).0
 
-      readers : (u : ℕ) → read_it (done ++ Read t x ∷ []) x.0 u ≡ read_it done x.0 u
-      readers u = grind (arith, cases_eq u t.0, read-step done (Read t x) refl (λ v. refl) (λ v. refl) x.0 u, read-same done (Read t x) refl (λ v. refl) (λ v. refl) x.0 u, no_other_reads u, query_not_update done t.0 query)
+      readers : (u : ℕ) → read_it (events ++ Read t x ∷ []) x.0 u ≡ read_it events x.0 u
+      readers u = grind (arith, cases_eq u t.0, read-step events (Read t x) refl (λ v. refl) (λ v. refl) x.0 u, read-same events (Read t x) refl (λ v. refl) (λ v. refl) x.0 u, no_other_reads u, query_not_update events t.0 query)
 
-      reads_now : query_reads (done ++ Read t x ∷ []) x.0 t.0 ≡ Some (t.0, reads_of done t.0 x.0 + 1)
+      reads_now : query_reads (events ++ Read t x ∷ []) x.0 t.0 ≡ Some (t.0, reads_of events t.0 x.0 + 1)
       reads_now =
-          query-step done (Read t x) refl (λ v. refl) (λ v. refl) x.0 t.0
-          ∙ (ap (λ b. if b && (is_active done t.0 && (list_any (reads t.0 x.0) done || reads t.0 x.0 (Read t x))) then Some (t.0, reads_of done t.0 x.0 + (if reads t.0 x.0 (Read t x) then 1 else 0)) else None) query
-          ∙ (ap (λ b. if b && (list_any (reads t.0 x.0) done || reads t.0 x.0 (Read t x)) then Some (t.0, reads_of done t.0 x.0 + (if reads t.0 x.0 (Read t x) then 1 else 0)) else None) act
-          ∙ (ap (λ b. if list_any (reads t.0 x.0) done || b then Some (t.0, reads_of done t.0 x.0 + (if b then 1 else 0)) else None) reads_it
-          ∙ ap (λ b. if b then Some (t.0, reads_of done t.0 x.0 + 1) else None) (or_right (list_any (reads t.0 x.0) done) true refl))))
+          query-step events (Read t x) refl (λ v. refl) (λ v. refl) x.0 t.0
+          ∙ (ap (λ b. if b && (is_active events t.0 && (list_any (reads t.0 x.0) events || reads t.0 x.0 (Read t x))) then Some (t.0, reads_of events t.0 x.0 + (if reads t.0 x.0 (Read t x) then 1 else 0)) else None) query
+          ∙ (ap (λ b. if b && (list_any (reads t.0 x.0) events || reads t.0 x.0 (Read t x)) then Some (t.0, reads_of events t.0 x.0 + (if reads t.0 x.0 (Read t x) then 1 else 0)) else None) act
+          ∙ (ap (λ b. if list_any (reads t.0 x.0) events || b then Some (t.0, reads_of events t.0 x.0 + (if b then 1 else 0)) else None) reads_it
+          ∙ ap (λ b. if b then Some (t.0, reads_of events t.0 x.0 + 1) else None) (or_right (list_any (reads t.0 x.0) events) true refl))))
 
-      was : (b : Bool) → list_any (reads t.0 x.0) done ≡ b → ◌≡◌ {A = Option (ℕ × ℕ)} (Some (t.0, reads_of done t.0 x.0 + 1)) (Some (unwrap_or (option_map (λ (p : ℕ × ℕ). (p.0, p.1 + 1)) (query_reads done x.0 t.0)) (t.0, 1)))
-      was true did = ap (λ b. Some (unwrap_or (option_map (λ (p : ℕ × ℕ). (p.0, p.1 + 1)) (if b then Some (t.0, reads_of done t.0 x.0) else None)) (t.0, 1))) (sym (and_from (is_query done t.0) (holds_read done t.0 x.0) query (and_from (is_active done t.0) (list_any (reads t.0 x.0) done) act did)))
+      was : (b : Bool) → list_any (reads t.0 x.0) events ≡ b → ◌≡◌ {A = Option (ℕ × ℕ)} (Some (t.0, reads_of events t.0 x.0 + 1)) (Some (unwrap_or (option_map (λ (p : ℕ × ℕ). (p.0, p.1 + 1)) (query_reads events x.0 t.0)) (t.0, 1)))
+      was true did = ap (λ b. Some (unwrap_or (option_map (λ (p : ℕ × ℕ). (p.0, p.1 + 1)) (if b then Some (t.0, reads_of events t.0 x.0) else None)) (t.0, 1))) (sym (and_from (is_query events t.0) (holds_read events t.0 x.0) query (and_from (is_active events t.0) (list_any (reads t.0 x.0) events) act did)))
       was false did =
-          grind (arith, count_none (reads t.0 x.0) done did, and_right, and_right (is_active done t.0) (list_any (reads t.0 x.0) done) did)
+          grind (arith, count_none (reads t.0 x.0) events did, and_right, and_right (is_active events t.0) (list_any (reads t.0 x.0) events) did)
 
 -- a write, where nobody else holds a lock on the item
-module _ (done : List Event) (t : TxnId) (x : ItemId) (v : ℤ) where
-  pub locks-write : IsOrderly (done ++ Write t x v ∷ []) → is_update done t.0 ≡ true → is_active done t.0 ≡ true → item_locks (done ++ Write t x v ∷ []) x.0 ≡ with_writer t.0 (item_locks done x.0)
+module _ (events : List Event) (t : TxnId) (x : ItemId) (v : ℤ) where
+  pub locks-write : IsOrderly (events ++ Write t x v ∷ []) → is_update events t.0 ≡ true → is_active events t.0 ≡ true → item_locks (events ++ Write t x v ∷ []) x.0 ≡ with_writer t.0 (item_locks events x.0)
   locks-write o update act =
-      let w : writer (done ++ Write t x v ∷ []) x.0 ≡ Some t.0 = writer_found (done ++ Write t x v ∷ []) o x.0 t.0 writes_now in
-      let r : filter (read_it (done ++ Write t x v ∷ []) x.0) (numbers (done ++ Write t x v ∷ [])) ≡ filter (read_it done x.0) (numbers done) =
-      ap (filter (read_it (done ++ Write t x v ∷ []) x.0)) (numbers-kept done (Write t x v) refl) ∙ filter_agree (read_it (done ++ Write t x v ∷ []) x.0) (read_it done x.0) (λ u. read-same done (Write t x v) refl (λ w. refl) (λ w. refl) x.0 u refl) (numbers done) in
-      let q : filter_map (query_reads (done ++ Write t x v ∷ []) x.0) (numbers (done ++ Write t x v ∷ [])) ≡ filter_map (query_reads done x.0) (numbers done) =
-      ap (filter_map (query_reads (done ++ Write t x v ∷ []) x.0)) (numbers-kept done (Write t x v) refl) ∙ filter_map_agree (query_reads (done ++ Write t x v ∷ []) x.0) (query_reads done x.0) (λ u. query-same done (Write t x v) refl (λ w. refl) (λ w. refl) x.0 u refl) (numbers done) in
-      locks_same (writer (done ++ Write t x v ∷ []) x.0) (Some t.0) (filter (read_it (done ++ Write t x v ∷ []) x.0) (numbers (done ++ Write t x v ∷ []))) (filter (read_it done x.0) (numbers done))
-      (filter_map (query_reads (done ++ Write t x v ∷ []) x.0) (numbers (done ++ Write t x v ∷ []))) (filter_map (query_reads done x.0) (numbers done)) w r q
+      let w : writer (events ++ Write t x v ∷ []) x.0 ≡ Some t.0 = writer_found (events ++ Write t x v ∷ []) o x.0 t.0 writes_now in
+      let r : filter (read_it (events ++ Write t x v ∷ []) x.0) (numbers (events ++ Write t x v ∷ [])) ≡ filter (read_it events x.0) (numbers events) =
+      ap (filter (read_it (events ++ Write t x v ∷ []) x.0)) (numbers-kept events (Write t x v) refl) ∙ filter_agree (read_it (events ++ Write t x v ∷ []) x.0) (read_it events x.0) (λ u. read-same events (Write t x v) refl (λ w. refl) (λ w. refl) x.0 u refl) (numbers events) in
+      let q : filter_map (query_reads (events ++ Write t x v ∷ []) x.0) (numbers (events ++ Write t x v ∷ [])) ≡ filter_map (query_reads events x.0) (numbers events) =
+      ap (filter_map (query_reads (events ++ Write t x v ∷ []) x.0)) (numbers-kept events (Write t x v) refl) ∙ filter_map_agree (query_reads (events ++ Write t x v ∷ []) x.0) (query_reads events x.0) (λ u. query-same events (Write t x v) refl (λ w. refl) (λ w. refl) x.0 u refl) (numbers events) in
+      locks_same (writer (events ++ Write t x v ∷ []) x.0) (Some t.0) (filter (read_it (events ++ Write t x v ∷ []) x.0) (numbers (events ++ Write t x v ∷ []))) (filter (read_it events x.0) (numbers events))
+      (filter_map (query_reads (events ++ Write t x v ∷ []) x.0) (numbers (events ++ Write t x v ∷ []))) (filter_map (query_reads events x.0) (numbers events)) w r q
     where
-      writes_now : wrote (done ++ Write t x v ∷ []) x.0 t.0 ≡ true
+      writes_now : wrote (events ++ Write t x v ∷ []) x.0 t.0 ≡ true
       writes_now =
-          wrote-step done (Write t x v) refl (λ w. refl) (λ w. refl) x.0 t.0
-          ∙ (ap (λ b. b && (is_active done t.0 && (list_any (writes t.0 x.0) done || writes t.0 x.0 (Write t x v)))) update
-          ∙ (ap (λ b. b && (list_any (writes t.0 x.0) done || writes t.0 x.0 (Write t x v))) act
-          ∙ or_right (list_any (writes t.0 x.0) done) (writes t.0 x.0 (Write t x v)) (and_from (t.0 == t.0) (x.0 == x.0) (eq-eqb t.0 t.0 refl) (eq-eqb x.0 x.0 refl))))
+          wrote-step events (Write t x v) refl (λ w. refl) (λ w. refl) x.0 t.0
+          ∙ (ap (λ b. b && (is_active events t.0 && (list_any (writes t.0 x.0) events || writes t.0 x.0 (Write t x v)))) update
+          ∙ (ap (λ b. b && (list_any (writes t.0 x.0) events || writes t.0 x.0 (Write t x v))) act
+          ∙ or_right (list_any (writes t.0 x.0) events) (writes t.0 x.0 (Write t x v)) (and_from (t.0 == t.0) (x.0 == x.0) (eq-eqb t.0 t.0 refl) (eq-eqb x.0 x.0 refl))))
 
 -- the end of a transaction
-module _ (done : List Event) (o : IsOrderly done) (e : Event) (none : beginning_of e ≡ None) (t : ℕ) (ends : (u : ℕ) → is_active (done ++ e ∷ []) u ≡ (is_active done u && not (t == u)))
+module _ (events : List Event) (o : IsOrderly events) (e : Event) (none : beginning_of e ≡ None) (t : ℕ) (ends : (u : ℕ) → is_active (events ++ e ∷ []) u ≡ (is_active events u && not (t == u)))
     (no_reads : (u x : ℕ) → reads u x e ≡ false) (no_writes : (u x : ℕ) → writes u x e ≡ false) (x : ℕ) where
   drops : (a b e' c : Bool) → (a && ((b && not e') && c)) ≡ ((a && (b && c)) && not e')
   drops true true true c = sym (and_right c false refl)
@@ -255,19 +255,19 @@ module _ (done : List Event) (o : IsOrderly done) (e : Event) (none : beginning_
   drops true false e' c = refl
   drops false b e' c = refl
 
-  wrote-end : (u : ℕ) → wrote (done ++ e ∷ []) x u ≡ (wrote done x u && not (t == u))
-  wrote-end u = rw (update-kept done e none u, ends u, any_push_no (writes u x) done e (no_writes u x)) (drops (is_update done u) (is_active done u) (t == u) (list_any (writes u x) done))
+  wrote-end : (u : ℕ) → wrote (events ++ e ∷ []) x u ≡ (wrote events x u && not (t == u))
+  wrote-end u = rw (update-kept events e none u, ends u, any_push_no (writes u x) events e (no_writes u x)) (drops (is_update events u) (is_active events u) (t == u) (list_any (writes u x) events))
 
-  read-end : (u : ℕ) → read_it (done ++ e ∷ []) x u ≡ (read_it done x u && not (t == u))
-  read-end u = rw (update-kept done e none u, ends u, any_push_no (reads u x) done e (no_reads u x)) (drops (is_update done u) (is_active done u) (t == u) (list_any (reads u x) done))
+  read-end : (u : ℕ) → read_it (events ++ e ∷ []) x u ≡ (read_it events x u && not (t == u))
+  read-end u = rw (update-kept events e none u, ends u, any_push_no (reads u x) events e (no_reads u x)) (drops (is_update events u) (is_active events u) (t == u) (list_any (reads u x) events))
 
-  count-end : (u : ℕ) → reads_of (done ++ e ∷ []) u x ≡ reads_of done u x
-  count-end u = sum_by_push (λ f. if reads u x f then 1 else 0) done e ∙ (ap (λ b. reads_of done u x + (if b then 1 else 0)) (no_reads u x) ∙ add-zero (reads_of done u x))
+  count-end : (u : ℕ) → reads_of (events ++ e ∷ []) u x ≡ reads_of events u x
+  count-end u = sum_by_push (λ f. if reads u x f then 1 else 0) events e ∙ (ap (λ b. reads_of events u x + (if b then 1 else 0)) (no_reads u x) ∙ add-zero (reads_of events u x))
 
-  query-end : (u : ℕ) → query_reads (done ++ e ∷ []) x u ≡ (if (is_query done u && holds_read done u x) && not (t == u) then Some (u, reads_of done u x) else None)
+  query-end : (u : ℕ) → query_reads (events ++ e ∷ []) x u ≡ (if (is_query events u && holds_read events u x) && not (t == u) then Some (u, reads_of events u x) else None)
   query-end u =
-      ap (λ n. if is_query (done ++ e ∷ []) u && holds_read (done ++ e ∷ []) u x then Some (u, n) else None) (count-end u)
-      ∙ ap (λ b. if b then Some (u, reads_of done u x) else None) (rw (query-kept done e none u, ends u, any_push_no (reads u x) done e (no_reads u x)) (drops (is_query done u) (is_active done u) (t == u) (list_any (reads u x) done)))
+      ap (λ n. if is_query (events ++ e ∷ []) u && holds_read (events ++ e ∷ []) u x then Some (u, n) else None) (count-end u)
+      ∙ ap (λ b. if b then Some (u, reads_of events u x) else None) (rw (query-kept events e none u, ends u, any_push_no (reads u x) events e (no_reads u x)) (drops (is_query events u) (is_active events u) (t == u) (list_any (reads u x) events)))
 
   stays_true : (b : Bool) (u : ℕ) → (u ≡ t → ⊥) → (b && not (t == u)) ≡ b
   stays_true b u ne = ap (λ c. b && not c) (ne_eqb t u (λ (f : t ≡ u). ne (sym f))) ∙ and-true b
@@ -275,47 +275,47 @@ module _ (done : List Event) (o : IsOrderly done) (e : Event) (none : beginning_
   gone : (b : Bool) → (b && not (t == t)) ≡ false
   gone b = ap (λ c. b && not c) (eq-eqb t t refl) ∙ and_right b false refl
 
-  pub locks-end : item_locks (done ++ e ∷ []) x ≡ released t (item_locks done x)
+  pub locks-end : item_locks (events ++ e ∷ []) x ≡ released t (item_locks events x)
   locks-end =
-      let r : filter (read_it (done ++ e ∷ []) x) (numbers (done ++ e ∷ [])) ≡ filter (λ u. not (u == t)) (filter (read_it done x) (numbers done)) =
-      ap (filter (read_it (done ++ e ∷ []) x)) (numbers-kept done e none)
-      ∙ (filter-filter_map (read_it (done ++ e ∷ []) x) (numbers done)
-      ∙ (filter_map_dropped (λ u. u) (kept_if (read_it done x)) (kept_if_own (read_it done x)) (kept_if (read_it (done ++ e ∷ []) x)) t
-      (λ u ne. ap (λ b. if b then Some u else None) (read-end u ∙ stays_true (read_it done x u) u ne))
-      (ap (λ b. if b then Some t else None) (read-end t ∙ gone (read_it done x t))) (numbers done)
-      ∙ ap (filter (λ u. not (u == t))) (sym (filter-filter_map (read_it done x) (numbers done))))) in
-      let q : filter_map (query_reads (done ++ e ∷ []) x) (numbers (done ++ e ∷ [])) ≡ filter (λ (p : ℕ × ℕ). not (p.0 == t)) (filter_map (query_reads done x) (numbers done)) =
-      ap (filter_map (query_reads (done ++ e ∷ []) x)) (numbers-kept done e none)
-      ∙ filter_map_dropped (λ (p : ℕ × ℕ). p.0) (query_reads done x) (query_reads_own done x) (query_reads (done ++ e ∷ []) x) t
-      (λ u ne. query-end u ∙ ap (λ b. if b then Some (u, reads_of done u x) else None) (stays_true (is_query done u && holds_read done u x) u ne))
-      (query-end t ∙ ap (λ b. if b then Some (t, reads_of done t x) else None) (gone (is_query done t && holds_read done t x))) (numbers done) in
-      locks_same (writer (done ++ e ∷ []) x) (if is_writer (item_locks done x) t then None else writer done x) (filter (read_it (done ++ e ∷ []) x) (numbers (done ++ e ∷ []))) (filter (λ u. not (u == t)) (filter (read_it done x) (numbers done)))
-      (filter_map (query_reads (done ++ e ∷ []) x) (numbers (done ++ e ∷ []))) (filter (λ (p : ℕ × ℕ). not (p.0 == t)) (filter_map (query_reads done x) (numbers done)))
-      (ap (find (wrote (done ++ e ∷ []) x)) (numbers-kept done e none) ∙ writers (wrote done x t) refl) r q
+      let r : filter (read_it (events ++ e ∷ []) x) (numbers (events ++ e ∷ [])) ≡ filter (λ u. not (u == t)) (filter (read_it events x) (numbers events)) =
+      ap (filter (read_it (events ++ e ∷ []) x)) (numbers-kept events e none)
+      ∙ (filter-filter_map (read_it (events ++ e ∷ []) x) (numbers events)
+      ∙ (filter_map_dropped (λ u. u) (kept_if (read_it events x)) (kept_if_own (read_it events x)) (kept_if (read_it (events ++ e ∷ []) x)) t
+      (λ u ne. ap (λ b. if b then Some u else None) (read-end u ∙ stays_true (read_it events x u) u ne))
+      (ap (λ b. if b then Some t else None) (read-end t ∙ gone (read_it events x t))) (numbers events)
+      ∙ ap (filter (λ u. not (u == t))) (sym (filter-filter_map (read_it events x) (numbers events))))) in
+      let q : filter_map (query_reads (events ++ e ∷ []) x) (numbers (events ++ e ∷ [])) ≡ filter (λ (p : ℕ × ℕ). not (p.0 == t)) (filter_map (query_reads events x) (numbers events)) =
+      ap (filter_map (query_reads (events ++ e ∷ []) x)) (numbers-kept events e none)
+      ∙ filter_map_dropped (λ (p : ℕ × ℕ). p.0) (query_reads events x) (query_reads_own events x) (query_reads (events ++ e ∷ []) x) t
+      (λ u ne. query-end u ∙ ap (λ b. if b then Some (u, reads_of events u x) else None) (stays_true (is_query events u && holds_read events u x) u ne))
+      (query-end t ∙ ap (λ b. if b then Some (t, reads_of events t x) else None) (gone (is_query events t && holds_read events t x))) (numbers events) in
+      locks_same (writer (events ++ e ∷ []) x) (if is_writer (item_locks events x) t then None else writer events x) (filter (read_it (events ++ e ∷ []) x) (numbers (events ++ e ∷ []))) (filter (λ u. not (u == t)) (filter (read_it events x) (numbers events)))
+      (filter_map (query_reads (events ++ e ∷ []) x) (numbers (events ++ e ∷ []))) (filter (λ (p : ℕ × ℕ). not (p.0 == t)) (filter_map (query_reads events x) (numbers events)))
+      (ap (find (wrote (events ++ e ∷ []) x)) (numbers-kept events e none) ∙ writers (wrote events x t) refl) r q
     where
-      writers : (b : Bool) → wrote done x t ≡ b → find (wrote (done ++ e ∷ []) x) (numbers done) ≡ (if is_writer (item_locks done x) t then None else writer done x)
+      writers : (b : Bool) → wrote events x t ≡ b → find (wrote (events ++ e ∷ []) x) (numbers events) ≡ (if is_writer (item_locks events x) t then None else writer events x)
       writers true is =
-          nobody (numbers done) ∙ ap (λ b. if b then None else writer done x) (sym (writer_is done o x t ∙ is))
+          nobody (numbers events) ∙ ap (λ b. if b then None else writer events x) (sym (writer_is events o x t ∙ is))
         where
-          fails : (u : ℕ) → wrote (done ++ e ∷ []) x u ≡ false
+          fails : (u : ℕ) → wrote (events ++ e ∷ []) x u ≡ false
           fails u =
               elim (cases_eq u t) [
-                | inl same ↦ ap (wrote (done ++ e ∷ []) x) same ∙ (wrote-end t ∙ gone (wrote done x t))
-                | inr ne ↦ wrote-end u ∙ (stays_true (wrote done x u) u ne ∙ false_from_ne_true (wrote done x u) (λ it. ne (one_writer done o x u t it is)))
+                | inl same ↦ ap (wrote (events ++ e ∷ []) x) same ∙ (wrote-end t ∙ gone (wrote events x t))
+                | inr ne ↦ wrote-end u ∙ (stays_true (wrote events x u) u ne ∙ false_from_ne_true (wrote events x u) (λ it. ne (one_writer events o x u t it is)))
               ]
 
-          nobody : (us : List ℕ) → find (wrote (done ++ e ∷ []) x) us ≡ None
+          nobody : (us : List ℕ) → find (wrote (events ++ e ∷ []) x) us ≡ None
           nobody [] = refl
           nobody (u ∷ us) = rw (fails u) (nobody us)
       writers false isnt =
-          find_same (wrote (done ++ e ∷ []) x) (wrote done x) same (numbers done)
-          ∙ ap (λ b. if b then None else writer done x) (sym (writer_is done o x t ∙ isnt))
+          find_same (wrote (events ++ e ∷ []) x) (wrote events x) same (numbers events)
+          ∙ ap (λ b. if b then None else writer events x) (sym (writer_is events o x t ∙ isnt))
         where
-          same : (u : ℕ) → wrote (done ++ e ∷ []) x u ≡ wrote done x u
+          same : (u : ℕ) → wrote (events ++ e ∷ []) x u ≡ wrote events x u
           same u =
               elim (cases_eq u t) [
-                | inl is ↦ ap (wrote (done ++ e ∷ []) x) is ∙ (wrote-end t ∙ (gone (wrote done x t) ∙ (sym isnt ∙ ap (wrote done x) (sym is))))
-                | inr ne ↦ wrote-end u ∙ stays_true (wrote done x u) u ne
+                | inl is ↦ ap (wrote (events ++ e ∷ []) x) is ∙ (wrote-end t ∙ (gone (wrote events x t) ∙ (sym isnt ∙ ap (wrote events x) (sym is))))
+                | inr ne ↦ wrote-end u ∙ stays_true (wrote events x u) u ne
               ]
 
 -- a begin
@@ -330,84 +330,84 @@ find_longer p a n fails = ap (find p) (range-push a n) ∙ at (range_with_len a 
           | inr isnt ↦ rw isnt (at us)
         ]
 
-module _ (done : List Event) (o : IsOrderly done) (e : Event) (b : Beginning) (is : IsBegin e b) (x : ℕ) where
-  longer : numbers (done ++ e ∷ []) ≡ range_with_len 1 (length (beginnings done) + 1)
-  longer = ap (λ (bs : List Beginning). range_with_len 1 (length bs)) (beginnings-begin done e b is) ∙ ap (range_with_len 1) (length-append (beginnings done) (b ∷ []))
+module _ (events : List Event) (o : IsOrderly events) (e : Event) (b : Beginning) (is : IsBegin e b) (x : ℕ) where
+  longer : numbers (events ++ e ∷ []) ≡ range_with_len 1 (length (beginnings events) + 1)
+  longer = ap (λ (bs : List Beginning). range_with_len 1 (length bs)) (beginnings-begin events e b is) ∙ ap (range_with_len 1) (length-append (beginnings events) (b ∷ []))
 
-  holds-read : (u : ℕ) → holds_read (done ++ e ∷ []) u x ≡ holds_read done u x
-  holds-read u = held-begin done o e (reads u x) u is.commits_none is.aborts_none (is.reads_none u x) (reads_name u x)
+  holds-read : (u : ℕ) → holds_read (events ++ e ∷ []) u x ≡ holds_read events u x
+  holds-read u = held-begin events o e (reads u x) u is.commits_none is.aborts_none (is.reads_none u x) (reads_name u x)
 
-  holds-write : (u : ℕ) → holds_write (done ++ e ∷ []) u x ≡ holds_write done u x
-  holds-write u = held-begin done o e (writes u x) u is.commits_none is.aborts_none (is.writes_none u x) (writes_name u x)
+  holds-write : (u : ℕ) → holds_write (events ++ e ∷ []) u x ≡ holds_write events u x
+  holds-write u = held-begin events o e (writes u x) u is.commits_none is.aborts_none (is.writes_none u x) (writes_name u x)
 
   -- who holds a lock has begun, as before
-  kind-same : (k : Option Beginning → Bool) (u : ℕ) (p : Bool) → (p ≡ true → is_begun done u ≡ true) → (k (beginning (done ++ e ∷ []) u) && p) ≡ (k (beginning done u) && p)
-  kind-same k u true begun = ap (λ w. k w && true) (beginning-begin done e u (begun refl))
-  kind-same k u false begun = and_right (k (beginning (done ++ e ∷ []) u)) false refl ∙ sym (and_right (k (beginning done u)) false refl)
+  kind-same : (k : Option Beginning → Bool) (u : ℕ) (p : Bool) → (p ≡ true → is_begun events u ≡ true) → (k (beginning (events ++ e ∷ []) u) && p) ≡ (k (beginning events u) && p)
+  kind-same k u true begun = ap (λ w. k w && true) (beginning-begin events e u (begun refl))
+  kind-same k u false begun = and_right (k (beginning (events ++ e ∷ []) u)) false refl ∙ sym (and_right (k (beginning events u)) false refl)
 
-  begun_holder : (u : ℕ) (p : Bool) → (is_active done u && p) ≡ true → is_begun done u ≡ true
-  begun_holder u p held = (active_parts done u (and_parts (is_active done u) p held).0).0
+  begun_holder : (u : ℕ) (p : Bool) → (is_active events u && p) ≡ true → is_begun events u ≡ true
+  begun_holder u p held = (active_parts events u (and_parts (is_active events u) p held).0).0
 
-  wrote-begin : (u : ℕ) → wrote (done ++ e ∷ []) x u ≡ wrote done x u
-  wrote-begin u = ap (λ p. is_update (done ++ e ∷ []) u && p) (holds-write u) ∙ kind-same (λ w. unwrap_or (option_map (λ c. not c.query) w) false) u (holds_write done u x) (begun_holder u (list_any (writes u x) done))
+  wrote-begin : (u : ℕ) → wrote (events ++ e ∷ []) x u ≡ wrote events x u
+  wrote-begin u = ap (λ p. is_update (events ++ e ∷ []) u && p) (holds-write u) ∙ kind-same (λ w. unwrap_or (option_map (λ c. not c.query) w) false) u (holds_write events u x) (begun_holder u (list_any (writes u x) events))
 
-  read-begin : (u : ℕ) → read_it (done ++ e ∷ []) x u ≡ read_it done x u
-  read-begin u = ap (λ p. is_update (done ++ e ∷ []) u && p) (holds-read u) ∙ kind-same (λ w. unwrap_or (option_map (λ c. not c.query) w) false) u (holds_read done u x) (begun_holder u (list_any (reads u x) done))
+  read-begin : (u : ℕ) → read_it (events ++ e ∷ []) x u ≡ read_it events x u
+  read-begin u = ap (λ p. is_update (events ++ e ∷ []) u && p) (holds-read u) ∙ kind-same (λ w. unwrap_or (option_map (λ c. not c.query) w) false) u (holds_read events u x) (begun_holder u (list_any (reads u x) events))
 
-  query-begin : (u : ℕ) → query_reads (done ++ e ∷ []) x u ≡ query_reads done x u
+  query-begin : (u : ℕ) → query_reads (events ++ e ∷ []) x u ≡ query_reads events x u
   query-begin u =
-      ap (λ n. if is_query (done ++ e ∷ []) u && holds_read (done ++ e ∷ []) u x then Some (u, n) else None) (sum_by_push (λ f. if reads u x f then 1 else 0) done e ∙ (ap (λ c. reads_of done u x + (if c then 1 else 0)) (is.reads_none u x) ∙ add-zero (reads_of done u x)))
-      ∙ ap (λ p. if p then Some (u, reads_of done u x) else None) (ap (λ p. is_query (done ++ e ∷ []) u && p) (holds-read u) ∙ kind-same (λ w. unwrap_or (option_map (λ c. c.query) w) false) u (holds_read done u x) (begun_holder u (list_any (reads u x) done)))
+      ap (λ n. if is_query (events ++ e ∷ []) u && holds_read (events ++ e ∷ []) u x then Some (u, n) else None) (sum_by_push (λ f. if reads u x f then 1 else 0) events e ∙ (ap (λ c. reads_of events u x + (if c then 1 else 0)) (is.reads_none u x) ∙ add-zero (reads_of events u x)))
+      ∙ ap (λ p. if p then Some (u, reads_of events u x) else None) (ap (λ p. is_query (events ++ e ∷ []) u && p) (holds-read u) ∙ kind-same (λ w. unwrap_or (option_map (λ c. c.query) w) false) u (holds_read events u x) (begun_holder u (list_any (reads u x) events)))
 
-  pub locks-begin : item_locks (done ++ e ∷ []) x ≡ item_locks done x
+  pub locks-begin : item_locks (events ++ e ∷ []) x ≡ item_locks events x
   locks-begin =
-      let n = length (beginnings done) in
+      let n = length (beginnings events) in
       let number : 1 + n ≡ suc n = omega arith in
-      let no_write : holds_write done (1 + n) x ≡ false = ap (λ k. holds_write done k x) number ∙ and_right (is_active done (suc n)) (list_any (writes (suc n) x) done) (not_named done o (writes (suc n) x) (writes_name (suc n) x)) in
-      let no_read : holds_read done (1 + n) x ≡ false = ap (λ k. holds_read done k x) number ∙ and_right (is_active done (suc n)) (list_any (reads (suc n) x) done) (not_named done o (reads (suc n) x) (reads_name (suc n) x)) in
-      let w : writer (done ++ e ∷ []) x ≡ writer done x =
-      ap (find (wrote (done ++ e ∷ []) x)) longer
-      ∙ (find_same (wrote (done ++ e ∷ []) x) (wrote done x) wrote-begin (range_with_len 1 (n + 1))
-      ∙ find_longer (wrote done x) 1 n (and_right (is_update done (1 + n)) (holds_write done (1 + n) x) no_write)) in
-      let r : filter (read_it (done ++ e ∷ []) x) (numbers (done ++ e ∷ [])) ≡ filter (read_it done x) (numbers done) =
-      ap (filter (read_it (done ++ e ∷ []) x)) longer
-      ∙ (filter_agree (read_it (done ++ e ∷ []) x) (read_it done x) read-begin (range_with_len 1 (n + 1))
-      ∙ (ap (filter (read_it done x)) (range-push 1 n)
-      ∙ (filter-append (read_it done x) (numbers done) ((1 + n) ∷ [])
-      ∙ (ap (λ c. filter (read_it done x) (numbers done) ++ (if c then (1 + n) ∷ [] else [])) (and_right (is_update done (1 + n)) (holds_read done (1 + n) x) no_read)
-      ∙ append-nil (filter (read_it done x) (numbers done)))))) in
-      let q : filter_map (query_reads (done ++ e ∷ []) x) (numbers (done ++ e ∷ [])) ≡ filter_map (query_reads done x) (numbers done) =
-      ap (filter_map (query_reads (done ++ e ∷ []) x)) longer
-      ∙ (filter_map_agree (query_reads (done ++ e ∷ []) x) (query_reads done x) query-begin (range_with_len 1 (n + 1))
-      ∙ (ap (filter_map (query_reads done x)) (range-push 1 n)
-      ∙ filter_map_push_none (query_reads done x) (numbers done) (1 + n) (ap (λ c. if c then Some (1 + n, reads_of done (1 + n) x) else None) (and_right (is_query done (1 + n)) (holds_read done (1 + n) x) no_read)))) in
-      locks_same (writer (done ++ e ∷ []) x) (writer done x) (filter (read_it (done ++ e ∷ []) x) (numbers (done ++ e ∷ []))) (filter (read_it done x) (numbers done)) (filter_map (query_reads (done ++ e ∷ []) x) (numbers (done ++ e ∷ []))) (filter_map (query_reads done x) (numbers done)) w r q
+      let no_write : holds_write events (1 + n) x ≡ false = ap (λ k. holds_write events k x) number ∙ and_right (is_active events (suc n)) (list_any (writes (suc n) x) events) (not_named events o (writes (suc n) x) (writes_name (suc n) x)) in
+      let no_read : holds_read events (1 + n) x ≡ false = ap (λ k. holds_read events k x) number ∙ and_right (is_active events (suc n)) (list_any (reads (suc n) x) events) (not_named events o (reads (suc n) x) (reads_name (suc n) x)) in
+      let w : writer (events ++ e ∷ []) x ≡ writer events x =
+      ap (find (wrote (events ++ e ∷ []) x)) longer
+      ∙ (find_same (wrote (events ++ e ∷ []) x) (wrote events x) wrote-begin (range_with_len 1 (n + 1))
+      ∙ find_longer (wrote events x) 1 n (and_right (is_update events (1 + n)) (holds_write events (1 + n) x) no_write)) in
+      let r : filter (read_it (events ++ e ∷ []) x) (numbers (events ++ e ∷ [])) ≡ filter (read_it events x) (numbers events) =
+      ap (filter (read_it (events ++ e ∷ []) x)) longer
+      ∙ (filter_agree (read_it (events ++ e ∷ []) x) (read_it events x) read-begin (range_with_len 1 (n + 1))
+      ∙ (ap (filter (read_it events x)) (range-push 1 n)
+      ∙ (filter-append (read_it events x) (numbers events) ((1 + n) ∷ [])
+      ∙ (ap (λ c. filter (read_it events x) (numbers events) ++ (if c then (1 + n) ∷ [] else [])) (and_right (is_update events (1 + n)) (holds_read events (1 + n) x) no_read)
+      ∙ append-nil (filter (read_it events x) (numbers events)))))) in
+      let q : filter_map (query_reads (events ++ e ∷ []) x) (numbers (events ++ e ∷ [])) ≡ filter_map (query_reads events x) (numbers events) =
+      ap (filter_map (query_reads (events ++ e ∷ []) x)) longer
+      ∙ (filter_map_agree (query_reads (events ++ e ∷ []) x) (query_reads events x) query-begin (range_with_len 1 (n + 1))
+      ∙ (ap (filter_map (query_reads events x)) (range-push 1 n)
+      ∙ filter_map_push_none (query_reads events x) (numbers events) (1 + n) (ap (λ c. if c then Some (1 + n, reads_of events (1 + n) x) else None) (and_right (is_query events (1 + n)) (holds_read events (1 + n) x) no_read)))) in
+      locks_same (writer (events ++ e ∷ []) x) (writer events x) (filter (read_it (events ++ e ∷ []) x) (numbers (events ++ e ∷ []))) (filter (read_it events x) (numbers events)) (filter_map (query_reads (events ++ e ∷ []) x) (numbers (events ++ e ∷ []))) (filter_map (query_reads events x) (numbers events)) w r q
 
 -- The locks on all items, after each event.
 
-pub all-begin : (done : List Event) → IsOrderly done → (e : Event) (b : Beginning) → IsBegin e b → (n : ℕ) → locks_of (done ++ e ∷ []) n ≡ locks_of done n
-all-begin done o e b is n = map_same (item_locks (done ++ e ∷ [])) (item_locks done) 0 n (λ x low high. locks-begin done o e b is x)
+pub all-begin : (events : List Event) → IsOrderly events → (e : Event) (b : Beginning) → IsBegin e b → (n : ℕ) → locks_of (events ++ e ∷ []) n ≡ locks_of events n
+all-begin events o e b is n = map_same (item_locks (events ++ e ∷ [])) (item_locks events) 0 n (λ x low high. locks-begin events o e b is x)
 
-one_item : (done : List Event) (e : Event) (n x : ℕ) (f : ItemLocks → ItemLocks) → x < n → item_locks (done ++ e ∷ []) x ≡ f (item_locks done x) → ((y : ℕ) → (y ≡ x → ⊥) → item_locks (done ++ e ∷ []) y ≡ item_locks done y)
-    → set (locks_of done n) x (f (locks_at (locks_of done n) x)) ≡ locks_of (done ++ e ∷ []) n
-one_item done e n x f l here other = grind (arith, set_range, locks_here)
+one_item : (events : List Event) (e : Event) (n x : ℕ) (f : ItemLocks → ItemLocks) → x < n → item_locks (events ++ e ∷ []) x ≡ f (item_locks events x) → ((y : ℕ) → (y ≡ x → ⊥) → item_locks (events ++ e ∷ []) y ≡ item_locks events y)
+    → set (locks_of events n) x (f (locks_at (locks_of events n) x)) ≡ locks_of (events ++ e ∷ []) n
+one_item events e n x f l here other = grind (arith, set_range, locks_here)
 
-pub all-read : (done : List Event) (t : TxnId) (x : ItemId) (n : ℕ) → x.0 < n → is_update done t.0 ≡ true → is_active done t.0 ≡ true → set (locks_of done n) x.0 (with_reader t.0 (locks_at (locks_of done n) x.0)) ≡ locks_of (done ++ Read t x ∷ []) n
-all-read done t x n l update act =
-    one_item done (Read t x) n x.0 (with_reader t.0) l (locks-read done t x update act)
-    (λ y ne. locks-other done (Read t x) refl (λ w. refl) (λ w. refl) y (λ u. refl) (λ u. and_right (t.0 == u) (x.0 == y) (ne_eqb x.0 y (λ (f : x.0 ≡ y). ne (sym f)))))
+pub all-read : (events : List Event) (t : TxnId) (x : ItemId) (n : ℕ) → x.0 < n → is_update events t.0 ≡ true → is_active events t.0 ≡ true → set (locks_of events n) x.0 (with_reader t.0 (locks_at (locks_of events n) x.0)) ≡ locks_of (events ++ Read t x ∷ []) n
+all-read events t x n l update act =
+    one_item events (Read t x) n x.0 (with_reader t.0) l (locks-read events t x update act)
+    (λ y ne. locks-other events (Read t x) refl (λ w. refl) (λ w. refl) y (λ u. refl) (λ u. and_right (t.0 == u) (x.0 == y) (ne_eqb x.0 y (λ (f : x.0 ≡ y). ne (sym f)))))
 
-pub all-query : (done : List Event) (t : TxnId) (x : ItemId) (n : ℕ) → x.0 < n → is_query done t.0 ≡ true → is_active done t.0 ≡ true → set (locks_of done n) x.0 (with_query_read t.0 (locks_at (locks_of done n) x.0)) ≡ locks_of (done ++ Read t x ∷ []) n
-all-query done t x n l query act =
-    one_item done (Read t x) n x.0 (with_query_read t.0) l (locks-query done t x query act)
-    (λ y ne. locks-other done (Read t x) refl (λ w. refl) (λ w. refl) y (λ u. refl) (λ u. and_right (t.0 == u) (x.0 == y) (ne_eqb x.0 y (λ (f : x.0 ≡ y). ne (sym f)))))
+pub all-query : (events : List Event) (t : TxnId) (x : ItemId) (n : ℕ) → x.0 < n → is_query events t.0 ≡ true → is_active events t.0 ≡ true → set (locks_of events n) x.0 (with_query_read t.0 (locks_at (locks_of events n) x.0)) ≡ locks_of (events ++ Read t x ∷ []) n
+all-query events t x n l query act =
+    one_item events (Read t x) n x.0 (with_query_read t.0) l (locks-query events t x query act)
+    (λ y ne. locks-other events (Read t x) refl (λ w. refl) (λ w. refl) y (λ u. refl) (λ u. and_right (t.0 == u) (x.0 == y) (ne_eqb x.0 y (λ (f : x.0 ≡ y). ne (sym f)))))
 
-pub all-write : (done : List Event) (t : TxnId) (x : ItemId) (v : ℤ) (n : ℕ) → x.0 < n → IsOrderly (done ++ Write t x v ∷ []) → is_update done t.0 ≡ true → is_active done t.0 ≡ true → set (locks_of done n) x.0 (with_writer t.0 (locks_at (locks_of done n) x.0)) ≡ locks_of (done ++ Write t x v ∷ []) n
-all-write done t x v n l o update act =
-    one_item done (Write t x v) n x.0 (with_writer t.0) l (locks-write done t x v o update act)
-    (λ y ne. locks-other done (Write t x v) refl (λ w. refl) (λ w. refl) y (λ u. and_right (t.0 == u) (x.0 == y) (ne_eqb x.0 y (λ (f : x.0 ≡ y). ne (sym f)))) (λ u. refl))
+pub all-write : (events : List Event) (t : TxnId) (x : ItemId) (v : ℤ) (n : ℕ) → x.0 < n → IsOrderly (events ++ Write t x v ∷ []) → is_update events t.0 ≡ true → is_active events t.0 ≡ true → set (locks_of events n) x.0 (with_writer t.0 (locks_at (locks_of events n) x.0)) ≡ locks_of (events ++ Write t x v ∷ []) n
+all-write events t x v n l o update act =
+    one_item events (Write t x v) n x.0 (with_writer t.0) l (locks-write events t x v o update act)
+    (λ y ne. locks-other events (Write t x v) refl (λ w. refl) (λ w. refl) y (λ u. and_right (t.0 == u) (x.0 == y) (ne_eqb x.0 y (λ (f : x.0 ≡ y). ne (sym f)))) (λ u. refl))
 
-pub all-end : (done : List Event) → IsOrderly done → (e : Event) → beginning_of e ≡ None → (t : ℕ) → ((u : ℕ) → is_active (done ++ e ∷ []) u ≡ (is_active done u && not (t == u)))
-    → ((u x : ℕ) → reads u x e ≡ false) → ((u x : ℕ) → writes u x e ≡ false) → (n : ℕ) → map (released t) (locks_of done n) ≡ locks_of (done ++ e ∷ []) n
-all-end done o e none t ends r w n =
-    map-map (released t) (item_locks done) (range_with_len 0 n) ∙ map_same (λ x. released t (item_locks done x)) (item_locks (done ++ e ∷ [])) 0 n (λ x low high. sym (locks-end done o e none t ends r w x))
+pub all-end : (events : List Event) → IsOrderly events → (e : Event) → beginning_of e ≡ None → (t : ℕ) → ((u : ℕ) → is_active (events ++ e ∷ []) u ≡ (is_active events u && not (t == u)))
+    → ((u x : ℕ) → reads u x e ≡ false) → ((u x : ℕ) → writes u x e ≡ false) → (n : ℕ) → map (released t) (locks_of events n) ≡ locks_of (events ++ e ∷ []) n
+all-end events o e none t ends r w n =
+    map-map (released t) (item_locks events) (range_with_len 0 n) ∙ map_same (λ x. released t (item_locks events x)) (item_locks (events ++ e ∷ [])) 0 n (λ x low high. sym (locks-end events o e none t ends r w x))

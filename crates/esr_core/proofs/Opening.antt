@@ -10,7 +10,7 @@ use Rattle.esr_history.proofs.Sides.{charges_kinds, no_import, no_export}
 use Rattle.esr_history.proofs.Words.{query_not_update}
 use Rattle.esr_ledgers.specs.declared.account.Account.{Account}
 use Rattle.esr_ledgers.specs.Books.{imports, exports}
-use Rattle.esr_core.specs.Tied.{account_after, books_of}
+use Rattle.esr_core.specs.Represented.{account_after, books_of}
 
 -- the sums of the accounts are those of the transactions
 module _ (d : ℕ → ℤ → ℤ → ℕ) (opening : List ℤ) (events : List Event) where

@@ -11,7 +11,7 @@ use Rattle.esr_history.specs.Serial.{committed_updates, state, values_by}
 use Rattle.esr_history.proofs.Laws.{legal_serializable}
 use Rattle.esr_history.specs.ItemLocks.{ItemLocks}
 use Rattle.esr_ledgers.specs.declared.account.Account.{Account}
-use Rattle.esr_core.specs.Tied.{IsTied, transaction_after, transactions_after, Transaction}
+use Rattle.esr_core.specs.Represented.{Represents, transaction_after, transactions_after, Transaction}
 use Rattle.esr_core.specs.Renewed.{committed_values, state_over, AreSerializableAsOne}
 
 -- the rows of active transactions
@@ -24,14 +24,14 @@ active_rows events = active_in events (numbers events)
 
 -- the committed values of a state, in their order
 pub tied_values : (d : ℕ → ℤ → ℤ → ℕ) (opening : List ℤ) (events : List Event) (items : List Versions) (table : List Transaction) (locks : List ItemLocks) (accounts : List Account)
-    → IsTied d opening events items table locks accounts → map (λ (w : Versions). w.committed) items ≡ map (committed_value opening events) (range_with_len 0 (length opening))
-tied_values d opening events items table locks accounts tie =
+    → Represents d opening events items table locks accounts → map (λ (w : Versions). w.committed) items ≡ map (committed_value opening events) (range_with_len 0 (length opening))
+tied_values d opening events items table locks accounts rep =
     let f : ℕ → ℤ = committed_value opening events in
-    let long : length (map (λ (w : Versions). w.committed) items) ≡ length opening = length-map items (λ (w : Versions). w.committed) ∙ tie.count in
+    let long : length (map (λ (w : Versions). w.committed) items) ≡ length opening = length-map items (λ (w : Versions). w.committed) ∙ rep.count in
     same_lists (map (λ (w : Versions). w.committed) items) (map f (range_with_len 0 (length opening))) (long ∙ sym (length-map-range_with_len f 0 (length opening))) (λ x e l.
     let in_opening : x < length opening = rw (← long) l in
-    get_or-map (λ (w : Versions). w.committed) items x (both_versions (pos 0)) e (rw tie.count in_opening)
-    ∙ (tie.committed x in_opening ∙ sym (get_or-map-range_with_len f 0 (length opening) x x e in_opening (omega arith))))
+    get_or-map (λ (w : Versions). w.committed) items x (both_versions (pos 0)) e (rw rep.count in_opening)
+    ∙ (rep.committed x in_opening ∙ sym (get_or-map-range_with_len f 0 (length opening) x x e in_opening (omega arith))))
 
 module _ (d : Distance) (h k : Schedule) (first : IsLegal d h) (second : IsLegal d k) (opens : k.opening ≡ committed_values h) where
   -- the second opens as the first leaves its items

@@ -8,25 +8,25 @@ use Rattle.std.proofs.lemmas.List.Sums.{sum_by_push}
 use Rattle.std.proofs.lemmas.List.{length_push}
 use Rattle.esr_core.specs.Words.{Event, Read, AlreadyEnded, NoSuchTransaction}
 use Rattle.esr_history.specs.Events.{Beginning, kind_of, beginning_of, beginnings, numbers, commits, aborts, reads_any, is_active, is_begun, is_query, all_reads_of}
-use Rattle.esr_history.specs.Machine.{Schedule, done, when, first_reason, not_begun, ended}
+use Rattle.esr_history.specs.Machine.{Schedule, accepted_in, when, first_reason, not_begun, ended}
 use Rattle.esr_history.specs.Orderly.{IsOrderly, names}
 use Rattle.esr_history.proofs.Lists.{any_push_no}
 use Rattle.esr_history.proofs.Ranges.{map_same, set_range}
 use Rattle.esr_history.proofs.Reaches.{count_none}
 use Rattle.esr_history.proofs.Orderly.{names_aborter}
-use Rattle.esr_core.specs.Tied.{transaction_after, transactions_after, Transaction}
+use Rattle.esr_core.specs.Represented.{transaction_after, transactions_after, Transaction}
 use Rattle.esr_core.proofs.Held.{active-kept, active-same, IsBegin, numbers-kept, query-kept, beginnings-begin, beginning-begin, beginning-new, not_named, commits_name}
 
 -- there is a row for each transaction
-pub rows_len : (done : List Event) (table : List Transaction) → table ≡ transactions_after done → length table ≡ length (beginnings done)
-rows_len done table is = ap length is ∙ length-map-range_with_len (transaction_after done) 1 (length (beginnings done))
+pub rows_len : (accepted_in : List Event) (table : List Transaction) → table ≡ transactions_after accepted_in → length table ≡ length (beginnings accepted_in)
+rows_len accepted_in table is = ap length is ∙ length-map-range_with_len (transaction_after accepted_in) 1 (length (beginnings accepted_in))
 
-pub row_is : (done : List Event) (table : List Transaction) → table ≡ transactions_after done → (k : ℕ) (r : Transaction) → k < length table → r ≡ get_or table k r → r ≡ transaction_after done (suc k)
-row_is done table is k r l at =
-    at ∙ (ap (λ (rs : List Transaction). get_or rs k r) is ∙ get_or-map-range_with_len (transaction_after done) 1 (length (beginnings done)) k (suc k) r (rw (← rows_len done table is) l) (omega arith))
+pub row_is : (accepted_in : List Event) (table : List Transaction) → table ≡ transactions_after accepted_in → (k : ℕ) (r : Transaction) → k < length table → r ≡ get_or table k r → r ≡ transaction_after accepted_in (suc k)
+row_is accepted_in table is k r l at =
+    at ∙ (ap (λ (rs : List Transaction). get_or rs k r) is ∙ get_or-map-range_with_len (transaction_after accepted_in) 1 (length (beginnings accepted_in)) k (suc k) r (rw (← rows_len accepted_in table is) l) (omega arith))
 
-pub begun_at : (done : List Event) (k : ℕ) → k < length (beginnings done) → is_begun done (suc k) ≡ true
-begun_at done k l = some (beginnings done) k l
+pub begun_at : (accepted_in : List Event) (k : ℕ) → k < length (beginnings accepted_in) → is_begun accepted_in (suc k) ≡ true
+begun_at accepted_in k l = some (beginnings accepted_in) k l
   where
     some : (xs : List Beginning) (j : ℕ) → j < length xs → is_some (slice_get xs j) ≡ true
     some [] j l = absurd (omega arith)
@@ -39,14 +39,14 @@ reason_at true false b = refl
 reason_at false act b = absurd (false≢true b)
 
 -- what the table says of a transaction
-module _ (h : Schedule) (table : List Transaction) (is : table ≡ transactions_after (done h)) where
+module _ (h : Schedule) (table : List Transaction) (is : table ≡ transactions_after (accepted_in h)) where
   pub row_reason : (k : ℕ) (r : Transaction) → k < length table → r ≡ get_or table k r → first_reason (not_begun h (suc k) ∷ ended h (suc k) ∷ []) ≡ (if r.active then None else Some AlreadyEnded)
   row_reason k r l at =
-      reason_at (is_begun (done h) (suc k)) (is_active (done h) (suc k)) (begun_at (done h) k (rw (← rows_len (done h) table is) l))
-      ∙ ap (λ (q : Transaction). if q.active then None else Some AlreadyEnded) (sym (row_is (done h) table is k r l at))
+      reason_at (is_begun (accepted_in h) (suc k)) (is_active (accepted_in h) (suc k)) (begun_at (accepted_in h) k (rw (← rows_len (accepted_in h) table is) l))
+      ∙ ap (λ (q : Transaction). if q.active then None else Some AlreadyEnded) (sym (row_is (accepted_in h) table is k r l at))
 
   pub no_row_reason : (k : ℕ) → length table ≤ k → first_reason (not_begun h (suc k) ∷ ended h (suc k) ∷ []) ≡ Some NoSuchTransaction
-  no_row_reason k l = rw (slice_get_past (beginnings (done h)) k (rw (← rows_len (done h) table is) l)) refl
+  no_row_reason k l = rw (slice_get_past (beginnings (accepted_in h)) k (rw (← rows_len (accepted_in h) table is) l)) refl
 
 abbrev row : Bool → Bool → ℕ → Transaction
 row q a n = record { kind = kind_of q; active = a; reads = if q then n else 0 }
@@ -59,89 +59,89 @@ reads_any_name t (Read u y) is = is
 reads_any_name t _ is = absurd (false≢true is)
 
 -- the table after a begin
-pub rows-begin : (done : List Event) → IsOrderly done → (e : Event) (b : Beginning) → IsBegin e b → (table : List Transaction) → table ≡ transactions_after done
-    → table ++ record { kind = kind_of b.query; active = true; reads = 0 } ∷ [] ≡ transactions_after (done ++ e ∷ [])
-rows-begin done o e b is table was =
+pub rows-begin : (accepted_in : List Event) → IsOrderly accepted_in → (e : Event) (b : Beginning) → IsBegin e b → (table : List Transaction) → table ≡ transactions_after accepted_in
+    → table ++ record { kind = kind_of b.query; active = true; reads = 0 } ∷ [] ≡ transactions_after (accepted_in ++ e ∷ [])
+rows-begin accepted_in o e b is table was =
     ap (λ (rs : List Transaction). rs ++ record { kind = kind_of b.query; active = true; reads = 0 } ∷ []) was
-    ∙ (ap (λ (rs : List Transaction). rs ++ record { kind = kind_of b.query; active = true; reads = 0 } ∷ []) (map_same (transaction_after done) (transaction_after (done ++ e ∷ [])) 1 (length (beginnings done)) same)
-    ∙ (ap (λ (r : Transaction). map (transaction_after (done ++ e ∷ [])) (numbers done) ++ r ∷ []) new
-    ∙ (sym (map-range_with_len_more (transaction_after (done ++ e ∷ [])) 1 (length (beginnings done)) (suc (length (beginnings done))) (omega arith))
-    ∙ ap (λ n. map (transaction_after (done ++ e ∷ [])) (range_with_len 1 n)) (sym (longer)))))
+    ∙ (ap (λ (rs : List Transaction). rs ++ record { kind = kind_of b.query; active = true; reads = 0 } ∷ []) (map_same (transaction_after accepted_in) (transaction_after (accepted_in ++ e ∷ [])) 1 (length (beginnings accepted_in)) same)
+    ∙ (ap (λ (r : Transaction). map (transaction_after (accepted_in ++ e ∷ [])) (numbers accepted_in) ++ r ∷ []) new
+    ∙ (sym (map-range_with_len_more (transaction_after (accepted_in ++ e ∷ [])) 1 (length (beginnings accepted_in)) (suc (length (beginnings accepted_in))) (omega arith))
+    ∙ ap (λ n. map (transaction_after (accepted_in ++ e ∷ [])) (range_with_len 1 n)) (sym (longer)))))
   where
-    longer : length (beginnings (done ++ e ∷ [])) ≡ length (beginnings done) + 1
-    longer = ap length (beginnings-begin done e b is) ∙ length_push (beginnings done) b
+    longer : length (beginnings (accepted_in ++ e ∷ [])) ≡ length (beginnings accepted_in) + 1
+    longer = ap length (beginnings-begin accepted_in e b is) ∙ length_push (beginnings accepted_in) b
 
-    no_more : (t : ℕ) → all_reads_of (done ++ e ∷ []) t ≡ all_reads_of done t
-    no_more t = sum_by_push (λ f. if reads_any t f then 1 else 0) done e ∙ rw (is.reads_any_none t) (omega arith)
+    no_more : (t : ℕ) → all_reads_of (accepted_in ++ e ∷ []) t ≡ all_reads_of accepted_in t
+    no_more t = sum_by_push (λ f. if reads_any t f then 1 else 0) accepted_in e ∙ rw (is.reads_any_none t) (omega arith)
 
-    same : (t : ℕ) → 1 ≤ t → t < 1 + length (beginnings done) → transaction_after done t ≡ transaction_after (done ++ e ∷ []) t
+    same : (t : ℕ) → 1 ≤ t → t < 1 + length (beginnings accepted_in) → transaction_after accepted_in t ≡ transaction_after (accepted_in ++ e ∷ []) t
     same zero low high = absurd (omega arith)
     same (suc k) low high =
-        let begun : is_begun done (suc k) ≡ true = begun_at done k (omega arith) in
-        rw (active-same done e (suc k) is.commits_none is.aborts_none begun, no_more (suc k), beginning-begin done e (suc k) begun) refl
+        let begun : is_begun accepted_in (suc k) ≡ true = begun_at accepted_in k (omega arith) in
+        rw (active-same accepted_in e (suc k) is.commits_none is.aborts_none begun, no_more (suc k), beginning-begin accepted_in e (suc k) begun) refl
 
-    new : record { kind = kind_of b.query; active = true; reads = 0 } ≡ transaction_after (done ++ e ∷ []) (suc (length (beginnings done)))
+    new : record { kind = kind_of b.query; active = true; reads = 0 } ≡ transaction_after (accepted_in ++ e ∷ []) (suc (length (beginnings accepted_in)))
     new =
-        grind (arith, no_more, count_none, not_named, reads_any_name, beginning-new done e b is, any_push_no, commits_name, names_aborter, row_same)
+        grind (arith, no_more, count_none, not_named, reads_any_name, beginning-new accepted_in e b is, any_push_no, commits_name, names_aborter, row_same)
 
-module _ (done : List Event) (e : Event) (none : beginning_of e ≡ None) where
-  along : (table : List Transaction) → table ≡ map (transaction_after (done ++ e ∷ [])) (numbers done) → table ≡ transactions_after (done ++ e ∷ [])
-  along table is = is ∙ ap (map (transaction_after (done ++ e ∷ []))) (sym (numbers-kept done e none))
+module _ (accepted_in : List Event) (e : Event) (none : beginning_of e ≡ None) where
+  along : (table : List Transaction) → table ≡ map (transaction_after (accepted_in ++ e ∷ [])) (numbers accepted_in) → table ≡ transactions_after (accepted_in ++ e ∷ [])
+  along table is = is ∙ ap (map (transaction_after (accepted_in ++ e ∷ []))) (sym (numbers-kept accepted_in e none))
 
-  more_reads : (t : ℕ) → all_reads_of (done ++ e ∷ []) t ≡ all_reads_of done t + (if reads_any t e then 1 else 0)
-  more_reads t = sum_by_push (λ f. if reads_any t f then 1 else 0) done e
+  more_reads : (t : ℕ) → all_reads_of (accepted_in ++ e ∷ []) t ≡ all_reads_of accepted_in t + (if reads_any t e then 1 else 0)
+  more_reads t = sum_by_push (λ f. if reads_any t f then 1 else 0) accepted_in e
 
-  after : (t : ℕ) (act : Bool) → is_active (done ++ e ∷ []) t ≡ act → transaction_after (done ++ e ∷ []) t ≡ row (is_query done t) act (all_reads_of done t + (if reads_any t e then 1 else 0))
-  after t act is = row_same (is_query (done ++ e ∷ []) t) (is_query done t) (is_active (done ++ e ∷ []) t) act (all_reads_of (done ++ e ∷ []) t) (all_reads_of done t + (if reads_any t e then 1 else 0)) (query-kept done e none t) is (more_reads t)
+  after : (t : ℕ) (act : Bool) → is_active (accepted_in ++ e ∷ []) t ≡ act → transaction_after (accepted_in ++ e ∷ []) t ≡ row (is_query accepted_in t) act (all_reads_of accepted_in t + (if reads_any t e then 1 else 0))
+  after t act is = row_same (is_query (accepted_in ++ e ∷ []) t) (is_query accepted_in t) (is_active (accepted_in ++ e ∷ []) t) act (all_reads_of (accepted_in ++ e ∷ []) t) (all_reads_of accepted_in t + (if reads_any t e then 1 else 0)) (query-kept accepted_in e none t) is (more_reads t)
 
   -- an event that ends nothing and that no query reads by leaves the table
-  pub rows-kept : ((t : ℕ) → commits t e ≡ false) → ((t : ℕ) → aborts t e ≡ false) → ((t : ℕ) → is_query done t ≡ true → reads_any t e ≡ false) → (table : List Transaction) → table ≡ transactions_after done → table ≡ transactions_after (done ++ e ∷ [])
-  rows-kept c a r table was = along table (was ∙ map_same (transaction_after done) (transaction_after (done ++ e ∷ [])) 1 (length (beginnings done)) (λ t low high. same t))
+  pub rows-kept : ((t : ℕ) → commits t e ≡ false) → ((t : ℕ) → aborts t e ≡ false) → ((t : ℕ) → is_query accepted_in t ≡ true → reads_any t e ≡ false) → (table : List Transaction) → table ≡ transactions_after accepted_in → table ≡ transactions_after (accepted_in ++ e ∷ [])
+  rows-kept c a r table was = along table (was ∙ map_same (transaction_after accepted_in) (transaction_after (accepted_in ++ e ∷ [])) 1 (length (beginnings accepted_in)) (λ t low high. same t))
     where
-      same : (t : ℕ) → transaction_after done t ≡ transaction_after (done ++ e ∷ []) t
+      same : (t : ℕ) → transaction_after accepted_in t ≡ transaction_after (accepted_in ++ e ∷ []) t
       same t =
-          grind (arith, after t (is_active done t) (active-kept done e none c a t), active-kept done e none c a t, add-zero (all_reads_of done t))
+          grind (arith, after t (is_active accepted_in t) (active-kept accepted_in e none c a t), active-kept accepted_in e none c a t, add-zero (all_reads_of accepted_in t))
 
   -- a read by a query is counted
-  pub rows-read : (k : ℕ) (r : Transaction) → ((t : ℕ) → commits t e ≡ false) → ((t : ℕ) → aborts t e ≡ false) → is_query done (suc k) ≡ true → ((t : ℕ) → reads_any t e ≡ (suc k == t))
-      → (table : List Transaction) → table ≡ transactions_after done → k < length table → r ≡ get_or table k r → set table k (record r { reads = r.reads + 1 }) ≡ transactions_after (done ++ e ∷ [])
+  pub rows-read : (k : ℕ) (r : Transaction) → ((t : ℕ) → commits t e ≡ false) → ((t : ℕ) → aborts t e ≡ false) → is_query accepted_in (suc k) ≡ true → ((t : ℕ) → reads_any t e ≡ (suc k == t))
+      → (table : List Transaction) → table ≡ transactions_after accepted_in → k < length table → r ≡ get_or table k r → set table k (record r { reads = r.reads + 1 }) ≡ transactions_after (accepted_in ++ e ∷ [])
   rows-read k r c a query by table was l at =
       along (set table k (record r { reads = r.reads + 1 }))
       (ap (λ (rs : List Transaction). set rs k (record r { reads = r.reads + 1 })) was
-      ∙ set_range (transaction_after done) (transaction_after (done ++ e ∷ [])) 1 (length (beginnings done)) k (record r { reads = r.reads + 1 }) (rw (← rows_len done table was) l) here other)
+      ∙ set_range (transaction_after accepted_in) (transaction_after (accepted_in ++ e ∷ [])) 1 (length (beginnings accepted_in)) k (record r { reads = r.reads + 1 }) (rw (← rows_len accepted_in table was) l) here other)
     where
-      here : transaction_after (done ++ e ∷ []) (1 + k) ≡ record r { reads = r.reads + 1 }
+      here : transaction_after (accepted_in ++ e ∷ []) (1 + k) ≡ record r { reads = r.reads + 1 }
       here =
-          (let num : 1 + k ≡ suc k = omega arith in ap (transaction_after (done ++ e ∷ [])) num)
-          ∙ (after (suc k) (is_active done (suc k)) (active-kept done e none c a (suc k))
-          ∙ (ap (λ (b : Bool). row (is_query done (suc k)) (is_active done (suc k)) (all_reads_of done (suc k) + (if b then 1 else 0))) (by (suc k) ∙ eq-eqb (suc k) (suc k) refl)
-          ∙ (counts (is_query done (suc k)) query
-          ∙ ap (λ (q : Transaction). record q { reads = q.reads + 1 }) (sym (row_is done table was k r l at)))))
+          (let num : 1 + k ≡ suc k = omega arith in ap (transaction_after (accepted_in ++ e ∷ [])) num)
+          ∙ (after (suc k) (is_active accepted_in (suc k)) (active-kept accepted_in e none c a (suc k))
+          ∙ (ap (λ (b : Bool). row (is_query accepted_in (suc k)) (is_active accepted_in (suc k)) (all_reads_of accepted_in (suc k) + (if b then 1 else 0))) (by (suc k) ∙ eq-eqb (suc k) (suc k) refl)
+          ∙ (counts (is_query accepted_in (suc k)) query
+          ∙ ap (λ (q : Transaction). record q { reads = q.reads + 1 }) (sym (row_is accepted_in table was k r l at)))))
         where
-          counts : (q : Bool) → q ≡ true → row q (is_active done (suc k)) (all_reads_of done (suc k) + 1) ≡ record (row q (is_active done (suc k)) (all_reads_of done (suc k))) { reads = (row q (is_active done (suc k)) (all_reads_of done (suc k))).reads + 1 }
+          counts : (q : Bool) → q ≡ true → row q (is_active accepted_in (suc k)) (all_reads_of accepted_in (suc k) + 1) ≡ record (row q (is_active accepted_in (suc k)) (all_reads_of accepted_in (suc k))) { reads = (row q (is_active accepted_in (suc k)) (all_reads_of accepted_in (suc k))).reads + 1 }
           counts true is = refl
           counts false is = absurd (false≢true is)
 
-      other : (t : ℕ) → (t ≡ 1 + k → ⊥) → transaction_after (done ++ e ∷ []) t ≡ transaction_after done t
+      other : (t : ℕ) → (t ≡ 1 + k → ⊥) → transaction_after (accepted_in ++ e ∷ []) t ≡ transaction_after accepted_in t
       other t ne = grind (arith, after, active-kept, ne_eqb, add-zero)
 
   -- the end of a transaction
-  pub rows-end : (k : ℕ) (r : Transaction) → ((t : ℕ) → is_active (done ++ e ∷ []) t ≡ (is_active done t && not (suc k == t))) → ((t : ℕ) → reads_any t e ≡ false)
-      → (table : List Transaction) → table ≡ transactions_after done → k < length table → r ≡ get_or table k r → set table k (record r { active = false }) ≡ transactions_after (done ++ e ∷ [])
+  pub rows-end : (k : ℕ) (r : Transaction) → ((t : ℕ) → is_active (accepted_in ++ e ∷ []) t ≡ (is_active accepted_in t && not (suc k == t))) → ((t : ℕ) → reads_any t e ≡ false)
+      → (table : List Transaction) → table ≡ transactions_after accepted_in → k < length table → r ≡ get_or table k r → set table k (record r { active = false }) ≡ transactions_after (accepted_in ++ e ∷ [])
   rows-end k r ends by table was l at =
       along (set table k (record r { active = false }))
       (ap (λ (rs : List Transaction). set rs k (record r { active = false })) was
-      ∙ set_range (transaction_after done) (transaction_after (done ++ e ∷ [])) 1 (length (beginnings done)) k (record r { active = false }) (rw (← rows_len done table was) l) here other)
+      ∙ set_range (transaction_after accepted_in) (transaction_after (accepted_in ++ e ∷ [])) 1 (length (beginnings accepted_in)) k (record r { active = false }) (rw (← rows_len accepted_in table was) l) here other)
     where
-      count : (t : ℕ) → all_reads_of done t + (if reads_any t e then 1 else 0) ≡ all_reads_of done t
-      count t = ap (λ (b : Bool). all_reads_of done t + (if b then 1 else 0)) (by t) ∙ add-zero (all_reads_of done t)
+      count : (t : ℕ) → all_reads_of accepted_in t + (if reads_any t e then 1 else 0) ≡ all_reads_of accepted_in t
+      count t = ap (λ (b : Bool). all_reads_of accepted_in t + (if b then 1 else 0)) (by t) ∙ add-zero (all_reads_of accepted_in t)
 
-      here : transaction_after (done ++ e ∷ []) (1 + k) ≡ record r { active = false }
+      here : transaction_after (accepted_in ++ e ∷ []) (1 + k) ≡ record r { active = false }
       here =
-          (let num : 1 + k ≡ suc k = omega arith in ap (transaction_after (done ++ e ∷ [])) num)
-          ∙ (after (suc k) false (ends (suc k) ∙ (ap (λ (b : Bool). is_active done (suc k) && not b) (eq-eqb (suc k) (suc k) refl) ∙ and_right (is_active done (suc k)) false refl))
-          ∙ (ap (λ (m : ℕ). row (is_query done (suc k)) false m) (count (suc k))
-          ∙ ap (λ (q : Transaction). record q { active = false }) (sym (row_is done table was k r l at))))
+          (let num : 1 + k ≡ suc k = omega arith in ap (transaction_after (accepted_in ++ e ∷ [])) num)
+          ∙ (after (suc k) false (ends (suc k) ∙ (ap (λ (b : Bool). is_active accepted_in (suc k) && not b) (eq-eqb (suc k) (suc k) refl) ∙ and_right (is_active accepted_in (suc k)) false refl))
+          ∙ (ap (λ (m : ℕ). row (is_query accepted_in (suc k)) false m) (count (suc k))
+          ∙ ap (λ (q : Transaction). record q { active = false }) (sym (row_is accepted_in table was k r l at))))
 
-      other : (t : ℕ) → (t ≡ 1 + k → ⊥) → transaction_after (done ++ e ∷ []) t ≡ transaction_after done t
+      other : (t : ℕ) → (t ≡ 1 + k → ⊥) → transaction_after (accepted_in ++ e ∷ []) t ≡ transaction_after accepted_in t
       other t ne = grind (arith, after, ne_eqb, count)

@@ -5,7 +5,7 @@ use Rattle.std.proofs.lemmas.Bool.{and_parts}
 use Rattle.esr_items.specs.Values.{current_at}
 use Rattle.esr_core.specs.Words.{Versions, ItemId, TxnId, Event, Write, Refusal, QueryMayNotWrite}
 use Rattle.esr_history.specs.Events.{numbers, is_query, is_update, is_active, holds_read, reads_of, current_value}
-use Rattle.esr_history.specs.Machine.{Distance, Schedule, done, due_in, first_reason, not_begun, ended, no_item, query_writes, out_of_range, write_blocked, import_full, export_full, refusal}
+use Rattle.esr_history.specs.Machine.{Distance, Schedule, accepted_in, due_in, first_reason, not_begun, ended, no_item, query_writes, out_of_range, write_blocked, import_full, export_full, refusal}
 use Rattle.esr_history.specs.ItemLocks.{ItemLocks, query_reads}
 use Rattle.esr_history.proofs.Allowed.{WriteOpen, none_applies, write_open}
 use Rattle.esr_history.proofs.Lawful.{when_none, not_ended, update_from}
@@ -13,7 +13,7 @@ use Rattle.esr_history.proofs.Orderly.{active_parts}
 use Rattle.esr_ledgers.specs.declared.account.Account.{Account}
 use Rattle.esr_ledgers.specs.Books.{AreCharges, charged}
 use Rattle.esr_locks.specs.Tables.{locks_at}
-use Rattle.esr_core.specs.Tied.{IsTied, books_of, Transaction}
+use Rattle.esr_core.specs.Represented.{Represents, books_of, Transaction}
 use Rattle.esr_core.specs.States.{charges_to, reason_for}
 use Rattle.esr_core.proofs.Locks.{locks_here}
 use Rattle.esr_core.proofs.Charges.{charges_by, quote_reason, due-write, are_charges-write, books-charged}
@@ -26,12 +26,12 @@ barred h t x v = first_reason (not_begun h t.0 ∷ ended h t.0 ∷ no_item h x.0
 open_of : (h : Schedule) (t : TxnId) (x : ItemId) (v : ℤ) → barred h t x v ≡ None → WriteOpen h t x v
 open_of h t x v none = grind (arith, write_open, none_applies)
 
-pub active_of : (h : Schedule) (t : TxnId) (x : ItemId) (v : ℤ) → barred h t x v ≡ None → is_active (done h) t.0 ≡ true
+pub active_of : (h : Schedule) (t : TxnId) (x : ItemId) (v : ℤ) → barred h t x v ≡ None → is_active (accepted_in h) t.0 ≡ true
 active_of h t x v none = not_ended h t.0 (open_of h t x v none).active
 
-pub update_of : (h : Schedule) (t : TxnId) (x : ItemId) (v : ℤ) → barred h t x v ≡ None → is_update (done h) t.0 ≡ true
+pub update_of : (h : Schedule) (t : TxnId) (x : ItemId) (v : ℤ) → barred h t x v ≡ None → is_update (accepted_in h) t.0 ≡ true
 update_of h t x v none =
-    update_from (done h) t.0 (active_parts (done h) t.0 (active_of h t x v none)).0 (when_none (is_query (done h) t.0) QueryMayNotWrite (open_of h t x v none).update)
+    update_from (accepted_in h) t.0 (active_parts (accepted_in h) t.0 (active_of h t x v none)).0 (when_none (is_query (accepted_in h) t.0) QueryMayNotWrite (open_of h t x v none).update)
 
 pub barred_first : (d : Distance) (h : Schedule) (t : TxnId) (x : ItemId) (v : ℤ) (why : Refusal) → barred h t x v ≡ Some why → refusal d h (Write t x v) ≡ Some why
 barred_first d h t x v why is = grind (arith, write_first)
@@ -45,27 +45,27 @@ queries_charged events x amount (q ∷ us) = at (is_query events q && holds_read
     at true is later = ((and_parts (is_query events q) (holds_read events q x) is).0, later)
     at false is later = later
 
-module _ (d : Distance) (h : Schedule) (items : List Versions) (table : List Transaction) (locks : List ItemLocks) (accounts : List Account) (tie : IsTied (d h.weights) h.opening (done h) items table locks accounts) (t : TxnId) (x : ItemId) (v : ℤ) (l : x.0 < length items) where
+module _ (d : Distance) (h : Schedule) (items : List Versions) (table : List Transaction) (locks : List ItemLocks) (accounts : List Account) (rep : Represents (d h.weights) h.opening (accepted_in h) items table locks accounts) (t : TxnId) (x : ItemId) (v : ℤ) (l : x.0 < length items) where
   abbrev pub owed : List (TxnId × ℕ)
   owed = charges_to (d h.weights x.0 v (current_at items x.0)) (locks_at locks x.0).queries
 
-  owed_is : owed ≡ charges_to (d h.weights x.0 v (current_value h.opening (done h) x.0)) (filter_map (query_reads (done h) x.0) (numbers (done h)))
-  owed_is = grind (arith, locks_here (done h) (length h.opening) x.0 (rw (← tie.count) l))
+  owed_is : owed ≡ charges_to (d h.weights x.0 v (current_value h.opening (accepted_in h) x.0)) (filter_map (query_reads (accepted_in h) x.0) (numbers (accepted_in h)))
+  owed_is = grind (arith, locks_here (accepted_in h) (length h.opening) x.0 (rw (← rep.count) l))
 
-  pub are_charges : is_update (done h) t.0 ≡ true → AreCharges accounts t owed
+  pub are_charges : is_update (accepted_in h) t.0 ≡ true → AreCharges accounts t owed
   are_charges update =
-      subst (λ (as' : List Account). AreCharges as' t owed) (sym tie.books)
-      (subst (λ (cs : List (TxnId × ℕ)). AreCharges (books_of (d h.weights) h.opening (done h)) t cs) (sym owed_is) (are_charges-write (d h.weights) h.opening (done h) t x.0 (d h.weights x.0 v (current_value h.opening (done h) x.0)) update))
+      subst (λ (as' : List Account). AreCharges as' t owed) (sym rep.books)
+      (subst (λ (cs : List (TxnId × ℕ)). AreCharges (books_of (d h.weights) h.opening (accepted_in h)) t cs) (sym owed_is) (are_charges-write (d h.weights) h.opening (accepted_in h) t x.0 (d h.weights x.0 v (current_value h.opening (accepted_in h) x.0)) update))
 
-  pub due_is : is_update (done h) t.0 ≡ true → due_in d h (Write t x v) ≡ charges_by t.0 owed
-  due_is update = due-write (d h.weights) h.opening (done h) t x v update ∙ ap (charges_by t.0) (sym owed_is)
+  pub due_is : is_update (accepted_in h) t.0 ≡ true → due_in d h (Write t x v) ≡ charges_by t.0 owed
+  due_is update = due-write (d h.weights) h.opening (accepted_in h) t x v update ∙ ap (charges_by t.0) (sym owed_is)
 
-  pub write_books : is_update (done h) t.0 ≡ true → charged accounts t owed ≡ books_of (d h.weights) h.opening (done h ++ Write t x v ∷ [])
-  write_books update = ap (λ (as' : List Account). charged as' t owed) tie.books ∙ books-charged (d h.weights) h.opening (done h) (Write t x v) refl t owed update (due_is update)
+  pub write_books : is_update (accepted_in h) t.0 ≡ true → charged accounts t owed ≡ books_of (d h.weights) h.opening (accepted_in h ++ Write t x v ∷ [])
+  write_books update = ap (λ (as' : List Account). charged as' t owed) rep.books ∙ books-charged (d h.weights) h.opening (accepted_in h) (Write t x v) refl t owed update (due_is update)
 
-  reason_is : is_update (done h) t.0 ≡ true → (cs : List (TxnId × ℕ)) → AllByRecursion (λ (c : TxnId × ℕ). is_query (done h) c.0.0 ≡ true) cs → first_reason (import_full d h (charges_by t.0 cs) ∷ export_full d h (charges_by t.0 cs) ∷ []) ≡ reason_for accounts t cs
+  reason_is : is_update (accepted_in h) t.0 ≡ true → (cs : List (TxnId × ℕ)) → AllByRecursion (λ (c : TxnId × ℕ). is_query (accepted_in h) c.0.0 ≡ true) cs → first_reason (import_full d h (charges_by t.0 cs) ∷ export_full d h (charges_by t.0 cs) ∷ []) ≡ reason_for accounts t cs
   reason_is update [] all = refl
-  reason_is update (c ∷ cs) all = quote_reason d h t c cs update all ∙ ap (λ (as' : List Account). reason_for as' t (c ∷ cs)) (sym tie.books)
+  reason_is update (c ∷ cs) all = quote_reason d h t c cs update all ∙ ap (λ (as' : List Account). reason_for as' t (c ∷ cs)) (sym rep.books)
 
   -- a write that is not barred is refused for its charges alone
   pub write_reason : barred h t x v ≡ None → refusal d h (Write t x v) ≡ reason_for accounts t owed

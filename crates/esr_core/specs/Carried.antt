@@ -4,7 +4,7 @@ use Rattle.esr_core.specs.Words.{ItemId, TxnId, Event, Read, Write, Reply, Begun
 use Rattle.esr_core.specs.States.{begin_event}
 use Rattle.esr_core.specs.Renewed.{committed_values, renewed}
 use Rattle.esr_history.specs.Events.{is_refusal, numbers, is_active, is_query, is_update, holds_read, holds_write, reads_of, limit_of, accepted, written, last_value, committed_value, current_value}
-use Rattle.esr_history.specs.Machine.{Distance, Schedule, Charge, done, distance_in, charges_in, charge_of_read, import_in, export_in, writer, IsLegal}
+use Rattle.esr_history.specs.Machine.{Distance, Schedule, Charge, accepted_in, distance_in, charges_in, charge_of_read, import_in, export_in, writer, IsLegal}
 use Rattle.esr_history.specs.Legal.{along}
 use Rattle.esr_history.specs.Operations.{Operation}
 use Rattle.esr_history.specs.Serial.{state}
@@ -13,7 +13,7 @@ use Rattle.esr_history.specs.ReportBounds.{AreDistances, is_active_query, IsMixt
 
 -- the active transactions, ascending, and the number that each has then: its place among them, from 1
 abbrev pub active_numbers : Schedule → List ℕ
-active_numbers h = filter (is_active (done h)) (numbers (done h))
+active_numbers h = filter (is_active (accepted_in h)) (numbers (accepted_in h))
 
 abbrev pub new_number : Schedule → ℕ → TxnId
 new_number h t = record { 0 = count_by (λ u. nat_lt u t) (active_numbers h) + 1 }
@@ -22,14 +22,14 @@ new_number h t = record { 0 = count_by (λ u. nat_lt u t) (active_numbers h) + 1
 -- again, by the distance of the current and the committed value, if the query made its read again now.
 abbrev pub charges_again : Distance → Schedule → ℕ → List Charge
 charges_again d h q =
-    flat_map (λ o. charge_of_read (distance_in d h) h.opening (done h) q o.item (writer (done h) o.item)) (reads_by h q)
+    flat_map (λ o. charge_of_read (distance_in d h) h.opening (accepted_in h) q o.item (writer (accepted_in h) o.item)) (reads_by h q)
 
 abbrev pub open_charges : Distance → Schedule → List Charge
-open_charges d h = flat_map (charges_again d h) (filter (is_query (done h)) (active_numbers h))
+open_charges d h = flat_map (charges_again d h) (filter (is_query (accepted_in h)) (active_numbers h))
 
 -- an import of a query, or an export of an update
 abbrev pub charged_in : Schedule → List Charge → ℕ → ℕ
-charged_in h cs t = if is_query (done h) t then import_in cs t else export_in cs t
+charged_in h cs t = if is_query (accepted_in h) t then import_in cs t else export_in cs t
 
 -- what is settled: charged, and not open
 abbrev pub settled : Distance → Schedule → ℕ → ℕ
@@ -38,17 +38,17 @@ settled d h t = charged_in h (charges_in d h) t - charged_in h (open_charges d h
 -- Each active transaction begins again, with its limit less what is settled.
 abbrev pub begin_again : Distance → Schedule → ℕ → Entry
 begin_again d h t = record {
-  event = begin_event (is_query (done h) t) (limit_of (done h) t - settled d h t) (is_strict (done h) t);
+  event = begin_event (is_query (accepted_in h) t) (limit_of (accepted_in h) t - settled d h t) (is_strict (accepted_in h) t);
   reply = Begun (new_number h t);
 }
 
 -- Then each accepted read and write of an active update, with the reply that it had.
 abbrev pub update_again : Schedule → Reply → Event → Option Entry
 update_again h reply (Read t x) =
-    if is_update (done h) t.0 && is_active (done h) t.0
+    if is_update (accepted_in h) t.0 && is_active (accepted_in h) t.0
     then Some (record { event = Read (new_number h t.0) x; reply = reply }) else None
 update_again h reply (Write t x v) =
-    if is_update (done h) t.0 && is_active (done h) t.0
+    if is_update (accepted_in h) t.0 && is_active (accepted_in h) t.0
     then Some (record { event = Write (new_number h t.0) x v; reply = reply }) else None
 update_again h reply _ = None
 
@@ -56,14 +56,14 @@ update_again h reply _ = None
 abbrev pub read_again : Schedule → Event → Option Entry
 read_again h (Read t x) =
     if is_active_query h t.0
-    then Some (record { event = Read (new_number h t.0) x; reply = Value (current_value h.opening (done h) x.0) }) else None
+    then Some (record { event = Read (new_number h t.0) x; reply = Value (current_value h.opening (accepted_in h) x.0) }) else None
 read_again h _ = None
 
 abbrev pub entries_again : Distance → Schedule → List Entry
 entries_again d h =
     map (begin_again d h) (active_numbers h)
     ++ (filter_map (λ e. update_again h e.reply e.event) (filter (λ e. not (is_refusal e.reply)) h.entries)
-    ++ filter_map (read_again h) (done h))
+    ++ filter_map (read_again h) (accepted_in h))
 
 -- the history with which a renewal that carries goes on
 abbrev pub carried : Distance → Schedule → Schedule
@@ -71,12 +71,12 @@ carried d h = record (renewed h h.weights) { entries = entries_again d h }
 
 -- what the account of t is in two histories: `part` of its limit and of its charge are in the first alone
 pub record IsCarriedAs (d : Distance) (h : Schedule) (t : ℕ) (k : Schedule) (u : ℕ) (part : ℕ) : Type 0 where
-  pub active : is_active (done k) u ≡ true
-  pub query : is_query (done k) u ≡ is_query (done h) t
-  pub reads : (x : ℕ) → reads_of (done k) u x ≡ reads_of (done h) t x
-  pub read_locks : (x : ℕ) → holds_read (done k) u x ≡ holds_read (done h) t x
-  pub write_locks : (x : ℕ) → holds_write (done k) u x ≡ holds_write (done h) t x
-  pub limit : part + limit_of (done k) u ≡ limit_of (done h) t
+  pub active : is_active (accepted_in k) u ≡ true
+  pub query : is_query (accepted_in k) u ≡ is_query (accepted_in h) t
+  pub reads : (x : ℕ) → reads_of (accepted_in k) u x ≡ reads_of (accepted_in h) t x
+  pub read_locks : (x : ℕ) → holds_read (accepted_in k) u x ≡ holds_read (accepted_in h) t x
+  pub write_locks : (x : ℕ) → holds_write (accepted_in k) u x ≡ holds_write (accepted_in h) t x
+  pub limit : part + limit_of (accepted_in k) u ≡ limit_of (accepted_in h) t
   pub charge : part + charged_in k (charges_in d k) u ≡ charged_in h (charges_in d h) t
 
 -- Nothing of what is active is lost: each item has its two values, each active transaction its reads, its locks, and
@@ -85,13 +85,13 @@ pub record IsCarriedOver (d : Distance) (h k : Schedule) : Type 0 where
   pub opens : k.opening ≡ committed_values h
   pub weights : k.weights ≡ h.weights
   pub legal : IsLegal d k
-  pub committed : (x : ℕ) → committed_value k.opening (done k) x ≡ committed_value h.opening (done h) x
-  pub current : (x : ℕ) → current_value k.opening (done k) x ≡ current_value h.opening (done h) x
-  pub each : (t : ℕ) → is_active (done h) t ≡ true → IsCarriedAs d h t k (new_number h t).0 (settled d h t)
+  pub committed : (x : ℕ) → committed_value k.opening (accepted_in k) x ≡ committed_value h.opening (accepted_in h) x
+  pub current : (x : ℕ) → current_value k.opening (accepted_in k) x ≡ current_value h.opening (accepted_in h) x
+  pub each : (t : ℕ) → is_active (accepted_in h) t ≡ true → IsCarriedAs d h t k (new_number h t).0 (settled d h t)
 
 -- A query over any number of histories, from a limit on: what it was told, and what was settled before this history.
 pub data IsReport (d : Distance) (limit : ℕ) : Schedule → ℕ → List Operation → ℕ → Type 0 where
-  reads : (h : Schedule) (q : ℕ) → IsLegal d h → IsTrue (is_active_query h q) → limit_of (done h) q ≡ limit
+  reads : (h : Schedule) (q : ℕ) → IsLegal d h → IsTrue (is_active_query h q) → limit_of (accepted_in h) q ≡ limit
       → IsReport d limit h q (reads_by h q) 0
   goes_on : {h : Schedule} {q : ℕ} {told : List Operation} {part : ℕ} → IsReport d limit h q told part
       → (later : List Entry) → IsLegal d (along h later) → IsTrue (is_active_query (along h later) q)
@@ -137,8 +137,8 @@ LawOfActiveUpdates =
     (d : Distance) (h : Schedule) → IsLegal d h
     → (before after : List Entry) (t : TxnId) (x : ItemId) (v : ℤ)
     → h.entries ≡ before ++ record { event = Read t x; reply = Value v } ∷ after
-    → IsTrue (is_update (done h) t.0 && is_active (done h) t.0)
-    → v ≡ last_value (committed_value h.opening (done h) x.0)
+    → IsTrue (is_update (accepted_in h) t.0 && is_active (accepted_in h) t.0)
+    → v ≡ last_value (committed_value h.opening (accepted_in h) x.0)
     (filter_map (written (λ u. u == t.0) x.0) (accepted before))
 
 -- The current value of an item is what the writes of active updates leave of its committed value: so their writes, made
@@ -146,6 +146,6 @@ LawOfActiveUpdates =
 abbrev pub LawOfCurrentValues : Type 0
 LawOfCurrentValues =
     (d : Distance) (h : Schedule) → IsLegal d h → (x : ℕ)
-    → current_value h.opening (done h) x
-    ≡ last_value (committed_value h.opening (done h) x)
-    (filter_map (written (λ u. is_update (done h) u && is_active (done h) u) x) (done h))
+    → current_value h.opening (accepted_in h) x
+    ≡ last_value (committed_value h.opening (accepted_in h) x)
+    (filter_map (written (λ u. is_update (accepted_in h) u && is_active (accepted_in h) u) x) (accepted_in h))

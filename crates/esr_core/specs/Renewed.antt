@@ -3,16 +3,16 @@ use Rattle.std.specs.Prelude.{◌≡◌, ◌<◌, ℕ, ℤ, Bool, ◌&&◌, ◌=
 use Rattle.std.specs.List.{before_first, filter_map, list_any, range_with_len}
 use Rattle.esr_core.specs.Words.{ItemId, TxnId, Read, Value, Entry}
 use Rattle.esr_history.specs.Events.{accepted, numbers, is_active, is_update, is_committed, written, last_value, committed_value}
-use Rattle.esr_history.specs.Machine.{Schedule, schedule_of, done}
+use Rattle.esr_history.specs.Machine.{Schedule, schedule_of, accepted_in}
 use Rattle.esr_history.specs.Serial.{IsSerialOrder, IsSerializable, committed_updates, values_by, state}
 
 -- the committed values of the items, in their order
 abbrev pub committed_values : Schedule → List ℤ
-committed_values h = map (committed_value h.opening (done h)) (range_with_len 0 (length h.opening))
+committed_values h = map (committed_value h.opening (accepted_in h)) (range_with_len 0 (length h.opening))
 
 -- whether a transaction is active
 abbrev pub has_active : Schedule → Bool
-has_active h = list_any (is_active (done h)) (numbers (done h))
+has_active h = list_any (is_active (accepted_in h)) (numbers (accepted_in h))
 
 -- a history with no entry over the committed values of another
 abbrev pub renewed : Schedule → List ℕ → Schedule
@@ -31,8 +31,8 @@ pub record AreSerializableAsOne (h k : Schedule) : Type 0 where
   pub serial : IsSerialOrder k (committed_updates k) (committed_updates k)
   pub reads : (before after : List Entry) (t : TxnId) (x : ItemId) (v : ℤ) → x.0 < length h.opening
       → k.entries ≡ before ++ record { event = Read t x; reply = Value v } ∷ after
-      → IsTrue (is_update (done k) t.0 && is_committed (done k) t.0)
+      → IsTrue (is_update (accepted_in k) t.0 && is_committed (accepted_in k) t.0)
       → v ≡ last_value (state_over h (committed_updates h) k (before_first (λ u. u == t.0) (committed_updates k)) x.0)
       (filter_map (written (λ u. u == t.0) x.0) (accepted before))
   pub leaves : (x : ℕ) → x < length h.opening
-      → state_over h (committed_updates h) k (committed_updates k) x ≡ committed_value k.opening (done k) x
+      → state_over h (committed_updates h) k (committed_updates k) x ≡ committed_value k.opening (accepted_in k) x

@@ -4,7 +4,7 @@ use Rattle.std.specs.declared.alloc.AllocError.{AllocError}
 use Rattle.std.proofs.lemmas.List.{get_or_default}
 use Rattle.esr_plan.specs.Blocks.{Answered}
 use Rattle.esr_plan.specs.Text.{block_text, blocks_text}
-use Rattle.esr_plan.proofs.Told.{blocks_text_more}
+use Rattle.esr_plan.proofs.Rendered.{blocks_text_more}
 use Rattle.esr_drive.specs.Pieces.{ArePieces}
 
 abbrev Piece : Type 0

@@ -3,7 +3,7 @@ use Rattle.std.proofs.Common.{◌≡◌, ℕ, zero, suc, ◌+◌, ◌<◌, ◌�
 use Rattle.std.proofs.lemmas.List.{take_more, map-append}
 use Rattle.std.proofs.lemmas.List.Elements.{All-push}
 use Rattle.std.proofs.lemmas.List.Sums.{sum_by-cons}
-use Rattle.esr_base.specs.declared.limits.TheConstants.{MOST_ENTRIES}
+use Rattle.esr_base.specs.declared.limits.TheConstants.{MAX_ENTRIES}
 use Rattle.esr_history.specs.declared.event.Reply.{Reply}
 use Rattle.esr_core.specs.declared.machine.StepError.{StepError}
 use Rattle.esr_session.specs.declared.receipt.Receipt.{Receipt}
@@ -55,14 +55,14 @@ receipts_most calls session (j ∷ tasks) (r ∷ rans) len most =
     let rest = receipts_most calls session tasks rans (omega (arith, len)) (λ i x y lt. most (suc i) x y (omega (arith, lt))) in
     omega (arith, here, rest, sum_by-cons length (session r) (map session rans), sum_by-cons length (calls j) (map calls tasks))
 
-pub fault_told : {J R : Type 0} (calls : J → List Call) (session : R → List Receipt) (tasks : List J) (rans : List R) (e : DriveFault) → length rans ≡ length tasks
+pub fault_reported : {J R : Type 0} (calls : J → List Call) (session : R → List Receipt) (tasks : List J) (rans : List R) (e : DriveFault) → length rans ≡ length tasks
     → ((i : ℕ) (j : J) (r : R) → i < length tasks → length (session (get_or rans i r)) ≤ 100 * length (calls (get_or tasks i j)))
-    → is_engine_fault e ≡ true → (e ≡ fault.HistoryFull → count_in (map session rans) ≡ MOST_ENTRIES) → IsEngineFault (map calls tasks) e
-fault_told calls session tasks rans fault.NoMemory len most is full = tt
-fault_told calls session tasks rans fault.HistoryFull len most is full =
+    → is_engine_fault e ≡ true → (e ≡ fault.HistoryFull → count_in (map session rans) ≡ MAX_ENTRIES) → IsEngineFault (map calls tasks) e
+fault_reported calls session tasks rans fault.NoMemory len most is full = tt
+fault_reported calls session tasks rans fault.HistoryFull len most is full =
     omega (arith, full refl, receipts_most calls session tasks rans len most)
-fault_told calls session tasks rans fault.Close len most is full = tt
-fault_told calls session tasks rans _ len most is full = cc
+fault_reported calls session tasks rans fault.Close len most is full = tt
+fault_reported calls session tasks rans _ len most is full = cc
 
 head_same : {X : Type 0} (x y : X) (xs ys : List X) → x ∷ xs ≡ y ∷ ys → x ≡ y
 head_same x y xs ys e = cc
@@ -76,17 +76,17 @@ commands-answers (c ∷ calls) [] e = absurd (omega (arith, e))
 commands-answers (c ∷ calls) (r ∷ replies) e = ap (λ l. command_of c ∷ l) (commands-answers calls replies (omega (arith, e)))
 
 module _ {J R V : Type 0} (calls : J → List Call) (session : R → List Receipt) (outcome : R → Result V StepError) (items : V → List Reply) where
-  abbrev pub Ran : List J → List R → Type 0
-  Ran tasks rans = (i : ℕ) (j : J) (r : R) → i < length tasks → IfOk (outcome (get_or rans i r)) (λ v. IsBlockRun (calls (get_or tasks i j)) (items v) (session (get_or rans i r)))
+  abbrev pub BlockOutcome : List J → List R → Type 0
+  BlockOutcome tasks rans = (i : ℕ) (j : J) (r : R) → i < length tasks → IfOk (outcome (get_or rans i r)) (λ v. IsBlockRun (calls (get_or tasks i j)) (items v) (session (get_or rans i r)))
 
   abbrev pub answers : List J → List V → List (List Answered)
   answers tasks replies = all_answers (map calls tasks) (map items replies)
 
-  ran_at : (j : J) (r : R) (v : V) (tasks : List J) (rans : List R) → Ran (j ∷ tasks) (r ∷ rans) → outcome r ≡ Ok v → IsBlockRun (calls j) (items v) (session r)
+  ran_at : (j : J) (r : R) (v : V) (tasks : List J) (rans : List R) → BlockOutcome (j ∷ tasks) (r ∷ rans) → outcome r ≡ Ok v → IsBlockRun (calls j) (items v) (session r)
   ran_at j r v tasks rans h is = subst (λ (o : Result V StepError). IfOk o (λ v. IsBlockRun (calls j) (items v) (session r))) is (h 0 j r (omega arith))
 
   -- each block has its runs
-  pub blocks_ran : (tasks : List J) (rans : List R) (replies : List V) → length rans ≡ length tasks → Ran tasks rans → map outcome rans ≡ map (λ v. Ok v) replies
+  pub blocks_ran : (tasks : List J) (rans : List R) (replies : List V) → length rans ≡ length tasks → BlockOutcome tasks rans → map outcome rans ≡ map (λ v. Ok v) replies
       → AreAnswered (map calls tasks) (map items replies)
       × ((names : List (List ℕ)) → All (AreResolved names) (map calls tasks) → AreBlocks names (answers tasks replies) (map session rans))
       × (map (λ b. map (λ a. a.command) b) (answers tasks replies) ≡ map (λ b. map command_of b) (map calls tasks))

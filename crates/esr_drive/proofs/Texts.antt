@@ -6,21 +6,21 @@ use Rattle.std.proofs.lemmas.List.{length-map}
 use Rattle.std.proofs.lemmas.List.Sums.{sum_by-cons}
 use Rattle.esr_history.specs.declared.event.Reply.{Reply}
 use Rattle.esr_history.specs.Machine.{Schedule}
-use Rattle.esr_line.specs.Lines.{lines}
+use Rattle.esr_grammar.specs.Lines.{lines}
 use Rattle.esr_plan.specs.declared.fault.DriveFault.{DriveFault}
 use Rattle.esr_plan.specs.declared.fault.DriveFault.TheVariants as fault
-use Rattle.esr_plan.specs.declared.sheet.Sheet.{Sheet}
+use Rattle.esr_plan.specs.declared.drive_plan.DrivePlan.{DrivePlan}
 use Rattle.esr_plan.specs.declared.call.Call.{Call}
 use Rattle.esr_plan.specs.Calls.{command_of, AreResolved, all_answers}
 use Rattle.esr_plan.specs.Drafts.{commands_in}
 use Rattle.esr_plan.specs.Plan.{Plan, plan_of, plan_from, cut_fault, with_line, nothing, weights_of}
-use Rattle.esr_plan.specs.Sheets.{plan_in, IsSound}
+use Rattle.esr_plan.specs.DrivePlans.{plan_in, IsSound}
 use Rattle.esr_plan.proofs.Cuts.{IsCut, IsNoneOrCut, all_cut}
 use Rattle.esr_drive.specs.Driven.{IsDriven}
-use Rattle.esr_drive.specs.Drive.{IsDriveText, Tells}
+use Rattle.esr_drive.specs.Drive.{IsDriveText, IsRenderingOf}
 use Rattle.esr_drive.specs.declared.form.Form.{Form}
 use Rattle.esr_drive.specs.declared.form.Form.TheVariants as form
-use Rattle.esr_past.specs.Again.{IsPast}
+use Rattle.esr_dump.specs.RoundTrip.{IsDump}
 use Rattle.esr_plan.specs.Blocks.{Answered}
 use Rattle.esr_plan.specs.Text.{names_of, text_of}
 use Rattle.esr_drive.specs.Faults.{IsTextFault, IsEngineFault, CanFill}
@@ -32,18 +32,18 @@ all_items P (b ∷ bs) all (suc i) x lt = all_items P bs (λ j y below. all (suc
 
 -- a text of the form that was asked for
 pub text_told : (what : Form) (workers : ℕ) (p : Plan) (h : Schedule) (blocks : List (List Answered)) (r : Result (Vec ℕ Global) AllocError) → what ≡ form.Text workers
-    → IfOk r (λ out. out.items ≡ text_of p h blocks) → IfOk r (λ out. Tells what p h blocks out.items)
-text_told what workers p h blocks r is told = subst (λ (w : Form). IfOk r (λ out. Tells w p h blocks out.items)) (sym is) told
+    → IfOk r (λ out. out.items ≡ text_of p h blocks) → IfOk r (λ out. IsRenderingOf what p h blocks out.items)
+text_told what workers p h blocks r is reported = subst (λ (w : Form). IfOk r (λ out. IsRenderingOf w p h blocks out.items)) (sym is) reported
 
 pub history_told : (what : Form) (p : Plan) (h : Schedule) (blocks : List (List Answered)) (r : Result (Vec ℕ Global) AllocError) → what ≡ form.Script
-    → IfOk r (λ out. IsPast p.names (names_of h blocks) h out.items) → IfOk r (λ out. Tells what p h blocks out.items)
-history_told what p h blocks r is told = subst (λ (w : Form). IfOk r (λ out. Tells w p h blocks out.items)) (sym is) told
+    → IfOk r (λ out. IsDump p.names (names_of h blocks) h out.items) → IfOk r (λ out. IsRenderingOf what p h blocks out.items)
+history_told what p h blocks r is reported = subst (λ (w : Form). IfOk r (λ out. IsRenderingOf w p h blocks out.items)) (sym is) reported
 
 -- the text of what was driven is one of the file
-pub drive_text : (what : Form) (bytes : List ℕ) (s : Sheet) (h : Schedule) (replies : List (List Reply)) (out : List ℕ)
+pub drive_text : (what : Form) (bytes : List ℕ) (s : DrivePlan) (h : Schedule) (replies : List (List Reply)) (out : List ℕ)
     → plan_of bytes ≡ Ok (plan_in s) → IsSound s → IsDriven s.values.items (weights_of s.weights.items) (map (λ b. b.items) s.blocks.items) h replies
-    → Tells what (plan_in s) h (all_answers (map (λ b. b.items) s.blocks.items) replies) out → IsDriveText what bytes out
-drive_text what bytes s h replies out planned sound d tells = record {
+    → IsRenderingOf what (plan_in s) h (all_answers (map (λ b. b.items) s.blocks.items) replies) out → IsDriveText what bytes out
+drive_text what bytes s h replies out planned sound d rendering = record {
   plan = plan_in s;
   planned = planned;
   is_text = record {
@@ -56,7 +56,7 @@ drive_text what bytes s h replies out planned sound d tells = record {
     commands = d.commands ∙ map-map (map command_of) (λ (b : Vec Call Global). b.items) s.blocks.items;
     runs = d.runs s.names (all_items (AreResolved s.names) s.blocks.items sound.resolved);
     matching = d.matching;
-    tells = tells;
+    rendering = rendering;
   };
 }
 
@@ -111,7 +111,7 @@ same_lines (b ∷ bs) =
     omega (arith, sum_by-cons length b.items (map (λ b. b.items) bs), sum_by-cons length (commands_in b.items) (map (λ b. commands_in b.items) bs), length-map b.items command_of, same_lines bs)
 
 -- a fault of the engine, where the file has a plan
-pub engine_fault : (bytes : List ℕ) (s : Sheet) (e : DriveFault) → plan_of bytes ≡ Ok (plan_in s) → IsEngineFault (map (λ b. b.items) s.blocks.items) e → IsTextFault bytes e
+pub engine_fault : (bytes : List ℕ) (s : DrivePlan) (e : DriveFault) → plan_of bytes ≡ Ok (plan_in s) → IsEngineFault (map (λ b. b.items) s.blocks.items) e → IsTextFault bytes e
 engine_fault bytes s fault.NoMemory planned is = tt
 engine_fault bytes s fault.HistoryFull planned is = (plan_in s, planned, omega (arith, same_lines s.blocks.items, is))
 engine_fault bytes s fault.Close planned is = (plan_in s, planned)

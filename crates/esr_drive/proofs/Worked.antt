@@ -9,7 +9,7 @@ use Rattle.esr_history.specs.declared.event.Event.TheVariants as event
 use Rattle.esr_history.specs.declared.event.Reply.{Reply}
 use Rattle.esr_history.specs.declared.event.Reply.TheVariants as reply
 use Rattle.esr_history.specs.declared.event.Entry.{Entry}
-use Rattle.esr_line.specs.Command.{Command, begin_update, begin_query, read, write, commit}
+use Rattle.esr_grammar.specs.Command.{Command, begin_update, begin_query, read, write, commit}
 use Rattle.esr_session.specs.declared.receipt.Receipt.{Receipt}
 use Rattle.esr_session.specs.Receipts.{is_blocked, entry_of}
 use Rattle.esr_session.proofs.Good.{good_matches}
@@ -142,6 +142,6 @@ drive_of_one_block = record {
     commands = refl;
     runs = (runs6, tt);
     matching = good_matches entries (receipts ∷ []) (((refl, omega arith, refl), ((refl, omega arith, refl), ((refl, omega arith, refl), ((refl, omega arith, refl), ((refl, omega arith, refl), ((refl, omega arith, refl), tt)))))), tt) (omega arith);
-    tells = refl;
+    rendering = refl;
   };
 }

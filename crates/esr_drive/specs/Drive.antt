@@ -4,7 +4,7 @@ use Rattle.std.specs.Io.KnownBytes.{Consumes}
 use Rattle.esr_items.specs.Weights.{weighted}
 use Rattle.esr_history.specs.Machine.{Schedule, IsLegal}
 use Rattle.esr_base.specs.Watch.{BeginsWith}
-use Rattle.esr_board.specs.declared.board.TheConstants.{MOST_SEATS}
+use Rattle.esr_board.specs.declared.board.TheConstants.{MAX_SEATS}
 use Rattle.esr_session.specs.declared.receipt.Receipt.{Receipt}
 use Rattle.esr_session.specs.Receipts.{Matches}
 use Rattle.esr_plan.specs.declared.fault.DriveFault.{DriveFault}
@@ -12,21 +12,21 @@ use Rattle.esr_plan.specs.declared.fault.DriveFault.TheVariants as fault
 use Rattle.esr_plan.specs.Plan.{Plan, plan_of, weights_of}
 use Rattle.esr_plan.specs.Blocks.{Answered, AreBlocks, commands_of}
 use Rattle.esr_plan.specs.Text.{names_of, text_of}
-use Rattle.esr_past.specs.Again.{IsPast}
+use Rattle.esr_dump.specs.RoundTrip.{IsDump}
 use Rattle.esr_drive.specs.declared.form.Form.{Form}
 use Rattle.esr_drive.specs.declared.form.Form.TheVariants as form
 use Rattle.esr_drive.specs.Faults.{CanFill}
 
 -- as many workers as may audit, where any do
 abbrev pub HasWorkers : Form → Type 0
-HasWorkers (form.Text workers) = (1 ≤ workers) × (workers ≤ MOST_SEATS)
+HasWorkers (form.Text workers) = (1 ≤ workers) × (workers ≤ MAX_SEATS)
 HasWorkers form.Script = Unit {0}
 
 -- what a text tells of a history and the last replies: these, the findings and the totals; or the history itself, as a
 -- script that gives it again, by the names of the plan
-abbrev pub Tells : Form → Plan → Schedule → List (List Answered) → List ℕ → Type 0
-Tells (form.Text workers) p h blocks text = text ≡ text_of p h blocks
-Tells form.Script p h blocks text = IsPast p.names (names_of h blocks) h text
+abbrev pub IsRenderingOf : Form → Plan → Schedule → List (List Answered) → List ℕ → Type 0
+IsRenderingOf (form.Text workers) p h blocks text = text ≡ text_of p h blocks
+IsRenderingOf form.Script p h blocks text = IsDump p.names (names_of h blocks) h text
 
 -- Each command of the plan has a run of receipts, which match one legal history over the plan's items, and the text tells
 -- of this history.
@@ -40,7 +40,7 @@ pub record IsTextOf (what : Form) (p : Plan) (text : List ℕ) : Type 0 where
   pub commands : map commands_of blocks ≡ p.blocks
   pub runs : AreBlocks p.names blocks receipts
   pub matching : Matches history.entries receipts
-  pub tells : Tells what p history blocks text
+  pub rendering : IsRenderingOf what p history blocks text
 
 -- the text is one of this file
 pub record IsDriveText (what : Form) (bytes : List ℕ) (text : List ℕ) : Type 0 where

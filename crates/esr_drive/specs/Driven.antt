@@ -1,7 +1,7 @@
 -- What the engine of a drive leaves.
 use Rattle.std.specs.Prelude.{◌≡◌, ◌≤◌, ℕ, ℤ, List, All, Result, Ok, Err, length, map}
 use Rattle.esr_items.specs.Weights.{weighted}
-use Rattle.esr_base.specs.declared.limits.TheConstants.{MOST_ENTRIES}
+use Rattle.esr_base.specs.declared.limits.TheConstants.{MAX_ENTRIES}
 use Rattle.esr_history.specs.declared.event.Reply.{Reply}
 use Rattle.esr_history.specs.Machine.{Schedule, IsLegal}
 use Rattle.esr_session.specs.declared.receipt.Receipt.{Receipt}
@@ -21,7 +21,7 @@ pub record IsDriven (opening : List ℤ) (weights : List ℕ) (blocks : List (Li
   pub legal : IsLegal weighted history
   pub opening_is : history.opening ≡ opening
   pub weights_are : history.weights ≡ weights
-  pub most : length history.entries ≤ MOST_ENTRIES
+  pub most : length history.entries ≤ MAX_ENTRIES
   pub answered : AreAnswered blocks replies
   pub commands : map (λ b. map (λ a. a.command) b) (all_answers blocks replies) ≡ map (λ b. map command_of b) blocks
   pub receipts : List (List Receipt)

@@ -1,7 +1,7 @@
 -- The faults of a drive that neither its reader nor its writer makes.
 use Rattle.std.specs.Prelude.{◌≡◌, ◌≤◌, ◌*◌, ◌==◌, ℕ, List, Bool, true, false, Option, Some, None, Result, Ok, Err, length, sum_by, unwrap_or, if◌then◌else◌}
 use Rattle.std.specs.List.{list_any}
-use Rattle.esr_base.specs.declared.limits.TheConstants.{MOST_ENTRIES}
+use Rattle.esr_base.specs.declared.limits.TheConstants.{MAX_ENTRIES}
 use Rattle.esr_core.specs.declared.machine.StepError.{StepError}
 use Rattle.esr_core.specs.declared.machine.StepError.TheVariants as error
 use Rattle.esr_plan.specs.Plan.{Plan, plan_of}
@@ -17,7 +17,7 @@ is_engine_fault _ = false
 
 -- the lines of these blocks, each given 100 times, can fill a history
 abbrev pub CanFill : {X : Type 0} → List (List X) → Type 0
-CanFill blocks = MOST_ENTRIES ≤ 100 * sum_by length blocks
+CanFill blocks = MAX_ENTRIES ≤ 100 * sum_by length blocks
 
 -- a fault of the engine that runs these blocks, or of memory
 abbrev pub IsEngineFault : {X : Type 0} → List (List X) → DriveFault → Type 0
@@ -64,20 +64,20 @@ first_of memory full closed =
     else None
 
 -- the fault that is told of blocks that ended so: out of memory before a full history, and that before a closed engine
-abbrev pub told_fault : {V : Type 0} → List (Result V StepError) → Option DriveFault
-told_fault outcomes =
+abbrev pub reported_fault : {V : Type 0} → List (Result V StepError) → Option DriveFault
+reported_fault outcomes =
     first_of (list_any (is_outcome is_memory) outcomes) (list_any (is_outcome is_full) outcomes)
     (list_any (is_outcome is_closed) outcomes)
 
 -- the same once the receipts were counted: where a session answered that the history is full and there are not so many
 -- receipts, they do not match
 abbrev pub confirmed : ℕ → DriveFault → DriveFault
-confirmed receipts fault.HistoryFull = if receipts == MOST_ENTRIES then fault.HistoryFull else fault.Close
-confirmed receipts told = told
+confirmed receipts fault.HistoryFull = if receipts == MAX_ENTRIES then fault.HistoryFull else fault.Close
+confirmed receipts reported = reported
 
 -- the fault that is told after one more error
-abbrev pub worse : Option DriveFault → StepError → DriveFault
-worse told error.NoMemory = fault.NoMemory
-worse (Some fault.NoMemory) error.HistoryFull = fault.NoMemory
-worse _ error.HistoryFull = fault.HistoryFull
-worse told error.EngineClosed = unwrap_or told fault.Close
+abbrev pub most_severe : Option DriveFault → StepError → DriveFault
+most_severe reported error.NoMemory = fault.NoMemory
+most_severe (Some fault.NoMemory) error.HistoryFull = fault.NoMemory
+most_severe _ error.HistoryFull = fault.HistoryFull
+most_severe reported error.EngineClosed = unwrap_or reported fault.Close

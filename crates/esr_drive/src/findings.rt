@@ -3,7 +3,7 @@
 //! An audit begins with an index of the whole history, a twentieth of a drive. Where no query has committed there is
 //! nothing to find, and none is made.
 
-ghost use Rattle.esr_board.specs.declared.board.TheConstants.{MOST_SEATS};
+ghost use Rattle.esr_board.specs.declared.board.TheConstants.{MAX_SEATS};
 ghost use Rattle.std.specs.Prelude.{◌≡◌, ◌≤◌, [], ◌++◌, IfOk, OnOk, true};
 ghost use Rattle.esr_audit.specs.Findings.{committed_queries};
 ghost use Rattle.esr_plan.specs.Text.{findings_text};
@@ -36,7 +36,7 @@ pub fn push_findings<R: Threads + Sync>(
     names: &BegunNames<'_>,
     workers: u64,
 ) -> Result<(), AllocError>
-    requires { (1 ≤ workers) × (workers ≤ MOST_SEATS) }
+    requires { (1 ≤ workers) × (workers ≤ MAX_SEATS) }
     ensures { OnOk result (out.new.items ≡ out.old.items
         ++ findings_text history.now.schedule (names_in names.now)) }
 {

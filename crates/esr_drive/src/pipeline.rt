@@ -1,19 +1,19 @@
 //! A drive, from its reader to its writer. Where a read or a write has failed, the drive ends so, whatever else came.
 
-ghost use Rattle.esr_board.specs.declared.board.TheConstants.{MOST_SEATS};
+ghost use Rattle.esr_board.specs.declared.board.TheConstants.{MAX_SEATS};
 ghost use Rattle.std.specs.Prelude.{◌≡◌, ℕ, List, ◌≤◌, ◌↔◌, true, false, None, map, IfOk, IfErr, IfSome, IsErrOf, IsTrue};
-ghost use Rattle.esr_line.specs.Lines.{lines};
+ghost use Rattle.esr_grammar.specs.Lines.{lines};
 ghost use Rattle.std.specs.Io.KnownBytes.{Appends};
 ghost use Rattle.esr_base.specs.Watch.{inner, failed};
-ghost use Rattle.esr_past.specs.Again.{IsPast};
-ghost use Rattle.esr_drive.specs.Drive.{HasWorkers, IsDriveBy, IsDriveText, Tells};
+ghost use Rattle.esr_dump.specs.RoundTrip.{IsDump};
+ghost use Rattle.esr_drive.specs.Drive.{HasWorkers, IsDriveBy, IsDriveText, IsRenderingOf};
 ghost use Rattle.esr_plan.specs.Text.{names_of, text_of};
 ghost use Rattle.esr_drive.specs.Driven.{IsDriven};
 ghost use Rattle.esr_items.specs.Weights.{weighted};
 ghost use Rattle.esr_session.specs.Engine.{AreTotals};
 ghost use Rattle.esr_plan.specs.Calls.{all_answers};
 ghost use Rattle.esr_drive.specs.Faults.{IsTextFault, IsEngineFault};
-ghost use Rattle.esr_plan.specs.Sheets.{plan_in, IsSound};
+ghost use Rattle.esr_plan.specs.DrivePlans.{plan_in, IsSound};
 ghost use Rattle.esr_plan.specs.Plan.{cut_fault, weights_of};
 
 use crate::blocks::{Driven, drive_blocks};
@@ -21,11 +21,13 @@ use crate::findings::push_findings;
 use crate::form::Form;
 use crate::pieces::push_blocks;
 use esr_board::Gate;
+use esr_dump::named_script;
 use esr_history::Watched;
 use esr_items::Store;
 use esr_lint::Observer;
-use esr_past::named_script;
-use esr_plan::{DriveFault, Sheet, begun_names, metric_of, push_items, read_all, sheet_of};
+use esr_plan::{
+    DriveFault, DrivePlan, begun_names, drive_plan_of, metric_of, push_items, read_all,
+};
 use esr_report::totals_line;
 use esr_session::LEDGER_PARTS;
 use std::alloc::{AllocError, Global};
@@ -76,18 +78,18 @@ fn text_in<R: Threads + Wait + Sync, G: Gate + Sync, V: Observer>(
     ensures text { IfOk result (λ out. IsDriveText form bytes.now out.items) }
     ensures faults { IfErr result (IsTextFault bytes.now) }
 {
-    let sheet = match sheet_of(alloc, bytes) {
-        Ok(sheet) => sheet,
+    let drive_plan = match drive_plan_of(alloc, bytes) {
+        Ok(drive_plan) => drive_plan,
         Err(fault) => {
             show_line(bytes, fault, observer);
             return Err(fault);
         }
     };
-    let driven = match run_sheet(rt, alloc, &sheet, gate) {
+    let driven = match run_plan(rt, alloc, &drive_plan, gate) {
         Ok(driven) => driven,
         Err(fault) => return Err(fault),
     };
-    match text_from(rt, alloc, form, &sheet, &driven) {
+    match text_from(rt, alloc, form, &drive_plan, &driven) {
         Ok(out) => Ok(out),
         Err(_) => Err(DriveFault::NoMemory),
     }
@@ -108,27 +110,27 @@ fn show_line<V: Observer>(bytes: &[u8], fault: DriveFault, observer: &mut V) {
 }
 
 /// Runs the blocks of a plan on an engine of their own.
-fn run_sheet<R: Threads + Wait + Sync, G: Gate + Sync>(
+fn run_plan<R: Threads + Wait + Sync, G: Gate + Sync>(
     rt: &R,
     alloc: Global,
-    sheet: &Sheet<'_>,
+    drive_plan: &DrivePlan<'_>,
     gate: &G,
 ) -> Result<Driven, DriveFault>
-    requires { IsSound sheet.now }
-    ensures ok { IfOk result (λ d. IsDriven sheet.now.values.items (weights_of sheet.now.weights.items)
-        (map (λ b. b.items) sheet.now.blocks.items) d.history.schedule (map (λ r. r.items) d.replies.items)) }
+    requires { IsSound drive_plan.now }
+    ensures ok { IfOk result (λ d. IsDriven drive_plan.now.values.items (weights_of drive_plan.now.weights.items)
+        (map (λ b. b.items) drive_plan.now.blocks.items) d.history.schedule (map (λ r. r.items) d.replies.items)) }
     ensures totals { IfOk result (λ d. AreTotals weighted d.history.schedule d.totals) }
-    ensures err { IfErr result (IsEngineFault (map (λ b. b.items) sheet.now.blocks.items)) }
+    ensures err { IfErr result (IsEngineFault (map (λ b. b.items) drive_plan.now.blocks.items)) }
 {
-    let items = Store::of_valid(alloc, &sheet.values)?;
-    let metric = metric_of(alloc, sheet.weights.as_slice())?;
+    let items = Store::of_valid(alloc, &drive_plan.values)?;
+    let metric = metric_of(alloc, drive_plan.weights.as_slice())?;
     drive_blocks::<Brand, R, G>(
         rt,
         alloc,
         Blank::new(LEDGER_PARTS),
         items,
         metric,
-        sheet.blocks.as_slice(),
+        drive_plan.blocks.as_slice(),
         gate,
     )
 }
@@ -138,37 +140,41 @@ fn text_from<R: Threads + Sync>(
     rt: &R,
     alloc: Global,
     form: Form,
-    sheet: &Sheet<'_>,
+    drive_plan: &DrivePlan<'_>,
     driven: &Driven,
 ) -> Result<Vec<u8>, AllocError>
     requires workers { HasWorkers form }
-    requires sound { IsSound sheet.now }
-    requires driven { IsDriven sheet.now.values.items (weights_of sheet.now.weights.items)
-        (map (λ b. b.items) sheet.now.blocks.items) driven.now.history.schedule
+    requires sound { IsSound drive_plan.now }
+    requires driven { IsDriven drive_plan.now.values.items (weights_of drive_plan.now.weights.items)
+        (map (λ b. b.items) drive_plan.now.blocks.items) driven.now.history.schedule
         (map (λ r. r.items) driven.now.replies.items) }
     requires totals { AreTotals weighted driven.now.history.schedule driven.now.totals }
-    ensures { IfOk result (λ out. Tells form (plan_in sheet.now) driven.now.history.schedule
-        (all_answers (map (λ b. b.items) sheet.now.blocks.items) (map (λ r. r.items) driven.now.replies.items)) out.items) }
+    ensures { IfOk result (λ out. IsRenderingOf form (plan_in drive_plan.now) driven.now.history.schedule
+        (all_answers (map (λ b. b.items) drive_plan.now.blocks.items) (map (λ r. r.items) driven.now.replies.items)) out.items) }
 {
     match form {
-        Form::Text { workers } => answers_from(rt, alloc, workers, sheet, driven),
-        Form::Script => script_from(alloc, sheet, driven),
+        Form::Text { workers } => answers_from(rt, alloc, workers, drive_plan, driven),
+        Form::Script => script_from(alloc, drive_plan, driven),
     }
 }
 
 /// The history that the blocks of a plan left, as a script.
-fn script_from(alloc: Global, sheet: &Sheet<'_>, driven: &Driven) -> Result<Vec<u8>, AllocError>
-    requires driven { IsDriven sheet.now.values.items (weights_of sheet.now.weights.items)
-        (map (λ b. b.items) sheet.now.blocks.items) driven.now.history.schedule
+fn script_from(
+    alloc: Global,
+    drive_plan: &DrivePlan<'_>,
+    driven: &Driven,
+) -> Result<Vec<u8>, AllocError>
+    requires driven { IsDriven drive_plan.now.values.items (weights_of drive_plan.now.weights.items)
+        (map (λ b. b.items) drive_plan.now.blocks.items) driven.now.history.schedule
         (map (λ r. r.items) driven.now.replies.items) }
-    ensures { IfOk result (λ out. IsPast sheet.now.names (names_of driven.now.history.schedule
-        (all_answers (map (λ b. b.items) sheet.now.blocks.items) (map (λ r. r.items) driven.now.replies.items)))
+    ensures { IfOk result (λ out. IsDump drive_plan.now.names (names_of driven.now.history.schedule
+        (all_answers (map (λ b. b.items) drive_plan.now.blocks.items) (map (λ r. r.items) driven.now.replies.items)))
         driven.now.history.schedule out.items) }
 {
-    let blocks = sheet.blocks.as_slice();
+    let blocks = drive_plan.blocks.as_slice();
     let replies = driven.replies.as_slice();
     let names = begun_names(alloc, &driven.history, blocks, replies)?;
-    named_script(alloc, &sheet.names, &names, &driven.history)
+    named_script(alloc, &drive_plan.names, &names, &driven.history)
 }
 
 /// The answers of the blocks of a plan, what is found of each query, and the totals.
@@ -176,28 +182,28 @@ fn answers_from<R: Threads + Sync>(
     rt: &R,
     alloc: Global,
     workers: u64,
-    sheet: &Sheet<'_>,
+    drive_plan: &DrivePlan<'_>,
     driven: &Driven,
 ) -> Result<Vec<u8>, AllocError>
-    requires workers { (1 ≤ workers) × (workers ≤ MOST_SEATS) }
-    requires sound { IsSound sheet.now }
-    requires driven { IsDriven sheet.now.values.items (weights_of sheet.now.weights.items)
-        (map (λ b. b.items) sheet.now.blocks.items) driven.now.history.schedule
+    requires workers { (1 ≤ workers) × (workers ≤ MAX_SEATS) }
+    requires sound { IsSound drive_plan.now }
+    requires driven { IsDriven drive_plan.now.values.items (weights_of drive_plan.now.weights.items)
+        (map (λ b. b.items) drive_plan.now.blocks.items) driven.now.history.schedule
         (map (λ r. r.items) driven.now.replies.items) }
     requires totals { AreTotals weighted driven.now.history.schedule driven.now.totals }
-    ensures { IfOk result (λ out. out.items ≡ text_of (plan_in sheet.now) driven.now.history.schedule
-        (all_answers (map (λ b. b.items) sheet.now.blocks.items) (map (λ r. r.items) driven.now.replies.items))) }
+    ensures { IfOk result (λ out. out.items ≡ text_of (plan_in drive_plan.now) driven.now.history.schedule
+        (all_answers (map (λ b. b.items) drive_plan.now.blocks.items) (map (λ r. r.items) driven.now.replies.items))) }
 {
-    let blocks = sheet.blocks.as_slice();
+    let blocks = drive_plan.blocks.as_slice();
     let replies = driven.replies.as_slice();
     let totals = driven.totals;
     let names = begun_names(alloc, &driven.history, blocks, replies)?;
     let mut out = Vec::new(alloc);
     push_items(
         &mut out,
-        &sheet.names,
-        sheet.values.as_slice(),
-        sheet.weights.as_slice(),
+        &drive_plan.names,
+        drive_plan.values.as_slice(),
+        drive_plan.weights.as_slice(),
     )?;
     push_blocks(rt, alloc, &mut out, &names, blocks, replies)?;
     push_findings(rt, alloc, &mut out, &driven.history, &names, workers)?;

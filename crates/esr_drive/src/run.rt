@@ -13,14 +13,14 @@
 //! replies and receipts before its first hold, beside the others.
 
 ghost use Rattle.std.specs.Prelude.{◌≡◌, ◌≤◌, ◌<◌, ◌*◌, [], IfOk, length, vec_capacity};
-ghost use Rattle.esr_drive.specs.declared.run.TheConstants.{MOST_LINES};
+ghost use Rattle.esr_drive.specs.declared.run.TheConstants.{MAX_LINES};
 ghost use Rattle.esr_drive.specs.Runs.{IsBlockRun};
 
 use esr_core::StepError;
 use esr_history::{Event, Reply};
 use esr_items::Weighted;
 use esr_plan::{Call, event_of};
-use esr_session::{Asker, Naming, Receipt, Session, is_blocked};
+use esr_session::{EventSource, Naming, Receipt, Session, is_blocked};
 use std::alloc::{AllocError, Global};
 use std::sync::Wait;
 
@@ -28,7 +28,7 @@ use std::sync::Wait;
 const TURNS: u32 = 100;
 
 /// The most lines that a block has answered in one hold of the lock.
-const MOST_LINES: usize = 1024;
+const MAX_LINES: usize = 1024;
 
 /// A block under way: its calls, the last replies to the first of them, and how often the next one was blocked.
 #[derive(Drop)]
@@ -40,7 +40,7 @@ struct Progress<'a, 't> {
     ghost few: { blocked < 100 },
 }
 
-impl Asker for Progress<'_, '_> {
+impl EventSource for Progress<'_, '_> {
     ghost use Rattle.std.specs.Prelude.{◌≡◌};
     ghost use Rattle.esr_drive.specs.Runs.{IsUnderWay, next_event};
 
@@ -54,7 +54,7 @@ impl Asker for Progress<'_, '_> {
         Some(event_of(&self.replies, *call))
     }
 
-    fn hear(&mut self, receipt: Receipt) {
+    fn on_reply(&mut self, receipt: Receipt) {
         if is_blocked(receipt.reply) && self.blocked + 1 < TURNS {
             self.blocked += 1;
         } else {
@@ -66,7 +66,7 @@ impl Asker for Progress<'_, '_> {
 
 /// A session after its block, with the last reply to each call, or why the block was not run to its end.
 #[derive(Drop)]
-pub struct Ran<N: Naming> {
+pub struct BlockOutcome<N: Naming> {
     pub session: Session<Weighted, N>,
     pub outcome: Result<Vec<Reply>, StepError>,
 }
@@ -77,24 +77,24 @@ pub fn run_block<N: Naming, R: Wait>(
     alloc: Global,
     calls: &[Call<'_>],
     session: Session<Weighted, N>,
-) -> Ran<N>
+) -> BlockOutcome<N>
     requires { session ≡ [] }
     ensures run { IfOk result.outcome (λ replies. IsBlockRun calls.now replies.items result.session) }
     ensures most { length result.session ≤ 100 * length calls.now }
 {
     let mut session = session;
     let outcome = call_all(rt, alloc, calls, &mut session);
-    Ran { session, outcome }
+    BlockOutcome { session, outcome }
 }
 
 /// How many lines a block answers in its next hold of the lock, after so many.
 fn lines_of_hold(answered: usize) -> usize
-    ensures { (1 ≤ result) × (result ≤ MOST_LINES) }
+    ensures { (1 ≤ result) × (result ≤ MAX_LINES) }
 {
-    if answered / 8 < MOST_LINES {
+    if answered / 8 < MAX_LINES {
         answered / 8 + 1
     } else {
-        MOST_LINES
+        MAX_LINES
     }
 }
 

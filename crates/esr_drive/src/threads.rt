@@ -2,16 +2,16 @@
 //! one fault is told, in a fixed order.
 
 ghost use Rattle.std.specs.Prelude.{◌≡◌, ◌⊎◌, ◌≤◌, ◌*◌, ◌==◌, [], true, Ok, Some, IfOk, IfErr, All, length, map, vec_len};
-ghost use Rattle.esr_drive.specs.Faults.{is_engine_fault, told_fault, confirmed, worse};
-ghost use Rattle.esr_base.specs.declared.limits.TheConstants.{MOST_ENTRIES};
+ghost use Rattle.esr_drive.specs.Faults.{is_engine_fault, reported_fault, confirmed, most_severe};
+ghost use Rattle.esr_base.specs.declared.limits.TheConstants.{MAX_ENTRIES};
 ghost use Rattle.esr_plan.specs.declared.fault.DriveFault.{DriveFault};
 ghost use Rattle.esr_session.specs.Receipts.{count_in};
 ghost use Rattle.esr_drive.specs.Runs.{IsBlockRun, AllPairs};
 
-use crate::run::{Ran, run_block};
+use crate::run::{BlockOutcome, run_block};
 use esr_board::Gate;
 use esr_core::StepError;
-use esr_history::{MOST_ENTRIES, Reply};
+use esr_history::{MAX_ENTRIES, Reply};
 use esr_items::Weighted;
 use esr_plan::{Call, DriveFault};
 use esr_session::{HasReceipts, Naming, Session};
@@ -34,7 +34,7 @@ pub fn run_blocks<'a, 't, N: Naming + Send + Sync, R: Threads + Wait + Sync, G: 
     alloc: Global,
     tasks: Vec<BlockTask<'a, 't, N>>,
     gate: &G,
-) -> Result<Vec<Ran<N>>, AllocError>
+) -> Result<Vec<BlockOutcome<N>>, AllocError>
     requires { All (λ task. task.session ≡ []) tasks.items }
     ensures len { IfOk result (λ v. vec_len v ≡ vec_len tasks.entry) }
     ensures runs { IfOk result (λ v. AllPairs (λ task ran.
@@ -46,7 +46,7 @@ pub fn run_blocks<'a, 't, N: Naming + Send + Sync, R: Threads + Wait + Sync, G: 
     thread::map_vec(
         rt,
         tasks,
-        &|task: BlockTask<'_, '_, N>| -> Ran<N>
+        &|task: BlockTask<'_, '_, N>| -> BlockOutcome<N>
             requires { task.session ≡ [] }
             ensures run { IfOk result.outcome (λ replies. IsBlockRun task.entry.calls.now replies.items result.session) }
             ensures most { length result.session ≤ 100 * length task.entry.calls.now }
@@ -67,21 +67,24 @@ pub struct BlockResults<N: Naming> {
 /// Takes apart what came of the blocks. Where blocks were not run to their ends, the answer is the first of out of
 /// memory, a full history and a closed engine that one of them ended by; and a history is full only where the receipts
 /// say so too.
-pub fn gather<N: Naming>(alloc: Global, all: Vec<Ran<N>>) -> Result<BlockResults<N>, DriveFault>
+pub fn gather<N: Naming>(
+    alloc: Global,
+    all: Vec<BlockOutcome<N>>,
+) -> Result<BlockResults<N>, DriveFault>
     ensures sessions { IfOk result (λ g. g.sessions.items ≡ map (λ ran. ran.session) all.items) }
     ensures replies { IfOk result (λ g. map (λ ran. ran.outcome) all.items ≡ map (λ r. Ok r) g.replies.items) }
     ensures engine { IfErr result (λ e. is_engine_fault e ≡ true) }
     ensures full { IfErr result (λ e. e ≡ DriveFault.HistoryFull
-        → count_in (map (λ ran. ran.session) all.items) ≡ MOST_ENTRIES) }
-    ensures told { IfErr result (λ e. (e ≡ DriveFault.NoMemory)
-        ⊎ ((fault : DriveFault) × (told_fault (map (λ ran. ran.outcome) all.items) ≡ Some fault)
+        → count_in (map (λ ran. ran.session) all.items) ≡ MAX_ENTRIES) }
+    ensures reported { IfErr result (λ e. (e ≡ DriveFault.NoMemory)
+        ⊎ ((fault : DriveFault) × (reported_fault (map (λ ran. ran.outcome) all.items) ≡ Some fault)
         × (e ≡ confirmed (count_in (map (λ ran. ran.session) all.items)) fault))) }
 {
     let mut sessions = Vec::new(alloc);
     let mut replies = Vec::new(alloc);
     let mut worst = None;
     for ran in all {
-        let Ran { session, outcome } = ran;
+        let BlockOutcome { session, outcome } = ran;
         if sessions.push(session).is_err() {
             return Err(DriveFault::NoMemory);
         }
@@ -91,7 +94,7 @@ pub fn gather<N: Naming>(alloc: Global, all: Vec<Ran<N>>) -> Result<BlockResults
                     return Err(DriveFault::NoMemory);
                 }
             }
-            Err(error) => worst = Some(worse(worst, error)),
+            Err(error) => worst = Some(most_severe(worst, error)),
         }
     }
     match worst {
@@ -113,9 +116,9 @@ fn confirm<N: Naming>(fault: DriveFault, sessions: &[Session<Weighted, N>]) -> D
 
 /// Whether there are as many receipts as a history may have entries.
 fn is_full<N: Naming>(sessions: &[Session<Weighted, N>]) -> bool
-    ensures { result ≡ (count_in sessions.now == MOST_ENTRIES) }
+    ensures { result ≡ (count_in sessions.now == MAX_ENTRIES) }
 {
-    let mut left = MOST_ENTRIES;
+    let mut left = MAX_ENTRIES;
     for session in sessions {
         let receipts = session.receipts().len();
         if receipts > left {
@@ -127,15 +130,15 @@ fn is_full<N: Naming>(sessions: &[Session<Weighted, N>]) -> bool
 }
 
 /// The fault that is told after one more error.
-fn worse(told: Option<DriveFault>, error: StepError) -> DriveFault
-    ensures { result ≡ worse told error }
+fn most_severe(reported: Option<DriveFault>, error: StepError) -> DriveFault
+    ensures { result ≡ most_severe reported error }
 {
     match error {
         StepError::NoMemory => DriveFault::NoMemory,
-        StepError::HistoryFull => match told {
+        StepError::HistoryFull => match reported {
             Some(DriveFault::NoMemory) => DriveFault::NoMemory,
             _ => DriveFault::HistoryFull,
         },
-        StepError::EngineClosed => told.unwrap_or(DriveFault::Close),
+        StepError::EngineClosed => reported.unwrap_or(DriveFault::Close),
     }
 }

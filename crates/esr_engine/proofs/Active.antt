@@ -15,13 +15,13 @@ use Rattle.esr_history.specs.declared.event.Reply.{Reply}
 use Rattle.esr_history.specs.declared.event.Event.TheVariants.{BeginUpdate, BeginQuery, Read, Write, Commit, Abort}
 use Rattle.esr_history.specs.declared.event.Reply.TheVariants.{Begun, Wrote, Committed, Aborted, Refused}
 use Rattle.esr_history.specs.Events.{Beginning, kind_of, beginning_of, beginnings, numbers, commits, aborts, reads_any, is_active, is_begun, is_refusal}
-use Rattle.esr_history.specs.Machine.{Distance, Schedule, done, extended, reply_to, refusal, acceptance, first_reason, not_begun, ended, when}
+use Rattle.esr_history.specs.Machine.{Distance, Schedule, accepted_in, extended, reply_to, refusal, acceptance, first_reason, not_begun, ended, when}
 use Rattle.esr_history.specs.Orderly.{IsOrderly}
 use Rattle.esr_history.proofs.Allowed.{none_applies, end_allowed}
 use Rattle.esr_history.proofs.Lawful.{done-refused, done-accepted, not_ended, begun_number}
 use Rattle.esr_history.proofs.Orderly.{active_parts}
 use Rattle.esr_core.specs.declared.state.Transaction.{Transaction}
-use Rattle.esr_core.specs.Tied.{transaction_after, transactions_after}
+use Rattle.esr_core.specs.Represented.{transaction_after, transactions_after}
 use Rattle.esr_core.proofs.Held.{IsBegin, begin_update, begin_query, active-kept, active-commit, active-abort, numbers-kept}
 use Rattle.esr_core.proofs.Rows.{rows-begin, rows-end}
 use Rattle.esr_engine.specs.Room.{active_count, active_after, begun, is_end, is_full, no_begin, taken}
@@ -75,8 +75,8 @@ count-end events e (suc k) none ends by act =
 
 -- what an entry with the machine's reply leaves: the count by that reply, and an end only where one was active
 pub record Counted (h : Schedule) (e : Event) (r : Reply) : Type 0 where
-  pub some : is_end r ≡ true → 0 < active_count (done h)
-  pub count : active_count (done (extended h e r)) ≡ active_after (active_count (done h)) r
+  pub some : is_end r ≡ true → 0 < active_count (accepted_in h)
+  pub count : active_count (accepted_in (extended h e r)) ≡ active_after (active_count (accepted_in h)) r
 
 -- a refused event
 counted_refused : (h : Schedule) (e : Event) (r : Reply) (why : Refusal) → r ≡ Refused why → Counted h e r
@@ -87,10 +87,10 @@ counted_refused h e r why is = subst (Counted h e) (sym is) (record {
 
 -- an event that begins and ends nothing
 counted_same : (h : Schedule) (e : Event) (r : Reply) → beginning_of e ≡ None → ((t : ℕ) → commits t e ≡ false) → ((t : ℕ) → aborts t e ≡ false) → is_refusal r ≡ false
-    → active_after (active_count (done h)) r ≡ active_count (done h) → is_end r ≡ false → Counted h e r
+    → active_after (active_count (accepted_in h)) r ≡ active_count (accepted_in h) → is_end r ≡ false → Counted h e r
 counted_same h e r none c a accepted same no_end = record {
   some = λ f. absurd (false≢true (sym no_end ∙ f));
-  count = ap active_count (done-accepted h e r accepted) ∙ (count-kept (done h) e none c a ∙ sym same);
+  count = ap active_count (done-accepted h e r accepted) ∙ (count-kept (accepted_in h) e none c a ∙ sym same);
 }
 
 below : (n : ℕ) → nat_le 1000000 n ≡ false → n + 1 ≤ 1000000
@@ -115,33 +115,33 @@ idle true false full why is some room = room
 idle false true full why is some room = absurd (false≢true (is refl))
 idle false false full why is some room = room
 
-idle_room : (h : Schedule) (t : TxnId) (why : Refusal) → first_reason (not_begun h t.0 ∷ ended h t.0 ∷ []) ≡ Some why → (not (is_active (done h) t.0) && nat_le 1000000 (taken h)) ≡ false → nat_le 1000000 (taken h) ≡ false
-idle_room h t why some room = idle (is_begun (done h) t.0) (is_active (done h) t.0) (nat_le 1000000 (taken h)) why (λ act. (active_parts (done h) t.0 act).0) some room
+idle_room : (h : Schedule) (t : TxnId) (why : Refusal) → first_reason (not_begun h t.0 ∷ ended h t.0 ∷ []) ≡ Some why → (not (is_active (accepted_in h) t.0) && nat_le 1000000 (taken h)) ≡ false → nat_le 1000000 (taken h) ≡ false
+idle_room h t why some room = idle (is_begun (accepted_in h) t.0) (is_active (accepted_in h) t.0) (nat_le 1000000 (taken h)) why (λ act. (active_parts (accepted_in h) t.0 act).0) some room
 
-module _ (d : Distance) (h : Schedule) (o : IsOrderly (done h)) where
-  pub end_active : (t : TxnId) → first_reason (not_begun h t.0 ∷ ended h t.0 ∷ []) ≡ None → is_active (done h) t.0 ≡ true
+module _ (d : Distance) (h : Schedule) (o : IsOrderly (accepted_in h)) where
+  pub end_active : (t : TxnId) → first_reason (not_begun h t.0 ∷ ended h t.0 ∷ []) ≡ None → is_active (accepted_in h) t.0 ≡ true
   end_active t none = not_ended h t.0 (end_allowed h t (none_applies (not_begun h t.0 ∷ ended h t.0 ∷ []) none)).active
 
-  counted_end : (e : Event) (t : TxnId) (r : Reply) → is_refusal r ≡ false → active_after (active_count (done h)) r ≡ active_count (done h) - 1
-      → beginning_of e ≡ None → ((u : ℕ) → is_active (done h ++ e ∷ []) u ≡ (is_active (done h) u && not (t.0 == u))) → ((u : ℕ) → reads_any u e ≡ false) → is_active (done h) t.0 ≡ true → Counted h e r
+  counted_end : (e : Event) (t : TxnId) (r : Reply) → is_refusal r ≡ false → active_after (active_count (accepted_in h)) r ≡ active_count (accepted_in h) - 1
+      → beginning_of e ≡ None → ((u : ℕ) → is_active (accepted_in h ++ e ∷ []) u ≡ (is_active (accepted_in h) u && not (t.0 == u))) → ((u : ℕ) → reads_any u e ≡ false) → is_active (accepted_in h) t.0 ≡ true → Counted h e r
   counted_end e t r accepted less none ends by act =
-      let one : active_count (done h ++ e ∷ []) + 1 ≡ active_count (done h) = count-end (done h) e t.0 none ends by act in
-      let new : active_count (done (extended h e r)) ≡ active_count (done h ++ e ∷ []) = ap active_count (done-accepted h e r accepted) in
+      let one : active_count (accepted_in h ++ e ∷ []) + 1 ≡ active_count (accepted_in h) = count-end (accepted_in h) e t.0 none ends by act in
+      let new : active_count (accepted_in (extended h e r)) ≡ active_count (accepted_in h ++ e ∷ []) = ap active_count (done-accepted h e r accepted) in
       record { some = λ f. omega arith; count = omega arith }
 
   accepted_counts : (e : Event) → refusal d h e ≡ None → Counted h e (acceptance h e)
   accepted_counts (BeginUpdate l) none = record {
     some = λ f. absurd (false≢true f);
-    count = ap active_count (done-accepted h (BeginUpdate l) (Begun (record { 0 = length (beginnings (done h)) + 1 })) refl) ∙ count-begin (done h) o (BeginUpdate l) _ (begin_update l);
+    count = ap active_count (done-accepted h (BeginUpdate l) (Begun (record { 0 = length (beginnings (accepted_in h)) + 1 })) refl) ∙ count-begin (accepted_in h) o (BeginUpdate l) _ (begin_update l);
   }
   accepted_counts (BeginQuery l s) none = record {
     some = λ f. absurd (false≢true f);
-    count = ap active_count (done-accepted h (BeginQuery l s) (Begun (record { 0 = length (beginnings (done h)) + 1 })) refl) ∙ count-begin (done h) o (BeginQuery l s) _ (begin_query l s);
+    count = ap active_count (done-accepted h (BeginQuery l s) (Begun (record { 0 = length (beginnings (accepted_in h)) + 1 })) refl) ∙ count-begin (accepted_in h) o (BeginQuery l s) _ (begin_query l s);
   }
   accepted_counts (Read t x) none = counted_same h (Read t x) _ refl (λ u. refl) (λ u. refl) refl refl refl
   accepted_counts (Write t x v) none = counted_same h (Write t x v) _ refl (λ u. refl) (λ u. refl) refl refl refl
-  accepted_counts (Commit t) none = counted_end (Commit t) t Committed refl refl refl (active-commit (done h) t) (λ u. refl) (end_active t none)
-  accepted_counts (Abort t) none = counted_end (Abort t) t Aborted refl refl refl (active-abort (done h) t) (λ u. refl) (end_active t none)
+  accepted_counts (Commit t) none = counted_end (Commit t) t Committed refl refl refl (active-commit (accepted_in h) t) (λ u. refl) (end_active t none)
+  accepted_counts (Abort t) none = counted_end (Abort t) t Aborted refl refl refl (active-abort (accepted_in h) t) (λ u. refl) (end_active t none)
 
   pub counted : (e : Event) → Counted h e (reply_to d h e)
   counted e = at (refusal d h e) refl
@@ -159,31 +159,31 @@ module _ (d : Distance) (h : Schedule) (o : IsOrderly (done h)) where
   room_refused (Commit t) why some room most = below (taken h) (idle_room h t why some room)
   room_refused (Abort t) why some room most = below (taken h) (idle_room h t why some room)
 
-  pub room_after : (e : Event) → is_full h e ≡ false → taken h ≤ 1000000 → length (extended h e (reply_to d h e)).entries + active_after (active_count (done h)) (reply_to d h e) ≤ 1000000
+  pub room_after : (e : Event) → is_full h e ≡ false → taken h ≤ 1000000 → length (extended h e (reply_to d h e)).entries + active_after (active_count (accepted_in h)) (reply_to d h e) ≤ 1000000
   room_after e room most = at (refusal d h e) refl
     where
-      at : (why : Option Refusal) → refusal d h e ≡ why → length (extended h e (reply_to d h e)).entries + active_after (active_count (done h)) (reply_to d h e) ≤ 1000000
+      at : (why : Option Refusal) → refusal d h e ≡ why → length (extended h e (reply_to d h e)).entries + active_after (active_count (accepted_in h)) (reply_to d h e) ≤ 1000000
       at (Some why) some =
           let more : taken h + 1 ≤ 1000000 = room_refused e why some room most in
           let reply : reply_to d h e ≡ Refused why = rw some refl in
           let long : length (extended h e (Refused why)).entries ≡ length h.entries + 1 = length_push h.entries (record { event = e; reply = Refused why }) in
-          subst (λ (r : Reply). length (extended h e r).entries + active_after (active_count (done h)) r ≤ 1000000) (sym reply) (omega (arith, long, more))
+          subst (λ (r : Reply). length (extended h e r).entries + active_after (active_count (accepted_in h)) r ≤ 1000000) (sym reply) (omega (arith, long, more))
       at None none =
           let reply : reply_to d h e ≡ acceptance h e = rw none refl in
-          subst (λ (r : Reply). length (extended h e r).entries + active_after (active_count (done h)) r ≤ 1000000) (sym reply) (accepted e none room)
+          subst (λ (r : Reply). length (extended h e r).entries + active_after (active_count (accepted_in h)) r ≤ 1000000) (sym reply) (accepted e none room)
         where
-          accepted : (e : Event) → refusal d h e ≡ None → is_full h e ≡ false → length (extended h e (acceptance h e)).entries + active_after (active_count (done h)) (acceptance h e) ≤ 1000000
-          accepted (BeginUpdate l) none room = let more : taken h + 2 ≤ 1000000 = begin_pair h room in omega (arith, length_push h.entries (record { event = BeginUpdate l; reply = Begun (record { 0 = length (beginnings (done h)) + 1 }) }), more)
-          accepted (BeginQuery l s) none room = let more : taken h + 2 ≤ 1000000 = begin_pair h room in omega (arith, length_push h.entries (record { event = BeginQuery l s; reply = Begun (record { 0 = length (beginnings (done h)) + 1 }) }), more)
+          accepted : (e : Event) → refusal d h e ≡ None → is_full h e ≡ false → length (extended h e (acceptance h e)).entries + active_after (active_count (accepted_in h)) (acceptance h e) ≤ 1000000
+          accepted (BeginUpdate l) none room = let more : taken h + 2 ≤ 1000000 = begin_pair h room in omega (arith, length_push h.entries (record { event = BeginUpdate l; reply = Begun (record { 0 = length (beginnings (accepted_in h)) + 1 }) }), more)
+          accepted (BeginQuery l s) none room = let more : taken h + 2 ≤ 1000000 = begin_pair h room in omega (arith, length_push h.entries (record { event = BeginQuery l s; reply = Begun (record { 0 = length (beginnings (accepted_in h)) + 1 }) }), more)
           accepted (Read t x) none room = let more : taken h + 1 ≤ 1000000 = below (taken h) room in omega (arith, length_push h.entries (record { event = Read t x; reply = acceptance h (Read t x) }), more)
           accepted (Write t x v) none room = let more : taken h + 1 ≤ 1000000 = below (taken h) room in omega (arith, length_push h.entries (record { event = Write t x v; reply = Wrote }), more)
-          accepted (Commit t) none room = let some : 0 < active_count (done h) = (accepted_counts (Commit t) none).some refl in omega (arith, length_push h.entries (record { event = Commit t; reply = Committed }), some)
-          accepted (Abort t) none room = let some : 0 < active_count (done h) = (accepted_counts (Abort t) none).some refl in omega (arith, length_push h.entries (record { event = Abort t; reply = Aborted }), some)
+          accepted (Commit t) none room = let some : 0 < active_count (accepted_in h) = (accepted_counts (Commit t) none).some refl in omega (arith, length_push h.entries (record { event = Commit t; reply = Committed }), some)
+          accepted (Abort t) none room = let some : 0 < active_count (accepted_in h) = (accepted_counts (Abort t) none).some refl in omega (arith, length_push h.entries (record { event = Abort t; reply = Aborted }), some)
 
   -- an accepted write takes one entry
   pub taken_by_write : (t : TxnId) (x : ItemId) (v : ℤ) → reply_to d h (Write t x v) ≡ Wrote → taken (extended h (Write t x v) Wrote) ≡ taken h + 1
   taken_by_write t x v wrote =
-      let count : active_count (done (extended h (Write t x v) Wrote)) ≡ active_count (done h) = (subst (Counted h (Write t x v)) wrote (counted (Write t x v))).count in
+      let count : active_count (accepted_in (extended h (Write t x v) Wrote)) ≡ active_count (accepted_in h) = (subst (Counted h (Write t x v)) wrote (counted (Write t x v))).count in
       omega (arith, length_push h.entries (record { event = Write t x v; reply = Wrote }), count)
 
   pub pair_room : (t : TxnId) (x : ItemId) (v : ℤ) → taken h + 2 ≤ 1000000 → reply_to d h (Write t x v) ≡ Wrote → is_full (extended h (Write t x v) Wrote) (Read t x) ≡ false

@@ -4,7 +4,7 @@
 pub mod Active
 pub mod Ends
 pub mod Stepped
-pub mod Standings
+pub mod Statuses
 pub mod Locking
 pub mod Renewal
 pub mod Reports

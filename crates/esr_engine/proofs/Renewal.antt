@@ -4,7 +4,7 @@ use Rattle.std.specs.List.{list_any}
 use Rattle.std.proofs.lemmas.Bool.{false≢true}
 use Rattle.std.proofs.lemmas.List.Sums.{sum_by-cons}
 use Rattle.esr_history.specs.Events.{numbers, is_active}
-use Rattle.esr_history.specs.Machine.{Schedule, done}
+use Rattle.esr_history.specs.Machine.{Schedule, accepted_in}
 use Rattle.esr_history.proofs.Reaches.{count_none}
 use Rattle.esr_core.specs.Renewed.{has_active}
 use Rattle.esr_engine.specs.Room.{active_count}
@@ -21,16 +21,16 @@ count_some p (x ∷ xs) some =
     (λ is. count_some p xs (sym (ap (λ b. b || list_any p xs) is) ∙ some))
 
 -- whether a transaction is active, by the count of those that are
-pub has_some : (h : Schedule) (n : ℕ) → n ≡ active_count (done h) → 0 < n → has_active h ≡ true
+pub has_some : (h : Schedule) (n : ℕ) → n ≡ active_count (accepted_in h) → 0 < n → has_active h ≡ true
 has_some h n is some = at (has_active h) refl
   where
     at : (b : Bool) → has_active h ≡ b → has_active h ≡ true
     at true yes_it_has = yes_it_has
-    at false none = let zero_it_is : active_count (done h) ≡ 0 = count_none (is_active (done h)) (numbers (done h)) none in absurd (omega arith)
+    at false none = let zero_it_is : active_count (accepted_in h) ≡ 0 = count_none (is_active (accepted_in h)) (numbers (accepted_in h)) none in absurd (omega arith)
 
-pub has_none : (h : Schedule) (n : ℕ) → n ≡ active_count (done h) → n ≤ 0 → has_active h ≡ false
+pub has_none : (h : Schedule) (n : ℕ) → n ≡ active_count (accepted_in h) → n ≤ 0 → has_active h ≡ false
 has_none h n is none = at (has_active h) refl
   where
     at : (b : Bool) → has_active h ≡ b → has_active h ≡ false
-    at true some = let l : 0 < active_count (done h) = count_some (is_active (done h)) (numbers (done h)) some in absurd (omega arith)
+    at true some = let l : 0 < active_count (accepted_in h) = count_some (is_active (accepted_in h)) (numbers (accepted_in h)) some in absurd (omega arith)
     at false none_it_has = none_it_has

@@ -2,14 +2,14 @@
 use Rattle.std.specs.Prelude.{ℕ, Bool, true, false, List, Option, option_map, if◌then◌else◌}
 use Rattle.esr_history.specs.declared.event.Event.{Event}
 use Rattle.esr_history.specs.Events.{Beginning, kind_of, beginning, is_active, is_committed}
-use Rattle.esr_history.specs.Machine.{Distance, Schedule, done, charges_in, import_in, export_in}
+use Rattle.esr_history.specs.Machine.{Distance, Schedule, accepted_in, charges_in, import_in, export_in}
 use Rattle.esr_engine.specs.declared.account.Account.{Account}
-use Rattle.esr_engine.specs.declared.account.Standing.{Standing}
-use Rattle.esr_engine.specs.declared.account.Standing.TheVariants.{Active, Committed, Aborted}
+use Rattle.esr_engine.specs.declared.account.TxnStatus.{TxnStatus}
+use Rattle.esr_engine.specs.declared.account.TxnStatus.TheVariants.{Active, Committed, Aborted}
 
 -- whether it is active, and else how it ended
-abbrev pub standing_of : List Event → ℕ → Standing
-standing_of events t = if is_active events t then Active else (if is_committed events t then Committed else Aborted)
+abbrev pub status_of : List Event → ℕ → TxnStatus
+status_of events t = if is_active events t then Active else (if is_committed events t then Committed else Aborted)
 
 -- what a query has imported, or an update exported
 abbrev pub charged_to : Distance → Schedule → Bool → ℕ → ℕ
@@ -22,9 +22,9 @@ account_from d h t b = record {
   kind = kind_of b.query;
   limit = b.limit;
   charged = charged_to d h b.query t;
-  standing = standing_of (done h) t;
+  txn_status = status_of (accepted_in h) t;
 }
 
 -- the account of a transaction, if it has begun
 abbrev pub account_of : Distance → Schedule → ℕ → Option Account
-account_of d h t = option_map (account_from d h t) (beginning (done h) t)
+account_of d h t = option_map (account_from d h t) (beginning (accepted_in h) t)

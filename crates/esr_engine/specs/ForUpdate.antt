@@ -2,7 +2,7 @@
 -- has, and then the read.
 use Rattle.std.specs.Prelude.{◌≡◌, ◌+◌, ◌⊎◌, ◌==◌, ◌&&◌, ℕ, pos, Bool, true, false, nat_lt, length, option_map, unwrap_or, if◌then◌else◌, ⊤}
 use Rattle.esr_items.specs.Weights.{weighted}
-use Rattle.esr_base.specs.declared.limits.TheConstants.{MOST_ENTRIES}
+use Rattle.esr_base.specs.declared.limits.TheConstants.{MAX_ENTRIES}
 use Rattle.esr_base.specs.declared.numbers.ItemId.{ItemId}
 use Rattle.esr_base.specs.declared.numbers.TxnId.{TxnId}
 use Rattle.esr_history.specs.declared.event.Event.{Event}
@@ -10,7 +10,7 @@ use Rattle.esr_history.specs.declared.event.Reply.{Reply}
 use Rattle.esr_history.specs.declared.event.Event.TheVariants.{Read, Write}
 use Rattle.esr_history.specs.declared.event.Reply.TheVariants.{Value}
 use Rattle.esr_history.specs.Events.{is_refusal, holds_write, committed_value, current_value}
-use Rattle.esr_history.specs.Machine.{Schedule, done, extended, reply_to, writer}
+use Rattle.esr_history.specs.Machine.{Schedule, accepted_in, extended, reply_to, writer}
 use Rattle.esr_engine.specs.Room.{taken}
 
 -- the history after an event and the machine's reply
@@ -19,11 +19,11 @@ after h e = extended h e (reply_to weighted h e)
 
 -- whether a transaction holds the write lock on an item
 abbrev pub has_lock : Schedule → ℕ → ℕ → Bool
-has_lock h t x = nat_lt x (length h.opening) && unwrap_or (option_map (λ u. u == t) (writer (done h) x)) false
+has_lock h t x = nat_lt x (length h.opening) && unwrap_or (option_map (λ u. u == t) (writer (accepted_in h) x)) false
 
 -- the write that takes the lock: of the committed value, which is the current one where nobody holds it
 abbrev pub lock_event : Schedule → TxnId → ItemId → Event
-lock_event h t x = Write t x (if nat_lt x.0 (length h.opening) then committed_value h.opening (done h) x.0 else pos 0)
+lock_event h t x = Write t x (if nat_lt x.0 (length h.opening) then committed_value h.opening (accepted_in h) x.0 else pos 0)
 
 -- the history before the read, or where it ends if the lock is refused
 abbrev pub locked : Schedule → TxnId → ItemId → Schedule
@@ -44,12 +44,12 @@ after_for_update h t x = if lock_refused h t x then locked h t x else after (loc
 
 -- a value that was read is the current one, and its reader holds the write lock on the item
 abbrev pub IsHeldValue : Schedule → Schedule → TxnId → ItemId → Reply → Type 0
-IsHeldValue old new t x (Value v) = (v ≡ current_value old.opening (done old) x.0) × (holds_write (done new) t.0 x.0 ≡ true)
+IsHeldValue old new t x (Value v) = (v ≡ current_value old.opening (accepted_in old) x.0) × (holds_write (accepted_in new) t.0 x.0 ≡ true)
 IsHeldValue old new t x _ = ⊤
 
 -- there are not two entries left beside the ends
 abbrev pub no_pair : Schedule → Bool
-no_pair h = nat_lt MOST_ENTRIES (taken h + 2)
+no_pair h = nat_lt MAX_ENTRIES (taken h + 2)
 
 -- where memory was refused nothing has changed, but that the lock may have been taken
 abbrev pub IsPartlyDone : Schedule → Schedule → TxnId → ItemId → Type 0

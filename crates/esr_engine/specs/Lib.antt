@@ -2,6 +2,6 @@
 
 pub mod Room
 pub mod Accounts
-pub mod Standings
+pub mod Statuses
 pub mod ForUpdate
 pub mod Worked

@@ -5,7 +5,7 @@ ghost use Rattle.esr_items.specs.Weights.{weighted};
 ghost use Rattle.esr_history.specs.Events.{kind_of};
 ghost use Rattle.esr_history.specs.ReportBounds.{ImportBoundsActive};
 ghost use Rattle.esr_engine.specs.Accounts.{account_of, charged_to};
-ghost use Rattle.esr_engine.specs.Standings.{standing_at};
+ghost use Rattle.esr_engine.specs.Statuses.{status_at};
 ghost use Rattle.esr_order.specs.Scans.{commit_in};
 
 use crate::engine::Engine;
@@ -13,7 +13,7 @@ use esr_history::{Entry, Event, Kind, Log, TxnId};
 
 /// Whether a transaction is active, and else how it ended.
 #[derive(Clone, Copy, PartialEq, Eq, Debug)]
-pub enum Standing {
+pub enum TxnStatus {
     Active,
     Committed,
     Aborted,
@@ -26,7 +26,7 @@ pub struct Account {
     pub kind: Kind,
     pub limit: u64,
     pub charged: u64,
-    pub standing: Standing,
+    pub txn_status: TxnStatus,
 }
 
 fn kind_of(query: bool) -> Kind
@@ -43,13 +43,13 @@ fn is_commit(entry: Entry) -> bool
 }
 
 /// How a transaction stands whose end is at a place, or none.
-fn standing_at(log: &Log, end: Option<u64>) -> Standing
-    ensures { result ≡ standing_at log.now.entries end }
+fn status_at(log: &Log, end: Option<u64>) -> TxnStatus
+    ensures { result ≡ status_at log.now.entries end }
 {
     match end {
-        None => Standing::Active,
-        Some(place) if log.get(place as usize).is_some_and(is_commit) => Standing::Committed,
-        Some(_) => Standing::Aborted,
+        None => TxnStatus::Active,
+        Some(place) if log.get(place as usize).is_some_and(is_commit) => TxnStatus::Committed,
+        Some(_) => TxnStatus::Aborted,
     }
 }
 
@@ -67,7 +67,7 @@ impl Engine {
 
     /// The account of a transaction, or None where it has not begun. What an active report has read so far is off by at
     /// most what it was charged, from the committed values and from any mixture of these and the current ones.
-    #[tactic(auto, using(crate::proofs::Standings::no_account, crate::proofs::Reports::active_bounded))]
+    #[tactic(auto, using(crate::proofs::Statuses::no_account, crate::proofs::Reports::active_bounded))]
     pub fn account(&self, t: TxnId) -> Option<Account>
         ensures account { result ≡ account_of weighted self.now t.0 }
         ensures bound { ImportBoundsActive weighted self.now }
@@ -78,7 +78,7 @@ impl Engine {
                 kind: kind_of(facts.query),
                 limit: facts.limit,
                 charged: self.charge_of(facts.query, t),
-                standing: standing_at(history.log(), facts.end),
+                txn_status: status_at(history.log(), facts.end),
             }),
             None => None,
         }

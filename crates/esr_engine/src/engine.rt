@@ -6,11 +6,11 @@
 //! comes where nothing is left is looked up.
 
 ghost use Rattle.std.specs.Prelude.{◌≡◌, ◌+◌, ◌<◌, ◌≤◌, ◌↔◌, true, length, All, IfOk, OnErr, IsErrOf};
-ghost use Rattle.esr_base.specs.declared.limits.TheConstants.{MOST_ENTRIES, MOST_ITEMS, MOST_TRANSACTIONS};
+ghost use Rattle.esr_base.specs.declared.limits.TheConstants.{MAX_ENTRIES, MAX_ITEMS, MAX_TRANSACTIONS};
 ghost use Rattle.esr_items.specs.Weights.{IsWeight, weighted};
 ghost use Rattle.esr_history.specs.declared.event.Event.TheVariants.{Read, Write};
 ghost use Rattle.esr_history.specs.Events.{is_active};
-ghost use Rattle.esr_history.specs.Machine.{IsLegal, Schedule, done, extended, reply_to};
+ghost use Rattle.esr_history.specs.Machine.{IsLegal, Schedule, accepted_in, extended, reply_to};
 ghost use Rattle.esr_history.specs.Queries.{ImportBoundsDistance};
 ghost use Rattle.esr_history.specs.Serial.{IsSerializable};
 ghost use Rattle.esr_history.specs.Totals.{IsWithinLimits, all_imports, all_exports};
@@ -18,7 +18,7 @@ ghost use Rattle.esr_order.specs.Index.{IsIndexOf};
 ghost use Rattle.esr_engine.specs.Room.{active_after, active_count, taken, begun, is_end, is_full, NeverStuck, counts_of};
 
 use esr_core::{Machine, StepError, Totals};
-use esr_history::{Event, History, MOST_ENTRIES, MOST_TRANSACTIONS, Reply, TxnId};
+use esr_history::{Event, History, MAX_ENTRIES, MAX_TRANSACTIONS, Reply, TxnId};
 use esr_items::{ItemId, Weighted};
 use esr_order::Index;
 use std::marker::Model;
@@ -60,16 +60,16 @@ impl Model for Engine {
 
     ghost view = { λ e. e.machine };
 
-    ghost invariant = { λ e. (e.weights.items ≡ e.machine.weights) × (length e.weights.items ≤ MOST_ITEMS)
-        × All IsWeight e.weights.items × (e.active ≡ active_count (done e.machine))
-        × (length e.machine.entries + e.active ≤ MOST_ENTRIES) × IsIndexOf e.machine.entries e.index };
+    ghost invariant = { λ e. (e.weights.items ≡ e.machine.weights) × (length e.weights.items ≤ MAX_ITEMS)
+        × All IsWeight e.weights.items × (e.active ≡ active_count (accepted_in e.machine))
+        × (length e.machine.entries + e.active ≤ MAX_ENTRIES) × IsIndexOf e.machine.entries e.index };
 }
 
 impl Engine {
     /// How many entries there are, with one for the end of each active transaction.
     pub(crate) fn demand(&self) -> usize
         ensures taken { result ≡ taken self.now }
-        ensures most { result ≤ MOST_ENTRIES }
+        ensures most { result ≤ MAX_ENTRIES }
     {
         self.machine.log().len() + self.active
     }
@@ -84,7 +84,7 @@ impl Engine {
     /// Whether a transaction is active.
     #[tactic(auto, using(crate::proofs::Ends::active_is))]
     fn is_active(&self, t: TxnId) -> bool
-        ensures { result ≡ is_active (done self.now) t.0 }
+        ensures { result ≡ is_active (accepted_in self.now) t.0 }
     {
         match self.machine.history().facts(t) {
             Some(facts) => facts.end.is_none(),
@@ -103,16 +103,16 @@ impl Engine {
             | Event::BeginQuery {
                 limit: _,
                 strict: _,
-            } => demand + 2 > MOST_ENTRIES || self.count_begun() >= MOST_TRANSACTIONS,
+            } => demand + 2 > MAX_ENTRIES || self.count_begun() >= MAX_TRANSACTIONS,
             Event::Commit { txn } | Event::Abort { txn } => {
-                demand >= MOST_ENTRIES && !self.is_active(txn)
+                demand >= MAX_ENTRIES && !self.is_active(txn)
             }
             Event::Read { txn: _, item: _ }
             | Event::Write {
                 txn: _,
                 item: _,
                 value: _,
-            } => demand >= MOST_ENTRIES,
+            } => demand >= MAX_ENTRIES,
         }
     }
 
@@ -204,8 +204,8 @@ impl Engine {
             entries: self.machine.log().len() as u64,
             transactions: begun as u64,
             active: self.active as u64,
-            entries_left: (MOST_ENTRIES - self.demand()) as u64,
-            transactions_left: MOST_TRANSACTIONS.saturating_sub(begun) as u64,
+            entries_left: (MAX_ENTRIES - self.demand()) as u64,
+            transactions_left: MAX_TRANSACTIONS.saturating_sub(begun) as u64,
         }
     }
 
@@ -250,7 +250,7 @@ impl Engine {
 #[inline(always)]
 fn active_after(active: usize, reply: Reply) -> usize
     requires some { is_end reply ≡ true → 0 < active }
-    requires few { active ≤ MOST_ENTRIES }
+    requires few { active ≤ MAX_ENTRIES }
     ensures { result ≡ active_after active reply }
 {
     match reply {

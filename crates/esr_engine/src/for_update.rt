@@ -8,7 +8,7 @@ ghost use Rattle.std.specs.Prelude.{◌≡◌, ◌↔◌, true, IfOk, IfErr, OnO
 ghost use Rattle.esr_engine.specs.ForUpdate.{reply_for_update, after_for_update, has_lock, lock_event, IsHeldValue, IsPartlyDone, no_pair};
 
 use crate::engine::{Engine, Unanswered};
-use esr_history::{Event, MOST_ENTRIES, Reply, TxnId};
+use esr_history::{Event, MAX_ENTRIES, Reply, TxnId};
 use esr_items::ItemId;
 
 impl Engine {
@@ -54,7 +54,7 @@ impl Engine {
         ensures full { IsErrOf result Unanswered.Full ↔ (no_pair self.old ≡ true) }
         ensures err { IfErr result (λ _. IsPartlyDone self.old self.new t x) }
     {
-        if self.demand() + 2 > MOST_ENTRIES {
+        if self.demand() + 2 > MAX_ENTRIES {
             return Err(Unanswered::Full);
         }
         let _legal = self.machine.log(); // brings the invariant into the proof

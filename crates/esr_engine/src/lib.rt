@@ -17,7 +17,7 @@ mod for_update;
 mod opening;
 mod renewals;
 
-pub use account::{Account, Standing};
+pub use account::{Account, TxnStatus};
 pub use engine::{Counts, Engine, Unanswered};
 pub use esr_history::Kind;
 pub use opening::OpenError;

@@ -2,7 +2,7 @@
 //! exactly where it is.
 
 ghost use Rattle.std.specs.Prelude.{◌≡◌, ◌<◌, ◌≤◌, ◌↔◌, ◌⊎◌, [], length, map, All, Any, IsTrue, IfOk, IfErr, IsErrOf};
-ghost use Rattle.esr_base.specs.declared.limits.TheConstants.{MOST_ITEMS};
+ghost use Rattle.esr_base.specs.declared.limits.TheConstants.{MAX_ITEMS};
 ghost use Rattle.esr_items.specs.Values.{IsValue};
 ghost use Rattle.esr_items.specs.Weights.{IsWeight};
 ghost use Rattle.esr_history.specs.Machine.{schedule_of};
@@ -10,7 +10,7 @@ ghost use Rattle.esr_history.specs.Machine.{schedule_of};
 use crate::engine::Engine;
 use esr_core::Machine;
 use esr_history::NoMemory;
-use esr_items::{LARGEST_VALUE, LARGEST_WEIGHT, MOST_ITEMS, Store, Weighted};
+use esr_items::{MAX_ITEMS, MAX_VALUE, MAX_WEIGHT, Store, Weighted};
 use esr_order::Index;
 use std::alloc::{AllocError, Global};
 use thiserror::Error;
@@ -35,28 +35,28 @@ pub enum OpenError {
 fn is_value(v: i64) -> bool
     ensures { IsTrue result ↔ IsValue v }
 {
-    v.unsigned_abs() <= LARGEST_VALUE
+    v.unsigned_abs() <= MAX_VALUE
 }
 
 fn is_weight(w: u32) -> bool
     ensures { IsTrue result ↔ IsWeight w }
 {
-    1 <= w && w <= LARGEST_WEIGHT
+    1 <= w && w <= MAX_WEIGHT
 }
 
 /// Refuses values or weights of which there are too many, or one is out of range.
 fn check(opening: &[i64], weights: &[u32]) -> Result<(), OpenError>
-    ensures ok { IfOk result (λ _. (length opening.now ≤ MOST_ITEMS) × (length weights.now ≤ MOST_ITEMS)
+    ensures ok { IfOk result (λ _. (length opening.now ≤ MAX_ITEMS) × (length weights.now ≤ MAX_ITEMS)
         × All IsValue opening.now × All IsWeight weights.now) }
     ensures many { IsErrOf result OpenError.TooManyItems
-        ↔ ((MOST_ITEMS < length opening.now) ⊎ (MOST_ITEMS < length weights.now)) }
-    ensures range { IsErrOf result OpenError.ValueOutOfRange ↔ ((length opening.now ≤ MOST_ITEMS)
-        × (length weights.now ≤ MOST_ITEMS) × Any (λ v. ¬ IsValue v) opening.now) }
-    ensures weights { IsErrOf result OpenError.WeightOutOfRange ↔ ((length opening.now ≤ MOST_ITEMS)
-        × (length weights.now ≤ MOST_ITEMS) × All IsValue opening.now × Any (λ w. ¬ IsWeight w) weights.now) }
+        ↔ ((MAX_ITEMS < length opening.now) ⊎ (MAX_ITEMS < length weights.now)) }
+    ensures range { IsErrOf result OpenError.ValueOutOfRange ↔ ((length opening.now ≤ MAX_ITEMS)
+        × (length weights.now ≤ MAX_ITEMS) × Any (λ v. ¬ IsValue v) opening.now) }
+    ensures weights { IsErrOf result OpenError.WeightOutOfRange ↔ ((length opening.now ≤ MAX_ITEMS)
+        × (length weights.now ≤ MAX_ITEMS) × All IsValue opening.now × Any (λ w. ¬ IsWeight w) weights.now) }
     ensures memory { ¬ IsErrOf result OpenError.NoMemory }
 {
-    if opening.len() > MOST_ITEMS || weights.len() > MOST_ITEMS {
+    if opening.len() > MAX_ITEMS || weights.len() > MAX_ITEMS {
         return Err(OpenError::TooManyItems);
     }
     if !opening.iter().all(|v| is_value(*v)) {
@@ -70,7 +70,7 @@ fn check(opening: &[i64], weights: &[u32]) -> Result<(), OpenError>
 
 /// The metric of these weights.
 pub(crate) fn metric_of(alloc: Global, weights: &[u32]) -> Result<Weighted, AllocError>
-    requires few { length weights.now ≤ MOST_ITEMS }
+    requires few { length weights.now ≤ MAX_ITEMS }
     requires range { All IsWeight weights.now }
     ensures { IfOk result (λ m. m ≡ weights.now) }
 {
@@ -82,9 +82,9 @@ pub(crate) fn metric_of(alloc: Global, weights: &[u32]) -> Result<Weighted, Allo
 
 /// An engine of these values and weights.
 pub(crate) fn engine_of(alloc: Global, opening: &[i64], weights: &[u32]) -> Result<Engine, NoMemory>
-    requires few { length opening.now ≤ MOST_ITEMS }
+    requires few { length opening.now ≤ MAX_ITEMS }
     requires range { All IsValue opening.now }
-    requires weights { (length weights.now ≤ MOST_ITEMS) × All IsWeight weights.now }
+    requires weights { (length weights.now ≤ MAX_ITEMS) × All IsWeight weights.now }
     ensures { IfOk result (λ e. e ≡ schedule_of opening.now weights.now []) }
 {
     let items = Store::of_valid(alloc, opening)?;
@@ -107,11 +107,11 @@ impl Engine {
     pub fn new(alloc: Global, opening: &[i64], weights: &[u32]) -> Result<Engine, OpenError>
         ensures ok { IfOk result (λ e. e ≡ schedule_of opening.now weights.now []) }
         ensures many { IsErrOf result OpenError.TooManyItems
-            ↔ ((MOST_ITEMS < length opening.now) ⊎ (MOST_ITEMS < length weights.now)) }
-        ensures range { IsErrOf result OpenError.ValueOutOfRange ↔ ((length opening.now ≤ MOST_ITEMS)
-            × (length weights.now ≤ MOST_ITEMS) × Any (λ v. ¬ IsValue v) opening.now) }
-        ensures weights { IsErrOf result OpenError.WeightOutOfRange ↔ ((length opening.now ≤ MOST_ITEMS)
-            × (length weights.now ≤ MOST_ITEMS) × All IsValue opening.now × Any (λ w. ¬ IsWeight w) weights.now) }
+            ↔ ((MAX_ITEMS < length opening.now) ⊎ (MAX_ITEMS < length weights.now)) }
+        ensures range { IsErrOf result OpenError.ValueOutOfRange ↔ ((length opening.now ≤ MAX_ITEMS)
+            × (length weights.now ≤ MAX_ITEMS) × Any (λ v. ¬ IsValue v) opening.now) }
+        ensures weights { IsErrOf result OpenError.WeightOutOfRange ↔ ((length opening.now ≤ MAX_ITEMS)
+            × (length weights.now ≤ MAX_ITEMS) × All IsValue opening.now × Any (λ w. ¬ IsWeight w) weights.now) }
     {
         check(opening, weights)?;
         match engine_of(alloc, opening, weights) {

@@ -7,7 +7,7 @@ use Rattle.esr_history.specs.declared.event.Reply.{Reply}
 use Rattle.esr_history.specs.declared.event.Entry.{Entry}
 use Rattle.esr_history.specs.Events.{limit_of}
 use Rattle.esr_items.specs.Weights.{weighted}
-use Rattle.esr_history.specs.Machine.{Distance, Schedule, IsLegal, IsLegalAfter, blank, done, extended, reply_to}
+use Rattle.esr_history.specs.Machine.{Distance, Schedule, IsLegal, IsLegalAfter, empty_schedule, accepted_in, extended, reply_to}
 use Rattle.esr_core.specs.declared.machine.StepError.{StepError}
 use Rattle.esr_history.proofs.Onward.{legal_parts}
 use Rattle.esr_history.proofs.Charges.{range-push}
@@ -28,7 +28,7 @@ one_more (x ∷ es) (suc i) e is = ap (λ l. x ∷ l) (one_more es i e is)
 -- the reply of each entry is the machine's, after the entries before it
 reply_at : (d : Distance) (h : Schedule) (i : ℕ) (e : Entry) → IsLegal d h → slice_get h.entries i ≡ Some e → e.reply ≡ reply_to d (until i h) e.event
 reply_at d h i e legal is =
-    (legal_parts d (blank h) (take i h.entries) (e ∷ drop (suc i) h.entries) (subst (IsLegalAfter d (blank h)) (parts_at h.entries i e is) legal)).1.0
+    (legal_parts d (empty_schedule h) (take i h.entries) (e ∷ drop (suc i) h.entries) (subst (IsLegalAfter d (empty_schedule h)) (parts_at h.entries i e is) legal)).1.0
 
 -- the machine's reply to the event of the next entry makes the history one entry longer
 pub until_more : (d : Distance) (h : Schedule) (i : ℕ) (e : Entry) (r : Reply) → IsLegal d h → slice_get h.entries i ≡ Some e → r ≡ reply_to d (until i h) e.event
@@ -71,7 +71,7 @@ always (Ok x) P p = p
 always (Err e) P p = tt
 
 pub charge_is : (h : Schedule) (q i : ℕ) (m : Meeting) (a il im el em : ℕ) → a ≡ imported weighted h q (i + 1) - imported weighted h q i
-    → il ≡ limit_of (done h) q - imported weighted h q (i + 1) → im ≡ limit_of (done h) q
-    → el ≡ limit_of (done h) m.update.0 - exported weighted h m.update.0 (i + 1) → em ≡ limit_of (done h) m.update.0
+    → il ≡ limit_of (accepted_in h) q - imported weighted h q (i + 1) → im ≡ limit_of (accepted_in h) q
+    → el ≡ limit_of (accepted_in h) m.update.0 - exported weighted h m.update.0 (i + 1) → em ≡ limit_of (accepted_in h) m.update.0
     → charge_of weighted h q i m ≡ record { amount = a; step = i + 1; meeting = m; import_left = il; import_limit = im; export_left = el; export_limit = em }
 charge_is h q i m a il im el em x y z u v = rw (x, y, z, u, v) refl

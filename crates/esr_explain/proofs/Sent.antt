@@ -3,9 +3,9 @@ use Rattle.std.proofs.Common.{◌≡◌, ◌++◌, ℕ, List, ◌∙◌, ap, ari
 use Rattle.esr_items.specs.Weights.{weighted}
 use Rattle.esr_history.specs.Machine.{Schedule}
 use Rattle.esr_audit.specs.Findings.{summary, summary_of}
-use Rattle.esr_telling.specs.declared.query.Asked.{Asked}
-use Rattle.esr_telling.specs.Ask.{IsAnswered}
-use Rattle.esr_telling.specs.State.{ScriptState, transaction_called}
+use Rattle.esr_views.specs.declared.query.AuditedQuery.{AuditedQuery}
+use Rattle.esr_views.specs.Ask.{IsAnswered}
+use Rattle.esr_views.specs.State.{ScriptState, transaction_called}
 use Rattle.esr_explain.specs.Explain.{explanation}
 use Rattle.esr_explain.specs.Written.{explained}
 use Rattle.std.proofs.lemmas.Grind.{common_steps}
@@ -16,14 +16,14 @@ pub joined : (r c b a s after_r after_c after_b after_a after_s : List ℕ) → 
 joined r c b a s after_r after_c after_b after_a after_s is_r is_c is_b is_a is_s = grind (arith, common_steps)
 
 -- the query that was found is the one that was asked for
-query_is : (s : ScriptState) (name : List ℕ) (a : Asked) → IsAnswered s name a → a.finding.query.0 ≡ (transaction_called s name).0
+query_is : (s : ScriptState) (name : List ℕ) (a : AuditedQuery) → IsAnswered s name a → a.finding.query.0 ≡ (transaction_called s name).0
 query_is s name a h = ap (λ (t : ℕ × ℕ × ℕ × List ℕ). t.0) h.finding.told
 
-pub told_so : (s : ScriptState) (name : List ℕ) (a : Asked) → IsAnswered s name a → summary a.finding ≡ summary_of weighted a.history.schedule a.finding.query.0
+pub told_so : (s : ScriptState) (name : List ℕ) (a : AuditedQuery) → IsAnswered s name a → summary a.finding ≡ summary_of weighted a.history.schedule a.finding.query.0
 told_so s name a h = grind (arith, query_is s name a h)
 
 -- the explanation of what was asked for
-pub explained_told : (s : ScriptState) (name : List ℕ) (a : Asked) → IsAnswered s name a → (text : List ℕ)
+pub explained_told : (s : ScriptState) (name : List ℕ) (a : AuditedQuery) → IsAnswered s name a → (text : List ℕ)
     → text ≡ explanation weighted a.history.schedule a.items a.transactions a.finding.query.0 → text ≡ explained s name
 explained_told s name a h text is =
     is

@@ -6,7 +6,7 @@ use Rattle.esr_history.specs.declared.event.Event.{Event}
 use Rattle.esr_history.specs.declared.event.Event.TheVariants.{Read, Write}
 use Rattle.esr_history.specs.declared.event.Entry.{Entry}
 use Rattle.esr_history.specs.Events.{limit_of}
-use Rattle.esr_history.specs.Machine.{Distance, Schedule, done, distance_in, writer, charges_in, import_in, export_in}
+use Rattle.esr_history.specs.Machine.{Distance, Schedule, accepted_in, distance_in, writer, charges_in, import_in, export_in}
 use Rattle.esr_history.specs.Serial.{state}
 use Rattle.esr_history.specs.Queries.{updates_of, reads_by}
 use Rattle.esr_order.specs.Least.{least_set, least_cost}
@@ -59,7 +59,7 @@ exported d h u i = export_in (charges_in d (until i h)) u
 
 -- a read meets the update that has written the item and has not ended, if there is one
 abbrev pub read_meets : Schedule → ℕ → Option ℕ
-read_meets h x = if nat_lt x (length h.opening) then writer (done h) x else None
+read_meets h x = if nat_lt x (length h.opening) then writer (accepted_in h) x else None
 
 -- where an operation on an item meets an update: a read the one that has written it, a write the one that writes
 abbrev pub meeting : Schedule → Event → Option Meeting
@@ -74,10 +74,10 @@ charge_of d h q i m = record {
   amount = imported d h q (i + 1) - imported d h q i;
   step = i + 1;
   meeting = m;
-  import_left = limit_of (done h) q - imported d h q (i + 1);
-  import_limit = limit_of (done h) q;
-  export_left = limit_of (done h) m.update.0 - exported d h m.update.0 (i + 1);
-  export_limit = limit_of (done h) m.update.0;
+  import_left = limit_of (accepted_in h) q - imported d h q (i + 1);
+  import_limit = limit_of (accepted_in h) q;
+  export_left = limit_of (accepted_in h) m.update.0 - exported d h m.update.0 (i + 1);
+  export_limit = limit_of (accepted_in h) m.update.0;
 }
 
 -- the words that begin the line of a charge

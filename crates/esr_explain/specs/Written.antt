@@ -1,7 +1,7 @@
 -- What explaining a query of a script writes.
 use Rattle.std.specs.Prelude.{ℕ, List}
 use Rattle.esr_items.specs.Weights.{weighted}
-use Rattle.esr_telling.specs.State.{ScriptState, transaction_called}
+use Rattle.esr_views.specs.State.{ScriptState, transaction_called}
 use Rattle.esr_explain.specs.Explain.{explanation}
 
 -- the explanation of the query of that name after a script

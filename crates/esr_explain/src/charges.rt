@@ -7,13 +7,13 @@
 //! and not by its line: the history knows no lines.
 ghost use Rattle.std.specs.Prelude.{◌≡◌, ◌<◌, ◌+◌, ◌++◌, Some, IfOk, OnOk, slice_get, length};
 ghost use Rattle.esr_history.specs.Events.{limit_of};
-ghost use Rattle.esr_history.specs.Machine.{blank, done};
+ghost use Rattle.esr_history.specs.Machine.{empty_schedule, accepted_in};
 ghost use Rattle.esr_items.specs.Weights.{weighted};
 ghost use Rattle.esr_explain.specs.Explain.{charge_at, charge_line, charge_lines, meeting, name_of_item, named_charge_line, until, verb};
 
 use esr_core::Machine;
 use esr_history::{Event, History, NoMemory, TxnId};
-use esr_items::{ItemId, Lent, Metric, Store, Weighted};
+use esr_items::{ItemId, Metric, Store, Weighted, WeightedRef};
 use esr_report::{Names, name_of_transaction, push_line};
 use std::alloc::{AllocError, Global};
 
@@ -66,7 +66,7 @@ fn verb(operation: Operation) -> &'static str
 
 /// The limit of a transaction.
 fn limit(history: &History<Weighted>, t: TxnId) -> u64
-    ensures { result ≡ limit_of (done history.now.schedule) t.0 }
+    ensures { result ≡ limit_of (accepted_in history.now.schedule) t.0 }
 {
     match history.facts(t) {
         Some(facts) => facts.limit,
@@ -127,7 +127,7 @@ fn charge_line(
 }
 
 /// Where an event meets an update, of a machine that is to answer it.
-fn met_by(machine: &Machine<Lent<'_>>, event: Event) -> Option<Meeting>
+fn met_by(machine: &Machine<WeightedRef<'_>>, event: Event) -> Option<Meeting>
     ensures { result ≡ meeting machine.now event }
 {
     match event {
@@ -158,11 +158,14 @@ fn met_by(machine: &Machine<Lent<'_>>, event: Event) -> Option<Meeting>
 }
 
 /// A machine that is to make a history again.
-fn blank<'a>(alloc: Global, history: &'a History<Weighted>) -> Result<Machine<Lent<'a>>, NoMemory>
-    ensures { IfOk result (λ m. m ≡ blank history.entry.now.schedule) }
+fn replayer<'a>(
+    alloc: Global,
+    history: &'a History<Weighted>,
+) -> Result<Machine<WeightedRef<'a>>, NoMemory>
+    ensures { IfOk result (λ m. m ≡ empty_schedule history.entry.now.schedule) }
 {
     let store = Store::of_valid(alloc, history.opening_values())?;
-    Machine::new(alloc, store, Lent(history.metric()))
+    Machine::new(alloc, store, WeightedRef(history.metric()))
 }
 
 /// Appends the line of the charge of an entry, if the query was charged by it.
@@ -171,7 +174,7 @@ fn push_charge(
     items: &Names,
     transactions: &Names,
     history: &History<Weighted>,
-    machine: &mut Machine<Lent<'_>>,
+    machine: &mut Machine<WeightedRef<'_>>,
     i: usize,
     q: TxnId,
 ) -> Result<(), AllocError>
@@ -217,10 +220,10 @@ fn push_all(
     items: &Names,
     transactions: &Names,
     history: &History<Weighted>,
-    machine: &mut Machine<Lent<'_>>,
+    machine: &mut Machine<WeightedRef<'_>>,
     q: TxnId,
 ) -> Result<(), NoMemory>
-    requires { machine.old ≡ blank history.now.schedule }
+    requires { machine.old ≡ empty_schedule history.now.schedule }
     ensures { OnOk result (out.new.items ≡ out.old.items
         ++ charge_lines weighted history.now.schedule items.now transactions.now q.0) }
 {
@@ -242,6 +245,6 @@ pub fn push_charges(
     ensures { OnOk result (out.new.items ≡ out.old.items
         ++ charge_lines weighted history.now.schedule items.now transactions.now q.0) }
 {
-    let mut machine = blank(alloc, history)?;
+    let mut machine = replayer(alloc, history)?;
     push_all(out, items, transactions, history, &mut machine, q)
 }

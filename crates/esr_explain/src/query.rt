@@ -4,7 +4,7 @@ ghost use Rattle.std.specs.Prelude.{◌≡◌};
 ghost use Rattle.esr_explain.specs.Written.{explained};
 
 use crate::text::explanation;
-use esr_telling::{Asked, Telling};
+use esr_views::{AuditedQuery, QueryView};
 use std::alloc::{AllocError, Global};
 
 /// The explanation of a query: what it read, beside the values of the nearest placement; what it was charged, by which
@@ -12,16 +12,16 @@ use std::alloc::{AllocError, Global};
 /// others; and the sums.
 pub struct Explaining;
 
-impl Telling for Explaining {
+impl QueryView for Explaining {
     ghost IsTextOf = { λ _ s name text. text ≡ explained s name };
 
-    fn text_of(&self, alloc: Global, asked: &mut Asked) -> Result<Vec<u8>, AllocError> {
+    fn text_of(&self, alloc: Global, audited: &mut AuditedQuery) -> Result<Vec<u8>, AllocError> {
         let text = explanation(
             alloc,
-            &asked.items,
-            &asked.transactions,
-            &asked.history,
-            &asked.finding,
+            &audited.items,
+            &audited.transactions,
+            &audited.history,
+            &audited.finding,
         );
         match text {
             Ok(text) => Ok(text),

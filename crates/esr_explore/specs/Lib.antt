@@ -1,4 +1,4 @@
 -- What a run of blocks on one thread is, and what is told of it.
 pub mod Turns
-pub mod Tales
+pub mod Summaries
 pub mod Searches

@@ -1,12 +1,12 @@
 -- What is told of a search through many orders: of each the tale of its run.
 use Rattle.std.specs.Prelude.{◌≡◌, ℕ, ℤ, List, [], ◌∷◌, Option, Some, None, All, length, map, sum}
 use Rattle.esr_plan.specs.declared.call.Call.{Call}
-use Rattle.esr_turns.specs.Orders.{IsOrder, first_turns}
+use Rattle.esr_interleavings.specs.Orders.{IsOrder, first_turns}
 use Rattle.esr_explore.specs.declared.query.Query.{Query}
-use Rattle.esr_explore.specs.declared.tale.Tale.{Tale}
+use Rattle.esr_explore.specs.declared.run_summary.RunSummary.{RunSummary}
 use Rattle.esr_explore.specs.declared.ways.Ways.{Ways}
 use Rattle.esr_explore.specs.declared.ways.Ways.TheVariants as ways
-use Rattle.esr_explore.specs.Tales.{IsTale}
+use Rattle.esr_explore.specs.Summaries.{IsSummary}
 
 -- how many lines each block has
 abbrev pub line_counts : List (List Call) → List ℕ
@@ -27,16 +27,16 @@ drawn_of (ways.All orders) = None
 drawn_of (ways.Drawn seeds) = Some seeds
 
 -- a tale for each order, of a run with it: none is skipped, and none told twice
-abbrev pub AreTales : List ℤ → List ℕ → List (List Call) → List Query → List (List ℕ) → List Tale → Type 0
-AreTales opening weights blocks queries [] [] = Unit {0}
-AreTales opening weights blocks queries (order ∷ orders) (tale ∷ tales) =
-    IsTale opening weights blocks queries order tale × AreTales opening weights blocks queries orders tales
-AreTales opening weights blocks queries _ _ = ⊥
+abbrev pub AreRunSummaries : List ℤ → List ℕ → List (List Call) → List Query → List (List ℕ) → List RunSummary → Type 0
+AreRunSummaries opening weights blocks queries [] [] = Unit {0}
+AreRunSummaries opening weights blocks queries (order ∷ orders) (run_summary ∷ summaries) =
+    IsSummary opening weights blocks queries order run_summary × AreRunSummaries opening weights blocks queries orders summaries
+AreRunSummaries opening weights blocks queries _ _ = ⊥
 
 -- so many tales, each of a run with an order in which each block stands as often as it has lines
 pub record AreDrawn (opening : List ℤ) (weights : List ℕ) (blocks : List (List Call)) (queries : List Query) (counts : List ℕ)
-    (many : ℕ) (tales : List Tale) : Type 0 where
+    (many : ℕ) (summaries : List RunSummary) : Type 0 where
   pub orders : List (List ℕ)
   pub number : length orders ≡ many
   pub drawn : All (IsOrder counts (sum counts)) orders
-  pub told : AreTales opening weights blocks queries orders tales
+  pub outcomes : AreRunSummaries opening weights blocks queries orders summaries

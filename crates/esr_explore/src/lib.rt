@@ -11,11 +11,11 @@ mod pipeline;
 mod query;
 mod report;
 mod run;
+mod run_summary;
 mod runner;
 mod summary;
-mod tale;
 mod ways;
 
 pub use measure::Measure;
 pub use pipeline::{Search, explore};
-pub use ways::{ExploreFault, MOST_LINES};
+pub use ways::{ExploreFault, MAX_LINES};

@@ -2,30 +2,30 @@
 
 ghost use Rattle.std.specs.Prelude.{◌≡◌, ◌≤◌, ◌++◌, ◌∷◌, [], ℕ, List, None, false, IfOk, IfSome, OnOk, Some, length, map, sum};
 ghost use Rattle.std.specs.List.{Contains};
-ghost use Rattle.esr_base.specs.declared.limits.TheConstants.{MOST_ENTRIES};
-ghost use Rattle.esr_past.specs.Again.{IsPast};
+ghost use Rattle.esr_base.specs.declared.limits.TheConstants.{MAX_ENTRIES};
+ghost use Rattle.esr_dump.specs.RoundTrip.{IsDump};
 ghost use Rattle.esr_plan.specs.declared.draft.TheConstants.{MAX_BLOCKS};
 ghost use Rattle.esr_plan.specs.Plan.{weights_of};
-ghost use Rattle.esr_turns.specs.Orders.{IsOrder, first_turns};
-ghost use Rattle.esr_explore.specs.declared.tale.Tale.{Tale};
-ghost use Rattle.esr_explore.specs.Searches.{AreDrawn, AreTales, all_orders, drawn_of, line_counts, orders_of};
-ghost use Rattle.esr_explore.specs.Tales.{IsTale};
+ghost use Rattle.esr_interleavings.specs.Orders.{IsOrder, first_turns};
+ghost use Rattle.esr_explore.specs.declared.run_summary.RunSummary.{RunSummary};
+ghost use Rattle.esr_explore.specs.Searches.{AreDrawn, AreRunSummaries, all_orders, drawn_of, line_counts, orders_of};
+ghost use Rattle.esr_explore.specs.Summaries.{IsSummary};
 ghost use Rattle.esr_explore.specs.Turns.{AreDone};
 ghost use Rattle.esr_base.specs.Watch.{failed};
-ghost use Rattle.esr_plan.specs.Sheets.{IsSound};
+ghost use Rattle.esr_plan.specs.DrivePlans.{IsSound};
 
 use crate::measure::Measure;
 use crate::query::{Query, queries_of};
 use crate::report::{push_blocks, push_head, push_query};
 use crate::run::{Run, run_order};
+use crate::run_summary::{RunSummary, summarize};
 use crate::runner::Runner;
 use crate::summary::worst_of;
-use crate::tale::{Tale, tell};
 use crate::ways::{ExploreFault, Ways, all_ways, line_counts};
+use esr_dump::named_script;
 use esr_history::{Reply, Watched};
-use esr_past::named_script;
-use esr_plan::{DriveFault, Sheet, begun_names, read_all, sheet_of};
-use esr_turns::{count_orders, draw_order};
+use esr_interleavings::{count_orders, draw_order};
+use esr_plan::{DriveFault, DrivePlan, begun_names, drive_plan_of, read_all};
 use std::alloc::{AllocError, Global};
 use std::io::{Read, Write};
 
@@ -52,11 +52,11 @@ pub fn explore<I: Read, O: Write>(
         Ok(bytes) => bytes,
         Err(fault) => return Err(ExploreFault::Drive(fault)),
     };
-    let sheet = match sheet_of(alloc, &bytes) {
-        Ok(sheet) => sheet,
+    let drive_plan = match drive_plan_of(alloc, &bytes) {
+        Ok(drive_plan) => drive_plan,
         Err(fault) => return Err(ExploreFault::Drive(fault)),
     };
-    let out = text_of(alloc, &sheet, search)?;
+    let out = text_of(alloc, &drive_plan, search)?;
     match writer.send_all(&out) {
         Ok(()) => Ok(()),
         Err(_) => Err(ExploreFault::Drive(DriveFault::Write)),
@@ -76,91 +76,94 @@ fn ways_of(alloc: Global, counts: &[u32], seeds: Option<u64>) -> Result<Ways, Ex
 }
 
 /// What is told of the run with an order.
-fn tale_of(
+fn summary_of(
     alloc: Global,
-    sheet: &Sheet<'_>,
+    drive_plan: &DrivePlan<'_>,
     queries: &[Query<'_>],
     order: &[u8],
-) -> Result<Tale, ExploreFault>
-    requires { IsSound sheet.now }
-    ensures { IfOk result (λ tale. IsTale sheet.now.values.items (weights_of sheet.now.weights.items)
-        (map (λ b. b.items) sheet.now.blocks.items) queries.now order.now tale) }
+) -> Result<RunSummary, ExploreFault>
+    requires { IsSound drive_plan.now }
+    ensures { IfOk result (λ run_summary. IsSummary drive_plan.now.values.items (weights_of drive_plan.now.weights.items)
+        (map (λ b. b.items) drive_plan.now.blocks.items) queries.now order.now run_summary) }
 {
-    let run = run_order(alloc, sheet, order)?;
-    let tale = tell(alloc, &run, queries)?;
-    Ok(tale)
+    let run = run_order(alloc, drive_plan, order)?;
+    let run_summary = summarize(alloc, &run, queries)?;
+    Ok(run_summary)
 }
 
 /// Appends what is told of one more run.
-fn push_tale(tales: &mut Vec<Tale>, tale: Tale) -> Result<(), ExploreFault>
-    ensures { OnOk result (tales.new.items ≡ tales.old.items ++ tale ∷ []) }
+fn push_summary(
+    summaries: &mut Vec<RunSummary>,
+    run_summary: RunSummary,
+) -> Result<(), ExploreFault>
+    ensures { OnOk result (summaries.new.items ≡ summaries.old.items ++ run_summary ∷ []) }
 {
-    match tales.push(tale) {
+    match summaries.push(run_summary) {
         Ok(()) => Ok(()),
         Err(_) => Err(ExploreFault::Drive(DriveFault::NoMemory)),
     }
 }
 
 /// What is told of the run with each of these orders.
-fn tales_of(
+fn summaries_of(
     alloc: Global,
-    sheet: &Sheet<'_>,
+    drive_plan: &DrivePlan<'_>,
     queries: &[Query<'_>],
     orders: &[Vec<u8>],
-) -> Result<Vec<Tale>, ExploreFault>
-    requires { IsSound sheet.now }
-    ensures { IfOk result (λ tales. AreTales sheet.now.values.items (weights_of sheet.now.weights.items)
-        (map (λ b. b.items) sheet.now.blocks.items) queries.now (map (λ o. o.items) orders.now) tales.items) }
+) -> Result<Vec<RunSummary>, ExploreFault>
+    requires { IsSound drive_plan.now }
+    ensures { IfOk result (λ summaries. AreRunSummaries drive_plan.now.values.items (weights_of drive_plan.now.weights.items)
+        (map (λ b. b.items) drive_plan.now.blocks.items) queries.now (map (λ o. o.items) orders.now) summaries.items) }
 {
-    let mut tales = Vec::new(alloc);
+    let mut summaries = Vec::new(alloc);
     for order in orders {
-        let tale = tale_of(alloc, sheet, queries, order)?;
-        push_tale(&mut tales, tale)?;
+        let run_summary = summary_of(alloc, drive_plan, queries, order)?;
+        push_summary(&mut summaries, run_summary)?;
     }
-    Ok(tales)
+    Ok(summaries)
 }
 
 /// What is told of the run with each order that these seeds draw.
-fn drawn_tales(
+fn drawn_summaries(
     alloc: Global,
-    sheet: &Sheet<'_>,
+    drive_plan: &DrivePlan<'_>,
     queries: &[Query<'_>],
     counts: &[u32],
     seeds: u64,
-) -> Result<Vec<Tale>, ExploreFault>
-    requires sound { IsSound sheet.now }
+) -> Result<Vec<RunSummary>, ExploreFault>
+    requires sound { IsSound drive_plan.now }
     requires few { length counts.now ≤ MAX_BLOCKS }
-    ensures { IfOk result (λ tales. AreDrawn sheet.now.values.items (weights_of sheet.now.weights.items)
-        (map (λ b. b.items) sheet.now.blocks.items) queries.now counts.now seeds tales.items) }
+    ensures { IfOk result (λ summaries. AreDrawn drive_plan.now.values.items (weights_of drive_plan.now.weights.items)
+        (map (λ b. b.items) drive_plan.now.blocks.items) queries.now counts.now seeds summaries.items) }
 {
-    let mut tales = Vec::new(alloc);
+    let mut summaries = Vec::new(alloc);
     for seed in 0..seeds {
         let order = draw_order(alloc, counts, seed)?;
-        let tale = tale_of(alloc, sheet, queries, &order)?;
-        push_tale(&mut tales, tale)?;
+        let run_summary = summary_of(alloc, drive_plan, queries, &order)?;
+        push_summary(&mut summaries, run_summary)?;
     }
-    Ok(tales)
+    Ok(summaries)
 }
 
 /// What is told of the run with each order that is gone through.
-fn all_tales(
+fn all_summaries(
     alloc: Global,
-    sheet: &Sheet<'_>,
+    drive_plan: &DrivePlan<'_>,
     queries: &[Query<'_>],
     ways: &Ways,
     counts: &[u32],
-) -> Result<Vec<Tale>, ExploreFault>
-    requires sound { IsSound sheet.now }
+) -> Result<Vec<RunSummary>, ExploreFault>
+    requires sound { IsSound drive_plan.now }
     requires few { length counts.now ≤ MAX_BLOCKS }
-    ensures all { IfOk result (λ tales. IfSome (orders_of ways.now) (λ orders. AreTales sheet.now.values.items
-        (weights_of sheet.now.weights.items) (map (λ b. b.items) sheet.now.blocks.items) queries.now orders tales.items)) }
-    ensures drawn { IfOk result (λ tales. IfSome (drawn_of ways.now) (λ n. AreDrawn sheet.now.values.items
-        (weights_of sheet.now.weights.items) (map (λ b. b.items) sheet.now.blocks.items) queries.now counts.now n
-        tales.items)) }
+    ensures all { IfOk result (λ summaries. IfSome (orders_of ways.now) (λ orders. AreRunSummaries drive_plan.now.values.items
+        (weights_of drive_plan.now.weights.items) (map (λ b. b.items) drive_plan.now.blocks.items) queries.now orders summaries.items)) }
+    ensures drawn { IfOk result (λ summaries. IfSome (drawn_of ways.now) (λ n. AreDrawn drive_plan.now.values.items
+        (weights_of drive_plan.now.weights.items) (map (λ b. b.items) drive_plan.now.blocks.items) queries.now counts.now n
+        summaries.items)) }
 {
     match ways {
-        Ways::All(orders) => tales_of(alloc, sheet, queries, orders.as_slice()),
-        Ways::Drawn { seeds } => drawn_tales(alloc, sheet, queries, counts, *seeds),
+        Ways::All(orders) => summaries_of(alloc, drive_plan, queries, orders.as_slice()),
+        Ways::Drawn { seeds } => drawn_summaries(alloc, drive_plan, queries, counts, *seeds),
     }
 }
 
@@ -168,47 +171,47 @@ fn all_tales(
 #[derive(Drop)]
 struct Found {
     ways: Ways,
-    tales: Vec<Tale>,
+    summaries: Vec<RunSummary>,
 }
 
 /// Goes through all orders of the blocks, or through so many drawn ones. Where all are gone through, none is left out;
 /// what is drawn are orders of just the blocks' lines.
 fn search_orders(
     alloc: Global,
-    sheet: &Sheet<'_>,
+    drive_plan: &DrivePlan<'_>,
     queries: &[Query<'_>],
     counts: &[u32],
     seeds: Option<u64>,
 ) -> Result<Found, ExploreFault>
-    requires sound { IsSound sheet.now }
-    requires counts { counts.now ≡ line_counts (map (λ b. b.items) sheet.now.blocks.items) }
-    ensures all { seeds ≡ None → IfOk result (λ found. AreTales sheet.now.values.items
-        (weights_of sheet.now.weights.items) (map (λ b. b.items) sheet.now.blocks.items) queries.now
-        (all_orders (map (λ b. b.items) sheet.now.blocks.items)) found.tales.items) }
+    requires sound { IsSound drive_plan.now }
+    requires counts { counts.now ≡ line_counts (map (λ b. b.items) drive_plan.now.blocks.items) }
+    ensures all { seeds ≡ None → IfOk result (λ found. AreRunSummaries drive_plan.now.values.items
+        (weights_of drive_plan.now.weights.items) (map (λ b. b.items) drive_plan.now.blocks.items) queries.now
+        (all_orders (map (λ b. b.items) drive_plan.now.blocks.items)) found.summaries.items) }
     ensures every { seeds ≡ None → IfOk result (λ found. (order : List ℕ) → IsOrder counts.now (sum counts.now) order
-        → (tale : Tale) × (Contains found.tales.items tale × IsTale sheet.now.values.items
-        (weights_of sheet.now.weights.items) (map (λ b. b.items) sheet.now.blocks.items) queries.now order tale)) }
-    ensures drawn { IfSome seeds (λ n. IfOk result (λ found. AreDrawn sheet.now.values.items
-        (weights_of sheet.now.weights.items) (map (λ b. b.items) sheet.now.blocks.items) queries.now counts.now n
-        found.tales.items)) }
+        → (run_summary : RunSummary) × (Contains found.summaries.items run_summary × IsSummary drive_plan.now.values.items
+        (weights_of drive_plan.now.weights.items) (map (λ b. b.items) drive_plan.now.blocks.items) queries.now order run_summary)) }
+    ensures drawn { IfSome seeds (λ n. IfOk result (λ found. AreDrawn drive_plan.now.values.items
+        (weights_of drive_plan.now.weights.items) (map (λ b. b.items) drive_plan.now.blocks.items) queries.now counts.now n
+        found.summaries.items)) }
 {
     let ways = ways_of(alloc, counts, seeds)?;
-    let tales = all_tales(alloc, sheet, queries, &ways, counts)?;
-    Ok(Found { ways, tales })
+    let summaries = all_summaries(alloc, drive_plan, queries, &ways, counts)?;
+    Ok(Found { ways, summaries })
 }
 
 /// What is written of the runs that these tales are of.
 fn report_of(
     alloc: Global,
     queries: &[Query<'_>],
-    tales: &[Tale],
+    summaries: &[RunSummary],
     counts: &[u32],
 ) -> Result<Vec<u8>, AllocError> {
     let mut out = Vec::new(alloc);
-    push_head(&mut out, tales.len() as u64, count_orders(counts))?;
-    push_blocks(alloc, &mut out, tales, counts.len())?;
+    push_head(&mut out, summaries.len() as u64, count_orders(counts))?;
+    push_blocks(alloc, &mut out, summaries, counts.len())?;
     for place in 0..queries.len() {
-        push_query(alloc, &mut out, tales, place, queries[place])?;
+        push_query(alloc, &mut out, summaries, place, queries[place])?;
     }
     Ok(out)
 }
@@ -225,31 +228,46 @@ fn replies_of(alloc: Global, runners: Vec<Runner>) -> Result<Vec<Vec<Reply>>, Al
 }
 
 /// The history of a run, as a script.
-fn script_of(alloc: Global, sheet: &Sheet<'_>, run: Run) -> Result<Vec<u8>, AllocError>
-    requires done { AreDone (map (λ b. b.items) sheet.now.blocks.items) run.runners.items }
-    requires most { length run.history.schedule.entries ≤ MOST_ENTRIES }
+fn script_of(alloc: Global, drive_plan: &DrivePlan<'_>, run: Run) -> Result<Vec<u8>, AllocError>
+    requires done { AreDone (map (λ b. b.items) drive_plan.now.blocks.items) run.runners.items }
+    requires most { length run.history.schedule.entries ≤ MAX_ENTRIES }
     ensures { IfOk result (λ out. (names : List (List ℕ))
-        × IsPast sheet.now.names names run.history.schedule out.items) }
+        × IsDump drive_plan.now.names names run.history.schedule out.items) }
 {
     let Run { history, runners } = run;
     let replies = replies_of(alloc, runners)?;
-    let names = begun_names(alloc, &history, sheet.blocks.as_slice(), replies.as_slice())?;
-    let text = named_script(alloc, &sheet.names, &names, &history)?;
+    let names = begun_names(
+        alloc,
+        &history,
+        drive_plan.blocks.as_slice(),
+        replies.as_slice(),
+    )?;
+    let text = named_script(alloc, &drive_plan.names, &names, &history)?;
     Ok(text)
 }
 
 /// What is written of the runs of a plan.
-fn text_of(alloc: Global, sheet: &Sheet<'_>, search: Search) -> Result<Vec<u8>, ExploreFault>
-    requires { IsSound sheet.now }
+fn text_of(
+    alloc: Global,
+    drive_plan: &DrivePlan<'_>,
+    search: Search,
+) -> Result<Vec<u8>, ExploreFault>
+    requires { IsSound drive_plan.now }
 {
-    let counts = line_counts(alloc, sheet.blocks.as_slice())?;
-    let queries = queries_of(alloc, sheet.blocks.as_slice())?;
-    let Found { ways, tales } = search_orders(alloc, sheet, &queries, &counts, search.seeds)?;
+    let counts = line_counts(alloc, drive_plan.blocks.as_slice())?;
+    let queries = queries_of(alloc, drive_plan.blocks.as_slice())?;
+    let Found { ways, summaries } = search_orders(
+        alloc,
+        drive_plan,
+        &queries,
+        &counts,
+        search.seeds,
+    )?;
     match search.worst {
-        None => Ok(report_of(alloc, &queries, &tales, &counts)?),
+        None => Ok(report_of(alloc, &queries, &summaries, &counts)?),
         Some(measure) => {
-            let order = ways.order(alloc, &counts, worst_of(&tales, measure))?;
-            Ok(script_of(alloc, sheet, run_order(alloc, sheet, &order)?)?)
+            let order = ways.order(alloc, &counts, worst_of(&summaries, measure))?;
+            Ok(script_of(alloc, drive_plan, run_order(alloc, drive_plan, &order)?)?)
         }
     }
 }

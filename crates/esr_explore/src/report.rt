@@ -1,8 +1,8 @@
 //! What is written of many runs: how many there were, a line for each block, and one for each query.
 
 use crate::query::Query;
-use crate::summary::{Spread, gather, spread_of, told_at};
-use crate::tale::Tale;
+use crate::run_summary::RunSummary;
+use crate::summary::{Spread, gather, outcome_at, spread_of};
 use std::alloc::{AllocError, Global};
 
 fn push_text(out: &mut Vec<u8>, text: &str) -> Result<(), AllocError> {
@@ -39,10 +39,10 @@ pub fn push_head(out: &mut Vec<u8>, done: u64, of: Option<u64>) -> Result<(), Al
 }
 
 /// In how many runs a line of the block was given up.
-fn lost_in(tales: &[Tale], block: usize) -> u64 {
+fn lost_in(summaries: &[RunSummary], block: usize) -> u64 {
     let mut runs = 0u64;
-    for tale in tales {
-        if tale.given_up.get(block).copied().unwrap_or(0) > 0 {
+    for run_summary in summaries {
+        if run_summary.given_up.get(block).copied().unwrap_or(0) > 0 {
             runs = runs.saturating_add(1);
         }
     }
@@ -53,13 +53,17 @@ fn lost_in(tales: &[Tale], block: usize) -> u64 {
 fn push_block(
     alloc: Global,
     out: &mut Vec<u8>,
-    tales: &[Tale],
+    summaries: &[RunSummary],
     block: usize,
 ) -> Result<(), AllocError> {
-    let blocked = gather(alloc, tales, |tale: &Tale| tale.blocked.get(block).copied())?;
+    let blocked = gather(
+        alloc,
+        summaries,
+        |run_summary: &RunSummary| run_summary.blocked.get(block).copied(),
+    )?;
     push_count(out, "session ", block as u64)?;
     push_spread(out, " blocked", blocked)?;
-    push_count(out, " gave up ", lost_in(tales, block))?;
+    push_count(out, " gave up ", lost_in(summaries, block))?;
     push_text(out, "\n")
 }
 
@@ -67,11 +71,11 @@ fn push_block(
 pub fn push_blocks(
     alloc: Global,
     out: &mut Vec<u8>,
-    tales: &[Tale],
+    summaries: &[RunSummary],
     blocks: usize,
 ) -> Result<(), AllocError> {
     for block in 0..blocks {
-        push_block(alloc, out, tales, block)?;
+        push_block(alloc, out, summaries, block)?;
     }
     Ok(())
 }
@@ -80,15 +84,15 @@ pub fn push_blocks(
 pub fn push_query(
     alloc: Global,
     out: &mut Vec<u8>,
-    tales: &[Tale],
+    summaries: &[RunSummary],
     place: usize,
     query: Query<'_>,
 ) -> Result<(), AllocError> {
-    let imports = gather(alloc, tales, |tale: &Tale| {
-        told_at(tale, place).map(|told| told.import)
+    let imports = gather(alloc, summaries, |run_summary: &RunSummary| {
+        outcome_at(run_summary, place).map(|outcomes| outcomes.import)
     })?;
-    let distances = gather(alloc, tales, |tale: &Tale| {
-        told_at(tale, place).map(|told| told.distance)
+    let distances = gather(alloc, summaries, |run_summary: &RunSummary| {
+        outcome_at(run_summary, place).map(|outcomes| outcomes.distance)
     })?;
     push_text(out, "query ")?;
     push_text(out, query.name)?;

@@ -7,17 +7,17 @@
 ghost use Rattle.std.specs.Prelude.{◌≡◌, ℕ, List, [], ◌<◌, ◌≤◌, IfOk, IfNone, OnOk, length, map, slice_index_or};
 ghost use Rattle.std.specs.List.{range_with_len};
 ghost use Rattle.esr_items.specs.Weights.{weighted};
-ghost use Rattle.esr_base.specs.declared.limits.TheConstants.{MOST_ENTRIES};
+ghost use Rattle.esr_base.specs.declared.limits.TheConstants.{MAX_ENTRIES};
 ghost use Rattle.esr_history.specs.Machine.{IsLegal};
 ghost use Rattle.esr_plan.specs.Plan.{weights_of};
-ghost use Rattle.esr_plan.specs.Sheets.{IsSound};
+ghost use Rattle.esr_plan.specs.DrivePlans.{IsSound};
 ghost use Rattle.esr_explore.specs.Turns.{AreDone, IsRun, begun, fresh, history_after, runner_after, next_event, stage, turn, turns};
 
 use crate::runner::Runner;
 use esr_core::{Machine, StepError};
 use esr_history::{Event, History};
 use esr_items::{Store, Weighted};
-use esr_plan::{Call, DriveFault, Sheet, event_of, metric_of};
+use esr_plan::{Call, DriveFault, DrivePlan, event_of, metric_of};
 use std::alloc::{AllocError, Global};
 
 /// What came of a run: the history, and for each block what came of its lines.
@@ -157,13 +157,13 @@ fn finish(
 }
 
 /// A machine with the items of a plan.
-fn machine_of(alloc: Global, sheet: &Sheet<'_>) -> Result<Machine<Weighted>, DriveFault>
-    requires { IsSound sheet.now }
-    ensures { IfOk result (λ m. m ≡ (begun sheet.now.values.items (weights_of sheet.now.weights.items)
-        (map (λ b. b.items) sheet.now.blocks.items)).history) }
+fn machine_of(alloc: Global, drive_plan: &DrivePlan<'_>) -> Result<Machine<Weighted>, DriveFault>
+    requires { IsSound drive_plan.now }
+    ensures { IfOk result (λ m. m ≡ (begun drive_plan.now.values.items (weights_of drive_plan.now.weights.items)
+        (map (λ b. b.items) drive_plan.now.blocks.items)).history) }
 {
-    let items = Store::of_valid(alloc, &sheet.values)?;
-    let metric = metric_of(alloc, sheet.weights.as_slice())?;
+    let items = Store::of_valid(alloc, &drive_plan.values)?;
+    let metric = metric_of(alloc, drive_plan.weights.as_slice())?;
     let machine = Machine::new(alloc, items, metric)?;
     Ok(machine)
 }
@@ -177,15 +177,15 @@ fn fault_of(error: StepError) -> DriveFault {
 }
 
 /// Runs the blocks of a plan: in this order, and what it leaves over in rounds.
-pub fn run_order(alloc: Global, sheet: &Sheet<'_>, order: &[u8]) -> Result<Run, DriveFault>
-    requires { IsSound sheet.now }
-    ensures run { IfOk result (λ r. IsRun sheet.now.values.items (weights_of sheet.now.weights.items)
-        (map (λ b. b.items) sheet.now.blocks.items) order.now (stage r.history.schedule r.runners.items)) }
+pub fn run_order(alloc: Global, drive_plan: &DrivePlan<'_>, order: &[u8]) -> Result<Run, DriveFault>
+    requires { IsSound drive_plan.now }
+    ensures run { IfOk result (λ r. IsRun drive_plan.now.values.items (weights_of drive_plan.now.weights.items)
+        (map (λ b. b.items) drive_plan.now.blocks.items) order.now (stage r.history.schedule r.runners.items)) }
     ensures legal { IfOk result (λ r. IsLegal weighted r.history.schedule) }
-    ensures most { IfOk result (λ r. length r.history.schedule.entries ≤ MOST_ENTRIES) }
+    ensures most { IfOk result (λ r. length r.history.schedule.entries ≤ MAX_ENTRIES) }
 {
-    let blocks = sheet.blocks.as_slice();
-    let mut machine = machine_of(alloc, sheet)?;
+    let blocks = drive_plan.blocks.as_slice();
+    let mut machine = machine_of(alloc, drive_plan)?;
     let mut runners = fresh_runners(alloc, blocks.len())?;
     if let Err(error) = take_turns(&mut machine, blocks, &mut runners, order) {
         return Err(fault_of(error));

@@ -1,7 +1,7 @@
 //! The worst and the middle of what many runs tell, and which run is the worst.
 
 use crate::measure::Measure;
-use crate::tale::{Tale, Told};
+use crate::run_summary::{QueryOutcome, RunSummary};
 use std::alloc::{AllocError, Global};
 
 /// The greatest of some numbers, and the one in the middle of them in ascending order.
@@ -26,16 +26,16 @@ pub fn spread_of(numbers: Vec<u64>) -> Result<Option<Spread>, AllocError> {
 }
 
 /// One number of each tale that has it.
-pub fn gather<F: Fn(&Tale) -> Option<u64>>(
+pub fn gather<F: Fn(&RunSummary) -> Option<u64>>(
     alloc: Global,
-    tales: &[Tale],
+    summaries: &[RunSummary],
     number_of: F,
 ) -> Result<Vec<u64>, AllocError>
     requires { F.IsAlwaysCallable number_of }
 {
     let mut numbers = Vec::new(alloc);
-    for tale in tales {
-        if let Some(number) = number_of(tale) {
+    for run_summary in summaries {
+        if let Some(number) = number_of(run_summary) {
             numbers.push(number)?;
         }
     }
@@ -43,16 +43,16 @@ pub fn gather<F: Fn(&Tale) -> Option<u64>>(
 }
 
 /// What is told of the query with a place among those of the file, where it committed.
-pub fn told_at(tale: &Tale, query: usize) -> Option<Told> {
-    tale.told.get(query).copied().flatten()
+pub fn outcome_at(run_summary: &RunSummary, query: usize) -> Option<QueryOutcome> {
+    run_summary.outcomes.get(query).copied().flatten()
 }
 
 /// The greatest number of a query by a measure.
-fn greatest(told: &[Option<Told>], measure: Measure) -> u64 {
+fn greatest(outcomes: &[Option<QueryOutcome>], measure: Measure) -> u64 {
     let mut greatest = 0u64;
-    for told in told {
-        if let Some(told) = told {
-            greatest = greatest.max(told.by(measure));
+    for outcomes in outcomes {
+        if let Some(outcomes) = outcomes {
+            greatest = greatest.max(outcomes.by(measure));
         }
     }
     greatest
@@ -68,19 +68,19 @@ fn sum_of(counts: &[u64]) -> u64 {
 }
 
 /// How bad a run is by a measure.
-fn size_of(tale: &Tale, measure: Measure) -> u64 {
+fn size_of(run_summary: &RunSummary, measure: Measure) -> u64 {
     match measure {
-        Measure::Blocked => sum_of(&tale.blocked),
-        Measure::Import | Measure::Distance => greatest(&tale.told, measure),
+        Measure::Blocked => sum_of(&run_summary.blocked),
+        Measure::Import | Measure::Distance => greatest(&run_summary.outcomes, measure),
     }
 }
 
 /// The number of the first run that is the worst by a measure.
-pub fn worst_of(tales: &[Tale], measure: Measure) -> u64 {
+pub fn worst_of(summaries: &[RunSummary], measure: Measure) -> u64 {
     let mut worst = 0u64;
     let mut most = 0u64;
-    for i in 0..tales.len() {
-        let size = size_of(&tales[i], measure);
+    for i in 0..summaries.len() {
+        let size = size_of(&summaries[i], measure);
         if size > most {
             most = size;
             worst = i as u64;

@@ -3,17 +3,17 @@
 ghost use Rattle.std.specs.Prelude.{◌≡◌, ◌≤◌, Some, IfOk, length, map, sum};
 ghost use Rattle.esr_plan.specs.declared.draft.TheConstants.{MAX_BLOCKS};
 ghost use Rattle.esr_plan.specs.declared.fault.DriveFault.TheVariants.{NoMemory};
-ghost use Rattle.esr_turns.specs.Orders.{first_turns};
+ghost use Rattle.esr_interleavings.specs.Orders.{first_turns};
 ghost use Rattle.esr_explore.specs.declared.ways.ExploreFault.TheVariants.{Drive};
 ghost use Rattle.esr_explore.specs.Searches.{orders_of};
 
+use esr_interleavings::{MAX_ORDERS, all_orders, count_orders, draw_order};
 use esr_plan::{Call, DriveFault};
-use esr_turns::{MOST_ORDERS, all_orders, count_orders, draw_order};
 use std::alloc::{AllocError, Global};
 use std::fmt;
 
 /// The most lines in blocks where all orders are gone through.
-pub const MOST_LINES: usize = 1_000;
+pub const MAX_LINES: usize = 1_000;
 
 /// Why nothing was told.
 #[derive(Clone, Copy)]
@@ -94,7 +94,7 @@ fn sum_of(counts: &[u32]) -> usize
 /// Whether all of so many orders are gone through.
 fn is_few(count: Option<u64>) -> bool {
     match count {
-        Some(count) => count <= MOST_ORDERS as u64,
+        Some(count) => count <= MAX_ORDERS as u64,
         None => false,
     }
 }
@@ -106,7 +106,7 @@ pub fn all_ways(alloc: Global, counts: &[u32]) -> Result<Ways, ExploreFault>
 {
     let turns = sum_of(counts);
     let count = count_orders(counts);
-    if turns > MOST_LINES {
+    if turns > MAX_LINES {
         return Err(ExploreFault::TooManyLinesInBlocks);
     }
     if !is_few(count) {

@@ -22,7 +22,7 @@ use esr_cert::Chain;
 use std::alloc::{AllocError, Global};
 
 /// How many passes are made there and back.
-const MOST_PASSES: usize = 100;
+const MAX_PASSES: usize = 100;
 
 /// Marks the end of an arc to which a residual step leads from its other end, where that is marked. Whether it marked
 /// anything.
@@ -179,7 +179,7 @@ fn skim(graph: &Graph, flow: &[u64], marks: &mut [bool], first: usize)
     for i in first.saturating_add(graph.problem.before().len())..flow.len() {
         spread_if(graph, flow, marks, i);
     }
-    for _ in 0..MOST_PASSES {
+    for _ in 0..MAX_PASSES {
         let low = first_unmarked(marks);
         let more = skim_chains(graph, flow, marks, low);
         if !skim_pairs(graph, flow, marks, first, low) && !more {
@@ -263,7 +263,7 @@ fn pass_often(graph: &Graph, flow: &[u64], marks: &mut [bool]) -> bool
     ensures kept { result ≡ true → IsKept (arcs_of graph.now) flow.now marks.new }
 {
     let first = first_back_of(graph, flow.len());
-    for _ in 0..MOST_PASSES {
+    for _ in 0..MAX_PASSES {
         skim(graph, flow, marks, first);
         let more = pass_chains(graph, flow, marks);
         if !pass_back(graph, flow, marks, first) && !more {

@@ -4,7 +4,7 @@
 //! the same for all of them.
 ghost use Rattle.std.specs.Prelude.{◌≡◌, ℕ, ◌+◌, ◌*◌, ◌≤◌, true, false, Some, None, length, vec_len, map, take, drop, sum_by, get_or, IfOk, OnOk};
 ghost use Rattle.std.specs.List.{concat};
-ghost use Rattle.esr_base.specs.declared.limits.TheConstants.{MOST_TRANSACTIONS};
+ghost use Rattle.esr_base.specs.declared.limits.TheConstants.{MAX_TRANSACTIONS};
 ghost use Rattle.esr_cert.specs.Problem.{size, in_set, IsSmallestLeast};
 ghost use Rattle.esr_cert.specs.Network.{network};
 ghost use Rattle.esr_cert.specs.Flow as flows;
@@ -23,7 +23,7 @@ use std::alloc::{AllocError, Global};
 /// The marked positions, ascending.
 fn members(alloc: Global, marks: &[bool], count: usize) -> Result<Vec<u32>, AllocError>
     requires room { count ≤ length marks.now }
-    requires few { count ≤ MOST_TRANSACTIONS }
+    requires few { count ≤ MAX_TRANSACTIONS }
     ensures { IfOk result (λ set. set.items ≡ positions (is_marked marks.now) count) }
 {
     let mut set = Vec::new(alloc);

@@ -18,10 +18,10 @@ use esr_cert::{Arc, Chain, ResidualArc, ShortArc};
 use std::alloc::{AllocError, Global};
 
 /// How many rows all searches look at, for each node.
-const MOST_LOOKS: u64 = 120;
+const MAX_LOOKS: u64 = 120;
 
 /// How often what was let go of may go to an earlier update.
-const MOST_ROUNDS: usize = 1000;
+const MAX_ROUNDS: usize = 1000;
 
 /// Which way a sweep goes.
 #[derive(Clone, Copy, PartialEq, Eq)]
@@ -33,7 +33,7 @@ enum Sweep {
 
 /// What is known of a node.
 #[derive(Clone, Copy)]
-struct Sight {
+struct NodeLabel {
     /// The latest search that saw it.
     round: u32,
     /// A step between it and a node nearer to where that search began.
@@ -53,7 +53,7 @@ struct Searches {
     /// The nodes that the latest saw, in order.
     seen: Vec<u32>,
     /// What is known of each node.
-    sights: Vec<Sight>,
+    node_labels: Vec<NodeLabel>,
 }
 
 /// What may still be added on an arc of a capacity.
@@ -227,17 +227,17 @@ fn takes_part(field: &Field, sweep: Sweep, node: u32) -> bool {
 impl Searches {
     /// None yet, in a graph of so many nodes.
     fn none(alloc: Global, nodes: usize, sweep: Sweep) -> Result<Searches, AllocError> {
-        let unseen = Sight {
+        let unseen = NodeLabel {
             round: 0,
             way: ResidualArc::Forward(0),
             is_dead: false,
         };
         Ok(Searches {
             sweep,
-            looks: MOST_LOOKS.saturating_mul(nodes as u64),
+            looks: MAX_LOOKS.saturating_mul(nodes as u64),
             round: 0,
             seen: Vec::with_capacity(alloc, nodes)?,
-            sights: vec![in alloc; unseen; nodes]?,
+            node_labels: vec![in alloc; unseen; nodes]?,
         })
     }
 
@@ -251,10 +251,10 @@ impl Searches {
     /// Notes that a node was come to, and the way, unless that is known or the node is dead.
     fn see(&mut self, node: u32, way: ResidualArc) -> Result<(), AllocError> {
         let place = node as usize;
-        if place < self.sights.len() {
-            let sight = self.sights[place];
-            if sight.round != self.round && !sight.is_dead {
-                self.sights[place] = Sight {
+        if place < self.node_labels.len() {
+            let node_label = self.node_labels[place];
+            if node_label.round != self.round && !node_label.is_dead {
+                self.node_labels[place] = NodeLabel {
                     round: self.round,
                     way,
                     is_dead: false,
@@ -267,8 +267,8 @@ impl Searches {
 
     /// The step by which the latest search came to a node.
     fn way_from(&self, node: usize) -> ResidualArc {
-        match self.sights.get(node) {
-            Some(sight) => sight.way,
+        match self.node_labels.get(node) {
+            Some(node_label) => node_label.way,
             None => ResidualArc::Forward(0),
         }
     }
@@ -277,8 +277,8 @@ impl Searches {
     fn end_in_vain(&mut self) {
         for node in &self.seen {
             let place = *node as usize;
-            if place < self.sights.len() {
-                self.sights[place].is_dead = true;
+            if place < self.node_labels.len() {
+                self.node_labels[place].is_dead = true;
             }
         }
     }
@@ -652,7 +652,7 @@ fn add_forward(
 fn settle(field: &Field, flow: &mut [u64], mut owed: Vec<u64>, sweep: Sweep)
     ensures { length flow.new ≡ length flow.old }
 {
-    for _ in 0..MOST_ROUNDS {
+    for _ in 0..MAX_ROUNDS {
         if !let_all_go(field, flow, &mut owed, sweep) {
             return;
         }

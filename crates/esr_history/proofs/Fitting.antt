@@ -2,7 +2,7 @@
 use Rattle.std.proofs.Common.{◌≡◌, ℕ, ◌+◌, ◌<◌, ◌≤◌, true, false, not, [], ◌∷◌, ◌++◌, length, refl, sym, ◌∙◌, ap, arith, Option, Some, None, eqb, inl, inr, nat_le, if◌then◌else◌}
 use Rattle.std.proofs.lemmas.Bool.{true≢false, not-false, leb-false, ne_eqb, cases_Bool}
 use Rattle.esr_history.specs.Events.{is_refusal, beginning_of, beginnings, is_begun, Event, BeginUpdate, BeginQuery, Read, Write, Commit, Abort, Reply, Refusal, NoSuchTransaction, NoSuchItem}
-use Rattle.esr_history.specs.Machine.{Distance, Schedule, done, reply_to, reasons, refusal, acceptance, answered, not_begun, no_item, IsLegal}
+use Rattle.esr_history.specs.Machine.{Distance, Schedule, accepted_in, reply_to, reasons, refusal, acceptance, answered, not_begun, no_item, IsLegal}
 use Rattle.esr_history.specs.Legal.{legal_induction}
 use Rattle.esr_history.specs.BackLinks.{item_of, txn_of, ender, begun_by, begun_count, is_key, IsFit, IsNumbered}
 use Rattle.esr_history.proofs.Allowed.{NoneApplies, none_applies}
@@ -17,8 +17,8 @@ accepts d h e r is yes_it_is = at (refusal d h e) refl is
     at None none same = (none_applies (reasons d h e) none, same)
     at (Some why) some same = absurd (true≢false (sym (ap is_refusal same) ∙ yes_it_is))
 
-begun_below : (h : Schedule) (t : ℕ) → not_begun h t ≡ None → t < 1 + length (beginnings (done h))
-begun_below h t none = (begun_number (done h) t (not-false (is_begun (done h) t) (when_none (not (is_begun (done h) t)) NoSuchTransaction none))).1
+begun_below : (h : Schedule) (t : ℕ) → not_begun h t ≡ None → t < 1 + length (beginnings (accepted_in h))
+begun_below h t none = (begun_number (accepted_in h) t (not-false (is_begun (accepted_in h) t) (when_none (not (is_begun (accepted_in h) t)) NoSuchTransaction none))).1
 
 item_below : (h : Schedule) (x : ℕ) → no_item h x ≡ None → x < length h.opening
 item_below h x none = leb-false (length h.opening) x (when_none (nat_le (length h.opening) x) NoSuchItem none)

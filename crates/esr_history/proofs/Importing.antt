@@ -6,7 +6,7 @@ use Rattle.std.proofs.lemmas.List.{length-map, length_push}
 use Rattle.std.proofs.lemmas.Option.{slice_get_past}
 use Rattle.std.proofs.lemmas.List.FromFn.{length-range_with_len}
 use Rattle.esr_history.specs.Events.{Beginning, is_refusal, beginnings, beginning_of, limit_of, TxnId, Event, BeginUpdate, BeginQuery, Reply, LimitOutOfRange}
-use Rattle.esr_history.specs.Machine.{Distance, Schedule, done, extended, charges_in, charges, due_in, distance_in, import_in, limit_too_high, reply_to, reasons, IsLegal}
+use Rattle.esr_history.specs.Machine.{Distance, Schedule, accepted_in, extended, charges_in, charges, due_in, distance_in, import_in, limit_too_high, reply_to, reasons, IsLegal}
 use Rattle.esr_history.specs.Legal.{legal_induction, IsLegal-extended}
 use Rattle.esr_history.specs.BackLinks.{begun_count}
 use Rattle.esr_history.specs.Imports.{imported, with_number, AreImports, AreDue}
@@ -30,14 +30,14 @@ table_is f a (x ∷ l) same =
 abbrev AreLow : List Event → Type 0
 AreLow events = AllByRecursion (λ (b : Beginning). b.limit ≤ 10 ^ 18) (beginnings events)
 
-low_next : (d : Distance) (h : Schedule) (e : Event) (r : Reply) → r ≡ reply_to d h e → AreLow (done h) → AreLow (done (extended h e r))
+low_next : (d : Distance) (h : Schedule) (e : Event) (r : Reply) → r ≡ reply_to d h e → AreLow (accepted_in h) → AreLow (accepted_in (extended h e r))
 low_next d h e r is low =
     elim (cases_Bool (is_refusal r)) [
       | inl refused ↦ subst AreLow (sym (accepted_refused h.entries (record { event = e; reply = r }) refused)) low
       | inr ok ↦
           subst AreLow (sym (accepted_push h.entries (record { event = e; reply = r }) ok))
-          (subst (AllByRecursion (λ (b : Beginning). b.limit ≤ 10 ^ 18)) (sym (filter_map_push beginning_of (done h) e))
-          (Each-append (λ (b : Beginning). b.limit ≤ 10 ^ 18) (beginnings (done h)) (cons_option (beginning_of e) []) low (last e (accepts d h e r is ok).0)))
+          (subst (AllByRecursion (λ (b : Beginning). b.limit ≤ 10 ^ 18)) (sym (filter_map_push beginning_of (accepted_in h) e))
+          (Each-append (λ (b : Beginning). b.limit ≤ 10 ^ 18) (beginnings (accepted_in h)) (cons_option (beginning_of e) []) low (last e (accepts d h e r is ok).0)))
     ]
   where
     low_limit : (l : ℕ) → limit_too_high l ≡ None → l ≤ 10 ^ 18
@@ -60,27 +60,27 @@ low_limits events low (suc k) = at (beginnings events) k low
 module _ (d : Distance) (h : Schedule) (legal : IsLegal d h) where
   import_low : (t : ℕ) → import_in (charges_in d h) t ≤ 10 ^ 18
   import_low t =
-      let within : import_in (charges_in d h) t ≤ limit_of (done h) t = (legal_within_limits d h legal).imports t in
-      let low : limit_of (done h) t ≤ 10 ^ 18 = low_limits (done h) (legal_induction d (λ g. AreLow (done g)) (low_next d) h tt legal) t in
+      let within : import_in (charges_in d h) t ≤ limit_of (accepted_in h) t = (legal_within_limits d h legal).imports t in
+      let low : limit_of (accepted_in h) t ≤ 10 ^ 18 = low_limits (accepted_in h) (legal_induction d (λ g. AreLow (accepted_in g)) (low_next d) h tt legal) t in
       omega arith
 
   -- who has not begun has imported nothing
   import_none : (t : ℕ) → begun_count h.entries < t → import_in (charges_in d h) t ≡ 0
   import_none t past =
-      let within : import_in (charges_in d h) t ≤ limit_of (done h) t = (legal_within_limits d h legal).imports t in
-      let none : limit_of (done h) t ≡ 0 = unbegun t past in
+      let within : import_in (charges_in d h) t ≤ limit_of (accepted_in h) t = (legal_within_limits d h legal).imports t in
+      let none : limit_of (accepted_in h) t ≡ 0 = unbegun t past in
       omega arith
     where
-      unbegun : (t : ℕ) → begun_count h.entries < t → limit_of (done h) t ≡ 0
+      unbegun : (t : ℕ) → begun_count h.entries < t → limit_of (accepted_in h) t ≡ 0
       unbegun zero past = refl
-      unbegun (suc k) past = ap (λ (b : Option Beginning). unwrap_or (option_map (λ c. c.limit) b) 0) (slice_get_past (beginnings (done h)) k (omega arith))
+      unbegun (suc k) past = ap (λ (b : Option Beginning). unwrap_or (option_map (λ c. c.limit) b) 0) (slice_get_past (beginnings (accepted_in h)) k (omega arith))
 
   pub import_at : (table : List ℕ) → AreImports d h table → (t : ℕ) → slice_index_or table t 0 ≡ import_in (charges_in d h) t
   import_at table are t = grind (arith, ⊎_elim, mapped_get, mapped_past, import_none, cases_lt)
 
 module _ (d : Distance) (h : Schedule) (legal : IsLegal d h) (e : Event) (r : Reply) (is : r ≡ reply_to d h e) where
   more : is_refusal r ≡ false → (t : ℕ) → import_in (charges_in d (extended h e r)) t ≡ import_in (charges_in d h) t + import_in (due_in d h e) t
-  more ok t = ap (λ (es : List Event). import_in (charges (distance_in d h) h.opening es) t) (accepted_push h.entries (record { event = e; reply = r }) ok) ∙ import-push (distance_in d h) h.opening (done h) e t
+  more ok t = ap (λ (es : List Event). import_in (charges (distance_in d h) h.opening es) t) (accepted_push h.entries (record { event = e; reply = r }) ok) ∙ import-push (distance_in d h) h.opening (accepted_in h) e t
 
   -- the sums fit 64 bits
   pub import_fits : (table : List ℕ) → AreImports d h table → (charges : List (TxnId × ℕ)) → AreDue d h e r charges → is_refusal r ≡ false → (t : ℕ) → slice_index_or table t 0 + imported charges t < 2 ^ 64

@@ -7,7 +7,7 @@ use Rattle.std.proofs.lemmas.Bool.{and_parts, or_left}
 use Rattle.std.proofs.lemmas.List.Elements.{filter-append, filter_map-append}
 use Rattle.esr_items.specs.Values.{value_at}
 use Rattle.esr_history.specs.Events.{accepted, is_query, is_update, is_committed, written, last_value, ItemId, TxnId, Read, Value, Entry}
-use Rattle.esr_history.specs.Machine.{Distance, Schedule, done, distance_in, import_in, charges_in, IsLegal}
+use Rattle.esr_history.specs.Machine.{Distance, Schedule, accepted_in, distance_in, import_in, charges_in, IsLegal}
 use Rattle.esr_history.specs.Legal.{along}
 use Rattle.esr_history.specs.Operations.{Operation, operations, operations_in, commit_order}
 use Rattle.esr_history.specs.Serial.{is_before, committed_updates, state, IsSerializable}
@@ -29,22 +29,22 @@ operations-append xs ys = grind (arith, filter-append, filter_map-append, filter
 module _ (d : Distance) (h : Schedule) (legal : IsLegal d h) where
   -- in commit order, each committed update once and after those before it
   pub updates_once : Pairs (λ u v. u ≡ v → ⊥) (committed_updates h)
-  updates_once = Pairs-filter (λ u v. u ≡ v → ⊥) (is_update (done h)) (commit_order (done h)) (commits_once (legal_reached d h legal))
+  updates_once = Pairs-filter (λ u v. u ≡ v → ⊥) (is_update (accepted_in h)) (commit_order (accepted_in h)) (commits_once (legal_reached d h legal))
 
   pub updates_in_order : Pairs (λ u v. is_before h v u ≡ false) (committed_updates h)
   updates_in_order = commits_in_order (legal_reached d h legal)
 
   reads_serially : (before after : List Entry) (t : TxnId) (x : ItemId) (v : ℤ) → h.entries ≡ before ++ record { event = Read t x; reply = Value v } ∷ after
-      → IsTrue (is_update (done h) t.0 && is_committed (done h) t.0)
+      → IsTrue (is_update (accepted_in h) t.0 && is_committed (accepted_in h) t.0)
       → v ≡ last_value (state h (before_first (λ u. u == t.0) (committed_updates h)) x.0) (filter_map (written (λ u. u == t.0) x.0) (accepted before))
   reads_serially before after t x v split own =
       let r : Operation = record { txn = t.0; item = x.0; writes = false; value = v } in
-      let parts = and_parts (is_update (done h) t.0) (is_committed (done h) t.0) own in
+      let parts = and_parts (is_update (accepted_in h) t.0) (is_committed (accepted_in h) t.0) own in
       let ops : operations h ≡ operations_in before ++ r ∷ operations_in after = ap operations_in split ∙ operations-append before (record { event = Read t x; reply = Value v } ∷ after) in
       let at : slice_get (operations h) (length (operations_in before)) ≡ Some r = ap (λ l. slice_get l (length (operations_in before))) ops ∙ get_seam (operations_in before) r (operations_in after) in
       let front : take (length (operations_in before)) (operations h) ≡ operations_in before = ap (take (length (operations_in before))) ops ∙ take-append_seam (operations_in before) (r ∷ operations_in after) in
       let member : is_among (committed_updates h) t.0 ≡ true =
-      any-from_number (committed_updates h) t.0 (In-filter (is_update (done h)) (commit_order (done h)) t.0 (In-from_any (commit_order (done h)) t.0 (sym (committed_among (done h) t.0) ∙ parts.1)) parts.0) in
+      any-from_number (committed_updates h) t.0 (In-filter (is_update (accepted_in h)) (commit_order (accepted_in h)) t.0 (In-from_any (commit_order (accepted_in h)) t.0 (sym (committed_among (accepted_in h) t.0) ∙ parts.1)) parts.0) in
       reads_ahead (legal_reached d h legal) (length (operations_in before)) r at refl member
       ∙ (ap (λ l. after_writes (state_in (value_at h.opening) (trace h) (before_first (λ u. eqb u t.0) (committed_updates h)) x.0) (filter (wrote_by x.0 t.0) l)) front
       ∙ (ap (λ s. after_writes s (filter (wrote_by x.0 t.0) (operations_in before))) (sym (state_trace h (before_first (λ u. eqb u t.0) (committed_updates h)) x.0))
@@ -69,28 +69,28 @@ all_members (x ∷ xs) = ap (λ zs. x ∷ zs) (all_members xs)
 -- with all its updates before it, a committed query costs at most its import
 pub import_bounds_distance : (d : Distance) → ((w : List ℕ) → IsMetric (d w)) → (h : Schedule) → IsLegal d h → ImportBoundsDistance d h
 import_bounds_distance d metric h legal q is =
-    let p = and_parts (is_query (done h) q) (is_committed (done h) q) is in
+    let p = and_parts (is_query (accepted_in h) q) (is_committed (accepted_in h) q) is in
     let values : state h (members h q (λ _. true)) ≡ state_in (value_at h.opening) (trace h) (updates_of h q) = ap (state h) (all_members (updates_of h q)) ∙ fun_ext (state_trace h (updates_of h q)) in
     subst (λ (w : ℕ → ℤ). distance_from d h q w ≤ import_in (charges_in d h) q) (sym values)
-    (bounded (metric h.weights) (legal_reached d h legal) q (sym (committed_among (done h) q) ∙ p.1) (query_not_update (done h) q p.0))
+    (bounded (metric h.weights) (legal_reached d h legal) q (sym (committed_among (accepted_in h) q) ∙ p.1) (query_not_update (accepted_in h) q p.0))
 
 -- the audit of a committed query finds the same in every longer legal history
-pub audit_stays : (d : Distance) (h : Schedule) (rest : List Entry) (q : ℕ) → IsLegal d (along h rest) → is_committed (done h) q ≡ true → IsAlike d h (along h rest) q
+pub audit_stays : (d : Distance) (h : Schedule) (rest : List Entry) (q : ℕ) → IsLegal d (along h rest) → is_committed (accepted_in h) q ≡ true → IsAlike d h (along h rest) q
 audit_stays d h rest q legal over =
     let longer : Schedule = along h rest in
     let after : IsAfter d h q longer = legal_after d h rest q legal over in
     let same = after.same in
-    let begun = (known (legal_reached d h (legal_front d h rest legal))).of_ends q (or_left (is_among (commit_order (done h)) q) (is_among (trace h).aborts q) (sym (committed_among (done h) q) ∙ over)) in
+    let begun = (known (legal_reached d h (legal_front d h rest legal))).of_ends q (or_left (is_among (commit_order (accepted_in h)) q) (is_among (trace h).aborts q) (sym (committed_among (accepted_in h) q) ∙ over)) in
     let front : before_begin longer q ≡ before_begin h q = before_first-kept (λ (e : Entry). begins q e.reply) h.entries rest (has_begins d h (legal_front d h rest legal) q begun) in
     record {
       committed =
-          ap (λ o. unwrap_or (option_map (λ b. b.query) o) false && is_committed (done longer) q) same.begins
-          ∙ ap (λ b. is_query (done h) q && b) (committed_among (done longer) q ∙ (same.committed ∙ sym over));
+          ap (λ o. unwrap_or (option_map (λ b. b.query) o) false && is_committed (accepted_in longer) q) same.begins
+          ∙ ap (λ b. is_query (accepted_in h) q && b) (committed_among (accepted_in longer) q ∙ (same.committed ∙ sym over));
       updates = same.updates;
       musts =
           ap (λ o. if unwrap_or (option_map (λ b. b.strict) o) false then filter (is_committed (accepted (before_begin longer q))) (updates_of longer q) else []) same.begins
-          ∙ (ap (λ (es : List Entry). if is_strict (done h) q then filter (is_committed (accepted es)) (updates_of longer q) else []) front
-          ∙ ap (λ us. if is_strict (done h) q then filter (is_committed (accepted (before_begin h q))) us else []) same.updates);
+          ∙ (ap (λ (es : List Entry). if is_strict (accepted_in h) q then filter (is_committed (accepted es)) (updates_of longer q) else []) front
+          ∙ ap (λ us. if is_strict (accepted_in h) q then filter (is_committed (accepted (before_begin h q))) us else []) same.updates);
       order = λ u v iu iv. same.order u v (Contains-In (updates_of h q) u iu) (Contains-In (updates_of h q) v iv);
       costs = λ S.
           ap (λ l. sum_by (λ (o : Operation). distance_in d h o.item o.value (state longer (members longer q S) o.item)) l) same.reads

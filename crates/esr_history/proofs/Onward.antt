@@ -5,7 +5,7 @@ use Rattle.std.proofs.lemmas.Bool.{true≢false, eq-eqb, ne_eqb, and_parts, or_l
 use Rattle.std.proofs.lemmas.Option.{same_Some}
 use Rattle.std.proofs.lemmas.List.Folds.{list_any-append}
 use Rattle.esr_history.specs.Events.{Beginning, is_refusal, beginning, beginning_of, beginnings, numbers, is_query, is_update, is_begun, is_active, is_committed, holds_read, reads_of, current_value, TxnId, ItemId, Event, BeginUpdate, BeginQuery, Read, Write, Commit, Abort, Reply, Begun, Value, Wrote, Committed, Aborted, Refused, Refusal, Entry}
-use Rattle.esr_history.specs.Machine.{Distance, Schedule, Charge, done, extended, blank, distance_in, due_in, charge_of_write, import_in, reply_to, reasons, refusal, acceptance, answered, IsLegal, IsLegalAfter}
+use Rattle.esr_history.specs.Machine.{Distance, Schedule, Charge, accepted_in, extended, empty_schedule, distance_in, due_in, charge_of_write, import_in, reply_to, reasons, refusal, acceptance, answered, IsLegal, IsLegalAfter}
 use Rattle.esr_history.specs.Legal.{along, legal_induction, legal_induction_after}
 use Rattle.esr_history.specs.Queries.{begins}
 use Rattle.esr_history.proofs.Lists.{filter_map_push}
@@ -28,32 +28,32 @@ unnamed f q other (p ∷ ns) = at (f p) refl (unnamed f q other ns)
     at None is rest = rest
     at (Some c) is rest = import-cons c (filter_map f ns) q ∙ (ap (λ b. cond b c.amount 0 + import_in (filter_map f ns) q) (ne_eqb c.query q (other p c is)) ∙ (zero-add (import_in (filter_map f ns) q) ∙ rest))
 
-module _ (d : Distance) (h : Schedule) (q : ℕ) (over : is_committed (done h) q ≡ true) where
-  not_active : is_active (done h) q ≡ true → ⊥
-  not_active act = true≢false (sym over ∙ (active_parts (done h) q act).1)
+module _ (d : Distance) (h : Schedule) (q : ℕ) (over : is_committed (accepted_in h) q ≡ true) where
+  not_active : is_active (accepted_in h) q ≡ true → ⊥
+  not_active act = true≢false (sym over ∙ (active_parts (accepted_in h) q act).1)
 
   -- an event charges nothing to a query that has ended
-  read_free : (t : TxnId) (x : ItemId) → is_active (done h) t.0 ≡ true → import_in (due_in d h (Read t x)) q ≡ 0
+  read_free : (t : TxnId) (x : ItemId) → is_active (accepted_in h) t.0 ≡ true → import_in (due_in d h (Read t x)) q ≡ 0
   read_free t x act = grind (arith, import-cons, cond, ne_eqb, not_active)
 
   write_free : (t : TxnId) (x : ItemId) (v : ℤ) → import_in (due_in d h (Write t x v)) q ≡ 0
-  write_free t x v = at (is_update (done h) t.0)
+  write_free t x v = at (is_update (accepted_in h) t.0)
     where
       charge : ℕ → Option Charge
-      charge = charge_of_write (distance_in d h) h.opening (done h) t.0 x.0 v
+      charge = charge_of_write (distance_in d h) h.opening (accepted_in h) t.0 x.0 v
 
       other : (p : ℕ) (c : Charge) → charge p ≡ Some c → c.query ≡ q → ⊥
-      other p c is own = given (is_query (done h) p && holds_read (done h) p x.0) refl is
+      other p c is own = given (is_query (accepted_in h) p && holds_read (accepted_in h) p x.0) refl is
         where
-          given : (b : Bool) → (is_query (done h) p && holds_read (done h) p x.0) ≡ b
-              → (if b then Some (record { query = p; update = t.0; amount = reads_of (done h) p x.0 * distance_in d h x.0 v (current_value h.opening (done h) x.0) }) else None) ≡ Some c → ⊥
+          given : (b : Bool) → (is_query (accepted_in h) p && holds_read (accepted_in h) p x.0) ≡ b
+              → (if b then Some (record { query = p; update = t.0; amount = reads_of (accepted_in h) p x.0 * distance_in d h x.0 v (current_value h.opening (accepted_in h) x.0) }) else None) ≡ Some c → ⊥
           given false passes some = cc
           given true passes some =
-              grind (arith, same_Some, and_parts (is_query (done h) p) (holds_read (done h) p x.0) passes, not_active, and_parts)
+              grind (arith, same_Some, and_parts (is_query (accepted_in h) p) (holds_read (accepted_in h) p x.0) passes, not_active, and_parts)
 
-      at : (b : Bool) → import_in (if b then filter_map charge (numbers (done h)) else []) q ≡ 0
+      at : (b : Bool) → import_in (if b then filter_map charge (numbers (accepted_in h)) else []) q ≡ 0
       at false = refl
-      at true = unnamed charge q other (numbers (done h))
+      at true = unnamed charge q other (numbers (accepted_in h))
 
 -- the history h so far has what the audit of q in g rests on
 pub record IsAfter (d : Distance) (g : Schedule) (q : ℕ) (h : Schedule) : Type 0 where
@@ -62,8 +62,8 @@ pub record IsAfter (d : Distance) (g : Schedule) (q : ℕ) (h : Schedule) : Type
   pub imported : imports d h q ≡ imports d g q
 
 module _ (d : Distance) (g : Schedule) (q : ℕ) (h : Schedule) (after : IsAfter d g q h) where
-  over : is_committed (done h) q ≡ true
-  over = committed_among (done h) q ∙ after.same.committed
+  over : is_committed (accepted_in h) q ≡ true
+  over = committed_among (accepted_in h) q ∙ after.same.committed
 
   from : (e : Event) (r : Reply) → r ≡ reply_to d h e → (t : Trace) → trace (extended h e r) ≡ t → SameFor q (trace g) t → imports d (extended h e r) q ≡ imports d h q → IsAfter d g q (extended h e r)
   from e r is t is_trace same imported = grind (arith, reached_step d h e r is after.reached, trace g)
@@ -73,18 +73,18 @@ module _ (d : Distance) (g : Schedule) (q : ℕ) (h : Schedule) (after : IsAfter
 
   begun_after : (e : Event) (r : Reply) → r ≡ reply_to d h e → is_refusal r ≡ false → operation_by e r ≡ None → committer e ≡ None → aborter e ≡ None → import_in (due_in d h e) q ≡ 0 → IsAfter d g q (extended h e r)
   begun_after e r is accepts o c a free =
-      from e r is (with_begins (trace h) (beginning (done h ++ e ∷ []))) (begin_trace d h e r accepts o c a)
-      (same_with_begins q (trace g) (trace h) (beginning (done h ++ e ∷ [])) (begins_kept d h e) (known after.reached) after.same) (uncharged e r accepts free)
+      from e r is (with_begins (trace h) (beginning (accepted_in h ++ e ∷ []))) (begin_trace d h e r accepts o c a)
+      (same_with_begins q (trace g) (trace h) (beginning (accepted_in h ++ e ∷ [])) (begins_kept d h e) (known after.reached) after.same) (uncharged e r accepts free)
 
   accepted_after : (e : Event) → acceptance h e ≡ reply_to d h e → NoneApplies (reasons d h e) → IsAfter d g q (extended h e (acceptance h e))
   accepted_after (Read t x) is none =
-      let act : is_active (done h) t.0 ≡ true = not_ended h t.0 (read_allowed d h t x none).active in
-      let r : Reply = Value (current_value h.opening (done h) x.0) in
-      let o = read_of t.0 x.0 (current_value h.opening (done h) x.0) in
+      let act : is_active (accepted_in h) t.0 ≡ true = not_ended h t.0 (read_allowed d h t x none).active in
+      let r : Reply = Value (current_value h.opening (accepted_in h) x.0) in
+      let o = read_of t.0 x.0 (current_value h.opening (accepted_in h) x.0) in
       from (Read t x) r is (with_operation (trace h) o) (operation_trace d h (Read t x) r o refl refl refl refl refl)
       (same_with_operation q (trace g) (trace h) o (active_trace h t.0 act).open_ended after.same) (uncharged (Read t x) r refl (read_free d h q over t x act))
   accepted_after (Write t x v) is none =
-      let act : is_active (done h) t.0 ≡ true = not_ended h t.0 (write_allowed d h t x v none).uncharged.active in
+      let act : is_active (accepted_in h) t.0 ≡ true = not_ended h t.0 (write_allowed d h t x v none).uncharged.active in
       from (Write t x v) Wrote is (with_operation (trace h) (write_of t.0 x.0 v)) (operation_trace d h (Write t x v) Wrote (write_of t.0 x.0 v) refl refl refl refl refl)
       (same_with_operation q (trace g) (trace h) (write_of t.0 x.0 v) (active_trace h t.0 act).open_ended after.same) (uncharged (Write t x v) Wrote refl (write_free d h q over t x v))
   accepted_after (Commit t) is none =
@@ -112,36 +112,36 @@ legal_parts d before (e ∷ xs) ys legal =
     grind (arith, legal_parts d (extended before e.event e.reply) xs ys legal.1, append_assoc before.entries (e ∷ []) xs)
 
 pub legal_front : (d : Distance) (h : Schedule) (rest : List Entry) → IsLegal d (along h rest) → IsLegal d h
-legal_front d h rest legal = (legal_parts d (blank h) h.entries rest legal).0
+legal_front d h rest legal = (legal_parts d (empty_schedule h) h.entries rest legal).0
 
-pub legal_after : (d : Distance) (h : Schedule) (rest : List Entry) (q : ℕ) → IsLegal d (along h rest) → is_committed (done h) q ≡ true → IsAfter d h q (along h rest)
+pub legal_after : (d : Distance) (h : Schedule) (rest : List Entry) (q : ℕ) → IsLegal d (along h rest) → is_committed (accepted_in h) q ≡ true → IsAfter d h q (along h rest)
 legal_after d h rest q legal over =
-    legal_induction_after d (IsAfter d h q) (λ g e r is after. IsAfter-extended d h q g after e r is) h rest (legal_parts d (blank h) h.entries rest legal).1
+    legal_induction_after d (IsAfter d h q) (λ g e r is after. IsAfter-extended d h q g after e r is) h rest (legal_parts d (empty_schedule h) h.entries rest legal).1
     (record {
       reached = legal_reached d h (legal_front d h rest legal);
-      same = record { committed = sym (committed_among (done h) q) ∙ over; begins = refl; updates = refl; reads = refl; writes = λ u x i. refl; order = λ u v iu iv. refl };
+      same = record { committed = sym (committed_among (accepted_in h) q) ∙ over; begins = refl; updates = refl; reads = refl; writes = λ u x i. refl; order = λ u v iu iv. refl };
       imported = refl;
     })
 
 -- each transaction that has begun has the entry that answers its number
 abbrev pub HasBegins : Schedule → Type 0
-HasBegins h = (u : ℕ) → is_begun (done h) u ≡ true → list_any (λ (n : Entry). begins u n.reply) h.entries ≡ true
+HasBegins h = (u : ℕ) → is_begun (accepted_in h) u ≡ true → list_any (λ (n : Entry). begins u n.reply) h.entries ≡ true
 
 module _ (d : Distance) (h : Schedule) (has : HasBegins h) where
-  begun_before : (e : Event) (r : Reply) (u : ℕ) → is_begun (done h) u ≡ true → list_any (λ (n : Entry). begins u n.reply) (extended h e r).entries ≡ true
+  begun_before : (e : Event) (r : Reply) (u : ℕ) → is_begun (accepted_in h) u ≡ true → list_any (λ (n : Entry). begins u n.reply) (extended h e r).entries ≡ true
   begun_before e r u begun = grind (arith, list_any-append, or_left)
 
   -- an event that begins nothing
-  no_begin : (e : Event) (r : Reply) → ((u : ℕ) → is_begun (done (extended h e r)) u ≡ is_begun (done h) u) → HasBegins (extended h e r)
+  no_begin : (e : Event) (r : Reply) → ((u : ℕ) → is_begun (accepted_in (extended h e r)) u ≡ is_begun (accepted_in h) u) → HasBegins (extended h e r)
   no_begin e r same u begun = begun_before e r u (sym (same u) ∙ begun)
 
   other_begin : (e : Event) (r : Reply) → is_refusal r ≡ false → beginning_of e ≡ None → HasBegins (extended h e r)
-  other_begin e r is none = no_begin e r (λ u. ap (λ (es : List Event). is_begun es u) (done-accepted h e r is) ∙ ap is_some (beginning-kept (done h) e u none))
+  other_begin e r is none = no_begin e r (λ u. ap (λ (es : List Event). is_begun es u) (done-accepted h e r is) ∙ ap is_some (beginning-kept (accepted_in h) e u none))
 
-  new_begin : (e : Event) (b : Beginning) (n : TxnId) → beginning_of e ≡ Some b → n.0 ≡ length (beginnings (done h)) + 1 → HasBegins (extended h e (Begun n))
+  new_begin : (e : Event) (b : Beginning) (n : TxnId) → beginning_of e ≡ Some b → n.0 ≡ length (beginnings (accepted_in h)) + 1 → HasBegins (extended h e (Begun n))
   new_begin e b n is own zero begun = absurd (true≢false (sym (sym (ap (λ (es : List Event). is_begun es zero) (done-accepted h e (Begun n) refl)) ∙ begun)))
   new_begin e b n is own (suc k) begun =
-      elim (last_cases (beginnings (done h)) k (ap (λ (bs : List Beginning). is_some (slice_get bs k)) (sym grown) ∙ begun)) [
+      elim (last_cases (beginnings (accepted_in h)) k (ap (λ (bs : List Beginning). is_some (slice_get bs k)) (sym grown) ∙ begun)) [
         | inl before ↦ begun_before e (Begun n) (suc k) before
         | inr last ↦
             list_any-append (λ (n : Entry). begins (suc k) n.reply) h.entries (record { event = e; reply = Begun n } ∷ [])
@@ -149,8 +149,8 @@ module _ (d : Distance) (h : Schedule) (has : HasBegins h) where
             (or_left (n.0 == suc k) false (eq-eqb n.0 (suc k) (own ∙ (ap (λ m. m + 1) (sym last) ∙ add-one k))))
       ]
     where
-      grown : beginnings (done (extended h e (Begun n))) ≡ beginnings (done h) ++ b ∷ []
-      grown = ap beginnings (done-accepted h e (Begun n) refl) ∙ (filter_map_push beginning_of (done h) e ∙ ap (λ o. beginnings (done h) ++ cons_option o []) is)
+      grown : beginnings (accepted_in (extended h e (Begun n))) ≡ beginnings (accepted_in h) ++ b ∷ []
+      grown = ap beginnings (done-accepted h e (Begun n) refl) ∙ (filter_map_push beginning_of (accepted_in h) e ∙ ap (λ o. beginnings (accepted_in h) ++ cons_option o []) is)
 
       last_cases : (xs : List Beginning) (j : ℕ) → is_some (slice_get (xs ++ b ∷ []) j) ≡ true → (is_some (slice_get xs j) ≡ true) ⊎ (j ≡ length xs)
       last_cases [] zero some = inr refl
@@ -162,9 +162,9 @@ module _ (d : Distance) (h : Schedule) (has : HasBegins h) where
   begins_step e r is = at (refusal d h e) refl
     where
       accepted_begins : (e : Event) → HasBegins (extended h e (acceptance h e))
-      accepted_begins (BeginUpdate l) = new_begin (BeginUpdate l) (record { query = false; strict = false; limit = l }) (record { 0 = length (beginnings (done h)) + 1 }) refl refl
-      accepted_begins (BeginQuery l s) = new_begin (BeginQuery l s) (record { query = true; strict = s; limit = l }) (record { 0 = length (beginnings (done h)) + 1 }) refl refl
-      accepted_begins (Read t x) = other_begin (Read t x) (Value (current_value h.opening (done h) x.0)) refl refl
+      accepted_begins (BeginUpdate l) = new_begin (BeginUpdate l) (record { query = false; strict = false; limit = l }) (record { 0 = length (beginnings (accepted_in h)) + 1 }) refl refl
+      accepted_begins (BeginQuery l s) = new_begin (BeginQuery l s) (record { query = true; strict = s; limit = l }) (record { 0 = length (beginnings (accepted_in h)) + 1 }) refl refl
+      accepted_begins (Read t x) = other_begin (Read t x) (Value (current_value h.opening (accepted_in h) x.0)) refl refl
       accepted_begins (Write t x v) = other_begin (Write t x v) Wrote refl refl
       accepted_begins (Commit t) = other_begin (Commit t) Committed refl refl
       accepted_begins (Abort t) = other_begin (Abort t) Aborted refl refl
@@ -176,6 +176,6 @@ module _ (d : Distance) (h : Schedule) (has : HasBegins h) where
 pub has_begins : (d : Distance) (h : Schedule) → IsLegal d h → HasBegins h
 has_begins d h legal = legal_induction d HasBegins (λ g e r is has. begins_step d g has e r is) h none legal
   where
-    none : HasBegins (blank h)
+    none : HasBegins (empty_schedule h)
     none zero begun = absurd (true≢false (sym begun))
     none (suc k) begun = absurd (true≢false (sym begun))

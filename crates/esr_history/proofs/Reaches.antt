@@ -8,7 +8,7 @@ use Rattle.std.proofs.lemmas.List.Elements.{filter_map-append, filter-append}
 use Rattle.std.proofs.lemmas.List.Sums.{sum_by-cons}
 use Rattle.esr_items.specs.Values.{value_at}
 use Rattle.esr_history.specs.Events.{Beginning, is_refusal, beginning, beginning_of, beginnings, numbers, is_query, is_update, is_active, holds_read, holds_write, reads, reads_of, committed_value, current_value, ItemId, TxnId, Event, Read, Write, Commit, Abort, Reply, Value, Wrote, Committed, Aborted, Refused, Refusal, BlockedByLock}
-use Rattle.esr_history.specs.Machine.{Distance, Schedule, Charge, done, extended, distance_in, charges, charges_in, due_in, charge_of_read, charge_of_write, import_in, writer, other_writer, other_holder, blocked_by, reply_to, reasons, refusal, acceptance, answered, IsLegal}
+use Rattle.esr_history.specs.Machine.{Distance, Schedule, Charge, accepted_in, extended, distance_in, charges, charges_in, due_in, charge_of_read, charge_of_write, import_in, writer, other_writer, other_holder, blocked_by, reply_to, reasons, refusal, acceptance, answered, IsLegal}
 use Rattle.esr_history.specs.Legal.{legal_induction}
 use Rattle.esr_history.specs.Operations.{Operation, operation_by, operations, committer, commit_order}
 use Rattle.esr_history.proofs.Lists.{filter_map_push, find_none, option_map_none}
@@ -71,21 +71,21 @@ and_right_false false b is fails = absurd (true≢false (sym is))
 module _ (d : Distance) (h : Schedule) where
   -- the trace after an accepted event, from what the event adds
   grown : (e : Event) (r : Reply) → is_refusal r ≡ false → (os : List Operation) (cs rs : List ℕ) (b : ℕ → Option Beginning)
-      → operations h ++ cons_option (operation_by e r) [] ≡ os → commit_order (done h) ++ cons_option (committer e) [] ≡ cs → filter_map aborter (done h) ++ cons_option (aborter e) [] ≡ rs → beginning (done h ++ e ∷ []) ≡ b
+      → operations h ++ cons_option (operation_by e r) [] ≡ os → commit_order (accepted_in h) ++ cons_option (committer e) [] ≡ cs → filter_map aborter (accepted_in h) ++ cons_option (aborter e) [] ≡ rs → beginning (accepted_in h ++ e ∷ []) ≡ b
       → trace (extended h e r) ≡ record { operations = os; commits = cs; aborts = rs; beginning = b }
   grown e r is os cs rs b o c a g =
-      let events : done (extended h e r) ≡ done h ++ e ∷ [] = done-accepted h e r is in
+      let events : accepted_in (extended h e r) ≡ accepted_in h ++ e ∷ [] = done-accepted h e r is in
       let os' : operations (extended h e r) ≡ os = operations-accepted h e r is ∙ o in
-      let cs' : commit_order (done (extended h e r)) ≡ cs = ap commit_order events ∙ (filter_map_push committer (done h) e ∙ c) in
-      let rs' : filter_map aborter (done (extended h e r)) ≡ rs = ap (filter_map aborter) events ∙ (filter_map_push aborter (done h) e ∙ a) in
-      let b' : beginning (done (extended h e r)) ≡ b = ap beginning events ∙ g in
+      let cs' : commit_order (accepted_in (extended h e r)) ≡ cs = ap commit_order events ∙ (filter_map_push committer (accepted_in h) e ∙ c) in
+      let rs' : filter_map aborter (accepted_in (extended h e r)) ≡ rs = ap (filter_map aborter) events ∙ (filter_map_push aborter (accepted_in h) e ∙ a) in
+      let b' : beginning (accepted_in (extended h e r)) ≡ b = ap beginning events ∙ g in
       λ i. record { operations = os' i; commits = cs' i; aborts = rs' i; beginning = b' i }
 
-  same_begins : (e : Event) → beginning_of e ≡ None → beginning (done h ++ e ∷ []) ≡ beginning (done h)
-  same_begins e none = fun_ext (λ u. beginning-kept (done h) e u none)
+  same_begins : (e : Event) → beginning_of e ≡ None → beginning (accepted_in h ++ e ∷ []) ≡ beginning (accepted_in h)
+  same_begins e none = fun_ext (λ u. beginning-kept (accepted_in h) e u none)
 
   pub with_imports : (e : Event) (r : Reply) → is_refusal r ≡ false → (q : ℕ) → imports d (extended h e r) q ≡ imports d h q + import_in (due_in d h e) q
-  with_imports e r is q = ap (λ (es : List Event). import_in (charges (distance_in d h) h.opening es) q) (done-accepted h e r is) ∙ import-push (distance_in d h) h.opening (done h) e q
+  with_imports e r is q = ap (λ (es : List Event). import_in (charges (distance_in d h) h.opening es) q) (done-accepted h e r is) ∙ import-push (distance_in d h) h.opening (accepted_in h) e q
 
   no_imports : (e : Event) (r : Reply) → is_refusal r ≡ false → ((q : ℕ) → import_in (due_in d h e) q ≡ 0) → imports d (extended h e r) ≡ imports d h
   no_imports e r is none = fun_ext (λ q. with_imports e r is q ∙ (ap (λ n. imports d h q + n) (none q) ∙ add-zero (imports d h q)))
@@ -97,28 +97,28 @@ module _ (d : Distance) (h : Schedule) where
   refused_imports e why = ap (λ (es : List Event). import_in (charges (distance_in d h) h.opening es)) (done-refused h e why)
 
   -- where no update holds a lock, all who used the item have ended
-  active_user : (u : ℕ) → is_update (done h) u ≡ true → ended_in (trace h) u ≡ false → is_active (done h) u ≡ true
-  active_user u update running = trace_active h u (record { begun = update_begun (done h) u update; open_ended = running })
+  active_user : (u : ℕ) → is_update (accepted_in h) u ≡ true → ended_in (trace h) u ≡ false → is_active (accepted_in h) u ≡ true
+  active_user u update running = trace_active h u (record { begun = update_begun (accepted_in h) u update; open_ended = running })
 
-  holds_written : (o : Operation) → In o (operations h) → o.writes ≡ true → is_active (done h) o.txn ≡ true → holds_write (done h) o.txn o.item ≡ true
+  holds_written : (o : Operation) → In o (operations h) → o.writes ≡ true → is_active (accepted_in h) o.txn ≡ true → holds_write (accepted_in h) o.txn o.item ≡ true
   holds_written o i w act =
       grind (arith, and_from, wrote_trace h o.txn o.item, any-from_In, wrote_by o.item o.txn, eq-eqb o.item o.item refl, eq-eqb o.txn o.txn refl)
 
-  holds_taken : (o : Operation) → In o (operations h) → o.writes ≡ false → is_active (done h) o.txn ≡ true → holds_read (done h) o.txn o.item ≡ true
+  holds_taken : (o : Operation) → In o (operations h) → o.writes ≡ false → is_active (accepted_in h) o.txn ≡ true → holds_read (accepted_in h) o.txn o.item ≡ true
   holds_taken o i w act =
       grind (arith, and_from, read_trace h o.txn o.item, any-from_In, read_item_by o.item o.txn, eq-eqb o.item o.item refl, eq-eqb o.txn o.txn refl)
 
-  no_writer : (t x : ℕ) → ((u : ℕ) → (u ≡ t → ⊥) → is_update (done h) u ≡ true → holds_write (done h) u x ≡ false) → NoOtherWriter (trace h) t x
+  no_writer : (t x : ℕ) → ((u : ℕ) → (u ≡ t → ⊥) → is_update (accepted_in h) u ≡ true → holds_write (accepted_in h) u x ≡ false) → NoOtherWriter (trace h) t x
   no_writer t x free = grind (arith, cases_Bool, ended_in, trace h, true≢false, holds_written, active_user)
 
-  no_user : (t x : ℕ) → ((u : ℕ) → (u ≡ t → ⊥) → is_update (done h) u ≡ true → (holds_read (done h) u x || holds_write (done h) u x) ≡ false) → NoOtherUser (trace h) t x
+  no_user : (t x : ℕ) → ((u : ℕ) → (u ≡ t → ⊥) → is_update (accepted_in h) u ≡ true → (holds_read (accepted_in h) u x || holds_write (accepted_in h) u x) ≡ false) → NoOtherUser (trace h) t x
   no_user t x free = record {
     none = λ o i here other update.
         elim (cases_Bool (ended_in (trace h) o.txn)) [
           | inl over ↦ over
           | inr running ↦
               let act = active_user o.txn update running in
-              let p = or_parts (holds_read (done h) o.txn o.item) (holds_write (done h) o.txn o.item) (subst (λ y. (holds_read (done h) o.txn y || holds_write (done h) o.txn y) ≡ false) (sym here) (free o.txn other update)) in
+              let p = or_parts (holds_read (accepted_in h) o.txn o.item) (holds_write (accepted_in h) o.txn o.item) (subst (λ y. (holds_read (accepted_in h) o.txn y || holds_write (accepted_in h) o.txn y) ≡ false) (sym here) (free o.txn other update)) in
               elim (cases_Bool o.writes) [
                 | inl w ↦ absurd (true≢false (sym (holds_written o i w act) ∙ p.1))
                 | inr r ↦ absurd (true≢false (sym (holds_taken o i r act) ∙ p.0))
@@ -127,44 +127,44 @@ module _ (d : Distance) (h : Schedule) where
   }
 
   -- who is not found fails the test
-  unfound : (p : ℕ → Bool) → find (λ u. is_update (done h) u && p u) (numbers (done h)) ≡ None → (u : ℕ) → is_update (done h) u ≡ true → p u ≡ false
+  unfound : (p : ℕ → Bool) → find (λ u. is_update (accepted_in h) u && p u) (numbers (accepted_in h)) ≡ None → (u : ℕ) → is_update (accepted_in h) u ≡ true → p u ≡ false
   unfound p none u update =
-      let n = begun_number (done h) u (update_begun (done h) u update) in
-      and_right_false (is_update (done h) u) (p u) update (find_none (λ u. is_update (done h) u && p u) 1 (length (beginnings (done h))) none u n.0 n.1)
+      let n = begun_number (accepted_in h) u (update_begun (accepted_in h) u update) in
+      and_right_false (is_update (accepted_in h) u) (p u) update (find_none (λ u. is_update (accepted_in h) u && p u) 1 (length (beginnings (accepted_in h))) none u n.0 n.1)
 
-  unfound_other : (p : ℕ → Bool) (t : ℕ) → find (λ u. not (u == t) && (is_update (done h) u && p u)) (numbers (done h)) ≡ None → (u : ℕ) → (u ≡ t → ⊥) → is_update (done h) u ≡ true → p u ≡ false
+  unfound_other : (p : ℕ → Bool) (t : ℕ) → find (λ u. not (u == t) && (is_update (accepted_in h) u && p u)) (numbers (accepted_in h)) ≡ None → (u : ℕ) → (u ≡ t → ⊥) → is_update (accepted_in h) u ≡ true → p u ≡ false
   unfound_other p t none u other update =
-      let n = begun_number (done h) u (update_begun (done h) u update) in
-      and_right_false (is_update (done h) u) (p u) update
-      (and_right_false (not (u == t)) (is_update (done h) u && p u) (ap not (ne_eqb u t other)) (find_none (λ u. not (u == t) && (is_update (done h) u && p u)) 1 (length (beginnings (done h))) none u n.0 n.1))
+      let n = begun_number (accepted_in h) u (update_begun (accepted_in h) u update) in
+      and_right_false (is_update (accepted_in h) u) (p u) update
+      (and_right_false (not (u == t)) (is_update (accepted_in h) u && p u) (ap not (ne_eqb u t other)) (find_none (λ u. not (u == t) && (is_update (accepted_in h) u && p u)) 1 (length (beginnings (accepted_in h))) none u n.0 n.1))
 
   -- the trace after an operation
   pub operation_trace : (e : Event) (r : Reply) (o : Operation) → is_refusal r ≡ false → operation_by e r ≡ Some o → committer e ≡ None → aborter e ≡ None → beginning_of e ≡ None → trace (extended h e r) ≡ with_operation (trace h) o
   operation_trace e r o is op c a b =
-      grown e r is (operations h ++ o ∷ []) (commit_order (done h)) (filter_map aborter (done h)) (beginning (done h))
-      (ap (λ p. operations h ++ cons_option p []) op) (ap (λ p. commit_order (done h) ++ cons_option p []) c ∙ append-nil (commit_order (done h)))
-      (ap (λ p. filter_map aborter (done h) ++ cons_option p []) a ∙ append-nil (filter_map aborter (done h))) (same_begins e b)
+      grown e r is (operations h ++ o ∷ []) (commit_order (accepted_in h)) (filter_map aborter (accepted_in h)) (beginning (accepted_in h))
+      (ap (λ p. operations h ++ cons_option p []) op) (ap (λ p. commit_order (accepted_in h) ++ cons_option p []) c ∙ append-nil (commit_order (accepted_in h)))
+      (ap (λ p. filter_map aborter (accepted_in h) ++ cons_option p []) a ∙ append-nil (filter_map aborter (accepted_in h))) (same_begins e b)
 
-  pub begin_trace : (e : Event) (r : Reply) → is_refusal r ≡ false → operation_by e r ≡ None → committer e ≡ None → aborter e ≡ None → trace (extended h e r) ≡ with_begins (trace h) (beginning (done h ++ e ∷ []))
+  pub begin_trace : (e : Event) (r : Reply) → is_refusal r ≡ false → operation_by e r ≡ None → committer e ≡ None → aborter e ≡ None → trace (extended h e r) ≡ with_begins (trace h) (beginning (accepted_in h ++ e ∷ []))
   begin_trace e r is op c a =
-      grown e r is (operations h) (commit_order (done h)) (filter_map aborter (done h)) (beginning (done h ++ e ∷ []))
-      (ap (λ p. operations h ++ cons_option p []) op ∙ append-nil (operations h)) (ap (λ p. commit_order (done h) ++ cons_option p []) c ∙ append-nil (commit_order (done h)))
-      (ap (λ p. filter_map aborter (done h) ++ cons_option p []) a ∙ append-nil (filter_map aborter (done h))) refl
+      grown e r is (operations h) (commit_order (accepted_in h)) (filter_map aborter (accepted_in h)) (beginning (accepted_in h ++ e ∷ []))
+      (ap (λ p. operations h ++ cons_option p []) op ∙ append-nil (operations h)) (ap (λ p. commit_order (accepted_in h) ++ cons_option p []) c ∙ append-nil (commit_order (accepted_in h)))
+      (ap (λ p. filter_map aborter (accepted_in h) ++ cons_option p []) a ∙ append-nil (filter_map aborter (accepted_in h))) refl
 
   pub commit_trace : (t : TxnId) → trace (extended h (Commit t) Committed) ≡ with_commit (trace h) t.0
   commit_trace t =
-      grown (Commit t) Committed refl (operations h) (commit_order (done h) ++ t.0 ∷ []) (filter_map aborter (done h)) (beginning (done h)) (append-nil (operations h)) refl (append-nil (filter_map aborter (done h))) (same_begins (Commit t) refl)
+      grown (Commit t) Committed refl (operations h) (commit_order (accepted_in h) ++ t.0 ∷ []) (filter_map aborter (accepted_in h)) (beginning (accepted_in h)) (append-nil (operations h)) refl (append-nil (filter_map aborter (accepted_in h))) (same_begins (Commit t) refl)
 
   pub abort_trace : (t : TxnId) → trace (extended h (Abort t) Aborted) ≡ with_abort (trace h) t.0
   abort_trace t =
-      grown (Abort t) Aborted refl (operations h) (commit_order (done h)) (filter_map aborter (done h) ++ t.0 ∷ []) (beginning (done h)) (append-nil (operations h)) (append-nil (commit_order (done h))) refl (same_begins (Abort t) refl)
+      grown (Abort t) Aborted refl (operations h) (commit_order (accepted_in h)) (filter_map aborter (accepted_in h) ++ t.0 ∷ []) (beginning (accepted_in h)) (append-nil (operations h)) (append-nil (commit_order (accepted_in h))) refl (same_begins (Abort t) refl)
 
-  pub begins_kept : (e : Event) → Keeps (beginning (done h)) (beginning (done h ++ e ∷ []))
-  begins_kept e u begun = at (beginning (done h) u) refl begun
+  pub begins_kept : (e : Event) → Keeps (beginning (accepted_in h)) (beginning (accepted_in h ++ e ∷ []))
+  begins_kept e u begun = at (beginning (accepted_in h) u) refl begun
     where
-      at : (b : Option Beginning) → beginning (done h) u ≡ b → is_some b ≡ true → beginning (done h ++ e ∷ []) u ≡ beginning (done h) u
+      at : (b : Option Beginning) → beginning (accepted_in h) u ≡ b → is_some b ≡ true → beginning (accepted_in h ++ e ∷ []) u ≡ beginning (accepted_in h) u
       at None was is_it = absurd (true≢false (sym is_it))
-      at (Some b) was is_it = beginning-push (done h) e u b was ∙ sym was
+      at (Some b) was is_it = beginning-push (accepted_in h) e u b was ∙ sym was
 
 -- what the steps keep is kept by each entry of the machine
 module _ (d : Distance) (h : Schedule) (P : Trace → (ℕ → ℕ) → Type 0) (kept : IsKept (setting d h) P) where
@@ -177,84 +177,84 @@ module _ (d : Distance) (h : Schedule) (P : Trace → (ℕ → ℕ) → Type 0) 
 
   begin_step : (e : Event) (r : Reply) → is_refusal r ≡ false → operation_by e r ≡ None → committer e ≡ None → aborter e ≡ None → ((q : ℕ) → import_in (due_in d h e) q ≡ 0) → P (trace h) (imports d h) → P (trace (extended h e r)) (imports d (extended h e r))
   begin_step e r is op c a free reached =
-      linked e r (with_begins (trace h) (beginning (done h ++ e ∷ []))) (imports d h) (begin_trace d h e r is op c a) (no_imports d h e r is free) (kept.begins (trace h) (imports d h) reached (beginning (done h ++ e ∷ [])) (begins_kept d h e))
+      linked e r (with_begins (trace h) (beginning (accepted_in h ++ e ∷ []))) (imports d h) (begin_trace d h e r is op c a) (no_imports d h e r is free) (kept.begins (trace h) (imports d h) reached (beginning (accepted_in h ++ e ∷ [])) (begins_kept d h e))
 
-  commit_step : (t : TxnId) → P (trace h) (imports d h) → is_active (done h) t.0 ≡ true → P (trace (extended h (Commit t) Committed)) (imports d (extended h (Commit t) Committed))
+  commit_step : (t : TxnId) → P (trace h) (imports d h) → is_active (accepted_in h) t.0 ≡ true → P (trace (extended h (Commit t) Committed)) (imports d (extended h (Commit t) Committed))
   commit_step t reached act =
       linked (Commit t) Committed (with_commit (trace h) t.0) (imports d h) (commit_trace d h t) (no_imports d h (Commit t) Committed refl (λ q. refl)) (kept.commits (trace h) (imports d h) reached t.0 (active_trace h t.0 act))
 
-  abort_step : (t : TxnId) → P (trace h) (imports d h) → is_active (done h) t.0 ≡ true → P (trace (extended h (Abort t) Aborted)) (imports d (extended h (Abort t) Aborted))
+  abort_step : (t : TxnId) → P (trace h) (imports d h) → is_active (accepted_in h) t.0 ≡ true → P (trace (extended h (Abort t) Aborted)) (imports d (extended h (Abort t) Aborted))
   abort_step t reached act =
       linked (Abort t) Aborted (with_abort (trace h) t.0) (imports d h) (abort_trace d h t) (no_imports d h (Abort t) Aborted refl (λ q. refl)) (kept.aborts (trace h) (imports d h) reached t.0 (active_trace h t.0 act))
 
   -- a read by an update, which is charged nothing
-  update_reads : (t : TxnId) (x : ItemId) → P (trace h) (imports d h) → is_active (done h) t.0 ≡ true → is_query (done h) t.0 ≡ false → blocked_by (other_writer (done h) t.0 x.0) ≡ None
-      → P (trace (extended h (Read t x) (Value (current_value h.opening (done h) x.0)))) (imports d (extended h (Read t x) (Value (current_value h.opening (done h) x.0))))
+  update_reads : (t : TxnId) (x : ItemId) → P (trace h) (imports d h) → is_active (accepted_in h) t.0 ≡ true → is_query (accepted_in h) t.0 ≡ false → blocked_by (other_writer (accepted_in h) t.0 x.0) ≡ None
+      → P (trace (extended h (Read t x) (Value (current_value h.opening (accepted_in h) x.0)))) (imports d (extended h (Read t x) (Value (current_value h.opening (accepted_in h) x.0))))
   update_reads t x reached act not_query free =
-      let o : Operation = read_of t.0 x.0 (current_value h.opening (done h) x.0) in
-      linked (Read t x) (Value (current_value h.opening (done h) x.0)) (with_operation (trace h) (read_of t.0 x.0 (current_in (value_at h.opening) (trace h) x.0))) (imports d h)
-      (operation_trace d h (Read t x) (Value (current_value h.opening (done h) x.0)) o refl refl refl refl refl ∙ ap (λ v. with_operation (trace h) (read_of t.0 x.0 v)) (current_trace h x.0))
-      (no_imports d h (Read t x) (Value (current_value h.opening (done h) x.0)) refl
-      (λ q. ap (λ b. import_in (if b then charge_of_read (distance_in d h) h.opening (done h) t.0 x.0 (writer (done h) x.0) else []) q) not_query))
-      (kept.update_reads (trace h) (imports d h) reached t.0 x.0 (active_trace h t.0 act) (update_from (done h) t.0 (active_parts (done h) t.0 act).0 not_query)
-      (no_writer d h t.0 x.0 (unfound_other d h (λ u. holds_write (done h) u x.0) t.0 (option_map_none (λ u. BlockedByLock (record { 0 = u })) (other_writer (done h) t.0 x.0) free))))
+      let o : Operation = read_of t.0 x.0 (current_value h.opening (accepted_in h) x.0) in
+      linked (Read t x) (Value (current_value h.opening (accepted_in h) x.0)) (with_operation (trace h) (read_of t.0 x.0 (current_in (value_at h.opening) (trace h) x.0))) (imports d h)
+      (operation_trace d h (Read t x) (Value (current_value h.opening (accepted_in h) x.0)) o refl refl refl refl refl ∙ ap (λ v. with_operation (trace h) (read_of t.0 x.0 v)) (current_trace h x.0))
+      (no_imports d h (Read t x) (Value (current_value h.opening (accepted_in h) x.0)) refl
+      (λ q. ap (λ b. import_in (if b then charge_of_read (distance_in d h) h.opening (accepted_in h) t.0 x.0 (writer (accepted_in h) x.0) else []) q) not_query))
+      (kept.update_reads (trace h) (imports d h) reached t.0 x.0 (active_trace h t.0 act) (update_from (accepted_in h) t.0 (active_parts (accepted_in h) t.0 act).0 not_query)
+      (no_writer d h t.0 x.0 (unfound_other d h (λ u. holds_write (accepted_in h) u x.0) t.0 (option_map_none (λ u. BlockedByLock (record { 0 = u })) (other_writer (accepted_in h) t.0 x.0) free))))
 
-  query_reads : (t : TxnId) (x : ItemId) → P (trace h) (imports d h) → is_active (done h) t.0 ≡ true → is_query (done h) t.0 ≡ true
-      → P (trace (extended h (Read t x) (Value (current_value h.opening (done h) x.0)))) (imports d (extended h (Read t x) (Value (current_value h.opening (done h) x.0))))
+  query_reads : (t : TxnId) (x : ItemId) → P (trace h) (imports d h) → is_active (accepted_in h) t.0 ≡ true → is_query (accepted_in h) t.0 ≡ true
+      → P (trace (extended h (Read t x) (Value (current_value h.opening (accepted_in h) x.0)))) (imports d (extended h (Read t x) (Value (current_value h.opening (accepted_in h) x.0))))
   query_reads t x reached act query =
-      let o : Operation = read_of t.0 x.0 (current_value h.opening (done h) x.0) in
-      linked (Read t x) (Value (current_value h.opening (done h) x.0)) (with_operation (trace h) (read_of t.0 x.0 (current_in (value_at h.opening) (trace h) x.0))) (λ q. imports d h q + import_in (due_in d h (Read t x)) q)
-      (operation_trace d h (Read t x) (Value (current_value h.opening (done h) x.0)) o refl refl refl refl refl ∙ ap (λ v. with_operation (trace h) (read_of t.0 x.0 v)) (current_trace h x.0))
-      (fun_ext (with_imports d h (Read t x) (Value (current_value h.opening (done h) x.0)) refl))
-      (kept.query_reads (trace h) (imports d h) reached t.0 x.0 (import_in (due_in d h (Read t x))) (active_trace h t.0 act) (query_not_update (done h) t.0 query) (paid (writer (done h) x.0) refl))
+      let o : Operation = read_of t.0 x.0 (current_value h.opening (accepted_in h) x.0) in
+      linked (Read t x) (Value (current_value h.opening (accepted_in h) x.0)) (with_operation (trace h) (read_of t.0 x.0 (current_in (value_at h.opening) (trace h) x.0))) (λ q. imports d h q + import_in (due_in d h (Read t x)) q)
+      (operation_trace d h (Read t x) (Value (current_value h.opening (accepted_in h) x.0)) o refl refl refl refl refl ∙ ap (λ v. with_operation (trace h) (read_of t.0 x.0 v)) (current_trace h x.0))
+      (fun_ext (with_imports d h (Read t x) (Value (current_value h.opening (accepted_in h) x.0)) refl))
+      (kept.query_reads (trace h) (imports d h) reached t.0 x.0 (import_in (due_in d h (Read t x))) (active_trace h t.0 act) (query_not_update (accepted_in h) t.0 query) (paid (writer (accepted_in h) x.0) refl))
     where
-      paid : (w : Option ℕ) → writer (done h) x.0 ≡ w
+      paid : (w : Option ℕ) → writer (accepted_in h) x.0 ≡ w
           → NoOtherWriter (trace h) t.0 x.0 ⊎ (distance_in d h x.0 (current_in (value_at h.opening) (trace h) x.0) (committed_in (value_at h.opening) (trace h) x.0) ≤ import_in (due_in d h (Read t x)) t.0)
-      paid None none = inl (no_writer d h t.0 x.0 (λ u other update. unfound d h (λ u. holds_write (done h) u x.0) none u update))
+      paid None none = inl (no_writer d h t.0 x.0 (λ u other update. unfound d h (λ u. holds_write (accepted_in h) u x.0) none u update))
       paid (Some u) some =
-          let c : Charge = record { query = t.0; update = u; amount = distance_in d h x.0 (current_value h.opening (done h) x.0) (committed_value h.opening (done h) x.0) } in
-          let one : due_in d h (Read t x) ≡ c ∷ [] = ap (λ b. if b then charge_of_read (distance_in d h) h.opening (done h) t.0 x.0 (writer (done h) x.0) else []) query ∙ ap (charge_of_read (distance_in d h) h.opening (done h) t.0 x.0) some in
+          let c : Charge = record { query = t.0; update = u; amount = distance_in d h x.0 (current_value h.opening (accepted_in h) x.0) (committed_value h.opening (accepted_in h) x.0) } in
+          let one : due_in d h (Read t x) ≡ c ∷ [] = ap (λ b. if b then charge_of_read (distance_in d h) h.opening (accepted_in h) t.0 x.0 (writer (accepted_in h) x.0) else []) query ∙ ap (charge_of_read (distance_in d h) h.opening (accepted_in h) t.0 x.0) some in
           let amount : distance_in d h x.0 (current_in (value_at h.opening) (trace h) x.0) (committed_in (value_at h.opening) (trace h) x.0) ≡ c.amount =
-          ap (λ v. distance_in d h x.0 v (committed_in (value_at h.opening) (trace h) x.0)) (sym (current_trace h x.0)) ∙ ap (distance_in d h x.0 (current_value h.opening (done h) x.0)) (sym (committed_trace h x.0)) in
+          ap (λ v. distance_in d h x.0 v (committed_in (value_at h.opening) (trace h) x.0)) (sym (current_trace h x.0)) ∙ ap (distance_in d h x.0 (current_value h.opening (accepted_in h) x.0)) (sym (committed_trace h x.0)) in
           inr (rw (amount, one) (first_amount c []))
 
   -- a write is charged to each active query that has read the item
-  write_step : (t : TxnId) (x : ItemId) (v : ℤ) → P (trace h) (imports d h) → is_active (done h) t.0 ≡ true → is_query (done h) t.0 ≡ false → blocked_by (other_holder (done h) t.0 x.0) ≡ None
+  write_step : (t : TxnId) (x : ItemId) (v : ℤ) → P (trace h) (imports d h) → is_active (accepted_in h) t.0 ≡ true → is_query (accepted_in h) t.0 ≡ false → blocked_by (other_holder (accepted_in h) t.0 x.0) ≡ None
       → P (trace (extended h (Write t x v) Wrote)) (imports d (extended h (Write t x v) Wrote))
   write_step t x v reached act not_query free =
       linked (Write t x v) Wrote (with_operation (trace h) (write_of t.0 x.0 v)) (λ q. imports d h q + import_in (due_in d h (Write t x v)) q)
       (operation_trace d h (Write t x v) Wrote (write_of t.0 x.0 v) refl refl refl refl refl)
       (fun_ext (with_imports d h (Write t x v) Wrote refl))
       (kept.writes (trace h) (imports d h) reached t.0 x.0 v (import_in (due_in d h (Write t x v))) (active_trace h t.0 act) update
-      (no_user d h t.0 x.0 (unfound_other d h (λ u. holds_read (done h) u x.0 || holds_write (done h) u x.0) t.0 (option_map_none (λ u. BlockedByLock (record { 0 = u })) (other_holder (done h) t.0 x.0) free)))
+      (no_user d h t.0 x.0 (unfound_other d h (λ u. holds_read (accepted_in h) u x.0 || holds_write (accepted_in h) u x.0) t.0 (option_map_none (λ u. BlockedByLock (record { 0 = u })) (other_holder (accepted_in h) t.0 x.0) free)))
       paid)
     where
-      update : is_update (done h) t.0 ≡ true
-      update = update_from (done h) t.0 (active_parts (done h) t.0 act).0 not_query
+      update : is_update (accepted_in h) t.0 ≡ true
+      update = update_from (accepted_in h) t.0 (active_parts (accepted_in h) t.0 act).0 not_query
 
       charge : ℕ → Option Charge
-      charge = charge_of_write (distance_in d h) h.opening (done h) t.0 x.0 v
+      charge = charge_of_write (distance_in d h) h.opening (accepted_in h) t.0 x.0 v
 
-      listed : due_in d h (Write t x v) ≡ filter_map charge (numbers (done h))
-      listed = ap (λ b. if b then filter_map charge (numbers (done h)) else []) update
+      listed : due_in d h (Write t x v) ≡ filter_map charge (numbers (accepted_in h))
+      listed = ap (λ b. if b then filter_map charge (numbers (accepted_in h)) else []) update
 
       paid : (q : ℕ) → Active (trace h) q → query_in (trace h) q ≡ true → read_count_in (trace h) x.0 q * distance_in d h x.0 v (current_in (value_at h.opening) (trace h) x.0) ≤ import_in (due_in d h (Write t x v)) q
       paid q a query =
           rw (sym (reads_trace h q x.0), sym (current_trace h x.0), listed)
-          (elim (cases_Bool (list_any (reads q x.0) (done h))) [
+          (elim (cases_Bool (list_any (reads q x.0) (accepted_in h))) [
             | inl did ↦
-                let n = begun_number (done h) q a.begun in
-                let held : holds_read (done h) q x.0 ≡ true = and_from (is_active (done h) q) (list_any (reads q x.0) (done h)) (trace_active h q a) did in
-                amount_listed charge (record { query = q; update = t.0; amount = reads_of (done h) q x.0 * distance_in d h x.0 v (current_value h.opening (done h) x.0) }) q 1 (length (beginnings (done h)))
+                let n = begun_number (accepted_in h) q a.begun in
+                let held : holds_read (accepted_in h) q x.0 ≡ true = and_from (is_active (accepted_in h) q) (list_any (reads q x.0) (accepted_in h)) (trace_active h q a) did in
+                amount_listed charge (record { query = q; update = t.0; amount = reads_of (accepted_in h) q x.0 * distance_in d h x.0 v (current_value h.opening (accepted_in h) x.0) }) q 1 (length (beginnings (accepted_in h)))
                 (rw (query, held) refl) refl n.0 n.1
             | inr not_did ↦
-                let none : reads_of (done h) q x.0 ≡ 0 = count_none (reads q x.0) (done h) not_did in
+                let none : reads_of (accepted_in h) q x.0 ≡ 0 = count_none (reads q x.0) (accepted_in h) not_did in
                 rw none (omega arith)
           ])
 
   accepted_kept : (e : Event) → P (trace h) (imports d h) → NoneApplies (reasons d h e) → P (trace (extended h e (acceptance h e))) (imports d (extended h e (acceptance h e)))
   accepted_kept (Read t x) reached none =
-      grind (arith, read_allowed d h t x none, not_ended, cases_Bool (is_query (done h) t.0), query_reads, update_reads)
+      grind (arith, read_allowed d h t x none, not_ended, cases_Bool (is_query (accepted_in h) t.0), query_reads, update_reads)
   accepted_kept (Write t x v) reached none = grind (arith, write_allowed d h t x v none, write_step, not_ended, when_none)
   accepted_kept (Commit t) reached none = commit_step t reached (not_ended h t.0 (end_allowed h t none).active)
   accepted_kept (Abort t) reached none = abort_step t reached (not_ended h t.0 (end_allowed h t none).active)

@@ -7,7 +7,7 @@ use Rattle.std.proofs.lemmas.List.{append_cancel_left}
 use Rattle.std.proofs.lemmas.List.Elements.{filter-append}
 use Rattle.esr_items.specs.Values.{value_at}
 use Rattle.esr_history.specs.Events.{Beginning, beginning, is_begun, is_refusal, is_query, is_active, is_committed, current_value, Event, Reply, Refused, Value, Begun, Wrote, Committed, Aborted, Entry}
-use Rattle.esr_history.specs.Machine.{Distance, Schedule, done, blank, distance_in, charges_in, import_in, extended, reply_to, IsLegal}
+use Rattle.esr_history.specs.Machine.{Distance, Schedule, accepted_in, empty_schedule, distance_in, charges_in, import_in, extended, reply_to, IsLegal}
 use Rattle.esr_history.specs.Legal.{along, legal_induction_after}
 use Rattle.esr_history.specs.Operations.{Operation, operations, operations_in}
 use Rattle.esr_history.specs.Queries.{reads_by, updates_of}
@@ -41,11 +41,11 @@ from_trace : (h : Schedule) (w : ℕ → ℤ) → mixed.IsMixture (value_at h.op
 from_trace h w mix x = ⊎_elim (λ e. inl (e ∙ sym (committed_trace h x))) (λ e. inr (e ∙ sym (current_trace h x))) (mix x)
 
 -- how a transaction began stays
-pub begin_stays : (d : Distance) (h : Schedule) (later : List Entry) (t : ℕ) → IsLegal d (along h later) → is_begun (done h) t ≡ true → beginning (done (along h later)) t ≡ beginning (done h) t
+pub begin_stays : (d : Distance) (h : Schedule) (later : List Entry) (t : ℕ) → IsLegal d (along h later) → is_begun (accepted_in h) t ≡ true → beginning (accepted_in (along h later)) t ≡ beginning (accepted_in h) t
 begin_stays d h later t legal begun =
-    legal_induction_after d (λ g. beginning (done g) t ≡ beginning (done h) t) step h later (legal_parts d (blank h) h.entries later legal).1 refl
+    legal_induction_after d (λ g. beginning (accepted_in g) t ≡ beginning (accepted_in h) t) step h later (legal_parts d (empty_schedule h) h.entries later legal).1 refl
   where
-    refused_done : (g : Schedule) (e : Event) (r : Reply) → is_refusal r ≡ true → done (extended g e r) ≡ done g
+    refused_done : (g : Schedule) (e : Event) (r : Reply) → is_refusal r ≡ true → accepted_in (extended g e r) ≡ accepted_in g
     refused_done g e (Refused why) refuses = done-refused g e why
     refused_done g e (Value v) refuses = absurd (true≢false (sym refuses))
     refused_done g e (Begun u) refuses = absurd (true≢false (sym refuses))
@@ -53,36 +53,36 @@ begin_stays d h later t legal begun =
     refused_done g e Committed refuses = absurd (true≢false (sym refuses))
     refused_done g e Aborted refuses = absurd (true≢false (sym refuses))
 
-    step : (g : Schedule) (e : Event) (r : Reply) → r ≡ reply_to d g e → beginning (done g) t ≡ beginning (done h) t → beginning (done (extended g e r)) t ≡ beginning (done h) t
+    step : (g : Schedule) (e : Event) (r : Reply) → r ≡ reply_to d g e → beginning (accepted_in g) t ≡ beginning (accepted_in h) t → beginning (accepted_in (extended g e r)) t ≡ beginning (accepted_in h) t
     step g e r is same = at (is_refusal r) refl
       where
-        grown : (b : Option Beginning) → beginning (done g) t ≡ b → is_some b ≡ true → beginning (done g ++ e ∷ []) t ≡ beginning (done g) t
+        grown : (b : Option Beginning) → beginning (accepted_in g) t ≡ b → is_some b ≡ true → beginning (accepted_in g ++ e ∷ []) t ≡ beginning (accepted_in g) t
         grown None was some = absurd (true≢false (sym some))
-        grown (Some b) was some = beginning-push (done g) e t b was ∙ sym was
+        grown (Some b) was some = beginning-push (accepted_in g) e t b was ∙ sym was
 
-        at : (b : Bool) → is_refusal r ≡ b → beginning (done (extended g e r)) t ≡ beginning (done h) t
-        at false accepts = ap (λ (es : List Event). beginning es t) (done-accepted g e r accepts) ∙ (grown (beginning (done g) t) refl (ap is_some same ∙ begun) ∙ same)
+        at : (b : Bool) → is_refusal r ≡ b → beginning (accepted_in (extended g e r)) t ≡ beginning (accepted_in h) t
+        at false accepts = ap (λ (es : List Event). beginning es t) (done-accepted g e r accepts) ∙ (grown (beginning (accepted_in g) t) refl (ap is_some same ∙ begun) ∙ same)
         at true refuses = ap (λ (es : List Event). beginning es t) (refused_done g e r refuses) ∙ same
 
 module _ (d : Distance) (metric : (w : List ℕ) → IsMetric (d w)) where
   pub import_bounds_active : (h : Schedule) → IsLegal d h → ImportBoundsActive d h
   import_bounds_active h legal q is w mix =
-      let p = and_parts (is_query (done h) q) (is_active (done h) q) is in
-      covered (metric h.weights) (legal_reached d h legal) q (active_trace h q p.1).open_ended (query_not_update (done h) q p.0) w (to_trace h w mix)
+      let p = and_parts (is_query (accepted_in h) q) (is_active (accepted_in h) q) is in
+      covered (metric h.weights) (legal_reached d h legal) q (active_trace h q p.1).open_ended (query_not_update (accepted_in h) q p.0) w (to_trace h w mix)
 
-  told_in_trace : (h : Schedule) (q : ℕ) (told : List Operation) (b : ℕ) → IsTold d h q told b → IsToldIn (setting d h) (trace h) q told b
-  told_in_trace h q told b is = record {
+  told_in_trace : (h : Schedule) (q : ℕ) (refusal_info : List Operation) (b : ℕ) → IsTold d h q refusal_info b → IsToldIn (setting d h) (trace h) q refusal_info b
+  told_in_trace h q refusal_info b is = record {
     held = λ x. rw (sym (reads_trace h q x)) (is.held x);
     within = λ w mix. is.within w (from_trace h w mix);
   }
 
-  module _ (h : Schedule) (q : ℕ) (told : List Operation) (b : ℕ) (is : IsTold d h q told b) (later : List Entry) (legal : IsLegal d (along h later)) where
+  module _ (h : Schedule) (q : ℕ) (refusal_info : List Operation) (b : ℕ) (is : IsTold d h q refusal_info b) (later : List Entry) (legal : IsLegal d (along h later)) where
     abbrev k : Schedule
     k = along h later
 
-    start : IsOnward (setting d h) q (reads_by h q) (imports d h q) told b (trace h) (imports d h)
+    start : IsOnward (setting d h) q (reads_by h q) (imports d h q) refusal_info b (trace h) (imports d h)
     start =
-        let was = and_parts (is_query (done h) q) (is_active (done h) q) is.active in
+        let was = and_parts (is_query (accepted_in h) q) (is_active (accepted_in h) q) is.active in
         record {
           reached = legal_reached d h (legal_front d h later legal);
           query = was.0;
@@ -91,17 +91,17 @@ module _ (d : Distance) (metric : (w : List ℕ) → IsMetric (d w)) where
           more = 0;
           grown = sym (add-zero (imports d h q));
           told_now = λ e.
-              subst (λ l. IsToldIn (setting d h) (trace h) q l (b + 0)) (sym (append-nil told))
-              (subst (λ n. IsToldIn (setting d h) (trace h) q told n) (sym (add-zero b)) (told_in_trace h q told b is));
+              subst (λ l. IsToldIn (setting d h) (trace h) q l (b + 0)) (sym (append-nil refusal_info))
+              (subst (λ n. IsToldIn (setting d h) (trace h) q refusal_info n) (sym (add-zero b)) (told_in_trace h q refusal_info b is));
           told_then = λ over. absurd (true≢false (sym over ∙ (or_parts (is_among (trace h).commits q) (is_among (trace h).aborts q) (active_trace h q was.1).open_ended).0));
         }
 
-    onward : IsOnward (setting d k) q (reads_by h q) (imports d h q) told b (trace k) (imports d k)
+    onward : IsOnward (setting d k) q (reads_by h q) (imports d h q) refusal_info b (trace k) (imports d k)
     onward =
-        legal_induction_after d (λ g. IsOnward (setting d g) q (reads_by h q) (imports d h q) told b (trace g) (imports d g))
-        (λ g e r answers p. kept_step d g (IsOnward (setting d g) q (reads_by h q) (imports d h q) told b)
-        (onward_kept (setting d g) (metric g.weights) q (reads_by h q) (imports d h q) told b) e r answers p)
-        h later (legal_parts d (blank h) h.entries later legal).1 start
+        legal_induction_after d (λ g. IsOnward (setting d g) q (reads_by h q) (imports d h q) refusal_info b (trace g) (imports d g))
+        (λ g e r answers p. kept_step d g (IsOnward (setting d g) q (reads_by h q) (imports d h q) refusal_info b)
+        (onward_kept (setting d g) (metric g.weights) q (reads_by h q) (imports d h q) refusal_info b) e r answers p)
+        h later (legal_parts d (empty_schedule h) h.entries later legal).1 start
 
     same_later : onward.later ≡ reads_in later q
     same_later = append_cancel_left (reads_by h q) onward.later (reads_in later q) (sym onward.reads ∙ (ap (filter (read_by q)) (operations-append h.entries later) ∙ filter-append (read_by q) (operations_in h.entries) (operations_in later)))
@@ -109,18 +109,18 @@ module _ (d : Distance) (metric : (w : List ℕ) → IsMetric (d w)) where
     same_more : (more : ℕ) → imports d h q + more ≡ imports d k q → onward.more ≡ more
     same_more more grown = let a : imports d k q ≡ imports d h q + onward.more = onward.grown in omega (arith, a, grown)
 
-  pub import_grows : (h : Schedule) (q : ℕ) (told : List Operation) (b : ℕ) → IsTold d h q told b → (later : List Entry) → IsLegal d (along h later)
+  pub import_grows : (h : Schedule) (q : ℕ) (refusal_info : List Operation) (b : ℕ) → IsTold d h q refusal_info b → (later : List Entry) → IsLegal d (along h later)
       → (more : ℕ) × (import_in (charges_in d h) q + more ≡ import_in (charges_in d (along h later)) q)
-  import_grows h q told b is later legal = let o = onward h q told b is later legal in (o.more, sym o.grown)
+  import_grows h q refusal_info b is later legal = let o = onward h q refusal_info b is later legal in (o.more, sym o.grown)
 
   pub bound_grows : (h : Schedule) → BoundGrowsByImport d h
-  bound_grows h q told b is later legal then_active more grown =
+  bound_grows h q refusal_info b is later legal then_active more grown =
       let k : Schedule = along h later in
-      let now = and_parts (is_query (done k) q) (is_active (done k) q) then_active in
-      let a : IsToldIn (setting d k) (trace k) q (told ++ reads_in later q) (b + more) =
-      subst (λ l. IsToldIn (setting d k) (trace k) q (told ++ l) (b + more)) (same_later h q told b is later legal)
-      (subst (λ n. IsToldIn (setting d k) (trace k) q (told ++ (onward h q told b is later legal).later) (b + n)) (same_more h q told b is later legal more grown)
-      ((onward h q told b is later legal).told_now (active_trace k q now.1).open_ended)) in
+      let now = and_parts (is_query (accepted_in k) q) (is_active (accepted_in k) q) then_active in
+      let a : IsToldIn (setting d k) (trace k) q (refusal_info ++ reads_in later q) (b + more) =
+      subst (λ l. IsToldIn (setting d k) (trace k) q (refusal_info ++ l) (b + more)) (same_later h q refusal_info b is later legal)
+      (subst (λ n. IsToldIn (setting d k) (trace k) q (refusal_info ++ (onward h q refusal_info b is later legal).later) (b + n)) (same_more h q refusal_info b is later legal more grown)
+      ((onward h q refusal_info b is later legal).told_now (active_trace k q now.1).open_ended)) in
       record {
         active = then_active;
         held = λ x. rw (reads_trace k q x) (a.held x);
@@ -128,20 +128,20 @@ module _ (d : Distance) (metric : (w : List ℕ) → IsMetric (d w)) where
       }
 
   pub bound_at_commit : (h : Schedule) → BoundHoldsAtCommit d h
-  bound_at_commit h q told b is later legal over more grown =
+  bound_at_commit h q refusal_info b is later legal over more grown =
       let k : Schedule = along h later in
-      let p = and_parts (is_query (done k) q) (is_committed (done k) q) over in
-      subst (λ (w : ℕ → ℤ). told_distance d h (told ++ reads_in later q) w ≤ b + more) (sym (fun_ext (state_trace k (updates_of k q))))
-      (subst (λ l. told_in (distance_in d h) (told ++ l) (state_in (value_at k.opening) (trace k) (updates_of k q)) ≤ b + more) (same_later h q told b is later legal)
-      (subst (λ n. told_in (distance_in d h) (told ++ (onward h q told b is later legal).later) (state_in (value_at k.opening) (trace k) (updates_of k q)) ≤ b + n) (same_more h q told b is later legal more grown)
-      ((onward h q told b is later legal).told_then (sym (committed_among (done k) q) ∙ p.1))))
+      let p = and_parts (is_query (accepted_in k) q) (is_committed (accepted_in k) q) over in
+      subst (λ (w : ℕ → ℤ). told_distance d h (refusal_info ++ reads_in later q) w ≤ b + more) (sym (fun_ext (state_trace k (updates_of k q))))
+      (subst (λ l. told_in (distance_in d h) (refusal_info ++ l) (state_in (value_at k.opening) (trace k) (updates_of k q)) ≤ b + more) (same_later h q refusal_info b is later legal)
+      (subst (λ n. told_in (distance_in d h) (refusal_info ++ (onward h q refusal_info b is later legal).later) (state_in (value_at k.opening) (trace k) (updates_of k q)) ≤ b + n) (same_more h q refusal_info b is later legal more grown)
+      ((onward h q refusal_info b is later legal).told_then (sym (committed_among (accepted_in k) q) ∙ p.1))))
 
   pub open_is_imported : (h : Schedule) → IsLegal d h → OpenIsImported d h
   open_is_imported h legal q is =
-      let p = and_parts (is_query (done h) q) (is_active (done h) q) is in
+      let p = and_parts (is_query (accepted_in h) q) (is_active (accepted_in h) q) is in
       subst (λ (f : ℕ → ℕ). sum_by (λ (o : Operation). f o.item) (reads_by h q) ≤ import_in (charges_in d h) q)
-      (fun_ext (λ x. ap (λ v. distance_in d h x v (committed_in (value_at h.opening) (trace h) x)) (sym (current_trace h x)) ∙ ap (distance_in d h x (current_value h.opening (done h) x)) (sym (committed_trace h x))))
-      (open_within (metric h.weights) (legal_reached d h legal) q (active_trace h q p.1).open_ended (query_not_update (done h) q p.0))
+      (fun_ext (λ x. ap (λ v. distance_in d h x v (committed_in (value_at h.opening) (trace h) x)) (sym (current_trace h x)) ∙ ap (distance_in d h x (current_value h.opening (accepted_in h) x)) (sym (committed_trace h x))))
+      (open_within (metric h.weights) (legal_reached d h legal) q (active_trace h q p.1).open_ended (query_not_update (accepted_in h) q p.0))
 
   -- an active query was told what it has read, within its import
   pub reads_told : (h : Schedule) → IsLegal d h → (q : ℕ) → IsTrue (is_active_query h q) → IsTold d h q (reads_by h q) (import_in (charges_in d h) q)

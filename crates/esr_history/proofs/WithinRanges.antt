@@ -6,7 +6,7 @@ use Rattle.std.proofs.lemmas.List.Elements.{All-from_recursion, recursion_from_A
 use Rattle.std.proofs.lemmas.List.Sums.{sum_by-append, sum_by-cons}
 use Rattle.esr_items.specs.Values.{value_at, IsValue, is_value}
 use Rattle.esr_history.specs.Events.{Beginning, beginning, beginnings, beginning_of, is_query, is_update, is_active, is_refusal, reads_any, all_reads_of, current_value, Event, BeginUpdate, BeginQuery, Read, Write, Commit, Abort, Reply, Refused, Refusal, NoSuchItem, ValueOutOfRange, TooManyTransactions, TooManyReads}
-use Rattle.esr_history.specs.Machine.{Distance, Schedule, done, extended, reply_to, reasons, refusal, acceptance, answered, IsLegal, no_item}
+use Rattle.esr_history.specs.Machine.{Distance, Schedule, accepted_in, extended, reply_to, reasons, refusal, acceptance, answered, IsLegal, no_item}
 use Rattle.esr_history.specs.Legal.{legal_induction}
 use Rattle.esr_history.specs.Operations.{Operation, operation_by, operations}
 use Rattle.esr_history.specs.Ranges.{IsWithinRanges}
@@ -30,38 +30,38 @@ after_writes-range v (w ∷ ws) first all = after_writes-range w.value ws (all w
 
 -- the counts and ranges, in a form that goes on
 record InRanges (h : Schedule) : Type 0 where
-  begins : length (beginnings (done h)) ≤ 65535
-  reads : (t : ℕ) → is_update (done h) t ≡ false → all_reads_of (done h) t ≤ 1000
+  begins : length (beginnings (accepted_in h)) ≤ 65535
+  reads : (t : ℕ) → is_update (accepted_in h) t ≡ false → all_reads_of (accepted_in h) t ≤ 1000
   values : AllByRecursion IsValue h.opening → (o : Operation) → In o (operations h) → IsValue o.value
   items : (o : Operation) → In o (operations h) → o.item < length h.opening
 
 module _ (d : Distance) (h : Schedule) (was : InRanges h) where
-  current-range : AllByRecursion IsValue h.opening → (x : ℕ) → IsValue (current_value h.opening (done h) x)
+  current-range : AllByRecursion IsValue h.opening → (x : ℕ) → IsValue (current_value h.opening (accepted_in h) x)
   current-range opened x =
       grind (arith, current_trace h x, after_writes-range, filter, writes_item, is_among, trace h, value_at-range h.opening x opened, In-of_filter)
 
-  reads-push : (e : Event) (t : ℕ) → all_reads_of (done h ++ e ∷ []) t ≡ all_reads_of (done h) t + cond (reads_any t e) 1 0
+  reads-push : (e : Event) (t : ℕ) → all_reads_of (accepted_in h ++ e ∷ []) t ≡ all_reads_of (accepted_in h) t + cond (reads_any t e) 1 0
   reads-push e t =
       let one : count_by (reads_any t) (e ∷ []) ≡ cond (reads_any t e) 1 0 + 0 = sum_by-cons (λ f. cond (reads_any t f) 1 0) e [] in
-      sum_by-append (λ f. cond (reads_any t f) 1 0) (done h) (e ∷ []) ∙ (ap (λ n. all_reads_of (done h) t + n) one ∙ omega arith)
+      sum_by-append (λ f. cond (reads_any t f) 1 0) (accepted_in h) (e ∷ []) ∙ (ap (λ n. all_reads_of (accepted_in h) t + n) one ∙ omega arith)
 
   -- who is no update after an event was none before
-  no_update_before : (e : Event) (t : ℕ) → is_update (done h ++ e ∷ []) t ≡ false → is_update (done h) t ≡ false
-  no_update_before e t fails = false_from_ne_true (is_update (done h) t) (λ is. true≢false (sym (is_update-push (done h) e t is) ∙ fails))
+  no_update_before : (e : Event) (t : ℕ) → is_update (accepted_in h ++ e ∷ []) t ≡ false → is_update (accepted_in h) t ≡ false
+  no_update_before e t fails = false_from_ne_true (is_update (accepted_in h) t) (λ is. true≢false (sym (is_update-push (accepted_in h) e t is) ∙ fails))
 
   -- an event that begins and reads nothing
-  fewer_reads : (e : Event) → ((t : ℕ) → reads_any t e ≡ false) → (t : ℕ) → is_update (done h ++ e ∷ []) t ≡ false → all_reads_of (done h ++ e ∷ []) t ≤ 1000
+  fewer_reads : (e : Event) → ((t : ℕ) → reads_any t e ≡ false) → (t : ℕ) → is_update (accepted_in h ++ e ∷ []) t ≡ false → all_reads_of (accepted_in h ++ e ∷ []) t ≤ 1000
   fewer_reads e none t fails = grind (arith, no_update_before e t fails, reads-push e t)
 
-  same_begins : (e : Event) → beginning_of e ≡ None → length (beginnings (done h ++ e ∷ [])) ≤ 65535
-  same_begins e none = grind (arith, filter_map_push beginning_of (done h) e, length-append (beginnings (done h)))
+  same_begins : (e : Event) → beginning_of e ≡ None → length (beginnings (accepted_in h ++ e ∷ [])) ≤ 65535
+  same_begins e none = grind (arith, filter_map_push beginning_of (accepted_in h) e, length-append (beginnings (accepted_in h)))
 
   -- after an accepted event
-  about : (e : Event) (r : Reply) → is_refusal r ≡ false → length (beginnings (done h ++ e ∷ [])) ≤ 65535
-      → ((t : ℕ) → is_update (done h ++ e ∷ []) t ≡ false → all_reads_of (done h ++ e ∷ []) t ≤ 1000)
+  about : (e : Event) (r : Reply) → is_refusal r ≡ false → length (beginnings (accepted_in h ++ e ∷ [])) ≤ 65535
+      → ((t : ℕ) → is_update (accepted_in h ++ e ∷ []) t ≡ false → all_reads_of (accepted_in h ++ e ∷ []) t ≤ 1000)
       → ((o : Operation) → In o (cons_option (operation_by e r) []) → (AllByRecursion IsValue h.opening → IsValue o.value) × (o.item < length h.opening)) → InRanges (extended h e r)
   about e r is begins reads new =
-      let events : done (extended h e r) ≡ done h ++ e ∷ [] = done-accepted h e r is in
+      let events : accepted_in (extended h e r) ≡ accepted_in h ++ e ∷ [] = done-accepted h e r is in
       record {
         begins = rw events begins;
         reads = λ t fails. rw events (reads t (subst (λ (es : List Event). is_update es t ≡ false) events fails));
@@ -72,14 +72,14 @@ module _ (d : Distance) (h : Schedule) (was : InRanges h) where
       one : (o : Operation) → In o (operations (extended h e r)) → In o (operations h) ⊎ In o (cons_option (operation_by e r) [])
       one o i = In-append_cases (operations h) (cons_option (operation_by e r) []) o (subst (In o) (operations-accepted h e r is) i)
 
-  begin_in_ranges : (e : Event) (r : Reply) (b : Beginning) → is_refusal r ≡ false → beginning_of e ≡ Some b → operation_by e r ≡ None → ((t : ℕ) → reads_any t e ≡ false) → nat_le 65535 (length (beginnings (done h))) ≡ false → InRanges (extended h e r)
+  begin_in_ranges : (e : Event) (r : Reply) (b : Beginning) → is_refusal r ≡ false → beginning_of e ≡ Some b → operation_by e r ≡ None → ((t : ℕ) → reads_any t e ≡ false) → nat_le 65535 (length (beginnings (accepted_in h))) ≡ false → InRanges (extended h e r)
   begin_in_ranges e r b is begins none no_read room =
       about e r is more (fewer_reads e no_read) (λ o i. absurd (subst (λ p. In o (cons_option p [])) none i))
     where
-      more : length (beginnings (done h ++ e ∷ [])) ≤ 65535
+      more : length (beginnings (accepted_in h ++ e ∷ [])) ≤ 65535
       more =
-          let below : length (beginnings (done h)) < 65535 = leb-false 65535 (length (beginnings (done h))) room in
-          let same : length (beginnings (done h ++ e ∷ [])) ≡ length (beginnings (done h)) + 1 = ap length (filter_map_push beginning_of (done h) e ∙ ap (λ o. beginnings (done h) ++ cons_option o []) begins) ∙ length-append (beginnings (done h)) (b ∷ []) in
+          let below : length (beginnings (accepted_in h)) < 65535 = leb-false 65535 (length (beginnings (accepted_in h))) room in
+          let same : length (beginnings (accepted_in h ++ e ∷ [])) ≡ length (beginnings (accepted_in h)) + 1 = ap length (filter_map_push beginning_of (accepted_in h) e ∙ ap (λ o. beginnings (accepted_in h) ++ cons_option o []) begins) ∙ length-append (beginnings (accepted_in h)) (b ∷ []) in
           omega arith
 
   single : (P : Operation → Type 0) (o : Operation) → P o → (w : Operation) → In w (o ∷ []) → P w
@@ -90,29 +90,29 @@ module _ (d : Distance) (h : Schedule) (was : InRanges h) where
 
   accepted_in_ranges : (e : Event) → NoneApplies (reasons d h e) → InRanges (extended h e (acceptance h e))
   accepted_in_ranges (BeginUpdate l) none =
-      begin_in_ranges (BeginUpdate l) (acceptance h (BeginUpdate l)) (record { query = false; strict = false; limit = l }) refl refl refl (λ t. refl) (when_none (nat_le 65535 (length (beginnings (done h)))) TooManyTransactions none.1.0)
+      begin_in_ranges (BeginUpdate l) (acceptance h (BeginUpdate l)) (record { query = false; strict = false; limit = l }) refl refl refl (λ t. refl) (when_none (nat_le 65535 (length (beginnings (accepted_in h)))) TooManyTransactions none.1.0)
   accepted_in_ranges (BeginQuery l s) none =
-      begin_in_ranges (BeginQuery l s) (acceptance h (BeginQuery l s)) (record { query = true; strict = s; limit = l }) refl refl refl (λ t. refl) (when_none (nat_le 65535 (length (beginnings (done h)))) TooManyTransactions none.1.0)
+      begin_in_ranges (BeginQuery l s) (acceptance h (BeginQuery l s)) (record { query = true; strict = s; limit = l }) refl refl refl (λ t. refl) (when_none (nat_le 65535 (length (beginnings (accepted_in h)))) TooManyTransactions none.1.0)
   accepted_in_ranges (Read t x) none =
       about (Read t x) (acceptance h (Read t x)) refl (same_begins (Read t x) refl) reads
-      (single (λ o. (AllByRecursion IsValue h.opening → IsValue o.value) × (o.item < length h.opening)) (record { txn = t.0; item = x.0; writes = false; value = current_value h.opening (done h) x.0 }) (λ opened. current-range opened x.0, item_below x.0 (read_allowed d h t x none).item))
+      (single (λ o. (AllByRecursion IsValue h.opening → IsValue o.value) × (o.item < length h.opening)) (record { txn = t.0; item = x.0; writes = false; value = current_value h.opening (accepted_in h) x.0 }) (λ opened. current-range opened x.0, item_below x.0 (read_allowed d h t x none).item))
     where
-      act : is_active (done h) t.0 ≡ true
+      act : is_active (accepted_in h) t.0 ≡ true
       act = not_ended h t.0 (read_allowed d h t x none).active
 
-      room : is_query (done h) t.0 ≡ true → all_reads_of (done h) t.0 < 1000
-      room query = leb-false 1000 (all_reads_of (done h) t.0) (sym (ap (λ b. b && nat_le 1000 (all_reads_of (done h) t.0)) query) ∙ when_none (is_query (done h) t.0 && nat_le 1000 (all_reads_of (done h) t.0)) TooManyReads (read_allowed d h t x none).few)
+      room : is_query (accepted_in h) t.0 ≡ true → all_reads_of (accepted_in h) t.0 < 1000
+      room query = leb-false 1000 (all_reads_of (accepted_in h) t.0) (sym (ap (λ b. b && nat_le 1000 (all_reads_of (accepted_in h) t.0)) query) ∙ when_none (is_query (accepted_in h) t.0 && nat_le 1000 (all_reads_of (accepted_in h) t.0)) TooManyReads (read_allowed d h t x none).few)
 
-      reads : (u : ℕ) → is_update (done h ++ Read t x ∷ []) u ≡ false → all_reads_of (done h ++ Read t x ∷ []) u ≤ 1000
+      reads : (u : ℕ) → is_update (accepted_in h ++ Read t x ∷ []) u ≡ false → all_reads_of (accepted_in h ++ Read t x ∷ []) u ≤ 1000
       reads u fails =
-          let before : is_update (done h) u ≡ false = no_update_before (Read t x) u fails in
+          let before : is_update (accepted_in h) u ≡ false = no_update_before (Read t x) u fails in
           rw (reads-push (Read t x) u)
           (elim (cases_Bool (t.0 == u)) [
             | inl own ↦
-                let below : all_reads_of (done h) u < 1000 = subst (λ w. all_reads_of (done h) w < 1000) (eqb-true t.0 u own) (room (query_from (beginning (done h) t.0) (active_parts (done h) t.0 act).0 (subst (λ w. is_update (done h) w ≡ false) (sym (eqb-true t.0 u own)) before))) in
+                let below : all_reads_of (accepted_in h) u < 1000 = subst (λ w. all_reads_of (accepted_in h) w < 1000) (eqb-true t.0 u own) (room (query_from (beginning (accepted_in h) t.0) (active_parts (accepted_in h) t.0 act).0 (subst (λ w. is_update (accepted_in h) w ≡ false) (sym (eqb-true t.0 u own)) before))) in
                 rw own (omega arith)
             | inr other ↦
-                let low : all_reads_of (done h) u ≤ 1000 = was.reads u before in
+                let low : all_reads_of (accepted_in h) u ≤ 1000 = was.reads u before in
                 rw other (omega arith)
           ])
         where
@@ -133,7 +133,7 @@ module _ (d : Distance) (h : Schedule) (was : InRanges h) where
       at None none = grind (arith, accepted_in_ranges e (none_applies (reasons d h e) none), none_applies (reasons d h e) none)
       at (Some why) some =
           let answer : r ≡ Refused why = is ∙ ap (λ w. answered w (acceptance h e)) some in
-          let events : done (extended h e (Refused why)) ≡ done h = done-refused h e why in
+          let events : accepted_in (extended h e (Refused why)) ≡ accepted_in h = done-refused h e why in
           let ops : operations (extended h e (Refused why)) ≡ operations h = operations-refused h e why in
           subst (λ w. InRanges (extended h e w)) (sym answer) (record {
             begins = rw events was.begins;
@@ -147,7 +147,7 @@ legal_in_ranges d h legal =
     legal_induction d InRanges (λ g e r is was. InRanges-extended d g was e r is) h
     (record { begins = omega arith; reads = λ t is. omega arith; values = λ opened o i. absurd i; items = λ o i. absurd i }) legal
 
-pub legal_begins : (d : Distance) (h : Schedule) → IsLegal d h → length (beginnings (done h)) ≤ 65535
+pub legal_begins : (d : Distance) (h : Schedule) → IsLegal d h → length (beginnings (accepted_in h)) ≤ 65535
 legal_begins d h legal = (legal_in_ranges d h legal).begins
 
 pub legal_items : (d : Distance) (h : Schedule) → IsLegal d h → (o : Operation) → In o (operations h) → o.item < length h.opening
@@ -159,7 +159,7 @@ legal_within_ranges d h opened legal =
     let r : InRanges h = legal_in_ranges d h legal in
     record {
       begins = r.begins;
-      reads = λ q query. r.reads q (query_not_update (done h) q query);
+      reads = λ q query. r.reads q (query_not_update (accepted_in h) q query);
       values = All-from_recursion (λ (o : Operation). IsValue o.value) (operations h) (each_in (λ (o : Operation). IsValue o.value) (operations h) (r.values (recursion_from_All IsValue h.opening opened)));
       items = All-from_recursion (λ (o : Operation). o.item < length h.opening) (operations h) (each_in (λ (o : Operation). o.item < length h.opening) (operations h) r.items);
     }

@@ -8,7 +8,7 @@ use Rattle.std.proofs.lemmas.List.Sums.{sum_by-cons}
 use mathlib.Core.Bool.{and_comm}
 use Rattle.esr_items.specs.Values.{value_at}
 use Rattle.esr_history.specs.Events.{is_refusal, beginning, is_active, is_committed, is_aborted, reads, writes, reads_of, written, last_value, committed_value, current_value, Beginning, is_query, is_update, Event, BeginUpdate, BeginQuery, Read, Write, Commit, Abort, Reply, Entry}
-use Rattle.esr_history.specs.Machine.{Schedule, done}
+use Rattle.esr_history.specs.Machine.{Schedule, accepted_in}
 use Rattle.esr_history.specs.Operations.{Operation, operation_by, operation_of, operations, commit_order, answer}
 use Rattle.esr_history.specs.Serial.{values_by, state}
 use Rattle.esr_history.proofs.Orderly.{active_parts}
@@ -21,7 +21,7 @@ aborter _ = None
 
 -- the operations, ends and begins of a history
 abbrev pub trace : Schedule → Trace
-trace h = record { operations = operations h; commits = commit_order (done h); aborts = filter_map aborter (done h); beginning = beginning (done h) }
+trace h = record { operations = operations h; commits = commit_order (accepted_in h); aborts = filter_map aborter (accepted_in h); beginning = beginning (accepted_in h) }
 
 abbrev accepts : Entry → Bool
 accepts e = not (is_refusal e.reply)
@@ -87,27 +87,27 @@ query_not_update events t is = at (beginning events t) is
     at (Some b) q = ap not q
 
 module _ (h : Schedule) where
-  pub written_trace : (k : ℕ → Bool) (x : ℕ) → filter_map (written k x) (done h) ≡ map (λ o. o.value) (filter (λ o. writes_item x o && k o.txn) (operations h))
+  pub written_trace : (k : ℕ → Bool) (x : ℕ) → filter_map (written k x) (accepted_in h) ≡ map (λ o. o.value) (filter (λ o. writes_item x o && k o.txn) (operations h))
   written_trace k x = written_kept k x (filter accepts h.entries)
 
-  pub wrote_trace : (t x : ℕ) → list_any (writes t x) (done h) ≡ list_any (wrote_by x t) (operations h)
+  pub wrote_trace : (t x : ℕ) → list_any (writes t x) (accepted_in h) ≡ list_any (wrote_by x t) (operations h)
   wrote_trace t x = grind (arith, any_kept, wrote_by x t, filter accepts h.entries)
 
-  pub read_trace : (t x : ℕ) → list_any (reads t x) (done h) ≡ list_any (read_item_by x t) (operations h)
+  pub read_trace : (t x : ℕ) → list_any (reads t x) (accepted_in h) ≡ list_any (read_item_by x t) (operations h)
   read_trace t x = grind (arith, any_kept, filter accepts h.entries)
 
-  pub reads_trace : (t x : ℕ) → reads_of (done h) t x ≡ read_count_in (trace h) x t
+  pub reads_trace : (t x : ℕ) → reads_of (accepted_in h) t x ≡ read_count_in (trace h) x t
   reads_trace t x = read_kept t x (filter accepts h.entries)
 
-  pub committed_trace : (x : ℕ) → committed_value h.opening (done h) x ≡ committed_in (value_at h.opening) (trace h) x
+  pub committed_trace : (x : ℕ) → committed_value h.opening (accepted_in h) x ≡ committed_in (value_at h.opening) (trace h) x
   committed_trace x =
-      ap (last_value (value_at h.opening x)) (written_trace (is_committed (done h)) x)
-      ∙ ap (λ (k : ℕ → Bool). after_writes (value_at h.opening x) (filter (λ o. writes_item x o && k o.txn) (operations h))) (fun_ext (committed_among (done h)))
+      ap (last_value (value_at h.opening x)) (written_trace (is_committed (accepted_in h)) x)
+      ∙ ap (λ (k : ℕ → Bool). after_writes (value_at h.opening x) (filter (λ o. writes_item x o && k o.txn) (operations h))) (fun_ext (committed_among (accepted_in h)))
 
-  pub current_trace : (x : ℕ) → current_value h.opening (done h) x ≡ current_in (value_at h.opening) (trace h) x
+  pub current_trace : (x : ℕ) → current_value h.opening (accepted_in h) x ≡ current_in (value_at h.opening) (trace h) x
   current_trace x =
-      ap (last_value (value_at h.opening x)) (written_trace (λ t. not (is_aborted (done h) t)) x)
-      ∙ ap (λ (k : ℕ → Bool). after_writes (value_at h.opening x) (filter (λ o. writes_item x o && not (k o.txn)) (operations h))) (fun_ext (aborted_among (done h)))
+      ap (last_value (value_at h.opening x)) (written_trace (λ t. not (is_aborted (accepted_in h) t)) x)
+      ∙ ap (λ (k : ℕ → Bool). after_writes (value_at h.opening x) (filter (λ o. writes_item x o && not (k o.txn)) (operations h))) (fun_ext (aborted_among (accepted_in h)))
 
   pub values_trace : (x u : ℕ) → values_by h x u ≡ map (λ o. o.value) (filter (wrote_by x u) (operations h))
   values_trace x u = written_trace (λ t. t == u) x
@@ -120,15 +120,15 @@ module _ (h : Schedule) where
   pub state_trace : (us : List ℕ) (x : ℕ) → state h us x ≡ state_in (value_at h.opening) (trace h) us x
   state_trace us x = ap (last_value (value_at h.opening x)) (flat_values x us)
 
-  pub active_trace : (u : ℕ) → is_active (done h) u ≡ true → Active (trace h) u
+  pub active_trace : (u : ℕ) → is_active (accepted_in h) u ≡ true → Active (trace h) u
   active_trace u is =
-      let p = active_parts (done h) u is in
+      let p = active_parts (accepted_in h) u is in
       record {
         begun = p.0;
-        open_ended = or_from (is_among (trace h).commits u) (is_among (trace h).aborts u) (sym (committed_among (done h) u) ∙ p.1) (sym (aborted_among (done h) u) ∙ p.2);
+        open_ended = or_from (is_among (trace h).commits u) (is_among (trace h).aborts u) (sym (committed_among (accepted_in h) u) ∙ p.1) (sym (aborted_among (accepted_in h) u) ∙ p.2);
       }
 
-  pub trace_active : (u : ℕ) → Active (trace h) u → is_active (done h) u ≡ true
+  pub trace_active : (u : ℕ) → Active (trace h) u → is_active (accepted_in h) u ≡ true
   trace_active u a =
       let p = or_parts (is_among (trace h).commits u) (is_among (trace h).aborts u) a.open_ended in
-      rw (a.begun, committed_among (done h) u ∙ p.0, aborted_among (done h) u ∙ p.1) refl
+      rw (a.begun, committed_among (accepted_in h) u ∙ p.0, aborted_among (accepted_in h) u ∙ p.1) refl

@@ -19,10 +19,10 @@ writer_of x _ = None
 
 -- who wrote it last
 abbrev pub last_writer : List Event → ℕ → Option ℕ
-last_writer done x = last_or None (filter_map (writer_of x) done)
+last_writer events x = last_or None (filter_map (writer_of x) events)
 
-pub record IsOrderly (done : List Event) : Type 0 where
-  pub begun : (t : ℕ) → list_any (names t) done ≡ true → is_begun done t ≡ true
-  pub writers : (t x : ℕ) → list_any (writes t x) done ≡ true → is_update done t ≡ true
-  pub exclusive : (t x : ℕ) → holds_write done t x ≡ true → last_writer done x ≡ Some t
-  pub once : (t : ℕ) → is_committed done t ≡ true → is_aborted done t ≡ false
+pub record IsOrderly (events : List Event) : Type 0 where
+  pub begun : (t : ℕ) → list_any (names t) events ≡ true → is_begun events t ≡ true
+  pub writers : (t x : ℕ) → list_any (writes t x) events ≡ true → is_update events t ≡ true
+  pub exclusive : (t x : ℕ) → holds_write events t x ≡ true → last_writer events x ≡ Some t
+  pub once : (t : ℕ) → is_committed events t ≡ true → is_aborted events t ≡ false

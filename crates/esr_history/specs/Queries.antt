@@ -3,16 +3,16 @@
 use Rattle.std.specs.Prelude.{◌≡◌, ℕ, ℤ, Bool, true, false, not, ◌&&◌, ◌==◌, ◌≤◌, IsTrue, List, [], filter, Contains, sum_by, unwrap_or, if◌then◌else◌, option_map}
 use Rattle.std.specs.List.{before_first}
 use Rattle.esr_history.specs.Events.{beginning, is_query, is_update, is_committed, accepted, Reply, Begun, Event, Entry}
-use Rattle.esr_history.specs.Machine.{Distance, Schedule, done, distance_in, charges_in, import_in}
+use Rattle.esr_history.specs.Machine.{Distance, Schedule, accepted_in, distance_in, charges_in, import_in}
 use Rattle.esr_history.specs.Operations.{Operation, operations, commit_order}
 use Rattle.esr_history.specs.Serial.{is_before, state}
 
 abbrev pub is_committed_query : Schedule → ℕ → Bool
-is_committed_query h q = is_query (done h) q && is_committed (done h) q
+is_committed_query h q = is_query (accepted_in h) q && is_committed (accepted_in h) q
 
 -- the updates that committed before q did, in commit order
 abbrev pub updates_of : Schedule → ℕ → List ℕ
-updates_of h q = filter (is_update (done h)) (before_first (λ t. t == q) (commit_order (done h)))
+updates_of h q = filter (is_update (accepted_in h)) (before_first (λ t. t == q) (commit_order (accepted_in h)))
 
 abbrev pub is_strict : List Event → ℕ → Bool
 is_strict events t = unwrap_or (option_map (λ b. b.strict) (beginning events t)) false
@@ -27,7 +27,7 @@ before_begin h q = before_first (λ e. begins q e.reply) h.entries
 
 -- of a strict query, those of its updates that committed before it began; of another, none
 abbrev pub must : Schedule → ℕ → List ℕ
-must h q = if is_strict (done h) q then filter (is_committed (accepted (before_begin h q))) (updates_of h q) else []
+must h q = if is_strict (accepted_in h) q then filter (is_committed (accepted (before_begin h q))) (updates_of h q) else []
 
 -- the accepted reads of q
 abbrev pub reads_by : Schedule → ℕ → List Operation

@@ -1,13 +1,13 @@
 -- How many there are of what a history keeps, and in what range.
 use Rattle.std.specs.Prelude.{ℕ, ◌≤◌, ◌<◌, length, All, IsTrue}
 use Rattle.esr_items.specs.Values.{IsValue}
-use Rattle.esr_base.specs.declared.limits.TheConstants.{MOST_READS, MOST_TRANSACTIONS}
+use Rattle.esr_base.specs.declared.limits.TheConstants.{MAX_READS, MAX_TRANSACTIONS}
 use Rattle.esr_history.specs.Events.{beginnings, all_reads_of, is_query}
-use Rattle.esr_history.specs.Machine.{Schedule, done}
+use Rattle.esr_history.specs.Machine.{Schedule, accepted_in}
 use Rattle.esr_history.specs.Operations.{operations}
 
 pub record IsWithinRanges (h : Schedule) : Type 0 where
-  pub begins : length (beginnings (done h)) ≤ MOST_TRANSACTIONS
-  pub reads : (q : ℕ) → IsTrue (is_query (done h) q) → all_reads_of (done h) q ≤ MOST_READS
+  pub begins : length (beginnings (accepted_in h)) ≤ MAX_TRANSACTIONS
+  pub reads : (q : ℕ) → IsTrue (is_query (accepted_in h) q) → all_reads_of (accepted_in h) q ≤ MAX_READS
   pub values : All (λ o. IsValue o.value) (operations h)
   pub items : All (λ o. o.item < length h.opening) (operations h)

@@ -1,7 +1,7 @@
 -- What an active query was told, over any number of histories, and how far that may be from what the items are now.
 use Rattle.std.specs.Prelude.{◌≡◌, ℕ, ℤ, ◌+◌, ◌≤◌, ◌⊎◌, Bool, not, ◌&&◌, ◌==◌, IsTrue, List, ◌++◌, filter, count_by, sum_by}
 use Rattle.esr_history.specs.Events.{is_query, is_active, reads_of, committed_value, current_value, Entry}
-use Rattle.esr_history.specs.Machine.{Distance, Schedule, done, distance_in, charges_in, import_in, IsLegal}
+use Rattle.esr_history.specs.Machine.{Distance, Schedule, accepted_in, distance_in, charges_in, import_in, IsLegal}
 use Rattle.esr_history.specs.Legal.{along}
 use Rattle.esr_history.specs.Operations.{Operation, operations_in}
 use Rattle.esr_history.specs.Serial.{state}
@@ -14,12 +14,12 @@ pub record AreDistances (d : Distance) : Type 0 where
   pub triangle : (w : List ℕ) (x : ℕ) (a b c : ℤ) → d w x a c ≤ d w x a b + d w x b c
 
 abbrev pub is_active_query : Schedule → ℕ → Bool
-is_active_query h q = is_query (done h) q && is_active (done h) q
+is_active_query h q = is_query (accepted_in h) q && is_active (accepted_in h) q
 
 -- each item at its committed or at its current value
 abbrev pub IsMixture : Schedule → (ℕ → ℤ) → Type 0
 IsMixture h w =
-    (x : ℕ) → (w x ≡ committed_value h.opening (done h) x) ⊎ (w x ≡ current_value h.opening (done h) x)
+    (x : ℕ) → (w x ≡ committed_value h.opening (accepted_in h) x) ⊎ (w x ≡ current_value h.opening (accepted_in h) x)
 
 -- An active query is no farther from any mixture than it has imported so far.
 abbrev pub ImportBoundsActive : Distance → Schedule → Type 0
@@ -29,14 +29,14 @@ ImportBoundsActive d h =
 
 -- the distance of what was told, items with their values, from the values w of the items
 abbrev pub told_distance : Distance → Schedule → List Operation → (ℕ → ℤ) → ℕ
-told_distance d h told w = sum_by (λ o. distance_in d h o.item o.value (w o.item)) told
+told_distance d h refusal_info w = sum_by (λ o. distance_in d h o.item o.value (w o.item)) refusal_info
 
 -- q is active, it has read each item at least as often as it was told of it, and what it was told is within the bound
 -- of every mixture. What it was told may be of earlier histories: the reads say only of which items, and how often.
-pub record IsTold (d : Distance) (h : Schedule) (q : ℕ) (told : List Operation) (bound : ℕ) : Type 0 where
+pub record IsTold (d : Distance) (h : Schedule) (q : ℕ) (refusal_info : List Operation) (bound : ℕ) : Type 0 where
   pub active : IsTrue (is_active_query h q)
-  pub held : (x : ℕ) → count_by (λ o. o.item == x) told ≤ reads_of (done h) q x
-  pub within : (w : ℕ → ℤ) → IsMixture h w → told_distance d h told w ≤ bound
+  pub held : (x : ℕ) → count_by (λ o. o.item == x) refusal_info ≤ reads_of (accepted_in h) q x
+  pub within : (w : ℕ → ℤ) → IsMixture h w → told_distance d h refusal_info w ≤ bound
 
 -- what q reads in further entries
 abbrev pub reads_in : List Entry → ℕ → List Operation
@@ -45,24 +45,24 @@ reads_in entries q = filter (λ o. not o.writes && (o.txn == q)) (operations_in 
 -- As its history goes on, the bound of an active query grows by what it imports, and by no more.
 abbrev pub BoundGrowsByImport : Distance → Schedule → Type 0
 BoundGrowsByImport d h =
-    (q : ℕ) (told : List Operation) (bound : ℕ) → IsTold d h q told bound
+    (q : ℕ) (refusal_info : List Operation) (bound : ℕ) → IsTold d h q refusal_info bound
     → (later : List Entry) → IsLegal d (along h later) → IsTrue (is_active_query (along h later) q)
     → (more : ℕ) → import_in (charges_in d h) q + more ≡ import_in (charges_in d (along h later)) q
-    → IsTold d (along h later) q (told ++ reads_in later q) (bound + more)
+    → IsTold d (along h later) q (refusal_info ++ reads_in later q) (bound + more)
 
 -- Once it has committed, it is within its bound, with what it imported since, of the values that its updates left.
 abbrev pub BoundHoldsAtCommit : Distance → Schedule → Type 0
 BoundHoldsAtCommit d h =
-    (q : ℕ) (told : List Operation) (bound : ℕ) → IsTold d h q told bound
+    (q : ℕ) (refusal_info : List Operation) (bound : ℕ) → IsTold d h q refusal_info bound
     → (later : List Entry) → IsLegal d (along h later) → IsTrue (is_committed_query (along h later) q)
     → (more : ℕ) → import_in (charges_in d h) q + more ≡ import_in (charges_in d (along h later)) q
-    → told_distance d h (told ++ reads_in later q) (state (along h later) (updates_of (along h later) q)) ≤ bound + more
+    → told_distance d h (refusal_info ++ reads_in later q) (state (along h later) (updates_of (along h later) q)) ≤ bound + more
 
 -- what the reads of q would be charged if each were made again now: the charges that are open
 abbrev pub open_import : Distance → Schedule → ℕ → ℕ
 open_import d h q =
-    sum_by (λ o. distance_in d h o.item (current_value h.opening (done h) o.item)
-    (committed_value h.opening (done h) o.item)) (reads_by h q)
+    sum_by (λ o. distance_in d h o.item (current_value h.opening (accepted_in h) o.item)
+    (committed_value h.opening (accepted_in h) o.item)) (reads_by h q)
 
 -- No more is open than was imported.
 abbrev pub OpenIsImported : Distance → Schedule → Type 0

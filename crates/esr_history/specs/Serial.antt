@@ -3,7 +3,7 @@ use Rattle.std.specs.Prelude.{◌≡◌, ◌≢◌, ◌↔◌, ℕ, ℤ, Bool, f
 use Rattle.std.specs.List.{before_first, filter_map, list_any}
 use Rattle.esr_items.specs.Values.{value_at}
 use Rattle.esr_history.specs.Events.{accepted, is_update, is_committed, written, last_value, committed_value, ItemId, TxnId, Read, Value, Entry}
-use Rattle.esr_history.specs.Machine.{Schedule, done}
+use Rattle.esr_history.specs.Machine.{Schedule, accepted_in}
 use Rattle.esr_history.specs.Operations.{Operation, operations, commit_order}
 
 -- whether some element and some later one pass the test
@@ -21,7 +21,7 @@ is_before h u v = any_pair (λ a b. (a.txn == u) && ((b.txn == v) && conflict a 
 
 -- the committed updates, in commit order
 abbrev pub committed_updates : Schedule → List ℕ
-committed_updates h = filter (is_update (done h)) (commit_order (done h))
+committed_updates h = filter (is_update (accepted_in h)) (commit_order (accepted_in h))
 
 -- lists each member once, u ahead of v wherever u is before v
 pub record IsSerialOrder (h : Schedule) (members : List ℕ) (order : List ℕ) : Type 0 where
@@ -31,7 +31,7 @@ pub record IsSerialOrder (h : Schedule) (members : List ℕ) (order : List ℕ) 
 
 -- the values that u wrote to item x, in order
 abbrev pub values_by : Schedule → ℕ → ℕ → List ℤ
-values_by h x u = filter_map (written (λ t. t == u) x) (done h)
+values_by h x u = filter_map (written (λ t. t == u) x) (accepted_in h)
 
 -- the value of item x after the updates us, run one after another in this order from the opening values
 abbrev pub state : Schedule → List ℕ → ℕ → ℤ
@@ -45,7 +45,7 @@ pub record IsSerializable (h : Schedule) : Type 0 where
   -- of it
   pub reads : (before after : List Entry) (t : TxnId) (x : ItemId) (v : ℤ)
       → h.entries ≡ before ++ record { event = Read t x; reply = Value v } ∷ after
-      → IsTrue (is_update (done h) t.0 && is_committed (done h) t.0)
+      → IsTrue (is_update (accepted_in h) t.0 && is_committed (accepted_in h) t.0)
       → v ≡ last_value (state h (before_first (λ u. u == t.0) (committed_updates h)) x.0)
       (filter_map (written (λ u. u == t.0) x.0) (accepted before))
-  pub leaves : (x : ℕ) → state h (committed_updates h) x ≡ committed_value h.opening (done h) x
+  pub leaves : (x : ℕ) → state h (committed_updates h) x ≡ committed_value h.opening (accepted_in h) x

@@ -2,7 +2,7 @@
 use Rattle.std.specs.Prelude.{◌≡◌, ℕ, ℤ, pos, List, [], ◌∷◌, true, false, refl, map, Some}
 use Rattle.esr_items.specs.Values.{gap}
 use Rattle.esr_history.specs.Events.{TxnId, ItemId, Event, BeginUpdate, BeginQuery, Read, Write, Commit, Abort, Reply, Begun, Value, Wrote, Committed, Aborted, Refused, NoSuchTransaction, AlreadyEnded, NoSuchItem, QueryMayNotWrite, ValueOutOfRange, LimitOutOfRange, BlockedByLock, BlockedByImport, BlockedByExport}
-use Rattle.esr_history.specs.Machine.{Schedule, Distance, schedule_of, extended, reply_to, charges_in, total, import_in, export_in, done}
+use Rattle.esr_history.specs.Machine.{Schedule, Distance, schedule_of, extended, reply_to, charges_in, total, import_in, export_in, accepted_in}
 use Rattle.esr_history.specs.ItemLocks.{item_locks}
 
 abbrev pub plain : Distance
@@ -127,7 +127,7 @@ abort_puts_back =
 abort_puts_back_replies : replies abort_puts_back ≡ Begun (txn 1) ∷ Wrote ∷ Aborted ∷ Begun (txn 2) ∷ Value (pos 1) ∷ []
 abort_puts_back_replies = refl
 
-export_limit_over_queries_locks : item_locks (done export_limit_over_queries) 0
+export_limit_over_queries_locks : item_locks (accepted_in export_limit_over_queries) 0
     ≡ record { writer = Some 4; readers = []; queries = (1, 2) ∷ (2, 1) ∷ [] }
 export_limit_over_queries_locks = refl
 

@@ -6,7 +6,7 @@
 //!
 //! In a table 0 stands for no place and each place for one more, in 32 bits: `reserve` refuses an entry past
 //! 4,294,967,294, as where allocation fails, far above what a machine's history can have.
-ghost use Rattle.esr_base.specs.declared.limits.TheConstants.{MOST_ITEMS};
+ghost use Rattle.esr_base.specs.declared.limits.TheConstants.{MAX_ITEMS};
 ghost use Rattle.std.specs.Prelude.{◌≡◌, ◌+◌, ◌^◌, ◌<◌, ◌≤◌, ◌++◌, ◌∷◌, [], ℕ, List, length, slice_index_or, slice_set, IfOk, OnOk, vec_capacity};
 ghost use Rattle.esr_history.specs.declared.event.Entry.{Entry};
 ghost use Rattle.esr_history.specs.BackLinks.{with_key, txns_after, ends_after, begins_after, IsNumbered, item_of, begun_by, txn_of, key_at, decoded, AreLinks, IsFit, HasRoom, HasRoomToBegin, begun_count, last_place, earlier, facts_of, accepted_item, accepted_txn, item_in, txn_in};
@@ -43,7 +43,7 @@ pub struct BackLinks {
 }
 
 /// The most codes of 32 bits: as many places have one.
-const MOST_CODES: usize = 4_294_967_295;
+const MAX_CODES: usize = 4_294_967_295;
 
 fn item_of(event: Event) -> Option<u32>
     ensures { result ≡ item_of event }
@@ -141,7 +141,7 @@ pub fn spare<T>(list: &Vec<T>) -> usize
 impl BackLinks {
     /// The tables of no entries.
     pub fn new(alloc: Global, items: usize) -> Result<BackLinks, AllocError>
-        requires { items ≤ MOST_ITEMS }
+        requires { items ≤ MAX_ITEMS }
         ensures { IfOk result (λ l. AreLinks items [] l) }
     {
         let mut txns = Vec::new(alloc);
@@ -165,7 +165,7 @@ impl BackLinks {
         ensures room { (k : ℕ) → HasRoom k self.old → HasRoom k self.new }
         ensures ok { OnOk result (HasRoom 1 self.new) }
     {
-        if self.on_item.len() >= MOST_CODES {
+        if self.on_item.len() >= MAX_CODES {
             return Err(AllocError);
         }
         self.on_item.reserve(1)?;
@@ -186,7 +186,7 @@ impl BackLinks {
         let begins = spare(&self.txns)
             .min(spare(&self.ends))
             .min(spare(&self.begins));
-        entries.min(begins).min(MOST_CODES - self.on_item.len())
+        entries.min(begins).min(MAX_CODES - self.on_item.len())
     }
 
     /// Leaves the tables of no entries, over as many items.

@@ -2,17 +2,17 @@
 use Rattle.std.proofs.Common.{◌∙◌, sym, ap, arith, ◌≡◌, ℕ, ℤ, ◌+◌, ◌*◌, ◌≤◌, Bool, ◌&&◌, cond, nat_le, List, slice_index_or}
 use Rattle.std.proofs.lemmas.Bool.Decides.{nat_tests}
 use Rattle.std.proofs.Math.Nat.{mul-add, mul-zero, mul-le-mul, mul-le-mul_left, eq_of_mul-eq-mul_left}
-use Rattle.esr_base.specs.declared.limits.TheConstants.{LARGEST_WEIGHT}
-use Rattle.esr_items.specs.Values.{gap, IsValue, largest_distance}
+use Rattle.esr_base.specs.declared.limits.TheConstants.{MAX_WEIGHT}
+use Rattle.esr_items.specs.Values.{gap, IsValue, max_distance}
 use Rattle.esr_items.specs.Gaps.{gap-zero, gap-same, gap_comm, gap-triangle, gap-most}
 
 -- a weight that an item may have
 abbrev pub IsWeight : ℕ → Type 0
-IsWeight w = (1 ≤ w) × (w ≤ LARGEST_WEIGHT)
+IsWeight w = (1 ≤ w) × (w ≤ MAX_WEIGHT)
 
 -- the same as a test
 abbrev pub is_weight : ℕ → Bool
-is_weight w = nat_le 1 w && nat_le w LARGEST_WEIGHT
+is_weight w = nat_le 1 w && nat_le w MAX_WEIGHT
 
 -- the weight, or 1 in place of what is none
 abbrev pub weight_or_one : ℕ → ℕ
@@ -31,7 +31,7 @@ weighted weights x a b = weight_of weights x * gap a b
 pub weight-least : (w : ℕ) → 1 ≤ weight_or_one w
 weight-least w = grind (arith, nat_tests)
 
-pub weight-most : (w : ℕ) → weight_or_one w ≤ LARGEST_WEIGHT
+pub weight-most : (w : ℕ) → weight_or_one w ≤ MAX_WEIGHT
 weight-most w = grind (arith, nat_tests)
 
 pub weighted-zero : (weights : List ℕ) (x : ℕ) (a b : ℤ) → weighted weights x a b ≡ 0 → a ≡ b
@@ -55,5 +55,5 @@ weighted-triangle weights x a b c =
     omega (arith, apart, most)
 
 pub weighted-bounded : (weights : List ℕ) (x : ℕ) (a b : ℤ) → IsValue a → IsValue b
-    → weighted weights x a b ≤ largest_distance
+    → weighted weights x a b ≤ max_distance
 weighted-bounded weights x a b ha hb = mul-le-mul (weight-most (slice_index_or weights x 1)) (gap-most a b ha hb)

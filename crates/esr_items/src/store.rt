@@ -7,10 +7,10 @@
 
 ghost use Rattle.std.specs.Prelude.{◌≡◌, ◌<◌, ◌≤◌, ◌⊎◌, length, map, IfOk, OnOk, IfErr, IsErrOf, All, Any, IsTrue, ◌↔◌, List};
 ghost use Rattle.esr_items.specs.Values.{IsValue, both_versions, committed_at, current_at, current_set, kept, undone, AreValues};
-ghost use Rattle.esr_base.specs.declared.limits.TheConstants.{MOST_ITEMS};
+ghost use Rattle.esr_base.specs.declared.limits.TheConstants.{MAX_ITEMS};
 ghost use Rattle.esr_items.specs.declared.store.Versions.{Versions};
 
-use esr_base::{ItemId, LARGEST_VALUE, MOST_ITEMS};
+use esr_base::{ItemId, MAX_ITEMS, MAX_VALUE};
 use std::alloc::{AllocError, Global};
 use std::marker::Model;
 use thiserror::Error;
@@ -51,16 +51,16 @@ impl Model for Store {
 
     ghost view = { λ s. s.items.items };
 
-    ghost invariant = { λ s. (length s.items.items ≤ MOST_ITEMS) × All AreValues s.items.items };
+    ghost invariant = { λ s. (length s.items.items ≤ MAX_ITEMS) × All AreValues s.items.items };
 }
 
 impl Store {
     /// A store in which each item has the value given, as its committed and its current value.
     pub fn new(alloc: Global, values: Vec<i64>) -> Result<Store, ItemsError>
         ensures ok { IfOk result (λ s. s ≡ map both_versions values.items) }
-        ensures many { IsErrOf result ItemsError.TooManyItems ↔ (MOST_ITEMS < length values.items) }
+        ensures many { IsErrOf result ItemsError.TooManyItems ↔ (MAX_ITEMS < length values.items) }
         ensures range { IsErrOf result ItemsError.ValueOutOfRange
-            ↔ ((length values.items ≤ MOST_ITEMS) × Any (λ v. ¬ IsValue v) values.items) }
+            ↔ ((length values.items ≤ MAX_ITEMS) × Any (λ v. ¬ IsValue v) values.items) }
         ensures weights { ¬ IsErrOf result ItemsError.WeightOutOfRange }
     {
         check(&values)?;
@@ -72,7 +72,7 @@ impl Store {
 
     /// The same of values that are in range, and no more than items may be.
     pub fn of_valid(alloc: Global, values: &[i64]) -> Result<Store, AllocError>
-        requires few { length values.now ≤ MOST_ITEMS }
+        requires few { length values.now ≤ MAX_ITEMS }
         requires range { All IsValue values.now }
         ensures both { IfOk result (λ s. s ≡ map both_versions values.now) }
         ensures committed { IfOk result (λ s. map (λ w. w.committed) s ≡ values.now) }
@@ -84,7 +84,7 @@ impl Store {
     /// How many items there are.
     pub fn len(&self) -> usize
         ensures len { result ≡ length self.now }
-        ensures most { result ≤ MOST_ITEMS }
+        ensures most { result ≤ MAX_ITEMS }
     {
         self.items.len()
     }
@@ -154,17 +154,17 @@ fn versions_of(alloc: Global, values: &[i64]) -> Result<Vec<Versions>, AllocErro
 fn is_value(v: i64) -> bool
     ensures { IsTrue result ↔ IsValue v }
 {
-    v.unsigned_abs() <= LARGEST_VALUE
+    v.unsigned_abs() <= MAX_VALUE
 }
 
 /// Whether a store may have the values, and else why not.
 fn check(values: &[i64]) -> Result<(), ItemsError>
-    ensures ok { OnOk result ((length values.now ≤ MOST_ITEMS) × All IsValue values.now) }
-    ensures err { IfErr result (λ e. ((e ≡ ItemsError.TooManyItems) × (MOST_ITEMS < length values.now))
-        ⊎ ((e ≡ ItemsError.ValueOutOfRange) × (length values.now ≤ MOST_ITEMS)
+    ensures ok { OnOk result ((length values.now ≤ MAX_ITEMS) × All IsValue values.now) }
+    ensures err { IfErr result (λ e. ((e ≡ ItemsError.TooManyItems) × (MAX_ITEMS < length values.now))
+        ⊎ ((e ≡ ItemsError.ValueOutOfRange) × (length values.now ≤ MAX_ITEMS)
         × Any (λ v. ¬ IsValue v) values.now)) }
 {
-    if values.len() > MOST_ITEMS {
+    if values.len() > MAX_ITEMS {
         return Err(ItemsError::TooManyItems);
     }
     if !values.iter().all(|v| is_value(*v)) {

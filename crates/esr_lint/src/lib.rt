@@ -16,12 +16,12 @@ mod near;
 mod observer;
 mod place;
 mod reason;
-mod teller;
+mod reporter;
 
 pub use answer::{Fault, fault_of, is_error};
 pub use kept_line::KeptLine;
 pub use listing::{Listing, Unlisted};
-pub use observer::{End, Observer, Standing, Unobserved};
+pub use observer::{End, Observer, TxnStatus, Unobserved};
 pub use place::{Place, Source};
 pub use reason::{Finding, NumberFault, Reason, find_reason};
-pub use teller::{NoQuery, Teller, When};
+pub use reporter::{ErrorReporter, NoQuery, When};

@@ -8,7 +8,7 @@
 ghost use Rattle.std.specs.Prelude.{◌≡◌, ℕ, ◌<◌, ◌≤◌, ◌==◌, length, filter, find, not, All, IfOk, IfErr, option_map};
 ghost use Rattle.std.specs.List.{list_any, insert, AllByRecursion};
 ghost use Rattle.smallvec.specs.SmallVec.{HasRoomFor};
-ghost use Rattle.esr_base.specs.declared.limits.TheConstants.{MOST_READS};
+ghost use Rattle.esr_base.specs.declared.limits.TheConstants.{MAX_READS};
 ghost use Rattle.esr_history.specs.Ascending.{IsAscendingBy, IsPlaceOf, IsGapFor, placed};
 ghost use Rattle.esr_locks.specs.Rows.{MakesRoom, reader, first_reads, more_reads};
 
@@ -187,10 +187,10 @@ pub fn add_reader(readers: &mut Readers, t: TxnId) -> bool
 pub fn count_read(queries: &mut Queries, q: TxnId) -> bool
     requires ascending { IsAscendingBy (λ r. r.query.0) queries.old.items }
     requires room { HasRoomFor queries.old 1 }
-    requires few { All (λ r. r.query.0 ≡ q.0 → r.count < MOST_READS) queries.old.items }
-    requires most { AllByRecursion (λ r. r.count ≤ MOST_READS) queries.old.items }
+    requires few { All (λ r. r.query.0 ≡ q.0 → r.count < MAX_READS) queries.old.items }
+    requires most { AllByRecursion (λ r. r.count ≤ MAX_READS) queries.old.items }
     ensures items { queries.new.items ≡ placed (λ r. r.query.0) q.0 (first_reads q) more_reads queries.old.items }
-    ensures most { AllByRecursion (λ r. r.count ≤ MOST_READS) queries.new.items }
+    ensures most { AllByRecursion (λ r. r.count ≤ MAX_READS) queries.new.items }
     ensures fresh { result ≡ not (list_any (λ r. r.query.0 == q.0) queries.old.items) }
 {
     match place_of(queries, q) {

@@ -4,7 +4,7 @@
 //! smallest update in the way is the writer or the first reader but the asker.
 
 ghost use Rattle.std.specs.Prelude.{◌≡◌, ℕ, ◌<◌, ◌≤◌, ◌==◌, Bool, false, ◌||◌, ◌&&◌, map, not, All, OnOk, OnErr, unwrap_or, None, if◌then◌else◌, option_map, min, ◌-◌, length};
-ghost use Rattle.esr_base.specs.declared.limits.TheConstants.{MOST_READS};
+ghost use Rattle.esr_base.specs.declared.limits.TheConstants.{MAX_READS};
 ghost use Rattle.esr_history.specs.Ascending.{IsAscendingBy, IsSmallest};
 ghost use Rattle.esr_locks.specs.Modes.{conflicts};
 ghost use Rattle.esr_locks.specs.Rows.{query_and_count, with_lock, has_such, RowOf};
@@ -43,7 +43,7 @@ impl Model for Row {
     } };
 
     ghost invariant = { λ r. IsAscendingBy (λ u. u.update.0) r.readers.items
-        × IsAscendingBy (λ q. q.query.0) r.queries.items × AllByRecursion (λ q. q.count ≤ MOST_READS) r.queries.items };
+        × IsAscendingBy (λ q. q.query.0) r.queries.items × AllByRecursion (λ q. q.count ≤ MAX_READS) r.queries.items };
 }
 
 /// Whether the item's writer is `t`.
@@ -101,7 +101,7 @@ impl Row {
     pub fn queries(&self) -> &[QueryReads]
         ensures reads { map query_and_count result.now ≡ self.now.locks.queries }
         ensures ascending { IsAscendingBy (λ r. r.query.0) result.now }
-        ensures most { All (λ r. r.count ≤ MOST_READS) result.now }
+        ensures most { All (λ r. r.count ≤ MAX_READS) result.now }
     {
         &self.queries
     }
@@ -178,7 +178,7 @@ impl Row {
     /// Adds a read by a query, and answers whether the query had not read the item.
     fn add_query_read(&mut self, q: TxnId) -> bool
         requires room { 0 < self.old.room }
-        requires few { All (λ r. r.0 ≡ q.0 → r.1 < MOST_READS) self.old.locks.queries }
+        requires few { All (λ r. r.0 ≡ q.0 → r.1 < MAX_READS) self.old.locks.queries }
         ensures locks { self.new.locks ≡ with_query_read q.0 self.old.locks }
         ensures fresh { result ≡ not (has_query_lock self.old.locks q.0) }
     {
@@ -189,7 +189,7 @@ impl Row {
     #[inline(always)]
     pub fn add(&mut self, t: TxnId, mode: Mode) -> bool
         requires room { 0 < self.old.room }
-        requires few { mode ≡ Mode.QueryRead → All (λ r. r.0 ≡ t.0 → r.1 < MOST_READS) self.old.locks.queries }
+        requires few { mode ≡ Mode.QueryRead → All (λ r. r.0 ≡ t.0 → r.1 < MAX_READS) self.old.locks.queries }
         ensures locks { self.new.locks ≡ with_lock mode t.0 self.old.locks }
         ensures fresh { result ≡ not (has_such mode self.old.locks t.0) }
     {

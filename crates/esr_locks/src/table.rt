@@ -9,7 +9,7 @@
 
 ghost use Rattle.std.specs.Prelude.{◌≡◌, ℕ, ◌<◌, ◌≤◌, ◌==◌, [], length, map, All, IfOk, OnOk, OnErr, slice_set, true, if◌then◌else◌, option_map};
 ghost use Rattle.std.specs.List.{range_with_len};
-ghost use Rattle.esr_base.specs.declared.limits.TheConstants.{MOST_READS};
+ghost use Rattle.esr_base.specs.declared.limits.TheConstants.{MAX_READS};
 ghost use Rattle.esr_history.specs.Ascending.{IsAscendingBy, IsSmallest};
 ghost use Rattle.esr_locks.specs.Rows.{query_and_count, row_at, held_at, with_lock, has_such, IsTable};
 ghost use Rattle.esr_locks.specs.Tables.{no_locks, locks_at, room_for, has_lock, has_update_lock, has_query_lock, lists_item, keeps_from_reading, keeps_from_writing, with_reader, with_writer, with_query_read, released, Table};
@@ -179,7 +179,7 @@ impl LockTable {
         requires { x.0 < length self.now.locks }
         ensures reads { map query_and_count result.now ≡ (locks_at self.now.locks x.0).queries }
         ensures ascending { IsAscendingBy (λ r. r.query.0) result.now }
-        ensures most { All (λ r. r.count ≤ MOST_READS) result.now }
+        ensures most { All (λ r. r.count ≤ MAX_READS) result.now }
     {
         self.rows[x.0 as usize].queries()
     }
@@ -221,7 +221,7 @@ impl LockTable {
         requires item { x.0 < length self.old.locks }
         requires room { 0 < room_for self.old t.0 x.0 }
         requires few { mode ≡ Mode.QueryRead
-            → All (λ r. r.0 ≡ t.0 → r.1 < MOST_READS) (locks_at self.old.locks x.0).queries }
+            → All (λ r. r.0 ≡ t.0 → r.1 < MAX_READS) (locks_at self.old.locks x.0).queries }
         ensures again { has_such mode (locks_at self.old.locks x.0) t.0 ≡ true → self.new.list_rooms ≡ self.old.list_rooms }
         ensures locks { self.new.locks ≡ slice_set self.old.locks x.0 (with_lock mode t.0 (locks_at self.old.locks x.0)) }
     {
@@ -256,7 +256,7 @@ impl LockTable {
     pub fn add_read_query(&mut self, q: TxnId, x: ItemId)
         requires item { x.0 < length self.old.locks }
         requires room { 0 < room_for self.old q.0 x.0 }
-        requires few { All (λ r. r.0 ≡ q.0 → r.1 < MOST_READS) (locks_at self.old.locks x.0).queries }
+        requires few { All (λ r. r.0 ≡ q.0 → r.1 < MAX_READS) (locks_at self.old.locks x.0).queries }
         ensures again { has_query_lock (locks_at self.old.locks x.0) q.0 ≡ true → self.new.list_rooms ≡ self.old.list_rooms }
         ensures locks { self.new.locks ≡ slice_set self.old.locks x.0 (with_query_read q.0 (locks_at self.old.locks x.0)) }
     {

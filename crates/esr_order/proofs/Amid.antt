@@ -12,7 +12,7 @@ use Rattle.esr_order.specs.UpdateOperations.{UpdateOperation}
 use Rattle.esr_order.specs.Turns.{turns}
 use Rattle.esr_order.specs.Placements.{is_among}
 use Rattle.esr_order.specs.Listing.{IsBelow}
-use Rattle.esr_order.specs.Ties.{on_item, AreTies, AreNextPaired}
+use Rattle.esr_order.specs.Conflicts.{on_item, AreConflicts, AreNextPaired}
 use Rattle.esr_order.specs.Chains.{Chain, chain_from, last_by_update, nth}
 use Rattle.esr_order.specs.Orders.{IsOrderAmong}
 use Rattle.esr_order.proofs.Turns as turns_of
@@ -28,10 +28,10 @@ module _ (d : Distance) (h : Schedule) (legal : IsLegal d h) (commits : List Txn
   len : length (map (λ (t : TxnId). t.0) commits) ≡ length commits
   len = length-map commits (λ (t : TxnId). t.0)
 
-  pub few_pairs : (before : List (ℕ × ℕ)) → AreTies steps before → length before ≤ 2 * length (filter (λ o. is_among (map (λ t. t.0) commits) o.txn) (operations h))
-  few_pairs before tied = omega (arith, tied.few, turns_of.counted (operations h) 0 us (Pairs-from_all (λ u v. u ≢ v) us once))
+  pub few_pairs : (before : List (ℕ × ℕ)) → AreConflicts steps before → length before ≤ 2 * length (filter (λ o. is_among (map (λ t. t.0) commits) o.txn) (operations h))
+  few_pairs before conflicting = omega (arith, conflicting.few, turns_of.counted (operations h) 0 us (Pairs-from_all (λ u v. u ≢ v) us once))
 
-  pub made : (before : List (ℕ × ℕ)) → AllPairs IsBelow before → AreTies steps before × ((x : ℕ) → AreNextPaired before (filter (λ s. s.writes) (on_item x steps)))
+  pub made : (before : List (ℕ × ℕ)) → AllPairs IsBelow before → AreConflicts steps before × ((x : ℕ) → AreNextPaired before (filter (λ s. s.writes) (on_item x steps)))
       → (chains : List Chain) → chains ≡ map (λ x. chain_from (last_by_update steps x) (length commits)) (range_with_len 0 (length h.opening))
       → (n : ℕ) → n ≤ length commits → (first : List ℕ) → first ≡ range_with_len 0 n
       → (q : ℕ) → map (nth (map (λ t. t.0) commits)) (range_with_len 0 n) ≡ must h q

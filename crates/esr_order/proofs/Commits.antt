@@ -13,7 +13,7 @@ use Rattle.esr_history.specs.declared.event.Event.TheVariants.{BeginUpdate, Begi
 use Rattle.esr_history.specs.declared.event.Entry.{Entry}
 use Rattle.esr_history.specs.declared.back_links.Facts.{Facts}
 use Rattle.esr_history.specs.Events.{Beginning, is_refusal, accepted, beginning, beginning_of, beginnings, is_begun, is_query, is_update, is_committed}
-use Rattle.esr_history.specs.Machine.{Distance, Schedule, done, IsLegal}
+use Rattle.esr_history.specs.Machine.{Distance, Schedule, accepted_in, IsLegal}
 use Rattle.esr_history.specs.Operations.{committer, commit_order}
 use Rattle.esr_history.specs.Queries.{is_committed_query, updates_of, must, is_strict, before_begin}
 use Rattle.esr_history.specs.BackLinks.{ender, accepted_end, is_key, last_place, facts_by, facts_of}
@@ -128,11 +128,11 @@ entry_commits es i e u at is =
 
 module _ (d : Distance) (h : Schedule) (legal : IsLegal d h) where
   -- a transaction has committed where its end is a commit
-  pub commit_at_end : (t : ℕ) → is_commit_at h.entries (last_place accepted_end t h.entries) ≡ is_committed (done h) t
+  pub commit_at_end : (t : ℕ) → is_commit_at h.entries (last_place accepted_end t h.entries) ≡ is_committed (accepted_in h) t
   commit_at_end t = ends (last_place accepted_end t h.entries) refl
     where
-      ends : (o : Option ℕ) → last_place accepted_end t h.entries ≡ o → is_commit_at h.entries o ≡ is_committed (done h) t
-      ends None none = sym (false_from_ne_true (is_committed (done h) t) (λ is.
+      ends : (o : Option ℕ) → last_place accepted_end t h.entries ≡ o → is_commit_at h.entries o ≡ is_committed (accepted_in h) t
+      ends None none = sym (false_from_ne_true (is_committed (accepted_in h) t) (λ is.
           let c = commit_entry h.entries t is in
           let bad : None ≡ Some c.0 = sym none ∙ end_is d h legal t c.0 c.1 c.3 (subst (λ k. is_key (accepted_end c.1) k ≡ true) c.5 (commit_key c.1 c.2 c.4)) in
           let worse : ⊥ = cc in worse))
@@ -140,23 +140,23 @@ module _ (d : Distance) (h : Schedule) (legal : IsLegal d h) where
           let s = split_at accepted_end t h.entries p some in
           ap commits_in s.at ∙ at s.entry s.at s.has (is_some (commit_in s.entry)) refl
         where
-          at : (e : Entry) → slice_get h.entries p ≡ Some e → is_key (accepted_end e) t ≡ true → (b : Bool) → is_some (commit_in e) ≡ b → is_some (commit_in e) ≡ is_committed (done h) t
+          at : (e : Entry) → slice_get h.entries p ≡ Some e → is_key (accepted_end e) t ≡ true → (b : Bool) → is_some (commit_in e) ≡ b → is_some (commit_in e) ≡ is_committed (accepted_in h) t
           at e there key true is =
               let c = end_commit e t key is in
-              is ∙ sym (subst (λ k. is_committed (done h) k ≡ true) c.2 (entry_commits h.entries p e c.0 there c.1))
+              is ∙ sym (subst (λ k. is_committed (accepted_in h) k ≡ true) c.2 (entry_commits h.entries p e c.0 there c.1))
           at e there key false is =
-              is ∙ sym (false_from_ne_true (is_committed (done h) t) (λ yes_it_has.
+              is ∙ sym (false_from_ne_true (is_committed (accepted_in h) t) (λ yes_it_has.
               let c = commit_entry h.entries t yes_it_has in
               let same : p ≡ c.0 = same_Some p c.0 (sym some ∙ end_is d h legal t c.0 c.1 c.3 (subst (λ k. is_key (accepted_end c.1) k ≡ true) c.5 (commit_key c.1 c.2 c.4))) in
               let entry : e ≡ c.1 = same_Some e c.1 (sym there ∙ (ap (slice_get h.entries) same ∙ c.3)) in
               true≢false (sym (ap (λ e. is_some (commit_in e)) entry ∙ ap is_some c.4) ∙ is)))
 
-  committed_begun : (t : ℕ) → is_committed (done h) t ≡ true → is_begun (done h) t ≡ true
+  committed_begun : (t : ℕ) → is_committed (accepted_in h) t ≡ true → is_begun (accepted_in h) t ≡ true
   committed_begun t is =
-      (known (legal_reached d h legal)).of_ends t (or_left (list_any (λ u. eqb u t) (commit_order (done h))) (list_any (λ u. eqb u t) (trace h).aborts) (sym (committed_among (done h) t) ∙ is))
+      (known (legal_reached d h legal)).of_ends t (or_left (list_any (λ u. eqb u t) (commit_order (accepted_in h))) (list_any (λ u. eqb u t) (trace h).aborts) (sym (committed_among (accepted_in h) t) ∙ is))
 
   -- the commits at the places of ends are all commits, in order
-  pub committed_at : (at : List ℕ) → IsStrictlyIncreasing at → AreEnds h at → map (λ (t : TxnId). t.0) (filter_map commit_in (filter_map (slice_get h.entries) at)) ≡ commit_order (done h)
+  pub committed_at : (at : List ℕ) → IsStrictlyIncreasing at → AreEnds h at → map (λ (t : TxnId). t.0) (filter_map commit_in (filter_map (slice_get h.entries) at)) ≡ commit_order (accepted_in h)
   committed_at at rises ends = ap (map (λ (t : TxnId). t.0)) (sparse_entries commit_in h.entries at rises inside gives) ∙ committed_are h.entries
     where
       inside : (i : ℕ) → In i at → i < 0 + length h.entries
@@ -171,17 +171,17 @@ module _ (d : Distance) (h : Schedule) (legal : IsLegal d h) where
           found : (o : Option TxnId) → commit_in e ≡ o → commit_in e ≡ None
           found None is = is
           found (Some u) is =
-              let committed : is_committed (done h) u.0 ≡ true = entry_commits h.entries i e u there is in
-              let begun : is_begun (done h) u.0 ≡ true = committed_begun u.0 committed in
+              let committed : is_committed (accepted_in h) u.0 ≡ true = entry_commits h.entries i e u there is in
+              let begun : is_begun (accepted_in h) u.0 ≡ true = committed_begun u.0 committed in
               absurd (out (Contains-In at i (ends.all u.0 i begun (end_is d h legal u.0 i e there (commit_key e u is)))))
 
   -- ---- what a strict query must have seen
   -- who has committed ended before a place exactly where its commit is among the entries before it
-  ended_early : (t place : ℕ) → is_committed (done h) t ≡ true → has_ended_before h t place ≡ is_committed (accepted (take place h.entries)) t
+  ended_early : (t place : ℕ) → is_committed (accepted_in h) t ≡ true → has_ended_before h t place ≡ is_committed (accepted (take place h.entries)) t
   ended_early t place is =
       let c = commit_entry h.entries t is in
       let end : last_place accepted_end t h.entries ≡ Some c.0 = end_is d h legal t c.0 c.1 c.3 (subst (λ k. is_key (accepted_end c.1) k ≡ true) c.5 (commit_key c.1 c.2 c.4)) in
-      ended (beginning (done h) t) refl (committed_begun t is)
+      ended (beginning (accepted_in h) t) refl (committed_begun t is)
       ∙ (ap (λ o. is_end_before o place) end
       ∙ ⊎_elim
       (λ l. nat_lt_true c.0 place l ∙ sym (subst (λ k. is_committed (accepted (take place h.entries)) k ≡ true) c.5 (entry_commits (take place h.entries) c.0 c.1 c.2 (get_front h.entries place c.0 c.1 l c.3) c.4)))
@@ -193,7 +193,7 @@ module _ (d : Distance) (h : Schedule) (legal : IsLegal d h) where
       omega (arith, same, low, g))))
       (cases_lt c.0 place))
     where
-      ended : (o : Option Beginning) → beginning (done h) t ≡ o → is_some o ≡ true → has_ended_before h t place ≡ is_end_before (last_place accepted_end t h.entries) place
+      ended : (o : Option Beginning) → beginning (accepted_in h) t ≡ o → is_some o ≡ true → has_ended_before h t place ≡ is_end_before (last_place accepted_end t h.entries) place
       ended None none begun = absurd (true≢false (sym begun))
       ended (Some b) some begun = ap (λ o. is_ended_before (facts_by o (last_place accepted_end t h.entries)) place) some
 
@@ -209,7 +209,7 @@ module _ (d : Distance) (h : Schedule) (legal : IsLegal d h) where
       get_front (y ∷ xs) (suc m) zero x l is = is
       get_front (y ∷ xs) (suc m) (suc i) x l is = get_front xs m i x (omega arith) is
 
-  pub must_counted : (q place : ℕ) → take place h.entries ≡ before_begin h q → (updates : List TxnId) → map (λ (t : TxnId). t.0) updates ≡ updates_of h q → is_strict (done h) q ≡ true
+  pub must_counted : (q place : ℕ) → take place h.entries ≡ before_begin h q → (updates : List TxnId) → map (λ (t : TxnId). t.0) updates ≡ updates_of h q → is_strict (accepted_in h) q ≡ true
       → count_by (λ (t : TxnId). has_ended_before h t.0 place) updates ≡ length (must h q)
   must_counted q place front updates are strict =
       sym (length-filter (λ (t : TxnId). has_ended_before h t.0 place) updates)
@@ -219,21 +219,21 @@ module _ (d : Distance) (h : Schedule) (legal : IsLegal d h) where
       ∙ (ap length (mapped_filter (is_committed (accepted (before_begin h q))) updates ∙ ap (filter (is_committed (accepted (before_begin h q)))) are)
       ∙ ap length (sym (ap (λ b. if b then filter (is_committed (accepted (before_begin h q))) (updates_of h q) else []) strict)))))
     where
-      committed : (t : TxnId) → In t updates → is_committed (done h) t.0 ≡ true
+      committed : (t : TxnId) → In t updates → is_committed (accepted_in h) t.0 ≡ true
       committed t i =
           let u : In t.0 (updates_of h q) = subst (In t.0) are (numbers_in updates t i) in
-          committed_among (done h) t.0 ∙ any-from_number (commit_order (done h)) t.0 (In-before_first (λ t. t == q) (commit_order (done h)) t.0 (In-of_filter (is_update (done h)) (before_first (λ t. t == q) (commit_order (done h))) t.0 u).0)
+          committed_among (accepted_in h) t.0 ∙ any-from_number (commit_order (accepted_in h)) t.0 (In-before_first (λ t. t == q) (commit_order (accepted_in h)) t.0 (In-of_filter (is_update (accepted_in h)) (before_first (λ t. t == q) (commit_order (accepted_in h))) t.0 u).0)
 
-pub not_strict : (h : Schedule) (q : ℕ) → is_strict (done h) q ≡ false → 0 ≡ length (must h q)
+pub not_strict : (h : Schedule) (q : ℕ) → is_strict (accepted_in h) q ≡ false → 0 ≡ length (must h q)
 not_strict h q is = ap length (sym (ap (λ b. if b then filter (is_committed (accepted (before_begin h q))) (updates_of h q) else []) is))
 
 -- the updates among those that committed before the query
-pub updates_are : (h : Schedule) (q : ℕ) (committed : List TxnId) → map (λ (t : TxnId). t.0) committed ≡ commit_order (done h)
-    → (updates : List TxnId) → updates ≡ filter (λ (t : TxnId). is_update (done h) t.0) (before_first (λ (t : TxnId). t.0 == q) committed) → map (λ (t : TxnId). t.0) updates ≡ updates_of h q
+pub updates_are : (h : Schedule) (q : ℕ) (committed : List TxnId) → map (λ (t : TxnId). t.0) committed ≡ commit_order (accepted_in h)
+    → (updates : List TxnId) → updates ≡ filter (λ (t : TxnId). is_update (accepted_in h) t.0) (before_first (λ (t : TxnId). t.0 == q) committed) → map (λ (t : TxnId). t.0) updates ≡ updates_of h q
 updates_are h q committed are updates is =
     ap (map (λ (t : TxnId). t.0)) is
-    ∙ (mapped_filter (is_update (done h)) (before_first (λ (t : TxnId). t.0 == q) committed)
-    ∙ ap (filter (is_update (done h))) (mapped_before committed ∙ ap (before_first (λ t. t == q)) are))
+    ∙ (mapped_filter (is_update (accepted_in h)) (before_first (λ (t : TxnId). t.0 == q) committed)
+    ∙ ap (filter (is_update (accepted_in h))) (mapped_before committed ∙ ap (before_first (λ t. t == q)) are))
   where
     mapped_before : (ts : List TxnId) → map (λ (t : TxnId). t.0) (before_first (λ (t : TxnId). t.0 == q) ts) ≡ before_first (λ t. t == q) (map (λ (t : TxnId). t.0) ts)
     mapped_before [] = refl
@@ -243,18 +243,18 @@ updates_are h q committed are updates is =
           | inr away ↦ ap (map (λ (t : TxnId). t.0)) (before_first-later (λ (t : TxnId). t.0 == q) t ts away) ∙ (ap (λ l. t.0 ∷ l) (mapped_before ts) ∙ sym (before_first-later (λ t. t == q) t.0 (map (λ (t : TxnId). t.0) ts) away))
         ]
 
-pub query_begun : (h : Schedule) (q : ℕ) → is_committed_query h q ≡ true → is_begun (done h) q ≡ true
-query_begun h q is = at (beginning (done h) q) (and_parts (is_query (done h) q) (is_committed (done h) q) is).0
+pub query_begun : (h : Schedule) (q : ℕ) → is_committed_query h q ≡ true → is_begun (accepted_in h) q ≡ true
+query_begun h q is = at (beginning (accepted_in h) q) (and_parts (is_query (accepted_in h) q) (is_committed (accepted_in h) q) is).0
   where
     at : (b : Option Beginning) → unwrap_or (option_map (λ c. c.query) b) false ≡ true → is_some b ≡ true
     at None e = e
     at (Some b) e = refl
 
 -- ---- the begin of a transaction
-pub begin_place : (d : Distance) (h : Schedule) → IsLegal d h → (t : ℕ) → is_begun (done h) t ≡ true → (b : Beginning) × (beginning (done h) t ≡ Some b) × ((p : ℕ) × IsBegunAt h.entries t b p)
-begin_place d h legal t begun = at (beginning (done h) t) refl begun
+pub begin_place : (d : Distance) (h : Schedule) → IsLegal d h → (t : ℕ) → is_begun (accepted_in h) t ≡ true → (b : Beginning) × (beginning (accepted_in h) t ≡ Some b) × ((p : ℕ) × IsBegunAt h.entries t b p)
+begin_place d h legal t begun = at (beginning (accepted_in h) t) refl begun
   where
-    at : (o : Option Beginning) → beginning (done h) t ≡ o → is_some o ≡ true → (b : Beginning) × (beginning (done h) t ≡ Some b) × ((p : ℕ) × IsBegunAt h.entries t b p)
+    at : (o : Option Beginning) → beginning (accepted_in h) t ≡ o → is_some o ≡ true → (b : Beginning) × (beginning (accepted_in h) t ≡ Some b) × ((p : ℕ) × IsBegunAt h.entries t b p)
     at None is e = absurd (true≢false (sym e))
     at (Some b) is e = (b, is, begun_at d h legal t b is)
 
@@ -297,14 +297,14 @@ ends_more es t ends more end is grown was = subst (AreEndsBelow es (t + 1)) (sym
 pub known_below : (d : Distance) (h : Schedule) → IsLegal d h → (t : ℕ) (f : Facts) → Some f ≡ facts_of h.entries t → (1 ≤ t) × (t ≤ 65535)
 known_below d h legal t f some =
     let s = facts_some h.entries t f some in
-    let n = begun_number (done h) t (ap is_some s.1) in
-    let most : length (beginnings (done h)) ≤ 65535 = legal_begins d h legal in
+    let n = begun_number (accepted_in h) t (ap is_some s.1) in
+    let most : length (beginnings (accepted_in h)) ≤ 65535 = legal_begins d h legal in
     (n.0, omega (arith, n.1, most))
 
 pub ends_all : (h : Schedule) (t : ℕ) (ends found : List ℕ) → 1 ≤ t → None ≡ facts_of h.entries t → AreEndsBelow h.entries t ends → ((p : ℕ) → In p ends → Contains found p) → ((p : ℕ) → Contains found p → In p ends) → AreEnds h found
 ends_all h t ends found low none below there back = record {
   all = λ k p begun is.
-      let n = begun_number (done h) k begun in
+      let n = begun_number (accepted_in h) k begun in
       let under : k < t = below_end t low (facts_none h.entries t none) k n.1 in
       there p (below.all k p n.0 under is);
   only = λ p c. below.only p (back p c);
@@ -315,6 +315,6 @@ ends_all h t ends found low none below there back = record {
     past (b ∷ bs) zero is = absurd (cc)
     past (b ∷ bs) (suc j) is = let l : length bs ≤ j = past bs j is in omega arith
 
-    below_end : (t : ℕ) → 1 ≤ t → beginning (done h) t ≡ None → (k : ℕ) → k < 1 + length (beginnings (done h)) → k < t
+    below_end : (t : ℕ) → 1 ≤ t → beginning (accepted_in h) t ≡ None → (k : ℕ) → k < 1 + length (beginnings (accepted_in h)) → k < t
     below_end zero low is k l = absurd (omega arith)
-    below_end (suc j) low is k l = let m : length (beginnings (done h)) ≤ j = past (beginnings (done h)) j is in omega arith
+    below_end (suc j) low is k l = let m : length (beginnings (accepted_in h)) ≤ j = past (beginnings (accepted_in h)) j is in omega arith

@@ -6,7 +6,7 @@ use Rattle.std.proofs.lemmas.List.{take-append-drop, length-append, map-append}
 use Rattle.std.proofs.lemmas.List.Elements.{filter-append, filter_map-append}
 use Rattle.esr_history.specs.declared.event.Entry.{Entry}
 use Rattle.esr_history.specs.Events.{accepted, is_update, is_committed, is_begun}
-use Rattle.esr_history.specs.Machine.{Distance, Schedule, done, IsLegal}
+use Rattle.esr_history.specs.Machine.{Distance, Schedule, accepted_in, IsLegal}
 use Rattle.esr_history.specs.Operations.{committer, commit_order}
 use Rattle.esr_history.specs.Queries.{begins, before_begin, updates_of, must, is_strict}
 use Rattle.esr_history.proofs.Membership.{In, Pairs, Pairs-across, In-of_filter, filter_none_in, In-from_any, any-from_number}
@@ -67,34 +67,34 @@ module _ (d : Distance) (h : Schedule) (q : ℕ) (legal : IsLegal d h) where
   front_legal : IsLegal d front
   front_legal = legal_front d front later (subst (λ (es : List Entry). IsLegal d (record h { entries = es })) (sym whole) legal)
 
-  all_commits : commit_order (done h) ≡ early ++ commit_order (accepted later)
+  all_commits : commit_order (accepted_in h) ≡ early ++ commit_order (accepted later)
   all_commits = ap (λ (es : List Entry). commit_order (accepted es)) (sym whole) ∙ (ap commit_order (accepted-append (before_begin h q) later) ∙ filter_map-append committer (accepted (before_begin h q)) (accepted later))
 
   -- q has not committed before it began
   not_early : list_any (λ t. eqb t q) early ≡ false
   not_early =
       false_from_ne_true (list_any (λ t. eqb t q) early) (λ is.
-      let begun : is_begun (done front) q ≡ true = (known (legal_reached d front front_legal)).of_ends q (or_left (list_any (λ t. eqb t q) early) (list_any (λ t. eqb t q) (trace front).aborts) is) in
+      let begun : is_begun (accepted_in front) q ≡ true = (known (legal_reached d front front_legal)).of_ends q (or_left (list_any (λ t. eqb t q) early) (list_any (λ t. eqb t q) (trace front).aborts) is) in
       true≢false (sym (has_begins d front front_legal q begun) ∙ none_before (λ (e : Entry). begins q e.reply) h.entries))
 
   abbrev first : List ℕ
-  first = filter (is_update (done h)) early
+  first = filter (is_update (accepted_in h)) early
 
   abbrev rest : List ℕ
-  rest = filter (is_update (done h)) (before_first (λ t. eqb t q) (commit_order (accepted later)))
+  rest = filter (is_update (accepted_in h)) (before_first (λ t. eqb t q) (commit_order (accepted later)))
 
   updates_split : updates_of h q ≡ first ++ rest
   updates_split =
-      ap (λ l. filter (is_update (done h)) (before_first (λ t. eqb t q) l)) all_commits
-      ∙ (ap (filter (is_update (done h))) (before_first-past (λ t. eqb t q) early (commit_order (accepted later)) not_early)
-      ∙ filter-append (is_update (done h)) early (before_first (λ t. eqb t q) (commit_order (accepted later))))
+      ap (λ l. filter (is_update (accepted_in h)) (before_first (λ t. eqb t q) l)) all_commits
+      ∙ (ap (filter (is_update (accepted_in h))) (before_first-past (λ t. eqb t q) early (commit_order (accepted later)) not_early)
+      ∙ filter-append (is_update (accepted_in h)) early (before_first (λ t. eqb t q) (commit_order (accepted later))))
 
   -- who committed before q began is among the first, and no other is
   must_first : filter (is_committed (accepted (before_begin h q))) (updates_of h q) ≡ first
   must_first =
       ap (filter (is_committed (accepted (before_begin h q)))) updates_split
       ∙ (filter-append (is_committed (accepted (before_begin h q))) first rest
-      ∙ (ap (λ l. l ++ filter (is_committed (accepted (before_begin h q))) rest) (all_pass first (λ u i. committed_among (accepted (before_begin h q)) u ∙ any-from_number early u (In-of_filter (is_update (done h)) early u i).0))
+      ∙ (ap (λ l. l ++ filter (is_committed (accepted (before_begin h q))) rest) (all_pass first (λ u i. committed_among (accepted (before_begin h q)) u ∙ any-from_number early u (In-of_filter (is_update (accepted_in h)) early u i).0))
       ∙ (ap (λ l. first ++ l) (filter_none_in (is_committed (accepted (before_begin h q))) rest apart) ∙ append-nil first)))
     where
       all_pass : (us : List ℕ) → ((u : ℕ) → In u us → is_committed (accepted (before_begin h q)) u ≡ true) → filter (is_committed (accepted (before_begin h q))) us ≡ us
@@ -107,13 +107,13 @@ module _ (d : Distance) (h : Schedule) (q : ℕ) (legal : IsLegal d h) where
 
       apart : (u : ℕ) → In u rest → is_committed (accepted (before_begin h q)) u ≡ false
       apart u i =
-          let behind : In u (commit_order (accepted later)) = In-before_first (λ t. eqb t q) (commit_order (accepted later)) u (In-of_filter (is_update (done h)) (before_first (λ t. eqb t q) (commit_order (accepted later))) u i).0 in
+          let behind : In u (commit_order (accepted later)) = In-before_first (λ t. eqb t q) (commit_order (accepted later)) u (In-of_filter (is_update (accepted_in h)) (before_first (λ t. eqb t q) (commit_order (accepted later))) u i).0 in
           false_from_ne_true (is_committed (accepted (before_begin h q)) u) (λ is.
           Pairs-across (λ u v. u ≡ v → ⊥) early (commit_order (accepted later)) u u once (In-from_any early u (sym (committed_among (accepted (before_begin h q)) u) ∙ is)) behind refl)
 
   -- the positions that a strict query must have seen, and those of another
   pub must_positions : (n : ℕ) → n ≡ length (must h q) → map (update_at h q) (range_with_len 0 n) ≡ must h q
-  must_positions n is = at (is_strict (done h) q) is
+  must_positions n is = at (is_strict (accepted_in h) q) is
     where
       at : (b : Bool) → n ≡ length (if b then filter (is_committed (accepted (before_begin h q))) (updates_of h q) else [])
           → map (update_at h q) (range_with_len 0 n) ≡ (if b then filter (is_committed (accepted (before_begin h q))) (updates_of h q) else [])
@@ -123,7 +123,7 @@ module _ (d : Distance) (h : Schedule) (q : ℕ) (legal : IsLegal d h) where
       at false count = ap (λ m. map (update_at h q) (range_with_len 0 m)) count
 
   pub must_below : length (must h q) ≤ length (updates_of h q)
-  must_below = at (is_strict (done h) q)
+  must_below = at (is_strict (accepted_in h) q)
     where
       at : (b : Bool) → length (if b then filter (is_committed (accepted (before_begin h q))) (updates_of h q) else []) ≤ length (updates_of h q)
       at true =

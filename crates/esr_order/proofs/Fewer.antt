@@ -4,7 +4,7 @@ use Rattle.std.specs.List.{last_or}
 use Rattle.std.proofs.lemmas.Bool.{true≢false, cases_order, cases_eq, eqb-true, eq-eqb}
 use Rattle.esr_history.proofs.Membership.{In, In-Contains, In-filter, Pairs, each_at, filter-some}
 use Rattle.esr_order.specs.UpdateOperations.{UpdateOperation}
-use Rattle.esr_order.specs.Ties.{AreNextPaired}
+use Rattle.esr_order.specs.Conflicts.{AreNextPaired}
 use Rattle.esr_order.specs.Chains.{last_of, last_in}
 use Rattle.esr_order.proofs.Kept.{on, writes_in}
 

@@ -12,10 +12,10 @@ use Rattle.esr_order.specs.UpdateOperations.{UpdateOperation}
 use Rattle.esr_order.specs.Scans.{access_of, accesses_in, Access}
 use Rattle.esr_order.specs.Listing.{IsBelow}
 use Rattle.esr_order.specs.Turns.{placed_operation, operation_at, turn, turns}
-use Rattle.esr_order.specs.Ties.{pair_of, pairs_from, AreTies, AreNextPaired, on_item}
+use Rattle.esr_order.specs.Conflicts.{pair_of, pairs_from, AreConflicts, AreNextPaired, on_item}
 use Rattle.esr_order.specs.Chains.{Chain, chain_from, last_by_update, turned}
-use Rattle.esr_order.specs.Later.{nobody, chain_back, readers_of, with_operation, readers_with, ties_of, turn_ties, AreLater}
-use Rattle.esr_order.proofs.Kept.{Pair, Kept, kept_same, kept_turn, open_reads, turn_count, pairs_few, in_pairs_from, of_pairs_from, next_paired, writes_in, on, tied_all}
+use Rattle.esr_order.specs.Later.{nobody, chain_back, readers_of, with_operation, readers_with, conflicts_of, turn_conflicts, AreLater}
+use Rattle.esr_order.proofs.Kept.{Pair, Kept, kept_same, kept_turn, open_reads, turn_count, pairs_few, in_pairs_from, of_pairs_from, next_paired, writes_in, on, conflicting_all}
 use Rattle.esr_order.proofs.Chained.{chain_turned}
 use Rattle.esr_order.proofs.Turns as turns_of
 
@@ -119,14 +119,14 @@ module _ {V W : Type 0} (see : V → Chain) (read : W → List ℕ) (chains : Li
         (later_operation (map see chains) (map read readers) (done ++ steps) (operation_at place access) are there present
         (see v) (put ∙ ap (λ c. with_operation c (operation_at place access)) (sym link_is)) (read w) (added ∙ ap (λ r. readers_with r (operation_at place access)) (sym row_is)))))
 
-    pub turn_tied : (first ties : List ℕ) → ties ≡ first ++ turn_ties done steps → (more : List ℕ) → more ≡ ties ++ ties_of link row (operation_at place access) → more ≡ first ++ turn_ties (map (operation_at place) (drop i accesses)) steps
-    turn_tied first ties so_far more added =
+    pub turn_conflicting : (first conflicts : List ℕ) → conflicts ≡ first ++ turn_conflicts done steps → (more : List ℕ) → more ≡ conflicts ++ conflicts_of link row (operation_at place access) → more ≡ first ++ turn_conflicts (map (operation_at place) (drop i accesses)) steps
+    turn_conflicting first conflicts so_far more added =
         added
-        ∙ (ap (λ l. l ++ ties_of link row (operation_at place access)) so_far
-        ∙ (append_assoc first (turn_ties done steps) (ties_of link row (operation_at place access))
-        ∙ (ap (λ c. first ++ (turn_ties done steps ++ ties_of c row (operation_at place access))) (sym link_is ∙ are.chains access.item.0 there)
-        ∙ (ap (λ r. first ++ (turn_ties done steps ++ ties_of (chain_back access.item.0 (done ++ steps)) r (operation_at place access))) (sym row_is ∙ are.readers access.item.0 present)
-        ∙ ap (λ l. first ++ turn_ties l steps) taken))))
+        ∙ (ap (λ l. l ++ conflicts_of link row (operation_at place access)) so_far
+        ∙ (append_assoc first (turn_conflicts done steps) (conflicts_of link row (operation_at place access))
+        ∙ (ap (λ c. first ++ (turn_conflicts done steps ++ conflicts_of c row (operation_at place access))) (sym link_is ∙ are.chains access.item.0 there)
+        ∙ (ap (λ r. first ++ (turn_conflicts done steps ++ conflicts_of (chain_back access.item.0 (done ++ steps)) r (operation_at place access))) (sym row_is ∙ are.readers access.item.0 present)
+        ∙ ap (λ l. first ++ turn_conflicts l steps) taken))))
 
 -- ---- update by update
 
@@ -180,19 +180,19 @@ below_from i (j ∷ js) p = Pairs-append IsBelow (pair_of i j) (pairs_from i js)
 pub gathered_more : (h : Schedule) (updates : List TxnId) (i next : ℕ) → next ≡ suc i → i < length updates → (d : TxnId) (links : List Chain) (rows : List (List ℕ)) (pairs : List Pair) → IsGathered h updates next links rows pairs
     → (accesses : List Access) → accesses ≡ accesses_in h.entries (get_or updates i d).0
     → (more_links : List Chain) (more_rows : List (List ℕ)) → AreLater more_links more_rows (map (operation_at i) accesses ++ rest h updates next)
-    → (ties others : List ℕ) → ties ≡ turn_ties (map (operation_at i) accesses) (rest h updates next)
-    → AllPairs (λ j k. j < k) others → ((j : ℕ) → Contains ties j → Contains others j) → ((j : ℕ) → Contains others j → Contains ties j) → length others ≤ length ties
+    → (conflicts others : List ℕ) → conflicts ≡ turn_conflicts (map (operation_at i) accesses) (rest h updates next)
+    → AllPairs (λ j k. j < k) others → ((j : ℕ) → Contains conflicts j → Contains others j) → ((j : ℕ) → Contains others j → Contains conflicts j) → length others ≤ length conflicts
     → (more : List Pair) → more ≡ pairs ++ reverse (pairs_from i others) → IsGathered h updates i more_links more_rows more
-gathered_more h updates i next is inside d links rows pairs g accesses made more_links more_rows are ties others tied ascends keeps adds few more grown =
+gathered_more h updates i next is inside d links rows pairs g accesses made more_links more_rows are conflicts others conflicting ascends keeps adds few more grown =
     subst (IsGathered h updates i more_links more_rows) (sym grown) (record {
       later = subst (AreLater more_links more_rows) whole are;
       kept = subst (λ ss. Kept ss (pairs ++ reverse own)) whole
-          (kept_same (own_operations ++ later) (pairs_from i (turn_ties own_operations later) ++ pairs) (pairs ++ reverse own)
-          (λ p j. ⊎_elim (λ a. In-append_right pairs (reverse own) p (In-reverse own p (from_ties p a))) (λ a. In-append_left pairs (reverse own) p a) (In-append_cases (pairs_from i (turn_ties own_operations later)) pairs p j))
-          (λ p j. ⊎_elim (λ a. In-append_right (pairs_from i (turn_ties own_operations later)) pairs p a) (λ a. In-append_left (pairs_from i (turn_ties own_operations later)) pairs p (to_ties p (In-of_reverse own p a))) (In-append_cases pairs (reverse own) p j))
+          (kept_same (own_operations ++ later) (pairs_from i (turn_conflicts own_operations later) ++ pairs) (pairs ++ reverse own)
+          (λ p j. ⊎_elim (λ a. In-append_right pairs (reverse own) p (In-reverse own p (from_conflicts p a))) (λ a. In-append_left pairs (reverse own) p a) (In-append_cases (pairs_from i (turn_conflicts own_operations later)) pairs p j))
+          (λ p j. ⊎_elim (λ a. In-append_right (pairs_from i (turn_conflicts own_operations later)) pairs p a) (λ a. In-append_left (pairs_from i (turn_conflicts own_operations later)) pairs p (to_conflicts p (In-of_reverse own p a))) (In-append_cases pairs (reverse own) p j))
           (kept_turn i own_operations later pairs (placed_at i accesses) g.kept));
       few = subst (λ ss. length (pairs ++ reverse own) + length (open_reads ss) ≤ 2 * length ss) whole
-          (omega (arith, g.few, few, ap length tied, turn_count own_operations later, length-append pairs (reverse own), length-reverse own, pairs_few others i, length-append own_operations later));
+          (omega (arith, g.few, few, ap length conflicting, turn_count own_operations later, length-append pairs (reverse own), length-reverse own, pairs_few others i, length-append own_operations later));
       falling = Pairs-append (λ p r. IsBelow r p) pairs (reverse own) g.falling (Pairs-reverse IsBelow own (below_from i others (Pairs-from_all (λ j k. j < k) others ascends)))
           (λ p r j k.
           let high : next ≤ p.0 = g.above p j in
@@ -216,11 +216,11 @@ gathered_more h updates i next is inside d links rows pairs g accesses made more
     move : (js ks : List ℕ) → ((j : ℕ) → In j js → In j ks) → (p : Pair) → In p (pairs_from i js) → In p (pairs_from i ks)
     move js ks f p a = let q = of_pairs_from js i p a in subst (λ n. In (n, p.1) (pairs_from i ks)) (sym q.0) (in_pairs_from ks i p.1 (f p.1 q.1) q.2)
 
-    from_ties : (p : Pair) → In p (pairs_from i (turn_ties own_operations later)) → In p own
-    from_ties p a = move (turn_ties own_operations later) others (λ j k. Contains-In others j (keeps j (In-Contains ties j (subst (In j) (sym tied) k)))) p a
+    from_conflicts : (p : Pair) → In p (pairs_from i (turn_conflicts own_operations later)) → In p own
+    from_conflicts p a = move (turn_conflicts own_operations later) others (λ j k. Contains-In others j (keeps j (In-Contains conflicts j (subst (In j) (sym conflicting) k)))) p a
 
-    to_ties : (p : Pair) → In p own → In p (pairs_from i (turn_ties own_operations later))
-    to_ties p a = move others (turn_ties own_operations later) (λ j k. subst (In j) tied (Contains-In ties j (adds j (In-Contains others j k)))) p a
+    to_conflicts : (p : Pair) → In p own → In p (pairs_from i (turn_conflicts own_operations later))
+    to_conflicts p a = move others (turn_conflicts own_operations later) (λ j k. subst (In j) conflicting (Contains-In conflicts j (adds j (In-Contains others j k)))) p a
 
 -- ---- all updates
 
@@ -237,8 +237,8 @@ module _ (h : Schedule) (updates : List TxnId) (i : ℕ) (is : i ≡ 0) (links :
   pub gathered_ascending : AllPairs IsBelow (reverse pairs)
   gathered_ascending = All-from_pairs IsBelow (reverse pairs) (Pairs-reverse (λ p r. IsBelow r p) pairs g.falling)
 
-  pub gathered_tied : AreTies steps (reverse pairs)
-  gathered_tied = tied_all steps (reverse pairs) kept (let few = g.few in omega (arith, few, ap length all, length-reverse pairs))
+  pub gathered_conflicting : AreConflicts steps (reverse pairs)
+  gathered_conflicting = conflicting_all steps (reverse pairs) kept (let few = g.few in omega (arith, few, ap length all, length-reverse pairs))
 
   pub gathered_next : (x : ℕ) → AreNextPaired (reverse pairs) (filter (λ s. s.writes) (on_item x steps))
   gathered_next x = next_paired (writes_in (on x steps)) (reverse pairs) (kept.next x)

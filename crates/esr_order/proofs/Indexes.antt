@@ -6,7 +6,7 @@ use Rattle.std.proofs.lemmas.List.Elements.{filter_map-append}
 use Rattle.esr_base.specs.declared.numbers.TxnId.{TxnId}
 use Rattle.esr_history.specs.declared.event.Entry.{Entry}
 use Rattle.esr_history.specs.Events.{is_committed}
-use Rattle.esr_history.specs.Machine.{Distance, Schedule, IsLegal, done}
+use Rattle.esr_history.specs.Machine.{Distance, Schedule, IsLegal, accepted_in}
 use Rattle.esr_history.specs.Operations.{commit_order}
 use Rattle.esr_order.specs.Scans.{commit_in}
 use Rattle.esr_order.specs.Index.{Indexed, IsIndexOf}
@@ -17,7 +17,7 @@ use Rattle.esr_history.proofs.Words.{committed_among}
 use Rattle.esr_order.proofs.Rowed.{rows_later}
 
 -- all entries were read
-pub index_whole : (h : Schedule) (i : Indexed) → IsIndexOf h.entries i → i.read ≡ length h.entries → map (λ (t : TxnId). t.0) i.commits ≡ commit_order (done h)
+pub index_whole : (h : Schedule) (i : Indexed) → IsIndexOf h.entries i → i.read ≡ length h.entries → map (λ (t : TxnId). t.0) i.commits ≡ commit_order (accepted_in h)
 index_whole h i is all =
     ap (map (λ (t : TxnId). t.0)) (is.commits ∙ ap (filter_map commit_in) (ap (λ n. take n h.entries) all ∙ take_all (length h.entries) h.entries (omega arith)))
     ∙ committed_are h.entries
@@ -33,16 +33,16 @@ in_get (x ∷ xs) (suc j) d l = inr (in_get xs j d (omega arith))
 
 -- those from a place on have committed
 pub index_over : (h : Schedule) (i : Indexed) → IsIndexOf h.entries i → i.read ≡ length h.entries → (first k : ℕ) (d : TxnId) → k < length (take (length i.commits - first) (drop first i.commits))
-    → is_committed (done h) (get_or (take (length i.commits - first) (drop first i.commits)) k d).0 ≡ true
+    → is_committed (accepted_in h) (get_or (take (length i.commits - first) (drop first i.commits)) k d).0 ≡ true
 index_over h i is all first k d l =
     let m = length i.commits - first in
     let short : k < m = omega (arith, l, length-take m (drop first i.commits)) in
     let inside : first + k < length i.commits = omega (arith, short) in
     let t : TxnId = get_or i.commits (first + k) d in
     let same : get_or (take m (drop first i.commits)) k d ≡ t = get_or-take m (drop first i.commits) k d short ∙ get_or-drop first i.commits k d in
-    ap (λ (t : TxnId). is_committed (done h) t.0) same
-    ∙ (committed_among (done h) t.0
-    ∙ any-from_number (commit_order (done h)) t.0 (subst (In t.0) (index_whole h i is all) (numbers_in i.commits t (in_get i.commits (first + k) d inside))))
+    ap (λ (t : TxnId). is_committed (accepted_in h) t.0) same
+    ∙ (committed_among (accepted_in h) t.0
+    ∙ any-from_number (commit_order (accepted_in h)) t.0 (subst (In t.0) (index_whole h i is all) (numbers_in i.commits t (in_get i.commits (first + k) d inside))))
 
 -- one entry more is read
 pub index_more : (d : Distance) (h : Schedule) → IsLegal d h → (i : Indexed) (e : Entry) (commits : List TxnId) → IsIndexOf h.entries i → Some e ≡ slice_get h.entries i.read → commits ≡ i.commits ++ filter_map commit_in (e ∷ [])

@@ -10,9 +10,9 @@ use Rattle.esr_history.specs.Serial.{any_pair}
 use Rattle.esr_history.proofs.Membership.{In, In-Contains, In-append_cases, In-append_left, In-append_right, any-from_In, In-any, each_in}
 use Rattle.esr_order.specs.UpdateOperations.{UpdateOperation}
 use Rattle.esr_order.specs.Listing.{clash, is_pair}
-use Rattle.esr_order.specs.Ties.{pair_of, pairs_from, AreTies, AreNextPaired}
+use Rattle.esr_order.specs.Conflicts.{pair_of, pairs_from, AreConflicts, AreNextPaired}
 use Rattle.esr_order.specs.Chains.{Chain, latest_writer, is_latest, with_write}
-use Rattle.esr_order.specs.Later.{chain_back, readers_of, writer_in, later_ties, turn_ties}
+use Rattle.esr_order.specs.Later.{chain_back, readers_of, writer_in, later_conflicts, turn_conflicts}
 
 abbrev pub Pair : Type 0
 Pair = ℕ × ℕ
@@ -226,19 +226,19 @@ kept_same ss ps qs to from k = record {
 
 -- with one more step before
 module _ (s : UpdateOperation) (ss : List UpdateOperation) (pairs : List Pair) (k : Kept ss pairs) where
-  abbrev ties : List ℕ
-  ties = later_ties s ss
+  abbrev conflicts : List ℕ
+  conflicts = later_conflicts s ss
 
   abbrev own : List Pair
-  own = pairs_from s.place (later_ties s ss)
+  own = pairs_from s.place (later_conflicts s ss)
 
   abbrev writer : Option ℕ
   writer = latest_writer (chain_back s.item ss)
 
-  to_writer : (w : ℕ) → writer ≡ Some w → In w ties
+  to_writer : (w : ℕ) → writer ≡ Some w → In w conflicts
   to_writer w is = In-append_left (writer_in writer) (cond s.writes (readers_of s.item ss) []) w (subst (λ o. In w (writer_in o)) (sym is) (inl refl))
 
-  to_reader : (r : ℕ) → s.writes ≡ true → In r (readers_of s.item ss) → In r ties
+  to_reader : (r : ℕ) → s.writes ≡ true → In r (readers_of s.item ss) → In r conflicts
   to_reader r wr i = In-append_right (writer_in writer) (cond s.writes (readers_of s.item ss) []) r (subst (λ b. In r (cond b (readers_of s.item ss) [])) (sym wr) i)
 
   of_writer : (o : Option ℕ) (w : ℕ) → In w (writer_in o) → o ≡ Some w
@@ -246,14 +246,14 @@ module _ (s : UpdateOperation) (ss : List UpdateOperation) (pairs : List Pair) (
   of_writer (Some v) w i = ⊎_elim (λ e. ap Some e) (λ b. absurd b) i
 
   -- S with what the step is tied to has the step
-  holds : (S : ℕ → Bool) → Holds S (own ++ pairs) → (j : ℕ) → In j ties → S j ≡ true → S s.place ≡ true
-  holds S h j i sj = ⊎_elim (λ e. ap S e ∙ sj) (λ ne. h (s.place, j) (In-append_left own pairs (s.place, j) (in_pairs_from ties s.place j i ne)) sj) (cases_eq s.place j)
+  holds : (S : ℕ → Bool) → Holds S (own ++ pairs) → (j : ℕ) → In j conflicts → S j ≡ true → S s.place ≡ true
+  holds S h j i sj = ⊎_elim (λ e. ap S e ∙ sj) (λ ne. h (s.place, j) (In-append_left own pairs (s.place, j) (in_pairs_from conflicts s.place j i ne)) sj) (cases_eq s.place j)
 
   later_holds : (S : ℕ → Bool) → Holds S (own ++ pairs) → Holds S pairs
   later_holds S h p i = h p (In-append_right own pairs p i)
 
-  sound_tie : (j : ℕ) → (s.place ≡ j → ⊥) → In j ties → is_pair (s ∷ ss) s.place j ≡ true
-  sound_tie j ne i =
+  sound_conflict : (j : ℕ) → (s.place ≡ j → ⊥) → In j conflicts → is_pair (s ∷ ss) s.place j ≡ true
+  sound_conflict j ne i =
       ⊎_elim
       (λ a. let b = writer_from s.item ss j (of_writer writer j a) in
       subst (λ z. is_pair (s ∷ ss) s.place z ≡ true) b.4 (pair_front s ss b.0 b.1 (clash_from s b.0 (λ e. ne (e ∙ b.4)) (sym b.2) (or_right s.writes b.0.writes b.3))))
@@ -276,7 +276,7 @@ module _ (s : UpdateOperation) (ss : List UpdateOperation) (pairs : List Pair) (
   pub kept_operation : Kept (s ∷ ss) (own ++ pairs)
   kept_operation = record {
     sound = λ p i. ⊎_elim
-        (λ a. let q = of_pairs_from ties s.place p a in subst (λ z. is_pair (s ∷ ss) z p.1 ≡ true) (sym q.0) (sound_tie p.1 q.2 q.1))
+        (λ a. let q = of_pairs_from conflicts s.place p a in subst (λ z. is_pair (s ∷ ss) z p.1 ≡ true) (sym q.0) (sound_conflict p.1 q.2 q.1))
         (λ b. pair_later s ss p.0 p.1 (k.sound p b))
         (In-append_cases own pairs p i);
     covers = λ S h i j c sj. ⊎_elim
@@ -295,7 +295,7 @@ module _ (s : UpdateOperation) (ss : List UpdateOperation) (pairs : List Pair) (
 
       first : (ws : List UpdateOperation) → writer ≡ first_place ws → Next ws (own ++ pairs) → Next (s ∷ ws) (own ++ pairs)
       first [] is n = tt
-      first (b ∷ ws) is n = ((λ ne. In-append_left own pairs (s.place, b.place) (in_pairs_from ties s.place b.place (to_writer b.place is) ne)), n)
+      first (b ∷ ws) is n = ((λ ne. In-append_left own pairs (s.place, b.place) (in_pairs_from conflicts s.place b.place (to_writer b.place is) ne)), n)
 
       follows : (x : ℕ) (here : Bool) → eqb s.item x ≡ here → (writes : Bool) → s.writes ≡ writes → Next (writes_in (cond here (s ∷ on x ss) (on x ss))) (own ++ pairs)
       follows x true e writes wr = subst (λ b. Next (cond b (s ∷ writes_in (on x ss)) (writes_in (on x ss))) (own ++ pairs)) (sym wr) (both writes)
@@ -310,7 +310,7 @@ pairs_append i [] ks = refl
 pairs_append i (j ∷ js) ks = ap (λ l. pair_of i j ++ l) (pairs_append i js ks) ∙ sym (append_assoc (pair_of i j) (pairs_from i js) (pairs_from i ks))
 
 -- with the steps of one update before
-pub kept_turn : (i : ℕ) (turn ss : List UpdateOperation) (pairs : List Pair) → ((s : UpdateOperation) → In s turn → s.place ≡ i) → Kept ss pairs → Kept (turn ++ ss) (pairs_from i (turn_ties turn ss) ++ pairs)
+pub kept_turn : (i : ℕ) (turn ss : List UpdateOperation) (pairs : List Pair) → ((s : UpdateOperation) → In s turn → s.place ≡ i) → Kept ss pairs → Kept (turn ++ ss) (pairs_from i (turn_conflicts turn ss) ++ pairs)
 kept_turn i [] ss pairs places k = k
 kept_turn i (s ∷ turn) ss pairs places k =
     subst (λ l. Kept (s ∷ turn ++ ss) (l ++ pairs)) (sym (pairs_append i before own))
@@ -321,10 +321,10 @@ kept_turn i (s ∷ turn) ss pairs places k =
     (kept_operation s (turn ++ ss) (pairs_from i before ++ pairs) (kept_turn i turn ss pairs (λ z j. places z (inr j)) k))))
   where
     before : List ℕ
-    before = turn_ties turn ss
+    before = turn_conflicts turn ss
 
     own : List ℕ
-    own = later_ties s (turn ++ ss)
+    own = later_conflicts s (turn ++ ss)
 
     left : (p : Pair) → In p (pairs_from i before ++ pairs_from i own) → In p ((pairs_from i before ++ pairs_from i own) ++ pairs)
     left p j = In-append_left (pairs_from i before ++ pairs_from i own) pairs p j
@@ -387,7 +387,7 @@ one_writer : (o : Option ℕ) → length (writer_in o) ≤ 1
 one_writer None = omega arith
 one_writer (Some w) = omega arith
 
-operation_count : (s : UpdateOperation) (ss : List UpdateOperation) → length (later_ties s ss) + length (open_reads (s ∷ ss)) ≤ 2 + length (open_reads ss)
+operation_count : (s : UpdateOperation) (ss : List UpdateOperation) → length (later_conflicts s ss) + length (open_reads (s ∷ ss)) ≤ 2 + length (open_reads ss)
 operation_count s ss = at s.writes
   where
     writer : Option ℕ
@@ -397,14 +397,14 @@ operation_count s ss = at s.writes
     at true = omega (arith, one_writer writer, length-append (writer_in writer) (readers_of s.item ss), ap length (readers_open s.item ss), length-map (on s.item (open_reads ss)) (λ (s : UpdateOperation). s.place), split_count s.item (open_reads ss))
     at false = omega (arith, one_writer writer, ap length (append-nil (writer_in writer)), length-append (open_reads ss) (s ∷ []))
 
-pub turn_count : (turn ss : List UpdateOperation) → length (turn_ties turn ss) + length (open_reads (turn ++ ss)) ≤ 2 * length turn + length (open_reads ss)
+pub turn_count : (turn ss : List UpdateOperation) → length (turn_conflicts turn ss) + length (open_reads (turn ++ ss)) ≤ 2 * length turn + length (open_reads ss)
 turn_count [] ss = omega arith
-turn_count (s ∷ turn) ss = omega (arith, turn_count turn ss, operation_count s (turn ++ ss), length-append (turn_ties turn ss) (later_ties s (turn ++ ss)))
+turn_count (s ∷ turn) ss = omega (arith, turn_count turn ss, operation_count s (turn ++ ss), length-append (turn_conflicts turn ss) (later_conflicts s (turn ++ ss)))
 
 -- ---- all of them
 
-pub tied_all : (ss : List UpdateOperation) (pairs : List Pair) → Kept ss pairs → length pairs ≤ 2 * length ss → AreTies ss pairs
-tied_all ss pairs k few = record {
+pub conflicting_all : (ss : List UpdateOperation) (pairs : List Pair) → Kept ss pairs → length pairs ≤ 2 * length ss → AreConflicts ss pairs
+conflicting_all ss pairs k few = record {
   sound = All-from_recursion (λ (p : Pair). is_pair ss p.0 p.1 ≡ true) pairs (each_in (λ (p : Pair). is_pair ss p.0 p.1 ≡ true) pairs (λ p i. k.sound p i));
   closed = λ S d. k.covers S (λ p i. All-contains (λ (p : Pair). S p.1 ≡ true → S p.0 ≡ true) pairs p d (In-Contains pairs p i));
   few = few;

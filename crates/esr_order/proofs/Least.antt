@@ -3,7 +3,7 @@ use Rattle.std.proofs.Common.{◌≡◌, ℕ, ◌≤◌, Bool, true, false, not,
 use Rattle.std.specs.List.{list_all}
 use Rattle.std.proofs.lemmas.Bool.{true≢false, cond_both, cases_Bool, and_parts, and_from, or_cases, or_left, or_right, not-true, not_from_false, false_from_ne_true, le-leb, leb-true}
 use Rattle.std.proofs.lemmas.List.Elements.{recursion_from_All}
-use Rattle.esr_history.specs.Machine.{Distance, Schedule, done}
+use Rattle.esr_history.specs.Machine.{Distance, Schedule, accepted_in}
 use Rattle.esr_history.specs.Events.{is_committed, accepted}
 use Rattle.esr_history.specs.Serial.{is_before, state}
 use Rattle.esr_history.specs.Queries.{updates_of, must, is_strict, before_begin, distance_from, members, cost}
@@ -59,7 +59,7 @@ among_part S us u i =
 
 module _ (h : Schedule) (q : ℕ) where
   pub must_in : (u : ℕ) → Contains (must h q) u → In u (updates_of h q)
-  must_in u = at (is_strict (done h) q)
+  must_in u = at (is_strict (accepted_in h) q)
     where
       early : List ℕ
       early = filter (is_committed (accepted (before_begin h q))) (updates_of h q)

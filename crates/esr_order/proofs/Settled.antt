@@ -11,7 +11,7 @@ use Rattle.esr_history.specs.declared.event.Reply.TheVariants.{Begun, Value, Wro
 use Rattle.esr_history.specs.declared.event.Refusal.{Refusal}
 use Rattle.esr_history.specs.declared.event.Entry.{Entry}
 use Rattle.esr_history.specs.Events.{is_refusal, is_active, is_committed, commits, accepted}
-use Rattle.esr_history.specs.Machine.{Distance, Schedule, done, extended, blank, reply_to, IsLegal}
+use Rattle.esr_history.specs.Machine.{Distance, Schedule, accepted_in, extended, empty_schedule, reply_to, IsLegal}
 use Rattle.esr_history.specs.Legal.{along, legal_induction_after}
 use Rattle.esr_history.specs.Operations.{Operation, operation_by, operations}
 use Rattle.esr_history.proofs.Allowed.{read_allowed, write_allowed}
@@ -37,14 +37,14 @@ refused_or (Refused why) = inr (why, refl)
 
 -- of transaction t, which has committed in h, so far
 record IsSettled (h : Schedule) (t : ℕ) (g : Schedule) : Type 0 where
-  over : is_committed (done g) t ≡ true
+  over : is_committed (accepted_in g) t ≡ true
   same : filter (by t) (operations g) ≡ filter (by t) (operations h)
 
 module _ (d : Distance) (h : Schedule) (t : ℕ) (g : Schedule) (was : IsSettled h t g) where
-  ended : (u : ℕ) → is_active (done g) u ≡ true → u ≡ t → ⊥
-  ended u act e = true≢false (sym was.over ∙ (ap (is_committed (done g)) (sym e) ∙ (active_parts (done g) u act).1))
+  ended : (u : ℕ) → is_active (accepted_in g) u ≡ true → u ≡ t → ⊥
+  ended u act e = true≢false (sym was.over ∙ (ap (is_committed (accepted_in g)) (sym e) ∙ (active_parts (accepted_in g) u act).1))
 
-  other : (o : Operation) → is_active (done g) o.txn ≡ true → filter (by t) (operations g ++ o ∷ []) ≡ filter (by t) (operations h)
+  other : (o : Operation) → is_active (accepted_in g) o.txn ≡ true → filter (by t) (operations g ++ o ∷ []) ≡ filter (by t) (operations h)
   other o act = filter_push_false (by t) (operations g) o (ne_eqb o.txn t (ended o.txn act)) ∙ was.same
 
   none : filter (by t) (operations g ++ []) ≡ filter (by t) (operations h)
@@ -61,7 +61,7 @@ module _ (d : Distance) (h : Schedule) (t : ℕ) (g : Schedule) (was : IsSettled
   settled_step : (e : Event) (r : Reply) → r ≡ reply_to d g e → IsSettled h t (extended g e r)
   settled_step e r is = elim (refused_or r) [
     | inl ok ↦ record {
-      over = ap (λ es. is_committed es t) (done-accepted g e r ok) ∙ (list_any-append (commits t) (done g) (e ∷ []) ∙ or_left (is_committed (done g) t) (list_any (commits t) (e ∷ [])) was.over);
+      over = ap (λ es. is_committed es t) (done-accepted g e r ok) ∙ (list_any-append (commits t) (accepted_in g) (e ∷ []) ∙ or_left (is_committed (accepted_in g) t) (list_any (commits t) (e ∷ [])) was.over);
       same = ap (filter (by t)) (operations-accepted g e r ok) ∙ added e r is ok;
     }
     | inr why ↦ subst (λ r. IsSettled h t (extended g e r)) (sym why.1) (record {
@@ -70,13 +70,13 @@ module _ (d : Distance) (h : Schedule) (t : ℕ) (g : Schedule) (was : IsSettled
     })
   ]
 
-settled : (d : Distance) (h : Schedule) (rest : List Entry) (t : ℕ) → IsLegal d (along h rest) → is_committed (done h) t ≡ true → IsSettled h t (along h rest)
+settled : (d : Distance) (h : Schedule) (rest : List Entry) (t : ℕ) → IsLegal d (along h rest) → is_committed (accepted_in h) t ≡ true → IsSettled h t (along h rest)
 settled d h rest t legal over =
-    legal_induction_after d (IsSettled h t) (λ g e r is was. settled_step d h t g was e r is) h rest (legal_parts d (blank h) h.entries rest legal).1 (record { over = over; same = refl })
+    legal_induction_after d (IsSettled h t) (λ g e r is was. settled_step d h t g was e r is) h rest (legal_parts d (empty_schedule h) h.entries rest legal).1 (record { over = over; same = refl })
 
 -- what was done by t, which has committed in the first entries, stands in these
 settled_first : (d : Distance) (h : Schedule) → IsLegal d h → (n t : ℕ) → is_committed (accepted (take n h.entries)) t ≡ true
-    → (is_committed (done h) t ≡ true) × (accesses_in h.entries t ≡ accesses_in (take n h.entries) t)
+    → (is_committed (accepted_in h) t ≡ true) × (accesses_in h.entries t ≡ accesses_in (take n h.entries) t)
 settled_first d h legal n t over =
     let front : Schedule = record h { entries = take n h.entries } in
     let whole : along front (drop n h.entries) ≡ h = ap (λ (es : List Entry). record h { entries = es }) (take-append-drop n h.entries) in

@@ -8,8 +8,8 @@ use Rattle.std.proofs.lemmas.Cmp.{nat_cmp_total}
 use Rattle.std.proofs.lemmas.List.Kept.{IsStrictlySortedBy-dedup}
 use Rattle.std.proofs.lemmas.Map.Keys.{Less-from_sorted}
 
-nat_tied : (a b : ℕ) → eqb a b ≡ eq_by_cmp nat_cmp a b
-nat_tied a b =
+nat_conflicting : (a b : ℕ) → eqb a b ≡ eq_by_cmp nat_cmp a b
+nat_conflicting a b =
     ⊎_elim (λ e. eq-eqb a b e ∙ ap is_eq (nat_cmp_is a b Equal e))
     (λ ne. ⊎_elim
     (λ lt. ne_eqb a b (λ e. absurd (omega (arith, lt, e))) ∙ ap is_eq (nat_cmp_is a b Less lt))
@@ -23,4 +23,4 @@ nat_less a b h =
     (cases_order a b)
 
 pub ascends : (xs : List ℕ) → IsSorted nat_cmp xs → AllPairs (λ i j. i < j) (dedup eqb xs)
-ascends xs sorted i j d lt inside = nat_less _ _ (Less-from_sorted nat_cmp (dedup eqb xs) i j d (IsStrictlySortedBy-dedup nat_cmp_total nat_tied xs sorted) lt inside)
+ascends xs sorted i j d lt inside = nat_less _ _ (Less-from_sorted nat_cmp (dedup eqb xs) i j d (IsStrictlySortedBy-dedup nat_cmp_total nat_conflicting xs sorted) lt inside)

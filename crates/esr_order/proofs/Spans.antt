@@ -11,7 +11,7 @@ use Rattle.esr_history.specs.declared.event.Reply.{Reply}
 use Rattle.esr_history.specs.declared.event.Reply.TheVariants.{Begun, Value, Wrote, Committed, Aborted, Refused}
 use Rattle.esr_history.specs.declared.event.Entry.{Entry}
 use Rattle.esr_history.specs.Events.{Beginning, is_refusal, accepted, beginnings, beginning, beginning_of, is_active, is_committed, is_aborted, commits, aborts}
-use Rattle.esr_history.specs.Machine.{Distance, Schedule, done, extended, reply_to, acceptance, IsLegal}
+use Rattle.esr_history.specs.Machine.{Distance, Schedule, accepted_in, extended, reply_to, acceptance, IsLegal}
 use Rattle.esr_history.specs.Legal.{legal_induction, IsLegal-extended}
 use Rattle.esr_history.specs.Queries.{begins, before_begin}
 use Rattle.esr_history.specs.BackLinks.{ender, txn_of, accepted_end, accepted_txn, is_key, places_from, last_place, begun_count}
@@ -55,13 +55,13 @@ no_ends (e ∷ es) t n c a = at (is_refusal e.reply) refl (no_ends es t (n + 1))
         let as' = or_parts (aborts t e.event) (is_aborted (accepted es) t) (sym (ap (λ l. is_aborted l t) (events false ok)) ∙ a) in
         skip (ap (λ b. is_key (if b then None else ender e.event) t) ok ∙ end_key e.event t cs.0 as'.0) (rest cs.1 as'.1)
 
-active_ends : (d : Distance) (h : Schedule) (e : Event) (r : Reply) → r ≡ reply_to d h e → is_refusal r ≡ false → (t : ℕ) → is_key (ender e) t ≡ true → is_active (done h) t ≡ true
+active_ends : (d : Distance) (h : Schedule) (e : Event) (r : Reply) → r ≡ reply_to d h e → is_refusal r ≡ false → (t : ℕ) → is_key (ender e) t ≡ true → is_active (accepted_in h) t ≡ true
 active_ends d h (BeginUpdate l) r is ok t key = absurd (true≢false (sym key))
 active_ends d h (BeginQuery l s) r is ok t key = absurd (true≢false (sym key))
 active_ends d h (Read u x) r is ok t key = absurd (true≢false (sym key))
 active_ends d h (Write u x v) r is ok t key = absurd (true≢false (sym key))
-active_ends d h (Commit u) r is ok t key = subst (λ v. is_active (done h) v ≡ true) (eqb-true u.0 t key) (not_ended h u.0 (accepts d h (Commit u) r is ok).0.1.0)
-active_ends d h (Abort u) r is ok t key = subst (λ v. is_active (done h) v ≡ true) (eqb-true u.0 t key) (not_ended h u.0 (accepts d h (Abort u) r is ok).0.1.0)
+active_ends d h (Commit u) r is ok t key = subst (λ v. is_active (accepted_in h) v ≡ true) (eqb-true u.0 t key) (not_ended h u.0 (accepts d h (Commit u) r is ok).0.1.0)
+active_ends d h (Abort u) r is ok t key = subst (λ v. is_active (accepted_in h) v ≡ true) (eqb-true u.0 t key) (not_ended h u.0 (accepts d h (Abort u) r is ok).0.1.0)
 
 HasOneEnd : Schedule → Type 0
 HasOneEnd h = (t : ℕ) → length (places_from accepted_end t 0 h.entries) ≤ 1
@@ -75,7 +75,7 @@ one_end_next d h e r is one t = rw (places_push accepted_end t 0 h.entries (reco
     at true refused k key = rw (refused, append-nil (places_from accepted_end t 0 h.entries)) (one t)
     at false ok false key = rw (ok, key, append-nil (places_from accepted_end t 0 h.entries)) (one t)
     at false ok true key =
-        let parts = active_parts (done h) t (active_ends d h e r is ok t key) in
+        let parts = active_parts (accepted_in h) t (active_ends d h e r is ok t key) in
         rw (ok, key, no_ends h.entries t 0 parts.1 parts.2) (omega arith)
 
 one_end : (d : Distance) (h : Schedule) → IsLegal d h → HasOneEnd h
@@ -109,7 +109,7 @@ pub record IsBegunAt (es : List Entry) (t : ℕ) (b : Beginning) (p : ℕ) : Typ
   pub none : list_any (begins_at t) (take p es) ≡ false
 
 record AreBegun (h : Schedule) : Type 0 where
-  some : (t : ℕ) (b : Beginning) → beginning (done h) t ≡ Some b → (p : ℕ) × IsBegunAt h.entries t b p
+  some : (t : ℕ) (b : Beginning) → beginning (accepted_in h) t ≡ Some b → (p : ℕ) × IsBegunAt h.entries t b p
   none : (t : ℕ) → begun_count h.entries < t → list_any (begins_at t) h.entries ≡ false
 
 kept : (es : List Entry) (x : Entry) (t : ℕ) (b : Beginning) (p : ℕ) → IsBegunAt es t b p → IsBegunAt (es ++ x ∷ []) t b p
@@ -142,7 +142,7 @@ get_last (x ∷ bs) b c (suc k) is = ⊎_elim (λ e. inl e) (λ e. inr (omega (a
 
 module _ (d : Distance) (h : Schedule) (legal : IsLegal d h) (was : AreBegun h) where
   -- after an entry that begins nothing
-  same_begun : (x : Entry) → ((t : ℕ) → beginning (accepted (h.entries ++ x ∷ [])) t ≡ beginning (done h) t) → begun_count (h.entries ++ x ∷ []) ≡ begun_count h.entries → ((t : ℕ) → begins t x.reply ≡ false)
+  same_begun : (x : Entry) → ((t : ℕ) → beginning (accepted (h.entries ++ x ∷ [])) t ≡ beginning (accepted_in h) t) → begun_count (h.entries ++ x ∷ []) ≡ begun_count h.entries → ((t : ℕ) → begins t x.reply ≡ false)
       → AreBegun (record h { entries = h.entries ++ x ∷ [] })
   same_begun x same count none_begins = record {
     some = λ t b is. let w = was.some t b (sym (same t) ∙ is) in (w.0, kept h.entries x t b w.0 w.1);
@@ -162,8 +162,8 @@ module _ (d : Distance) (h : Schedule) (legal : IsLegal d h) (was : AreBegun h) 
       x : Entry
       x = record { event = e; reply = Begun (record { 0 = begun_count h.entries + 1 }) }
 
-      grown : beginnings (accepted (h.entries ++ record { event = e; reply = Begun (record { 0 = begun_count h.entries + 1 }) } ∷ [])) ≡ beginnings (done h) ++ b ∷ []
-      grown = ap beginnings (accepted_push h.entries (record { event = e; reply = Begun (record { 0 = begun_count h.entries + 1 }) }) refl) ∙ (filter_map_push beginning_of (done h) e ∙ ap (λ o. beginnings (done h) ++ cons_option o []) is)
+      grown : beginnings (accepted (h.entries ++ record { event = e; reply = Begun (record { 0 = begun_count h.entries + 1 }) } ∷ [])) ≡ beginnings (accepted_in h) ++ b ∷ []
+      grown = ap beginnings (accepted_push h.entries (record { event = e; reply = Begun (record { 0 = begun_count h.entries + 1 }) }) refl) ∙ (filter_map_push beginning_of (accepted_in h) e ∙ ap (λ o. beginnings (accepted_in h) ++ cons_option o []) is)
 
       first_one : (t : ℕ) → t ≡ begun_count h.entries + 1 → IsBegunAt (h.entries ++ record { event = e; reply = Begun (record { 0 = begun_count h.entries + 1 }) } ∷ []) t b (length h.entries)
       first_one t num =
@@ -193,7 +193,7 @@ module _ (d : Distance) (h : Schedule) (legal : IsLegal d h) (was : AreBegun h) 
           (λ last.
           let num : suc k ≡ begun_count h.entries + 1 = ap suc last.0 ∙ sym (add-one (begun_count h.entries)) in
           (length h.entries, subst (λ b. IsBegunAt (h.entries ++ record { event = e; reply = Begun (record { 0 = begun_count h.entries + 1 }) } ∷ []) (suc k) b (length h.entries)) last.1 (first_one (suc k) num)))
-          (get_last (beginnings (done h)) b c k (ap (λ bs. slice_get bs k) (sym grown) ∙ at))
+          (get_last (beginnings (accepted_in h)) b c k (ap (λ bs. slice_get bs k) (sym grown) ∙ at))
 
       later : (t : ℕ) → begun_count (h.entries ++ record { event = e; reply = Begun (record { 0 = begun_count h.entries + 1 }) } ∷ []) < t → list_any (begins_at t) (h.entries ++ record { event = e; reply = Begun (record { 0 = begun_count h.entries + 1 }) } ∷ []) ≡ false
       later t past =
@@ -211,7 +211,7 @@ module _ (d : Distance) (h : Schedule) (legal : IsLegal d h) (was : AreBegun h) 
 
       other : (e : Event) (w : Reply) → is_refusal w ≡ false → beginning_of e ≡ None → ((t : ℕ) → begins t w ≡ false) → AreBegun (extended h e w)
       other e w ok none none_begins =
-          same_begun (record { event = e; reply = w }) (λ t. ap (λ es. beginning es t) (accepted_push h.entries (record { event = e; reply = w }) ok) ∙ beginning-kept (done h) e t none) (count_same h.entries (record { event = e; reply = w }) ok none) none_begins
+          same_begun (record { event = e; reply = w }) (λ t. ap (λ es. beginning es t) (accepted_push h.entries (record { event = e; reply = w }) ok) ∙ beginning-kept (accepted_in h) e t none) (count_same h.entries (record { event = e; reply = w }) ok none) none_begins
 
       at_accept : (e : Event) → AreBegun (extended h e (acceptance h e))
       at_accept (BeginUpdate l) = more_begun (BeginUpdate l) (record { query = false; strict = false; limit = l }) refl refl
@@ -235,7 +235,7 @@ begun_all d h legal =
     nobody (suc k) b is = cc
 
 -- a transaction that has begun
-pub begun_at : (d : Distance) (h : Schedule) → IsLegal d h → (t : ℕ) (b : Beginning) → beginning (done h) t ≡ Some b → (p : ℕ) × IsBegunAt h.entries t b p
+pub begun_at : (d : Distance) (h : Schedule) → IsLegal d h → (t : ℕ) (b : Beginning) → beginning (accepted_in h) t ≡ Some b → (p : ℕ) × IsBegunAt h.entries t b p
 begun_at d h legal t b is = (begun_all d h legal).some t b is
 
 -- the entries before its begin

@@ -32,16 +32,16 @@ writer_in (Some w) = w ∷ []
 
 -- the positions of later operations to which an operation is tied: of the next write of its item, and for a write of
 -- the reads until then
-abbrev pub ties_of : Chain → List ℕ → UpdateOperation → List ℕ
-ties_of c readers s = writer_in (latest_writer c) ++ (if s.writes then readers else [])
+abbrev pub conflicts_of : Chain → List ℕ → UpdateOperation → List ℕ
+conflicts_of c readers s = writer_in (latest_writer c) ++ (if s.writes then readers else [])
 
-abbrev pub later_ties : UpdateOperation → List UpdateOperation → List ℕ
-later_ties s later = ties_of (chain_back s.item later) (readers_of s.item later) s
+abbrev pub later_conflicts : UpdateOperation → List UpdateOperation → List ℕ
+later_conflicts s later = conflicts_of (chain_back s.item later) (readers_of s.item later) s
 
 -- those of the operations of one update
-abbrev pub turn_ties : List UpdateOperation → List UpdateOperation → List ℕ
-turn_ties [] later = []
-turn_ties (s ∷ turn) later = turn_ties turn later ++ later_ties s (turn ++ later)
+abbrev pub turn_conflicts : List UpdateOperation → List UpdateOperation → List ℕ
+turn_conflicts [] later = []
+turn_conflicts (s ∷ turn) later = turn_conflicts turn later ++ later_conflicts s (turn ++ later)
 
 -- the chains and the readers of the items, by number
 pub record AreLater (links : List Chain) (rows : List (List ℕ)) (operations : List UpdateOperation) : Type 0 where

@@ -9,7 +9,7 @@ pub mod AccessRows
 pub mod Index
 pub mod UpdateOperations
 pub mod Listing
-pub mod Ties
+pub mod Conflicts
 pub mod Turns
 pub mod Later
 pub mod Seeking

@@ -2,14 +2,14 @@
 use Rattle.std.specs.Prelude.{◌≡◌, ◌↔◌, ◌⊎◌, ℕ, Bool, IsTrue, List, [], ◌∷◌, Contains, filter}
 use Rattle.std.specs.List.{list_any}
 use Rattle.esr_history.specs.Events.{writes}
-use Rattle.esr_history.specs.Machine.{Schedule, done}
+use Rattle.esr_history.specs.Machine.{Schedule, accepted_in}
 use Rattle.esr_history.specs.Serial.{is_before}
 use Rattle.esr_history.specs.Queries.{updates_of, must, reads_by}
 use Rattle.esr_order.specs.Placements.{is_among}
 
 -- whether u wrote item x
 abbrev pub has_written : Schedule → ℕ → ℕ → Bool
-has_written h x u = list_any (writes u x) (done h)
+has_written h x u = list_any (writes u x) (accepted_in h)
 
 -- whether u wrote an item that q read
 abbrev pub has_written_read : Schedule → ℕ → ℕ → Bool

@@ -8,6 +8,7 @@
 
 mod accesses;
 mod chains;
+mod conflicts;
 mod index;
 mod laws;
 mod links;
@@ -16,7 +17,6 @@ mod order;
 mod rows;
 mod scan;
 mod search;
-mod ties;
 mod walk;
 
 pub use accesses::{Access, accesses_of};

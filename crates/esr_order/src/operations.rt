@@ -10,20 +10,20 @@
 //! been was left behind in the heap. Nothing rests on the counts.
 ghost use Rattle.std.specs.Prelude.{◌≡◌, ◌<◌, ◌≤◌, ◌++◌, [], ℕ, List, IfOk, OnOk, All, AllPairs, filter, length, map};
 ghost use Rattle.std.specs.List.{range_with_len};
-ghost use Rattle.esr_base.specs.declared.limits.TheConstants.{MOST_TRANSACTIONS};
+ghost use Rattle.esr_base.specs.declared.limits.TheConstants.{MAX_TRANSACTIONS};
 ghost use Rattle.esr_order.specs.UpdateOperations.{UpdateOperation};
 ghost use Rattle.esr_order.specs.AccessRows.{AreRowsOf};
 ghost use Rattle.esr_order.specs.Turns.{operation_at, update_operations};
 ghost use Rattle.esr_order.specs.Listing.{IsBelow};
-ghost use Rattle.esr_order.specs.Ties.{on_item, AreTies, AreNextPaired};
+ghost use Rattle.esr_order.specs.Conflicts.{on_item, AreConflicts, AreNextPaired};
 ghost use Rattle.esr_order.specs.Chains.{chain_from, last_by_update, seen_links};
-ghost use Rattle.esr_order.specs.Later.{with_operation, readers_with, ties_of, turn_ties, AreLater};
+ghost use Rattle.esr_order.specs.Later.{with_operation, readers_with, conflicts_of, turn_conflicts, AreLater};
 
 use crate::accesses::Access;
 use crate::chains::{latest_writer, put_write, turn_all};
+use crate::conflicts::{conflict_back, put_in_order};
 use crate::links::Links;
 use crate::rows::AccessRows;
-use crate::ties::{put_in_order, tie_back};
 use esr_history::{History, TxnId};
 use esr_items::Metric;
 use std::alloc::{AllocError, Global};
@@ -35,19 +35,19 @@ fn put_operation(
     readers: &mut Vec<u32>,
     access: Access,
     place: u32,
-    ties: &mut Vec<u32>,
+    conflicts: &mut Vec<u32>,
 ) -> Result<(), AllocError>
     ensures chain { OnOk result (seen_links links.new
         ≡ with_operation (seen_links links.old) (operation_at place access)) }
     ensures readers { OnOk result (readers.new.items ≡ readers_with readers.old.items (operation_at place access)) }
-    ensures ties { OnOk result (ties.new.items
-        ≡ ties.old.items ++ ties_of (seen_links links.old) readers.old.items (operation_at place access)) }
+    ensures conflicts { OnOk result (conflicts.new.items
+        ≡ conflicts.old.items ++ conflicts_of (seen_links links.old) readers.old.items (operation_at place access)) }
 {
     if let Some(writer) = latest_writer(links) {
-        ties.push(writer)?;
+        conflicts.push(writer)?;
     }
     if access.writes {
-        ties.append(readers)?;
+        conflicts.append(readers)?;
         put_write(links, place, access.value)?;
     } else {
         readers.push(place)?;
@@ -62,7 +62,7 @@ fn put_turn(
     readers: &mut [Vec<u32>],
     accesses: &[Access],
     place: u32,
-    ties: &mut Vec<u32>,
+    conflicts: &mut Vec<u32>,
 ) -> Result<(), AllocError>
     requires linked { All (λ a. a.item.0 < length chains.old) accesses.now }
     requires read { All (λ a. a.item.0 < length readers.old) accesses.now }
@@ -72,13 +72,19 @@ fn put_turn(
         → AreLater (map seen_links chains.old) (map (λ r. r.items) readers.old) operations
         → AreLater (map seen_links chains.new) (map (λ r. r.items) readers.new)
         (map (operation_at place) accesses.now ++ operations)) }
-    ensures ties { OnOk result ((operations : List UpdateOperation)
+    ensures conflicts { OnOk result ((operations : List UpdateOperation)
         → AreLater (map seen_links chains.old) (map (λ r. r.items) readers.old) operations
-        → ties.new.items ≡ ties.old.items ++ turn_ties (map (operation_at place) accesses.now) operations) }
+        → conflicts.new.items ≡ conflicts.old.items ++ turn_conflicts (map (operation_at place) accesses.now) operations) }
 {
     for i in (0..accesses.len()).rev() {
         let x = accesses[i].item.0 as usize;
-        put_operation(&mut chains[x], &mut readers[x], accesses[i], place, ties)?;
+        put_operation(
+            &mut chains[x],
+            &mut readers[x],
+            accesses[i],
+            place,
+            conflicts,
+        )?;
     }
     Ok(())
 }
@@ -132,13 +138,13 @@ fn gather_into<M: Metric>(
     pairs: &mut Vec<(u32, u32)>,
 ) -> Result<(), AllocError>
     requires rows { AreRowsOf history.now.schedule.entries rows.now }
-    requires few { length updates.now ≤ MOST_TRANSACTIONS }
+    requires few { length updates.now ≤ MAX_TRANSACTIONS }
     requires linked { length chains.old ≡ length history.now.schedule.opening }
     requires read { length readers.old ≡ length history.now.schedule.opening }
     requires later { AreLater (map seen_links chains.old) (map (λ r. r.items) readers.old) [] }
     requires none { pairs.old.items ≡ [] }
     ensures ascending { OnOk result (AllPairs IsBelow pairs.new.items) }
-    ensures tied { OnOk result (AreTies (update_operations history.now.schedule updates.now) pairs.new.items) }
+    ensures conflicting { OnOk result (AreConflicts (update_operations history.now.schedule updates.now) pairs.new.items) }
     ensures next { OnOk result ((x : ℕ) → AreNextPaired pairs.new.items
         (filter (λ s. s.writes) (on_item x (update_operations history.now.schedule updates.now)))) }
     ensures len { OnOk result (length chains.new ≡ length chains.old) }
@@ -149,13 +155,13 @@ fn gather_into<M: Metric>(
 {
     let _legal = history.log(); // brings the invariant into the proof
     let mut list = Vec::new(alloc);
-    let mut ties = Vec::new(alloc);
+    let mut conflicts = Vec::new(alloc);
     for i in (0..updates.len()).rev() {
         let accesses = rows.accesses_of(history, updates[i], &mut list)?;
-        ties.clear();
-        put_turn(chains, readers, accesses, i as u32, &mut ties)?;
-        put_in_order(&mut ties);
-        tie_back(pairs, i as u32, &ties)?;
+        conflicts.clear();
+        put_turn(chains, readers, accesses, i as u32, &mut conflicts)?;
+        put_in_order(&mut conflicts);
+        conflict_back(pairs, i as u32, &conflicts)?;
     }
     pairs.reverse();
     turn_all(chains);
@@ -172,9 +178,9 @@ pub fn gather<M: Metric>(
     writers: &[u32],
 ) -> Result<PairsAndChains, AllocError>
     requires rows { AreRowsOf history.now.schedule.entries rows.now }
-    requires few { length updates.now ≤ MOST_TRANSACTIONS }
+    requires few { length updates.now ≤ MAX_TRANSACTIONS }
     ensures ascending { IfOk result (λ g. AllPairs IsBelow g.pairs.items) }
-    ensures tied { IfOk result (λ g. AreTies (update_operations history.now.schedule updates.now) g.pairs.items) }
+    ensures conflicting { IfOk result (λ g. AreConflicts (update_operations history.now.schedule updates.now) g.pairs.items) }
     ensures next { IfOk result (λ g. (x : ℕ) → AreNextPaired g.pairs.items
         (filter (λ s. s.writes) (on_item x (update_operations history.now.schedule updates.now)))) }
     ensures chains { IfOk result (λ g. map seen_links g.chains.items

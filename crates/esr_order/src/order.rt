@@ -8,7 +8,7 @@
 
 ghost use Rattle.std.specs.Prelude.{◌≡◌, ◌↔◌, ◌<◌, ◌≤◌, ◌*◌, ◌^◌, length, map, filter, ℕ, AllPairs, ◌≢◌, false, IfOk, IsErrOf, option_map};
 ghost use Rattle.std.specs.List.{range_with_len};
-ghost use Rattle.esr_base.specs.declared.limits.TheConstants.{MOST_TRANSACTIONS};
+ghost use Rattle.esr_base.specs.declared.limits.TheConstants.{MAX_TRANSACTIONS};
 ghost use Rattle.esr_history.specs.Queries.{is_committed_query, must};
 ghost use Rattle.esr_order.specs.Chains.{seen_links, nth};
 ghost use Rattle.esr_order.specs.declared.order.OrderError.TheVariants.{NoMemory};
@@ -18,7 +18,7 @@ ghost use Rattle.esr_order.specs.Index.{IsWholeIndexOf};
 ghost use Rattle.esr_order.specs.Near.{AreNear};
 ghost use Rattle.esr_order.specs.Placements.{is_among};
 ghost use Rattle.esr_history.specs.Serial.{is_before};
-ghost use Rattle.esr_history.specs.Machine.{done};
+ghost use Rattle.esr_history.specs.Machine.{accepted_in};
 ghost use Rattle.esr_history.specs.Operations.{commit_order, operations};
 
 use crate::index::Index;
@@ -95,7 +95,7 @@ fn among<M: Metric>(
 ) -> Result<Order, AllocError>
     requires rows { AreRowsOf history.now.schedule.entries rows.now }
     requires once { AllPairs (λ t u. t ≢ u) (map (λ t. t.0) commits.items) }
-    requires few { length commits.items ≤ MOST_TRANSACTIONS }
+    requires few { length commits.items ≤ MAX_TRANSACTIONS }
     requires keeps { AllPairs (λ u v. is_before history.now.schedule v u ≡ false) (map (λ t. t.0) commits.items) }
     requires first { first ≤ length commits.items }
     ensures commits { IfOk result (λ o. o.commits ≡ commits.items) }
@@ -123,7 +123,7 @@ fn near_with<M: Metric>(
     rows: &AccessRows,
     q: TxnId,
 ) -> Result<Order, OrderError>
-    requires list { map (λ t. t.0) committed.now ≡ commit_order (done history.now.schedule) }
+    requires list { map (λ t. t.0) committed.now ≡ commit_order (accepted_in history.now.schedule) }
     requires rows { AreRowsOf history.now.schedule.entries rows.now }
     ensures near { IfOk result (λ o. AreNear history.now.schedule q.0 (map (λ t. t.0) o.commits)) }
     ensures ok { IfOk result (λ o. IsOrderAmong history.now.schedule q.0 (map (λ t. t.0) o.commits) o) }
@@ -189,7 +189,7 @@ impl Order {
         committed: &[TxnId],
         q: TxnId,
     ) -> Result<Order, OrderError>
-        requires { map (λ t. t.0) committed.now ≡ commit_order (done history.now.schedule) }
+        requires { map (λ t. t.0) committed.now ≡ commit_order (accepted_in history.now.schedule) }
         ensures near { IfOk result (λ o. AreNear history.now.schedule q.0 (map (λ t. t.0) o.commits)) }
         ensures ok { IfOk result (λ o. IsOrderAmong history.now.schedule q.0 (map (λ t. t.0) o.commits) o) }
         ensures refused { IsErrOf result OrderError.NotACommittedQuery

@@ -47,7 +47,7 @@ impl Model for AccessRows {
 impl AccessRows {
     ghost use Rattle.std.specs.Prelude.{◌≡◌, ◌⊎◌, ◌<◌, [], ℕ, All, IsTrue, IfOk, OnOk, length, map};
     ghost use Rattle.esr_history.specs.Events.{is_committed};
-    ghost use Rattle.esr_history.specs.Machine.{done};
+    ghost use Rattle.esr_history.specs.Machine.{accepted_in};
     ghost use Rattle.esr_order.specs.Scans.{accesses_in};
     ghost use Rattle.esr_order.specs.AccessRows.{row_at, AreRowsOf};
 
@@ -120,7 +120,7 @@ impl AccessRows {
         commits: &[TxnId],
     ) -> Result<(), AllocError>
         requires rows { AreRowsOf history.now.schedule.entries self.old }
-        requires committed { All (λ t. IsTrue (is_committed (done history.now.schedule) t.0)) commits.now }
+        requires committed { All (λ t. IsTrue (is_committed (accepted_in history.now.schedule) t.0)) commits.now }
         ensures { AreRowsOf history.now.schedule.entries self.new }
     {
         let mut accesses = Vec::new(*self.accesses.allocator());

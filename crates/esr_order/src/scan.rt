@@ -5,7 +5,7 @@ ghost use Rattle.std.specs.Prelude.{◌≡◌, ◌++◌, ◌∷◌, ℕ, List, [
 ghost use Rattle.std.specs.List.{filter_map, before_first};
 ghost use Rattle.std.specs.List.Sorted.{IsStrictlyIncreasing};
 ghost use Rattle.esr_history.specs.Events.{is_begun, is_update};
-ghost use Rattle.esr_history.specs.Machine.{done};
+ghost use Rattle.esr_history.specs.Machine.{accepted_in};
 ghost use Rattle.esr_history.specs.Operations.{commit_order};
 ghost use Rattle.esr_history.specs.Queries.{before_begin, is_committed_query, is_strict, updates_of, must};
 ghost use Rattle.esr_order.specs.Scans.{commit_in, is_commit_at, is_strict_begin, has_ended_before, end_in, AreEnds};
@@ -78,7 +78,7 @@ fn ends_of<M: Metric>(alloc: Global, history: &History<M>) -> Result<Vec<u64>, A
 /// The transactions that committed, in the order of their commits. It goes over the numbers of
 /// the transactions, not over the log.
 pub fn committed<M: Metric>(alloc: Global, history: &History<M>) -> Result<Vec<TxnId>, AllocError>
-    ensures { IfOk result (λ v. map (λ t. t.0) v.items ≡ commit_order (done history.now.schedule)) }
+    ensures { IfOk result (λ v. map (λ t. t.0) v.items ≡ commit_order (accepted_in history.now.schedule)) }
 {
     let ends = ends_of(alloc, history)?;
     let committed = committers_at(alloc, history.log(), &ends)?;
@@ -87,7 +87,7 @@ pub fn committed<M: Metric>(alloc: Global, history: &History<M>) -> Result<Vec<T
 
 /// Whether the transaction is an update.
 pub fn is_update<M: Metric>(history: &History<M>, t: TxnId) -> bool
-    ensures { result ≡ is_update (done history.now.schedule) t.0 }
+    ensures { result ≡ is_update (accepted_in history.now.schedule) t.0 }
 {
     match history.facts(t) {
         None => false,
@@ -124,7 +124,7 @@ pub fn updates_before<M: Metric>(
     committed: &[TxnId],
     q: TxnId,
 ) -> Result<Vec<TxnId>, AllocError>
-    ensures { IfOk result (λ v. v.items ≡ filter (λ t. is_update (done history.now.schedule) t.0)
+    ensures { IfOk result (λ v. v.items ≡ filter (λ t. is_update (accepted_in history.now.schedule) t.0)
         (before_first (λ t. t.0 == q.0) committed.now)) }
 {
     committed
@@ -173,10 +173,10 @@ fn begin_place<M: Metric>(
     history: &History<M>,
     t: TxnId,
 ) -> Result<BeginPlace, AllocError>
-    requires { is_begun (done history.now.schedule) t.0 ≡ true }
+    requires { is_begun (accepted_in history.now.schedule) t.0 ≡ true }
     ensures place { IfOk result (λ b. take b.place history.now.schedule.entries
         ≡ before_begin history.now.schedule t.0) }
-    ensures strict { IfOk result (λ b. b.strict ≡ is_strict (done history.now.schedule) t.0) }
+    ensures strict { IfOk result (λ b. b.strict ≡ is_strict (accepted_in history.now.schedule) t.0) }
 {
     let places = places_of_txn(alloc, history, t)?;
     let log = history.log();
@@ -211,7 +211,7 @@ pub fn count_must<M: Metric>(
     updates: &[TxnId],
     q: TxnId,
 ) -> Result<usize, AllocError>
-    requires begun { is_begun (done history.now.schedule) q.0 ≡ true }
+    requires begun { is_begun (accepted_in history.now.schedule) q.0 ≡ true }
     requires updates { map (λ t. t.0) updates.now ≡ updates_of history.now.schedule q.0 }
     ensures { IfOk result (λ n. n ≡ length (must history.now.schedule q.0)) }
 {

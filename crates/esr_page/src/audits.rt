@@ -4,7 +4,7 @@
 //! memory than one audit: what is told of such a query is found once more.
 
 ghost use Rattle.std.specs.Prelude.{◌≡◌, map};
-ghost use Rattle.esr_history.specs.Machine.{done};
+ghost use Rattle.esr_history.specs.Machine.{accepted_in};
 ghost use Rattle.esr_history.specs.Operations.{commit_order};
 
 use esr_audit::{CommitLists, Finding, audit_query_in, commit_lists};
@@ -15,7 +15,7 @@ use esr_text::first;
 use std::alloc::{AllocError, Global};
 
 /// So many updates the problems that are kept have together at most.
-const MOST_UPDATES: usize = 250_000;
+const MAX_UPDATES: usize = 250_000;
 
 /// How far a committed query was off.
 #[derive(Clone, Copy)]
@@ -52,7 +52,7 @@ fn count_kept(findings: &[Finding], count: usize) -> usize {
     let mut kept = 0usize;
     for finding in first(findings, count) {
         updates = updates.saturating_add(finding.problem.updates().len());
-        if updates <= MOST_UPDATES {
+        if updates <= MAX_UPDATES {
             kept = kept.saturating_add(1);
         }
     }
@@ -122,7 +122,7 @@ impl Audits {
         query: TxnId,
         count: usize,
     ) -> Result<(), AllocError>
-        requires { map (λ t. t.0) committed.now ≡ commit_order (done history.now.schedule) }
+        requires { map (λ t. t.0) committed.now ≡ commit_order (accepted_in history.now.schedule) }
     {
         let finding = finding_in(alloc, history, committed, query)?;
         self.note(&finding)?;
@@ -147,7 +147,7 @@ fn finding_in(
     committed: &[TxnId],
     query: TxnId,
 ) -> Result<Finding, AllocError>
-    requires { map (λ t. t.0) committed.now ≡ commit_order (done history.now.schedule) }
+    requires { map (λ t. t.0) committed.now ≡ commit_order (accepted_in history.now.schedule) }
 {
     match audit_query_in(alloc, history, committed, query) {
         Ok(finding) => Ok(finding),

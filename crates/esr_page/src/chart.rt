@@ -10,10 +10,10 @@ use esr_text::{first, push_count, push_number};
 use std::alloc::{AllocError, Global};
 
 /// So many queries have names below their columns.
-const MOST_NAMED: usize = 12;
+const MAX_NAMED: usize = 12;
 
 /// So many columns there are at most.
-const MOST_COLUMNS: usize = 1000;
+const MAX_COLUMNS: usize = 1000;
 
 /// The chart ends at so many times what all but the dearest queries were charged.
 const FARTHEST: u64 = 5;
@@ -81,7 +81,7 @@ fn push_columns(
     found: &[Found],
     top: u64,
 ) -> Result<(), AllocError> {
-    for found in first(found, MOST_COLUMNS) {
+    for found in first(found, MAX_COLUMNS) {
         if let Some(row) = all.of(found.query) {
             push_column(out, row, top)?;
         }
@@ -140,9 +140,9 @@ fn push_legend(out: &mut String, top: u64, charges: &[u64]) -> Result<(), AllocE
         push_count(out, above as u64, " query", " queries")?;
         out.push('.')?;
     }
-    if count > MOST_COLUMNS {
+    if count > MAX_COLUMNS {
         out.push_str(" It has the first ")?;
-        push_number(out, MOST_COLUMNS as u64)?;
+        push_number(out, MAX_COLUMNS as u64)?;
         out.push_str(" of ")?;
         push_number(out, count as u64)?;
         out.push_str(" queries.")?;
@@ -173,7 +173,7 @@ fn push_charted(
 ) -> Result<(), AllocError> {
     let top = top_of(&all.rows, charges);
     out.push_str("<h2>Committed queries, in the order of their commits</h2>\n")?;
-    let class = if found.len() > MOST_NAMED {
+    let class = if found.len() > MAX_NAMED {
         "chart many"
     } else {
         "chart few"

@@ -6,9 +6,9 @@ use crate::rows::{Row, Rows};
 use esr_audit::{AuditError, Finding, audit_query};
 use esr_history::TxnId;
 use esr_report::name_of_transaction;
-use esr_story::{Audited, Part, story_of};
-use esr_telling::Chronicle;
 use esr_text::{first, push_number};
+use esr_trace::{Audited, Part, trace_of};
+use esr_views::Recording;
 use std::alloc::{AllocError, Global};
 
 /// The committed queries, those that were farthest off first.
@@ -74,10 +74,10 @@ impl<P: Part, W: Part> Page<'_, P, W> {
         audited: &Audited<'_>,
         lines: &[u32],
     ) -> Result<(), AllocError> {
-        let story = story_of(alloc, audited.history, audited.finding.query)?;
-        self.picture.push(alloc, out, audited, lines, &story)?;
+        let trace = trace_of(alloc, audited.history, audited.finding.query)?;
+        self.picture.push(alloc, out, audited, lines, &trace)?;
         out.push_str("</div>\n")?;
-        self.words.push(alloc, out, audited, lines, &story)
+        self.words.push(alloc, out, audited, lines, &trace)
     }
 
     /// A query with picture and words.
@@ -85,18 +85,18 @@ impl<P: Part, W: Part> Page<'_, P, W> {
         &self,
         alloc: Global,
         out: &mut String,
-        chronicle: &Chronicle<'_>,
+        recording: &Recording<'_>,
         finding: &Finding,
     ) -> Result<(), AllocError> {
         let audited = Audited {
-            items: &chronicle.items,
-            transactions: &chronicle.transactions,
-            history: &chronicle.history,
+            items: &recording.items,
+            transactions: &recording.transactions,
+            history: &recording.history,
             finding,
         };
-        let name = name_of_transaction(&chronicle.transactions, finding.query);
+        let name = name_of_transaction(&recording.transactions, finding.query);
         push_heading(out, name, finding.distance)?;
-        self.push(alloc, out, &audited, chronicle.lines)?;
+        self.push(alloc, out, &audited, recording.lines)?;
         write!(
             out,
             "<p><a href='#r-{name}'>{name} in the table</a></p></section>\n"
@@ -108,15 +108,15 @@ impl<P: Part, W: Part> Page<'_, P, W> {
         &self,
         alloc: Global,
         out: &mut String,
-        chronicle: &Chronicle<'_>,
+        recording: &Recording<'_>,
         audits: &Audits,
         query: TxnId,
     ) -> Result<(), AllocError> {
         if let Some(finding) = audits.finding_of(query) {
-            return self.push_told(alloc, out, chronicle, finding);
+            return self.push_told(alloc, out, recording, finding);
         }
-        match audit_query(alloc, &chronicle.history, query) {
-            Ok(finding) => self.push_told(alloc, out, chronicle, &finding),
+        match audit_query(alloc, &recording.history, query) {
+            Ok(finding) => self.push_told(alloc, out, recording, &finding),
             Err(AuditError::NoMemory) => Err(AllocError),
             Err(_) => Ok(()),
         }
@@ -127,12 +127,12 @@ impl<P: Part, W: Part> Page<'_, P, W> {
         &self,
         alloc: Global,
         out: &mut String,
-        chronicle: &Chronicle<'_>,
+        recording: &Recording<'_>,
         audits: &Audits,
         told: &[TxnId],
     ) -> Result<(), AllocError> {
         for query in told {
-            self.push_query(alloc, out, chronicle, audits, *query)?;
+            self.push_query(alloc, out, recording, audits, *query)?;
         }
         Ok(())
     }

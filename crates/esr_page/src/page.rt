@@ -11,9 +11,9 @@ use crate::style::{head, script};
 use crate::table::push_table;
 use esr_history::TxnId;
 use esr_report::{Names, name_of_transaction};
-use esr_story::Part;
-use esr_telling::{Chronicle, Survey};
 use esr_text::{markup_or_nothing, push_count, push_number};
+use esr_trace::Part;
+use esr_views::{Recording, ScriptView};
 use std::alloc::{AllocError, Global};
 
 /// The page about a script.
@@ -132,15 +132,15 @@ impl<P: Part, W: Part> Page<'_, P, W> {
         &self,
         alloc: Global,
         out: &mut String,
-        chronicle: &Chronicle<'_>,
+        recording: &Recording<'_>,
         audits: &Audits,
         all: &mut Rows<'_>,
         told: &[TxnId],
     ) -> Result<(), AllocError> {
         push_overview(alloc, out, all, audits)?;
         out.push_str(heading_of(&all.rows, told))?;
-        self.push_details(alloc, out, chronicle, audits, told)?;
-        push_order(out, &chronicle.transactions, &audits.order)?;
+        self.push_details(alloc, out, recording, audits, told)?;
+        push_order(out, &recording.transactions, &audits.order)?;
         out.push_str(script())
     }
 
@@ -148,37 +148,37 @@ impl<P: Part, W: Part> Page<'_, P, W> {
     fn body(
         &self,
         alloc: Global,
-        chronicle: &Chronicle<'_>,
+        recording: &Recording<'_>,
         audits: &Audits,
         count: usize,
     ) -> Result<String, AllocError> {
-        let mut all = rows_of(alloc, chronicle, &audits.found)?;
+        let mut all = rows_of(alloc, recording, &audits.found)?;
         let told = tell_farthest(alloc, &mut all, count)?;
         let mut out = String::new(alloc);
-        self.push_body(alloc, &mut out, chronicle, audits, &mut all, &told)?;
+        self.push_body(alloc, &mut out, recording, audits, &mut all, &told)?;
         Ok(out)
     }
 
     /// The page about a script.
-    fn about(&self, alloc: Global, chronicle: &Chronicle<'_>) -> Result<Vec<u8>, AllocError>
+    fn about(&self, alloc: Global, recording: &Recording<'_>) -> Result<Vec<u8>, AllocError>
         ensures { IfOk result (λ text. IsPage text.items) }
     {
         let count = usize::try_from(self.worst).unwrap_or(usize::MAX);
-        let audits = audit_all(alloc, &chronicle.history, count)?;
-        let body = self.body(alloc, chronicle, &audits, count)?;
+        let audits = audit_all(alloc, &recording.history, count)?;
+        let body = self.body(alloc, recording, &audits, count)?;
         document(alloc, body)
     }
 }
 
-impl<P: Part, W: Part> Survey for Page<'_, P, W> {
+impl<P: Part, W: Part> ScriptView for Page<'_, P, W> {
     ghost IsTextOf = { λ _ _ text. IsPage text };
 
     fn text_of(
         &self,
         alloc: Global,
-        chronicle: &Chronicle<'_>,
+        recording: &Recording<'_>,
     ) -> Result<Option<Vec<u8>>, AllocError> {
-        match self.about(alloc, chronicle) {
+        match self.about(alloc, recording) {
             Ok(text) => Ok(Some(text)),
             Err(error) => Err(error),
         }

@@ -5,7 +5,7 @@ use crate::audits::Found;
 use esr_history::{Entry, Event, History, Reply, TxnId};
 use esr_items::Weighted;
 use esr_report::name_of_transaction;
-use esr_telling::Chronicle;
+use esr_views::Recording;
 use std::alloc::{AllocError, Global};
 
 /// How a query ended.
@@ -60,30 +60,30 @@ pub struct Rows<'a> {
 }
 
 /// A query, as it began and ended, if it is one.
-fn row_of<'a>(chronicle: &'a Chronicle<'_>, query: TxnId) -> Option<Row<'a>> {
-    let facts = chronicle.history.facts(query)?;
+fn row_of<'a>(recording: &'a Recording<'_>, query: TxnId) -> Option<Row<'a>> {
+    let facts = recording.history.facts(query)?;
     if !facts.query {
         return None;
     }
     Some(Row {
         query,
-        name: name_of_transaction(&chronicle.transactions, query),
+        name: name_of_transaction(&recording.transactions, query),
         is_strict: false,
         limit: facts.limit,
-        charged: chronicle.history.import(query),
+        charged: recording.history.import(query),
         reads: 0,
-        end: end_of(&chronicle.history, facts.end),
+        end: end_of(&recording.history, facts.end),
         is_told: false,
     })
 }
 
 /// The queries, as they began and ended.
-fn queries_of<'a>(alloc: Global, chronicle: &'a Chronicle<'_>) -> Result<Rows<'a>, AllocError> {
-    let begun = chronicle.history.begun_count();
+fn queries_of<'a>(alloc: Global, recording: &'a Recording<'_>) -> Result<Rows<'a>, AllocError> {
+    let begun = recording.history.begun_count();
     let last = u32::try_from(begun).unwrap_or(u32::MAX);
     let mut rows = Vec::new(alloc);
     for number in 0..last.saturating_add(1) {
-        if let Some(row) = row_of(chronicle, TxnId(number)) {
+        if let Some(row) = row_of(recording, TxnId(number)) {
             rows.push(row)?;
         }
     }
@@ -131,11 +131,11 @@ impl<'a> Rows<'a> {
 /// The queries of a script, with what their audits find.
 pub fn rows_of<'a>(
     alloc: Global,
-    chronicle: &'a Chronicle<'_>,
+    recording: &'a Recording<'_>,
     found: &[Found],
 ) -> Result<Rows<'a>, AllocError> {
-    let mut all = queries_of(alloc, chronicle)?;
-    let log = chronicle.history.log();
+    let mut all = queries_of(alloc, recording)?;
+    let log = recording.history.log();
     for place in 0..log.len() {
         if let Some(entry) = log.get(place) {
             all.note(entry);

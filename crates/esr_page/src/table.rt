@@ -6,7 +6,7 @@ use esr_text::{first, push_number};
 use std::alloc::AllocError;
 
 /// So many rows there are at most.
-const MOST_ROWS: usize = 2000;
+const MAX_ROWS: usize = 2000;
 
 const HEADINGS: &str =
     "<h2 id='all'>All queries</h2>\n<div class='wide' tabindex='0' role='group' aria-label='Table'><table>\n<thead><tr><th scope='col' class='num'>Number</th><th scope='col'>Name</th><th scope='col'>Kind</th><th scope='col' class='num'>Limit</th><th scope='col' class='num'>Charged</th><th scope='col' class='num'>Left</th><th scope='col' class='num'>Reads</th><th scope='col'>Ended</th><th scope='col' class='num'>Off by</th></tr></thead>\n<tbody>\n";
@@ -65,13 +65,13 @@ pub fn push_table(out: &mut String, rows: &[Row<'_>]) -> Result<(), AllocError> 
         return Ok(());
     }
     out.push_str(HEADINGS)?;
-    for row in first(rows, MOST_ROWS) {
+    for row in first(rows, MAX_ROWS) {
         push_row(out, row)?;
     }
     out.push_str("</tbody></table></div>\n")?;
-    if rows.len() > MOST_ROWS {
+    if rows.len() > MAX_ROWS {
         out.push_str("<p>These are the first ")?;
-        push_number(out, MOST_ROWS as u64)?;
+        push_number(out, MAX_ROWS as u64)?;
         out.push_str(" of ")?;
         push_number(out, rows.len() as u64)?;
         out.push_str(".</p>\n")?;

@@ -8,7 +8,7 @@
 
 use crate::costs::{Costs, Places, against};
 use esr_cert::{Chain, Problem};
-use esr_svg::MOST_LANES;
+use esr_svg::MAX_LANES;
 use esr_text::first;
 use std::alloc::{AllocError, Global};
 
@@ -189,7 +189,7 @@ fn off_lanes(
     ranking: &[usize],
 ) -> Result<Vec<usize>, AllocError> {
     let mut lanes = Vec::new(alloc);
-    for lane in first(ranking, MOST_LANES) {
+    for lane in first(ranking, MAX_LANES) {
         if let (Some(chain), Some(crossing)) = (chains.get(*lane), crossings.get(*lane)) {
             if crossing.off > 0 {
                 costs.add(chain, places);
@@ -208,7 +208,7 @@ fn push_speaking_against(
     crossings: &[Crossing],
     places: &Places,
 ) -> Result<(), AllocError> {
-    for _ in 0..MOST_LANES {
+    for _ in 0..MAX_LANES {
         let Some(place) = costs.cheaper_place(places) else {
             break;
         };
@@ -225,7 +225,7 @@ fn push_speaking_against(
 
 /// Adds the first of the other lanes, as many as may be drawn.
 fn push_others(lanes: &mut Vec<usize>, ranking: &[usize]) -> Result<(), AllocError> {
-    for lane in first(ranking, MOST_LANES * 3) {
+    for lane in first(ranking, MAX_LANES * 3) {
         if !lanes.contains(lane) {
             lanes.push(*lane)?;
         }
@@ -260,7 +260,7 @@ fn draw_lane(
     needs: Option<Vec<u32>>,
     is_needed: bool,
 ) -> Result<(), AllocError> {
-    if lanes.len() >= MOST_LANES {
+    if lanes.len() >= MAX_LANES {
         return Ok(());
     }
     match needs {

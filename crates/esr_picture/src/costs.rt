@@ -8,7 +8,7 @@
 
 use crate::choice::Crossing;
 use esr_cert::Chain;
-use esr_history::MOST_TRANSACTIONS;
+use esr_history::MAX_TRANSACTIONS;
 use std::alloc::{AllocError, Global};
 
 /// Where each update stands in the order that is drawn.
@@ -27,7 +27,7 @@ impl Places {
         let line = inside.iter().filter(|is_inside| **is_inside).count();
         let mut places = Vec::new(alloc);
         let mut before = 0u32;
-        let mut after = line.min(MOST_TRANSACTIONS) as u32;
+        let mut after = line.min(MAX_TRANSACTIONS) as u32;
         for is_inside in inside {
             let next = if *is_inside { &mut before } else { &mut after };
             places.push(*next)?;

@@ -9,10 +9,10 @@ ghost use Rattle.esr_text.specs.Markup.{Attributes, IsMarkup};
 ghost use Rattle.esr_picture.specs.Picture.{IsSvg, IsWithin, Lacks};
 
 use crate::scene::scene_of;
-use esr_story::{Audited, Part, Story, story_of};
 use esr_svg::{Parts, parts_of};
-use esr_telling::{Asked, Telling};
 use esr_text::{is_attributes, is_markup};
+use esr_trace::{Audited, Part, QueryTrace, trace_of};
+use esr_views::{AuditedQuery, QueryView};
 use std::alloc::{AllocError, Global};
 
 /// Whether a text has a word nowhere.
@@ -67,11 +67,11 @@ fn element(alloc: Global, parts: Parts) -> Result<String, AllocError>
 fn picture_with<'a>(
     alloc: Global,
     audited: &'a Audited<'a>,
-    story: &'a Story,
+    trace: &'a QueryTrace,
 ) -> Result<String, AllocError>
     ensures { IfOk result (λ text. IsSvg (string_bytes text)) }
 {
-    let scene = scene_of(alloc, audited, story)?;
+    let scene = scene_of(alloc, audited, trace)?;
     let parts = parts_of(alloc, &scene)?;
     element(alloc, parts)
 }
@@ -80,8 +80,8 @@ fn picture_with<'a>(
 pub fn picture<'a>(alloc: Global, audited: &'a Audited<'a>) -> Result<String, AllocError>
     ensures { IfOk result (λ text. IsSvg (string_bytes text)) }
 {
-    let story = story_of(alloc, audited.history, audited.finding.query)?;
-    picture_with(alloc, audited, &story)
+    let trace = trace_of(alloc, audited.history, audited.finding.query)?;
+    picture_with(alloc, audited, &trace)
 }
 
 /// The bytes of a picture.
@@ -95,15 +95,19 @@ fn draw<'a>(alloc: Global, audited: &'a Audited<'a>) -> Result<Vec<u8>, AllocErr
 /// A picture of the audit of a query: an SVG, by itself or as a part of a page.
 pub struct Drawing;
 
-impl Telling for Drawing {
+impl QueryView for Drawing {
     ghost IsTextOf = { λ _ _ _ text. IsSvg text };
 
-    fn text_of(&self, alloc: Global, asked: &mut Asked) -> Result<Vec<u8>, AllocError> {
+    fn text_of(
+        &self,
+        alloc: Global,
+        audited_query: &mut AuditedQuery,
+    ) -> Result<Vec<u8>, AllocError> {
         let audited = Audited {
-            items: &asked.items,
-            transactions: &asked.transactions,
-            history: &asked.history,
-            finding: &asked.finding,
+            items: &audited_query.items,
+            transactions: &audited_query.transactions,
+            history: &audited_query.history,
+            finding: &audited_query.finding,
         };
         draw(alloc, &audited)
     }
@@ -116,8 +120,8 @@ impl Part for Drawing {
         out: &mut String,
         audited: &Audited<'_>,
         _: &[u32],
-        story: &Story,
+        trace: &QueryTrace,
     ) -> Result<(), AllocError> {
-        out.push_str(&picture_with(alloc, audited, story)?)
+        out.push_str(&picture_with(alloc, audited, trace)?)
     }
 }

@@ -11,9 +11,9 @@
 mod choice;
 mod costs;
 mod drawing;
+mod observed_reads;
 mod order;
 mod scene;
-mod sights;
 mod values;
 
 pub use drawing::{Drawing, picture};

@@ -4,20 +4,20 @@
 //! scene is made with as many updates as there may be, and where that is too wide once more with as many as fit.
 
 use crate::choice::{Choice, choose};
+use crate::observed_reads::{count_of, reads_of, seen_by_writer, strays_of};
 use crate::order::{Slots, arrows};
-use crate::sights::{count_of, reads_of, seen_by_writer, strays_of};
 use crate::values::{Written, written_by};
 use esr_cert::Chain;
 use esr_items::{ItemId, Metric};
 use esr_report::name_of_transaction;
-use esr_story::{Audited, Story, sentences_of};
 use esr_svg::{
-    Arrow, Lane, MOST_LANES, MOST_UPDATES, Scene, Strays, Stretch, Update, fitting_updates,
+    Arrow, Lane, MAX_LANES, MAX_UPDATES, Scene, Strays, Stretch, Update, fitting_updates,
 };
+use esr_trace::{Audited, QueryTrace, sentences_of};
 use std::alloc::{AllocError, Global};
 
 /// How often a scene that is too wide is made with fewer updates.
-const MOST_TRIES: u32 = 6;
+const MAX_TRIES: u32 = 6;
 
 /// How many lanes that are not drawn are off, and by how much together.
 fn others_off(choice: &Choice) -> (usize, u64) {
@@ -53,21 +53,26 @@ fn values_of(alloc: Global, stretches: &[Stretch]) -> Result<Vec<i64>, AllocErro
 /// The slots of the updates, with the line in that one, and what the updates that are drawn left in the lanes.
 fn lay_out(
     alloc: Global,
-    asked: &Audited<'_>,
+    audited_query: &Audited<'_>,
     choice: &Choice,
     drawn: &[u32],
     line: u8,
 ) -> Result<(Slots, Written), AllocError> {
-    let slots = Slots::new(alloc, asked.finding.problem.updates().len(), choice, line)?;
-    let written = written_by(alloc, asked, choice, drawn, &slots)?;
+    let slots = Slots::new(
+        alloc,
+        audited_query.finding.problem.updates().len(),
+        choice,
+        line,
+    )?;
+    let written = written_by(alloc, audited_query, choice, drawn, &slots)?;
     Ok((slots, written))
 }
 
 /// What a scene is made from.
 #[derive(Drop)]
 struct SceneParts<'a> {
-    asked: &'a Audited<'a>,
-    story: &'a Story,
+    audited_query: &'a Audited<'a>,
+    trace: &'a QueryTrace,
     choice: Choice,
     /// The updates that are drawn, by their positions, in the order of their slots.
     drawn: Vec<u32>,
@@ -80,18 +85,18 @@ struct SceneParts<'a> {
 impl<'a> SceneParts<'a> {
     fn new(
         alloc: Global,
-        asked: &'a Audited<'a>,
-        story: &'a Story,
+        audited_query: &'a Audited<'a>,
+        trace: &'a QueryTrace,
         most: usize,
     ) -> Result<SceneParts<'a>, AllocError> {
-        let finding = asked.finding;
+        let finding = audited_query.finding;
         let choice = choose(alloc, &finding.problem, &finding.certificate.set, most)?;
         let drawn = drawn_in_order(alloc, &choice)?;
-        let line = choice.before.len().min(MOST_UPDATES) as u8 + 1;
-        let (slots, written) = lay_out(alloc, asked, &choice, &drawn, line)?;
+        let line = choice.before.len().min(MAX_UPDATES) as u8 + 1;
+        let (slots, written) = lay_out(alloc, audited_query, &choice, &drawn, line)?;
         Ok(SceneParts {
-            asked,
-            story,
+            audited_query,
+            trace,
             choice,
             drawn,
             line,
@@ -102,8 +107,8 @@ impl<'a> SceneParts<'a> {
 
     /// The value with which an item opened.
     fn opening(&self, item: ItemId) -> i64 {
-        if item.0 < self.asked.history.items() {
-            self.asked.history.opening(item)
+        if item.0 < self.audited_query.history.items() {
+            self.audited_query.history.opening(item)
         } else {
             0
         }
@@ -115,14 +120,19 @@ impl<'a> SceneParts<'a> {
             from,
             value,
             versions: 1,
-            reads: count_of(self.story, item, value),
+            reads: count_of(self.trace, item, value),
             seen,
         }
     }
 
     /// How often the version of an update was read, by its position.
     fn read_count(&self, by_writer: &[u64], writer: u32) -> u64 {
-        let txn = self.asked.finding.problem.updates().get(writer as usize);
+        let txn = self
+            .audited_query
+            .finding
+            .problem
+            .updates()
+            .get(writer as usize);
         let number = txn.map_or(usize::MAX, |txn| txn.0 as usize);
         by_writer.get(number).copied().unwrap_or(0)
     }
@@ -134,8 +144,8 @@ impl<'a> SceneParts<'a> {
         chain: &Chain,
         lane: usize,
     ) -> Result<Vec<Stretch>, AllocError> {
-        let begun = self.asked.history.begun_count();
-        let by_writer = seen_by_writer(alloc, self.story, chain.item, begun)?;
+        let begun = self.audited_query.history.begun_count();
+        let by_writer = seen_by_writer(alloc, self.trace, chain.item, begun)?;
         let at_start = by_writer.first().copied().unwrap_or(0);
         let mut stretches = Vec::new(alloc);
         let mut last = self.version(chain.item, 0, self.opening(chain.item), at_start);
@@ -166,12 +176,16 @@ impl<'a> SceneParts<'a> {
         chain: &Chain,
         off: u64,
     ) -> Result<Lane<'a>, AllocError> {
-        let read = reads_of(alloc, self.story, chain.item)?;
+        let read = reads_of(alloc, self.trace, chain.item)?;
         let stretches = self.stretches(alloc, chain, lane)?;
         let strays = self.strays(alloc, chain.item, &stretches)?;
         Ok(Lane {
-            name: self.asked.items.name_of(chain.item.0).unwrap_or(""),
-            weight: self.asked.history.metric().distance(chain.item, 0, 1),
+            name: self.audited_query.items.name_of(chain.item.0).unwrap_or(""),
+            weight: self
+                .audited_query
+                .history
+                .metric()
+                .distance(chain.item, 0, 1),
             read,
             off,
             stretches,
@@ -187,7 +201,7 @@ impl<'a> SceneParts<'a> {
         stretches: &[Stretch],
     ) -> Result<Strays<'a>, AllocError> {
         let values = values_of(alloc, stretches)?;
-        Ok(strays_of(self.asked, self.story, item, &values))
+        Ok(strays_of(self.audited_query, self.trace, item, &values))
     }
 
     /// Adds the lane of that number, which is of the chain at a position.
@@ -198,7 +212,7 @@ impl<'a> SceneParts<'a> {
         lane: usize,
         at: usize,
     ) -> Result<(), AllocError> {
-        let chain = self.asked.finding.problem.chains().get(at);
+        let chain = self.audited_query.finding.problem.chains().get(at);
         let (Some(chain), Some(crossing)) = (chain, self.choice.crossings.get(at)) else {
             return Ok(());
         };
@@ -220,7 +234,7 @@ impl<'a> SceneParts<'a> {
     /// How many lanes there are down to the last one in which the update of a slot wrote.
     fn reach(&self, slot: u8) -> u8 {
         let mut reach = 0;
-        for lane in 0..MOST_LANES as u8 {
+        for lane in 0..MAX_LANES as u8 {
             if self.written.value(lane as usize, slot).is_some() {
                 reach = lane + 1;
             }
@@ -230,13 +244,13 @@ impl<'a> SceneParts<'a> {
 
     /// The updates that are drawn, in the order of their slots.
     fn updates(&self, alloc: Global) -> Result<Vec<Update<'a>>, AllocError> {
-        let problem = &self.asked.finding.problem;
+        let problem = &self.audited_query.finding.problem;
         let mut updates = Vec::new(alloc);
         for update in &self.drawn {
             if let Some(txn) = problem.updates().get(*update as usize) {
                 let slot = self.slots.of(*update);
                 updates.push(Update {
-                    name: name_of_transaction(self.asked.transactions, *txn),
+                    name: name_of_transaction(self.audited_query.transactions, *txn),
                     slot,
                     reach: self.reach(slot),
                     must: problem.must().contains(update),
@@ -248,9 +262,9 @@ impl<'a> SceneParts<'a> {
 
     /// The arrows, and what is said above the lanes.
     fn arrows_and_words(&self, alloc: Global) -> Result<(Vec<Arrow>, Vec<String>), AllocError> {
-        let problem = &self.asked.finding.problem;
+        let problem = &self.audited_query.finding.problem;
         let arrows = arrows(alloc, problem, &self.drawn, &self.slots)?;
-        let sentences = sentences_of(alloc, self.asked, self.story)?;
+        let sentences = sentences_of(alloc, self.audited_query, self.trace)?;
         Ok((arrows, sentences))
     }
 
@@ -270,15 +284,15 @@ impl<'a> SceneParts<'a> {
         arrows: Vec<Arrow>,
         lanes: Vec<Lane<'a>>,
     ) -> Scene<'a> {
-        let finding = self.asked.finding;
+        let finding = self.audited_query.finding;
         let (others_off, others_sum) = others_off(&self.choice);
         Scene {
-            query: name_of_transaction(self.asked.transactions, finding.query),
+            query: name_of_transaction(self.audited_query.transactions, finding.query),
             distance: finding.distance,
             import: finding.import,
             sentences,
             arrows,
-            other_updates: self.story.committed.saturating_sub(updates.len() as u64),
+            other_updates: self.trace.committed.saturating_sub(updates.len() as u64),
             other_items: self.choice.crossings.len().saturating_sub(lanes.len()),
             others_off,
             others_sum,
@@ -293,28 +307,28 @@ impl<'a> SceneParts<'a> {
 /// The scene with at most so many updates.
 fn scene_with<'a>(
     alloc: Global,
-    asked: &'a Audited<'a>,
-    story: &'a Story,
+    audited_query: &'a Audited<'a>,
+    trace: &'a QueryTrace,
     most: usize,
 ) -> Result<Scene<'a>, AllocError> {
-    SceneParts::new(alloc, asked, story, most)?.scene(alloc)
+    SceneParts::new(alloc, audited_query, trace, most)?.scene(alloc)
 }
 
 /// What is drawn of what a script tells of a query.
 pub fn scene_of<'a>(
     alloc: Global,
-    asked: &'a Audited<'a>,
-    story: &'a Story,
+    audited_query: &'a Audited<'a>,
+    trace: &'a QueryTrace,
 ) -> Result<Scene<'a>, AllocError> {
-    let mut most = MOST_UPDATES;
-    let mut scene = scene_with(alloc, asked, story, most)?;
-    for _ in 0..MOST_TRIES {
+    let mut most = MAX_UPDATES;
+    let mut scene = scene_with(alloc, audited_query, trace, most)?;
+    for _ in 0..MAX_TRIES {
         let fitting = fitting_updates(&scene);
         if scene.updates.len() <= fitting {
             break;
         }
         most = fitting.min(most.saturating_sub(1));
-        scene = scene_with(alloc, asked, story, most)?;
+        scene = scene_with(alloc, audited_query, trace, most)?;
     }
     Ok(scene)
 }

@@ -3,7 +3,7 @@
 use crate::choice::Choice;
 use crate::order::Slots;
 use esr_order::accesses_of;
-use esr_story::Audited;
+use esr_trace::Audited;
 use std::alloc::{AllocError, Global};
 
 /// The most slots: one for each update that is drawn, one for the line, and the one before them.
@@ -23,10 +23,14 @@ fn cell(lane: usize, slot: u8) -> usize {
 
 impl Written {
     /// Nothing yet, with the lane of each item.
-    fn new(alloc: Global, asked: &Audited<'_>, choice: &Choice) -> Result<Written, AllocError> {
-        let mut lane_of_item = vec![in alloc; None; asked.history.items() as usize]?;
+    fn new(
+        alloc: Global,
+        audited_query: &Audited<'_>,
+        choice: &Choice,
+    ) -> Result<Written, AllocError> {
+        let mut lane_of_item = vec![in alloc; None; audited_query.history.items() as usize]?;
         for (lane, chain) in choice.lanes.iter().enumerate() {
-            if let Some(chain) = asked.finding.problem.chains().get(*chain) {
+            if let Some(chain) = audited_query.finding.problem.chains().get(*chain) {
                 if let Some(place) = lane_of_item.get_mut(chain.item.0 as usize) {
                     *place = Some(lane);
                 }
@@ -42,14 +46,14 @@ impl Written {
     fn note(
         &mut self,
         alloc: Global,
-        asked: &Audited<'_>,
+        audited_query: &Audited<'_>,
         update: u32,
         slot: u8,
     ) -> Result<(), AllocError> {
-        let Some(txn) = asked.finding.problem.updates().get(update as usize) else {
+        let Some(txn) = audited_query.finding.problem.updates().get(update as usize) else {
             return Ok(());
         };
-        for access in &accesses_of(alloc, asked.history, *txn)? {
+        for access in &accesses_of(alloc, audited_query.history, *txn)? {
             let lane = self
                 .lane_of_item
                 .get(access.item.0 as usize)
@@ -73,14 +77,14 @@ impl Written {
 /// What the updates that are drawn wrote in the lanes.
 pub fn written_by(
     alloc: Global,
-    asked: &Audited<'_>,
+    audited_query: &Audited<'_>,
     choice: &Choice,
     drawn: &[u32],
     slots: &Slots,
 ) -> Result<Written, AllocError> {
-    let mut written = Written::new(alloc, asked, choice)?;
+    let mut written = Written::new(alloc, audited_query, choice)?;
     for update in drawn {
-        written.note(alloc, asked, *update, slots.of(*update))?;
+        written.note(alloc, audited_query, *update, slots.of(*update))?;
     }
     Ok(written)
 }

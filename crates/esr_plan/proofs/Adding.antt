@@ -7,14 +7,14 @@ use Rattle.std.proofs.lemmas.List.Elements.{filter_map-append, All-push}
 use Rattle.esr_items.specs.Values.{IsValue, is_value}
 use Rattle.esr_items.specs.Weights.{IsWeight, is_weight}
 use Rattle.esr_report.specs.Names.{position_of, is_bound}
-use Rattle.esr_line.specs.Command.{Command}
+use Rattle.esr_grammar.specs.Command.{Command}
 use Rattle.esr_plan.specs.declared.call.Kind.{Kind}
 use Rattle.esr_plan.specs.declared.call.Kind.TheVariants as kind
 use Rattle.esr_plan.specs.declared.draft.Draft.{Draft}
 use Rattle.esr_plan.specs.Calls.{begin_command, command_of, IsResolved, AreResolved, Call}
 use Rattle.esr_plan.specs.Plan.{Plan, new_name, new_names, onto_last, weight_in, weights_of, with_session, with_item, with_operation, with_begin}
 use Rattle.esr_plan.specs.Drafts.{commands_in, current_calls, blocks_with, blocks_of, plan_in, ArePlaces, IsSound}
-use Rattle.esr_plan.specs.Sheets as sheets
+use Rattle.esr_plan.specs.DrivePlans as plans
 use Rattle.esr_plan.proofs.Placing.{places_kept, places_more, places_opened, resolved_none, resolved_more}
 
 onto-current : (done : List (List Command)) (cur : List Command) (c : Command) → onto_last c (done ++ cur ∷ []) ≡ done ++ (cur ++ c ∷ []) ∷ []
@@ -233,11 +233,11 @@ item_added d names values weights name value weight sound is free ranged few wei
     not_all n lt = grind (arith, nat_tests)
 
 -- the sheet of a draft
-pub sheet_made : (d : Draft) (blocks : Vec (Vec Call Global) Global) → IsSound d
+pub plan_made : (d : Draft) (blocks : Vec (Vec Call Global) Global) → IsSound d
     → (blocks_of d ≡ map (λ b. commands_in b.items) blocks.items) × All (λ b. AreResolved d.names b.items) blocks.items
-    → (sheets.plan_in (record { names = d.names; values = d.values; weights = d.weights; blocks = blocks }) ≡ plan_in d)
-    × sheets.IsSound (record { names = d.names; values = d.values; weights = d.weights; blocks = blocks })
-sheet_made d blocks sound is = (
+    → (plans.plan_in (record { names = d.names; values = d.values; weights = d.weights; blocks = blocks }) ≡ plan_in d)
+    × plans.IsSound (record { names = d.names; values = d.values; weights = d.weights; blocks = blocks })
+plan_made d blocks sound is = (
   ap (λ b. plan d.names d.values.items d.weights.items b) (sym is.0),
   record {
     values = sound.values;

@@ -11,9 +11,9 @@ use Rattle.esr_plan.specs.Readings.{IsLineFault, IsReadFault}
 use Rattle.esr_plan.specs.declared.fault.DriveFault.TheVariants as fault
 use Rattle.std.specs.List.{position, position_or_len}
 use Rattle.esr_history.proofs.Ascending.{le_ltb, lt_ltb}
-use Rattle.esr_line.specs.Lines.{lines, line_len}
-use Rattle.esr_line.proofs.Cutting.{Begins, begins, front, behind_front, split-front, plain-front, lines-line, lines-last}
-use Rattle.esr_line.proofs.Prefix.{none_is_length}
+use Rattle.esr_grammar.specs.Lines.{lines, line_len}
+use Rattle.esr_grammar.proofs.Cutting.{Begins, begins, front, behind_front, split-front, plain-front, lines-line, lines-last}
+use Rattle.esr_grammar.proofs.Prefix.{none_is_length}
 
 pub position_within : {X : Type 0} (p : X → Bool) (xs : List X) (place : ℕ) → position p xs ≡ Some place → place < length xs
 position_within p xs place e =

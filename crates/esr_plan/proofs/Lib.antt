@@ -4,5 +4,5 @@ pub mod Cuts
 pub mod Placing
 pub mod Adding
 pub mod Noting
-pub mod Told
+pub mod Rendered
 pub mod Rows

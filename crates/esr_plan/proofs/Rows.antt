@@ -1,7 +1,7 @@
 -- Drive files with what they ask for.
 use Rattle.std.proofs.Common.{◌≡◌, refl, List, [], ◌∷◌, Result, Ok, Err, Some, None, codes, pos, negsuc}
 use Rattle.std.specs.Fmt.{digits}
-use Rattle.esr_line.specs.Command.{Command, begin_update, begin_query, read, write, commit}
+use Rattle.esr_grammar.specs.Command.{Command, begin_update, begin_query, read, write, commit}
 use Rattle.esr_plan.specs.Plan.{Plan, plan_of, DriveFault, BadScript}
 
 -- the plan of one item with these blocks

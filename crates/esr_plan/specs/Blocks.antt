@@ -1,6 +1,6 @@
 -- What sessions do with the commands of their blocks.
 use Rattle.std.specs.Prelude.{◌≡◌, ℕ, ◌≤◌, List, [], ◌∷◌, ◌++◌, Bool, true, false, Option, Some, None, All, length, map, slice_get, unwrap_or, position, option_and_then, bytes_eq}
-use Rattle.esr_base.specs.declared.limits.TheConstants.{MOST_ITEMS}
+use Rattle.esr_base.specs.declared.limits.TheConstants.{MAX_ITEMS}
 use Rattle.esr_base.specs.declared.numbers.ItemId.{ItemId}
 use Rattle.esr_base.specs.declared.numbers.TxnId.{TxnId}
 use Rattle.esr_history.specs.declared.event.Event.{Event}
@@ -8,7 +8,7 @@ use Rattle.esr_history.specs.declared.event.Event.TheVariants as event
 use Rattle.esr_history.specs.declared.event.Reply.{Reply}
 use Rattle.esr_history.specs.declared.event.Reply.TheVariants.{Begun}
 use Rattle.esr_report.specs.Names.{position_of}
-use Rattle.esr_line.specs.Command.{Command, begin_update, begin_query, begin_strict_query, read, write, commit, abort}
+use Rattle.esr_grammar.specs.Command.{Command, begin_update, begin_query, begin_strict_query, read, write, commit, abort}
 use Rattle.esr_session.specs.declared.receipt.Receipt.{Receipt}
 use Rattle.esr_session.specs.Receipts.{is_blocked}
 use Rattle.esr_plan.specs.Plan.{new_name}
@@ -38,7 +38,7 @@ transaction_called earlier name = record { 0 = unwrap_or (number_got earlier nam
 
 -- items are numbered from 0; a name that is not declared stands for a number that no item has
 abbrev pub item_called : List (List ℕ) → List ℕ → ItemId
-item_called names name = record { 0 = unwrap_or (position_of names name) MOST_ITEMS }
+item_called names name = record { 0 = unwrap_or (position_of names name) MAX_ITEMS }
 
 -- the event of a command of a block, by the names of the items and the lines of the block before it
 abbrev pub event_of : List (List ℕ) → List Answered → Command → Option Event

@@ -1,14 +1,14 @@
 -- A plan that is being made, as contracts see it.
 use Rattle.std.specs.Prelude.{◌≡◌, ◌≤◌, ℕ, List, [], ◌∷◌, ◌++◌, All, Option, Some, None, Result, Err, map, length, nat_lt, slice_get, if◌then◌else◌, option_map}
-use Rattle.esr_base.specs.declared.limits.TheConstants.{MOST_ITEMS}
+use Rattle.esr_base.specs.declared.limits.TheConstants.{MAX_ITEMS}
 use Rattle.esr_items.specs.Values.{IsValue}
 use Rattle.esr_items.specs.Weights.{IsWeight}
 use Rattle.esr_report.specs.Names.{position_of}
-use Rattle.esr_line.specs.Command.{Command}
+use Rattle.esr_grammar.specs.Command.{Command}
 use Rattle.esr_plan.specs.declared.draft.TheConstants.{MAX_BLOCKS}
 use Rattle.esr_plan.specs.declared.draft.Draft.{Draft}
-use Rattle.esr_plan.specs.declared.draft.Wrong.{Wrong}
-use Rattle.esr_plan.specs.declared.draft.Wrong.TheVariants as wrong
+use Rattle.esr_plan.specs.declared.draft.PlanError.{PlanError}
+use Rattle.esr_plan.specs.declared.draft.PlanError.TheVariants as wrong
 use Rattle.esr_plan.specs.Calls.{command_of, place_of, AreResolved, Call}
 use Rattle.esr_plan.specs.Plan.{Plan, new_names, weights_of}
 
@@ -55,7 +55,7 @@ pub record IsSound (d : Draft) : Type 0 where
   pub in_range : All IsValue d.values.items
   pub weighed : All IsWeight (weights_of d.weights.items)
   pub opened : IsOpened d
-  pub items : length d.names ≤ MOST_ITEMS
+  pub items : length d.names ≤ MAX_ITEMS
   pub blocks : length (blocks_of d) ≤ MAX_BLOCKS
   pub every : length d.places.items ≡ length d.begun
   pub earlier : d.earlier ≤ length d.begun
@@ -64,6 +64,6 @@ pub record IsSound (d : Draft) : Type 0 where
   pub done_resolved : All (λ b. AreResolved d.names b.items) d.done.items
 
 -- what is wrong with a line, if it is the line
-abbrev pub IsWrong : Result Plan ℕ → Wrong → Type 0
-IsWrong planned (wrong.Line error) = planned ≡ Err error
-IsWrong planned wrong.NoMemory = Unit {0}
+abbrev pub IsPlanError : Result Plan ℕ → PlanError → Type 0
+IsPlanError planned (wrong.Line error) = planned ≡ Err error
+IsPlanError planned wrong.NoMemory = Unit {0}

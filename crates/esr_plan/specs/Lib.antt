@@ -1,4 +1,4 @@
--- What a drive file asks for, and the text of what came of it, by its plan and its history. `Drafts`, `Sheets`,
+-- What a drive file asks for, and the text of what came of it, by its plan and its history. `Drafts`, `DrivePlans`,
 -- `Tables` and `Readings` are what contracts see of the values on the way.
 
 pub mod Plan
@@ -6,6 +6,6 @@ pub mod Blocks
 pub mod Text
 pub mod Calls
 pub mod Drafts
-pub mod Sheets
+pub mod DrivePlans
 pub mod Tables
 pub mod Readings

@@ -1,12 +1,12 @@
 -- What a drive file asks for, or the fault of the line at fault.
 use Rattle.std.specs.Prelude.{ℕ, ◌+◌, ◌==◌, ℤ, List, [], ◌∷◌, ◌++◌, not, nat_lt, nat_eq, Option, Some, None, Result, Ok, Err, length, map, codes, unwrap_or, if◌then◌else◌, filter_map, flat_map, bytes_eq}
-use Rattle.esr_base.specs.declared.limits.TheConstants.{MOST_ITEMS}
+use Rattle.esr_base.specs.declared.limits.TheConstants.{MAX_ITEMS}
 use Rattle.esr_items.specs.Values.{is_value}
 use Rattle.esr_items.specs.Weights.{is_weight}
 use Rattle.esr_report.specs.Names.{is_bound}
-use Rattle.esr_line.specs.Lines.{lines}
-use Rattle.esr_line.specs.Command.{Command, item, weighted_item, begin_update, begin_query, begin_strict_query, read, write, commit, abort, is_skipped, reading}
-use Rattle.esr_line.specs.declared.limits.TheConstants.{MAX_LINES, MAX_LINE_BYTES}
+use Rattle.esr_grammar.specs.Lines.{lines}
+use Rattle.esr_grammar.specs.Command.{Command, item, weighted_item, begin_update, begin_query, begin_strict_query, read, write, commit, abort, is_skipped, reading}
+use Rattle.esr_grammar.specs.declared.limits.TheConstants.{MAX_LINES, MAX_LINE_BYTES}
 use Rattle.esr_plan.specs.declared.draft.TheConstants.{MAX_BLOCKS}
 pub use Rattle.esr_plan.specs.declared.fault.DriveFault.{DriveFault}
 pub use Rattle.esr_plan.specs.declared.fault.DriveFault.TheVariants.{LineTooLong, TooManyLines, BadScript}
@@ -58,7 +58,7 @@ with_item p name value weight =
     if not (length p.blocks == 0) then Err 2
     else if is_bound p.names name then Err 3
     else if not (is_value value) then Err 4
-    else if length p.names == MOST_ITEMS then Err 5
+    else if length p.names == MAX_ITEMS then Err 5
     else if not (is_weight (weight_in weight)) then Err 8
     else Ok (record p {
       names = p.names ++ name ∷ [];

@@ -1,7 +1,7 @@
 -- A file that is being read, line by line.
 use Rattle.std.specs.Prelude.{◌≡◌, ℕ, ◌<◌, ◌≤◌, List, ◌++◌, Option, Err, IfSome, length, drop}
-use Rattle.esr_line.specs.declared.limits.TheConstants.{MAX_LINES, MAX_LINE_BYTES}
-use Rattle.esr_line.specs.Lines.{lines}
+use Rattle.esr_grammar.specs.declared.limits.TheConstants.{MAX_LINES, MAX_LINE_BYTES}
+use Rattle.esr_grammar.specs.Lines.{lines}
 use Rattle.esr_plan.specs.Plan.{cut_fault, plan_of, DriveFault}
 use Rattle.esr_plan.specs.declared.reader.Mark.{Mark}
 use Rattle.esr_plan.specs.declared.fault.DriveFault.TheVariants as fault

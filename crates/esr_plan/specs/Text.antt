@@ -3,12 +3,12 @@ use Rattle.std.specs.Prelude.{ℕ, ◌+◌, ℤ, pos, List, [], ◌∷◌, ◌++
 use Rattle.std.specs.Option.{option_and_then, option_map_or}
 use Rattle.esr_items.specs.Weights.{weighted}
 use Rattle.esr_history.specs.Events.{numbers}
-use Rattle.esr_history.specs.Machine.{Schedule, done}
+use Rattle.esr_history.specs.Machine.{Schedule, accepted_in}
 use Rattle.esr_history.specs.Totals.{all_imports, all_exports}
 use Rattle.esr_audit.specs.Findings.{summary_of, committed_queries}
 use Rattle.esr_report.specs.Names.{name_of_transaction}
 use Rattle.esr_report.specs.Lines.{Named, item_line, weighted_item_line, session_line, reply_line, audit_line, totals_line}
-use Rattle.esr_line.specs.Command.{Command, begin_update, begin_query, begin_strict_query, read, write, commit, abort}
+use Rattle.esr_grammar.specs.Command.{Command, begin_update, begin_query, begin_strict_query, read, write, commit, abort}
 use Rattle.esr_plan.specs.Plan.{Plan, new_name}
 use Rattle.esr_plan.specs.Blocks.{Answered, number_in}
 
@@ -22,7 +22,7 @@ name_begun answers number = unwrap_or (option_and_then (λ a. new_name a.command
 
 -- the names of the transactions, in the order of their numbers
 abbrev pub names_of : Schedule → List (List Answered) → List (List ℕ)
-names_of h blocks = map (name_begun (flat_map (λ b. b) blocks)) (numbers (done h))
+names_of h blocks = map (name_begun (flat_map (λ b. b) blocks)) (numbers (accepted_in h))
 
 -- what a command of a block names
 abbrev pub subject_of : Command → Named
@@ -61,12 +61,12 @@ blocks_text names k [] = []
 blocks_text names k (b ∷ blocks) = block_text names k b ++ blocks_text names (k + 1) blocks
 
 -- the line of what is told of a query: the query, its distance, its import, and the updates before its position
-abbrev pub told_text : List (List ℕ) → ℕ × ℕ × ℕ × List ℕ → List ℕ
-told_text names t = audit_line names (name_of_transaction names t.0) t.1 t.2 t.3
+abbrev pub finding_text : List (List ℕ) → ℕ × ℕ × ℕ × List ℕ → List ℕ
+finding_text names t = audit_line names (name_of_transaction names t.0) t.1 t.2 t.3
 
 -- what the audit finds of the committed queries: of each its least distance, its import, and the smallest least set
 abbrev pub findings_text : Schedule → List (List ℕ) → List ℕ
-findings_text h names = flat_map (told_text names) (map (summary_of weighted h) (committed_queries h))
+findings_text h names = flat_map (finding_text names) (map (summary_of weighted h) (committed_queries h))
 
 abbrev pub text_of : Plan → Schedule → List (List Answered) → List ℕ
 text_of p h blocks =

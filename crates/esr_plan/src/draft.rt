@@ -9,27 +9,27 @@
 //! What is kept beside the plan agrees with it (`IsSound`). That is no invariant of the type, since an error may leave a
 //! draft half changed; it is then let go of.
 
-ghost use Rattle.esr_line.specs.declared.limits.TheConstants.{MAX_LINES};
+ghost use Rattle.esr_grammar.specs.declared.limits.TheConstants.{MAX_LINES};
 ghost use Rattle.std.specs.Prelude.{◌≡◌, ◌+◌, ◌-◌, ◌<◌, ◌≤◌, ◌⊎◌, ◌^◌, true, false, Ok, Err, Some, None, OnOk, IfOk, IfErr, IfSome, length, slice_get, option_copied};
 ghost use Rattle.esr_items.specs.Weights.{is_weight};
-ghost use Rattle.esr_line.specs.Lines.{lines};
-ghost use Rattle.esr_line.specs.Command.{view};
+ghost use Rattle.esr_grammar.specs.Lines.{lines};
+ghost use Rattle.esr_grammar.specs.Command.{view};
 ghost use Rattle.esr_plan.specs.Plan.{with_session, with_item, with_operation, with_begin, with_command, with_line, plan_from, nothing, new_name, weight_in};
 ghost use Rattle.esr_plan.specs.Calls.{begin_command, command_of, place_of, IsCaller, IsOperand, IsResolved};
 ghost use Rattle.esr_plan.specs.Blocks.{item_called};
-ghost use Rattle.esr_plan.specs.Drafts.{plan_in, current_calls, IsSound, IsWrong};
+ghost use Rattle.esr_plan.specs.Drafts.{plan_in, current_calls, IsSound, IsPlanError};
 
 use crate::call::{Call, Caller, Kind, Operand};
 use crate::fault::DriveFault;
 use crate::reader::first_line;
-use esr_items::{ItemId, LARGEST_VALUE, LARGEST_WEIGHT, MOST_ITEMS};
-use esr_line::{Line, Parsed, parse_line};
+use esr_grammar::{Line, Parsed, parse_line};
+use esr_items::{ItemId, MAX_ITEMS, MAX_VALUE, MAX_WEIGHT};
 use esr_report::Names;
-use esr_session::MOST_SESSIONS;
+use esr_session::MAX_SESSIONS;
 use std::alloc::Global;
 
 /// The most blocks of a file: each has a session of its own.
-pub const MAX_BLOCKS: usize = MOST_SESSIONS;
+pub const MAX_BLOCKS: usize = MAX_SESSIONS;
 
 /// A plan that is being made: the items, the blocks that are done, and the one that is open, with
 /// the names of the transactions that begin in them.
@@ -50,20 +50,20 @@ pub struct Draft<'a> {
 
 /// Why a line does not go into the plan.
 #[derive(Clone, Copy)]
-pub enum Wrong {
+pub enum PlanError {
     /// What is wrong with the line.
     Line(u32),
     NoMemory,
 }
 
 /// The weight that an item is given, if it may have it.
-fn weight_of(given: Option<u64>) -> Result<Option<u32>, Wrong>
+fn weight_of(given: Option<u64>) -> Result<Option<u32>, PlanError>
     ensures ok { IfOk result (λ weight. (weight ≡ given) × (is_weight (weight_in given) ≡ true)) }
-    ensures err { IfErr result (λ e. (e ≡ Wrong.Line 8) × (is_weight (weight_in given) ≡ false)) }
+    ensures err { IfErr result (λ e. (e ≡ PlanError.Line 8) × (is_weight (weight_in given) ≡ false)) }
 {
     match given {
         None => Ok(None),
-        Some(weight) if weight == 0 || weight > u64::from(LARGEST_WEIGHT) => Err(Wrong::Line(8)),
+        Some(weight) if weight == 0 || weight > u64::from(MAX_WEIGHT) => Err(PlanError::Line(8)),
         Some(weight) => Ok(Some(weight as u32)),
     }
 }
@@ -86,50 +86,50 @@ impl<'a> Draft<'a> {
     }
 
     /// Declares an item, with a weight where one is given.
-    fn add_item(&mut self, name: &str, value: i64, weight: Option<u64>) -> Result<(), Wrong>
+    fn add_item(&mut self, name: &str, value: i64, weight: Option<u64>) -> Result<(), PlanError>
         requires { IsSound self.old }
         ensures ok { OnOk result (IsSound self.new × (with_item (plan_in self.old) name.now value weight
             ≡ Ok (plan_in self.new))) }
-        ensures err { IfErr result (IsWrong (with_item (plan_in self.old) name.now value weight)) }
+        ensures err { IfErr result (IsPlanError (with_item (plan_in self.old) name.now value weight)) }
         ensures begun { self.new.begun ≡ self.old.begun }
     {
         if self.current.is_some() {
-            return Err(Wrong::Line(2));
+            return Err(PlanError::Line(2));
         }
         if self.names.number_of(name).is_some() {
-            return Err(Wrong::Line(3));
+            return Err(PlanError::Line(3));
         }
-        if value.unsigned_abs() > LARGEST_VALUE {
-            return Err(Wrong::Line(4));
+        if value.unsigned_abs() > MAX_VALUE {
+            return Err(PlanError::Line(4));
         }
-        if self.names.len() >= MOST_ITEMS {
-            return Err(Wrong::Line(5));
+        if self.names.len() >= MAX_ITEMS {
+            return Err(PlanError::Line(5));
         }
         let weight = weight_of(weight)?;
         if self.names.bind(name).is_err()
             || self.values.push(value).is_err()
             || self.weights.push(weight).is_err()
         {
-            return Err(Wrong::NoMemory);
+            return Err(PlanError::NoMemory);
         }
         Ok(())
     }
 
     /// Begins a block.
-    fn add_session(&mut self, alloc: Global) -> Result<(), Wrong>
+    fn add_session(&mut self, alloc: Global) -> Result<(), PlanError>
         requires { IsSound self.old }
         ensures ok { OnOk result (IsSound self.new × (with_session (plan_in self.old) ≡ Ok (plan_in self.new))) }
-        ensures err { IfErr result (IsWrong (with_session (plan_in self.old))) }
+        ensures err { IfErr result (IsPlanError (with_session (plan_in self.old))) }
         ensures begun { self.new.begun ≡ self.old.begun }
     {
         match self.current.take() {
             None => {}
             Some(block) => {
                 if self.done.len() + 1 >= MAX_BLOCKS {
-                    return Err(Wrong::Line(7));
+                    return Err(PlanError::Line(7));
                 }
                 if self.done.push(block).is_err() {
-                    return Err(Wrong::NoMemory);
+                    return Err(PlanError::NoMemory);
                 }
             }
         }
@@ -209,63 +209,63 @@ impl<'a> Draft<'a> {
     {
         match self.names.number_of(name) {
             Some(position) => ItemId(position),
-            None => ItemId(MOST_ITEMS as u32),
+            None => ItemId(MAX_ITEMS as u32),
         }
     }
 
     /// Adds a call that begins no transaction.
-    fn add_operation(&mut self, call: Call<'a>) -> Result<(), Wrong>
+    fn add_operation(&mut self, call: Call<'a>) -> Result<(), PlanError>
         requires sound { IsSound self.old }
         requires plain { new_name (command_of call) ≡ None }
         requires resolved { IsResolved self.old.names (current_calls self.old) call }
         ensures ok { OnOk result (IsSound self.new × (with_operation (plan_in self.old) (command_of call.entry)
             ≡ Ok (plan_in self.new))) }
-        ensures err { IfErr result (IsWrong (with_operation (plan_in self.old) (command_of call.entry))) }
+        ensures err { IfErr result (IsPlanError (with_operation (plan_in self.old) (command_of call.entry))) }
         ensures begun { self.new.begun ≡ self.old.begun }
     {
         let Some(block) = &mut self.current else {
-            return Err(Wrong::Line(1));
+            return Err(PlanError::Line(1));
         };
         if block.push(call).is_err() {
-            return Err(Wrong::NoMemory);
+            return Err(PlanError::NoMemory);
         }
         Ok(())
     }
 
     /// Adds the call that begins a transaction.
-    fn add_begin(&mut self, name: &'a str, kind: Kind, limit: u64) -> Result<(), Wrong>
+    fn add_begin(&mut self, name: &'a str, kind: Kind, limit: u64) -> Result<(), PlanError>
         requires sound { IsSound self.old }
         requires room { length self.old.begun < 2 ^ 32 }
         ensures ok { OnOk result (IsSound self.new
             × (with_begin (plan_in self.old) name.entry.now (begin_command kind name.entry.now limit)
             ≡ Ok (plan_in self.new))) }
         ensures err { IfErr result
-            (IsWrong (with_begin (plan_in self.old) name.entry.now (begin_command kind name.entry.now limit))) }
+            (IsPlanError (with_begin (plan_in self.old) name.entry.now (begin_command kind name.entry.now limit))) }
         ensures begun { OnOk result (length self.new.begun ≤ length self.old.begun + 1) }
     {
         let Some(block) = &mut self.current else {
-            return Err(Wrong::Line(1));
+            return Err(PlanError::Line(1));
         };
         if self.begun.number_of(name).is_some() {
-            return Err(Wrong::Line(3));
+            return Err(PlanError::Line(3));
         }
         let place = block.len();
         if block.push(Call::Begin { name, kind, limit }).is_err()
             || self.begun.bind(name).is_err()
             || self.places.push(place).is_err()
         {
-            return Err(Wrong::NoMemory);
+            return Err(PlanError::NoMemory);
         }
         Ok(())
     }
 
     /// Adds what a line of a script spells.
-    fn add_command(&mut self, line: Line<'a>) -> Result<(), Wrong>
+    fn add_command(&mut self, line: Line<'a>) -> Result<(), PlanError>
         requires sound { IsSound self.old }
         requires room { length self.old.begun < 2 ^ 32 }
         ensures ok { OnOk result (IsSound self.new × (with_command (plan_in self.old) (view line.entry)
             ≡ Ok (plan_in self.new))) }
-        ensures err { IfErr result (IsWrong (with_command (plan_in self.old) (view line.entry))) }
+        ensures err { IfErr result (IsPlanError (with_command (plan_in self.old) (view line.entry))) }
         ensures begun { OnOk result (length self.new.begun ≤ length self.old.begun + 1) }
     {
         match line {
@@ -298,17 +298,17 @@ impl<'a> Draft<'a> {
                 let txn = self.caller(txn);
                 self.add_operation(Call::Abort { txn })
             }
-            _ => Err(Wrong::Line(1)),
+            _ => Err(PlanError::Line(1)),
         }
     }
 
     /// Adds a line of a drive file.
-    fn add_line(&mut self, alloc: Global, line: &'a [u8]) -> Result<(), Wrong>
+    fn add_line(&mut self, alloc: Global, line: &'a [u8]) -> Result<(), PlanError>
         requires sound { IsSound self.old }
         requires room { length self.old.begun < 2 ^ 32 }
         ensures ok { OnOk result (IsSound self.new × (with_line (plan_in self.old) line.entry.now
             ≡ Ok (plan_in self.new))) }
-        ensures err { IfErr result (IsWrong (with_line (plan_in self.old) line.entry.now)) }
+        ensures err { IfErr result (IsPlanError (with_line (plan_in self.old) line.entry.now)) }
         ensures begun { OnOk result (length self.new.begun ≤ length self.old.begun + 1) }
     {
         let parsed = parse_line(line);
@@ -320,7 +320,7 @@ impl<'a> Draft<'a> {
         }
         match parsed {
             Parsed::Command(line) => self.add_command(line),
-            _ => Err(Wrong::Line(1)),
+            _ => Err(PlanError::Line(1)),
         }
     }
 }
@@ -338,13 +338,13 @@ pub fn draft_of<'a>(alloc: Global, bytes: &'a [u8]) -> Result<Draft<'a>, DriveFa
     while let Some((line, rest)) = first_line(unread) {
         match draft.add_line(alloc, line) {
             Ok(()) => {}
-            Err(Wrong::Line(error)) => {
+            Err(PlanError::Line(error)) => {
                 return Err(DriveFault::BadScript {
                     line: number,
                     error,
                 });
             }
-            Err(Wrong::NoMemory) => return Err(DriveFault::NoMemory),
+            Err(PlanError::NoMemory) => return Err(DriveFault::NoMemory),
         }
         unread = rest;
         number += 1;

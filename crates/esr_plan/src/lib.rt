@@ -4,18 +4,18 @@
 
 mod call;
 mod draft;
+mod drive_plan;
 mod fault;
 mod opening;
 mod reader;
-mod sheet;
 mod table;
 mod text;
 
 pub use call::{Call, Kind, event_of};
 pub use draft::MAX_BLOCKS;
+pub use drive_plan::{DrivePlan, drive_plan_of};
 pub use fault::DriveFault;
 pub use opening::metric_of;
 pub use reader::read_all;
-pub use sheet::{Sheet, sheet_of};
 pub use table::{BegunNames, begun_names};
 pub use text::{block_text, push_items, push_summaries};

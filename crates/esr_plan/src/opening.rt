@@ -1,6 +1,6 @@
 //! The distances of a plan's items, as a machine opens with them: weight 1 where none was given.
 
-ghost use Rattle.esr_base.specs.declared.limits.TheConstants.{MOST_ITEMS};
+ghost use Rattle.esr_base.specs.declared.limits.TheConstants.{MAX_ITEMS};
 ghost use Rattle.std.specs.Prelude.{◌≡◌, ◌≤◌, All, IfOk, length};
 ghost use Rattle.esr_items.specs.Weights.{IsWeight};
 ghost use Rattle.esr_plan.specs.Plan.{weights_of};
@@ -10,7 +10,7 @@ use std::alloc::{AllocError, Global};
 
 /// The distance by the weights: 1 where none was given.
 pub fn metric_of(alloc: Global, given: &[Option<u32>]) -> Result<Weighted, AllocError>
-    requires many { length given.now ≤ MOST_ITEMS }
+    requires many { length given.now ≤ MAX_ITEMS }
     requires range { All IsWeight (weights_of given.now) }
     ensures { IfOk result (λ metric. metric ≡ weights_of given.now) }
 {

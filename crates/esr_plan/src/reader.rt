@@ -2,17 +2,17 @@
 //! the fault of a line is that of the file, whatever follows, so a stream that does not end does not take memory
 //! without end.
 
-ghost use Rattle.esr_line.specs.declared.limits.TheConstants.{MAX_LINES, MAX_LINE_BYTES};
+ghost use Rattle.esr_grammar.specs.declared.limits.TheConstants.{MAX_LINES, MAX_LINE_BYTES};
 ghost use Rattle.std.specs.Prelude.{◌≡◌, ℕ, List, false, ◌<◌, ◌≤◌, ◌↔◌, [], ◌∷◌, ◌++◌, None, Some, IfOk, IfErr, IsErrOf, IsTrue, MatchOption, MatchResult, length, nat_eq, position};
 ghost use Rattle.std.specs.Io.KnownBytes.{Consumes, IsAtEnd};
 ghost use Rattle.esr_base.specs.Watch.{inner, failed};
-ghost use Rattle.esr_line.specs.Lines.{lines};
+ghost use Rattle.esr_grammar.specs.Lines.{lines};
 ghost use Rattle.esr_plan.specs.Plan.{cut_fault};
 ghost use Rattle.esr_plan.specs.Readings.{IsMark, IsLineFault, IsReadFault, rest_from};
 
 use crate::fault::DriveFault;
+use esr_grammar::{INPUT_ROOM, MAX_LINE_BYTES, MAX_LINES};
 use esr_history::Watched;
-use esr_line::{INPUT_ROOM, MAX_LINE_BYTES, MAX_LINES};
 use std::alloc::{AllocError, Global};
 use std::io::Read;
 

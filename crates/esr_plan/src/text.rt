@@ -1,12 +1,12 @@
 //! The text of a drive, part by part: items, blocks, what was found of each query. The text of a block is a piece of its
 //! own, since threads make them.
 
-ghost use Rattle.esr_base.specs.declared.limits.TheConstants.{MOST_ITEMS};
+ghost use Rattle.esr_base.specs.declared.limits.TheConstants.{MAX_ITEMS};
 ghost use Rattle.std.specs.Prelude.{◌≡◌, ◌<◌, ◌≤◌, slice_index_or, ◌++◌, [], IfOk, OnOk, length, map, flat_map};
 ghost use Rattle.esr_audit.specs.Findings.{seen_summary};
 ghost use Rattle.esr_report.specs.Lines.{reply_line};
 ghost use Rattle.esr_plan.specs.Calls.{command_of, answers_of};
-ghost use Rattle.esr_plan.specs.Text.{item_text, items_text, subject_of, replies_text, block_text, told_text};
+ghost use Rattle.esr_plan.specs.Text.{item_text, items_text, subject_of, replies_text, block_text, finding_text};
 ghost use Rattle.esr_plan.specs.Tables.{names_in};
 
 use crate::call::Call;
@@ -20,7 +20,7 @@ use std::alloc::{AllocError, Global};
 
 /// The name at a place.
 fn name_at(names: &Names, place: usize) -> &str
-    requires { place < MOST_ITEMS }
+    requires { place < MAX_ITEMS }
     ensures { result.now ≡ slice_index_or names.now place [] }
 {
     match names.name_of(place as u32) {
@@ -45,14 +45,14 @@ fn push_item(
 }
 
 /// Appends the lines of the items.
-#[tactic(auto, using(crate::proofs::Told::items_text_all))]
+#[tactic(auto, using(crate::proofs::Rendered::items_text_all))]
 pub fn push_items(
     out: &mut Vec<u8>,
     names: &Names,
     values: &[i64],
     weights: &[Option<u32>],
 ) -> Result<(), AllocError>
-    requires len { length names.now ≤ MOST_ITEMS }
+    requires len { length names.now ≤ MAX_ITEMS }
     requires values { length values.now ≡ length names.now }
     requires weights { length weights.now ≡ length names.now }
     ensures { OnOk result (out.new.items ≡ out.old.items ++ items_text names.now values.now weights.now) }
@@ -117,7 +117,7 @@ fn push_summary(
     names: &BegunNames<'_>,
     summary: &Summary,
 ) -> Result<(), AllocError>
-    ensures { OnOk result (out.new.items ≡ out.old.items ++ told_text (names_in names.now) (seen_summary summary.now)) }
+    ensures { OnOk result (out.new.items ≡ out.old.items ++ finding_text (names_in names.now) (seen_summary summary.now)) }
 {
     let before = summary.before.to_vec(*out.allocator())?;
     audit_line(
@@ -131,14 +131,14 @@ fn push_summary(
 }
 
 /// Appends the lines of what was found of queries.
-#[tactic(auto, using(crate::proofs::Told::lines_more))]
+#[tactic(auto, using(crate::proofs::Rendered::lines_more))]
 pub fn push_summaries(
     out: &mut Vec<u8>,
     names: &BegunNames<'_>,
     summaries: &[Summary],
 ) -> Result<(), AllocError>
     ensures { OnOk result (out.new.items ≡ out.old.items
-        ++ flat_map (told_text (names_in names.now)) (map seen_summary summaries.now)) }
+        ++ flat_map (finding_text (names_in names.now)) (map seen_summary summaries.now)) }
 {
     for summary in summaries {
         push_summary(out, names, summary)?;

@@ -1,11 +1,11 @@
 //! What a query was charged, in words: how much, in which line, and why; and the sums by item and by update.
 
-use crate::prose::{Block, MOST_POINTS, add_paragraph, add_point};
-use crate::tale::Tale;
+use crate::prose::{Block, MAX_POINTS, add_paragraph, add_point};
+use crate::subject::Subject;
 use esr_history::TxnId;
 use esr_items::ItemId;
-use esr_story::{Cause, Charge, MOST_NAMES, Story, Sum, push_rest};
 use esr_text::{first, push_count, push_number, push_value};
+use esr_trace::{Cause, Charge, MAX_NAMES, QueryTrace, Sum, push_rest};
 use std::alloc::{AllocError, Global};
 
 /// The values before and behind an update's change.
@@ -17,10 +17,10 @@ fn push_change(out: &mut String, charge: &Charge) -> Result<(), AllocError> {
 }
 
 /// Why a charge was made.
-fn push_cause(out: &mut String, tale: &Tale<'_>, charge: &Charge) -> Result<(), AllocError> {
-    let query = tale.name(tale.query);
-    let update = tale.name(charge.update);
-    let item = tale.item(charge.item);
+fn push_cause(out: &mut String, subject: &Subject<'_>, charge: &Charge) -> Result<(), AllocError> {
+    let query = subject.name(subject.query);
+    let update = subject.name(charge.update);
+    let item = subject.item(charge.item);
     match charge.cause {
         Cause::Read => {
             write!(out, ": {query} read {item}, which {update} had changed")?;
@@ -52,32 +52,36 @@ fn push_later_lines(out: &mut String, count: u64) -> Result<(), AllocError> {
 }
 
 /// How much a difference of an item counts, where that is not once.
-fn push_weight(out: &mut String, tale: &Tale<'_>, item: ItemId) -> Result<(), AllocError> {
-    let weight = tale.weight(item);
+fn push_weight(out: &mut String, subject: &Subject<'_>, item: ItemId) -> Result<(), AllocError> {
+    let weight = subject.weight(item);
     if weight < 2 {
         return Ok(());
     }
     out.push_str("; a difference of ")?;
-    out.push_str(tale.item(item))?;
+    out.push_str(subject.item(item))?;
     out.push_str(" counts ")?;
     push_number(out, weight)?;
     out.push_str(" times")
 }
 
 /// A charge.
-fn push_charge(out: &mut String, tale: &Tale<'_>, charge: &Charge) -> Result<(), AllocError> {
+fn push_charge(out: &mut String, subject: &Subject<'_>, charge: &Charge) -> Result<(), AllocError> {
     push_number(out, charge.amount)?;
     out.push_str(" in ")?;
-    tale.push_line(out, charge.place)?;
+    subject.push_line(out, charge.place)?;
     push_later_lines(out, charge.count)?;
-    push_cause(out, tale, charge)?;
-    push_weight(out, tale, charge.item)
+    push_cause(out, subject, charge)?;
+    push_weight(out, subject, charge.item)
 }
 
 /// How much of what limit was charged, and whether the charges follow.
-fn push_intro(out: &mut String, tale: &Tale<'_>, has_charges: bool) -> Result<(), AllocError> {
-    let import = tale.history.import(tale.query);
-    let limit = match tale.history.facts(tale.query) {
+fn push_intro(
+    out: &mut String,
+    subject: &Subject<'_>,
+    has_charges: bool,
+) -> Result<(), AllocError> {
+    let import = subject.history.import(subject.query);
+    let limit = match subject.history.facts(subject.query) {
         Some(facts) => facts.limit,
         None => 0,
     };
@@ -96,11 +100,11 @@ fn push_intro(out: &mut String, tale: &Tale<'_>, has_charges: bool) -> Result<()
 fn push_more_charges(
     alloc: Global,
     blocks: &mut Vec<Block>,
-    story: &Story,
+    trace: &QueryTrace,
 ) -> Result<(), AllocError> {
-    let mut more = story.charge_count;
-    let mut sum = story.charge_sum();
-    for charge in &story.charges {
+    let mut more = trace.charge_count;
+    let mut sum = trace.charge_sum();
+    for charge in &trace.charges {
         more = more.saturating_sub(charge.count);
         sum = sum.saturating_sub(charge.amount);
     }
@@ -132,19 +136,19 @@ enum By {
 fn push_sums_by(
     alloc: Global,
     out: &mut String,
-    tale: &Tale<'_>,
-    story: &Story,
+    subject: &Subject<'_>,
+    trace: &QueryTrace,
     by: By,
 ) -> Result<(), AllocError> {
     let sums = match by {
-        By::Item => story.sums_by_item(alloc)?,
-        By::Update => story.sums_by_update(alloc)?,
+        By::Item => trace.sums_by_item(alloc)?,
+        By::Update => trace.sums_by_update(alloc)?,
     };
     let mut joint = " ";
-    for sum in first(&sums, MOST_NAMES) {
+    for sum in first(&sums, MAX_NAMES) {
         let name = match by {
-            By::Item => tale.item(ItemId(sum.number)),
-            By::Update => tale.name(TxnId(sum.number)),
+            By::Item => subject.item(ItemId(sum.number)),
+            By::Update => subject.name(TxnId(sum.number)),
         };
         push_sum(out, joint, name, sum.amount)?;
         joint = ", ";
@@ -156,13 +160,13 @@ fn push_sums_by(
 fn push_sums(
     alloc: Global,
     out: &mut String,
-    tale: &Tale<'_>,
-    story: &Story,
+    subject: &Subject<'_>,
+    trace: &QueryTrace,
 ) -> Result<(), AllocError> {
     out.push_str("By item:")?;
-    push_sums_by(alloc, out, tale, story, By::Item)?;
+    push_sums_by(alloc, out, subject, trace, By::Item)?;
     out.push_str(". By update:")?;
-    push_sums_by(alloc, out, tale, story, By::Update)?;
+    push_sums_by(alloc, out, subject, trace, By::Update)?;
     out.push('.')
 }
 
@@ -170,31 +174,31 @@ fn push_sums(
 fn push_each(
     alloc: Global,
     blocks: &mut Vec<Block>,
-    tale: &Tale<'_>,
-    story: &Story,
+    subject: &Subject<'_>,
+    trace: &QueryTrace,
 ) -> Result<(), AllocError> {
-    for charge in first(&story.charges, MOST_POINTS) {
-        push_charge(add_point(alloc, blocks)?, tale, charge)?;
+    for charge in first(&trace.charges, MAX_POINTS) {
+        push_charge(add_point(alloc, blocks)?, subject, charge)?;
     }
-    push_more_charges(alloc, blocks, story)?;
-    if story.charge_count < 2 {
+    push_more_charges(alloc, blocks, trace)?;
+    if trace.charge_count < 2 {
         return Ok(());
     }
-    push_sums(alloc, add_paragraph(alloc, blocks)?, tale, story)
+    push_sums(alloc, add_paragraph(alloc, blocks)?, subject, trace)
 }
 
 /// What the query was charged.
 pub fn push_charges(
     alloc: Global,
     blocks: &mut Vec<Block>,
-    tale: &Tale<'_>,
-    story: &Story,
+    subject: &Subject<'_>,
+    trace: &QueryTrace,
 ) -> Result<(), AllocError> {
-    let agrees = story.charge_sum() == tale.history.import(tale.query);
-    let has_charges = agrees && !story.charges.is_empty();
-    push_intro(add_paragraph(alloc, blocks)?, tale, has_charges)?;
+    let agrees = trace.charge_sum() == subject.history.import(subject.query);
+    let has_charges = agrees && !trace.charges.is_empty();
+    push_intro(add_paragraph(alloc, blocks)?, subject, has_charges)?;
     if has_charges {
-        push_each(alloc, blocks, tale, story)
+        push_each(alloc, blocks, subject, trace)
     } else {
         Ok(())
     }

@@ -2,7 +2,7 @@
 //! was charged, by whom and why, and which moment is the nearest to what it read.
 //!
 //! Prose is advice: that it is safe and ends is proved, and what it says is promised by no clause. What happened, and
-//! the sentences that a picture says too, are taken from `esr_story`.
+//! the sentences that a picture says too, are taken from `esr_trace`.
 #![tactic(auto)]
 
 mod charges;
@@ -11,7 +11,7 @@ mod paragraphs;
 mod passage;
 mod prose;
 mod reads;
-mod tale;
+mod subject;
 
 pub use paragraphs::Prose;
 pub use passage::Passage;

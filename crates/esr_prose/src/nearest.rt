@@ -1,15 +1,15 @@
 //! The nearest moment of a committed query, in words: what each item that it read was there, and how far off the reads
 //! of it are.
 
-use crate::prose::{Block, MOST_POINTS, add_paragraph, add_point, push_more};
+use crate::prose::{Block, MAX_POINTS, add_paragraph, add_point, push_more};
 use crate::reads::sum_of_reads;
-use crate::tale::Tale;
+use crate::subject::Subject;
 use esr_audit::Finding;
 use esr_history::TxnId;
 use esr_items::ItemId;
 use esr_order::accesses_of;
-use esr_story::{Sight, Story};
 use esr_text::{first, push_number, push_value};
+use esr_trace::{ObservedRead, QueryTrace};
 use std::alloc::{AllocError, Global};
 
 /// An item that was read, as it was at the nearest moment.
@@ -25,10 +25,10 @@ struct There {
 fn put_writes(
     alloc: Global,
     values: &mut [i64],
-    tale: &Tale<'_>,
+    subject: &Subject<'_>,
     update: TxnId,
 ) -> Result<(), AllocError> {
-    for access in &accesses_of(alloc, tale.history, update)? {
+    for access in &accesses_of(alloc, subject.history, update)? {
         if let (Some(value), true) = (values.get_mut(access.item.0 as usize), access.writes) {
             *value = access.value;
         }
@@ -39,26 +39,28 @@ fn put_writes(
 /// The values of the items behind these updates.
 fn values_behind(
     alloc: Global,
-    tale: &Tale<'_>,
+    subject: &Subject<'_>,
     updates: &[TxnId],
 ) -> Result<Vec<i64>, AllocError> {
-    let mut values = tale.history.opening_values().to_vec(alloc)?;
+    let mut values = subject.history.opening_values().to_vec(alloc)?;
     for update in updates {
-        put_writes(alloc, &mut values, tale, *update)?;
+        put_writes(alloc, &mut values, subject, *update)?;
     }
     Ok(values)
 }
 
 /// What the reads of an item are off from a value.
-fn off(story: &Story, tale: &Tale<'_>, item: ItemId, there: i64) -> u64 {
+fn off(trace: &QueryTrace, subject: &Subject<'_>, item: ItemId, there: i64) -> u64 {
     let mut sum = 0u64;
-    for sight in &story.sights {
-        if sight.item == item {
-            let gap = there.abs_diff(sight.value).saturating_mul(sight.count);
+    for observed in &trace.observed_reads {
+        if observed.item == item {
+            let gap = there
+                .abs_diff(observed.value)
+                .saturating_mul(observed.count);
             sum = sum.saturating_add(gap);
         }
     }
-    sum.saturating_mul(tale.weight(item))
+    sum.saturating_mul(subject.weight(item))
 }
 
 /// Whether an item is among these.
@@ -74,18 +76,18 @@ fn is_there(items: &[There], item: ItemId) -> bool {
 /// The items that were read, each once, in the order of their first reads.
 fn items_read(
     alloc: Global,
-    story: &Story,
-    tale: &Tale<'_>,
+    trace: &QueryTrace,
+    subject: &Subject<'_>,
     values: &[i64],
 ) -> Result<Vec<There>, AllocError> {
     let mut items: Vec<There> = Vec::new(alloc);
-    for Sight { item, .. } in &story.sights {
+    for ObservedRead { item, .. } in &trace.observed_reads {
         if !is_there(&items, *item) {
             let value = values.get(item.0 as usize).copied().unwrap_or(0);
             items.push(There {
                 item: *item,
                 value,
-                off: off(story, tale, *item, value),
+                off: off(trace, subject, *item, value),
             })?;
         }
     }
@@ -93,8 +95,8 @@ fn items_read(
 }
 
 /// An item at the nearest moment.
-fn push_there(out: &mut String, tale: &Tale<'_>, there: There) -> Result<(), AllocError> {
-    out.push_str(tale.item(there.item))?;
+fn push_there(out: &mut String, subject: &Subject<'_>, there: There) -> Result<(), AllocError> {
+    out.push_str(subject.item(there.item))?;
     out.push(' ')?;
     push_value(out, there.value)?;
     if there.off == 0 {
@@ -102,7 +104,7 @@ fn push_there(out: &mut String, tale: &Tale<'_>, there: There) -> Result<(), All
     }
     out.push_str(": what was read is off by ")?;
     push_number(out, there.off)?;
-    let weight = tale.weight(there.item);
+    let weight = subject.weight(there.item);
     if weight < 2 {
         return Ok(());
     }
@@ -127,13 +129,13 @@ fn ranking(alloc: Global, items: &[There]) -> Result<Vec<(u64, usize)>, AllocErr
 fn push_items(
     alloc: Global,
     blocks: &mut Vec<Block>,
-    tale: &Tale<'_>,
+    subject: &Subject<'_>,
     items: &[There],
 ) -> Result<(), AllocError> {
     let ranks = ranking(alloc, items)?;
-    for (_, place) in first(&ranks, MOST_POINTS) {
+    for (_, place) in first(&ranks, MAX_POINTS) {
         if let Some(there) = items.get(*place) {
-            push_there(add_point(alloc, blocks)?, tale, *there)?;
+            push_there(add_point(alloc, blocks)?, subject, *there)?;
         }
     }
     push_more(alloc, blocks, items.len(), "item", "items")
@@ -160,8 +162,8 @@ fn push_sums(out: &mut String, items: &[There], read: i64) -> Result<(), AllocEr
 fn push_all(
     alloc: Global,
     blocks: &mut Vec<Block>,
-    tale: &Tale<'_>,
-    story: &Story,
+    subject: &Subject<'_>,
+    trace: &QueryTrace,
     items: &[There],
 ) -> Result<(), AllocError> {
     add_paragraph(alloc, blocks)?.push_str(if items.len() == 1 {
@@ -169,8 +171,8 @@ fn push_all(
     } else {
         "At the nearest moment the values were:"
     })?;
-    push_items(alloc, blocks, tale, items)?;
-    match sum_of_reads(story, tale) {
+    push_items(alloc, blocks, subject, items)?;
+    match sum_of_reads(trace, subject) {
         Some(read) => push_sums(add_paragraph(alloc, blocks)?, items, read),
         None => Ok(()),
     }
@@ -180,14 +182,14 @@ fn push_all(
 pub fn push_nearest(
     alloc: Global,
     blocks: &mut Vec<Block>,
-    tale: &Tale<'_>,
-    story: &Story,
+    subject: &Subject<'_>,
+    trace: &QueryTrace,
     finding: &Finding,
 ) -> Result<(), AllocError> {
     if finding.distance == 0 {
         return Ok(());
     }
-    let values = values_behind(alloc, tale, &finding.before)?;
-    let items = items_read(alloc, story, tale, &values)?;
-    push_all(alloc, blocks, tale, story, &items)
+    let values = values_behind(alloc, subject, &finding.before)?;
+    let items = items_read(alloc, trace, subject, &values)?;
+    push_all(alloc, blocks, subject, trace, &items)
 }

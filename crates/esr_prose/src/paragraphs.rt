@@ -1,12 +1,12 @@
 //! Prose about one query of a script, however it ended, as lines of a width at which no terminal wraps them.
 
 use crate::prose::{Block, Kind, prose_of};
-use crate::tale::Tale;
+use crate::subject::Subject;
 use esr_audit::{AuditError, Finding, audit_query};
 use esr_history::TxnId;
-use esr_story::story_of;
-use esr_telling::{Chronicle, Survey};
 use esr_text::wrap;
+use esr_trace::trace_of;
+use esr_views::{Recording, ScriptView};
 use std::alloc::{AllocError, Global};
 
 /// A line has fewer letters than this.
@@ -60,10 +60,10 @@ fn text_of(alloc: Global, blocks: &[Block]) -> Result<String, AllocError> {
 /// What the audit finds of a query, if it has committed.
 fn finding_of(
     alloc: Global,
-    chronicle: &Chronicle<'_>,
+    recording: &Recording<'_>,
     query: TxnId,
 ) -> Result<Option<Finding>, AllocError> {
-    match audit_query(alloc, &chronicle.history, query) {
+    match audit_query(alloc, &recording.history, query) {
         Ok(finding) => Ok(Some(finding)),
         Err(AuditError::NoMemory) => Err(AllocError),
         Err(_) => Ok(None),
@@ -71,41 +71,41 @@ fn finding_of(
 }
 
 /// The number of the query of that name, if there is one.
-fn query_called(chronicle: &Chronicle<'_>, name: &str) -> Option<TxnId> {
-    let position = chronicle.transactions.number_of(name)?;
+fn query_called(recording: &Recording<'_>, name: &str) -> Option<TxnId> {
+    let position = recording.transactions.number_of(name)?;
     let query = TxnId(position.saturating_add(1));
-    let facts = chronicle.history.facts(query)?;
+    let facts = recording.history.facts(query)?;
     facts.query.then_some(query)
 }
 
 /// The prose about a query of which this was found, if it has committed.
 fn prose_with<'a>(
     alloc: Global,
-    chronicle: &'a Chronicle<'a>,
+    recording: &'a Recording<'a>,
     query: TxnId,
     finding: Option<&'a Finding>,
 ) -> Result<String, AllocError> {
-    let tale = Tale {
-        items: &chronicle.items,
-        transactions: &chronicle.transactions,
-        history: &chronicle.history,
-        lines: chronicle.lines,
+    let subject = Subject {
+        items: &recording.items,
+        transactions: &recording.transactions,
+        history: &recording.history,
+        lines: recording.lines,
         query,
         finding,
     };
-    let story = story_of(alloc, tale.history, query)?;
-    let blocks = prose_of(alloc, &tale, &story)?;
+    let trace = trace_of(alloc, subject.history, query)?;
+    let blocks = prose_of(alloc, &subject, &trace)?;
     text_of(alloc, &blocks)
 }
 
 /// The prose about a query.
 fn prose_about(
     alloc: Global,
-    chronicle: &Chronicle<'_>,
+    recording: &Recording<'_>,
     query: TxnId,
 ) -> Result<Vec<u8>, AllocError> {
-    let finding = finding_of(alloc, chronicle, query)?;
-    let text = prose_with(alloc, chronicle, query, finding.as_ref())?;
+    let finding = finding_of(alloc, recording, query)?;
+    let text = prose_with(alloc, recording, query, finding.as_ref())?;
     Ok(text.into_bytes())
 }
 
@@ -116,16 +116,16 @@ pub struct Prose<'a> {
     pub name: &'a str,
 }
 
-impl Survey for Prose<'_> {
+impl ScriptView for Prose<'_> {
     ghost IsTextOf = { λ _ _ _. Unit {0} };
 
     fn text_of(
         &self,
         alloc: Global,
-        chronicle: &Chronicle<'_>,
+        recording: &Recording<'_>,
     ) -> Result<Option<Vec<u8>>, AllocError> {
-        match query_called(chronicle, self.name) {
-            Some(query) => match prose_about(alloc, chronicle, query) {
+        match query_called(recording, self.name) {
+            Some(query) => match prose_about(alloc, recording, query) {
                 Ok(text) => Ok(Some(text)),
                 Err(error) => Err(error),
             },

@@ -1,8 +1,8 @@
 //! Prose about an audited query as a part of a page: paragraphs and lists.
 
 use crate::prose::{Block, Kind, prose_of};
-use crate::tale::Tale;
-use esr_story::{Audited, Part, Story};
+use crate::subject::Subject;
+use esr_trace::{Audited, Part, QueryTrace};
 use std::alloc::{AllocError, Global};
 
 /// Blocks as markup.
@@ -31,9 +31,9 @@ impl Part for Passage {
         out: &mut String,
         audited: &Audited<'_>,
         lines: &[u32],
-        story: &Story,
+        trace: &QueryTrace,
     ) -> Result<(), AllocError> {
-        let tale = Tale {
+        let subject = Subject {
             items: audited.items,
             transactions: audited.transactions,
             history: audited.history,
@@ -41,6 +41,6 @@ impl Part for Passage {
             query: audited.finding.query,
             finding: Some(audited.finding),
         };
-        push_blocks(out, &prose_of(alloc, &tale, story)?)
+        push_blocks(out, &prose_of(alloc, &subject, trace)?)
     }
 }

@@ -5,14 +5,14 @@
 use crate::charges::push_charges;
 use crate::nearest::push_nearest;
 use crate::reads::push_reads;
-use crate::tale::{Ending, Tale};
+use crate::subject::{Ending, Subject};
 use esr_audit::Finding;
-use esr_story::{Audited, Story, push_nearest_moment, push_strict, push_verdict};
 use esr_text::push_number;
+use esr_trace::{Audited, QueryTrace, push_nearest_moment, push_strict, push_verdict};
 use std::alloc::{AllocError, Global};
 
 /// So many points are listed at most, and then how many more there are.
-pub const MOST_POINTS: usize = 12;
+pub const MAX_POINTS: usize = 12;
 
 /// What a block of prose is.
 #[derive(Clone, Copy)]
@@ -61,7 +61,7 @@ pub fn push_more(
     one: &str,
     many: &str,
 ) -> Result<(), AllocError> {
-    let more = count.saturating_sub(MOST_POINTS);
+    let more = count.saturating_sub(MAX_POINTS);
     if more == 0 {
         return Ok(());
     }
@@ -73,9 +73,9 @@ pub fn push_more(
 }
 
 /// What can be said of a query that has not committed.
-fn push_unfinished(out: &mut String, tale: &Tale<'_>) -> Result<(), AllocError> {
-    out.push_str(tale.name(tale.query))?;
-    if tale.ending(tale.query) == Ending::Aborted {
+fn push_unfinished(out: &mut String, subject: &Subject<'_>) -> Result<(), AllocError> {
+    out.push_str(subject.name(subject.query))?;
+    if subject.ending(subject.query) == Ending::Aborted {
         return out.push_str(
             " aborted, so no moment is compared with it. This is what it had read and been charged until then.",
         );
@@ -83,7 +83,7 @@ fn push_unfinished(out: &mut String, tale: &Tale<'_>) -> Result<(), AllocError> 
     out.push_str(
         " has not committed, so no moment is compared with it yet. If it committed now, it would be off by at most the ",
     )?;
-    push_number(out, tale.history.import(tale.query))?;
+    push_number(out, subject.history.import(subject.query))?;
     out.push_str(" that it has been charged.")
 }
 
@@ -91,22 +91,22 @@ fn push_unfinished(out: &mut String, tale: &Tale<'_>) -> Result<(), AllocError> 
 fn push_answer(
     alloc: Global,
     out: &mut String,
-    tale: &Tale<'_>,
-    story: &Story,
+    subject: &Subject<'_>,
+    trace: &QueryTrace,
 ) -> Result<(), AllocError> {
-    let Some(finding) = tale.finding else {
-        return push_unfinished(out, tale);
+    let Some(finding) = subject.finding else {
+        return push_unfinished(out, subject);
     };
     let audited = Audited {
-        items: tale.items,
-        transactions: tale.transactions,
-        history: tale.history,
+        items: subject.items,
+        transactions: subject.transactions,
+        history: subject.history,
         finding,
     };
-    push_verdict(out, &audited, story)?;
+    push_verdict(out, &audited, trace)?;
     if finding.distance > 0 {
         out.push(' ')?;
-        push_nearest_moment(out, &audited, story)?;
+        push_nearest_moment(out, &audited, trace)?;
     }
     if finding.problem.must().is_empty() {
         return Ok(());
@@ -116,32 +116,40 @@ fn push_answer(
 }
 
 /// How the query began.
-fn push_begin(out: &mut String, tale: &Tale<'_>, story: &Story) -> Result<(), AllocError> {
-    out.push_str(tale.name(tale.query))?;
-    out.push_str(if story.is_strict {
+fn push_begin(
+    out: &mut String,
+    subject: &Subject<'_>,
+    trace: &QueryTrace,
+) -> Result<(), AllocError> {
+    out.push_str(subject.name(subject.query))?;
+    out.push_str(if trace.is_strict {
         " is a strict query"
     } else {
         " is a query"
     })?;
-    match story.begin {
+    match trace.begin {
         Some(place) => {
             out.push_str(" that began in ")?;
-            tale.push_line(out, place)
+            subject.push_line(out, place)
         }
         None => Ok(()),
     }
 }
 
 /// How the query began and ended.
-fn push_course(out: &mut String, tale: &Tale<'_>, story: &Story) -> Result<(), AllocError> {
-    push_begin(out, tale, story)?;
-    out.push_str(match tale.ending(tale.query) {
+fn push_course(
+    out: &mut String,
+    subject: &Subject<'_>,
+    trace: &QueryTrace,
+) -> Result<(), AllocError> {
+    push_begin(out, subject, trace)?;
+    out.push_str(match subject.ending(subject.query) {
         Ending::Committed => " and committed in ",
         Ending::Aborted => " and aborted in ",
         Ending::Active => " and had not ended at the end of the script",
     })?;
-    if let Some(place) = tale.end_place(tale.query) {
-        tale.push_line(out, place)?;
+    if let Some(place) = subject.end_place(subject.query) {
+        subject.push_line(out, place)?;
     }
     out.push('.')
 }
@@ -165,11 +173,11 @@ fn push_moral(out: &mut String, finding: &Finding) -> Result<(), AllocError> {
 fn push_findings(
     alloc: Global,
     blocks: &mut Vec<Block>,
-    tale: &Tale<'_>,
-    story: &Story,
+    subject: &Subject<'_>,
+    trace: &QueryTrace,
     finding: &Finding,
 ) -> Result<(), AllocError> {
-    push_nearest(alloc, blocks, tale, story, finding)?;
+    push_nearest(alloc, blocks, subject, trace, finding)?;
     if finding.import == 0 {
         return Ok(());
     }
@@ -180,22 +188,26 @@ fn push_findings(
 fn push_prose(
     alloc: Global,
     blocks: &mut Vec<Block>,
-    tale: &Tale<'_>,
-    story: &Story,
+    subject: &Subject<'_>,
+    trace: &QueryTrace,
 ) -> Result<(), AllocError> {
-    push_answer(alloc, add_paragraph(alloc, blocks)?, tale, story)?;
-    push_course(add_paragraph(alloc, blocks)?, tale, story)?;
-    push_reads(alloc, blocks, tale, story)?;
-    push_charges(alloc, blocks, tale, story)?;
-    match tale.finding {
-        Some(finding) => push_findings(alloc, blocks, tale, story, finding),
+    push_answer(alloc, add_paragraph(alloc, blocks)?, subject, trace)?;
+    push_course(add_paragraph(alloc, blocks)?, subject, trace)?;
+    push_reads(alloc, blocks, subject, trace)?;
+    push_charges(alloc, blocks, subject, trace)?;
+    match subject.finding {
+        Some(finding) => push_findings(alloc, blocks, subject, trace, finding),
         None => Ok(()),
     }
 }
 
 /// The prose about a query of which the history tells this.
-pub fn prose_of(alloc: Global, tale: &Tale<'_>, story: &Story) -> Result<Vec<Block>, AllocError> {
+pub fn prose_of(
+    alloc: Global,
+    subject: &Subject<'_>,
+    trace: &QueryTrace,
+) -> Result<Vec<Block>, AllocError> {
     let mut blocks = Vec::new(alloc);
-    push_prose(alloc, &mut blocks, tale, story)?;
+    push_prose(alloc, &mut blocks, subject, trace)?;
     Ok(blocks)
 }

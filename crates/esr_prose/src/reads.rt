@@ -1,71 +1,82 @@
 //! What a query read, in words: each value, in which line, and whose it was.
 
-use crate::prose::{Block, MOST_POINTS, add_paragraph, add_point, push_more};
-use crate::tale::{Ending, Tale};
+use crate::prose::{Block, MAX_POINTS, add_paragraph, add_point, push_more};
+use crate::subject::{Ending, Subject};
 use esr_history::TxnId;
 use esr_items::ItemId;
-use esr_story::{Sight, Story};
 use esr_text::{first, push_count, push_number, push_value};
+use esr_trace::{ObservedRead, QueryTrace};
 use std::alloc::{AllocError, Global};
 
 /// The words for what became of an update whose value was read before it had ended.
-fn push_fate(out: &mut String, tale: &Tale<'_>, writer: TxnId) -> Result<(), AllocError> {
-    out.push_str(match tale.ending(writer) {
+fn push_fate(out: &mut String, subject: &Subject<'_>, writer: TxnId) -> Result<(), AllocError> {
+    out.push_str(match subject.ending(writer) {
         Ending::Committed => "; it committed only in ",
         Ending::Aborted => "; it aborted later, in ",
         Ending::Active => "; it never ended",
     })?;
-    let Some(place) = tale.end_place(writer) else {
+    let Some(place) = subject.end_place(writer) else {
         return Ok(());
     };
-    tale.push_line(out, place)?;
-    if tale.end_place(tale.query).is_some_and(|end| end < place) {
+    subject.push_line(out, place)?;
+    if subject
+        .end_place(subject.query)
+        .is_some_and(|end| end < place)
+    {
         out.push_str(", after ")?;
-        out.push_str(tale.name(tale.query))?;
+        out.push_str(subject.name(subject.query))?;
     }
     Ok(())
 }
 
 /// The words for whose value was read.
-fn push_source(out: &mut String, tale: &Tale<'_>, sight: &Sight) -> Result<(), AllocError> {
-    let Some(writer) = sight.writer else {
+fn push_source(
+    out: &mut String,
+    subject: &Subject<'_>,
+    observed: &ObservedRead,
+) -> Result<(), AllocError> {
+    let Some(writer) = observed.writer else {
         return out.push_str(", as at the start");
     };
-    if !sight.is_dirty {
+    if !observed.is_dirty {
         out.push_str(", as ")?;
-        out.push_str(tale.name(writer))?;
+        out.push_str(subject.name(writer))?;
         return out.push_str(" had left it");
     }
     out.push_str(", which ")?;
-    out.push_str(tale.name(writer))?;
+    out.push_str(subject.name(writer))?;
     out.push_str(" had written and not committed")?;
-    if sight.overwritten {
+    if observed.overwritten {
         out.push_str(", and wrote over later")?;
     }
-    push_fate(out, tale, writer)
+    push_fate(out, subject, writer)
 }
 
 /// A value that was read.
-fn push_sight(out: &mut String, tale: &Tale<'_>, sight: &Sight) -> Result<(), AllocError> {
-    out.push_str(tale.item(sight.item))?;
+fn push_observed(
+    out: &mut String,
+    subject: &Subject<'_>,
+    observed: &ObservedRead,
+) -> Result<(), AllocError> {
+    out.push_str(subject.item(observed.item))?;
     out.push(' ')?;
-    push_value(out, sight.value)?;
-    if sight.count > 1 {
+    push_value(out, observed.value)?;
+    if observed.count > 1 {
         out.push_str(", ")?;
-        push_number(out, sight.count)?;
+        push_number(out, observed.count)?;
         out.push_str(" times, first in ")?;
     } else {
         out.push_str(", in ")?;
     }
-    tale.push_line(out, sight.place)?;
-    push_source(out, tale, sight)
+    subject.push_line(out, observed.place)?;
+    push_source(out, subject, observed)
 }
 
 /// How many different values were read of an item.
-fn sights_of(story: &Story, item: ItemId) -> u64 {
+fn observed_reads_of(trace: &QueryTrace, item: ItemId) -> u64 {
     let mut count = 0u64;
-    for sight in &story.sights {
-        if sight.item == item {
+    for observed in &trace.observed_reads {
+        if observed.item == item {
             count = count.saturating_add(1);
         }
     }
@@ -73,16 +84,16 @@ fn sights_of(story: &Story, item: ItemId) -> u64 {
 }
 
 /// The sum of what was read, where each of several items was read once, and all count alike.
-pub fn sum_of_reads(story: &Story, tale: &Tale<'_>) -> Option<i64> {
+pub fn sum_of_reads(trace: &QueryTrace, subject: &Subject<'_>) -> Option<i64> {
     let mut sum = 0i64;
-    for sight in &story.sights {
-        let again = sights_of(story, sight.item);
-        if sight.count > 1 || again > 1 || tale.weight(sight.item) > 1 {
+    for observed in &trace.observed_reads {
+        let again = observed_reads_of(trace, observed.item);
+        if observed.count > 1 || again > 1 || subject.weight(observed.item) > 1 {
             return None;
         }
-        sum = sum.saturating_add(sight.value);
+        sum = sum.saturating_add(observed.value);
     }
-    if story.sights.len() > 1 {
+    if trace.observed_reads.len() > 1 {
         Some(sum)
     } else {
         None
@@ -90,8 +101,12 @@ pub fn sum_of_reads(story: &Story, tale: &Tale<'_>) -> Option<i64> {
 }
 
 /// That nothing was read, which the answer has told of a query that has committed.
-fn push_nothing(alloc: Global, blocks: &mut Vec<Block>, tale: &Tale<'_>) -> Result<(), AllocError> {
-    if tale.finding.is_some() {
+fn push_nothing(
+    alloc: Global,
+    blocks: &mut Vec<Block>,
+    subject: &Subject<'_>,
+) -> Result<(), AllocError> {
+    if subject.finding.is_some() {
         return Ok(());
     }
     add_paragraph(alloc, blocks)?.push_str("It read nothing.")
@@ -114,19 +129,19 @@ fn push_sum(out: &mut String, sum: i64) -> Result<(), AllocError> {
 pub fn push_reads(
     alloc: Global,
     blocks: &mut Vec<Block>,
-    tale: &Tale<'_>,
-    story: &Story,
+    subject: &Subject<'_>,
+    trace: &QueryTrace,
 ) -> Result<(), AllocError> {
-    let count = story.sights.len();
+    let count = trace.observed_reads.len();
     if count == 0 {
-        return push_nothing(alloc, blocks, tale);
+        return push_nothing(alloc, blocks, subject);
     }
     push_intro(add_paragraph(alloc, blocks)?, count)?;
-    for sight in first(&story.sights, MOST_POINTS) {
-        push_sight(add_point(alloc, blocks)?, tale, sight)?;
+    for observed in first(&trace.observed_reads, MAX_POINTS) {
+        push_observed(add_point(alloc, blocks)?, subject, observed)?;
     }
     push_more(alloc, blocks, count, "value", "values")?;
-    match sum_of_reads(story, tale) {
+    match sum_of_reads(trace, subject) {
         Some(sum) => push_sum(add_paragraph(alloc, blocks)?, sum),
         None => Ok(()),
     }

@@ -9,10 +9,10 @@ join_push c x [] y = refl
 join_push c x (z ∷ zs) y = ap (λ l. x ++ (c ∷ l)) (join_push c z zs y) ∙ sym (append_assoc x (c ∷ join_with_byte c (z ∷ zs)) (c ∷ y))
 
 -- words, the byte, and a word more
-pub one_behind : (c : ℕ) (out x : List ℕ) (xs : List (List ℕ)) (y before parted after : List ℕ)
+pub one_separated : (c : ℕ) (out x : List ℕ) (xs : List (List ℕ)) (y before parted after : List ℕ)
     → before ≡ out ++ join_with_byte c (x ∷ xs) → parted ≡ before ++ c ∷ [] → after ≡ parted ++ y
     → after ≡ out ++ join_with_byte c (x ∷ xs ++ y ∷ [])
-one_behind c out x xs y before parted after stood part grew =
+one_separated c out x xs y before parted after stood part grew =
     grew ∙ ap (λ b. b ++ y) part ∙ append_assoc before (c ∷ []) y ∙ ap (λ b. b ++ c ∷ y) stood
     ∙ append_assoc out (join_with_byte c (x ∷ xs)) (c ∷ y) ∙ ap (λ l. out ++ l) (sym (join_push c x xs y))
 
@@ -26,7 +26,7 @@ module _ {X : Type 0} (spell : X → List ℕ) (c : ℕ) (out first : List ℕ) 
       let grown : map spell (take (i + 1) xs) ≡ map spell (take i xs) ++ word ∷ [] =
       ap (map spell) (take_more xs i d within) ∙ map-append spell (take i xs) (get_or xs i d ∷ [])
       ∙ ap (λ w. map spell (take i xs) ++ w ∷ []) (sym is) in
-      one_behind c out first (map spell (take i xs)) word before (before ++ c ∷ []) after stood refl
+      one_separated c out first (map spell (take i xs)) word before (before ++ c ∷ []) after stood refl
       (grew ∙ sym (append_assoc before (c ∷ []) word))
       ∙ ap (λ l. out ++ join_with_byte c (first ∷ l)) (sym grown)
 

@@ -34,7 +34,7 @@ pub struct Subject<'a> {
 
 /// Appends a byte that separates, and a word.
 #[inline(always)]
-fn push_behind(out: &mut Vec<u8>, byte: u8, word: &str) -> Result<(), AllocError>
+fn push_separated(out: &mut Vec<u8>, byte: u8, word: &str) -> Result<(), AllocError>
     ensures ok { OnOk result (out.new.items ≡ out.old.items ++ byte ∷ word.now) }
     ensures kept { BeginsWith out.new.items out.old.items }
 {
@@ -51,7 +51,7 @@ fn push_words(out: &mut Vec<u8>, first: &str, rest: &[&str]) -> Result<(), Alloc
 {
     out.extend_from_slice(first.as_bytes())?;
     for word in rest {
-        push_behind(out, b' ', word)?;
+        push_separated(out, b' ', word)?;
     }
     Ok(())
 }
@@ -256,13 +256,13 @@ fn push_names<N: TransactionNames>(
     };
     out.extend_from_slice(name_of_transaction(names, *first).as_bytes())?;
     for txn in rest {
-        push_behind(out, b',', name_of_transaction(names, *txn))?;
+        push_separated(out, b',', name_of_transaction(names, *txn))?;
     }
     Ok(())
 }
 
 /// Appends words and the names of transactions.
-#[tactic(auto, using(crate::proofs::Joins::one_behind))]
+#[tactic(auto, using(crate::proofs::Joins::one_separated))]
 fn push_listed<N: TransactionNames>(
     out: &mut Vec<u8>,
     first: &str,

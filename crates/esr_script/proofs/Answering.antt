@@ -9,7 +9,7 @@ use Rattle.esr_order.specs.Least.{least_set, least_cost}
 use Rattle.esr_order.specs.Near.{AreNear}
 use Rattle.esr_audit.specs.Findings.{IsShown, summary, summary_of}
 use Rattle.esr_audit.specs.declared.finding.Finding.{Finding}
-use Rattle.esr_telling.specs.Ask.{IsFound, IsFoundOf}
+use Rattle.esr_views.specs.Ask.{IsFound, IsFoundOf}
 use Rattle.esr_script.specs.Text.{ScriptState, transaction_called}
 use Rattle.std.proofs.lemmas.Grind.{common_steps}
 

@@ -2,8 +2,8 @@
 use Rattle.std.proofs.Common.{◌≡◌, ℕ, List, Result}
 use Rattle.esr_history.specs.declared.event.Event.{Event}
 use Rattle.esr_report.specs.Lines.{Named}
-use Rattle.esr_script.specs.Text.{ScriptState, Obeys, ask, RunFault}
+use Rattle.esr_script.specs.Text.{ScriptState, Executes, ask, RunFault}
 
-pub asked : (r : Result (Unit {0}) RunFault) (s after : ScriptState) (n m : Named) (e f : Event) (out grown : List ℕ) → n ≡ m → e ≡ f
-    → Obeys (ask s n e) after out grown r → Obeys (ask s m f) after out grown r
-asked r s after n m e f out grown names event h = rw (← names, ← event) h
+pub audited : (r : Result (Unit {0}) RunFault) (s after : ScriptState) (n m : Named) (e f : Event) (out grown : List ℕ) → n ≡ m → e ≡ f
+    → Executes (ask s n e) after out grown r → Executes (ask s m f) after out grown r
+audited r s after n m e f out grown names event h = rw (← names, ← event) h

@@ -9,7 +9,7 @@ use Rattle.esr_audit.specs.Findings.{summary_of, committed_queries}
 use Rattle.esr_report.specs.Lines.{order_line, totals_line}
 use Rattle.esr_items.specs.Weights.{weighted}
 use Rattle.esr_script.specs.Text.{ScriptState}
-use Rattle.esr_script.specs.Audit.{told_line, audit_output}
+use Rattle.esr_script.specs.Audit.{finding_line, audit_output}
 
 -- ---- the lines
 
@@ -28,5 +28,5 @@ pub book_lines : (items names : List (List ℕ)) (was : Bool) (h0 h : Schedule) 
     (order : List ℕ) (tolds : List (ℕ × ℕ × ℕ × List ℕ)) (imports exports entries : ℕ)
     → record { items = items; transactions = names; closed = was; history = h0 } ≡ s → h ≡ h0
     → order ≡ committed_updates h → tolds ≡ map (summary_of weighted h) (committed_queries h) → imports ≡ all_imports weighted h → exports ≡ all_exports weighted h → entries ≡ length h.entries
-    → order_line names order ++ flat_map (told_line names) tolds ++ totals_line imports exports entries ≡ audit_output s
+    → order_line names order ++ flat_map (finding_line names) tolds ++ totals_line imports exports entries ≡ audit_output s
 book_lines items names was h0 h s order tolds imports exports entries seen same o t i e n = grind (arith, common_steps)

@@ -5,9 +5,9 @@ use Rattle.esr_history.specs.Queries.{is_committed_query}
 use Rattle.esr_base.specs.Watch.{BeginsWith}
 use Rattle.esr_script.specs.declared.fault.RunFault.TheVariants as fault
 use Rattle.esr_script.specs.Text.{ScriptState, transaction_called, final, RunFault}
-use Rattle.esr_telling.specs.declared.query.Asked.{Asked}
-use Rattle.esr_telling.specs.Ask.{IsAnswered}
-use Rattle.esr_script.specs.Ask.{IsAsked}
+use Rattle.esr_views.specs.declared.query.AuditedQuery.{AuditedQuery}
+use Rattle.esr_views.specs.Ask.{IsAnswered}
+use Rattle.esr_script.specs.Ask.{IsAuditedQuery}
 use Rattle.esr_script.specs.Ends.{IsWhole, IsReachedBy, IsWrittenBy}
 use Rattle.std.proofs.lemmas.Grind.{common_steps}
 
@@ -64,11 +64,11 @@ module _ (input : List ℕ) (left : Option (List ℕ)) where
   written_sent Q N text read whole is (Err e) old new out ok err = grind (arith, common_steps)
 
 -- what is asked after a replay
-pub asked_after : (input name : List ℕ) (left : Option (List ℕ)) (s : ScriptState) (r : Result Asked RunFault) → Consumes (Some input) left input → IsWhole input → final input ≡ s
+pub audited_after : (input name : List ℕ) (left : Option (List ℕ)) (s : ScriptState) (r : Result AuditedQuery RunFault) → Consumes (Some input) left input → IsWhole input → final input ≡ s
     → IfOk r (IsAnswered s name) → (IsErrOf r fault.NotACommittedQuery → is_committed_query s.history (transaction_called s name).0 ≡ false)
-    → IfErr r (λ f. (f ≡ fault.NoMemory) ⊎ (f ≡ fault.NotACommittedQuery)) → IsAsked input name left r
-asked_after input name left s (Ok a) read whole is answered none which = (read, whole, subst (λ (z : ScriptState). IsAnswered z name a) (sym is) answered)
-asked_after input name left s (Err f) read whole is answered none which = elim which [
+    → IfErr r (λ f. (f ≡ fault.NoMemory) ⊎ (f ≡ fault.NotACommittedQuery)) → IsAuditedQuery input name left r
+audited_after input name left s (Ok a) read whole is answered none which = (read, whole, subst (λ (z : ScriptState). IsAnswered z name a) (sym is) answered)
+audited_after input name left s (Err f) read whole is answered none which = elim which [
   | inl m ↦ rw m tt
   | inr q ↦ rw q (whole, subst (λ (z : ScriptState). is_committed_query z.history (transaction_called z name).0 ≡ false) (sym is) (none (ap (λ e. Err e) q)))
 ]

@@ -4,25 +4,25 @@ use Rattle.std.specs.Io.KnownBytes.{IsAtEnd}
 use Rattle.esr_history.specs.Machine.{Schedule}
 use Rattle.esr_bundle.specs.Bundle.{bundle}
 use Rattle.esr_script.specs.declared.fault.RunFault.TheVariants as fault
-use Rattle.esr_line.specs.declared.next.Next.TheVariants as next
-use Rattle.esr_line.specs.declared.limits.TheConstants.{MAX_LINES, MAX_LINE_BYTES}
+use Rattle.esr_grammar.specs.declared.next.Next.TheVariants as next
+use Rattle.esr_grammar.specs.declared.limits.TheConstants.{MAX_LINES, MAX_LINE_BYTES}
 use Rattle.esr_script.specs.Text.{ScriptState, transaction_called, Outcome, answer, RunFault}
 use Rattle.esr_cert.specs.Views.{certificate_of}
 use Rattle.esr_audit.specs.declared.finding.Finding.{Finding}
 use Rattle.esr_audit.proofs.SameSet.{same_set}
-use Rattle.esr_telling.specs.declared.query.Asked.{Asked}
-use Rattle.esr_telling.specs.Ask.{IsFound, IsAnswered}
+use Rattle.esr_views.specs.declared.query.AuditedQuery.{AuditedQuery}
+use Rattle.esr_views.specs.Ask.{IsFound, IsAnswered}
 use Rattle.esr_script.specs.Certify.{IsBundleLine}
 use Rattle.esr_script.specs.Ends.{EndsBy}
 use Rattle.esr_script.specs.Replays.{IsReplay, IsLineOf}
-use Rattle.esr_line.specs.Lines.{line_len, IsNext}
-use Rattle.esr_script.specs.Parts.{Standing, IsAnswer}
+use Rattle.esr_grammar.specs.Lines.{line_len, IsNext}
+use Rattle.esr_script.specs.Parts.{TxnStatus, IsAnswer}
 use Rattle.esr_script.proofs.Steps.{all_read, step_line, at_long, at_many, at_last, at_fault_line, at_fault_last, state_at_last}
 
 abbrev fault_of : Outcome → Option RunFault
 fault_of o = o.fault
 
-module _ (input : List ℕ) (left : Option (List ℕ)) (bytes : List ℕ) (n : ℕ) (s : ScriptState) (w : List ℕ) (here : Standing input left bytes n s w) where
+module _ (input : List ℕ) (left : Option (List ℕ)) (bytes : List ℕ) (n : ℕ) (s : ScriptState) (w : List ℕ) (here : TxnStatus input left bytes n s w) where
   pub replay_many : n ≡ MAX_LINES → 0 < length bytes → EndsBy input fault.TooManyLines
   replay_many many some = ap fault_of (at_many input left bytes n s w here many some)
 
@@ -34,7 +34,7 @@ module _ (input : List ℕ) (left : Option (List ℕ)) (bytes : List ℕ) (n : �
       ap fault_of (at_fault_line input left bytes n s w here fault.HistoryFull few (omega (arith, is.0, is.1)) (omega (arith, is.0, is.2)) (ap (λ j. answer s (take j bytes)) (sym is.0) ∙ full))
 
   pub replay_more : (k : ℕ) (s' : ScriptState) (t : List ℕ) → n ≢ MAX_LINES → IsNext (next.Line k) bytes → answer s (take k bytes) ≡ Ok (s', t)
-      → Standing input left (drop (k + 1) bytes) (n + 1) s' (w ++ t)
+      → TxnStatus input left (drop (k + 1) bytes) (n + 1) s' (w ++ t)
   replay_more k s' t few is ok = grind (arith, step_line)
 
   pub replay_ended : IsAtEnd left → line_len bytes ≡ length bytes → length bytes ≤ MAX_LINE_BYTES → 0 < length bytes → n ≢ MAX_LINES
@@ -58,6 +58,6 @@ bundled true h q f found line (c, certified, smallest, counted, is) =
     (bundle f.problem c, record { problem = f.problem; certificate = c; stands = found.stands; near = found.near; certified = certified; set_is = ap (filter_map (slice_get f.problem.updates)) same ∙ found.set_is; told = counted; text_is = refl }, is)
 
 -- the bundle of what was asked for, with a line feed
-pub bundle_told : (steps : Bool) (s : ScriptState) (name : List ℕ) (a : Asked) → IsAnswered s name a → (line : List ℕ)
+pub bundle_rendered : (steps : Bool) (s : ScriptState) (name : List ℕ) (a : AuditedQuery) → IsAnswered s name a → (line : List ℕ)
     → IsLineOf steps a.finding line → IsBundleLine steps s.history (transaction_called s name).0 line
-bundle_told steps s name a h line is = bundled steps s.history (transaction_called s name).0 a.finding h.finding.found line is
+bundle_rendered steps s name a h line is = bundled steps s.history (transaction_called s name).0 a.finding h.finding.found line is

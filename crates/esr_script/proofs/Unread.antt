@@ -1,19 +1,19 @@
 -- A line that is answered where nobody reads the text: what it leads to is what it would lead to.
 use Rattle.std.proofs.Common.{◌≡◌, List, ℕ, false, inl, sym, ap, Some, Result, Ok, Err, OnOk, IfErr}
-use Rattle.esr_line.specs.Command as command
-use Rattle.esr_line.specs.Command.{Command, is_skipped, reading}
+use Rattle.esr_grammar.specs.Command as command
+use Rattle.esr_grammar.specs.Command.{Command, is_skipped, reading}
 use Rattle.esr_script.specs.declared.fault.RunFault.TheVariants as fault
-use Rattle.esr_script.specs.Text.{ScriptState, RunFault, Obeys, Leads, closed, obey, answer, audit_text}
+use Rattle.esr_script.specs.Text.{ScriptState, RunFault, Executes, EndsIn, closed, execute, answer, audit_text}
 
 module _ (s new : ScriptState) (line : List ℕ) (skipped : is_skipped line ≡ false) where
   -- an audit that was not made
   pub passed : (name : List ℕ) → reading line ≡ Some (command.audit name) → (r : Result (Unit {0}) RunFault) → OnOk r (new ≡ closed s)
-      → IfErr r (λ e. e ≡ fault.NoMemory) → Leads (answer s line) new r
+      → IfErr r (λ e. e ≡ fault.NoMemory) → EndsIn (answer s line) new r
   passed name is (Ok done) ok err = record { ok = (audit_text s name, rw (skipped, is) (ap (λ (z : ScriptState). Ok (z, audit_text s name)) (sym ok))); faults = tt }
   passed name is (Err e) ok err = record { ok = tt; faults = inl err }
 
   -- any other command
-  pub obeyed : (c : Command) → reading line ≡ Some c → (r : Result (Unit {0}) RunFault) (out grown : List ℕ) → Obeys (obey s c) new out grown r
-      → Leads (answer s line) new r
-  obeyed c is (Ok done) out grown h = record { ok = (h.ok.0, rw (skipped, is) h.ok.1); faults = tt }
-  obeyed c is (Err e) out grown h = record { ok = tt; faults = rw (skipped, is) h.faults }
+  pub executed : (c : Command) → reading line ≡ Some c → (r : Result (Unit {0}) RunFault) (out grown : List ℕ) → Executes (execute s c) new out grown r
+      → EndsIn (answer s line) new r
+  executed c is (Ok done) out grown h = record { ok = (h.ok.0, rw (skipped, is) h.ok.1); faults = tt }
+  executed c is (Err e) out grown h = record { ok = tt; faults = rw (skipped, is) h.faults }

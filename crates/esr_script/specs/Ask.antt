@@ -1,10 +1,10 @@
 -- Asking a script for one of its queries.
 use Rattle.std.specs.Prelude.{ℕ, List, Option, Result}
-use Rattle.esr_telling.specs.declared.query.Asked.{Asked}
-use Rattle.esr_telling.specs.Ask.{IsAnswered}
+use Rattle.esr_views.specs.declared.query.AuditedQuery.{AuditedQuery}
+use Rattle.esr_views.specs.Ask.{IsAnswered}
 use Rattle.esr_script.specs.Text.{final, RunFault}
 use Rattle.esr_script.specs.Ends.{IsReachedBy, IsNoQuery}
 
 -- Asking for the query of that name, given the input, left these bytes of it and ended so.
-abbrev pub IsAsked : List ℕ → List ℕ → Option (List ℕ) → Result Asked RunFault → Type 0
-IsAsked input name left r = IsReachedBy (IsAnswered (final input) name) (IsNoQuery input name) input left r
+abbrev pub IsAuditedQuery : List ℕ → List ℕ → Option (List ℕ) → Result AuditedQuery RunFault → Type 0
+IsAuditedQuery input name left r = IsReachedBy (IsAnswered (final input) name) (IsNoQuery input name) input left r

@@ -11,8 +11,8 @@ use Rattle.esr_script.specs.Ends.{IsWrittenBy}
 
 -- the line of what is told of a query, by the names of the transactions: the query, its distance, its import, and the
 -- updates before its position
-abbrev pub told_line : List (List ℕ) → ℕ × ℕ × ℕ × List ℕ → List ℕ
-told_line names t = audit_line names (name_of_transaction names t.0) t.1 t.2 t.3
+abbrev pub finding_line : List (List ℕ) → ℕ × ℕ × ℕ × List ℕ → List ℕ
+finding_line names t = audit_line names (name_of_transaction names t.0) t.1 t.2 t.3
 
 -- The committed updates in the order of their commits, which is a serial order of them; a line for each committed
 -- query, in the
@@ -21,7 +21,7 @@ abbrev pub audit_output : ScriptState → List ℕ
 audit_output s =
     let h = s.history in
     order_line s.transactions (committed_updates h)
-    ++ flat_map (told_line s.transactions) (map (summary_of weighted h) (committed_queries h))
+    ++ flat_map (finding_line s.transactions) (map (summary_of weighted h) (committed_queries h))
     ++ totals_line (all_imports weighted h) (all_exports weighted h) (length h.entries)
 
 -- The audit of a script, given the input, left these bytes of it, ended so and wrote this. It asks for no one query.

@@ -10,12 +10,12 @@ use Rattle.esr_audit.specs.Problems.{StandsFor}
 use Rattle.esr_audit.specs.Findings.{IsCounted}
 use Rattle.esr_bundle.specs.Bundle.{bundle}
 use Rattle.esr_script.specs.Text.{final, RunFault}
-use Rattle.esr_script.specs.Ends.{query_of, IsToldBy}
+use Rattle.esr_script.specs.Ends.{query_of, IsReportedBy}
 
 -- the certificate tells the count of augmentations, or does not
-abbrev pub IsTold : Bool → Problem → Certificate → Type 0
-IsTold true p c = IsCounted p c
-IsTold false p c = c.augmentations ≡ None
+abbrev pub HasAugmentations : Bool → Problem → Certificate → Type 0
+HasAugmentations true p c = IsCounted p c
+HasAugmentations false p c = c.augmentations ≡ None
 
 -- The text is the bundle of a problem of the near updates that stands for the query, and of a certificate of it with the
 -- smallest least set.
@@ -26,7 +26,7 @@ pub record IsBundleOf (steps : Bool) (h : Schedule) (q : ℕ) (text : List ℕ) 
   pub near : AreNear h q problem.updates
   pub certified : Certifies problem certificate
   pub set_is : filter_map (slice_get problem.updates) certificate.set ≡ least_set weighted h q
-  pub told : IsTold steps problem certificate
+  pub told : HasAugmentations steps problem certificate
   pub text_is : text ≡ bundle problem certificate
 
 -- the same with a line feed
@@ -37,4 +37,4 @@ IsBundleLine steps h q line = (text : List ℕ) × IsBundleOf steps h q text × 
 -- line feed.
 abbrev pub IsCertifiedBy : Bool → List ℕ → List ℕ → Option (List ℕ) → Result (Unit {0}) RunFault → List ℕ → Type 0
 IsCertifiedBy steps input name left r written =
-    IsToldBy (IsBundleLine steps (final input).history (query_of input name)) input name left r written
+    IsReportedBy (IsBundleLine steps (final input).history (query_of input name)) input name left r written

@@ -53,7 +53,7 @@ IsWrittenBy Holds Refused input left r written = IsReachedBy (λ done. ⊤) Refu
 
 -- Telling of the query of that name, given the input, left these bytes of it, ended so and wrote this: a text of which
 -- this holds.
-abbrev pub IsToldBy : (List ℕ → Type 0) → List ℕ → List ℕ → Option (List ℕ) → Result (Unit {0}) RunFault
+abbrev pub IsReportedBy : (List ℕ → Type 0) → List ℕ → List ℕ → Option (List ℕ) → Result (Unit {0}) RunFault
     → List ℕ → Type 0
-IsToldBy Holds input name left r written =
+IsReportedBy Holds input name left r written =
     IsWrittenBy (λ text. (is_query input name ≡ true) × Holds text) (IsNoQuery input name) input left r written

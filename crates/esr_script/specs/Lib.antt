@@ -1,16 +1,16 @@
 -- What each subcommand that reads a script may write, by its bytes alone: `Text` for a run, and a module for each
 -- of the others. Lines are passed on from the crate of lines, since the two are read together.
 
-pub use Rattle.esr_line.specs.Lines
-pub use Rattle.esr_line.specs.Command
+pub use Rattle.esr_grammar.specs.Lines
+pub use Rattle.esr_grammar.specs.Command
 pub mod Text
 pub mod Run
 pub mod Ends
 pub mod Certify
 pub mod Ask
 pub mod Audit
-pub mod Copied
-pub mod Survey
+pub mod TeeReader
+pub mod ScriptView
 pub mod Replays
 pub mod Stages
 pub mod Parts

@@ -3,9 +3,9 @@ use Rattle.std.specs.Prelude.{◌≡◌, ℕ, List, ◌++◌, ◌⊎◌, Bool, t
 use Rattle.std.specs.Io.KnownBytes.{Appends}
 use Rattle.esr_base.specs.Watch.{BeginsWith}
 use Rattle.esr_script.specs.declared.fault.RunFault.TheVariants as fault
-use Rattle.esr_line.specs.Lines.{lines, whole_lines}
+use Rattle.esr_grammar.specs.Lines.{lines, whole_lines}
 use Rattle.esr_script.specs.Run.{IsRunBy}
-use Rattle.esr_script.specs.Text.{ScriptState, start, state_after, outcome, outcome_of_lines, outcome_from, behind, RunFault}
+use Rattle.esr_script.specs.Text.{ScriptState, start, state_after, outcome, outcome_of_lines, outcome_from, preceded_by, RunFault}
 
 -- whether a read failed, and whether a write did
 abbrev pub is_read_fault : {T : Type 0} → Result T RunFault → Bool
@@ -26,10 +26,10 @@ pub record Progress (input unread : List ℕ) (count : ℕ) (state : ScriptState
   pub cut_whole : (bytes : List ℕ) → whole_lines (used ++ bytes) ≡ answered ++ whole_lines bytes
   pub reached : state_after start answered ≡ state
   pub ran : (more : List (List ℕ)) → outcome_of_lines (answered ++ more)
-      ≡ behind written (outcome_from count state more)
+      ≡ preceded_by written (outcome_from count state more)
 
 -- the same, where the bytes before it are these ahead and those that the reader has left
-pub record Standing (input : List ℕ) (left : Option (List ℕ)) (bytes : List ℕ) (count : ℕ) (state : ScriptState)
+pub record TxnStatus (input : List ℕ) (left : Option (List ℕ)) (bytes : List ℕ) (count : ℕ) (state : ScriptState)
     (written : List ℕ) : Type 0 where
   pub rest : List ℕ
   pub known : left ≡ Some rest

@@ -3,7 +3,7 @@ use Rattle.std.specs.Prelude.{◌≡◌, ℕ, ◌≤◌, List, Option, Result, O
 use Rattle.std.specs.Io.KnownBytes.{Consumes}
 use Rattle.esr_base.specs.Watch.{BeginsWith}
 use Rattle.esr_script.specs.declared.fault.RunFault.TheVariants as fault
-use Rattle.esr_line.specs.Lines.{lines, whole_lines}
+use Rattle.esr_grammar.specs.Lines.{lines, whole_lines}
 use Rattle.esr_script.specs.Text.{Outcome, outcome, outcome_of_lines, RunFault}
 
 -- no line ends the run, and this is its text

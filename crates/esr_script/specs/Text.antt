@@ -2,7 +2,7 @@
 use Rattle.std.specs.Prelude.{◌≡◌, ◌⊎◌, OnOk, OnErr, IfErr, ℕ, ◌+◌, ◌==◌, ℤ, pos, List, [], ◌∷◌, ◌++◌, true, false, not, nat_lt, nat_eq, cond, Option, Some, None, Result, Ok, Err, length, unwrap_or, if◌then◌else◌}
 use Rattle.esr_items.specs.Values.{is_value}
 use Rattle.esr_items.specs.Weights.{is_weight, weighted}
-use Rattle.esr_base.specs.declared.limits.TheConstants.{MOST_ENTRIES, MOST_ITEMS}
+use Rattle.esr_base.specs.declared.limits.TheConstants.{MAX_ENTRIES, MAX_ITEMS}
 use Rattle.esr_base.specs.declared.numbers.ItemId.{ItemId}
 use Rattle.esr_history.specs.declared.event.Event.{Event}
 use Rattle.esr_history.specs.declared.event.Event.TheVariants as event
@@ -16,12 +16,12 @@ use Rattle.esr_report.specs.declared.lines.LineError.{LineError}
 use Rattle.esr_report.specs.declared.lines.LineError.TheVariants.{NotACommand, ItemsAreClosed, NameInUse, ValueOutOfRange, TooManyItems, NotACommittedQuery, WeightOutOfRange}
 use Rattle.esr_report.specs.Names.{position_of, is_bound}
 use Rattle.esr_report.specs.Lines.{Named, item_line, weighted_item_line, reply_line, totals_line, audit_line, error_line}
-use Rattle.esr_line.specs.declared.limits.TheConstants.{MAX_LINES, MAX_LINE_BYTES}
-pub use Rattle.esr_telling.specs.State.{ScriptState, transaction_called}
+use Rattle.esr_grammar.specs.declared.limits.TheConstants.{MAX_LINES, MAX_LINE_BYTES}
+pub use Rattle.esr_views.specs.State.{ScriptState, transaction_called}
 pub use Rattle.esr_script.specs.declared.fault.RunFault.{RunFault}
 use Rattle.esr_script.specs.declared.fault.RunFault.TheVariants as fault
-use Rattle.esr_line.specs.Lines.{lines}
-use Rattle.esr_line.specs.Command.{Command, item, weighted_item, begin_update, begin_query, begin_strict_query, read, write, commit, abort, audit, totals, is_skipped, reading}
+use Rattle.esr_grammar.specs.Lines.{lines}
+use Rattle.esr_grammar.specs.Command.{Command, item, weighted_item, begin_update, begin_query, begin_strict_query, read, write, commit, abort, audit, totals, is_skipped, reading}
 
 abbrev pub start : ScriptState
 start = record {
@@ -37,7 +37,7 @@ closed s = record s { closed = true }
 
 -- items are numbered from 0; a name that is not bound stands for a number that no item has
 abbrev pub item_called : ScriptState → List ℕ → ItemId
-item_called s name = record { 0 = unwrap_or (position_of s.items name) MOST_ITEMS }
+item_called s name = record { 0 = unwrap_or (position_of s.items name) MAX_ITEMS }
 
 -- the names of the transactions after a reply: an accepted begin binds its name
 abbrev pub bound : List (List ℕ) → List ℕ → Reply → List (List ℕ)
@@ -47,7 +47,7 @@ bound names name _ = names
 -- an event is given to the machine, whose reply is an entry of the history
 abbrev pub ask : ScriptState → Named → Event → Result (ScriptState × List ℕ) RunFault
 ask s named e =
-    if length s.history.entries == MOST_ENTRIES then Err fault.HistoryFull
+    if length s.history.entries == MAX_ENTRIES then Err fault.HistoryFull
     else (let r = reply_to weighted s.history e in let names = bound s.transactions named.txn r in
     Ok (record s { closed = true; transactions = names; history = extended s.history e r }, reply_line names named r))
 
@@ -72,7 +72,7 @@ item_error s name value weight =
     if s.closed then Some ItemsAreClosed
     else if is_bound s.items name then Some NameInUse
     else if not (is_value value) then Some ValueOutOfRange
-    else if length s.items == MOST_ITEMS then Some TooManyItems
+    else if length s.items == MAX_ITEMS then Some TooManyItems
     else if not (is_weight weight) then Some WeightOutOfRange
     else None
 
@@ -94,23 +94,23 @@ audit_text s name =
     else error_line NotACommittedQuery
 
 -- the state after a command, and its line
-abbrev pub obey : ScriptState → Command → Result (ScriptState × List ℕ) RunFault
-obey s (item name value) = Ok (declare s name value 1 (item_line name value))
-obey s (weighted_item name value weight) = Ok (declare s name value weight (weighted_item_line name value weight))
-obey s (begin_update name limit) = begin s name (event.BeginUpdate limit)
-obey s (begin_query name limit) = begin s name (event.BeginQuery limit false)
-obey s (begin_strict_query name limit) = begin s name (event.BeginQuery limit true)
-obey s (read txn x) =
+abbrev pub execute : ScriptState → Command → Result (ScriptState × List ℕ) RunFault
+execute s (item name value) = Ok (declare s name value 1 (item_line name value))
+execute s (weighted_item name value weight) = Ok (declare s name value weight (weighted_item_line name value weight))
+execute s (begin_update name limit) = begin s name (event.BeginUpdate limit)
+execute s (begin_query name limit) = begin s name (event.BeginQuery limit false)
+execute s (begin_strict_query name limit) = begin s name (event.BeginQuery limit true)
+execute s (read txn x) =
     ask s (record { txn = txn; item = x; value = pos 0 }) (event.Read (transaction_called s txn) (item_called s x))
-obey s (write txn x value) = ask s (record {
+execute s (write txn x value) = ask s (record {
   txn = txn;
   item = x;
   value = value;
 }) (event.Write (transaction_called s txn) (item_called s x) value)
-obey s (commit txn) = ask s (record { txn = txn; item = []; value = pos 0 }) (event.Commit (transaction_called s txn))
-obey s (abort txn) = ask s (record { txn = txn; item = []; value = pos 0 }) (event.Abort (transaction_called s txn))
-obey s (audit txn) = Ok (record s { closed = true }, audit_text s txn)
-obey s totals = Ok (
+execute s (commit txn) = ask s (record { txn = txn; item = []; value = pos 0 }) (event.Commit (transaction_called s txn))
+execute s (abort txn) = ask s (record { txn = txn; item = []; value = pos 0 }) (event.Abort (transaction_called s txn))
+execute s (audit txn) = Ok (record s { closed = true }, audit_text s txn)
+execute s totals = Ok (
   record s { closed = true },
   totals_line (all_imports weighted s.history) (all_exports weighted s.history) (length s.history.entries),
 )
@@ -120,20 +120,20 @@ abbrev pub answer : ScriptState → List ℕ → Result (ScriptState × List ℕ
 answer s line =
     if is_skipped line then Ok (s, [])
     else (elim (reading line) [
-      | Some command ↦ obey s command
+      | Some command ↦ execute s command
       | None ↦ Ok (s, error_line NotACommand)
     ])
 
 -- A line was to be answered so, and was: the state is that, and the text is behind the output. An error leaves the
 -- output, and is out of memory, or the full history that was to come.
-pub record Obeys (due : Result (ScriptState × List ℕ) RunFault) (new : ScriptState) (out_old out_new : List ℕ)
+pub record Executes (due : Result (ScriptState × List ℕ) RunFault) (new : ScriptState) (out_old out_new : List ℕ)
     (result : Result (Unit {0}) RunFault) : Type 0 where
   pub ok : OnOk result ((text : List ℕ) × (due ≡ Ok (new, text)) × (out_new ≡ out_old ++ text))
   pub err : OnErr result (out_new ≡ out_old)
   pub faults : IfErr result (λ e. (e ≡ fault.NoMemory) ⊎ ((e ≡ fault.HistoryFull) × (due ≡ Err fault.HistoryFull)))
 
 -- the same where the text is nobody's
-pub record Leads (due : Result (ScriptState × List ℕ) RunFault) (new : ScriptState) (result : Result (Unit {0}) RunFault)
+pub record EndsIn (due : Result (ScriptState × List ℕ) RunFault) (new : ScriptState) (result : Result (Unit {0}) RunFault)
     : Type 0 where
   pub ok : OnOk result ((text : List ℕ) × (due ≡ Ok (new, text)))
   pub faults : IfErr result (λ e. (e ≡ fault.NoMemory) ⊎ ((e ≡ fault.HistoryFull) × (due ≡ Err fault.HistoryFull)))
@@ -148,8 +148,8 @@ abbrev pub stopped : RunFault → Outcome
 stopped f = record { text = []; fault = Some f }
 
 -- the same outcome behind a text
-abbrev pub behind : List ℕ → Outcome → Outcome
-behind front o = record { text = front ++ o.text; fault = o.fault }
+abbrev pub preceded_by : List ℕ → Outcome → Outcome
+preceded_by front o = record { text = front ++ o.text; fault = o.fault }
 
 -- the run over the lines from a state on, of which count are answered or skipped already
 abbrev pub outcome_from : ℕ → ScriptState → List (List ℕ) → Outcome
@@ -158,7 +158,7 @@ outcome_from count state (line ∷ more) =
     cond (nat_eq count MAX_LINES) (stopped fault.TooManyLines)
     (cond (nat_lt MAX_LINE_BYTES (length line)) (stopped fault.LineTooLong)
     (elim (answer state line) [
-      | Ok next ↦ behind next.1 (outcome_from (count + 1) next.0 more)
+      | Ok next ↦ preceded_by next.1 (outcome_from (count + 1) next.0 more)
       | Err f ↦ stopped f
     ]))
 

@@ -2,19 +2,19 @@
 //! lies in the input buffer; none is copied. Who looks on sees each with its answer, and changes nothing. Where nobody
 //! reads the text, it is dropped line by line, so what is not made of it does not show.
 
-ghost use Rattle.esr_line.specs.declared.limits.TheConstants.{MAX_LINES, MAX_LINE_BYTES};
+ghost use Rattle.esr_grammar.specs.declared.limits.TheConstants.{MAX_LINES, MAX_LINE_BYTES};
 ghost use Rattle.std.specs.Prelude.{◌≡◌, ◌≢◌, ℕ, List, ◌+◌, ◌++◌, ◌≤◌, ◌⊎◌, [], Option, Err, OnOk, IfOk, IfErr, IsErrOf, false, length};
 ghost use Rattle.std.specs.Io.KnownBytes.{IsAtEnd};
 ghost use Rattle.esr_script.specs.Replays.{IsReplay};
-ghost use Rattle.esr_line.specs.Lines.{line_len, IsNext};
+ghost use Rattle.esr_grammar.specs.Lines.{line_len, IsNext};
 ghost use Rattle.esr_script.specs.Text.{answer};
-ghost use Rattle.esr_script.specs.Parts.{Standing, IsAnswer, IsHeldRun, IsUnread, is_read_fault, is_write_fault};
+ghost use Rattle.esr_script.specs.Parts.{TxnStatus, IsAnswer, IsHeldRun, IsUnread, is_read_fault, is_write_fault};
 
 use crate::fault::RunFault;
-use crate::input::Pending;
+use crate::input::InputBuffer;
 use crate::script::Script;
 use crate::sink::{Audience, Sink};
-use esr_line::{MAX_LINES, Next};
+use esr_grammar::{MAX_LINES, Next};
 use esr_lint::Observer;
 
 /// The count of bytes of the line that is next, where it may be answered.
@@ -64,7 +64,7 @@ fn answer<S: Sink, O: Observer>(
 #[tactic(auto, using(crate::proofs::Handed::handed_on))]
 pub fn answer_next<S: Sink, O: Observer>(
     next: Next,
-    pending: &mut Pending,
+    pending: &mut InputBuffer,
     count: u64,
     script: &mut Script,
     sink: &S,
@@ -76,14 +76,14 @@ pub fn answer_next<S: Sink, O: Observer>(
     requires count { count ≤ MAX_LINES }
     ensures few { OnOk result (count ≢ MAX_LINES) }
     ensures text { OnOk result ((text gone : List ℕ) × (out.old.items ++ text ≡ gone ++ out.new.items)
-        × IsUnread (S.contents sink.now) gone × ((input written : List ℕ) (left : Option (List ℕ)) → Standing input left pending.old count script.old written
-        → Standing input left pending.new (count + 1) script.new (written ++ text))) }
+        × IsUnread (S.contents sink.now) gone × ((input written : List ℕ) (left : Option (List ℕ)) → TxnStatus input left pending.old count script.old written
+        → TxnStatus input left pending.new (count + 1) script.new (written ++ text))) }
     ensures held { IfErr result (λ e. (input sent : List ℕ) (left : Option (List ℕ))
-        → Standing input left pending.old count script.old (sent ++ out.old.items)
+        → TxnStatus input left pending.old count script.old (sent ++ out.old.items)
         → (gone : List ℕ) × IsUnread (S.contents sink.now) gone × IsHeldRun input left out.new.items (Err e)
         (sent ++ gone)) }
     ensures replay { IfErr result (λ e. (input written : List ℕ) (left : Option (List ℕ))
-        → Standing input left pending.old count script.old written → IsReplay input left (Err e) script.new) }
+        → TxnStatus input left pending.old count script.old written → IsReplay input left (Err e) script.new) }
     ensures read { is_read_fault result ≡ false }
     ensures write { is_write_fault result ≡ false }
 {
@@ -102,7 +102,7 @@ pub fn answer_next<S: Sink, O: Observer>(
 
 /// Answers the line that has no line feed, where there is one.
 pub fn answer_last<S: Sink, O: Observer>(
-    pending: &Pending,
+    pending: &InputBuffer,
     count: u64,
     script: &mut Script,
     sink: &S,
@@ -112,11 +112,11 @@ pub fn answer_last<S: Sink, O: Observer>(
     requires short { length pending.now ≤ MAX_LINE_BYTES }
     requires count { count ≤ MAX_LINES }
     ensures held { (input sent : List ℕ) (left : Option (List ℕ))
-        → Standing input left pending.now count script.old (sent ++ out.old.items)
+        → TxnStatus input left pending.now count script.old (sent ++ out.old.items)
         → IsAtEnd left → line_len pending.now ≡ length pending.now → (gone : List ℕ)
         × IsUnread (S.contents sink.now) gone × IsHeldRun input left out.new.items result (sent ++ gone) }
     ensures replay { (input written : List ℕ) (left : Option (List ℕ))
-        → Standing input left pending.now count script.old written
+        → TxnStatus input left pending.now count script.old written
         → IsAtEnd left → line_len pending.now ≡ length pending.now → IsReplay input left result script.new }
     ensures read { is_read_fault result ≡ false }
     ensures write { is_write_fault result ≡ false }

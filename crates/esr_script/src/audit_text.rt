@@ -1,7 +1,7 @@
 //! Audits a whole script: it is run without its output, and the serial order, what is found of each committed query,
 //! and the totals are written. All of it is a function of the history, so the number of workers does not show.
 
-ghost use Rattle.esr_board.specs.declared.board.TheConstants.{MOST_SEATS};
+ghost use Rattle.esr_board.specs.declared.board.TheConstants.{MAX_SEATS};
 ghost use Rattle.std.specs.Prelude.{◌≡◌, ◌≤◌, ℕ, List, Some, false};
 ghost use Rattle.esr_base.specs.Watch.{inner, failed};
 ghost use Rattle.esr_script.specs.Audit.{IsAuditedBy, audit_output};
@@ -31,7 +31,7 @@ fn prepare<T: Threads + Sync, R: Read, G: Gate + Sync, O: Observer>(
     observer: &mut O,
 ) -> Result<Vec<u8>, RunFault>
     requires reader { failed reader.old ≡ false }
-    requires workers { (1 ≤ workers) × (workers ≤ MOST_SEATS) }
+    requires workers { (1 ≤ workers) × (workers ≤ MAX_SEATS) }
     ensures ready { (input : List ℕ) → R.remaining (inner reader.old) ≡ Some input
         → IsReachedBy (λ out. out.items ≡ audit_output (final input)) ⊥ input (R.remaining (inner reader.new)) result }
     ensures reader { failed reader.new ≡ is_read_fault result }
@@ -60,7 +60,7 @@ pub fn audit<T: Threads + Sync, R: Read, W: Write, G: Gate + Sync, O: Observer>(
 ) -> Result<(), RunFault>
     requires reader { failed reader.old ≡ false }
     requires writer { failed writer.old ≡ false }
-    requires workers { (1 ≤ workers) × (workers ≤ MOST_SEATS) }
+    requires workers { (1 ≤ workers) × (workers ≤ MAX_SEATS) }
     ensures { ReadsAndWrites R.remaining W.contents reader.old reader.new writer.old writer.new
         IsAuditedBy result }
 {

@@ -3,7 +3,7 @@
 ghost use Rattle.std.specs.Prelude.{◌≡◌, ◌++◌, OnOk, map, flat_map};
 ghost use Rattle.esr_report.specs.Lines.{order_line, totals_line};
 ghost use Rattle.esr_audit.specs.Findings.{seen_summary};
-ghost use Rattle.esr_script.specs.Audit.{told_line};
+ghost use Rattle.esr_script.specs.Audit.{finding_line};
 
 use esr_audit::{Summaries, Summary};
 use esr_core::Totals;
@@ -12,7 +12,7 @@ use std::alloc::AllocError;
 
 /// Appends the line of what was found of a query.
 fn push_summary(out: &mut Vec<u8>, names: &Names, summary: &Summary) -> Result<(), AllocError>
-    ensures { OnOk result (out.new.items ≡ out.old.items ++ told_line names.now (seen_summary summary.now)) }
+    ensures { OnOk result (out.new.items ≡ out.old.items ++ finding_line names.now (seen_summary summary.now)) }
 {
     let before = summary.before.to_vec(*out.allocator())?;
     audit_line(
@@ -29,7 +29,7 @@ fn push_summary(out: &mut Vec<u8>, names: &Names, summary: &Summary) -> Result<(
 #[tactic(auto, using(crate::proofs::Audited::lines_more))]
 fn push_summaries(out: &mut Vec<u8>, names: &Names, summaries: &[Summary]) -> Result<(), AllocError>
     ensures { OnOk result (out.new.items ≡ out.old.items
-        ++ flat_map (told_line names.now) (map seen_summary summaries.now)) }
+        ++ flat_map (finding_line names.now) (map seen_summary summaries.now)) }
 {
     for summary in summaries {
         push_summary(out, names, summary)?;
@@ -46,7 +46,7 @@ pub fn push_audit(
 ) -> Result<(), AllocError>
     ensures { OnOk result (out.new.items ≡ out.old.items
         ++ order_line names.now (map (λ t. t.0) found.now.order.items)
-        ++ flat_map (told_line names.now) (map seen_summary found.now.summaries.items)
+        ++ flat_map (finding_line names.now) (map seen_summary found.now.summaries.items)
         ++ totals_line totals.import totals.export totals.entries) }
 {
     order_line(out, names, &found.order)?;

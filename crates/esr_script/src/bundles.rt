@@ -14,13 +14,13 @@ ghost use Rattle.esr_script.specs.ReaderToWriter.{ReadsAndWrites};
 ghost use Rattle.esr_script.specs.Text.{transaction_called};
 
 use crate::fault::RunFault;
-use crate::query_text::tell;
+use crate::query_text::render_query;
 use esr_audit::{Finding, certify_with_steps};
 use esr_bundle::to_json;
 use esr_cert::{Certificate, Problem};
 use esr_history::Watched;
 use esr_lint::Observer;
-use esr_telling::{Asked, Telling};
+use esr_views::{AuditedQuery, QueryView};
 use std::alloc::{AllocError, Global};
 use std::io::{Read, Write};
 
@@ -59,11 +59,11 @@ struct Bundling {
     steps: bool,
 }
 
-impl Telling for Bundling {
+impl QueryView for Bundling {
     ghost IsTextOf = { λ b s name text. IsBundleLine b.steps s.history (transaction_called s name).0 text };
 
-    fn text_of(&self, alloc: Global, asked: &mut Asked) -> Result<Vec<u8>, AllocError> {
-        bundle_line(alloc, &asked.finding, self.steps)
+    fn text_of(&self, alloc: Global, audited: &mut AuditedQuery) -> Result<Vec<u8>, AllocError> {
+        bundle_line(alloc, &audited.finding, self.steps)
     }
 }
 
@@ -83,7 +83,7 @@ pub fn certify<R: Read, W: Write, O: Observer>(
     ensures { ReadsAndWrites R.remaining W.contents reader.old reader.new writer.old writer.new
         (λ input. IsCertifiedBy false input name.now) result }
 {
-    tell(
+    render_query(
         alloc,
         reader,
         writer,
@@ -106,7 +106,7 @@ pub fn certify_steps<R: Read, W: Write, O: Observer>(
     ensures { ReadsAndWrites R.remaining W.contents reader.old reader.new writer.old writer.new
         (λ input. IsCertifiedBy true input name.now) result }
 {
-    tell(
+    render_query(
         alloc,
         reader,
         writer,

@@ -3,7 +3,7 @@
 ghost use Rattle.std.specs.Prelude.{◌≡◌};
 ghost use Rattle.std.specs.Io.{ReadsAtMost};
 ghost use Rattle.std.specs.Io.KnownBytes.{ReadConsumes};
-ghost use Rattle.esr_script.specs.Copied.{lower};
+ghost use Rattle.esr_script.specs.TeeReader.{lower};
 
 use std::alloc::Global;
 use std::io;
@@ -11,17 +11,17 @@ use std::io::Read;
 
 /// A reader with a copy of what was read from it.
 #[derive(Drop)]
-pub struct Copied<R> {
+pub struct TeeReader<R> {
     lower: R,
     copy: Vec<u8>,
     is_whole: bool,
 }
 
-impl<R> Copied<R> {
-    pub fn new(alloc: Global, reader: R) -> Copied<R>
+impl<R> TeeReader<R> {
+    pub fn new(alloc: Global, reader: R) -> TeeReader<R>
         ensures { lower result ≡ reader }
     {
-        Copied {
+        TeeReader {
             lower: reader,
             copy: Vec::new(alloc),
             is_whole: true,
@@ -47,7 +47,7 @@ impl<R> Copied<R> {
     }
 }
 
-impl<R: Read> Read for Copied<R> {
+impl<R: Read> Read for TeeReader<R> {
     ghost remaining = { λ c. R.remaining (lower c) };
 
     fn read(&mut self, buf: &mut [u8]) -> io::Result<usize> {

@@ -4,7 +4,7 @@
 //! next: a line that asks for an audit reads the entries that are new, and a script that asks for none pays nothing. What
 //! the index has read stays the beginning of the log, since the machine only adds to it.
 ghost use Rattle.std.specs.Prelude.{◌≡◌, IfOk, OnErr, IsErrOf, false, true, length};
-ghost use Rattle.esr_base.specs.declared.limits.TheConstants.{MOST_ENTRIES};
+ghost use Rattle.esr_base.specs.declared.limits.TheConstants.{MAX_ENTRIES};
 ghost use Rattle.esr_history.specs.Machine.{reply_to, extended};
 ghost use Rattle.esr_history.specs.Totals.{all_imports, all_exports};
 ghost use Rattle.esr_history.specs.Queries.{is_committed_query};
@@ -53,8 +53,8 @@ impl Engine {
         ensures reply { IfOk result (λ reply. reply ≡ reply_to weighted self.old event) }
         ensures added { IfOk result (λ reply. self.new ≡ extended self.old event reply) }
         ensures err { OnErr result (self.new ≡ self.old) }
-        ensures full { IsErrOf result StepError.HistoryFull → length self.old.entries ≡ MOST_ENTRIES }
-        ensures room { IfOk result (λ reply. ¬ (length self.old.entries ≡ MOST_ENTRIES)) }
+        ensures full { IsErrOf result StepError.HistoryFull → length self.old.entries ≡ MAX_ENTRIES }
+        ensures room { IfOk result (λ reply. ¬ (length self.old.entries ≡ MAX_ENTRIES)) }
         ensures open { ¬ IsErrOf result StepError.EngineClosed }
     {
         self.machine.step(event)

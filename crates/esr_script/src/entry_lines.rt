@@ -2,7 +2,7 @@
 //! an entry. Before, a copy of the script was kept, of some twenty bytes a line, and cut into lines once more. No clause
 //! says which they are, as none speaks of what an observer sees.
 
-use esr_lint::{Observer, Standing, is_error};
+use esr_lint::{Observer, TxnStatus, is_error};
 use std::alloc::Global;
 
 /// Whether a line made an entry: it gave the machine an event, and was answered by no error.
@@ -17,15 +17,15 @@ fn makes_entry(line: &[u8], answer: &[u8]) -> bool {
 
 /// Keeps the number of each line that made an entry, and lets another observer look on.
 #[derive(Drop)]
-pub struct Numbering<'a, O> {
+pub struct EntryLines<'a, O> {
     observer: &'a mut O,
     lines: Vec<u32>,
     is_whole: bool,
 }
 
-impl<'a, O> Numbering<'a, O> {
-    pub fn new(alloc: Global, observer: &'a mut O) -> Numbering<'a, O> {
-        Numbering {
+impl<'a, O> EntryLines<'a, O> {
+    pub fn new(alloc: Global, observer: &'a mut O) -> EntryLines<'a, O> {
+        EntryLines {
             observer,
             lines: Vec::new(alloc),
             is_whole: true,
@@ -42,7 +42,7 @@ impl<'a, O> Numbering<'a, O> {
     }
 }
 
-impl<O: Observer> Observer for Numbering<'_, O> {
+impl<O: Observer> Observer for EntryLines<'_, O> {
     fn see_line(&mut self, number: u64, line: &[u8], answer: &[u8]) {
         if makes_entry(line, answer) {
             let number = u32::try_from(number).unwrap_or(u32::MAX);
@@ -53,8 +53,8 @@ impl<O: Observer> Observer for Numbering<'_, O> {
         self.observer.see_line(number, line, answer);
     }
 
-    fn see_transaction(&mut self, name: &str, standing: Standing) {
-        self.observer.see_transaction(name, standing);
+    fn see_transaction(&mut self, name: &str, status: TxnStatus) {
+        self.observer.see_transaction(name, status);
     }
 
     fn see_end(&mut self) {

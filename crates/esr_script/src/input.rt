@@ -1,15 +1,15 @@
 //! Bytes that were read and are not yet used, in one buffer that never grows: a line has at most 200 bytes, so 65,536
 //! always have room for one more read.
 
-ghost use Rattle.esr_line.specs.declared.limits.TheConstants.{MAX_LINE_BYTES, INPUT_ROOM};
+ghost use Rattle.esr_grammar.specs.declared.limits.TheConstants.{MAX_LINE_BYTES, INPUT_ROOM};
 ghost use Rattle.std.specs.Prelude.{◌≡◌, ℕ, ◌<◌, ◌≤◌, List, [], ◌++◌, IfOk, IfErr, drop, take, ◌-◌, length, ◌||◌};
 ghost use Rattle.std.specs.Io.KnownBytes.{Consumes, Keeps, IsAtEnd};
 ghost use Rattle.esr_base.specs.Watch.{inner, failed};
 ghost use Rattle.esr_script.specs.Parts.{is_read_fault};
 
 use crate::fault::RunFault;
+use esr_grammar::INPUT_ROOM;
 use esr_history::Watched;
-use esr_line::INPUT_ROOM;
 use std::alloc::{AllocError, Global};
 use std::io::Read;
 use std::marker::Model;
@@ -17,13 +17,13 @@ use std::marker::Model;
 /// Bytes that were read and are not yet used, seen as the list of them. They are
 /// in one buffer from `start` to `end`.
 #[derive(Drop)]
-pub struct Pending {
+pub struct InputBuffer {
     buffer: Vec<u8>,
     start: usize,
     end: usize,
 }
 
-impl Model for Pending {
+impl Model for InputBuffer {
     ghost Value = { List ℕ };
 
     ghost view = { λ p. take (p.end - p.start) (drop p.start p.buffer.items) };
@@ -32,12 +32,12 @@ impl Model for Pending {
         × (length p.buffer.items ≡ INPUT_ROOM) };
 }
 
-impl Pending {
-    pub fn new(alloc: Global) -> Result<Pending, AllocError>
+impl InputBuffer {
+    pub fn new(alloc: Global) -> Result<InputBuffer, AllocError>
         ensures { IfOk result (λ p. p ≡ []) }
     {
         let buffer = vec![in alloc; 0u8; INPUT_ROOM]?;
-        Ok(Pending {
+        Ok(InputBuffer {
             buffer,
             start: 0,
             end: 0,

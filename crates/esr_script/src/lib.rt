@@ -29,13 +29,13 @@ mod stage;
 
 pub use audit_text::audit;
 pub use bundles::{certify, certify_steps};
-pub use copier::Copied;
+pub use copier::TeeReader;
 pub use esr_board::{Gate, NoGate};
-pub use esr_line::{INPUT_ROOM, Line, MAX_LINE_BYTES, MAX_LINES, Parsed, parse_line};
+pub use esr_grammar::{INPUT_ROOM, Line, MAX_LINE_BYTES, MAX_LINES, Parsed, parse_line};
 pub use fault::RunFault;
 pub use inspection::lint;
 pub use output::send_all;
 pub use query::ask;
-pub use query_text::tell;
+pub use query_text::render_query;
 pub use runs::run;
-pub use script_text::survey;
+pub use script_text::render_script;

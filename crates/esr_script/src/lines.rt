@@ -2,10 +2,10 @@
 //!
 //! Bytes that were read and not used yet are in `input`, text that the sink has not taken yet in `out`. Between two
 //! steps the lines so far, answered one after another, have led to the script's state and to the text that was taken
-//! with that in `out` behind it (`Standing`). The text is taken before the input is waited for, so that whoever types
+//! with that in `out` behind it (`TxnStatus`). The text is taken before the input is waited for, so that whoever types
 //! lines sees each answered, and where much of it has come together.
 
-ghost use Rattle.esr_line.specs.declared.limits.TheConstants.{MAX_LINE_BYTES};
+ghost use Rattle.esr_grammar.specs.declared.limits.TheConstants.{MAX_LINE_BYTES};
 ghost use Rattle.std.specs.Prelude.{◌≡◌, ℕ, List, [], ◌++◌, Some, IsErrOf, IfErr, IfOk, false, ◌≤◌, ◌⊎◌, length};
 ghost use Rattle.std.specs.Io.KnownBytes.{Appends, Consumes, IsAtEnd, Keeps};
 ghost use Rattle.esr_base.specs.Watch.{inner, failed, BeginsWith};
@@ -15,11 +15,11 @@ ghost use Rattle.esr_script.specs.Replays.{IsReplay};
 
 use crate::answers::{answer_last, answer_next};
 use crate::fault::RunFault;
-use crate::input::Pending;
+use crate::input::InputBuffer;
 use crate::script::Script;
 use crate::sink::Sink;
+use esr_grammar::{Next, next_line};
 use esr_history::Watched;
-use esr_line::{Next, next_line};
 use esr_lint::Observer;
 use std::io::Read;
 
@@ -30,7 +30,7 @@ const OUTPUT_FULL: usize = 32768;
 pub fn answer_lines<R: Read, S: Sink, O: Observer>(
     reader: &mut Watched<R>,
     sink: &mut S,
-    pending: &mut Pending,
+    pending: &mut InputBuffer,
     script: &mut Script,
     out: &mut Vec<u8>,
     observer: &mut O,
@@ -73,7 +73,7 @@ pub fn answer_lines<R: Read, S: Sink, O: Observer>(
 fn read_on<R: Read, S: Sink>(
     reader: &mut Watched<R>,
     sink: &mut S,
-    pending: &mut Pending,
+    pending: &mut InputBuffer,
     out: &mut Vec<u8>,
 ) -> Result<usize, RunFault>
     requires short { length pending.old ≤ MAX_LINE_BYTES }

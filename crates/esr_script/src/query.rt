@@ -4,14 +4,14 @@
 
 ghost use Rattle.std.specs.Prelude.{◌≡◌, ℕ, List, Some, false};
 ghost use Rattle.esr_base.specs.Watch.{inner, failed};
-ghost use Rattle.esr_script.specs.Ask.{IsAsked};
+ghost use Rattle.esr_script.specs.Ask.{IsAuditedQuery};
 ghost use Rattle.esr_script.specs.Parts.{is_read_fault, is_write_fault};
 
 use crate::fault::RunFault;
 use crate::silent_run::replay;
 use esr_history::Watched;
 use esr_lint::Observer;
-use esr_telling::Asked;
+use esr_views::AuditedQuery;
 use std::alloc::Global;
 use std::io::Read;
 
@@ -26,13 +26,13 @@ pub fn ask<R: Read, O: Observer>(
     reader: &mut Watched<R>,
     name: &str,
     observer: &mut O,
-) -> Result<Asked, RunFault>
+) -> Result<AuditedQuery, RunFault>
     requires reader { failed reader.old ≡ false }
-    ensures asked { (input : List ℕ) → R.remaining (inner reader.old) ≡ Some input
-        → IsAsked input name.now (R.remaining (inner reader.new)) result }
+    ensures audited { (input : List ℕ) → R.remaining (inner reader.old) ≡ Some input
+        → IsAuditedQuery input name.now (R.remaining (inner reader.new)) result }
     ensures reader { failed reader.new ≡ is_read_fault result }
     ensures write { is_write_fault result ≡ false }
 {
     let script = replay(alloc, reader, observer)?;
-    script.tell_of(name, observer)
+    script.audited_query(name, observer)
 }

@@ -3,7 +3,7 @@
 
 ghost use Rattle.std.specs.Prelude.{◌≡◌, ℕ, List, IfOk, IfErr, Ok, true, false, Some};
 ghost use Rattle.esr_base.specs.Watch.{inner, failed};
-ghost use Rattle.esr_script.specs.Ends.{IsReachedBy, IsNoQuery, IsToldBy, is_query};
+ghost use Rattle.esr_script.specs.Ends.{IsReachedBy, IsNoQuery, IsReportedBy, is_query};
 ghost use Rattle.esr_script.specs.Parts.{is_read_fault, is_write_fault};
 ghost use Rattle.esr_script.specs.ReaderToWriter.{ReadsAndWrites};
 ghost use Rattle.esr_script.specs.Text.{final};
@@ -13,7 +13,7 @@ use crate::output::send_all;
 use crate::query::ask;
 use esr_history::Watched;
 use esr_lint::Observer;
-use esr_telling::Telling;
+use esr_views::QueryView;
 use std::alloc::{AllocError, Global};
 use std::io::{Read, Write};
 
@@ -32,23 +32,23 @@ fn text_or_fault(text: Result<Vec<u8>, AllocError>) -> Result<Vec<u8>, RunFault>
 
 /// The text of what a script tells of its query of that name.
 #[tactic(auto, using(crate::proofs::Handed::handed_on))]
-fn telling_text<R: Read, T: Telling, O: Observer>(
+fn view_text<R: Read, T: QueryView, O: Observer>(
     alloc: Global,
     reader: &mut Watched<R>,
     name: &str,
-    telling: &T,
+    view: &T,
     observer: &mut O,
 ) -> Result<Vec<u8>, RunFault>
     requires reader { failed reader.old ≡ false }
     ensures text { (input : List ℕ) → R.remaining (inner reader.old) ≡ Some input
         → IsReachedBy (λ text. (is_query input name.now ≡ true)
-        × T.IsTextOf telling.now (final input) name.now text.items)
+        × T.IsTextOf view.now (final input) name.now text.items)
         (IsNoQuery input name.now) input (R.remaining (inner reader.new)) result }
     ensures reader { failed reader.new ≡ is_read_fault result }
     ensures write { is_write_fault result ≡ false }
 {
-    let mut asked = ask(alloc, reader, name, observer)?;
-    text_or_fault(telling.text_of(alloc, &mut asked))
+    let mut audited = ask(alloc, reader, name, observer)?;
+    text_or_fault(view.text_of(alloc, &mut audited))
 }
 
 /// Runs a script without writing its output, and writes the text of what it tells of its query of that name.
@@ -57,19 +57,19 @@ fn telling_text<R: Read, T: Telling, O: Observer>(
 /// As `ask` has them; `NoMemory` also where no text is made. After a fault other than `Write` nothing was written,
 /// after `Write` a prefix of the text.
 #[tactic(auto, using(crate::proofs::Handed::handed_on))]
-pub fn tell<R: Read, W: Write, T: Telling, O: Observer>(
+pub fn render_query<R: Read, W: Write, T: QueryView, O: Observer>(
     alloc: Global,
     reader: &mut Watched<R>,
     writer: &mut Watched<W>,
     name: &str,
-    telling: &T,
+    view: &T,
     observer: &mut O,
 ) -> Result<(), RunFault>
     requires reader { failed reader.old ≡ false }
     requires writer { failed writer.old ≡ false }
     ensures { ReadsAndWrites R.remaining W.contents reader.old reader.new writer.old writer.new
-        (λ input. IsToldBy (T.IsTextOf telling.now (final input) name.now) input name.now) result }
+        (λ input. IsReportedBy (T.IsTextOf view.now (final input) name.now) input name.now) result }
 {
-    let mut text = telling_text(alloc, reader, name, telling, observer)?;
+    let mut text = view_text(alloc, reader, name, view, observer)?;
     send_all(&mut text, writer)
 }

@@ -11,7 +11,7 @@ ghost use Rattle.esr_script.specs.Parts.{IsHeldRun, is_read_fault, is_write_faul
 ghost use Rattle.esr_script.specs.ReaderToWriter.{ReadsAndWrites};
 
 use crate::fault::RunFault;
-use crate::input::Pending;
+use crate::input::InputBuffer;
 use crate::lines::answer_lines;
 use crate::output::{OUTPUT_ROOM, send_all};
 use crate::script::Script;
@@ -36,7 +36,7 @@ pub fn run<R: Read, W: Write, O: Observer>(
     ensures { ReadsAndWrites R.remaining W.contents reader.old reader.new writer.old writer.new
         IsRunBy result }
 {
-    let Ok(mut pending) = Pending::new(alloc) else {
+    let Ok(mut pending) = InputBuffer::new(alloc) else {
         return Err(RunFault::NoMemory);
     };
     let Ok(mut out) = Vec::with_capacity(alloc, OUTPUT_ROOM) else {

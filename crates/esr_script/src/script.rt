@@ -3,21 +3,21 @@
 //! A name that is not bound is asked of the machine all the same, as a transaction and an item that do not exist: so
 //! there is one order of refusals, and the refusal is an entry like any other.
 
-ghost use Rattle.esr_board.specs.declared.board.TheConstants.{MOST_SEATS};
+ghost use Rattle.esr_board.specs.declared.board.TheConstants.{MAX_SEATS};
 ghost use Rattle.std.specs.Prelude.{◌≡◌, ◌≢◌, ℕ, List, ◌+◌, ◌<◌, ◌≤◌, ◌⊎◌, [], ◌∷◌, ◌++◌, Ok, Err, None, OnErr, OnOk, IfOk, IfErr, IsErrOf, IsOk, true, false, ◌↔◌, length, pos};
 ghost use Rattle.esr_report.specs.Names.{position_of};
 ghost use Rattle.esr_report.specs.Subjects.{named_by};
-ghost use Rattle.esr_script.specs.Text.{Obeys, Leads, start, closed, transaction_called, item_called, item_error, with_item, begin, ask, obey, answer, ScriptState};
+ghost use Rattle.esr_script.specs.Text.{Executes, EndsIn, start, closed, transaction_called, item_called, item_error, with_item, begin, ask, execute, answer, ScriptState};
 ghost use Rattle.esr_script.specs.Stages.{IsBegin, is_running, history_of};
-ghost use Rattle.esr_telling.specs.Ask.{IsAnswered, IsFoundOf, IsRecorded};
+ghost use Rattle.esr_views.specs.Ask.{IsAnswered, IsFoundOf, IsRecorded};
 ghost use Rattle.esr_script.specs.Audit.{audit_output};
 ghost use Rattle.esr_history.specs.Queries.{is_committed_query};
-ghost use Rattle.esr_line.specs.Command.{view, Spells};
+ghost use Rattle.esr_grammar.specs.Command.{view, Spells};
 ghost use Rattle.std.specs.List.{join_with_byte};
 ghost use Rattle.std.specs.Fmt.{signed_decimal};
 ghost use Rattle.esr_script.specs.Echoes.{IsEcho};
-ghost use Rattle.esr_base.specs.declared.limits.TheConstants.{MOST_ENTRIES, MOST_ITEMS};
-ghost use Rattle.esr_line.specs.Command as command;
+ghost use Rattle.esr_base.specs.declared.limits.TheConstants.{MAX_ENTRIES, MAX_ITEMS};
+ghost use Rattle.esr_grammar.specs.Command as command;
 
 use crate::book::push_audit;
 use crate::echo::{Echo, push_reply};
@@ -26,14 +26,14 @@ use crate::sink::Audience;
 use crate::stage::Stage;
 use esr_audit::{AuditError, Finding};
 use esr_board::Gate;
+use esr_grammar::{Line, Parsed, parse_line};
 use esr_history::{Event, Reply, TxnId};
-use esr_items::{ItemId, LARGEST_VALUE, LARGEST_WEIGHT, MOST_ITEMS};
-use esr_line::{Line, Parsed, parse_line};
-use esr_lint::{End, Observer, Standing};
+use esr_items::{ItemId, MAX_ITEMS, MAX_VALUE, MAX_WEIGHT};
+use esr_lint::{End, Observer, TxnStatus};
 use esr_report::{
     LineError, Names, Subject, audit_line, error_line, item_line, totals_line, weighted_item_line,
 };
-use esr_telling::{Asked, Chronicle};
+use esr_views::{AuditedQuery, Recording};
 use std::alloc::{AllocError, Global};
 use std::marker::Model;
 use std::thread::Threads;
@@ -57,9 +57,9 @@ impl Model for Script {
       history = history_of s.stage;
     } };
 
-    ghost invariant = { λ s. (length s.items ≤ MOST_ITEMS)
+    ghost invariant = { λ s. (length s.items ≤ MAX_ITEMS)
         × (length s.transactions ≤ length (history_of s.stage).entries)
-        × (length (history_of s.stage).entries ≤ MOST_ENTRIES) };
+        × (length (history_of s.stage).entries ≤ MAX_ENTRIES) };
 }
 
 impl Script {
@@ -93,7 +93,7 @@ impl Script {
     {
         match self.items.number_of(name) {
             Some(position) => ItemId(position),
-            None => ItemId(MOST_ITEMS as u32),
+            None => ItemId(MAX_ITEMS as u32),
         }
     }
 
@@ -107,13 +107,13 @@ impl Script {
         if self.items.number_of(name).is_some() {
             return Some(LineError::NameInUse);
         }
-        if value.unsigned_abs() > LARGEST_VALUE {
+        if value.unsigned_abs() > MAX_VALUE {
             return Some(LineError::ValueOutOfRange);
         }
-        if self.items.len() == MOST_ITEMS {
+        if self.items.len() == MAX_ITEMS {
             return Some(LineError::TooManyItems);
         }
-        if weight == 0 || weight > u64::from(LARGEST_WEIGHT) {
+        if weight == 0 || weight > u64::from(MAX_WEIGHT) {
             return Some(LineError::WeightOutOfRange);
         }
         None
@@ -139,7 +139,7 @@ impl Script {
 
     /// Declares an item of weight 1.
     fn declare(&mut self, name: &str, value: i64, out: &mut Vec<u8>) -> Result<(), RunFault>
-        ensures { Obeys (obey self.old (command.item name.now value)) self.new out.old.items out.new.items result }
+        ensures { Executes (execute self.old (command.item name.now value)) self.new out.old.items out.new.items result }
     {
         if let Some(error) = self.item_error(name, value, 1) {
             return line_or_fault(error_line(out, error));
@@ -156,7 +156,7 @@ impl Script {
         weight: u64,
         out: &mut Vec<u8>,
     ) -> Result<(), RunFault>
-        ensures { Obeys (obey self.old (command.weighted_item name.now value weight))
+        ensures { Executes (execute self.old (command.weighted_item name.now value weight))
             self.new out.old.items out.new.items result }
     {
         if let Some(error) = self.item_error(name, value, weight) {
@@ -177,9 +177,9 @@ impl Script {
     ) -> Result<(), RunFault>
         requires begin { IsBegin event → position_of self.old.transactions subject.txn.now ≡ None }
         requires echo { IsEcho echo (named_by subject) }
-        ensures { Obeys (ask self.old (named_by subject.entry) event) self.new out.old.items out.new.items result }
+        ensures { Executes (ask self.old (named_by subject.entry) event) self.new out.old.items out.new.items result }
     {
-        self.stage.close(self.alloc)?;
+        self.stage.ensure_started(self.alloc)?;
         let reply = self.stage.step(event)?;
         if let Reply::Begun(_) = reply {
             if self.transactions.bind(subject.txn).is_err() {
@@ -191,7 +191,7 @@ impl Script {
 
     /// Begins a transaction, whose name may not be bound already.
     fn begin(&mut self, name: &str, event: Event, out: &mut Vec<u8>) -> Result<(), RunFault>
-        ensures { Obeys (begin self.old name.now event) self.new out.old.items out.new.items result }
+        ensures { Executes (begin self.old name.now event) self.new out.old.items out.new.items result }
     {
         if self.transactions.number_of(name).is_some() {
             return line_or_fault(error_line(out, LineError::NameInUse));
@@ -208,7 +208,7 @@ impl Script {
         out: &mut Vec<u8>,
     ) -> Result<(), RunFault>
         requires { words.now ≡ join_with_byte 32 (txn.now ∷ item.now ∷ []) }
-        ensures { Obeys (obey self.old (command.read txn.now item.now)) self.new out.old.items out.new.items result }
+        ensures { Executes (execute self.old (command.read txn.now item.now)) self.new out.old.items out.new.items result }
     {
         let event = Event::Read {
             txn: self.transaction(txn),
@@ -232,7 +232,7 @@ impl Script {
         out: &mut Vec<u8>,
     ) -> Result<(), RunFault>
         requires { words.now ≡ join_with_byte 32 (txn.now ∷ item.now ∷ signed_decimal value ∷ []) }
-        ensures { Obeys (obey self.old (command.write txn.now item.now value))
+        ensures { Executes (execute self.old (command.write txn.now item.now value))
             self.new out.old.items out.new.items result }
     {
         let event = Event::Write {
@@ -246,7 +246,7 @@ impl Script {
 
     /// Commits a transaction.
     fn commit(&mut self, txn: &str, out: &mut Vec<u8>) -> Result<(), RunFault>
-        ensures { Obeys (obey self.old (command.commit txn.now)) self.new out.old.items out.new.items result }
+        ensures { Executes (execute self.old (command.commit txn.now)) self.new out.old.items out.new.items result }
     {
         let event = Event::Commit {
             txn: self.transaction(txn),
@@ -256,7 +256,7 @@ impl Script {
 
     /// Aborts a transaction.
     fn abort(&mut self, txn: &str, out: &mut Vec<u8>) -> Result<(), RunFault>
-        ensures { Obeys (obey self.old (command.abort txn.now)) self.new out.old.items out.new.items result }
+        ensures { Executes (execute self.old (command.abort txn.now)) self.new out.old.items out.new.items result }
     {
         let event = Event::Abort {
             txn: self.transaction(txn),
@@ -266,9 +266,9 @@ impl Script {
 
     /// Sums the charges so far.
     fn totals(&mut self, out: &mut Vec<u8>) -> Result<(), RunFault>
-        ensures { Obeys (obey self.old command.totals) self.new out.old.items out.new.items result }
+        ensures { Executes (execute self.old command.totals) self.new out.old.items out.new.items result }
     {
-        self.stage.close(self.alloc)?;
+        self.stage.ensure_started(self.alloc)?;
         let totals = self.stage.totals();
         line_or_fault(totals_line(out, totals.import, totals.export, totals.entries))
     }
@@ -282,7 +282,7 @@ impl Script {
         ensures faults { IfErr result (λ e. (e ≡ RunFault.NoMemory) ⊎ (e ≡ RunFault.NotACommittedQuery)) }
     {
         let q = self.transaction(name);
-        self.stage.close(self.alloc)?;
+        self.stage.ensure_started(self.alloc)?;
         match self.stage.audit(self.alloc, q) {
             Ok(found) => Ok(found),
             Err(error) => Err(fault_of(error)),
@@ -291,7 +291,7 @@ impl Script {
 
     /// Audits a query.
     fn audit(&mut self, txn: &str, out: &mut Vec<u8>) -> Result<(), RunFault>
-        ensures { Obeys (obey self.old (command.audit txn.now)) self.new out.old.items out.new.items result }
+        ensures { Executes (execute self.old (command.audit txn.now)) self.new out.old.items out.new.items result }
     {
         let found = match self.find(txn) {
             Ok(found) => found,
@@ -320,10 +320,10 @@ impl Script {
         ensures faults { IfErr result (λ e. e ≡ RunFault.NoMemory) }
     {
         let q = self.transaction(txn);
-        self.stage.close(self.alloc)?;
-        match self.stage.standing_of(q) {
+        self.stage.ensure_started(self.alloc)?;
+        match self.stage.status_of(q) {
             Some(
-                Standing {
+                TxnStatus {
                     is_query: true,
                     end: End::Committed,
                 },
@@ -333,7 +333,11 @@ impl Script {
     }
 
     /// Ends the run, and tells of the query of that name.
-    pub fn tell_of<O: Observer>(mut self, name: &str, observer: &mut O) -> Result<Asked, RunFault>
+    pub fn audited_query<O: Observer>(
+        mut self,
+        name: &str,
+        observer: &mut O,
+    ) -> Result<AuditedQuery, RunFault>
         ensures answered { IfOk result (IsAnswered self name.now) }
         ensures refused { IsErrOf result RunFault.NotACommittedQuery
             → is_committed_query self.history (transaction_called self name.now).0 ≡ false }
@@ -351,22 +355,22 @@ impl Script {
     /// Lets the observer see each transaction, and what became of it.
     pub fn show_transactions<O: Observer>(&self, observer: &mut O) {
         for position in 0..self.transactions.len() {
-            if let Some((name, standing)) = self.transaction_at(position) {
-                observer.see_transaction(name, standing);
+            if let Some((name, status)) = self.transaction_at(position) {
+                observer.see_transaction(name, status);
             }
         }
     }
 
     /// The name of a transaction, and what became of it.
-    fn transaction_at(&self, position: usize) -> Option<(&str, Standing)> {
+    fn transaction_at(&self, position: usize) -> Option<(&str, TxnStatus)> {
         let position = u32::try_from(position).ok()?;
         let name = self.transactions.name_of(position)?;
-        let standing = self.stage.standing_of(TxnId(position.checked_add(1)?))?;
-        Some((name, standing))
+        let status = self.stage.status_of(TxnId(position.checked_add(1)?))?;
+        Some((name, status))
     }
 
     /// What it tells, and what was found of a query.
-    fn with(self, finding: Finding) -> Asked
+    fn with(self, finding: Finding) -> AuditedQuery
         requires { self.closed ≡ true }
         ensures items { result.items ≡ self.items }
         ensures transactions { result.transactions ≡ self.transactions }
@@ -379,7 +383,7 @@ impl Script {
             transactions,
             stage,
         } = self;
-        Asked {
+        AuditedQuery {
             items,
             transactions,
             history: stage.into_history(),
@@ -388,18 +392,18 @@ impl Script {
     }
 
     /// Ends the run, and gives what it leads to, with the line of each entry.
-    pub fn chronicle(mut self, lines: &[u32]) -> Result<Chronicle<'_>, RunFault>
+    pub fn recording(mut self, lines: &[u32]) -> Result<Recording<'_>, RunFault>
         ensures recorded { IfOk result (IsRecorded self) }
         ensures faults { IfErr result (λ e. e ≡ RunFault.NoMemory) }
     {
-        self.stage.close(self.alloc)?;
+        self.stage.ensure_started(self.alloc)?;
         let Script {
             alloc: _,
             items,
             transactions,
             stage,
         } = self;
-        Ok(Chronicle {
+        Ok(Recording {
             items,
             transactions,
             history: stage.into_history(),
@@ -414,11 +418,11 @@ impl Script {
         workers: u64,
         gate: &G,
     ) -> Result<Vec<u8>, RunFault>
-        requires { (1 ≤ workers) × (workers ≤ MOST_SEATS) }
+        requires { (1 ≤ workers) × (workers ≤ MAX_SEATS) }
         ensures ok { IfOk result (λ out. out.items ≡ audit_output self.old) }
         ensures faults { IfErr result (λ e. e ≡ RunFault.NoMemory) }
     {
-        self.stage.close(self.alloc)?;
+        self.stage.ensure_started(self.alloc)?;
         let found = self.stage.audit_all(rt, self.alloc, workers, gate)?;
         let totals = self.stage.totals();
         let mut out = Vec::new(self.alloc);
@@ -429,9 +433,9 @@ impl Script {
     }
 
     /// Obeys the command that the text spells.
-    fn obey(&mut self, text: &[u8], line: Line<'_>, out: &mut Vec<u8>) -> Result<(), RunFault>
+    fn execute(&mut self, text: &[u8], line: Line<'_>, out: &mut Vec<u8>) -> Result<(), RunFault>
         requires { Spells text.now (view line) }
-        ensures { Obeys (obey self.old (view line.entry)) self.new out.old.items out.new.items result }
+        ensures { Executes (execute self.old (view line.entry)) self.new out.old.items out.new.items result }
     {
         match line {
             Line::Item { name, value } => self.declare(name, value, out),
@@ -470,16 +474,16 @@ impl Script {
 
     /// Answers a line at the end of the output. An error leaves the output as it was. For nobody no query is audited, and
     /// what is put behind the output is promised by nothing.
-    #[tactic(auto, using(crate::proofs::Unread::obeyed))]
+    #[tactic(auto, using(crate::proofs::Unread::executed))]
     pub fn answer(
         &mut self,
         line: &[u8],
         audience: Audience,
         out: &mut Vec<u8>,
     ) -> Result<(), RunFault>
-        ensures state { Leads (answer self.old line.now) self.new result }
+        ensures state { EndsIn (answer self.old line.now) self.new result }
         ensures text { audience ≡ Audience.Somebody
-            → Obeys (answer self.old line.now) self.new out.old.items out.new.items result }
+            → Executes (answer self.old line.now) self.new out.old.items out.new.items result }
     {
         match parse_line(line) {
             Parsed::Skipped => Ok(()),
@@ -487,7 +491,7 @@ impl Script {
             Parsed::Command(Line::Audit { txn }) if audience == Audience::Nobody => {
                 self.pass_audit(txn, out)
             }
-            Parsed::Command(command) => self.obey(line, command, out),
+            Parsed::Command(command) => self.execute(line, command, out),
         }
     }
 }

@@ -8,7 +8,7 @@ ghost use Rattle.esr_script.specs.Ends.{IsReachedBy};
 ghost use Rattle.esr_script.specs.Parts.{is_read_fault, is_write_fault};
 
 use crate::fault::RunFault;
-use crate::input::Pending;
+use crate::input::InputBuffer;
 use crate::lines::answer_lines;
 use crate::script::Script;
 use crate::sink::Dropped;
@@ -30,7 +30,7 @@ pub fn replay<R: Read, O: Observer>(
     ensures reader { failed reader.new ≡ is_read_fault result }
     ensures write { is_write_fault result ≡ false }
 {
-    let Ok(mut pending) = Pending::new(alloc) else {
+    let Ok(mut pending) = InputBuffer::new(alloc) else {
         return Err(RunFault::NoMemory);
     };
     let mut script = Script::new(alloc);

@@ -1,8 +1,8 @@
 //! Either items still being declared, or the running machine: the first line that is no item makes the machine, and
 //! closes the items. So no call has a case that cannot come.
 
-ghost use Rattle.esr_board.specs.declared.board.TheConstants.{MOST_SEATS};
-ghost use Rattle.esr_base.specs.declared.limits.TheConstants.{MOST_ENTRIES};
+ghost use Rattle.esr_board.specs.declared.board.TheConstants.{MAX_SEATS};
+ghost use Rattle.esr_base.specs.declared.limits.TheConstants.{MAX_ENTRIES};
 ghost use Rattle.std.specs.Prelude.{◌≡◌, ◌≢◌, ◌≤◌, ◌⊎◌, true, false, length, map, IfOk, OnOk, OnErr, IfErr, IsErrOf};
 ghost use Rattle.esr_history.specs.Machine.{reply_to, extended, charges_in, import_in};
 ghost use Rattle.esr_history.specs.Totals.{all_imports, all_exports};
@@ -20,7 +20,7 @@ use esr_board::{Gate, summarize_parallel};
 use esr_core::{Machine, StepError, Totals};
 use esr_history::{Event, History, Reply, TxnId};
 use esr_items::{Store, Weighted};
-use esr_lint::{End, Standing};
+use esr_lint::{End, TxnStatus};
 use std::alloc::Global;
 use std::mem;
 use std::thread::Threads;
@@ -38,7 +38,7 @@ impl Stage {
 
     /// Makes the machine, where it is not made yet.
     #[inline(always)]
-    pub fn close(&mut self, alloc: Global) -> Result<(), RunFault>
+    pub fn ensure_started(&mut self, alloc: Global) -> Result<(), RunFault>
         ensures ok { OnOk result ((is_running self.new ≡ true) × (history_of self.new ≡ history_of self.old)) }
         ensures err { OnErr result ((history_of self.new).entries ≡ (history_of self.old).entries) }
         ensures faults { IfErr result (λ e. e ≡ RunFault.NoMemory) }
@@ -82,13 +82,13 @@ impl Stage {
     #[inline(always)]
     pub fn step(&mut self, event: Event) -> Result<Reply, RunFault>
         requires { is_running self.old ≡ true }
-        ensures room { OnOk result (length (history_of self.old).entries ≢ MOST_ENTRIES) }
+        ensures room { OnOk result (length (history_of self.old).entries ≢ MAX_ENTRIES) }
         ensures reply { IfOk result (λ reply. reply ≡ reply_to weighted (history_of self.old) event) }
         ensures added { IfOk result (λ reply. history_of self.new ≡ extended (history_of self.old) event reply) }
         ensures running { is_running self.new ≡ true }
         ensures err { OnErr result (history_of self.new ≡ history_of self.old) }
         ensures faults { IfErr result (λ e. (e ≡ RunFault.NoMemory)
-            ⊎ ((e ≡ RunFault.HistoryFull) × (length (history_of self.old).entries ≡ MOST_ENTRIES))) }
+            ⊎ ((e ≡ RunFault.HistoryFull) × (length (history_of self.old).entries ≡ MAX_ENTRIES))) }
     {
         match self {
             Stage::Running(engine) => match engine.step(event) {
@@ -118,7 +118,7 @@ impl Stage {
     }
 
     /// What became of a transaction, if it has begun.
-    pub fn standing_of(&self, t: TxnId) -> Option<Standing> {
+    pub fn status_of(&self, t: TxnId) -> Option<TxnStatus> {
         let Stage::Running(engine) = self else {
             return None;
         };
@@ -132,7 +132,7 @@ impl Stage {
             Some(Event::Abort { .. }) => End::Aborted,
             Some(_) => End::Committed,
         };
-        Some(Standing {
+        Some(TxnStatus {
             is_query: facts.query,
             end,
         })
@@ -183,7 +183,7 @@ impl Stage {
         gate: &G,
     ) -> Result<Summaries, RunFault>
         requires running { is_running self.now ≡ true }
-        requires workers { (1 ≤ workers) × (workers ≤ MOST_SEATS) }
+        requires workers { (1 ≤ workers) × (workers ≤ MAX_SEATS) }
         ensures summaries { IfOk result (AreSummaries weighted (history_of self.now)) }
         ensures faults { IfErr result (λ e. e ≡ RunFault.NoMemory) }
     {

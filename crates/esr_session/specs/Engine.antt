@@ -1,6 +1,6 @@
 -- What contracts see of an engine.
 use Rattle.std.specs.Prelude.{◌≡◌, ◌≤◌, ℕ, ℤ, Bool, true, false, List, Err, length}
-use Rattle.esr_base.specs.declared.limits.TheConstants.{MOST_ENTRIES}
+use Rattle.esr_base.specs.declared.limits.TheConstants.{MAX_ENTRIES}
 use Rattle.esr_history.specs.Machine.{Distance, Schedule, IsLegal}
 use Rattle.esr_history.specs.Totals.{all_imports, all_exports}
 use Rattle.esr_core.specs.declared.machine.Totals.{Totals}
@@ -25,7 +25,7 @@ pub record DoNotMatch (d : Distance) (opening : List ℤ) (weights : List ℕ) (
   pub legal : IsLegal d history
   pub opening_is : history.opening ≡ opening
   pub weights_are : history.weights ≡ weights
-  pub most : length history.entries ≤ MOST_ENTRIES
+  pub most : length history.entries ≤ MAX_ENTRIES
   pub verdict : IsVerdict history.entries lists (Err error)
 
 -- Why a close was refused, as far as it can be said of a history that stays behind the lock: out of memory, or so.

@@ -7,7 +7,7 @@
 //!
 //! A close counts the receipts before it compares them: where there are too few it is refused for that, and needs no
 //! memory to see it. Receipts are compared where they lie; none is copied.
-ghost use Rattle.esr_session.specs.declared.engine_name.TheConstants.{LEDGER_PARTS, MOST_SESSIONS};
+ghost use Rattle.esr_session.specs.declared.engine_name.TheConstants.{LEDGER_PARTS, MAX_SESSIONS};
 ghost use Rattle.std.specs.Prelude.{◌≡◌, ◌+◌, ◌<◌, ◌≤◌, [], true, length, Some, None, All, IfOk, OnOk, IfErr, OnErr, vec_len, map, vec_capacity};
 ghost use Rattle.esr_history.specs.Machine.{IsLegal};
 ghost use Rattle.esr_session.specs.Receipts.{Matches, IsVerdict, count_in};
@@ -20,7 +20,7 @@ use crate::matcher::match_all;
 use crate::receipt::{CloseError, Receipt};
 use crate::session::Session;
 use esr_core::{Machine, Totals};
-use esr_history::{History, MOST_ENTRIES, NoMemory};
+use esr_history::{History, MAX_ENTRIES, NoMemory};
 use esr_items::{Metric, Store};
 use std::alloc::{AllocError, Global};
 use std::marker::Model;
@@ -28,7 +28,7 @@ use std::sync::ledger::{Blank, Book, Share};
 use std::sync::{Arc, Mutex, Wait};
 
 /// More than a history can have entries: the amount of an open engine's own share.
-pub(crate) const SEAL: u64 = MOST_ENTRIES as u64 + 1;
+pub(crate) const SEAL: u64 = MAX_ENTRIES as u64 + 1;
 
 /// A machine behind a lock. Contracts see how many sessions were opened.
 #[derive(Drop)]
@@ -45,7 +45,7 @@ impl<M: Metric + Drop, N: Naming> Model for Engine<M, N> {
 
     ghost view = { λ e. record { opened = e.opened } };
 
-    ghost invariant = { λ e. (e.rest.parts + e.opened ≡ LEDGER_PARTS) × (e.opened ≤ MOST_SESSIONS)
+    ghost invariant = { λ e. (e.rest.parts + e.opened ≡ LEDGER_PARTS) × (e.opened ≤ MAX_SESSIONS)
         × (e.rest.amount ≡ SEAL) };
 }
 
@@ -107,7 +107,7 @@ impl<M: Metric + Drop, N: Naming> Engine<M, N> {
     /// # Errors
     /// `NoMemory` if an allocation failed. The engine is then as before.
     pub fn open_sessions(&mut self, n: usize) -> Result<Vec<Session<M, N>>, NoMemory>
-        requires number { (1 ≤ n) × (n ≤ MOST_SESSIONS) }
+        requires number { (1 ≤ n) × (n ≤ MAX_SESSIONS) }
         requires first { self.old.opened ≡ 0 }
         ensures sessions { IfOk result (λ sessions. (vec_len sessions ≡ n)
             × All (λ session. session ≡ []) sessions.items) }
@@ -131,7 +131,7 @@ impl<M: Metric + Drop, N: Naming> Engine<M, N> {
     ) -> Result<Closed<M>, CloseRefused<M, N>>
         ensures history { IfOk result (λ closed. (closed.history.schedule.opening ≡ N.opening)
             × (closed.history.schedule.weights ≡ N.weights) × IsLegal M.distance_by closed.history.schedule
-            × (length closed.history.schedule.entries ≤ MOST_ENTRIES)) }
+            × (length closed.history.schedule.entries ≤ MAX_ENTRIES)) }
         ensures totals { IfOk result (λ closed. AreTotals M.distance_by closed.history.schedule closed.totals) }
         ensures receipts { IfOk result (λ closed. map (λ list. list.items) closed.receipts.items ≡ sessions.items) }
         ensures matching { IfOk result (λ closed. Matches closed.history.schedule.entries sessions.items) }

@@ -9,10 +9,10 @@ use std::marker::{Brand, PhantomData};
 use std::sync::ledger::Ledger;
 
 /// The most sessions of an engine.
-pub const MOST_SESSIONS: usize = 64;
+pub const MAX_SESSIONS: usize = 64;
 
 /// The parts of an engine's ledger: one for each session that there can be, and one for the engine.
-pub const LEDGER_PARTS: u64 = MOST_SESSIONS as u64 + 1;
+pub const LEDGER_PARTS: u64 = MAX_SESSIONS as u64 + 1;
 
 /// Which engine it is: its ledger, its opening values and the numbers of its metric. The call of a function that is
 /// generic over it picks them, so two engines never have the same one.

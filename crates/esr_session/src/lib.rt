@@ -5,18 +5,18 @@
 //! what makes the steps of all threads one list.
 #![tactic(auto)]
 
-mod asker;
 mod engine;
 mod engine_name;
 mod lock;
 mod matcher;
 mod receipt;
 mod session;
+mod source;
 
-pub use asker::Asker;
 pub use engine::{CloseRefused, Closed, Engine};
-pub use engine_name::{LEDGER_PARTS, MOST_SESSIONS, Naming};
+pub use engine_name::{LEDGER_PARTS, MAX_SESSIONS, Naming};
 pub use lock::{Locked, Pocket, step_on};
 pub use matcher::{HasReceipts, match_receipts};
 pub use receipt::{CloseError, Receipt, is_blocked};
 pub use session::Session;
+pub use source::EventSource;

@@ -7,14 +7,14 @@
 ghost use Rattle.std.specs.Prelude.{◌≡◌, ◌+◌, ◌↔◌, [], ◌∷◌, ◌++◌, length, Some, None, IfOk, OnOk, OnErr, IsErrOf, IsSomeAnd, ◌≤◌, Option, MatchOption, List};
 ghost use Rattle.esr_history.specs.Machine.{IsLegal, reply_to, extended, Schedule};
 ghost use Rattle.esr_session.specs.Receipts.{IsReceipt, receipt};
-ghost use Rattle.esr_base.specs.declared.limits.TheConstants.{MOST_ENTRIES};
+ghost use Rattle.esr_base.specs.declared.limits.TheConstants.{MAX_ENTRIES};
 ghost use Rattle.esr_session.specs.declared.engine.TheConstants.{SEAL};
 ghost use Rattle.esr_session.specs.declared.receipt.Receipt.{Receipt};
 
 use crate::engine_name::Naming;
 use crate::receipt::Receipt;
 use esr_core::{Machine, StepError};
-use esr_history::{Event, MOST_ENTRIES, Reply};
+use esr_history::{Event, MAX_ENTRIES, Reply};
 use esr_items::Metric;
 use std::marker::Model;
 use std::sync::ledger::{Book, Share};
@@ -23,7 +23,7 @@ use std::sync::ledger::{Book, Share};
 /// Contracts see the machine's history.
 ///
 /// While the engine is open the total is the length of the history and `SEAL` more, the engine's own share; after a
-/// close it is at most `MOST_ENTRIES`. So whoever has the engine's share knows that the engine is open.
+/// close it is at most `MAX_ENTRIES`. So whoever has the engine's share knows that the engine is open.
 #[derive(Drop)]
 pub struct Locked<M: Metric, N: Naming> {
     pub(crate) machine: Option<Machine<M>>,
@@ -35,7 +35,7 @@ impl<M: Metric, N: Naming> Model for Locked<M, N> {
 
     ghost view = { λ l. l.machine };
 
-    ghost invariant = { λ l. MatchOption l.machine (l.total.total ≤ MOST_ENTRIES)
+    ghost invariant = { λ l. MatchOption l.machine (l.total.total ≤ MAX_ENTRIES)
         (λ h. (h.opening ≡ N.opening) × (h.weights ≡ N.weights) × (l.total.total ≡ length h.entries + SEAL)) };
 }
 
@@ -83,7 +83,7 @@ pub fn step_on<M: Metric, N: Naming>(
     ensures err { OnErr result ((locked.new ≡ locked.old) × (pocket.new ≡ pocket.old)) }
     ensures closed { (IsErrOf result StepError.EngineClosed) ↔ (locked.old ≡ None) }
     ensures full { (IsErrOf result StepError.HistoryFull)
-        ↔ IsSomeAnd locked.old (λ h. length h.entries ≡ MOST_ENTRIES) }
+        ↔ IsSomeAnd locked.old (λ h. length h.entries ≡ MAX_ENTRIES) }
 {
     match &mut locked.machine {
         Some(machine) => step_in(machine, &mut locked.total, pocket, event),
@@ -107,10 +107,10 @@ fn step_in<M: Metric, N: Naming>(
     ensures err { OnErr result ((machine.new ≡ machine.old) × (pocket.new ≡ pocket.old)
         × (total.new.total ≡ total.old.total)) }
     ensures never_closed { ¬ IsErrOf result StepError.EngineClosed }
-    ensures full { (IsErrOf result StepError.HistoryFull) ↔ (length machine.old.entries ≡ MOST_ENTRIES) }
+    ensures full { (IsErrOf result StepError.HistoryFull) ↔ (length machine.old.entries ≡ MAX_ENTRIES) }
 {
     let place = machine.log().len();
-    if place == MOST_ENTRIES {
+    if place == MAX_ENTRIES {
         return Err(StepError::HistoryFull);
     }
     if pocket.receipts.reserve(1).is_err() {

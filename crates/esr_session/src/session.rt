@@ -3,15 +3,15 @@
 //! A session knows nothing of its engine between two calls, since others call it too; so its contract speaks of the
 //! receipt that a call leaves, and `step_on`, under the lock, says the rest.
 ghost use Rattle.std.specs.Prelude.{◌≡◌, ◌+◌, ◌<◌, ◌≤◌, List, [], ◌∷◌, ◌++◌, true, length, All, None, IfOk, OnErr, IfErr};
-ghost use Rattle.esr_base.specs.declared.limits.TheConstants.{MOST_ENTRIES};
+ghost use Rattle.esr_base.specs.declared.limits.TheConstants.{MAX_ENTRIES};
 ghost use Rattle.esr_session.specs.Receipts.{IsReceipt, AreBlocked, is_blocked};
 ghost use Rattle.esr_session.specs.declared.receipt.Receipt.{Receipt};
 
-use crate::asker::{Asker, step_several};
 use crate::engine_name::Naming;
 use crate::lock::{Locked, Pocket, step_on};
 use crate::matcher::HasReceipts;
 use crate::receipt::{Receipt, is_blocked};
+use crate::source::{EventSource, step_several};
 use esr_core::StepError;
 use esr_history::{Event, Reply};
 use esr_items::Metric;
@@ -99,7 +99,7 @@ impl<M: Metric + Drop, N: Naming> Session<M, N> {
         event: Event,
         turns: u32,
     ) -> Result<Receipt, StepError>
-        requires { (1 ≤ turns) × (turns ≤ MOST_ENTRIES) }
+        requires { (1 ≤ turns) × (turns ≤ MAX_ENTRIES) }
         ensures ok { IfOk result (λ r. (blocked : List Receipt) × (self.new ≡ self.old ++ blocked ++ r ∷ [])
             × AreBlocked M.distance_by N.opening N.weights event blocked × (length blocked < turns)
             × (is_blocked r.reply ≡ true → length blocked + 1 ≡ turns)) }
@@ -122,18 +122,18 @@ impl<M: Metric + Drop, N: Naming> Session<M, N> {
     ///
     /// # Errors
     /// Those of `step_on`, at the first call that answers one.
-    pub fn call_several<R: Wait, A: Asker>(
+    pub fn call_several<R: Wait, A: EventSource>(
         &mut self,
         rt: &R,
-        asker: &mut A,
+        source: &mut A,
         most: usize,
     ) -> Result<usize, StepError>
         ensures receipts { (more : List Receipt) × (self.new ≡ self.old ++ more) × (length more ≤ most)
             × All (IsReceipt M.distance_by N.opening N.weights) more × IfOk result (λ n. n ≡ length more) }
-        ensures asker { (first : A) → A.Became first self.old asker.old → A.Became first self.new asker.new }
-        ensures none { IfOk result (λ n. 1 ≤ most → n ≡ 0 → A.next asker.old ≡ None) }
+        ensures source { (first : A) → A.Became first self.old source.old → A.Became first self.new source.new }
+        ensures none { IfOk result (λ n. 1 ≤ most → n ≡ 0 → A.next source.old ≡ None) }
     {
         let mut locked = self.shared.lock(rt);
-        step_several(&mut *locked, &mut self.pocket, asker, most)
+        step_several(&mut *locked, &mut self.pocket, source, most)
     }
 }

@@ -5,7 +5,7 @@ ghost use Rattle.std.specs.Prelude.{◌≤◌};
 
 use crate::keys::keys_width;
 use crate::scene::{
-    Arrow, Lane, MOST_LANES, MOST_UPDATES, Scene, Strays, Stretch, Update, have_stray,
+    Arrow, Lane, MAX_LANES, MAX_UPDATES, Scene, Strays, Stretch, Update, have_stray,
 };
 use esr_text::{letters_of, number_letters};
 
@@ -13,7 +13,7 @@ use esr_text::{letters_of, number_letters};
 const WIDEST: u32 = 1100;
 
 /// So many letters there are at most behind the words on a value that did not stay.
-const MOST_ENDING: usize = 22;
+const MAX_ENDING: usize = 22;
 
 /// From lane to lane, and where a lane tells of a value that did not stay.
 const LANE: u32 = 76;
@@ -150,7 +150,7 @@ fn strays_width(strays: &Strays<'_>) -> u32 {
     let words = stray.writer.len().min(20) + stray.fate.len().min(30);
     let letters = letters_of(stray.value).min(30) + words + 17;
     let ending = if stray.has_piece || strays.more > 0 {
-        MOST_ENDING
+        MAX_ENDING
     } else {
         0
     };
@@ -235,8 +235,8 @@ impl Frame {
             pitch: (box_width + 24).max(widths.value + 16),
             box_width,
             arches: arches(&scene.arrows, scene.line),
-            last: (scene.updates.len().min(MOST_UPDATES) as u8) + 2,
-            lanes: scene.lanes.len().min(MOST_LANES) as u8,
+            last: (scene.updates.len().min(MAX_UPDATES) as u8) + 2,
+            lanes: scene.lanes.len().min(MAX_LANES) as u8,
             lane: lane_height(&scene.lanes),
             sentences: scene.sentences.len().min(9) as u8,
             words: sentences_width(&scene.sentences)

@@ -16,6 +16,6 @@ mod svg;
 
 pub use frame::fitting_updates;
 pub use scene::{
-    Arrow, Lane, LaneReads, MOST_LANES, MOST_UPDATES, Scene, Stray, Strays, Stretch, Update,
+    Arrow, Lane, LaneReads, MAX_LANES, MAX_UPDATES, Scene, Stray, Strays, Stretch, Update,
 };
 pub use svg::{Parts, parts_of};

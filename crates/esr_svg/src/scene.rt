@@ -1,10 +1,10 @@
 //! What is drawn, as plain data: slots for the updates and the line, from the left to the right, and a lane for each item.
 
 /// So many updates are drawn at most.
-pub const MOST_UPDATES: usize = 30;
+pub const MAX_UPDATES: usize = 30;
 
 /// So many lanes are drawn at most.
-pub const MOST_LANES: usize = 24;
+pub const MAX_LANES: usize = 24;
 
 /// An arrow from one slot to another.
 #[derive(Clone, Copy)]

@@ -12,7 +12,7 @@ use Rattle.esr_base.specs.declared.numbers.TxnId.{TxnId}
 use Rattle.esr_history.specs.declared.event.Event.TheVariants.{Read, Write}
 use Rattle.esr_history.specs.Events.{is_query, is_update, current_value, committed_value}
 use Rattle.esr_history.specs.ItemLocks.{item_locks}
-use Rattle.esr_history.specs.Machine.{Distance, Schedule, Charge, done, distance_in, due_in, writer, charge_of_read, total}
+use Rattle.esr_history.specs.Machine.{Distance, Schedule, Charge, accepted_in, distance_in, due_in, writer, charge_of_read, total}
 use Rattle.esr_locks.specs.declared.lists.QueryReads.{QueryReads}
 use Rattle.esr_locks.specs.Rows.{query_and_count}
 use Rattle.esr_core.specs.States.{charges_to}
@@ -52,16 +52,16 @@ module _ (d : Distance) (h : Schedule) where
       let same : total (c ∷ []) ≡ due = sum_by-cons (λ (g : Charge). g.amount) c [] ∙ omega arith in
       ap₂ (λ (a b : List Shortfall). a ++ b) (one (import_lack d h q due)) (ap (λ n. listed (export_lack d h u n)) same)
 
-  due_of_read : (q : TxnId) (x : ItemId) (w : Option ℕ) → is_query (done h) q.0 ≡ true → writer (done h) x.0 ≡ w → due_in d h (Read q x) ≡ charge_of_read (distance_in d h) h.opening (done h) q.0 x.0 w
+  due_of_read : (q : TxnId) (x : ItemId) (w : Option ℕ) → is_query (accepted_in h) q.0 ≡ true → writer (accepted_in h) x.0 ≡ w → due_in d h (Read q x) ≡ charge_of_read (distance_in d h) h.opening (accepted_in h) q.0 x.0 w
   due_of_read q x w query found =
-      ap (λ b. if b then charge_of_read (distance_in d h) h.opening (done h) q.0 x.0 (writer (done h) x.0) else []) query
-      ∙ ap (charge_of_read (distance_in d h) h.opening (done h) q.0 x.0) found
+      ap (λ b. if b then charge_of_read (distance_in d h) h.opening (accepted_in h) q.0 x.0 (writer (accepted_in h) x.0) else []) query
+      ∙ ap (charge_of_read (distance_in d h) h.opening (accepted_in h) q.0 x.0) found
 
-  pub read_some : (q : TxnId) (x : ItemId) (u : ℕ) → is_query (done h) q.0 ≡ true → writer (done h) x.0 ≡ Some u
-      → listed (import_lack d h q.0 (d h.weights x.0 (current_value h.opening (done h) x.0) (committed_value h.opening (done h) x.0)))
-      ++ listed (export_lack d h u (d h.weights x.0 (current_value h.opening (done h) x.0) (committed_value h.opening (done h) x.0))) ≡ shortfalls d h (Read q x)
+  pub read_some : (q : TxnId) (x : ItemId) (u : ℕ) → is_query (accepted_in h) q.0 ≡ true → writer (accepted_in h) x.0 ≡ Some u
+      → listed (import_lack d h q.0 (d h.weights x.0 (current_value h.opening (accepted_in h) x.0) (committed_value h.opening (accepted_in h) x.0)))
+      ++ listed (export_lack d h u (d h.weights x.0 (current_value h.opening (accepted_in h) x.0) (committed_value h.opening (accepted_in h) x.0))) ≡ shortfalls d h (Read q x)
   read_some q x u query found =
-      sym (ap (shortfalls_of d h) (due_of_read q x (Some u) query found) ∙ single q.0 u (d h.weights x.0 (current_value h.opening (done h) x.0) (committed_value h.opening (done h) x.0)))
+      sym (ap (shortfalls_of d h) (due_of_read q x (Some u) query found) ∙ single q.0 u (d h.weights x.0 (current_value h.opening (accepted_in h) x.0) (committed_value h.opening (accepted_in h) x.0)))
 
   imports_of : (u amount : ℕ) (rs : List (ℕ × ℕ)) → filter_map (λ (c : Charge). import_lack d h c.query c.amount) (charges_by u (charges_to amount rs)) ≡ filter_map (λ (r : ℕ × ℕ). import_lack d h r.0 (r.1 * amount)) rs
   imports_of u amount [] = refl
@@ -81,15 +81,15 @@ module _ (d : Distance) (h : Schedule) where
 
   -- the amount of a write for each read
   abbrev pub each : ItemId → ℤ → ℕ
-  each x v = d h.weights x.0 v (current_value h.opening (done h) x.0)
+  each x v = d h.weights x.0 v (current_value h.opening (accepted_in h) x.0)
 
-  due_of_write : (u : TxnId) (x : ItemId) (v : ℤ) → is_update (done h) u.0 ≡ true → due_in d h (Write u x v) ≡ charges_by u.0 (charges_to (each x v) (item_locks (done h) x.0).queries)
-  due_of_write u x v update = due-write (distance_in d h) h.opening (done h) u x v update
+  due_of_write : (u : TxnId) (x : ItemId) (v : ℤ) → is_update (accepted_in h) u.0 ≡ true → due_in d h (Write u x v) ≡ charges_by u.0 (charges_to (each x v) (item_locks (accepted_in h) x.0).queries)
+  due_of_write u x v update = due-write (distance_in d h) h.opening (accepted_in h) u x v update
 
-  pub write_none : (u : TxnId) (x : ItemId) (v : ℤ) → is_update (done h) u.0 ≡ true → (item_locks (done h) x.0).queries ≡ [] → [] ≡ shortfalls d h (Write u x v)
+  pub write_none : (u : TxnId) (x : ItemId) (v : ℤ) → is_update (accepted_in h) u.0 ≡ true → (item_locks (accepted_in h) x.0).queries ≡ [] → [] ≡ shortfalls d h (Write u x v)
   write_none u x v update none = sym (ap (shortfalls_of d h) (due_of_write u x v update ∙ ap (λ (rs : List (ℕ × ℕ)). charges_by u.0 (charges_to (each x v) rs)) none))
 
-  pub write_some : (u : TxnId) (x : ItemId) (v : ℤ) (rs : List (ℕ × ℕ)) → is_update (done h) u.0 ≡ true → rs ≡ (item_locks (done h) x.0).queries → (rs ≡ [] → ⊥)
+  pub write_some : (u : TxnId) (x : ItemId) (v : ℤ) (rs : List (ℕ × ℕ)) → is_update (accepted_in h) u.0 ≡ true → rs ≡ (item_locks (accepted_in h) x.0).queries → (rs ≡ [] → ⊥)
       → filter_map (λ (r : ℕ × ℕ). import_lack d h r.0 (r.1 * each x v)) rs ++ listed (export_lack d h u.0 (sum_by (λ (r : ℕ × ℕ). r.1 * each x v) rs)) ≡ shortfalls d h (Write u x v)
   write_some u x v rs update is some =
       several u.0 (each x v) rs some

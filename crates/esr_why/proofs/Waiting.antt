@@ -9,21 +9,21 @@ use Rattle.esr_history.specs.declared.event.Entry.{Entry}
 use Rattle.esr_history.specs.BackLinks.{is_key, last_place, txn_in}
 use Rattle.esr_history.proofs.Linking.{last_same, last_here}
 use Rattle.esr_why.specs.declared.waits.Wait.{Wait}
-use Rattle.esr_why.specs.Waits.{AreLatest, IsWaiting}
+use Rattle.esr_why.specs.Waits.{AreLastEntries, IsWaiting}
 
-pub latest_none : (es : List Entry) (e : Entry) (places : List (Option ℕ)) → None ≡ txn_in e → AreLatest es places → AreLatest (es ++ e ∷ []) places
-latest_none es e places none latest t l = latest t l ∙ ap Some (sym (last_same txn_in t es e (ap (λ o. is_key o t) (sym none))))
+pub last_entries_none : (es : List Entry) (e : Entry) (places : List (Option ℕ)) → None ≡ txn_in e → AreLastEntries es places → AreLastEntries (es ++ e ∷ []) places
+last_entries_none es e places none last_entries t l = last_entries t l ∙ ap Some (sym (last_same txn_in t es e (ap (λ o. is_key o t) (sym none))))
 
 other_than : (es : List Entry) (e : Entry) (u t : ℕ) → Some u ≡ txn_in e → (u ≡ t → ⊥) → last_place txn_in t es ≡ last_place txn_in t (es ++ e ∷ [])
 other_than es e u t some other = sym (last_same txn_in t es e (ap (λ o. is_key o t) (sym some) ∙ ne_eqb u t other))
 
-pub latest_past : (es : List Entry) (e : Entry) (places : List (Option ℕ)) (u : ℕ) → Some u ≡ txn_in e → length places ≤ u → AreLatest es places → AreLatest (es ++ e ∷ []) places
-latest_past es e places u some past latest t l =
+pub last_entries_past : (es : List Entry) (e : Entry) (places : List (Option ℕ)) (u : ℕ) → Some u ≡ txn_in e → length places ≤ u → AreLastEntries es places → AreLastEntries (es ++ e ∷ []) places
+last_entries_past es e places u some past last_entries t l =
     let other : u ≡ t → ⊥ = λ (same : u ≡ t). omega (arith, same, past, l) in
-    latest t l ∙ ap Some (other_than es e u t some other)
+    last_entries t l ∙ ap Some (other_than es e u t some other)
 
-pub latest_some : (es : List Entry) (e : Entry) (places : List (Option ℕ)) (u place : ℕ) → Some u ≡ txn_in e → u < length places → place ≡ length es → AreLatest es places → AreLatest (es ++ e ∷ []) (set places u (Some place))
-latest_some es e places u place some inside at latest t l =
+pub last_entries_some : (es : List Entry) (e : Entry) (places : List (Option ℕ)) (u place : ℕ) → Some u ≡ txn_in e → u < length places → place ≡ length es → AreLastEntries es places → AreLastEntries (es ++ e ∷ []) (set places u (Some place))
+last_entries_some es e places u place some inside at last_entries t l =
     elim (cases_eq u t) [
       | inl same ↦
           let here : last_place txn_in t (es ++ e ∷ []) ≡ Some (length es) = last_here txn_in t es e (ap (λ o. is_key o t) (sym some) ∙ eq-eqb u t same) in
@@ -33,7 +33,7 @@ latest_some es e places u place some inside at latest t l =
           let l' : t < length places = subst (λ n. t < n) (length-set places u (Some place)) l in
           slice_get-get_or (set places u (Some place)) t None l
           ∙ (ap Some (get_or-set_other places u t (Some place) None (λ (f : t ≡ u). other (sym f)))
-          ∙ (sym (slice_get-get_or places t None l') ∙ (latest t l' ∙ ap Some (other_than es e u t some other))))
+          ∙ (sym (slice_get-get_or places t None l') ∙ (last_entries t l' ∙ ap Some (other_than es e u t some other))))
     ]
 
 -- one more that waits

@@ -3,7 +3,7 @@ use Rattle.std.specs.Prelude.{ℕ, ◌+◌, List, [], ◌∷◌, ◌++◌, Optio
 use Rattle.std.specs.List.{filter_map}
 use Rattle.esr_history.specs.declared.event.Event.{Event}
 use Rattle.esr_history.specs.Events.{limit_of}
-use Rattle.esr_history.specs.Machine.{Distance, Schedule, Charge, done, due_in, charges_in, import_in, export_in, total}
+use Rattle.esr_history.specs.Machine.{Distance, Schedule, Charge, accepted_in, due_in, charges_in, import_in, export_in, total}
 use Rattle.esr_why.specs.declared.shortfall.Side.{Side}
 use Rattle.esr_why.specs.declared.shortfall.Side.TheVariants.{Import, Export}
 use Rattle.esr_why.specs.declared.shortfall.Shortfall.{Shortfall}
@@ -25,10 +25,10 @@ lack side t due used limit =
 
 -- a query, to import so much more; an update, to export it
 abbrev pub import_lack : Distance → Schedule → ℕ → ℕ → Option Shortfall
-import_lack d h q due = lack Import q due (import_in (charges_in d h) q) (limit_of (done h) q)
+import_lack d h q due = lack Import q due (import_in (charges_in d h) q) (limit_of (accepted_in h) q)
 
 abbrev pub export_lack : Distance → Schedule → ℕ → ℕ → Option Shortfall
-export_lack d h u due = lack Export u due (export_in (charges_in d h) u) (limit_of (done h) u)
+export_lack d h u due = lack Export u due (export_in (charges_in d h) u) (limit_of (accepted_in h) u)
 
 abbrev pub listed : Option Shortfall → List Shortfall
 listed None = []

@@ -20,10 +20,10 @@ turned [] = []
 turned (t ∷ ts) = ts ++ t ∷ []
 
 -- each waits for the next, and the last for the first
-pub record IsRing (es : List Entry) (ws : List Wait) : Type 0 where
+pub record IsCycle (es : List Entry) (ws : List Wait) : Type 0 where
   pub waiting : All (IsWaiting es) ws
   pub round : map (λ w. w.holder) ws ≡ turned (map (λ w. w.txn) ws)
 
 -- the last place of each transaction
-abbrev pub AreLatest : List Entry → List (Option ℕ) → Type 0
-AreLatest es places = (t : ℕ) → t < length places → slice_get places t ≡ Some (last_place txn_in t es)
+abbrev pub AreLastEntries : List Entry → List (Option ℕ) → Type 0
+AreLastEntries es places = (t : ℕ) → t < length places → slice_get places t ≡ Some (last_place txn_in t es)

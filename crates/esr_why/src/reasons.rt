@@ -3,18 +3,18 @@
 
 ghost use Rattle.std.specs.Prelude.{◌≡◌, ◌<◌, ◌+◌, [], length, take, OnOk};
 ghost use Rattle.esr_items.specs.Weights.{weighted};
-ghost use Rattle.esr_history.specs.Machine.{blank, extended, reply_to};
+ghost use Rattle.esr_history.specs.Machine.{empty_schedule, extended, reply_to};
 ghost use Rattle.esr_why.specs.Notes.{IsInRange};
 ghost use Rattle.esr_why.specs.Locks.{lock_in_way};
 ghost use Rattle.esr_why.specs.Replays.{until};
-ghost use Rattle.esr_why.specs.Waits.{AreLatest};
+ghost use Rattle.esr_why.specs.Waits.{AreLastEntries};
 
 use crate::replay::{Lock, Replay};
 use crate::sentences::Script;
-use crate::waits::{Latest, Wait, transaction_of};
+use crate::waits::{LastEntries, Wait, transaction_of};
 use esr_history::{Entry, Event, History, NoMemory, Refusal, Reply, TxnId};
 use esr_items::Weighted;
-use esr_telling::{Chronicle, Survey};
+use esr_views::{Recording, ScriptView};
 use std::alloc::{AllocError, Global};
 
 /// Why the lines of a script were blocked.
@@ -41,8 +41,8 @@ impl Sought {
     }
 
     /// Whether one of those in a ring is told of.
-    fn has_any(self, ring: &[Wait]) -> bool {
-        ring.iter().any(|wait| self.has(wait.txn))
+    fn has_any(self, cycle: &[Wait]) -> bool {
+        cycle.iter().any(|wait| self.has(wait.txn))
     }
 }
 
@@ -64,21 +64,21 @@ fn lock_of(replay: &Replay<'_>, event: Event, holder: TxnId) -> Lock
 
 /// A survey on its way over the entries.
 #[derive(Drop)]
-struct Telling<'a> {
+struct Reporter<'a> {
     alloc: Global,
     script: Script<'a>,
     sought: Sought,
     replay: Replay<'a>,
-    latest: Latest,
+    last_entries: LastEntries,
     out: String,
 }
 
-impl Telling<'_> {
+impl Reporter<'_> {
     /// Tells why an entry of a transaction was blocked, which comes next.
-    fn tell_entry(&mut self, place: usize, entry: Entry, txn: TxnId) -> Result<(), AllocError>
+    fn report_entry(&mut self, place: usize, entry: Entry, txn: TxnId) -> Result<(), AllocError>
         requires { entry.reply ≡ reply_to weighted self.old.replay entry.event }
         ensures replay { self.new.replay ≡ self.old.replay }
-        ensures latest { self.new.latest ≡ self.old.latest }
+        ensures last_entries { self.new.last_entries ≡ self.old.last_entries }
     {
         if !self.sought.has(txn) {
             return Ok(());
@@ -99,80 +99,83 @@ impl Telling<'_> {
     }
 
     /// Tells of the ring that a transaction closes, if it closes one: it did not wait for the same one before.
-    fn tell_ring(&mut self, txn: TxnId, before: Option<Wait>) -> Result<(), AllocError>
-        requires { AreLatest self.old.replay.entries self.old.latest.places.items }
+    fn report_cycle(&mut self, txn: TxnId, before: Option<Wait>) -> Result<(), AllocError>
+        requires { AreLastEntries self.old.replay.entries self.old.last_entries.places.items }
         ensures replay { self.new.replay ≡ self.old.replay }
-        ensures latest { self.new.latest.places ≡ self.old.latest.places }
+        ensures last_entries { self.new.last_entries.places ≡ self.old.last_entries.places }
     {
-        let Some(wait) = self.latest.wait(self.replay.log(), txn) else {
+        let Some(wait) = self.last_entries.wait(self.replay.log(), txn) else {
             return Ok(());
         };
         if before.is_some_and(|b| b.holder == wait.holder) {
             return Ok(());
         }
-        if let Some(ring) = self.latest.ring(self.alloc, self.replay.log(), wait)? {
-            if self.sought.has_any(&ring) {
-                self.script.push_ring(&mut self.out, &ring)?;
+        if let Some(cycle) = self
+            .last_entries
+            .cycle(self.alloc, self.replay.log(), wait)?
+        {
+            if self.sought.has_any(&cycle) {
+                self.script.push_cycle(&mut self.out, &cycle)?;
             }
         }
         Ok(())
     }
 
     /// Tells of the entry at a place, of the transaction, and goes on behind it.
-    fn tell_of(&mut self, place: usize, entry: Entry, txn: TxnId) -> Result<(), NoMemory>
+    fn report_of(&mut self, place: usize, entry: Entry, txn: TxnId) -> Result<(), NoMemory>
         requires reply { entry.reply ≡ reply_to weighted self.old.replay entry.event }
         requires place { place ≡ length self.old.replay.entries }
-        requires latest { AreLatest self.old.replay.entries self.old.latest.places.items }
+        requires last_entries { AreLastEntries self.old.replay.entries self.old.last_entries.places.items }
         ensures replay { OnOk result (self.new.replay ≡ extended self.old.replay entry.event entry.reply) }
-        ensures latest { OnOk result (AreLatest self.new.replay.entries self.new.latest.places.items) }
+        ensures last_entries { OnOk result (AreLastEntries self.new.replay.entries self.new.last_entries.places.items) }
     {
-        self.tell_entry(place, entry, txn)?;
-        let before = self.latest.wait(self.replay.log(), txn);
+        self.report_entry(place, entry, txn)?;
+        let before = self.last_entries.wait(self.replay.log(), txn);
         self.replay.step(entry)?;
-        self.latest.note(entry, place);
-        self.tell_ring(txn, before)?;
+        self.last_entries.note(entry, place);
+        self.report_cycle(txn, before)?;
         Ok(())
     }
 
     /// Tells of the entry at a place, and goes on behind it.
-    fn tell(&mut self, place: usize, entry: Entry) -> Result<(), NoMemory>
+    fn report(&mut self, place: usize, entry: Entry) -> Result<(), NoMemory>
         requires reply { entry.reply ≡ reply_to weighted self.old.replay entry.event }
         requires place { place ≡ length self.old.replay.entries }
-        requires latest { AreLatest self.old.replay.entries self.old.latest.places.items }
+        requires last_entries { AreLastEntries self.old.replay.entries self.old.last_entries.places.items }
         ensures replay { OnOk result (self.new.replay ≡ extended self.old.replay entry.event entry.reply) }
-        ensures latest { OnOk result (AreLatest self.new.replay.entries self.new.latest.places.items) }
+        ensures last_entries { OnOk result (AreLastEntries self.new.replay.entries self.new.last_entries.places.items) }
     {
         if let Some(txn) = transaction_of(entry) {
-            return self.tell_of(place, entry, txn);
+            return self.report_of(place, entry, txn);
         }
         self.replay.step(entry)?;
-        self.latest.note(entry, place);
+        self.last_entries.note(entry, place);
         Ok(())
     }
 
     /// Tells of the entry of a history at a place, and goes on behind it.
-    fn tell_at(&mut self, history: &History<Weighted>, place: usize) -> Result<(), NoMemory>
+    fn report_at(&mut self, history: &History<Weighted>, place: usize) -> Result<(), NoMemory>
         requires place { place < length history.now.schedule.entries }
         requires replay { self.old.replay ≡ until place history.now.schedule }
-        requires latest { AreLatest (take place history.now.schedule.entries) self.old.latest.places.items }
+        requires last_entries { AreLastEntries (take place history.now.schedule.entries) self.old.last_entries.places.items }
         ensures replay { OnOk result (self.new.replay ≡ until (place + 1) history.now.schedule) }
-        ensures latest { OnOk result
-            (AreLatest (take (place + 1) history.now.schedule.entries) self.new.latest.places.items) }
+        ensures last_entries { OnOk result
+            (AreLastEntries (take (place + 1) history.now.schedule.entries) self.new.last_entries.places.items) }
     {
         let Some(entry) = history.log().get(place) else {
             unreachable!()
         };
-        self.tell(place, entry)?;
+        self.report(place, entry)?;
         Ok(())
     }
 
     /// Tells of all entries of a history.
-    fn tell_all(&mut self, history: &History<Weighted>) -> Result<(), NoMemory>
-        requires replay { self.old.replay ≡ blank history.now.schedule }
-        requires latest { AreLatest [] self.old.latest.places.items }
+    fn report_all(&mut self, history: &History<Weighted>) -> Result<(), NoMemory>
+        requires replay { self.old.replay ≡ empty_schedule history.now.schedule }
+        requires last_entries { AreLastEntries [] self.old.last_entries.places.items }
     {
         for place in 0..history.log().len() {
-            self.tell_at(history, place)?;
+            self.report_at(history, place)?;
         }
         Ok(())
     }
@@ -181,20 +184,20 @@ impl Telling<'_> {
 /// Why the lines of a script were blocked, of those that are sought.
 fn text_about(
     alloc: Global,
-    chronicle: &Chronicle<'_>,
+    recording: &Recording<'_>,
     sought: Sought,
 ) -> Result<String, NoMemory> {
-    let history = &chronicle.history;
-    let mut telling = Telling {
+    let history = &recording.history;
+    let mut reporter = Reporter {
         alloc,
-        script: Script::new(chronicle),
+        script: Script::new(recording),
         sought,
         replay: Replay::new(alloc, history)?,
-        latest: Latest::new(alloc, history.begun_count())?,
+        last_entries: LastEntries::new(alloc, history.begun_count())?,
         out: String::new(alloc),
     };
-    telling.tell_all(history)?;
-    Ok(telling.out)
+    reporter.report_all(history)?;
+    Ok(reporter.out)
 }
 
 /// The one line where there is nothing to tell.
@@ -207,11 +210,11 @@ fn push_nothing(out: &mut String, name: Option<&str>) -> Result<(), AllocError> 
 
 impl Why<'_> {
     /// Which transactions are told of, unless there is none of that name.
-    fn sought(&self, chronicle: &Chronicle<'_>) -> Option<Sought> {
+    fn sought(&self, recording: &Recording<'_>) -> Option<Sought> {
         let Some(name) = self.name else {
             return Some(Sought::All);
         };
-        let position = chronicle.transactions.number_of(name)?;
+        let position = recording.transactions.number_of(name)?;
         Some(Sought::One(TxnId(position.saturating_add(1))))
     }
 
@@ -219,10 +222,10 @@ impl Why<'_> {
     fn text(
         &self,
         alloc: Global,
-        chronicle: &Chronicle<'_>,
+        recording: &Recording<'_>,
         sought: Sought,
     ) -> Result<Vec<u8>, NoMemory> {
-        let mut out = text_about(alloc, chronicle, sought)?;
+        let mut out = text_about(alloc, recording, sought)?;
         if out.is_empty() {
             push_nothing(&mut out, self.name)?;
         }
@@ -230,18 +233,18 @@ impl Why<'_> {
     }
 }
 
-impl Survey for Why<'_> {
+impl ScriptView for Why<'_> {
     ghost IsTextOf = { λ _ _ _. Unit {0} };
 
     fn text_of(
         &self,
         alloc: Global,
-        chronicle: &Chronicle<'_>,
+        recording: &Recording<'_>,
     ) -> Result<Option<Vec<u8>>, AllocError> {
-        let Some(sought) = self.sought(chronicle) else {
+        let Some(sought) = self.sought(recording) else {
             return Ok(None);
         };
-        match self.text(alloc, chronicle, sought) {
+        match self.text(alloc, recording, sought) {
             Ok(text) => Ok(Some(text)),
             Err(_) => Err(AllocError),
         }

@@ -4,15 +4,15 @@ ghost use Rattle.std.specs.Prelude.{◌≡◌, ◌<◌, length, map, All, ◌≤
 ghost use Rattle.esr_items.specs.Values.{IsValue};
 ghost use Rattle.esr_items.specs.Weights.{weighted};
 ghost use Rattle.esr_history.specs.Events.{current_value, is_query, is_update};
-ghost use Rattle.esr_history.specs.Machine.{blank, done, extended, reply_to, writer, Schedule};
-ghost use Rattle.esr_base.specs.declared.limits.TheConstants.{MOST_READS};
+ghost use Rattle.esr_history.specs.Machine.{empty_schedule, accepted_in, extended, reply_to, writer, Schedule};
+ghost use Rattle.esr_base.specs.declared.limits.TheConstants.{MAX_READS};
 ghost use Rattle.esr_history.specs.ItemLocks.{item_locks};
 ghost use Rattle.esr_locks.specs.Rows.{query_and_count};
 ghost use Rattle.esr_why.specs.Locks.{lock_by};
 
 use esr_core::Machine;
 use esr_history::{Entry, History, Log, NoMemory, TxnId};
-use esr_items::{ItemId, Lent, Store, Weighted};
+use esr_items::{ItemId, Store, Weighted, WeightedRef};
 use esr_locks::QueryReads;
 use std::alloc::Global;
 use std::marker::Model;
@@ -29,7 +29,7 @@ pub enum Lock {
 /// A history that is replayed.
 #[derive(Drop)]
 pub struct Replay<'a> {
-    pub machine: Machine<Lent<'a>>,
+    pub machine: Machine<WeightedRef<'a>>,
 }
 
 impl<'a> Model for Replay<'a> {
@@ -39,16 +39,19 @@ impl<'a> Model for Replay<'a> {
 }
 
 /// A machine that is to make a history again.
-fn blank<'a>(alloc: Global, history: &'a History<Weighted>) -> Result<Machine<Lent<'a>>, NoMemory>
-    ensures { IfOk result (λ m. m ≡ blank history.entry.now.schedule) }
+fn replayer<'a>(
+    alloc: Global,
+    history: &'a History<Weighted>,
+) -> Result<Machine<WeightedRef<'a>>, NoMemory>
+    ensures { IfOk result (λ m. m ≡ empty_schedule history.entry.now.schedule) }
 {
     let store = Store::of_valid(alloc, history.opening_values())?;
-    Machine::new(alloc, store, Lent(history.metric()))
+    Machine::new(alloc, store, WeightedRef(history.metric()))
 }
 
 /// Whether a transaction is a query.
-fn is_query(machine: &Machine<Lent<'_>>, t: TxnId) -> bool
-    ensures { result ≡ is_query (done machine.now) t.0 }
+fn is_query(machine: &Machine<WeightedRef<'_>>, t: TxnId) -> bool
+    ensures { result ≡ is_query (accepted_in machine.now) t.0 }
 {
     match machine.history().facts(t) {
         Some(facts) => facts.query,
@@ -59,9 +62,9 @@ fn is_query(machine: &Machine<Lent<'_>>, t: TxnId) -> bool
 impl<'a> Replay<'a> {
     /// A replay before the first entry.
     pub fn new(alloc: Global, history: &'a History<Weighted>) -> Result<Replay<'a>, NoMemory>
-        ensures { IfOk result (λ r. r ≡ blank history.entry.now.schedule) }
+        ensures { IfOk result (λ r. r ≡ empty_schedule history.entry.now.schedule) }
     {
-        let machine = blank(alloc, history)?;
+        let machine = replayer(alloc, history)?;
         Ok(Replay { machine })
     }
 
@@ -87,7 +90,7 @@ impl<'a> Replay<'a> {
     /// The lock by which an update keeps another from an item: that of its writes, where it is the item's writer.
     pub fn lock_of(&self, x: ItemId, holder: TxnId) -> Lock
         requires { x.0 < length self.now.opening }
-        ensures { result ≡ lock_by (writer (done self.now) x.0) holder.0 }
+        ensures { result ≡ lock_by (writer (accepted_in self.now) x.0) holder.0 }
     {
         match self.machine.writer(x) {
             Some(writer) if writer == holder => Lock::Write,
@@ -98,7 +101,7 @@ impl<'a> Replay<'a> {
     /// The current value of an item.
     pub fn current(&self, x: ItemId) -> i64
         requires { x.0 < length self.now.opening }
-        ensures value { result ≡ current_value self.now.opening (done self.now) x.0 }
+        ensures value { result ≡ current_value self.now.opening (accepted_in self.now) x.0 }
         ensures range { IsValue result }
     {
         self.machine.current(x)
@@ -106,7 +109,7 @@ impl<'a> Replay<'a> {
 
     /// Whether a transaction is a query.
     pub fn is_query(&self, t: TxnId) -> bool
-        ensures { result ≡ is_query (done self.now) t.0 }
+        ensures { result ≡ is_query (accepted_in self.now) t.0 }
     {
         is_query(&self.machine, t)
     }
@@ -114,7 +117,7 @@ impl<'a> Replay<'a> {
     /// Whether a transaction is an update.
     #[tactic(auto, using(esr_core::proofs::Exports::kind_of))]
     pub fn is_update(&self, t: TxnId) -> bool
-        ensures { result ≡ is_update (done self.now) t.0 }
+        ensures { result ≡ is_update (accepted_in self.now) t.0 }
     {
         match self.machine.history().facts(t) {
             Some(facts) => !facts.query,
@@ -125,8 +128,8 @@ impl<'a> Replay<'a> {
     /// The queries that have read an item and have not ended, with their counts.
     pub fn query_reads(&self, x: ItemId) -> &[QueryReads]
         requires { x.0 < length self.now.opening }
-        ensures reads { map query_and_count result.now ≡ (item_locks (done self.now) x.0).queries }
-        ensures most { All (λ r. r.count ≤ MOST_READS) result.now }
+        ensures reads { map query_and_count result.now ≡ (item_locks (accepted_in self.now) x.0).queries }
+        ensures most { All (λ r. r.count ≤ MAX_READS) result.now }
     {
         self.machine.query_reads(x)
     }

@@ -3,10 +3,10 @@
 use crate::replay::Lock;
 use crate::shortfall::{Shortfall, Side};
 use crate::waits::Wait;
-use esr_history::{Event, History, LARGEST_LIMIT, TxnId};
+use esr_history::{Event, History, MAX_LIMIT, TxnId};
 use esr_items::{ItemId, Weighted};
 use esr_report::{Names, name_of_transaction};
-use esr_telling::Chronicle;
+use esr_views::Recording;
 use std::alloc::AllocError;
 
 /// A script with the line of each entry.
@@ -21,12 +21,12 @@ pub struct Script<'a> {
 
 impl<'a> Script<'a> {
     /// What a script leads to, with the line of each entry.
-    pub fn new(chronicle: &'a Chronicle<'_>) -> Script<'a> {
+    pub fn new(recording: &'a Recording<'_>) -> Script<'a> {
         Script {
-            items: &chronicle.items,
-            transactions: &chronicle.transactions,
-            history: &chronicle.history,
-            lines: chronicle.lines,
+            items: &recording.items,
+            transactions: &recording.transactions,
+            history: &recording.history,
+            lines: recording.lines,
         }
     }
 
@@ -112,10 +112,7 @@ impl<'a> Script<'a> {
 
     /// Which limits would have let an event pass that lacked this.
     fn push_remedy(&self, out: &mut String, shortfalls: &[Shortfall]) -> Result<(), AllocError> {
-        if shortfalls
-            .iter()
-            .any(|s| s.enough > u128::from(LARGEST_LIMIT))
-        {
+        if shortfalls.iter().any(|s| s.enough > u128::from(MAX_LIMIT)) {
             return out.push_str("; no limit would let it pass");
         }
         for (place, shortfall) in shortfalls.iter().enumerate() {
@@ -175,8 +172,8 @@ impl<'a> Script<'a> {
     }
 
     /// Who waits for whom in a ring, from the one that waits the longest behind the one that closed it.
-    pub fn push_ring(&self, out: &mut String, ring: &[Wait]) -> Result<(), AllocError> {
-        let Some((first, rest)) = ring.split_first() else {
+    pub fn push_cycle(&self, out: &mut String, cycle: &[Wait]) -> Result<(), AllocError> {
+        let Some((first, rest)) = cycle.split_first() else {
             return Ok(());
         };
         out.push_str("deadlock: ")?;

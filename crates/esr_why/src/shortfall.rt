@@ -5,11 +5,11 @@
 //! are looked at, as the machine's definition has them.
 
 ghost use Rattle.std.specs.Prelude.{◌≡◌, ◌<◌, ◌≤◌, ◌-◌, ◌*◌, ◌^◌, ◌++◌, true, length, map, filter_map, sum_by, All, IfOk, OnOk};
-ghost use Rattle.esr_items.specs.Values.{IsValue, largest_distance};
+ghost use Rattle.esr_items.specs.Values.{IsValue, max_distance};
 ghost use Rattle.esr_items.specs.Weights.{weighted};
-ghost use Rattle.esr_base.specs.declared.limits.TheConstants.{MOST_READS};
+ghost use Rattle.esr_base.specs.declared.limits.TheConstants.{MAX_READS};
 ghost use Rattle.esr_history.specs.Events.{is_query, is_update, limit_of};
-ghost use Rattle.esr_history.specs.Machine.{done};
+ghost use Rattle.esr_history.specs.Machine.{accepted_in};
 ghost use Rattle.esr_locks.specs.Rows.{query_and_count};
 ghost use Rattle.esr_why.specs.Notes.{IsInRange};
 ghost use Rattle.esr_why.specs.Shortfalls.{lack, import_lack, export_lack, listed, shortfalls};
@@ -84,8 +84,8 @@ fn push_if(found: &mut Vec<Shortfall>, more: Option<Shortfall>) -> Result<(), Al
 
 /// What the queries that have read an item are charged together, where one read of each costs this amount.
 fn total(reads: &[QueryReads], amount: u64) -> u128
-    requires few { All (λ r. r.count ≤ MOST_READS) reads.now }
-    requires amount { amount ≤ largest_distance }
+    requires few { All (λ r. r.count ≤ MAX_READS) reads.now }
+    requires amount { amount ≤ max_distance }
     ensures total { result ≡ sum_by (λ r. r.1 * amount) (map query_and_count reads.now) }
     ensures most { result ≤ 2 ^ 126 }
 {
@@ -99,7 +99,7 @@ fn total(reads: &[QueryReads], amount: u64) -> u128
 impl Replay<'_> {
     /// The limit of a transaction.
     fn limit(&self, t: TxnId) -> u64
-        ensures { result ≡ limit_of (done self.now) t.0 }
+        ensures { result ≡ limit_of (accepted_in self.now) t.0 }
     {
         match self.machine.history().facts(t) {
             Some(facts) => facts.limit,
@@ -132,7 +132,7 @@ impl Replay<'_> {
         x: ItemId,
     ) -> Result<Vec<Shortfall>, AllocError>
         requires item { x.0 < length self.now.opening }
-        requires query { is_query (done self.now) q.0 ≡ true }
+        requires query { is_query (accepted_in self.now) q.0 ≡ true }
         ensures { IfOk result (λ v. v.items ≡ shortfalls weighted self.now (Event.Read q x)) }
     {
         let mut found = Vec::new(alloc);
@@ -153,8 +153,8 @@ impl Replay<'_> {
 
     /// What a query lacks that has read an item so often, where one read costs this amount.
     fn reads_lack(&self, reads: QueryReads, amount: u64) -> Option<Shortfall>
-        requires few { reads.count ≤ MOST_READS }
-        requires amount { amount ≤ largest_distance }
+        requires few { reads.count ≤ MAX_READS }
+        requires amount { amount ≤ max_distance }
         ensures { result ≡ import_lack weighted self.now reads.query.0 (reads.count * amount) }
     {
         self.import_lack(reads.query, u64::from(reads.count) * amount)
@@ -167,8 +167,8 @@ impl Replay<'_> {
         reads: &[QueryReads],
         amount: u64,
     ) -> Result<(), AllocError>
-        requires few { All (λ r. r.count ≤ MOST_READS) reads.now }
-        requires amount { amount ≤ largest_distance }
+        requires few { All (λ r. r.count ≤ MAX_READS) reads.now }
+        requires amount { amount ≤ max_distance }
         ensures { OnOk result (found.new.items ≡ found.old.items
             ++ filter_map (λ r. import_lack weighted self.now r.0 (r.1 * amount)) (map query_and_count reads.now)) }
     {
@@ -187,7 +187,7 @@ impl Replay<'_> {
         value: i64,
     ) -> Result<Vec<Shortfall>, AllocError>
         requires item { x.0 < length self.now.opening }
-        requires update { is_update (done self.now) u.0 ≡ true }
+        requires update { is_update (accepted_in self.now) u.0 ≡ true }
         requires value { IsValue value }
         ensures { IfOk result (λ v. v.items ≡ shortfalls weighted self.now (Event.Write u x value)) }
     {

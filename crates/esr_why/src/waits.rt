@@ -7,7 +7,7 @@
 ghost use Rattle.std.specs.Prelude.{◌≡◌, ◌++◌, ◌∷◌, [], List, Some, All, IsTrue, IfOk, IfSome, length, map, option_map};
 ghost use Rattle.esr_history.specs.BackLinks.{last_place, txn_in};
 ghost use Rattle.esr_history.specs.declared.event.Entry.{Entry};
-ghost use Rattle.esr_why.specs.Waits.{AreLatest, IsRing, IsWaiting, turned};
+ghost use Rattle.esr_why.specs.Waits.{AreLastEntries, IsCycle, IsWaiting, turned};
 
 use esr_history::{Entry, Event, Log, Refusal, Reply, TxnId};
 use std::alloc::{AllocError, Global};
@@ -64,19 +64,19 @@ fn is_round(waits: &[Wait]) -> bool
 
 /// The place of the last entry of each transaction.
 #[derive(Drop)]
-pub struct Latest {
+pub struct LastEntries {
     places: Vec<Option<usize>>,
     /// The place of the entry from which a walk came by last.
     met: Vec<Option<usize>>,
 }
 
-impl Latest {
+impl LastEntries {
     /// Before the first entry, of so many transactions.
-    pub fn new(alloc: Global, transactions: usize) -> Result<Latest, AllocError>
-        ensures { IfOk result (λ l. AreLatest [] l.places.items) }
+    pub fn new(alloc: Global, transactions: usize) -> Result<LastEntries, AllocError>
+        ensures { IfOk result (λ l. AreLastEntries [] l.places.items) }
     {
         let count = transactions.saturating_add(1);
-        Ok(Latest {
+        Ok(LastEntries {
             places: vec![in alloc; None; count]?,
             met: vec![in alloc; None; count]?,
         })
@@ -84,8 +84,8 @@ impl Latest {
 
     /// Notes the entry at a place.
     pub fn note(&mut self, entry: Entry, place: usize)
-        ensures { (es : List Entry) → place ≡ length es → AreLatest es self.old.places.items
-            → AreLatest (es ++ entry ∷ []) self.new.places.items }
+        ensures { (es : List Entry) → place ≡ length es → AreLastEntries es self.old.places.items
+            → AreLastEntries (es ++ entry ∷ []) self.new.places.items }
     {
         let Some(txn) = transaction_of(entry) else {
             return;
@@ -98,7 +98,7 @@ impl Latest {
 
     /// The place of the last entry of a transaction.
     fn place(&self, txn: TxnId) -> Option<usize>
-        ensures { (es : List Entry) → AreLatest es self.now.places.items
+        ensures { (es : List Entry) → AreLastEntries es self.now.places.items
             → IfSome result (λ place. last_place txn_in txn.0 es ≡ Some place) }
     {
         let at = txn.0 as usize;
@@ -111,7 +111,7 @@ impl Latest {
 
     /// The wait of a transaction, if it waits.
     pub fn wait(&self, log: &Log, txn: TxnId) -> Option<Wait>
-        ensures { AreLatest log.now.entries self.now.places.items → IfSome result (IsWaiting log.now.entries) }
+        ensures { AreLastEntries log.now.entries self.now.places.items → IfSome result (IsWaiting log.now.entries) }
     {
         let place = self.place(txn)?;
         let entry = log.get(place)?;
@@ -135,7 +135,7 @@ impl Latest {
 
     /// Those who wait for one another, from one on, as far as a walk goes.
     fn walk(&mut self, alloc: Global, log: &Log, first: Wait) -> Result<Vec<Wait>, AllocError>
-        requires latest { AreLatest log.now.entries self.old.places.items }
+        requires last_entries { AreLastEntries log.now.entries self.old.places.items }
         requires first { IsWaiting log.now.entries first }
         ensures waiting { IfOk result (λ v. All (IsWaiting log.now.entries) v.items) }
         ensures places { self.new.places ≡ self.old.places }
@@ -157,15 +157,15 @@ impl Latest {
     }
 
     /// The ring that one closes who waits, if one does.
-    pub fn ring(
+    pub fn cycle(
         &mut self,
         alloc: Global,
         log: &Log,
         first: Wait,
     ) -> Result<Option<Vec<Wait>>, AllocError>
-        requires latest { AreLatest log.now.entries self.old.places.items }
+        requires last_entries { AreLastEntries log.now.entries self.old.places.items }
         requires first { IsWaiting log.now.entries first }
-        ensures ring { IfOk result (λ found. IfSome found (λ v. IsRing log.now.entries v.items)) }
+        ensures cycle { IfOk result (λ found. IfSome found (λ v. IsCycle log.now.entries v.items)) }
         ensures places { self.new.places ≡ self.old.places }
     {
         let waits = self.walk(alloc, log, first)?;

@@ -5,10 +5,10 @@
 //! numbers were drawn as this word tells. Who has no pass has an empty list: with that fact it can be said where a
 //! close may refuse, only where fewer seats are given than the board has.
 ghost use Rattle.std.specs.Prelude.{◌≡◌, ℕ, ◌+◌, ◌<◌, ◌≤◌, ◌↔◌, ◌⊎◌, [], ◌∷◌, ◌++◌, map, All, IfSome, IfNone, IfOk, OnOk, OnErr, MatchResult, length, vec_len};
-ghost use Rattle.esr_board.specs.Claims.{count_past, Drew, hand, EachOnceBelow, IsBoardAt};
-ghost use Rattle.esr_board.specs.Boards.{IsSeatOf, drawn, hand_of, all_drawn, jobs_of, seats_of};
+ghost use Rattle.esr_board.specs.Claims.{count_past, HasClaimed, hand, EachOnceBelow, IsBoardAt};
+ghost use Rattle.esr_board.specs.Boards.{IsSeatOf, claimed, hand_of, all_claimed, jobs_of, seats_of};
 
-use super::{Board, BoardError, BoardSeat, ClaimsMissing, MOST_JOBS, MOST_SEATS};
+use super::{Board, BoardError, BoardSeat, ClaimsMissing, MAX_JOBS, MAX_SEATS};
 use crate::hand::{BoardSize, Hand};
 use crate::rule::{Admit, Claim, Fair, Gather};
 use atomic_table::{Seat, Table};
@@ -16,7 +16,7 @@ use std::alloc::{AllocError, Global};
 
 /// A seat that has drawn nothing.
 fn fresh(seat: Seat<(), Hand>) -> BoardSeat
-    requires { (seat.me.0.passes ≡ 1) × (seat.me.0.drawn ≡ []) × (seat.me.1 ≡ []) }
+    requires { (seat.me.0.passes ≡ 1) × (seat.me.0.claimed ≡ []) × (seat.me.1 ≡ []) }
     ensures { result.seat ≡ seat }
 {
     BoardSeat {
@@ -56,15 +56,15 @@ impl Board {
     pub fn new(alloc: Global, jobs: u64, seats: u64) -> Result<(Board, Vec<BoardSeat>), BoardError>
         ensures board { IfOk result (λ made. (jobs_of made.0 ≡ jobs) × (seats_of made.0 ≡ seats)) }
         ensures seats { IfOk result (λ made. (vec_len made.1 ≡ seats)
-            × All (λ s. IsSeatOf made.0 s × (drawn s ≡ [])) made.1.items) }
-        ensures too_many_jobs { (result ≡ Err BoardError.TooManyJobs) ↔ (MOST_JOBS < jobs) }
+            × All (λ s. IsSeatOf made.0 s × (claimed s ≡ [])) made.1.items) }
+        ensures too_many_jobs { (result ≡ Err BoardError.TooManyJobs) ↔ (MAX_JOBS < jobs) }
         ensures seats_out_of_range { (result ≡ Err BoardError.SeatsOutOfRange)
-            ↔ ((jobs ≤ MOST_JOBS) × ((seats ≡ 0) ⊎ (MOST_SEATS < seats))) }
+            ↔ ((jobs ≤ MAX_JOBS) × ((seats ≡ 0) ⊎ (MAX_SEATS < seats))) }
     {
-        if jobs > MOST_JOBS {
+        if jobs > MAX_JOBS {
             return Err(BoardError::TooManyJobs);
         }
-        if seats == 0 || seats > MOST_SEATS {
+        if seats == 0 || seats > MAX_SEATS {
             return Err(BoardError::SeatsOutOfRange);
         }
         let size = BoardSize { jobs, seats };
@@ -85,11 +85,11 @@ impl Board {
         requires { IsSeatOf self.now seat.old }
         ensures seat { IsSeatOf self.now seat.new }
         ensures job { IfSome result (λ n. (n < jobs_of self.now)
-            × (drawn seat.new ≡ drawn seat.old ++ n ∷ []) × All (λ m. m < n) (drawn seat.old)) }
-        ensures rising { IfSome result (λ n. length (drawn seat.old) ≤ n) }
-        ensures again { 0 < count_past (jobs_of self.now) (drawn seat.old) → drawn seat.new ≡ drawn seat.old }
-        ensures none { IfNone result ((0 < count_past (jobs_of self.now) (drawn seat.new))
-            × Drew (jobs_of self.now) (drawn seat.old) (drawn seat.new) []) }
+            × (claimed seat.new ≡ claimed seat.old ++ n ∷ []) × All (λ m. m < n) (claimed seat.old)) }
+        ensures rising { IfSome result (λ n. length (claimed seat.old) ≤ n) }
+        ensures again { 0 < count_past (jobs_of self.now) (claimed seat.old) → claimed seat.new ≡ claimed seat.old }
+        ensures none { IfNone result ((0 < count_past (jobs_of self.now) (claimed seat.new))
+            × HasClaimed (jobs_of self.now) (claimed seat.old) (claimed seat.new) []) }
     {
         if seat.ended {
             return None;
@@ -111,10 +111,10 @@ impl Board {
     /// all seats of the board are given.
     pub fn close(self, seats: Vec<BoardSeat>) -> Result<(), ClaimsMissing>
         requires { All (IsSeatOf self) seats.items }
-        ensures once { OnOk result (EachOnceBelow (length (all_drawn seats.items)) (all_drawn seats.items)) }
+        ensures once { OnOk result (EachOnceBelow (length (all_claimed seats.items)) (all_claimed seats.items)) }
         ensures word { (word : ℕ) × IsBoardAt (jobs_of self) (seats_of self) (map hand_of seats.items) word
-            × MatchResult result (λ _. length (all_drawn seats.items) ≡ word)
-            (λ _. length (all_drawn seats.items) < word) }
+            × MatchResult result (λ _. length (all_claimed seats.items) ≡ word)
+            (λ _. length (all_claimed seats.items) < word) }
         ensures missing { OnErr result (vec_len seats < seats_of self) }
     {
         let (counted, word) = self.settle(seats);
@@ -128,7 +128,7 @@ impl Board {
     /// How many numbers the seats drew, and the word.
     fn settle(self, mut seats: Vec<BoardSeat>) -> (u128, u64)
         requires { All (IsSeatOf self) seats.items }
-        ensures count { result.0 ≡ length (all_drawn seats.items) }
+        ensures count { result.0 ≡ length (all_claimed seats.items) }
         ensures word { IsBoardAt (jobs_of self) (seats_of self) (map hand_of seats.items) result.1 }
     {
         let Some(last) = seats.pop() else {

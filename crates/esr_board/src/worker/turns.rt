@@ -3,13 +3,13 @@
 //! list of its own.
 //!
 //! A finding is large, since its problem and its certificate are, and who audits a whole history may want a line of each.
-//! So there is one loop of claims and audits, `draw`, for all that may be kept of a finding: what `T::from` makes of it.
+//! So there is one loop of claims and audits, `claim_all`, for all that may be kept of a finding: what `T::from` makes of it.
 
 ghost use Rattle.std.specs.Prelude.{[], ◌≡◌, ◌≢◌, ℕ, ◌<◌, length, map, IfOk, IfErr, List, Any, false};
 ghost use Rattle.esr_history.specs.Queries.{is_committed_query};
 ghost use Rattle.esr_order.specs.Index.{IsWholeIndexOf};
-ghost use Rattle.esr_board.specs.Claims.{count_past, Drew};
-ghost use Rattle.esr_board.specs.Boards.{IsSeatOf, drawn, jobs_of};
+ghost use Rattle.esr_board.specs.Claims.{count_past, HasClaimed};
+ghost use Rattle.esr_board.specs.Boards.{IsSeatOf, claimed, jobs_of};
 ghost use Rattle.esr_board.specs.Shares.{AreCommitted, AreFound, AreKept, IsWorked, query_of};
 
 use super::{Share, Worked};
@@ -23,7 +23,7 @@ use std::alloc::Global;
 
 /// Claims jobs and audits their queries until no job is left, and keeps of each finding what `T` is of it. An index of the
 /// history is given, so that no audit reads it anew.
-fn draw<M: Metric, G: Gate, T: From<Finding> + Drop>(
+fn claim_all<M: Metric, G: Gate, T: From<Finding> + Drop>(
     alloc: Global,
     history: &History<M>,
     index: &Index,
@@ -36,12 +36,12 @@ fn draw<M: Metric, G: Gate, T: From<Finding> + Drop>(
     requires seat { IsSeatOf board.now seat.old }
     requires jobs { length jobs.now ≡ jobs_of board.now }
     ensures seat { IsSeatOf board.now seat.new }
-    ensures jobs { IfOk result (λ s. Drew (jobs_of board.now) (drawn seat.old) (drawn seat.new)
+    ensures jobs { IfOk result (λ s. HasClaimed (jobs_of board.now) (claimed seat.old) (claimed seat.new)
         (map (λ p. p.0) s.found.items)) }
     ensures kept { IfOk result (λ s. AreKept T.from_gives M.distance_by history.now.schedule jobs.now
         (jobs_of board.now) s.found.items) }
-    ensures ended { IfOk result (λ _. 0 < count_past (jobs_of board.now) (drawn seat.new)) }
-    ensures err { IfErr result (λ e. (js : List ℕ) × Drew (jobs_of board.now) (drawn seat.old) (drawn seat.new) js
+    ensures ended { IfOk result (λ _. 0 < count_past (jobs_of board.now) (claimed seat.new)) }
+    ensures err { IfErr result (λ e. (js : List ℕ) × HasClaimed (jobs_of board.now) (claimed seat.old) (claimed seat.new) js
         × (e ≡ AuditError.NotACommittedQuery
         → Any (λ n. (n < jobs_of board.now) × (is_committed_query history.now.schedule (query_of jobs.now n).0
         ≡ false)) js)) }
@@ -80,12 +80,12 @@ pub fn work<M: Metric, G: Gate>(
     requires seat { IsSeatOf board.now seat.old }
     requires jobs { length jobs.now ≡ jobs_of board.now }
     ensures seat { IsSeatOf board.now seat.new }
-    ensures jobs { IfOk result (λ s. Drew (jobs_of board.now) (drawn seat.old) (drawn seat.new)
+    ensures jobs { IfOk result (λ s. HasClaimed (jobs_of board.now) (claimed seat.old) (claimed seat.new)
         (map (λ p. p.0) s.found.items)) }
     ensures found { IfOk result (λ s. AreFound M.distance_by history.now.schedule jobs.now
         (jobs_of board.now) s.found.items) }
-    ensures ended { IfOk result (λ _. 0 < count_past (jobs_of board.now) (drawn seat.new)) }
-    ensures err { IfErr result (λ e. (js : List ℕ) × Drew (jobs_of board.now) (drawn seat.old) (drawn seat.new) js
+    ensures ended { IfOk result (λ _. 0 < count_past (jobs_of board.now) (claimed seat.new)) }
+    ensures err { IfErr result (λ e. (js : List ℕ) × HasClaimed (jobs_of board.now) (claimed seat.old) (claimed seat.new) js
         × (e ≡ AuditError.NotACommittedQuery
         → Any (λ n. (n < jobs_of board.now) × (is_committed_query history.now.schedule (query_of jobs.now n).0
         ≡ false)) js)) }
@@ -94,7 +94,7 @@ pub fn work<M: Metric, G: Gate>(
     let Ok(index) = Index::of(alloc, history) else {
         return Err(AuditError::NoMemory);
     };
-    draw::<M, G, Finding>(alloc, history, &index, jobs, board, seat, gate)
+    claim_all::<M, G, Finding>(alloc, history, &index, jobs, board, seat, gate)
 }
 
 /// All turns of one worker, with a seat that has drawn nothing.
@@ -108,10 +108,10 @@ pub(crate) fn take_turns<M: Metric, G: Gate, T: From<Finding> + Drop>(
     gate: &G,
 ) -> Worked<T>
     requires index { IsWholeIndexOf history.now.schedule.entries index.now }
-    requires seat { IsSeatOf board.now seat × (drawn seat ≡ []) }
+    requires seat { IsSeatOf board.now seat × (claimed seat ≡ []) }
     requires jobs { (length jobs.now ≡ jobs_of board.now) × AreCommitted history.now.schedule jobs.now }
     ensures { IsWorked T.from_gives M.distance_by history.now.schedule jobs.now board.now result }
 {
-    let share = draw(alloc, history, index, jobs, board, &mut seat, gate);
+    let share = claim_all(alloc, history, index, jobs, board, &mut seat, gate);
     Worked { share, seat }
 }

@@ -1,11 +1,11 @@
 //! Look-ups for explanations: the update that holds the write lock on an item, and the export of an update. Explanations
 //! replay a history on a second machine and query it between steps.
 ghost use Rattle.std.specs.Prelude.{◌≡◌, ◌<◌, ◌≤◌, length, map, All, option_map};
-ghost use Rattle.esr_base.specs.declared.limits.TheConstants.{MOST_READS};
+ghost use Rattle.esr_base.specs.declared.limits.TheConstants.{MAX_READS};
 ghost use Rattle.esr_items.specs.Values.{IsValue};
 ghost use Rattle.esr_history.specs.Events.{current_value};
 ghost use Rattle.esr_history.specs.ItemLocks.{item_locks};
-ghost use Rattle.esr_history.specs.Machine.{charges_in, done, export_in, writer};
+ghost use Rattle.esr_history.specs.Machine.{charges_in, accepted_in, export_in, writer};
 ghost use Rattle.esr_locks.specs.Rows.{query_and_count};
 
 use super::Machine;
@@ -18,7 +18,7 @@ impl<M: Metric> Machine<M> {
     #[tactic(auto, using(crate::proofs::Locks::locks_len))]
     pub fn writer(&self, x: ItemId) -> Option<TxnId>
         requires { x.0 < length self.now.opening }
-        ensures { option_map (λ u. u.0) result ≡ writer (done self.now) x.0 }
+        ensures { option_map (λ u. u.0) result ≡ writer (accepted_in self.now) x.0 }
     {
         self.state.locks.write_holder(x)
     }
@@ -26,7 +26,7 @@ impl<M: Metric> Machine<M> {
     /// The current value of an item.
     pub fn current(&self, x: ItemId) -> i64
         requires { x.0 < length self.now.opening }
-        ensures value { result ≡ current_value self.now.opening (done self.now) x.0 }
+        ensures value { result ≡ current_value self.now.opening (accepted_in self.now) x.0 }
         ensures range { IsValue result }
     {
         self.state.items.read(x)
@@ -36,8 +36,8 @@ impl<M: Metric> Machine<M> {
     #[tactic(auto, using(crate::proofs::Locks::locks_len))]
     pub fn query_reads(&self, x: ItemId) -> &[QueryReads]
         requires { x.0 < length self.now.opening }
-        ensures reads { map query_and_count result.now ≡ (item_locks (done self.now) x.0).queries }
-        ensures most { All (λ r. r.count ≤ MOST_READS) result.now }
+        ensures reads { map query_and_count result.now ≡ (item_locks (accepted_in self.now) x.0).queries }
+        ensures most { All (λ r. r.count ≤ MAX_READS) result.now }
     {
         self.state.locks.query_reads(x)
     }

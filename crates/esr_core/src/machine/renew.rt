@@ -4,14 +4,14 @@
 //! memory of the old one and reserves capacity for the same number of transactions. Otherwise its lists would grow again from
 //! empty, and two histories of 30 MB would compete for the cache. The caller passes the metric in again, because a history
 //! owns its metric and does not return it. There is no call that truncates a history, because an audit needs all of it.
-ghost use Rattle.esr_base.specs.declared.limits.TheConstants.{MOST_ITEMS};
+ghost use Rattle.esr_base.specs.declared.limits.TheConstants.{MAX_ITEMS};
 ghost use Rattle.std.specs.Prelude.{◌≡◌, ◌<◌, ◌≤◌, ◌↔◌, true, [], length, List, All, IfOk, OnOk, OnErr, IsErrOf};
 ghost use Rattle.std.specs.List.{list_any};
 ghost use Rattle.esr_items.specs.Values.{IsValue};
 ghost use Rattle.esr_history.specs.declared.event.Entry.{Entry};
 ghost use Rattle.esr_history.specs.Events.{committed_value};
 ghost use Rattle.esr_history.specs.Legal.{along};
-ghost use Rattle.esr_history.specs.Machine.{Distance, Schedule, IsLegal, done};
+ghost use Rattle.esr_history.specs.Machine.{Distance, Schedule, IsLegal, accepted_in};
 ghost use Rattle.esr_core.specs.States.{IsStateOf};
 ghost use Rattle.esr_core.specs.Renewed.{committed_values, has_active, renewed, AreSerializableAsOne};
 
@@ -44,7 +44,7 @@ impl<M: Metric> Machine<M> {
     /// The value that the committed transactions left an item.
     pub fn committed(&self, x: ItemId) -> i64
         requires { x.0 < length self.now.opening }
-        ensures value { result ≡ committed_value self.now.opening (done self.now) x.0 }
+        ensures value { result ≡ committed_value self.now.opening (accepted_in self.now) x.0 }
         ensures range { IsValue result }
     {
         self.state.items.committed(x)
@@ -54,7 +54,7 @@ impl<M: Metric> Machine<M> {
     pub fn committed_values(&self, alloc: Global) -> Result<Vec<i64>, AllocError>
         ensures values { IfOk result (λ v. v.items ≡ committed_values self.now) }
         ensures range { IfOk result (λ v. All IsValue v.items) }
-        ensures few { IfOk result (λ v. length v.items ≤ MOST_ITEMS) }
+        ensures few { IfOk result (λ v. length v.items ≤ MAX_ITEMS) }
     {
         committed_values(alloc, &self.state.items)
     }

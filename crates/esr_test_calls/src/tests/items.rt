@@ -7,7 +7,7 @@ use esr_items::{ItemId, ItemsError, Metric, Plain, Store, Weighted};
 use std::alloc::Global;
 use std::process::Abort;
 
-const LARGEST: i64 = 1_000_000_000_000;
+const MAX_VALUE: i64 = 1_000_000_000_000;
 
 /// A store of these values.
 fn store_of(rt: &impl Abort, alloc: Global, values: &[i64]) -> Store
@@ -25,18 +25,18 @@ fn store_of(rt: &impl Abort, alloc: Global, values: &[i64]) -> Store
 /// No clause can say that a store finds memory: one that never does would be proved, and keep no value at all.
 #[test]
 fn a_store_keeps_two_values_of_each_item(rt: HostRuntime) {
-    let mut store = store_of(&rt, rt.alloc(), &[7, -LARGEST]);
+    let mut store = store_of(&rt, rt.alloc(), &[7, -MAX_VALUE]);
     let a = ItemId(0);
     let b = ItemId(1);
     assert!(rt; store.len() == 2);
     store.write(a, 9);
-    store.write(b, LARGEST);
+    store.write(b, MAX_VALUE);
     assert!(rt; store.read(a) == 9);
     assert!(rt; store.committed(a) == 7);
     store.keep(a);
     store.undo(b);
     assert!(rt; store.committed(a) == 9);
-    assert!(rt; store.read(b) == -LARGEST);
+    assert!(rt; store.read(b) == -MAX_VALUE);
 }
 
 /// Whether a store of these values is refused so.
@@ -51,15 +51,15 @@ fn refuses(alloc: Global, values: &[i64], wanted: ItemsError) -> bool {
 #[test]
 fn a_store_names_what_it_refuses(rt: HostRuntime) {
     let alloc = rt.alloc();
-    assert!(rt; refuses(alloc, &[0, LARGEST + 1], ItemsError::ValueOutOfRange));
-    assert!(rt; refuses(alloc, &[LARGEST + 1; 4097], ItemsError::TooManyItems));
+    assert!(rt; refuses(alloc, &[0, MAX_VALUE + 1], ItemsError::ValueOutOfRange));
+    assert!(rt; refuses(alloc, &[MAX_VALUE + 1; 4097], ItemsError::TooManyItems));
 }
 
 /// A distance of 1 between any two values that differ is a metric too: a definition of that would be proved.
 #[test]
 fn plain_distances_are_differences(rt: HostRuntime) {
     let x = ItemId(0);
-    assert!(rt; Plain.distance(x, -LARGEST, LARGEST) == 2_000_000_000_000);
+    assert!(rt; Plain.distance(x, -MAX_VALUE, MAX_VALUE) == 2_000_000_000_000);
     assert!(rt; Plain.distance(x, 3, 3) == 0);
 }
 
@@ -79,7 +79,7 @@ fn metric_of(rt: &impl Abort, alloc: Global, weights: &[u32]) -> Weighted {
 fn weighted_distances_are_differences_times_weights(rt: HostRuntime) {
     let metric = metric_of(&rt, rt.alloc(), &[3, 1000]);
     assert!(rt; metric.distance(ItemId(0), 107, 100) == 21);
-    assert!(rt; metric.distance(ItemId(1), -LARGEST, LARGEST) == 2_000_000_000_000_000);
+    assert!(rt; metric.distance(ItemId(1), -MAX_VALUE, MAX_VALUE) == 2_000_000_000_000_000);
     assert!(rt; metric.distance(ItemId(2), 3, 5) == 2);
 }
 

@@ -5,7 +5,7 @@ use std::process::Abort;
 use std::sync::atomic::Ordering::SeqCst;
 use std::sync::atomic::{AtomicBool, AtomicU64};
 
-const MOST_TURNS: u32 = 100_000_000;
+const MAX_TURNS: u32 = 100_000_000;
 
 /// Holds job 0 until job 1 has entered, for so many turns, and counts how often each job came.
 #[derive(Drop)]
@@ -22,7 +22,7 @@ impl Gate for Meeting {
             return;
         }
         self.first.fetch_add(1, SeqCst);
-        for _ in 0..MOST_TURNS {
+        for _ in 0..MAX_TURNS {
             if self.second.load(SeqCst) > 0 {
                 return;
             }

@@ -1,6 +1,6 @@
 //! Sessions on threads of their own.
 ghost use Rattle.std.specs.Prelude.{◌≡◌, ◌≤◌, [], map};
-ghost use Rattle.esr_session.specs.declared.engine_name.TheConstants.{LEDGER_PARTS, MOST_SESSIONS};
+ghost use Rattle.esr_session.specs.declared.engine_name.TheConstants.{LEDGER_PARTS, MAX_SESSIONS};
 
 use esr_core::StepError;
 use esr_history::{Event, Log, Refusal, Reply, TxnId};
@@ -40,7 +40,7 @@ fn open_sessions<N: Naming, R: Abort>(
     requires parts { (blank.parts ≡ N.parts) × (blank.parts ≡ LEDGER_PARTS) }
     requires opening { map (λ w. w.committed) items ≡ N.opening }
     requires weights { [] ≡ N.weights }
-    requires count { (1 ≤ count) × (count ≤ MOST_SESSIONS) }
+    requires count { (1 ≤ count) × (count ≤ MAX_SESSIONS) }
 {
     let Ok(mut engine) = Engine::<Plain, N>::new(alloc, blank, items, Plain) else {
         panic!(rt; "memory for an engine")

@@ -1,11 +1,11 @@
 //! Bundles beside the script that they are about. What a claim is, is proved; its line is compared byte for byte, and
 //! the words about a fault are in no clause.
 
+use esr_commands::{claim_of, detail_of};
 use esr_history::Watched;
 use esr_lint::Unobserved;
 use esr_script::ask;
-use esr_telling::Asked;
-use esr_work::{claim_of, detail_of};
+use esr_views::AuditedQuery;
 use std::alloc::{AllocError, Global};
 use std::process::Abort;
 use std::str::from_utf8;
@@ -38,14 +38,19 @@ const CHANGED: &str =
     r#"{"certificate":{"back_flow":[0],"chain_flow":[[0,0,1],[1,0]],"set":[0,1],"worth":0},"problem":{"before":[[0,1]],"chains":[{"costs":[0,10,1],"item":0,"writers":[0,1]},{"costs":[8,0],"item":1,"writers":[1]}],"updates":[2,3]}}"#;
 
 /// The line about a bundle and a query that was asked for.
-fn line_of(alloc: Global, asked: &Asked, name: &str, bundle: &str) -> Result<Vec<u8>, AllocError> {
-    let claim = claim_of(alloc, asked, bundle.as_bytes())?;
+fn line_of(
+    alloc: Global,
+    audited: &AuditedQuery,
+    name: &str,
+    bundle: &str,
+) -> Result<Vec<u8>, AllocError> {
+    let claim = claim_of(alloc, audited, bundle.as_bytes())?;
     claim.line(alloc, name)
 }
 
 /// Whether that line is this one.
-fn is_line(alloc: Global, asked: &Asked, name: &str, bundle: &str, wanted: &str) -> bool {
-    match line_of(alloc, asked, name, bundle) {
+fn is_line(alloc: Global, audited: &AuditedQuery, name: &str, bundle: &str, wanted: &str) -> bool {
+    match line_of(alloc, audited, name, bundle) {
         Ok(line) => from_utf8(&line) == Ok(wanted),
         Err(_) => false,
     }
@@ -54,11 +59,11 @@ fn is_line(alloc: Global, asked: &Asked, name: &str, bundle: &str, wanted: &str)
 /// Compares the line about a bundle and a query of the script.
 fn claims(rt: &impl Abort, alloc: Global, name: &str, bundle: &str, wanted: &str) {
     let mut reader = Watched::new(SCRIPT.as_bytes());
-    let Ok(asked) = ask(alloc, &mut reader, name, &mut Unobserved) else {
+    let Ok(audited) = ask(alloc, &mut reader, name, &mut Unobserved) else {
         panic!(rt; "a committed query");
     };
     assert!(rt;
-        is_line(alloc, &asked, name, bundle, wanted),
+        is_line(alloc, &audited, name, bundle, wanted),
         "{} is told",
         wanted
     );

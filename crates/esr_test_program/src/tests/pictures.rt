@@ -7,7 +7,7 @@ use crate::tests::devices::{Way, check_cut, cut_after, narrow_until};
 use esr_history::Watched;
 use esr_lint::Unobserved;
 use esr_picture::Drawing;
-use esr_script::{RunFault, tell};
+use esr_script::{RunFault, render_query};
 use std::alloc::{AllocError, Global};
 use std::io::{Read, Write};
 use std::process::Abort;
@@ -73,7 +73,7 @@ fn draw<R: Read, W: Write>(
     requires reader { failed reader.old ≡ false }
     requires writer { failed writer.old ≡ false }
 {
-    tell(alloc, reader, writer, name, &Drawing, &mut Unobserved)
+    render_query(alloc, reader, writer, name, &Drawing, &mut Unobserved)
 }
 
 /// Draws the query of that name, and looks for texts in what is written.

@@ -47,8 +47,8 @@ fn each_call_reaches_the_device_once(rt: HostRuntime) {
     assert!(rt; matches!(device.read(&mut buffer), Ok(0)));
     assert!(rt; matches!(device.write(b"ab"), Ok(2)));
     assert!(rt; device.flush().is_ok());
-    let asked = device.inner();
-    assert!(rt; (asked.reads, asked.writes, asked.flushes) == (1, 1, 1));
+    let audited = device.inner();
+    assert!(rt; (audited.reads, audited.writes, audited.flushes) == (1, 1, 1));
 }
 
 /// Hands bytes on where it is flushed, and not before.

@@ -1,6 +1,6 @@
 //! Why lines were blocked, and who waits for whom. The amounts and the rings are proved; the words are in no clause.
 
-use crate::tests::surveys::surveys;
+use crate::tests::script_views::script_views;
 use esr_script::RunFault;
 use esr_why::Why;
 use std::alloc::Global;
@@ -70,7 +70,7 @@ line 23: read third a: blocked by the write lock of second; second is still acti
 
 /// Whether this is told of a script.
 fn tells(rt: &impl Abort, alloc: Global, script: &str, name: Option<&str>, wanted: &str) {
-    surveys(rt, alloc, script, &Why { name }, Ok(()), wanted);
+    script_views(rt, alloc, script, &Why { name }, Ok(()), wanted);
 }
 
 /// Each kind of line that there is, in the words of the guide.
@@ -107,5 +107,5 @@ fn nobody_is_not_told_of(rt: HostRuntime) {
     let alloc = rt.alloc();
     let name = Some("savings");
     let refused = Err(RunFault::NotACommittedQuery);
-    surveys(&rt, alloc, CLOSING, &Why { name }, refused, "");
+    script_views(&rt, alloc, CLOSING, &Why { name }, refused, "");
 }

@@ -2,7 +2,7 @@
 use Rattle.std.proofs.Common.{◌≡◌, ◌∙◌, ◌≤◌, ap, map, subst, sym, length, All, IsTrue}
 use Rattle.std.proofs.lemmas.List.{length-map}
 use Rattle.esr_base.specs.declared.numbers.TxnId.{TxnId}
-use Rattle.esr_history.specs.Machine.{done}
+use Rattle.esr_history.specs.Machine.{accepted_in}
 use Rattle.esr_history.specs.Operations.{commit_order}
 use Rattle.esr_history.specs.Queries.{is_committed_query}
 use Rattle.esr_audit.specs.Findings.{committed_queries}
@@ -14,7 +14,7 @@ returns g c =
     let d = g.M.Metric.distance_by in let h = c.args.history.now.schedule in
     let legal = c.log-legal.ensures.legal in let txns = c.in_ok-txns.txns.items in let lists = c.in_ok-lists.lists in
     let numbers = map (λ (t : TxnId). t.0) in
-    let are : map (λ (t : TxnId). t.0) txns ≡ commit_order (done h) = c.in_ok-txns.ensures in
+    let are : map (λ (t : TxnId). t.0) txns ≡ commit_order (accepted_in h) = c.in_ok-txns.ensures in
     let queries : map (λ (t : TxnId). t.0) lists.queries.items ≡ committed_queries h =
     ap numbers c.in_ok-lists.ensures.queries ∙ queries_are d h legal txns are in
     let count : length lists.queries.items ≡ length (committed_queries h) = sym (length-map lists.queries.items (λ (t : TxnId). t.0)) ∙ ap length queries in record {

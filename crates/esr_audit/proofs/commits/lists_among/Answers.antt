@@ -3,13 +3,13 @@ use Rattle.std.proofs.Common.{◌≡◌, ◌∙◌, [], ◌∷◌, ◌++◌, Boo
 use Rattle.std.proofs.lemmas.List.Elements.{filter_more}
 use Rattle.esr_base.specs.declared.numbers.TxnId.{TxnId}
 use Rattle.esr_history.specs.Events.{is_query}
-use Rattle.esr_history.specs.Machine.{done}
+use Rattle.esr_history.specs.Machine.{accepted_in}
 use Rattle.esr_audit.proofs.commits.lists_among.Goals as goal
 use Rattle.esr_audit.proofs.commits.lists_among.Goals.{then-is_query+in_ok-push, else-is_query+in_ok-push-2}
 
 pub loop-t-preserved : goal.loop-t-preserved
 loop-t-preserved g c =
-    let query : TxnId → Bool = λ t. is_query (done c.args.history.now.schedule) t.0 in
+    let query : TxnId → Bool = λ t. is_query (accepted_in c.args.history.now.schedule) t.0 in
     let txns : List TxnId = c.deref-t-items.result.now in
     let i = c.loop-t.t-index in
     let t : TxnId = get_or txns i (record { 0 = 0 }) in

@@ -7,12 +7,12 @@ use Rattle.esr_c.proofs.engine.read_for_update.Goals as goal
 
 pub returns : goal.returns
 returns c =
-    let told = c.tell_for_update-status.ensures in
+    let reported = c.read_and_reply-status.ensures in
     let h : Schedule = c.deref_mut.result.now in
-    let g : Schedule = c.tell_for_update-status.new.engine in
-    let reply = c.tell_for_update-status.new.reply in
-    let n = status_number c.tell_for_update-status.result in
+    let g : Schedule = c.read_and_reply-status.new.engine in
+    let reply = c.read_and_reply-status.new.reply in
+    let n = status_number c.read_and_reply-status.result in
     let before : c.args.variable.now.held.history ≡ Some h = c.in-Some.ensures.engine ∙ ap (λ (k : Schedule). Some k) (sym c.deref_mut.ensures.value) in
-    subst (λ (o : Option Schedule). IsForUpdateCall c.args.txn c.args.item o c.open_with.result.held.history c.args.reply.now reply n) (sym before)
-    (subst (λ (o : Option Schedule). IsForUpdateCall c.args.txn c.args.item (Some h) o c.args.reply.now reply n) (sym c.open_with.ensures)
-    (call_of c.args.txn c.args.item h g c.args.reply.now reply c.tell_for_update-status.result told.known told.full told.done told.err))
+    subst (λ (o : Option Schedule). IsForUpdateCall c.args.txn c.args.item o c.open_engine.result.held.history c.args.reply.now reply n) (sym before)
+    (subst (λ (o : Option Schedule). IsForUpdateCall c.args.txn c.args.item (Some h) o c.args.reply.now reply n) (sym c.open_engine.ensures)
+    (call_of c.args.txn c.args.item h g c.args.reply.now reply c.read_and_reply-status.result reported.known reported.full reported.done reported.err))

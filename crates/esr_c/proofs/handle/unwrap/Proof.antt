@@ -19,14 +19,14 @@ use denote.Memory.{lone}
 use denote.RattleType.{owns}
 use denote.Signature.{types_at, plain}
 use denote.RawPtr.{Ptr, block_ptr, null_ptr, ptr_val, in_a_block}
-use denote.Steps.{nothing, heard}
+use denote.Steps.{null_handle, heard}
 use denote.Triple.Walked.{Stays, stay_dropped, walk_of}
 use Rattle.core.proofs.alloc.Calls.{Goes-blank}
 use Rattle.std.proofs.raw_atomic.Walks.{proved_at, leaves}
 use Rattle.std_alloc.specs.Box.Ownership.{box_owns}
 use Rattle.std.specs.contracts.impls.GlobalAllocator.TheImpl as Heap
 use Rattle.esr_c.specs.Owned.{engine_row, owned}
-use Rattle.esr_c.proofs.Words.{alone, loose_in, EngineHandle, held_out}
+use Rattle.esr_c.proofs.Words.{alone, raw_in, EngineHandle, held_out}
 use Rattle.esr_c.specs.contracts.handle.unwrap.{ended, clauses}
 use Rattle.esr_c.specs.contracts.handle.unwrap.Key.{name as #self}
 use Rattle.esr_c.proofs.handle.unwrap.Statement.{statement}
@@ -56,5 +56,5 @@ unwrap_spec 𝓤 𝓛 𝓜 𝓡 wired =
     sets ! (agg ! (and_then ! (get ! refl) (no_more !))) refl (tt, (tt, tt)) $
     returns ! (look_at ! 0 refl) $ free_all ! refl $ keep ! (0 ∷ []) $
     use0 𝓛 (raw (fact 𝓤 (d.history ≡ Some m))) (fact_i 𝓤 (d.history ≡ Some m) (emp 𝓤) same) $ move ! (1 ∷ []) $
-    loose_in engine_row ! (record { at = block_ptr b o; value = m }) $ nothing ! $ nothing ! $ fjoin ! $ nothing ! $
+    raw_in engine_row ! (record { at = block_ptr b o; value = m }) $ null_handle ! $ null_handle ! $ fjoin ! $ null_handle ! $
     by ! (leaves 𝓛 ended hs c z (alone (vptr b o)) (record { at = block_ptr b o; value = m }) (tt, tt) (tt, tt)))))))

@@ -10,6 +10,6 @@ returns c =
     let chain = c.args.chain.now in
     let cost : c.index.result.now ≡ get_or chain.costs.items c.args.j 0 = get_or_read chain.costs.items c.args.j c.index.result.now c.requires.place c.index.ensures 0 in
     let by : ℕ → ℕ → ℕ → Arc = λ a b d. record { from = a; to = b; capacity = Some d } in
-    ap (λ n. by n c.comes_to.result c.index.result.now) c.leaves_at.ensures ∙ ap (λ n. by (get_or (c.args.source ∷ chain.writers.items) c.args.j 0) n c.index.result.now) c.comes_to.ensures
+    ap (λ n. by n c.arc_head.result c.index.result.now) c.arc_tail.ensures ∙ ap (λ n. by (get_or (c.args.source ∷ chain.writers.items) c.args.j 0) n c.index.result.now) c.arc_head.ensures
     ∙ ap (by (get_or (c.args.source ∷ chain.writers.items) c.args.j 0) (get_or (chain.writers.items ++ (c.args.source + 1) ∷ []) c.args.j 0)) cost
     ∙ sym (link_is c.args.source (c.args.source + 1) chain.writers.items chain.costs.items c.args.j c.requires.count c.requires.place)

@@ -9,23 +9,23 @@ pub add_step-requires-clause-room : goal.add_step-requires-clause-room
 add_step-requires-clause-room c =
     let l : c.loop-j.j < length c.args.chain.now.costs.items = omega (arith, c.loop-j-test.true, c.len-j-end.ensures, c.args.chain.now.costs.ok.0) in
     let low : c.args.begin + c.loop-j.j < length c.args._arcs.now = omega (arith, l, c.requires.links.inside) in
-    let from : c.leaves_at-from.result ≡ (arc_at c.args._arcs.now (c.args.begin + c.loop-j.j)).from = c.leaves_at-from.ensures ∙ sym (c.requires.links.from c.loop-j.j l) in
+    let from : c.arc_tail-from.result ≡ (arc_at c.args._arcs.now (c.args.begin + c.loop-j.j)).from = c.arc_tail-from.ensures ∙ sym (c.requires.links.from c.loop-j.j l) in
     rw from (within_along low c.requires.ends c.loop-j.invariant)
 
 pub add_step-requires-in-loop-j-clause-room : goal.add_step-requires-in-loop-j-clause-room
 add_step-requires-in-loop-j-clause-room c =
     let l : c.loop-j.j < length c.args.chain.now.costs.items = omega (arith, c.loop-j-test.true, c.len-j-end.ensures, c.args.chain.now.costs.ok.0) in
     let low : c.args.begin + c.loop-j.j < length c.args._arcs.now = omega (arith, l, c.requires.links.inside) in
-    let from : c.leaves_at-from.result ≡ (arc_at c.args._arcs.now (c.args.begin + c.loop-j.j)).from = c.leaves_at-from.ensures ∙ sym (c.requires.links.from c.loop-j.j l) in
-    let to : c.comes_to-to.result ≡ (arc_at c.args._arcs.now (c.args.begin + c.loop-j.j)).to = c.comes_to-to.ensures ∙ sym (c.requires.links.to c.loop-j.j l) in
+    let from : c.arc_tail-from.result ≡ (arc_at c.args._arcs.now (c.args.begin + c.loop-j.j)).from = c.arc_tail-from.ensures ∙ sym (c.requires.links.from c.loop-j.j l) in
+    let to : c.arc_head-to.result ≡ (arc_at c.args._arcs.now (c.args.begin + c.loop-j.j)).to = c.arc_head-to.ensures ∙ sym (c.requires.links.to c.loop-j.j l) in
     rw to (within_against low c.requires.ends c.loop-j.invariant _ _ (rw from at c.add_step.ensures.spans) (rw from at c.add_step.ensures.steps))
 
 pub loop-j-preserved : goal.loop-j-preserved
 loop-j-preserved c =
     let l : c.loop-j.j < length c.args.chain.now.costs.items = omega (arith, c.loop-j-test.true, c.len-j-end.ensures, c.args.chain.now.costs.ok.0) in
     let low : c.args.begin + c.loop-j.j < length c.args._arcs.now = omega (arith, l, c.requires.links.inside) in
-    let from : c.leaves_at-from.result ≡ (arc_at c.args._arcs.now (c.args.begin + c.loop-j.j)).from = c.leaves_at-from.ensures ∙ sym (c.requires.links.from c.loop-j.j l) in
-    let to : c.comes_to-to.result ≡ (arc_at c.args._arcs.now (c.args.begin + c.loop-j.j)).to = c.comes_to-to.ensures ∙ sym (c.requires.links.to c.loop-j.j l) in
+    let from : c.arc_tail-from.result ≡ (arc_at c.args._arcs.now (c.args.begin + c.loop-j.j)).from = c.arc_tail-from.ensures ∙ sym (c.requires.links.from c.loop-j.j l) in
+    let to : c.arc_head-to.result ≡ (arc_at c.args._arcs.now (c.args.begin + c.loop-j.j)).to = c.arc_head-to.ensures ∙ sym (c.requires.links.to c.loop-j.j l) in
     let next : c.args.begin + c.loop-j.j + 1 ≡ c.args.begin + (c.loop-j.j + 1) = omega arith in
     subst (λ n. Laid c.args._arcs.now c.args._nodes n c.add_step-in-loop-j.new.self.spans.items c.add_step-in-loop-j.new.self.steps.items) next
     (laid_more low c.requires.ends c.loop-j.invariant _ _ (rw from at c.add_step.ensures.spans) (rw from at c.add_step.ensures.steps)

@@ -5,7 +5,7 @@ use Rattle.esr_plan.specs.declared.call.Call.{Call}
 use Rattle.esr_plan.specs.Calls.{command_of, AreResolved, all_answers, AreAnswered}
 use Rattle.esr_plan.specs.Blocks.{AreBlocks}
 use Rattle.esr_drive.specs.Faults.{IsEngineFault}
-use Rattle.esr_drive.proofs.Tasks.{blocks_ran, fault_told}
+use Rattle.esr_drive.proofs.Tasks.{blocks_ran, fault_reported}
 use Rattle.esr_drive.proofs.blocks.drive_blocks.Goals as goal
 
 pub returns-in-Err : goal.returns-in-Err
@@ -14,7 +14,7 @@ returns-in-Err g c =
     let rans = c.in_ok-all.all.items in
     let len : length rans ≡ length tasks = search rules in
     subst (λ (b : List (List Call)). IsEngineFault b c.in-Err.fault) c.in_ok-tasks.ensures.calls
-    (fault_told (λ task. task.calls.now) (λ ran. ran.session) tasks rans c.in-Err.fault len c.in_ok-all.ensures.most c.in-Err.ensures.engine c.in-Err.ensures.full)
+    (fault_reported (λ task. task.calls.now) (λ ran. ran.session) tasks rans c.in-Err.fault len c.in_ok-all.ensures.most c.in-Err.ensures.engine c.in-Err.ensures.full)
 
 pub returns-in-Ok-close : goal.returns-in-Ok-close
 returns-in-Ok-close g c =

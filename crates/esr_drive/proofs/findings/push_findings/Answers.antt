@@ -2,7 +2,7 @@
 use Rattle.std.proofs.Common.{◌≡◌, ℕ, List, ◌++◌, Result, OnOk, ap, sym, ◌∙◌, append-nil, subst, map, flat_map}
 use Rattle.esr_items.specs.Weights.{weighted}
 use Rattle.esr_audit.specs.Findings.{seen_summary, summary_of}
-use Rattle.esr_plan.specs.Text.{told_text}
+use Rattle.esr_plan.specs.Text.{finding_text}
 use Rattle.esr_plan.specs.Tables.{names_in}
 use Rattle.esr_drive.proofs.findings.push_findings.Goals as goal
 
@@ -11,9 +11,9 @@ same_end r all old a b is h = subst (λ (t : List ℕ). OnOk r (all ≡ old ++ t
 
 pub returns-in-Ok : goal.returns-in-Ok
 returns-in-Ok g c =
-    same_end _ _ _ _ _ (ap (flat_map (told_text (names_in c.args.names.now))) (ap (map seen_summary) c.deref.ensures.value ∙ c.in-Ok.ensures.summaries.summaries)) c.push_summaries.ensures
+    same_end _ _ _ _ _ (ap (flat_map (finding_text (names_in c.args.names.now))) (ap (map seen_summary) c.deref.ensures.value ∙ c.in-Ok.ensures.summaries.summaries)) c.push_summaries.ensures
 
 pub returns-then-nothing : goal.returns-then-nothing
 returns-then-nothing g c =
-    let text = λ (qs : List ℕ). flat_map (told_text (names_in c.args.names.now)) (map (summary_of weighted c.args.history.now.schedule) qs) in
+    let text = λ (qs : List ℕ). flat_map (finding_text (names_in c.args.names.now)) (map (summary_of weighted c.args.history.now.schedule) qs) in
     sym (append-nil c.args.out.now.items) ∙ ap (λ (qs : List ℕ). c.args.out.now.items ++ text qs) (sym (c.in_ok-nothing.ensures c.if-nothing.true))

@@ -2,7 +2,7 @@
 use Rattle.std.proofs.Common.{rules, ◌≤◌, length, map, arith}
 use Rattle.esr_plan.specs.Calls.{all_answers}
 use Rattle.esr_plan.specs.Tables.{names_in}
-use Rattle.esr_plan.proofs.Told.{blocks_text_all}
+use Rattle.esr_plan.proofs.Rendered.{blocks_text_all}
 use Rattle.esr_drive.proofs.Pieced.{piece_more}
 use Rattle.esr_drive.proofs.pieces.push_blocks.Goals as goal
 

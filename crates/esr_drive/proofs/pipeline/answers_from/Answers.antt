@@ -12,7 +12,7 @@ use Rattle.esr_drive.proofs.pipeline.answers_from.Goals as goal
 pub returns : goal.returns
 returns g c =
     let h = c.args.driven.now.history.schedule in
-    let bs = c.args.sheet.now.blocks.items in
+    let bs = c.args.drive_plan.now.blocks.items in
     let rs = c.args.driven.now.replies.items in
     let answers = all_answers (map (λ b. b.items) bs) (map (λ r. r.items) rs) in
     let slices : all_answers (map (λ b. b.items) c.as_slice-blocks.result.now) (map (λ r. r.items) c.as_slice-replies.result.now) ≡ answers =
@@ -22,7 +22,7 @@ returns g c =
     let sums : totals_line c.args.driven.now.totals.import c.args.driven.now.totals.export c.args.driven.now.totals.entries ≡ totals_line (all_imports weighted h) (all_exports weighted h) _ =
     rw (t.import, t.export, t.entries) refl in
     four_parts c.new-out.result.items c.push_items.new.out.items c.push_blocks.new.out.items c.push_findings.new.out.items c.totals_line.new.out.items _ _ _ _ c.new-out.ensures.items
-    (c.in_ok-push_items.ensures ∙ ap₂ (λ v w. c.new-out.result.items ++ items_text c.args.sheet.now.names v w) c.as_slice.ensures.value c.as_slice-2.ensures.value)
+    (c.in_ok-push_items.ensures ∙ ap₂ (λ v w. c.new-out.result.items ++ items_text c.args.drive_plan.now.names v w) c.as_slice.ensures.value c.as_slice-2.ensures.value)
     (c.in_ok-push_blocks.ensures ∙ ap₂ (λ n a. c.push_items.new.out.items ++ blocks_text n 0 a) names slices)
     (c.in_ok-push_findings.ensures ∙ ap (λ n. c.push_blocks.new.out.items ++ findings_text h n) names)
     (c.in_ok-totals_line.ensures.ok ∙ ap (λ l. c.push_findings.new.out.items ++ l) sums)

@@ -1,6 +1,6 @@
 -- Why `script_from` keeps its contract: the goals that are left to a proof of ours.
 use Rattle.std.proofs.Common.{◌≡◌, ℕ, List, IfOk, map, ap, ap₂, ◌∙◌, subst}
-use Rattle.esr_past.specs.Again.{IsPast}
+use Rattle.esr_dump.specs.RoundTrip.{IsDump}
 use Rattle.esr_plan.specs.Calls.{all_answers}
 use Rattle.esr_plan.specs.Text.{names_of}
 use Rattle.esr_plan.specs.Tables.{names_in}
@@ -9,8 +9,8 @@ use Rattle.esr_drive.proofs.pipeline.script_from.Goals as goal
 pub returns : goal.returns
 returns c =
     let h = c.args.driven.now.history.schedule in
-    let answers = all_answers (map (λ b. b.items) c.args.sheet.now.blocks.items) (map (λ r. r.items) c.args.driven.now.replies.items) in
+    let answers = all_answers (map (λ b. b.items) c.args.drive_plan.now.blocks.items) (map (λ r. r.items) c.args.driven.now.replies.items) in
     let slices : all_answers (map (λ b. b.items) c.as_slice-blocks.result.now) (map (λ r. r.items) c.as_slice-replies.result.now) ≡ answers =
     ap₂ (λ x y. all_answers (map (λ b. b.items) x) (map (λ r. r.items) y)) c.as_slice-blocks.ensures.value c.as_slice-replies.ensures.value in
     let names : names_in c.in_ok-names.names ≡ names_of h answers = c.in_ok-names.ensures ∙ ap (names_of h) slices in
-    subst (λ (ns : List (List ℕ)). IfOk c.named_script.result (λ out. IsPast c.args.sheet.now.names ns h out.items)) names c.named_script.ensures
+    subst (λ (ns : List (List ℕ)). IfOk c.named_script.result (λ out. IsDump c.args.drive_plan.now.names ns h out.items)) names c.named_script.ensures

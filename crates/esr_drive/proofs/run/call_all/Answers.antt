@@ -17,8 +17,8 @@ pub loop-progress-smaller : goal.loop-progress-smaller
 loop-progress-smaller g c =
     let inv = c.loop-progress.invariant in
     let old = c.loop-progress.progress in
-    let new = c.call_several.new.asker in
-    let heard = c.call_several.ensures.asker old (refl, inv.1) in
+    let new = c.call_several.new.source in
+    let heard = c.call_several.ensures.source old (refl, inv.1) in
     let made = c.in_ok-call_several.ensures.receipts in
     let len = ap length inv.0 in
     let lt : length old.replies.items < length c.args.calls.now = search rules in
@@ -27,13 +27,13 @@ loop-progress-smaller g c =
 
 pub loop-progress-preserved : goal.loop-progress-preserved
 loop-progress-preserved g c =
-    let heard = c.call_several.ensures.asker c.loop-progress.progress (refl, c.loop-progress.invariant.1) in
+    let heard = c.call_several.ensures.source c.loop-progress.progress (refl, c.loop-progress.invariant.1) in
     (heard.0 ∙ c.loop-progress.invariant.0, heard.1)
 
 pub returns-in_err-call_several-clause-most : goal.returns-in_err-call_several-clause-most
 returns-in_err-call_several-clause-most g c =
-    let new = c.call_several.new.asker in
-    let heard = c.call_several.ensures.asker c.loop-progress.progress (refl, c.loop-progress.invariant.1) in
+    let new = c.call_several.new.source in
+    let heard = c.call_several.ensures.source c.loop-progress.progress (refl, c.loop-progress.invariant.1) in
     let few = few_calls new.calls.now new.replies.items new.blocked c.call_several.new.self heard.1 new.few in
     omega (arith, few, ap length heard.0, ap length c.loop-progress.invariant.0)
 

@@ -9,4 +9,4 @@ pub search_orders-requires-clause-counts : goal.search_orders-requires-clause-co
 search_orders-requires-clause-counts c =
     c.deref-2.ensures.value
     ∙ (c.in_ok-counts.ensures
-    ∙ (ap (λ (bs : List (Vec Call Global)). map (λ b. length b.items) bs) c.as_slice.ensures.value ∙ held_counts c.args.sheet.now.blocks.items))
+    ∙ (ap (λ (bs : List (Vec Call Global)). map (λ b. length b.items) bs) c.as_slice.ensures.value ∙ held_counts c.args.drive_plan.now.blocks.items))

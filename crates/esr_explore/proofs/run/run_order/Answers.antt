@@ -17,9 +17,9 @@ finish-requires c =
 
 pub returns-clause-run : goal.returns-clause-run
 returns-clause-run c =
-    let opening = c.args.sheet.now.values.items in
-    let weights = weights_of c.args.sheet.now.weights.items in
-    let blocks = map (λ b. b.items) c.args.sheet.now.blocks.items in
+    let opening = c.args.drive_plan.now.values.items in
+    let weights = weights_of c.args.drive_plan.now.weights.items in
+    let blocks = map (λ b. b.items) c.args.drive_plan.now.blocks.items in
     let seen = map (λ b. b.items) c.as_slice-blocks.result.now in
     let same : seen ≡ blocks = ap (λ bs. map (λ b. b.items) bs) c.as_slice-blocks.ensures.value in
     let many : length c.as_slice-blocks.result.now ≡ length blocks = sym (length-map c.as_slice-blocks.result.now (λ b. b.items)) ∙ ap length same in

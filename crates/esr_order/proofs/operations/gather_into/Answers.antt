@@ -5,12 +5,12 @@ use Rattle.std.proofs.lemmas.List.{length-map}
 use Rattle.esr_history.specs.Operations.{operations}
 use Rattle.esr_order.specs.Scans.{Access}
 use Rattle.esr_order.specs.Listing.{IsBelow}
-use Rattle.esr_order.specs.Ties.{pairs_from, on_item, AreTies, AreNextPaired}
+use Rattle.esr_order.specs.Conflicts.{pairs_from, on_item, AreConflicts, AreNextPaired}
 use Rattle.esr_order.specs.Turns.{operation_at, turns}
 use Rattle.esr_order.specs.Chains.{chain_from, last_by_update, turned, seen_links}
-use Rattle.esr_order.specs.Later.{turn_ties}
+use Rattle.esr_order.specs.Later.{turn_conflicts}
 use Rattle.esr_order.proofs.Accessed.{accesses_inside}
-use Rattle.esr_order.proofs.Gathering.{no_txn, rest, gathered_more, gathered_ascending, gathered_tied, gathered_next, gathered_chains}
+use Rattle.esr_order.proofs.Gathering.{no_txn, rest, gathered_more, gathered_ascending, gathered_conflicting, gathered_next, gathered_chains}
 use Rattle.esr_order.proofs.operations.gather_into.Goals as goal
 
 pub put_turn-requires-clause-linked : goal.put_turn-requires-clause-linked
@@ -37,18 +37,18 @@ loop-i-preserved g c =
       c.in_ok-put_turn.ensures.readers_len ∙ c.loop-i.invariant.1,
       gathered_more h updates i c.loop-i.i next inside no_txn (map seen_links c.loop-i.chains) (map (λ r. r.items) c.loop-i.readers) c.loop-i.pairs.items c.loop-i.invariant.2 c.in_ok-accesses.accesses.now made
           (map seen_links c.put_turn.new.chains) (map (λ r. r.items) c.put_turn.new.readers) (c.in_ok-put_turn.ensures.later steps before)
-          c.put_turn.new.ties.items c.put_in_order.new.positions.items (c.in_ok-put_turn.ensures.ties steps before ∙ ap (λ l. l ++ turn_ties (map (operation_at i) c.in_ok-accesses.accesses.now) steps) c.clear.ensures.items)
+          c.put_turn.new.conflicts.items c.put_in_order.new.positions.items (c.in_ok-put_turn.ensures.conflicts steps before ∙ ap (λ l. l ++ turn_conflicts (map (operation_at i) c.in_ok-accesses.accesses.now) steps) c.clear.ensures.items)
           c.put_in_order.ensures.ascending c.put_in_order.ensures.keeps c.put_in_order.ensures.adds_none c.put_in_order.ensures.few
-          c.tie_back.new.pairs.items (c.in_ok-tie_back.ensures ∙ ap (λ l. c.loop-i.pairs.items ++ reverse (pairs_from i l)) c.deref.ensures.value),
+          c.conflict_back.new.pairs.items (c.in_ok-conflict_back.ensures ∙ ap (λ l. c.loop-i.pairs.items ++ reverse (pairs_from i l)) c.deref.ensures.value),
     )
 
 pub returns-clause-ascending : goal.returns-clause-ascending
 returns-clause-ascending g c = subst (AllPairs IsBelow) (sym c.reverse.ensures.items)
     (gathered_ascending c.args.history.now.schedule c.args.updates.now c.loop-i.i (omega (arith, c.loop-i-test.false)) (map seen_links c.loop-i.chains) (map (λ r. r.items) c.loop-i.readers) c.loop-i.pairs.items c.loop-i.invariant.2)
 
-pub returns-clause-tied : goal.returns-clause-tied
-returns-clause-tied g c = subst (AreTies (turns (operations c.args.history.now.schedule) 0 (map (λ t. t.0) c.args.updates.now))) (sym c.reverse.ensures.items)
-    (gathered_tied c.args.history.now.schedule c.args.updates.now c.loop-i.i (omega (arith, c.loop-i-test.false)) (map seen_links c.loop-i.chains) (map (λ r. r.items) c.loop-i.readers) c.loop-i.pairs.items c.loop-i.invariant.2)
+pub returns-clause-conflicting : goal.returns-clause-conflicting
+returns-clause-conflicting g c = subst (AreConflicts (turns (operations c.args.history.now.schedule) 0 (map (λ t. t.0) c.args.updates.now))) (sym c.reverse.ensures.items)
+    (gathered_conflicting c.args.history.now.schedule c.args.updates.now c.loop-i.i (omega (arith, c.loop-i-test.false)) (map seen_links c.loop-i.chains) (map (λ r. r.items) c.loop-i.readers) c.loop-i.pairs.items c.loop-i.invariant.2)
 
 pub returns-clause-next : goal.returns-clause-next
 returns-clause-next g c = λ x. subst (λ l. AreNextPaired l (filter (λ s. s.writes) (on_item x (turns (operations c.args.history.now.schedule) 0 (map (λ t. t.0) c.args.updates.now))))) (sym c.reverse.ensures.items)

@@ -3,8 +3,8 @@ use Rattle.std.proofs.Common.{◌≡◌, ◌<◌, ◌-◌, suc, ◌∙◌, [], �
 use Rattle.std.proofs.lemmas.List.{drop_all, length-set}
 use Rattle.esr_order.specs.Turns.{operation_at}
 use Rattle.esr_order.specs.Chains.{seen_links}
-use Rattle.esr_order.specs.Later.{turn_ties, AreLater}
-use Rattle.esr_order.proofs.Gathering.{no_access, turn_later, turn_tied}
+use Rattle.esr_order.specs.Later.{turn_conflicts, AreLater}
+use Rattle.esr_order.proofs.Gathering.{no_access, turn_later, turn_conflicting}
 use Rattle.esr_order.proofs.operations.put_turn.Goals as goal
 
 pub loop-i-preserved : goal.loop-i-preserved
@@ -25,8 +25,8 @@ loop-i-preserved c =
           let now = c.loop-i.invariant.2 steps are in (
             turn_later seen_links (λ r. r.items) chains readers place i c.loop-i.i next accesses inside linked read steps now.0 c.index-chains-x.result c.index-readers-x.result
                 c.put_operation.new.links c.in_ok-put_operation.ensures.chain c.put_operation.new.readers c.in_ok-put_operation.ensures.readers,
-            turn_tied seen_links (λ r. r.items) chains readers place i c.loop-i.i next accesses inside linked read steps now.0 c.index-chains-x.result c.index-readers-x.result
-                c.args.ties.now.items c.loop-i.ties.items now.1 c.put_operation.new.ties.items c.in_ok-put_operation.ensures.ties,
+            turn_conflicting seen_links (λ r. r.items) chains readers place i c.loop-i.i next accesses inside linked read steps now.0 c.index-chains-x.result c.index-readers-x.result
+                c.args.conflicts.now.items c.loop-i.conflicts.items now.1 c.put_operation.new.conflicts.items c.in_ok-put_operation.ensures.conflicts,
           ),
     )
 
@@ -38,7 +38,7 @@ loop-i-init c =
       refl,
       λ steps are. (
         subst (λ l. AreLater (map seen_links c.args.chains.now) (map (λ r. r.items) c.args.readers.now) (map (operation_at c.args.place) l ++ steps)) (sym none) are,
-        subst (λ l. c.args.ties.now.items ≡ c.args.ties.now.items ++ turn_ties (map (operation_at c.args.place) l) steps) (sym none) (sym (append-nil c.args.ties.now.items)),
+        subst (λ l. c.args.conflicts.now.items ≡ c.args.conflicts.now.items ++ turn_conflicts (map (operation_at c.args.place) l) steps) (sym none) (sym (append-nil c.args.conflicts.now.items)),
       ),
     )
 
@@ -47,7 +47,7 @@ returns-clause-later c operations are =
     let start : c.loop-i.i ≡ 0 = omega (arith, c.loop-i-test.false) in
     subst (λ i. AreLater (map seen_links c.loop-i.chains) (map (λ r. r.items) c.loop-i.readers) (map (operation_at c.args.place) (drop i c.args.accesses.now) ++ operations)) start (c.loop-i.invariant.2 operations are).0
 
-pub returns-clause-ties : goal.returns-clause-ties
-returns-clause-ties c operations are =
+pub returns-clause-conflicts : goal.returns-clause-conflicts
+returns-clause-conflicts c operations are =
     let start : c.loop-i.i ≡ 0 = omega (arith, c.loop-i-test.false) in
-    subst (λ i. c.loop-i.ties.items ≡ c.args.ties.now.items ++ turn_ties (map (operation_at c.args.place) (drop i c.args.accesses.now)) operations) start (c.loop-i.invariant.2 operations are).1
+    subst (λ i. c.loop-i.conflicts.items ≡ c.args.conflicts.now.items ++ turn_conflicts (map (operation_at c.args.place) (drop i c.args.accesses.now)) operations) start (c.loop-i.invariant.2 operations are).1

@@ -1,6 +1,6 @@
 -- What holds at each turn of the loop in `draft_of`.
 use Rattle.std.proofs.Common.{◌≡◌, ◌+◌, ◌<◌, length}
-use Rattle.esr_line.specs.Lines.{lines}
+use Rattle.esr_grammar.specs.Lines.{lines}
 use Rattle.esr_plan.specs.Plan.{plan_from, nothing}
 use Rattle.esr_plan.specs.Drafts.{IsSound, plan_in}
 use Rattle.esr_plan.proofs.draft.draft_of.Given as goal

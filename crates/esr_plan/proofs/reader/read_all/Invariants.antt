@@ -2,7 +2,7 @@
 use Rattle.std.proofs.Common.{◌≡◌, ◌<◌, false, None, length}
 use Rattle.std.specs.Io.KnownBytes.{Consumes}
 use Rattle.esr_base.specs.Watch.{inner, failed}
-use Rattle.esr_line.specs.Lines.{lines}
+use Rattle.esr_grammar.specs.Lines.{lines}
 use Rattle.esr_plan.specs.Plan.{cut_fault}
 use Rattle.esr_plan.specs.Readings.{IsMark, rest_from}
 use Rattle.esr_plan.proofs.reader.read_all.Given as goal

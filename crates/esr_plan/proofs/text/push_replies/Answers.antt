@@ -5,7 +5,7 @@ use Rattle.esr_plan.specs.Calls.{answers_of}
 use Rattle.esr_plan.specs.Text.{subject_of}
 use Rattle.esr_plan.specs.Tables.{names_in}
 use Rattle.esr_plan.proofs.Noting.{length_answers}
-use Rattle.esr_plan.proofs.Told.{replies_more, whole_text}
+use Rattle.esr_plan.proofs.Rendered.{replies_more, whole_text}
 use Rattle.esr_plan.proofs.text.push_replies.Goals as goal
 
 pub loop-i-preserved : goal.loop-i-preserved

@@ -1,10 +1,10 @@
 -- What holds at each turn of the loop in `push_summaries`.
 use Rattle.std.proofs.Common.{◌≡◌, ◌++◌, take, flat_map}
 use Rattle.esr_audit.specs.Findings.{seen_summary}
-use Rattle.esr_plan.specs.Text.{told_text}
+use Rattle.esr_plan.specs.Text.{finding_text}
 use Rattle.esr_plan.specs.Tables.{names_in}
 use Rattle.esr_plan.proofs.text.push_summaries.Given as goal
 
 -- the lines of the summaries so far
 abbrev pub invariant-loop-summary : goal.invariant-loop-summary
-invariant-loop-summary l = l.out.items ≡ l.fn.out.items ++ flat_map (λ s. told_text (names_in l.names) (seen_summary s)) (take l.summary-index l.summaries)
+invariant-loop-summary l = l.out.items ≡ l.fn.out.items ++ flat_map (λ s. finding_text (names_in l.names) (seen_summary s)) (take l.summary-index l.summaries)

@@ -2,7 +2,7 @@
 use Rattle.std.proofs.Common.{rules, ◌≡◌, [], ◌++◌, Err, inl, inr, length, arith, sym, ◌∙◌, ap, subst, refl}
 use Rattle.std.proofs.KnownBytes.{Appends-trans}
 use Rattle.esr_base.specs.Watch.{inner}
-use Rattle.esr_line.specs.Lines.{line_len}
+use Rattle.esr_grammar.specs.Lines.{line_len}
 use Rattle.esr_script.specs.Parts.{IsHeldRun}
 use Rattle.esr_script.proofs.Buffers.{same_bytes}
 use Rattle.esr_script.proofs.Steps.{advance}

@@ -4,7 +4,7 @@ use crate::tests::devices::check_written;
 use esr_explain::Explaining;
 use esr_history::Watched;
 use esr_lint::Unobserved;
-use esr_script::{RunFault, tell};
+use esr_script::{RunFault, render_query};
 use std::alloc::Global;
 use std::process::Abort;
 
@@ -114,7 +114,7 @@ fn check_explanation(
 ) {
     let mut reader = Watched::new(script.as_bytes());
     let mut writer = Watched::new(Vec::new(alloc));
-    let ended = tell(
+    let ended = render_query(
         alloc,
         &mut reader,
         &mut writer,

@@ -2,13 +2,13 @@
 use Rattle.std.proofs.Common.{◌≡◌, ◌-◌, ◌<◌, ◌≤◌, ◌∷◌, [], refl, sym, arith, None, length, true}
 use Rattle.esr_core.specs.Words.{Reply, Committed, Aborted}
 use Rattle.esr_history.specs.Events.{is_active}
-use Rattle.esr_history.specs.Machine.{Distance, Schedule, done, refusal, first_reason, not_begun, ended, acceptance, extended, reply_to}
+use Rattle.esr_history.specs.Machine.{Distance, Schedule, accepted_in, refusal, first_reason, not_begun, ended, acceptance, extended, reply_to}
 use Rattle.esr_history.proofs.Allowed.{none_applies, end_allowed}
 use Rattle.esr_history.proofs.Lawful.{not_ended, follows}
 use Rattle.esr_core.specs.declared.state.State.{State}
 use Rattle.esr_core.specs.States.{IsStateOf, end_event, keeps}
 use Rattle.esr_core.proofs.Answered.{accepted_state}
-use Rattle.esr_core.proofs.Ties.{by, tied-end}
+use Rattle.esr_core.proofs.Representing.{by, represents-end}
 use Rattle.esr_core.proofs.state.State.end.Goals as goal
 use Rattle.esr_core.proofs.state.State.end.Goals.{After-end_row}
 
@@ -18,19 +18,19 @@ state c = record { items = c.settle_all.new.items; transactions = c.end_row.new.
 -- the reply that an end is owed
 answered : (c : After-end_row) (d : Distance) (h : Schedule) (r : Reply) → r ≡ acceptance h (end_event (keeps c.args.end) c.args.t) → IsStateOf d h c.args.self.now
     → (r ≡ reply_to d h (end_event (keeps c.args.end) c.args.t)) × IsStateOf d (extended h (end_event (keeps c.args.end) c.args.t) r) (state c)
-answered c d h r is tie =
+answered c d h r is rep =
     let s = c.args.self.now in
     let e = end_event (keeps c.args.end) c.args.t in
     let known : (0 < c.args.t.0) × (c.args.t.0 ≤ length s.transactions.items) = c.in_default.ensures.ready in
-    let none : first_reason (not_begun h c.args.t.0 ∷ ended h c.args.t.0 ∷ []) ≡ None = sym (c.in_default.ensures.tied d h tie) in
+    let none : first_reason (not_begun h c.args.t.0 ∷ ended h c.args.t.0 ∷ []) ≡ None = sym (c.in_default.ensures.represents d h rep) in
     let free : refusal d h e ≡ None = by (λ e. refusal d h e ≡ None) (keeps c.args.end) c.args.t none none in
-    let act : is_active (done h) c.args.t.0 ≡ true = not_ended h c.args.t.0 (end_allowed h c.args.t (none_applies (not_begun h c.args.t.0 ∷ ended h c.args.t.0 ∷ []) none)).active in
+    let act : is_active (accepted_in h) c.args.t.0 ≡ true = not_ended h c.args.t.0 (end_allowed h c.args.t (none_applies (not_begun h c.args.t.0 ∷ ended h c.args.t.0 ∷ []) none)).active in
     let row = c.end_row.ensures (c.args.t.0 - 1) (omega arith) in
-    let kept = tied-end (d h.weights) h.opening (done h) s.items s.transactions.items s.locks.locks s.ledgers tie (keeps c.args.end) c.args.t (c.args.t.0 - 1) row.0 c.settle_all.new.items act (follows d h tie.orderly e free) (omega arith) (omega arith) row.1 c.settle_all.ensures.len c.settle_all.ensures.current c.settle_all.ensures.committed in
+    let kept = represents-end (d h.weights) h.opening (accepted_in h) s.items s.transactions.items s.locks.locks s.ledgers rep (keeps c.args.end) c.args.t (c.args.t.0 - 1) row.0 c.settle_all.new.items act (follows d h rep.orderly e free) (omega arith) (omega arith) row.1 c.settle_all.ensures.len c.settle_all.ensures.current c.settle_all.ensures.committed in
     accepted_state d h e r (state c) free is (rw (row.2, c.release.ensures) kept)
 
 pub returns-in-Commit : goal.returns-in-Commit
-returns-in-Commit c = λ d weights h same tie. answered (goal.at.returns-in-Commit c).After-end_row d h Committed (rw c.in-Commit.is refl) tie
+returns-in-Commit c = λ d weights h same rep. answered (goal.at.returns-in-Commit c).After-end_row d h Committed (rw c.in-Commit.is refl) rep
 
 pub returns-in-Abort : goal.returns-in-Abort
-returns-in-Abort c = λ d weights h same tie. answered (goal.at.returns-in-Abort c).After-end_row d h Aborted (rw c.in-Abort.is refl) tie
+returns-in-Abort c = λ d weights h same rep. answered (goal.at.returns-in-Abort c).After-end_row d h Aborted (rw c.in-Abort.is refl) rep

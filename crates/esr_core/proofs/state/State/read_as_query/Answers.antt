@@ -3,13 +3,13 @@ use Rattle.std.proofs.Common.{◌≡◌, ℕ, ◌+◌, ◌-◌, ◌<◌, ◌≤�
 use Rattle.esr_items.specs.Values.{versions_at}
 use Rattle.esr_core.specs.Words.{TxnId, Read}
 use Rattle.esr_history.specs.Events.{is_active, all_reads_of}
-use Rattle.esr_history.specs.Machine.{done}
+use Rattle.esr_history.specs.Machine.{accepted_in}
 use Rattle.esr_history.proofs.Lawful.{follows}
 use Rattle.esr_locks.specs.Tables.{locks_at}
 use Rattle.esr_core.specs.States.{read_charge, charged_once}
 use Rattle.esr_core.proofs.Accepted.{read_active, read_few, read_fits, few_here, read_books}
 use Rattle.esr_core.proofs.Reasons.{row_reads, due_some, are_charges-read}
-use Rattle.esr_core.proofs.Ties.{tied-query}
+use Rattle.esr_core.proofs.Representing.{represents-query}
 use Rattle.std.proofs.lemmas.List.{get_or_default}
 use Rattle.esr_core.proofs.state.State.read_as_query.Goals as goal
 
@@ -44,18 +44,18 @@ count_read-requires-clause-few g c = λ k row at.
     let r = get_or s.transactions.items k row in
     let here : (j : ℕ) → c.args.q.0 ≡ j + 1 → r ≡ get_or s.transactions.items j r =
     λ j n. let same : k ≡ j = omega (arith, at, n) in get_or_default s.transactions.items k row r (omega (arith, c.requires.known, at)) ∙ ap (λ i. get_or s.transactions.items i r) same in
-    let reads : r.reads ≡ all_reads_of (done h) c.args.q.0 = row_reads d h s.items s.transactions.items s.locks.locks s.ledgers c.requires.accepted.2 c.args.q.0 r c.requires.known here c.requires.accepted.4 in
-    let few : all_reads_of (done h) c.args.q.0 < 1000 = read_few d h c.args.q c.args.x c.requires.accepted.3 c.requires.accepted.4 in
+    let reads : r.reads ≡ all_reads_of (accepted_in h) c.args.q.0 = row_reads d h s.items s.transactions.items s.locks.locks s.ledgers c.requires.accepted.2 c.args.q.0 r c.requires.known here c.requires.accepted.4 in
+    let few : all_reads_of (accepted_in h) c.args.q.0 < 1000 = read_few d h c.args.q c.args.x c.requires.accepted.3 c.requires.accepted.4 in
     rw reads few
 
-pub returns-clause-tied : goal.returns-clause-tied
-returns-clause-tied g c = λ h same tie none query.
+pub returns-clause-represents : goal.returns-clause-represents
+returns-clause-represents g c = λ h same rep none query.
     let d = g.M.Metric.distance_by in
     let s = c.args.self.now in
     let known : (0 < c.args.q.0) × (c.args.q.0 ≤ length s.transactions.items) = c.requires.known in
     let row = c.count_read.ensures (c.args.q.0 - 1) (omega arith) in
     let is : c.charge_of_read-charge.result ≡ read_charge (d h.weights c.args.x.0) (versions_at s.items c.args.x.0) (locks_at s.locks.locks c.args.x.0).writer = rw same c.charge_of_read-charge.ensures in
-    let books = c.charge_read.ensures ∙ (ap (λ (o : Option (TxnId × ℕ)). charged_once s.ledgers c.args.q o) is ∙ read_books d h s.items s.transactions.items s.locks.locks s.ledgers tie c.args.q c.args.x query c.requires.item) in
-    let act : is_active (done h) c.args.q.0 ≡ true = read_active d h c.args.q c.args.x none in
-    let inside : c.args.x.0 < length h.opening = rw (← tie.count) c.requires.item in
-    rw (row.2, c.add_read_query.ensures.locks) (tied-query (d h.weights) h.opening (done h) s.items s.transactions.items s.locks.locks s.ledgers tie c.args.q c.args.x (c.args.q.0 - 1) row.0 c.charge_read.new.ledgers query act (follows d h tie.orderly (Read c.args.q c.args.x) none) inside (omega arith) (omega arith) row.1 books)
+    let books = c.charge_read.ensures ∙ (ap (λ (o : Option (TxnId × ℕ)). charged_once s.ledgers c.args.q o) is ∙ read_books d h s.items s.transactions.items s.locks.locks s.ledgers rep c.args.q c.args.x query c.requires.item) in
+    let act : is_active (accepted_in h) c.args.q.0 ≡ true = read_active d h c.args.q c.args.x none in
+    let inside : c.args.x.0 < length h.opening = rw (← rep.count) c.requires.item in
+    rw (row.2, c.add_read_query.ensures.locks) (represents-query (d h.weights) h.opening (accepted_in h) s.items s.transactions.items s.locks.locks s.ledgers rep c.args.q c.args.x (c.args.q.0 - 1) row.0 c.charge_read.new.ledgers query act (follows d h rep.orderly (Read c.args.q c.args.x) none) inside (omega arith) (omega arith) row.1 books)

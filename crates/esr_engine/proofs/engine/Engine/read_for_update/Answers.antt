@@ -54,7 +54,7 @@ locks c =
 roomy : (c : After-step-in-Ok-Wrote) → (no_pair c.args.self.now ≡ false) × (is_full c.step-2.new.self (Read c.args.t c.args.x) ≡ false)
 roomy c =
     let h = c.args.self.now in
-    let most : taken h + 2 ≤ 1000000 = omega (arith, c.demand.ensures.taken, c.if-demand-gt-MOST_ENTRIES.false) in (
+    let most : taken h + 2 ≤ 1000000 = omega (arith, c.demand.ensures.taken, c.if-demand-gt-MAX_ENTRIES.false) in (
       not_lt (taken h + 2) most,
       subst (λ (g : Schedule). is_full g (Read c.args.t c.args.x) ≡ false) (sym (left c))
           (pair_room weighted h (legal_orderly weighted h (subst (IsLegal weighted) c.self.view_is c.log-legal.ensures.legal)) c.args.t c.args.x _ most (wrote c)),

@@ -3,9 +3,9 @@ use Rattle.std.proofs.Common.{◌≡◌, [], ◌∷◌, ◌++◌, length, map, a
 use Rattle.std.proofs.lemmas.Grind.{common_steps}
 use Rattle.std.proofs.lemmas.List.{map-append, get_or_push}
 use Rattle.std.proofs.lemmas.List.Elements.{All-push}
-use Rattle.esr_history.specs.declared.short.Short.TheVariants.{Long}
+use Rattle.esr_history.specs.declared.packed_entry.PackedEntry.TheVariants.{Long}
 use Rattle.esr_history.specs.Logged.{Logged}
-use Rattle.esr_history.specs.Short.{unpacked, no_entry, IsWithin}
+use Rattle.esr_history.specs.PackedEntry.{unpacked, no_entry, IsWithin}
 use Rattle.esr_history.proofs.Packed.{entries_stay}
 use Rattle.esr_history.proofs.log.Log.push.Goals as goal
 
@@ -26,7 +26,7 @@ returns-in_default-clause-entries c =
 pub invariant_of-self-2 : goal.invariant_of-self-2
 invariant_of-self-2 c =
     let long = c.self.inside.long.items in
-    rw c.push_reserved-2.ensures.items (All-push (IsWithin long) c.self.inside.list.items c.in-Some.short c.self.invariant (c.in-Some.ensures long).1)
+    rw c.push_reserved-2.ensures.items (All-push (IsWithin long) c.self.inside.list.items c.in-Some.packed_entry c.self.invariant (c.in-Some.ensures long).1)
 
 pub returns-clause-entries : goal.returns-clause-entries
 returns-clause-entries c = grind (arith, common_steps)

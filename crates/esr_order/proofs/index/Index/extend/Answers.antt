@@ -3,7 +3,7 @@ use Rattle.std.proofs.Common.{◌≡◌, ◌-◌, ◌∙◌, [], ◌∷◌, true
 use Rattle.std.proofs.lemmas.List.{length-append}
 use Rattle.esr_base.specs.declared.numbers.TxnId.{TxnId}
 use Rattle.esr_history.specs.Events.{is_committed}
-use Rattle.esr_history.specs.Machine.{done}
+use Rattle.esr_history.specs.Machine.{accepted_in}
 use Rattle.esr_order.specs.Index.{Indexed}
 use Rattle.esr_order.specs.Scans.{commit_in}
 use Rattle.esr_order.proofs.Indexes.{index_more, index_over}
@@ -25,4 +25,4 @@ extend-requires-clause-committed g c =
     let i : Indexed = record { read = c.entries.self-inside.read; commits = c.entries.self-inside.commits.items; rows = c.entries.self-inside.rows } in
     let all : i.read ≡ length h.entries = omega (arith, c.entries.invariant.0.few, c.entries-test.false, c.len-count.ensures, ap length c.log-log.ensures.entries) in
     let first = c.len-first.result in
-    subst (λ l. All (λ (t : TxnId). is_committed (done h) t.0 ≡ true) (take (length l - first) (drop first l))) (sym c.deref.ensures.value) (index_over h i c.entries.invariant.0 all first)
+    subst (λ l. All (λ (t : TxnId). is_committed (accepted_in h) t.0 ≡ true) (take (length l - first) (drop first l))) (sym c.deref.ensures.value) (index_over h i c.entries.invariant.0 all first)

@@ -1,11 +1,11 @@
 -- Why `Replay::write_shortfalls` keeps its contract: the goals that are left to a proof of ours.
 use Rattle.std.proofs.Common.{◌≡◌, ◌∙◌, ◌++◌, ◌*◌, ◌≤◌, [], List, ℕ, ℤ, Option, ap, ap₂, sym, subst, map, filter_map, sum_by, w64, to_z, of_z}
 use Rattle.std.proofs.lemmas.Int.{to_z-of_z}
-use Rattle.esr_items.specs.Values.{IsValue, largest_distance}
+use Rattle.esr_items.specs.Values.{IsValue, max_distance}
 use Rattle.esr_items.specs.Weights.{weighted, weighted-bounded}
 use Rattle.esr_history.specs.Events.{current_value}
 use Rattle.esr_history.specs.ItemLocks.{item_locks}
-use Rattle.esr_history.specs.Machine.{Schedule, done}
+use Rattle.esr_history.specs.Machine.{Schedule, accepted_in}
 use Rattle.esr_locks.specs.Rows.{query_and_count}
 use Rattle.esr_why.specs.declared.shortfall.Shortfall.{Shortfall}
 use Rattle.esr_why.specs.Shortfalls.{import_lack, export_lack, listed}
@@ -16,15 +16,15 @@ use Rattle.esr_why.proofs.replay.Replay.write_shortfalls.Goals as goal
 pub returns-then-is_empty : goal.returns-then-is_empty
 returns-then-is_empty c =
     let h = c.args.self.now in
-    let none : (item_locks (done h) c.args.x.0).queries ≡ [] =
+    let none : (item_locks (accepted_in h) c.args.x.0).queries ≡ [] =
     sym c.query_reads-reads.ensures.reads ∙ ap (map query_and_count) (no_elements c.query_reads-reads.result.now (sym c.is_empty.ensures ∙ c.if-is_empty.true)) in
     c.new-found.ensures.items ∙ write_none weighted h c.args.u c.args.x c.args.value c.requires.update none
 
 -- the distance of two values in range, as their bytes have them, is small
-small : (ws : List ℕ) (x : ℕ) (v w : ℤ) (n : ℕ) → n ≡ weighted ws x (to_z w64 (of_z w64 v)) (to_z w64 (of_z w64 w)) → IsValue v → IsValue w → n ≤ largest_distance
+small : (ws : List ℕ) (x : ℕ) (v w : ℤ) (n : ℕ) → n ≡ weighted ws x (to_z w64 (of_z w64 v)) (to_z w64 (of_z w64 w)) → IsValue v → IsValue w → n ≤ max_distance
 small ws x v w n is fits fits_too =
     let same = is ∙ ap₂ (weighted ws x) (to_z-of_z w64 v (value_fits v fits)) (to_z-of_z w64 w (value_fits w fits_too)) in
-    subst (λ k. k ≤ largest_distance) (sym same) (weighted-bounded ws x v w fits fits_too)
+    subst (λ k. k ≤ max_distance) (sym same) (weighted-bounded ws x v w fits fits_too)
 
 pub push_imports-requires-clause-amount : goal.push_imports-requires-clause-amount
 push_imports-requires-clause-amount c =

@@ -1,0 +1,34 @@
+-- What a bundle shows of the query that was asked for.
+use Rattle.std.proofs.Common.{◌≡◌, ◌≢◌, ℕ, List, refl, sym, subst, Result, Ok, Err, IfOk, IsOk}
+use Rattle.std.specs.declared.alloc.AllocError.{AllocError}
+use Rattle.esr_items.specs.Weights.{weighted}
+use Rattle.esr_cert.specs.Problem.{Problem}
+use Rattle.esr_cert.specs.Certificate.{Certificate}
+use Rattle.esr_cert.specs.Faults.{bundle_fault_number}
+use Rattle.esr_cert.specs.declared.problem.BundleFault.{BundleFault}
+use Rattle.esr_cert.specs.declared.problem.BundleFault.TheVariants.{Json, Shape, Range, NoMemory}
+use Rattle.esr_audit.specs.Problems as problems
+use Rattle.esr_bundle.specs.Reading.{IsReadingOf, Means}
+use Rattle.esr_views.specs.Ask.{IsAnswered}
+use Rattle.esr_views.specs.State.{ScriptState, transaction_called}
+use Rattle.esr_views.specs.declared.query.AuditedQuery.{AuditedQuery}
+use Rattle.esr_commands.specs.declared.claim.Claim.{Claim}
+use Rattle.esr_commands.specs.declared.claim.Claim.TheVariants.{Of, Bad}
+use Rattle.esr_commands.specs.Claims.{IsClaim, IsClaimOf, ShowsDistance}
+
+bad_fault : (asked : Problem) (bytes : List ℕ) (f : BundleFault) → f ≢ NoMemory → IsReadingOf bytes (Err f) → IsClaimOf asked bytes (Bad (bundle_fault_number f))
+bad_fault asked bytes Json other h = (Err Json, h, refl)
+bad_fault asked bytes Shape other h = (Err Shape, h, refl)
+bad_fault asked bytes Range other h = (Err Range, h, refl)
+bad_fault asked bytes NoMemory other h = absurd (other refl)
+
+pub claims_bad : (asked : Problem) (bytes : List ℕ) (f : BundleFault) (r : Result Claim AllocError) → IfOk r (λ v. v ≡ Bad (bundle_fault_number f)) → (IsOk r → f ≢ NoMemory) → IsReadingOf bytes (Err f)
+    → IfOk r (IsClaimOf asked bytes)
+claims_bad asked bytes f (Ok v) is other h = rw is (bad_fault asked bytes f (other refl) h)
+claims_bad asked bytes f (Err e) is other h = tt
+
+pub shown_by : (s : ScriptState) (name : List ℕ) (a : AuditedQuery) (bytes : List ℕ) (b : Problem × Certificate) (claim : Claim) (worth : ℕ) → IsAnswered s name a → Means bytes (Ok b)
+    → IsClaim a.finding.problem (Ok b) claim → claim ≡ Of worth → ShowsDistance s name bytes worth
+shown_by s name a bytes b claim worth answered means held is =
+    let k : IsClaim a.finding.problem (Ok b) (Of worth) = subst (IsClaim a.finding.problem (Ok b)) is held in
+    (b, means, k.0, k.1, subst (λ (p : Problem). problems.StandsFor weighted s.history (transaction_called s name).0 p) (sym k.2) answered.finding.found.stands)

@@ -1,0 +1,39 @@
+-- What a bundle shows of a query that a script was asked for.
+use Rattle.std.specs.Prelude.{◌≡◌, ℕ, List, [], ◌∷◌, ◌++◌, codes, decimal, Some, None, Result, Ok, Err}
+use Rattle.esr_items.specs.Weights.{weighted}
+use Rattle.esr_cert.specs.Problem.{Problem}
+use Rattle.esr_cert.specs.Certificate.{Certificate, Certifies, fault}
+use Rattle.esr_cert.specs.declared.certificate.Fault.{Fault}
+use Rattle.esr_cert.specs.Faults.{fault_number, bundle_fault_number}
+use Rattle.esr_cert.specs.declared.problem.BundleFault.{BundleFault}
+use Rattle.esr_audit.specs.Problems as problems
+use Rattle.esr_bundle.specs.Reading.{Means}
+use Rattle.esr_views.specs.State.{ScriptState, transaction_called}
+use Rattle.esr_commands.specs.declared.claim.Claim.{Claim}
+use Rattle.esr_commands.specs.declared.claim.Claim.TheVariants.{Of, NotOf, Invalid, Bad}
+
+-- The claim of a bundle beside the problem of the query: its certificate has no fault, and its problem is that one, or
+-- nothing is said of it; or its first fault; or that the bytes are no bundle.
+abbrev pub IsClaim : Problem → Result (Problem × Certificate) BundleFault → Claim → Type 0
+IsClaim asked (Ok b) (Of worth) = Certifies b.0 b.1 × (worth ≡ b.1.worth) × (b.0 ≡ asked)
+IsClaim asked (Ok b) (NotOf worth) = Certifies b.0 b.1 × (worth ≡ b.1.worth)
+IsClaim asked (Ok b) (Invalid number) = (f : Fault) × (fault b.0 b.1 ≡ Some f) × (number ≡ fault_number f)
+IsClaim asked (Err f) (Bad number) = number ≡ bundle_fault_number f
+IsClaim asked _ _ = ⊥
+
+-- the claim of what the bytes mean
+abbrev pub IsClaimOf : Problem → List ℕ → Claim → Type 0
+IsClaimOf asked bytes claim = (b : Result (Problem × Certificate) BundleFault) × Means bytes b × IsClaim asked b claim
+
+-- the bytes are a bundle that shows this to be the distance of the query of that name after a script
+abbrev pub ShowsDistance : ScriptState → List ℕ → List ℕ → ℕ → Type 0
+ShowsDistance s name bytes worth =
+    (b : Problem × Certificate) × Means bytes (Ok b) × Certifies b.0 b.1 × (worth ≡ b.1.worth)
+    × problems.StandsFor weighted s.history (transaction_called s name).0 b.0
+
+-- the line of a claim about the query of that name
+abbrev pub claim_line : List ℕ → Claim → List ℕ
+claim_line name (Of worth) = codes "valid " ++ decimal worth ++ codes " of " ++ name ++ 10 ∷ []
+claim_line name (NotOf worth) = codes "valid " ++ decimal worth ++ codes ", not of " ++ name ++ 10 ∷ []
+claim_line name (Invalid number) = codes "invalid " ++ decimal number ++ 10 ∷ []
+claim_line name (Bad number) = codes "bad " ++ decimal number ++ 10 ∷ []

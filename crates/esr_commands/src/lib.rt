@@ -1,0 +1,35 @@
+//! Executes the subcommands that take a script or a bundle: opens the input, runs the operation, reports the outcome on
+//! standard error, and returns the exit status. Parsing of arguments is in `esr_cli`.
+//!
+//! Operations on a script implement `Command`, so this crate does not depend on the crates for pictures, pages and tables, and is
+//! proved in parallel with them. A bundle is checked by itself, or against the problem of a query of a script.
+#![tactic(auto)]
+
+mod claim;
+mod command;
+mod comparison;
+mod detail;
+mod fault;
+mod judgement;
+mod listing;
+mod meter;
+mod open;
+mod output;
+
+pub use claim::{Claim, claim_of};
+pub use command::{
+    Command, RenderQuery, RenderScript, RunScript, WriteBundle, audit_script, execute_command,
+};
+pub use detail::detail_of;
+pub use fault::{DriveText, RunText, line_at_fault};
+pub use judgement::{Question, check};
+pub use listing::list_faults;
+pub use meter::is_shown;
+pub use open::open_file;
+use std::fmt::Display;
+
+/// One line on standard error, and the status, which stays where standard error takes nothing.
+pub fn fail(rt: &impl Eprint, text: &impl Display, status: u8) -> u8 {
+    let _ = eprintln!(rt; "esr: {text}");
+    status
+}

@@ -1,0 +1,9 @@
+-- Why the script's lines are read back as the history's entries: names by numbers, a line for each entry, and the
+-- run over all of them.
+
+pub mod Numbers
+pub mod Tables
+pub mod Texts
+pub mod Feeds
+pub mod RoundTrip
+pub mod Names

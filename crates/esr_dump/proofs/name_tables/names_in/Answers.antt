@@ -1,0 +1,11 @@
+-- Why `names_in` keeps its contract: the goals that are left to a proof of ours.
+use Rattle.std.proofs.Common.{ℕ, nat_eq, rules}
+use Rattle.std.proofs.lemmas.Iterator.Consumers.{map_from_collect}
+use Rattle.std.proofs.lemmas.Iterator.Splits.{YieldsList-from_slice_split}
+use Rattle.esr_dump.proofs.name_tables.names_in.Goals as goal
+
+pub returns : goal.returns
+returns c =
+    map_from_collect _ c.collect.ensures.ran
+    (YieldsList-from_slice_split _ (λ (b : ℕ). nat_eq b 10) c.args.text.now c.split.ensures.rest c.split.ensures.done c.split.ensures.closure
+    (λ x b q called. search rules))

@@ -1,0 +1,32 @@
+//! The script of a history that has names of its own: those of a file, say, whose transactions are numbered as they begin.
+//! Names that a script could not have give way to numbers, so there is a script of every history.
+
+ghost use Rattle.std.specs.Prelude.{◌≤◌, IfOk, length};
+ghost use Rattle.esr_base.specs.declared.limits.TheConstants.{MAX_ENTRIES};
+ghost use Rattle.esr_dump.specs.RoundTrip.{IsDump};
+
+use crate::name_tables::spelled_names;
+use crate::spelling::script;
+use esr_history::History;
+use esr_items::Weighted;
+use esr_report::TransactionNames;
+use std::alloc::{AllocError, Global};
+
+/// The script of a history, by these names of its items and of its transactions, in the order of their numbers. It gives
+/// again what was accepted or blocked.
+#[tactic(auto, using(crate::proofs::Names::few_begun))]
+pub fn named_script<I: TransactionNames, T: TransactionNames>(
+    alloc: Global,
+    items: &I,
+    transactions: &T,
+    history: &History<Weighted>,
+) -> Result<Vec<u8>, AllocError>
+    requires few { length history.now.schedule.entries ≤ MAX_ENTRIES }
+    ensures { IfOk result (λ text. IsDump (I.names items.now) (T.names transactions.now) history.now.schedule text.items) }
+{
+    let item_table = spelled_names(alloc, items, history.items(), "i", 0)?;
+    let begun = history.begun_count() as u32;
+    let transaction_table = spelled_names(alloc, transactions, begun, "t", 1)?;
+    let text = script(alloc, &item_table, &transaction_table, history)?;
+    Ok(text)
+}

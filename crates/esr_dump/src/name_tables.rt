@@ -1,0 +1,152 @@
+//! The names of items and transactions: numbers with a letter, or those of a text that has one on each line.
+
+ghost use Rattle.std.specs.Prelude.{◌≡◌, ◌++◌, ◌+◌, ◌<◌, ◌≤◌, ◌^◌, [], IfOk, OnOk, Option, option_map, length, map, decimal, slice_index_or, string_bytes, codes};
+ghost use Rattle.esr_base.specs.declared.limits.TheConstants.{MAX_ITEMS};
+ghost use Rattle.esr_dump.specs.Naming.{numbered, all_numbered, first_names, item_names, named, names_in, spelled, transaction_names};
+
+use esr_grammar::name;
+use esr_report::{Names, TransactionNames};
+use std::alloc::{AllocError, Global};
+
+/// A word with a number behind it.
+fn name_of_number(alloc: Global, word: &str, number: u32) -> Result<String, AllocError>
+    ensures { IfOk result (λ name. string_bytes name ≡ numbered word.now number) }
+{
+    let mut digits = itoa::Buffer::new();
+    let mut name = String::new(alloc);
+    name.push_str(word)?;
+    name.push_str(digits.format(number))?;
+    Ok(name)
+}
+
+/// The names of so many numbers from a first one on: each is the word with the number behind it.
+#[tactic(auto, using(crate::proofs::Numbers::unbound))]
+fn names_by_number(alloc: Global, word: &str, first: u32, count: u32) -> Result<Names, AllocError>
+    requires room { first + count < 2 ^ 32 }
+    ensures { IfOk result (λ names. names ≡ all_numbered word.now first count) }
+{
+    let mut names = Names::new(alloc);
+    for i in 0..count {
+        let name = name_of_number(alloc, word, first + i)?;
+        names.bind(&name)?;
+    }
+    Ok(names)
+}
+
+/// The names of so many transactions: `t1`, `t2`.
+pub fn transaction_names(alloc: Global, count: u32) -> Result<Names, AllocError>
+    requires room { count + 1 < 2 ^ 32 }
+    ensures { IfOk result (λ names. names ≡ transaction_names count) }
+{
+    names_by_number(alloc, "t", 1, count)
+}
+
+/// What stands between the line feeds of a text.
+fn names_in(alloc: Global, text: &[u8]) -> Result<Vec<&[u8]>, AllocError>
+    ensures { IfOk result (λ lines. map (λ line. line.now) lines.items ≡ names_in text.now) }
+{
+    text.split(|byte| *byte == b'\n').collect(alloc)
+}
+
+/// A table of these names, or none where one is no name or comes twice.
+fn table(alloc: Global, words: &[&[u8]]) -> Result<Option<Names>, AllocError>
+    requires few { length words.now < 2 ^ 32 }
+    ensures { IfOk result (λ found. found ≡ named (map (λ word. word.now) words.now)) }
+{
+    let mut names = Names::new(alloc);
+    for word in words {
+        let Some(name) = name(word) else {
+            return Ok(None);
+        };
+        if names.number_of(name).is_some() {
+            return Ok(None);
+        }
+        names.bind(name)?;
+    }
+    let _distinct = names.len(); // brings the invariant into the proof
+    Ok(Some(names))
+}
+
+/// The names that a text gives to so many items, one on each line; `i0`, `i1` where it is empty. None where it has not
+/// as many names as there are items, or one that is no name of a script, or one twice.
+pub fn item_names(alloc: Global, text: &[u8], count: u32) -> Result<Option<Names>, AllocError>
+    requires few { count ≤ MAX_ITEMS }
+    ensures { IfOk result (λ found. found ≡ item_names count text.now) }
+{
+    if text.is_empty() {
+        return match names_by_number(alloc, "i", 0, count) {
+            Ok(names) => Ok(Some(names)),
+            Err(error) => Err(error),
+        };
+    }
+    let words = names_in(alloc, text)?;
+    if words.len() != count as usize {
+        return Ok(None);
+    }
+    table(alloc, &words)
+}
+
+/// The name at a position, no letters where there is none.
+fn name_at<N: TransactionNames>(names: &N, position: u32) -> &str
+    ensures { result.now ≡ slice_index_or (N.names names.now) position [] }
+{
+    match names.name_at(position) {
+        Some(name) => name,
+        None => "",
+    }
+}
+
+/// The names that so many have, and no letters for those who have none.
+#[tactic(auto, using(crate::proofs::Names::one_more_name))]
+fn first_names<'a, N: TransactionNames>(
+    alloc: Global,
+    names: &'a N,
+    count: u32,
+) -> Result<Vec<&'a [u8]>, AllocError>
+    ensures { IfOk result (λ words. map (λ word. word.now) words.items ≡ first_names count (N.names names.entry.now)) }
+{
+    let mut words = Vec::new(alloc);
+    for i in 0..count {
+        let name = name_at(names, i);
+        words.push(name.as_bytes())?;
+    }
+    Ok(words)
+}
+
+/// A table of these names, where lines spell them and none comes twice; else of the word with numbers from a first one
+/// on.
+#[tactic(auto, using(crate::proofs::Names::spelled_some, crate::proofs::Names::spelled_none))]
+fn names_for_lines(
+    alloc: Global,
+    words: &[&[u8]],
+    word: &str,
+    first: u32,
+) -> Result<Names, AllocError>
+    requires room { first + length words.now < 2 ^ 32 }
+    ensures { IfOk result (λ names. names ≡ spelled word.now first (map (λ word. word.now) words.now)) }
+{
+    let found = table(alloc, words)?;
+    match found {
+        Some(names) => Ok(names),
+        None => {
+            let numbers = names_by_number(alloc, word, first, words.len() as u32)?;
+            Ok(numbers)
+        }
+    }
+}
+
+/// A table of the names that so many have, as lines can spell them.
+pub fn spelled_names<N: TransactionNames>(
+    alloc: Global,
+    names: &N,
+    count: u32,
+    word: &str,
+    first: u32,
+) -> Result<Names, AllocError>
+    requires room { first + count < 2 ^ 32 }
+    ensures { IfOk result (λ table. table ≡ spelled word.now first (first_names count (N.names names.now))) }
+{
+    let words = first_names(alloc, names, count)?;
+    let table = names_for_lines(alloc, &words, word, first)?;
+    Ok(table)
+}

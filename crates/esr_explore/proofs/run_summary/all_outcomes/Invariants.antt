@@ -1,0 +1,7 @@
+-- What holds at each turn of the loop in `all_outcomes`.
+use Rattle.std.proofs.Common.{take}
+use Rattle.esr_explore.specs.Summaries.{AreOutcomes}
+use Rattle.esr_explore.proofs.run_summary.all_outcomes.Given as goal
+
+abbrev pub invariant-loop-query : goal.invariant-loop-query
+invariant-loop-query l = AreOutcomes l.run.history.schedule l.run.runners.items (take l.query-index l.queries) l.outcomes.items

@@ -1,0 +1,41 @@
+-- What is told of a run.
+use Rattle.std.specs.Prelude.{◌≡◌, ℕ, ℤ, false, List, [], ◌∷◌, Option, Some, None, map, option_and_then, slice_get, slice_index_or, unwrap_or}
+use Rattle.esr_items.specs.Weights.{weighted}
+use Rattle.esr_history.specs.Machine.{Schedule, IsLegal}
+use Rattle.esr_history.specs.Queries.{is_committed_query}
+use Rattle.esr_audit.specs.Findings.{IsAnswer}
+use Rattle.esr_plan.specs.Blocks.{number_in}
+use Rattle.esr_plan.specs.declared.call.Call.{Call}
+use Rattle.esr_explore.specs.declared.query.Query.{Query}
+use Rattle.esr_explore.specs.declared.run_summary.QueryOutcome.{QueryOutcome}
+use Rattle.esr_explore.specs.declared.run_summary.RunSummary.{RunSummary}
+use Rattle.esr_explore.specs.Turns.{IsRun, RunnerView, Stage, fresh}
+
+-- the number that the begin at a place of a block was given
+abbrev pub number_of : List RunnerView → ℕ → ℕ → ℕ
+number_of runners block place =
+    unwrap_or (option_and_then number_in (slice_get (slice_index_or runners block fresh).replies place)) 0
+
+-- a committed query's import, and its distance as audits find it; nothing of another transaction
+abbrev pub IsOutcome : Schedule → ℕ → Option QueryOutcome → Type 0
+IsOutcome h number None = is_committed_query h number ≡ false
+IsOutcome h number (Some outcomes) = (before : List ℕ) × IsAnswer weighted h number outcomes.distance outcomes.import before
+
+-- query by query
+abbrev pub AreOutcomes : Schedule → List RunnerView → List Query → List (Option QueryOutcome) → Type 0
+AreOutcomes h runners [] [] = Unit {0}
+AreOutcomes h runners (q ∷ queries) (outcomes ∷ more) = IsOutcome h (number_of runners q.block q.place) outcomes × AreOutcomes h runners queries more
+AreOutcomes h runners _ _ = ⊥
+
+-- what is told of a run that ended so
+pub record IsSummaryOf (end : Stage) (queries : List Query) (run_summary : RunSummary) : Type 0 where
+  pub outcomes : AreOutcomes end.history end.blocks queries run_summary.outcomes.items
+  pub blocked : run_summary.blocked.items ≡ map (λ r. r.blocked) end.blocks
+
+-- The tale is of a run of these blocks: legal, and taken in turns that began with this order.
+pub record IsSummary (opening : List ℤ) (weights : List ℕ) (blocks : List (List Call)) (queries : List Query) (order : List ℕ)
+    (run_summary : RunSummary) : Type 0 where
+  pub end : Stage
+  pub run : IsRun opening weights blocks order end
+  pub legal : IsLegal weighted end.history
+  pub summary_is : IsSummaryOf end queries run_summary

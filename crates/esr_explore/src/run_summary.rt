@@ -1,0 +1,123 @@
+//! What is told of one run: the import and the distance of each query that committed, and how often the lines of each
+//! block were blocked.
+
+ghost use Rattle.std.specs.Prelude.{◌≡◌, IfOk, map};
+ghost use Rattle.esr_explore.specs.Turns.{stage};
+ghost use Rattle.esr_explore.specs.Summaries.{AreOutcomes, IsOutcome, IsSummaryOf, number_of};
+
+use crate::measure::Measure;
+use crate::query::Query;
+use crate::run::Run;
+use crate::runner::{Runner, is_blocked};
+use esr_audit::{AuditError, audit_query};
+use esr_history::{History, Reply, TxnId};
+use esr_items::Weighted;
+use std::alloc::{AllocError, Global};
+
+/// What a committed query was charged, and how far it was from a serial order.
+#[derive(Clone, Copy)]
+pub struct QueryOutcome {
+    pub import: u64,
+    pub distance: u64,
+}
+
+impl QueryOutcome {
+    /// The number that a run is measured by.
+    pub fn by(self, measure: Measure) -> u64 {
+        match measure {
+            Measure::Import => self.import,
+            Measure::Distance => self.distance,
+            Measure::Blocked => 0,
+        }
+    }
+}
+
+/// What is told of a run.
+#[derive(Drop)]
+pub struct RunSummary {
+    /// Of each query of the file, where it committed.
+    pub outcomes: Vec<Option<QueryOutcome>>,
+    /// How often the lines of each block were blocked.
+    pub blocked: Vec<u64>,
+    /// How many lines of each block were given up.
+    pub given_up: Vec<u64>,
+}
+
+/// The number that a query's begin was given, 0 where it was refused.
+fn number_of(runners: &[Runner], query: Query<'_>) -> TxnId
+    ensures { result.0 ≡ number_of runners.now query.entry.block query.entry.place }
+{
+    let Some(runner) = runners.get(query.block) else {
+        return TxnId(0);
+    };
+    match runner.replies().get(query.place) {
+        Some(Reply::Begun(number)) => *number,
+        _ => TxnId(0),
+    }
+}
+
+/// What is told of a transaction, if it is a query that committed.
+fn outcome_of(
+    alloc: Global,
+    history: &History<Weighted>,
+    number: TxnId,
+) -> Result<Option<QueryOutcome>, AllocError>
+    ensures { IfOk result (IsOutcome history.now.schedule number.0) }
+{
+    match audit_query(alloc, history, number) {
+        Ok(finding) => Ok(Some(QueryOutcome {
+            import: finding.import,
+            distance: finding.distance,
+        })),
+        Err(AuditError::NotACommittedQuery) => Ok(None),
+        Err(_) => Err(AllocError),
+    }
+}
+
+/// What is told of these queries.
+fn all_outcomes(
+    alloc: Global,
+    run: &Run,
+    queries: &[Query<'_>],
+) -> Result<Vec<Option<QueryOutcome>>, AllocError>
+    ensures { IfOk result (λ outcomes. AreOutcomes run.now.history.schedule run.now.runners.items queries.now outcomes.items) }
+{
+    let mut outcomes = Vec::new(alloc);
+    for query in queries {
+        let number = number_of(&run.runners, *query);
+        outcomes.push(outcome_of(alloc, &run.history, number)?)?;
+    }
+    Ok(outcomes)
+}
+
+/// How often the lines of each block were blocked.
+fn count_blocked(alloc: Global, runners: &[Runner]) -> Result<Vec<u64>, AllocError>
+    ensures { IfOk result (λ v. v.items ≡ map (λ r. r.blocked) runners.now) }
+{
+    let mut counts = Vec::new(alloc);
+    for runner in runners {
+        counts.push(runner.blocked_count())?;
+    }
+    Ok(counts)
+}
+
+/// How many lines of each block were given up.
+fn all_given_up(alloc: Global, runners: &[Runner]) -> Result<Vec<u64>, AllocError> {
+    let mut counts = Vec::new(alloc);
+    for runner in runners {
+        let lost = runner.replies().iter().filter(|reply| is_blocked(**reply));
+        counts.push(lost.count() as u64)?;
+    }
+    Ok(counts)
+}
+
+/// What is told of a run.
+pub fn summarize(alloc: Global, run: &Run, queries: &[Query<'_>]) -> Result<RunSummary, AllocError>
+    ensures { IfOk result (λ run_summary. IsSummaryOf (stage run.now.history.schedule run.now.runners.items) queries.now run_summary) }
+{
+    Ok(RunSummary {
+        outcomes: all_outcomes(alloc, run, queries)?,
+        blocked: count_blocked(alloc, &run.runners)?,
+        given_up: all_given_up(alloc, &run.runners)?,
+    })
+}

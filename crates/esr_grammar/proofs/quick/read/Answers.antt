@@ -1,0 +1,10 @@
+-- Why `read` keeps its contract: the goals that are left to a proof of ours.
+use Rattle.std.proofs.Common.{◌≡◌, sym, ap, ◌∙◌, ◌++◌, ◌∷◌}
+use Rattle.esr_grammar.proofs.Spelling.{name_found}
+use Rattle.esr_grammar.proofs.quick.read.Goals as goal
+
+pub returns : goal.returns
+returns c =
+    let txn = c.in_ok-txn.ensures in
+    let thing = name_found c.in_ok-txn.last.now c.in_ok-item.item.now (sym c.in_ok-item.ensures) in
+    ((txn.0, thing.0), ap (λ l. 114 ∷ 101 ∷ 97 ∷ 100 ∷ 32 ∷ l) (txn.1 ∙ ap (λ l. c.in_ok-txn.txn.now ++ 32 ∷ l) thing.1))

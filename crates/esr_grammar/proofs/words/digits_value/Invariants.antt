@@ -1,0 +1,6 @@
+-- What holds at each turn of the loop in `digits_value`.
+use Rattle.esr_grammar.proofs.Laws.{IsValueOf}
+use Rattle.esr_grammar.proofs.words.digits_value.Given as goal
+
+abbrev pub invariant-loop-digit : goal.invariant-loop-digit
+invariant-loop-digit l = IsValueOf l.digits l.digit-index l.value

@@ -1,0 +1,48 @@
+//! What comes next in bytes that are cut into lines: a whole line, none yet, or one that is too long whatever follows.
+
+ghost use Rattle.std.specs.Prelude.{◌≡◌, nat_eq, position};
+ghost use Rattle.esr_grammar.specs.Lines.{line_len, IsNext};
+
+use crate::limits::MAX_LINE_BYTES;
+use memchr::memchr;
+
+/// What comes next in the bytes ahead.
+#[derive(Clone, Copy)]
+pub enum Next {
+    /// A line of so many bytes, and a line feed.
+    Line(usize),
+    TooLong,
+    /// No whole line yet.
+    More,
+}
+
+fn find_line_feed(bytes: &[u8]) -> Option<usize>
+    ensures { result ≡ position (λ b. nat_eq b 10) bytes.now }
+{
+    memchr(b'\n', bytes)
+}
+
+/// The count of bytes before the first line feed.
+#[tactic(auto, using(crate::proofs::Prefix::none_is_length))]
+fn line_len(bytes: &[u8]) -> usize
+    ensures { result ≡ line_len bytes.now }
+{
+    match find_line_feed(bytes) {
+        Some(place) => place,
+        None => bytes.len(),
+    }
+}
+
+/// A whole line is next only where the bytes end it.
+pub fn next_line(bytes: &[u8]) -> Next
+    ensures { IsNext result bytes.now }
+{
+    let length = line_len(bytes);
+    if length > MAX_LINE_BYTES {
+        Next::TooLong
+    } else if length < bytes.len() {
+        Next::Line(length)
+    } else {
+        Next::More
+    }
+}

@@ -1,0 +1,150 @@
+//! The lines that scripts have most of, read in one pass: the class of each byte is asked once.
+//!
+//! What is given here is spelled by the line. Where nothing is given, the words of the line decide (`parse`), so nothing
+//! that a line may spell has to be found here.
+
+ghost use Rattle.std.specs.Prelude.{◌≡◌, ◌∷◌, ◌++◌, IfSome, codes, not};
+ghost use Rattle.std.specs.List.{position};
+ghost use Rattle.esr_grammar.specs.Command.{is_name_byte, IsName, Spells, view};
+
+use crate::parse::Line;
+use crate::words::{int, is_letter, is_name_byte, limit, name};
+use std::str::from_utf8_unchecked;
+
+/// The place of the first byte that no name has.
+#[inline(always)]
+fn name_end(bytes: &[u8]) -> Option<usize>
+    ensures { result ≡ position (λ b. not (is_name_byte b)) bytes.now }
+{
+    bytes.iter().position(|b| !is_name_byte(*b))
+}
+
+/// The name before the first blank, and what follows the blank.
+#[inline(always)]
+fn front_name(bytes: &[u8]) -> Option<(&str, &[u8])>
+    ensures { IfSome result (λ p. IsName p.0.now × (bytes.now ≡ p.0.now ++ 32 ∷ p.1.now)) }
+{
+    let place = name_end(bytes)?;
+    if bytes[place] != b' ' {
+        return None;
+    }
+    if place == 0 {
+        return None;
+    }
+    if place > 16 {
+        return None;
+    }
+    if !is_letter(bytes[0]) {
+        return None;
+    }
+    // the bytes of a name are ASCII
+    let name = unsafe { from_utf8_unchecked(&bytes[..place]) };
+    Some((name, &bytes[place + 1..]))
+}
+
+/// `write NAME NAME INT`, behind its first word.
+#[inline(always)]
+fn write(words: &[u8]) -> Option<Line<'_>>
+    ensures { IfSome result (λ line. Spells (codes "write " ++ words.now) (view line)) }
+{
+    let (txn, more) = front_name(words)?;
+    let (item, last) = front_name(more)?;
+    let value = int(last)?;
+    Some(Line::Write { txn, item, value })
+}
+
+/// `read NAME NAME`, behind its first word.
+#[inline(always)]
+fn read(words: &[u8]) -> Option<Line<'_>>
+    ensures { IfSome result (λ line. Spells (codes "read " ++ words.now) (view line)) }
+{
+    let (txn, last) = front_name(words)?;
+    let item = name(last)?;
+    Some(Line::Read { txn, item })
+}
+
+/// `commit NAME`, behind its first word.
+#[inline(always)]
+fn commit(words: &[u8]) -> Option<Line<'_>>
+    ensures { IfSome result (λ line. Spells (codes "commit " ++ words.now) (view line)) }
+{
+    let txn = name(words)?;
+    Some(Line::Commit { txn })
+}
+
+/// `begin NAME update LIMIT`, by its name and its last word.
+#[inline(always)]
+fn begin_update<'a>(name: &'a str, last: &[u8]) -> Option<Line<'a>>
+    requires { IsName name.now }
+    ensures { IfSome result (λ line. Spells (codes "begin " ++ name.now ++ 32 ∷ (codes "update " ++ last.now)) (view line)) }
+{
+    let limit = limit(last)?;
+    Some(Line::BeginUpdate { name, limit })
+}
+
+/// `begin NAME query LIMIT`, by its name and its last word.
+#[inline(always)]
+fn begin_query<'a>(name: &'a str, last: &[u8]) -> Option<Line<'a>>
+    requires { IsName name.now }
+    ensures { IfSome result (λ line. Spells (codes "begin " ++ name.now ++ 32 ∷ (codes "query " ++ last.now)) (view line)) }
+{
+    let limit = limit(last)?;
+    Some(Line::BeginQuery { name, limit })
+}
+
+/// What follows `update` and a blank.
+#[inline(always)]
+fn behind_update(bytes: &[u8]) -> Option<&[u8]>
+    ensures { IfSome result (λ last. bytes.now ≡ codes "update " ++ last.now) }
+{
+    match bytes {
+        [b'u', b'p', b'd', b'a', b't', b'e', b' ', last @ ..] => Some(last),
+        _ => None,
+    }
+}
+
+/// What follows `query` and a blank.
+#[inline(always)]
+fn behind_query(bytes: &[u8]) -> Option<&[u8]>
+    ensures { IfSome result (λ last. bytes.now ≡ codes "query " ++ last.now) }
+{
+    match bytes {
+        [b'q', b'u', b'e', b'r', b'y', b' ', last @ ..] => Some(last),
+        _ => None,
+    }
+}
+
+/// The begin, by its name and what follows the blank behind it.
+#[inline(always)]
+fn begin_kind<'a>(name: &'a str, more: &[u8]) -> Option<Line<'a>>
+    requires { IsName name.now }
+    ensures { IfSome result (λ line. Spells (codes "begin " ++ name.now ++ 32 ∷ more.now) (view line)) }
+{
+    match behind_update(more) {
+        Some(last) => begin_update(name, last),
+        None => begin_query(name, behind_query(more)?),
+    }
+}
+
+/// `begin NAME update LIMIT` and `begin NAME query LIMIT`, behind the first word.
+#[inline(always)]
+fn begin(words: &[u8]) -> Option<Line<'_>>
+    ensures { IfSome result (λ line. Spells (codes "begin " ++ words.now) (view line)) }
+{
+    let (name, more) = front_name(words)?;
+    begin_kind(name, more)
+}
+
+/// The command, where the line is one of these that spells it.
+#[inline(always)]
+pub fn quick(line: &[u8]) -> Option<Line<'_>>
+    ensures { IfSome result (λ found. Spells line.now (view found)) }
+{
+    match line {
+        [b'w', b'r', b'i', b't', b'e', b' ', words @ ..] => write(words),
+        [b'r', b'e', b'a', b'd', b' ', words @ ..] => read(words),
+        [b'c', b'o', b'm', b'm', b'i', b't', b' ', words @ ..] => commit(words),
+        [b'b', b'e', b'g', b'i', b'n', b' ', words @ ..] => begin(words),
+        _ => None,
+    }
+}

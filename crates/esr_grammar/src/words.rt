@@ -1,0 +1,200 @@
+//! The words of a line, and what each may be: names, limits and whole numbers, in their one decimal form.
+
+ghost use Rattle.esr_grammar.specs.declared.words.TheConstants.{INT_END};
+ghost use Rattle.std.specs.Prelude.{◌≡◌, ◌∷◌, ◌<◌, ◌≤◌, ◌^◌, Option, option_map, length, IfSome, IfNone, IsTrue, true, false};
+ghost use Rattle.std.specs.Str.{all_ascii_digits};
+ghost use Rattle.std.specs.List.{position, list_all};
+ghost use Rattle.esr_grammar.specs.Command.{is_letter, is_name_byte, is_name, value_from, number_below, is_blank, words_of, words_after, name_of, limit_in, int_of, one_of, two_of, three_of, four_of};
+ghost use Rattle.esr_grammar.specs.Classes.{tells_of};
+
+use std::str::from_utf8_unchecked;
+
+/// One above the largest number of 18 digits.
+const INT_END: u64 = 1_000_000_000_000_000_000;
+
+fn find_blank(bytes: &[u8]) -> Option<usize>
+    ensures { result ≡ position is_blank bytes.now }
+{
+    bytes.iter().position(|b| *b == b' ')
+}
+
+/// The first word, and what follows the blank after it.
+#[tactic(auto, using(crate::proofs::Blanks::no_blank, crate::proofs::Blanks::at_blank))]
+pub fn cut_word(bytes: &[u8]) -> (&[u8], Option<&[u8]>)
+    ensures { words_of bytes.now ≡ result.0.now ∷ words_after result.1 }
+{
+    match find_blank(bytes) {
+        None => (bytes, None),
+        Some(place) => (&bytes[..place], Some(&bytes[place + 1..])),
+    }
+}
+
+/// The word, where there is one.
+pub fn one_word(bytes: &[u8]) -> Option<&[u8]>
+    ensures { option_map (λ w. w.now) result ≡ one_of (words_of bytes.now) }
+{
+    match cut_word(bytes) {
+        (word, None) => Some(word),
+        (_, Some(_)) => None,
+    }
+}
+
+/// The words, where there are two.
+pub fn two_words(bytes: &[u8]) -> Option<(&[u8], &[u8])>
+    ensures { option_map (λ p. (p.0.now, p.1.now)) result ≡ two_of (words_of bytes.now) }
+{
+    let (first, more) = cut_word(bytes);
+    let second = one_word(more?)?;
+    Some((first, second))
+}
+
+/// The words, where there are three.
+pub fn three_words(bytes: &[u8]) -> Option<(&[u8], &[u8], &[u8])>
+    ensures { option_map (λ p. (p.0.now, p.1.now, p.2.now)) result ≡ three_of (words_of bytes.now) }
+{
+    let (first, more) = cut_word(bytes);
+    let (second, third) = two_words(more?)?;
+    Some((first, second, third))
+}
+
+/// The words, where there are four.
+pub fn four_words(bytes: &[u8]) -> Option<(&[u8], &[u8], &[u8], &[u8])>
+    ensures { option_map (λ p. (p.0.now, p.1.now, p.2.now, p.3.now)) result ≡ four_of (words_of bytes.now) }
+{
+    let (first, more) = cut_word(bytes);
+    let (second, third, fourth) = three_words(more?)?;
+    Some((first, second, third, fourth))
+}
+
+/// Whether a name may begin with the byte.
+pub fn is_letter(byte: u8) -> bool
+    ensures { result ≡ is_letter byte }
+{
+    matches!(byte, b'a'..=b'z' | b'A'..=b'Z')
+}
+
+/// Whether a name may have the byte, for each byte: a line asks it of most of its own.
+static NAME_BYTES: [bool; 256] = [
+    false, false, false, false, false, false, false, false, false, false, false, false, false,
+    false, false, false, false, false, false, false, false, false, false, false, false, false,
+    false, false, false, false, false, false, false, false, false, false, false, false, false,
+    false, false, false, false, false, false, false, false, false, true, true, true, true, true,
+    true, true, true, true, true, false, false, false, false, false, false, false, true, true,
+    true, true, true, true, true, true, true, true, true, true, true, true, true, true, true, true,
+    true, true, true, true, true, true, true, true, false, false, false, false, true, false, true,
+    true, true, true, true, true, true, true, true, true, true, true, true, true, true, true, true,
+    true, true, true, true, true, true, true, true, true, false, false, false, false, false, false,
+    false, false, false, false, false, false, false, false, false, false, false, false, false,
+    false, false, false, false, false, false, false, false, false, false, false, false, false,
+    false, false, false, false, false, false, false, false, false, false, false, false, false,
+    false, false, false, false, false, false, false, false, false, false, false, false, false,
+    false, false, false, false, false, false, false, false, false, false, false, false, false,
+    false, false, false, false, false, false, false, false, false, false, false, false, false,
+    false, false, false, false, false, false, false, false, false, false, false, false, false,
+    false, false, false, false, false, false, false, false, false, false, false, false, false,
+    false, false, false, false, false, false, false, false, false, false, false, false, false,
+    false, false, false, false, false, false, false, false, false, false,
+];
+
+#[inline(always)]
+fn name_bytes() -> &'static [bool; 256]
+    ensures { IsTrue (tells_of 0 result.now) }
+{
+    &NAME_BYTES
+}
+
+/// Whether a name may have the byte.
+#[inline(always)]
+pub fn is_name_byte(byte: u8) -> bool
+    ensures { result ≡ is_name_byte byte }
+{
+    name_bytes()[byte as usize]
+}
+
+#[inline(always)]
+fn all_name_bytes(text: &[u8]) -> bool
+    ensures { result ≡ list_all is_name_byte text.now }
+{
+    text.iter().all(|b| is_name_byte(*b))
+}
+
+#[inline(always)]
+fn is_name(text: &[u8]) -> bool
+    ensures { result ≡ is_name text.now }
+{
+    match text.split_first() {
+        None => false,
+        Some((first, rest)) => { is_letter(*first) && rest.len() <= 15 && all_name_bytes(rest) }
+    }
+}
+
+/// The name that the word is.
+#[inline(always)]
+pub fn name(word: &[u8]) -> Option<&str>
+    ensures { option_map (λ name. name.now) result ≡ name_of word.now }
+{
+    if !is_name(word) {
+        return None;
+    }
+    // the bytes of a name are ASCII
+    Some(unsafe { from_utf8_unchecked(word) })
+}
+
+/// The value of up to 19 digits.
+#[tactic(auto, using(crate::proofs::Laws::no_digit))]
+fn digits_value(digits: &[u8]) -> Option<u64>
+    requires { length digits.now ≤ 19 }
+    ensures found { IfSome result (λ n. (n ≡ value_from 0 digits.now) × (n < 10 ^ 19)
+        × (all_ascii_digits digits.now ≡ true)) }
+    ensures none { IfNone result (all_ascii_digits digits.now ≡ false) }
+{
+    let mut value: u64 = 0;
+    for digit in digits {
+        if !digit.is_ascii_digit() {
+            return None;
+        }
+        value = 10 * value + u64::from(*digit - b'0');
+    }
+    Some(value)
+}
+
+/// The limit of which the word is the decimal form: digits with no zero in front of others.
+#[tactic(auto, using(crate::proofs::Laws::too_long, crate::proofs::Laws::empty_word, crate::proofs::Laws::zero_alone, crate::proofs::Laws::zero_in_front))]
+pub fn limit(word: &[u8]) -> Option<u64>
+    ensures { result ≡ limit_in word.now }
+{
+    if word.len() > 19 {
+        return None;
+    }
+    match word.first() {
+        None => None,
+        Some(b'0') => { if word.len() == 1 { Some(0) } else { None } }
+        Some(_) => digits_value(word),
+    }
+}
+
+/// The number of up to 18 digits of which the word is the decimal form.
+fn magnitude(word: &[u8]) -> Option<u64>
+    ensures { result ≡ number_below INT_END word.now }
+{
+    let number = limit(word)?;
+    if number < INT_END { Some(number) } else { None }
+}
+
+/// The whole number of which the word is the decimal form.
+pub fn int(word: &[u8]) -> Option<i64>
+    ensures { result ≡ int_of word.now }
+{
+    match word.split_first() {
+        None => None,
+        Some((b'-', digits)) => {
+            let number = magnitude(digits)?;
+            if number == 0 {
+                None
+            } else {
+                Some(-(number as i64))
+            }
+        }
+        Some(_) => Some(magnitude(word)? as i64),
+    }
+}

@@ -1,0 +1,31 @@
+//! A metric that is lent: the machine that makes a history again borrows the history's own.
+//!
+//! A copy of the weights was rejected, since it could be refused memory, and every caller would have to say so.
+use crate::metric::{Metric, Weighted};
+use esr_base::ItemId;
+
+/// The distances of a metric that another owns.
+#[derive(Clone, Copy)]
+pub struct WeightedRef<'a>(pub &'a Weighted);
+
+impl Metric for WeightedRef<'_> {
+    ghost use Rattle.esr_items.specs.Weights.{weighted, weighted-zero, weighted-same, weighted_comm, weighted-triangle, weighted-bounded};
+
+    ghost weights = { λ m. m.0.now };
+
+    ghost distance_by = { weighted };
+
+    fn distance(&self, x: ItemId, a: i64, b: i64) -> u64 {
+        self.0.distance(x, a, b)
+    }
+
+    ghost zero = { weighted-zero };
+
+    ghost same = { weighted-same };
+
+    ghost symmetric = { weighted_comm };
+
+    ghost triangle = { weighted-triangle };
+
+    ghost bounded = { weighted-bounded };
+}

@@ -1,8 +1,0 @@
--- Why `command` keeps its contract: the goals that are left to a proof of ours.
-use Rattle.std.proofs.Common.{sym}
-use Rattle.esr_line.proofs.Spelling.{spelled}
-use Rattle.esr_line.specs.Command.{view}
-use Rattle.esr_line.proofs.parse.command.Goals as goal
-
-pub returns-in-Some : goal.returns-in-Some
-returns-in-Some c = sym (spelled c.args.line.now (view c.in-Some.found) c.in-Some.ensures)

@@ -1,6 +1,0 @@
--- What holds at each turn of the loop in `digits_value`.
-use Rattle.esr_line.proofs.Laws.{IsValueOf}
-use Rattle.esr_line.proofs.words.digits_value.Given as goal
-
-abbrev pub invariant-loop-digit : goal.invariant-loop-digit
-invariant-loop-digit l = IsValueOf l.digits l.digit-index l.value

@@ -1,7 +1,0 @@
--- What holds at each turn of the loop in `first_names`.
-use Rattle.std.proofs.Common.{◌≡◌, map}
-use Rattle.esr_past.specs.Naming.{first_names}
-use Rattle.esr_past.proofs.name_tables.first_names.Given as goal
-
-abbrev pub invariant-loop-i : goal.invariant-loop-i
-invariant-loop-i g l = map (λ word. word.now) l.words.items ≡ first_names l.i (g.N.TransactionNames.names l.names)

@@ -1,8 +1,0 @@
--- Why `sheet_of` keeps its contract: the goals that are left to a proof of ours.
-use Rattle.std.proofs.Common.{arith}
-use Rattle.esr_line.specs.Lines.{lines}
-use Rattle.esr_plan.proofs.Cuts.{few_lines}
-use Rattle.esr_plan.proofs.sheet.sheet_of.Goals as goal
-
-pub draft_of-requires : goal.draft_of-requires
-draft_of-requires c = let few = few_lines 0 (lines c.args.bytes.now) (omega arith) c.requires in omega (arith, few)

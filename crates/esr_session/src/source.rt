@@ -1,0 +1,64 @@
+//! Several calls in one hold of the lock.
+//!
+//! Where threads have much to ask, a hold for each call costs more than the steps: each time the lock and the machine
+//! go to another processor. So one hold answers several events, and not more than it is told to, since others wait
+//! meanwhile; it ends early at an event that is blocked, which only another session's step can help. A list of events
+//! would not do: a later one names the transaction that an earlier one began. So who asks is asked for each event when
+//! the one before it is answered.
+ghost use Rattle.std.specs.Prelude.{◌≡◌, ◌≤◌, ◌++◌, List, ℕ, None, All, length, IfOk};
+ghost use Rattle.esr_session.specs.Receipts.{IsReceipt};
+ghost use Rattle.esr_session.specs.declared.receipt.Receipt.{Receipt};
+
+use crate::engine_name::Naming;
+use crate::lock::{Locked, Pocket, step_on};
+use crate::receipt::{Receipt, is_blocked};
+use esr_core::StepError;
+use esr_history::Event;
+use esr_items::Metric;
+
+/// Who asks events, each by what came of those before.
+pub trait EventSource {
+    ghost use Rattle.std.specs.Prelude.{◌≡◌, ◌++◌, ◌∷◌, [], List, Option, Some};
+    ghost use Rattle.esr_history.specs.declared.event.Event.{Event};
+    ghost use Rattle.esr_session.specs.declared.receipt.Receipt.{Receipt};
+
+    /// Whether an asker that has heard these receipts is now this one.
+    ghost Became: { Self → List Receipt → Self → Type 0 };
+
+    /// The event that is asked next.
+    ghost next: { Self → Option Event };
+
+    fn next(&self) -> Option<Event>
+        ensures { result ≡ next self.now };
+
+    /// Hears what came of it.
+    fn on_reply(&mut self, receipt: Receipt)
+        requires { next self.old ≡ Some receipt.event }
+        ensures { (first : Self) (receipts : List Receipt)
+            → Became first receipts self.old → Became first (receipts ++ receipt ∷ []) self.new };
+}
+
+/// Steps for an asker until one is blocked or it asks nothing more, at most `most` of them; how many.
+pub(crate) fn step_several<M: Metric, N: Naming, A: EventSource>(
+    locked: &mut Locked<M, N>,
+    pocket: &mut Pocket<N>,
+    source: &mut A,
+    most: usize,
+) -> Result<usize, StepError>
+    ensures receipts { (more : List Receipt) × (pocket.new ≡ pocket.old ++ more) × (length more ≤ most)
+        × All (IsReceipt M.distance_by N.opening N.weights) more × IfOk result (λ n. n ≡ length more) }
+    ensures source { (first : A) → A.Became first pocket.old source.old → A.Became first pocket.new source.new }
+    ensures none { IfOk result (λ n. 1 ≤ most → n ≡ 0 → A.next source.old ≡ None) }
+{
+    for count in 0..most {
+        let Some(event) = source.next() else {
+            return Ok(count);
+        };
+        let receipt = step_on(locked, pocket, event)?;
+        source.on_reply(receipt);
+        if is_blocked(receipt.reply) {
+            return Ok(count + 1);
+        }
+    }
+    Ok(most)
+}

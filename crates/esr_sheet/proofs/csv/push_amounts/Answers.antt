@@ -1,6 +1,0 @@
--- Why `push_amounts` keeps its contract: the goals that are left to a proof of ours.
-use Rattle.esr_sheet.proofs.csv.push_amounts.Goals as goal
-
-pub returns : goal.returns
-returns c =
-    rw (c.format.ensures.text, c.format-2.ensures.text, c.format-3.ensures.text, c.format-4.ensures.text, c.format-5.ensures.text, c.format-6.ensures.text, c.format-7.ensures.text, c.format-8.ensures.text) at c.push_all_behind.ensures

@@ -1,7 +1,0 @@
--- What holds at each turn of the loop in `replay`.
-use Rattle.std.proofs.Common.{◌≡◌}
-use Rattle.esr_explain.specs.Explain.{until}
-use Rattle.esr_sheet.proofs.exports.replay.Given as goal
-
-abbrev pub invariant-loop-i : goal.invariant-loop-i
-invariant-loop-i l = l.machine ≡ until l.i l.history.schedule

@@ -1,0 +1,32 @@
+-- The ledger of what a script leads to.
+use Rattle.std.proofs.Common.{◌≡◌, ◌∙◌, ℕ, List, ap, IfOk, Result, Ok, Err}
+use Rattle.esr_items.specs.Weights.{weighted}
+use Rattle.esr_history.specs.Machine.{Schedule}
+use Rattle.esr_views.specs.declared.recording.Recording.{Recording}
+use Rattle.esr_views.specs.Ask.{IsRecorded}
+use Rattle.esr_views.specs.State.{ScriptState}
+use Rattle.esr_tables.specs.declared.format.Format.TheVariants.{Csv}
+use Rattle.esr_tables.specs.Csv.{ledger_csv}
+use Rattle.esr_tables.specs.Written.{IsLedger, IsLedgerOf}
+
+pub ledger_told : (s : ScriptState) (c : Recording) → IsRecorded s c → (first last : ℕ → ℕ) (text : List ℕ)
+    → text ≡ ledger_csv weighted c.history.schedule c.transactions first last → IsLedger Csv s text
+ledger_told s c recorded first last text is = (
+  first,
+  last,
+  is
+      ∙ (ap (λ (h : Schedule). ledger_csv weighted h c.transactions first last) recorded.history
+      ∙ ap (λ names. ledger_csv weighted s.history names first last) recorded.transactions),
+)
+
+-- the same of a text that is made, if it is
+pub csv_told : {T E : Type 0} (items : T → List ℕ) (s : ScriptState) (c : Recording) → IsRecorded s c → (first last : ℕ → ℕ) (r : Result T E)
+    → IfOk r (λ v. items v ≡ ledger_csv weighted c.history.schedule c.transactions first last) → IfOk r (λ v. IsLedger Csv s (items v))
+csv_told items s c recorded first last (Ok v) is = ledger_told s c recorded first last (items v) is
+csv_told items s c recorded first last (Err e) is = tt
+
+-- the same of a history
+pub csv_of : {T E : Type 0} (items : T → List ℕ) (h : Schedule) (names : List (List ℕ)) (first last : ℕ → ℕ) (r : Result T E)
+    → IfOk r (λ v. items v ≡ ledger_csv weighted h names first last) → IfOk r (λ v. IsLedgerOf h names (items v))
+csv_of items h names first last (Ok v) is = (first, last, is)
+csv_of items h names first last (Err e) is = tt

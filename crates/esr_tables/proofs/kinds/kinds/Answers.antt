@@ -1,0 +1,23 @@
+-- Why `kinds` keeps its contract: the goals that are left to a proof of ours.
+use Rattle.std.proofs.Common.{◌≡◌, ◌∙◌, ◌≤◌, ◌∷◌, [], ◌++◌, ap, sym, arith, length, take, take_all, Some, slice_get}
+use Rattle.std.specs.List.{filter_map}
+use Rattle.std.proofs.lemmas.List.Elements.{filter_map-append}
+use Rattle.esr_tables.specs.Entries.{kind_in}
+use Rattle.esr_tables.proofs.Begun.{kinds_are}
+use Rattle.esr_tables.proofs.Places.{take_next}
+use Rattle.esr_tables.proofs.kinds.kinds.Goals as goal
+
+pub loop-place-preserved : goal.loop-place-preserved
+loop-place-preserved c =
+    let es = c.args.history.now.schedule.entries in let i = c.loop-place.place in let e = c.in-Some.entry in
+    let is : slice_get es i ≡ Some e = sym (c.in-Some.ensures ∙ ap (λ l. slice_get l i) c.log-log.ensures.entries) in
+    c.in_ok-push_kind.ensures
+    ∙ (ap (λ l. l ++ filter_map kind_in (e ∷ [])) c.loop-place.invariant
+    ∙ (sym (filter_map-append kind_in (take i es) (e ∷ [])) ∙ ap (filter_map kind_in) (sym (take_next es i e is))))
+
+pub returns : goal.returns
+returns c =
+    let es = c.args.history.now.schedule.entries in
+    let long : length c.log-log.result.now.entries ≡ length es = ap length c.log-log.ensures.entries in
+    let all : length es ≤ c.loop-place.place = omega (arith, c.loop-place-test.false, c.loop-place.auto.place-end, c.len-place-end.ensures, long) in
+    c.loop-place.invariant ∙ (ap (filter_map kind_in) (take_all c.loop-place.place es all) ∙ kinds_are es)

@@ -1,0 +1,98 @@
+-- The rows of a ledger: what a history says of each transaction.
+use Rattle.std.specs.Prelude.{ℕ, ◌-◌, ◌&&◌, List, Bool, true, false, Option, None, Some, map, count_by, is_some, if◌then◌else◌, option_map, unwrap_or}
+use Rattle.esr_history.specs.declared.event.Reply.{Reply}
+use Rattle.esr_history.specs.declared.event.Entry.{Entry}
+use Rattle.esr_history.specs.declared.event.Reply.TheVariants.{Value, Wrote, Refused}
+use Rattle.esr_history.specs.declared.event.Refusal.TheVariants.{BlockedByLock, BlockedByImport, BlockedByExport}
+use Rattle.esr_history.specs.Events.{Beginning, beginning, numbers, limit_of, is_query, is_committed}
+use Rattle.esr_history.specs.Machine.{Distance, Schedule, accepted_in, charges_in, import_in, export_in}
+use Rattle.esr_history.specs.Queries.{is_committed_query}
+use Rattle.esr_history.specs.BackLinks.{txn_in, is_key, last_place, accepted_end}
+use Rattle.esr_order.specs.Least.{least_cost}
+use Rattle.esr_tables.specs.declared.kinds.Kind.{Kind}
+use Rattle.esr_tables.specs.declared.kinds.Kind.TheVariants.{Update, Query, Strict}
+use Rattle.esr_tables.specs.declared.rows.End.{End}
+use Rattle.esr_tables.specs.declared.rows.End.TheVariants.{Committed, Aborted, Active}
+use Rattle.esr_tables.specs.declared.rows.Row.{Row}
+use Rattle.esr_tables.specs.declared.tallies.Tally.{Tally}
+
+-- ---- its kind
+
+abbrev pub kind_of : Beginning → Kind
+kind_of b = if b.query then (if b.strict then Strict else Query) else Update
+
+abbrev pub kind_at : Schedule → ℕ → Kind
+kind_at h t = unwrap_or (option_map kind_of (beginning (accepted_in h) t)) Update
+
+-- ---- how often its lines were answered, and how
+
+-- an accepted read, an accepted write
+abbrev pub is_read : Reply → Bool
+is_read (Value v) = true
+is_read _ = false
+
+abbrev pub is_write : Reply → Bool
+is_write Wrote = true
+is_write _ = false
+
+-- what was blocked, and by what
+abbrev pub by_lock : Reply → Bool
+by_lock (Refused (BlockedByLock u)) = true
+by_lock _ = false
+
+abbrev pub by_import : Reply → Bool
+by_import (Refused (BlockedByImport q)) = true
+by_import _ = false
+
+abbrev pub by_export : Reply → Bool
+by_export (Refused (BlockedByExport u)) = true
+by_export _ = false
+
+-- how many entries of t have such a reply
+abbrev pub count_of : (Reply → Bool) → List Entry → ℕ → ℕ
+count_of p es t = count_by (λ e. is_key (txn_in e) t && p e.reply) es
+
+abbrev pub tally_of : List Entry → ℕ → Tally
+tally_of es t = record {
+  reads = count_of is_read es t;
+  writes = count_of is_write es t;
+  by_lock = count_of by_lock es t;
+  by_import = count_of by_import es t;
+  by_export = count_of by_export es t;
+}
+
+-- ---- how it ended
+
+-- committed; else aborted, if an accepted commit or abort of it is in the log
+abbrev pub end_of : Schedule → ℕ → End
+end_of h t =
+    if is_committed (accepted_in h) t then Committed
+    else (if is_some (last_place accepted_end t h.entries) then Aborted else Active)
+
+-- ---- amounts
+
+-- what it imported as a query, or exported as an update
+abbrev pub charged_of : Distance → Schedule → ℕ → ℕ
+charged_of d h t = if is_query (accepted_in h) t then import_in (charges_in d h) t else export_in (charges_in d h) t
+
+-- how far a committed query was from the nearest serial placement
+abbrev pub distance_of : Distance → Schedule → ℕ → Option ℕ
+distance_of d h t = if is_committed_query h t then Some (least_cost d h t) else None
+
+-- ---- the whole
+
+abbrev pub row_of : Distance → Schedule → ℕ → Row
+row_of d h t = record {
+  number = record { 0 = t };
+  kind = kind_at h t;
+  limit = limit_of (accepted_in h) t;
+  charged = charged_of d h t;
+  left = limit_of (accepted_in h) t - charged_of d h t;
+  tally = tally_of h.entries t;
+  end = end_of h t;
+  distance = distance_of d h t;
+}
+
+-- a row for each transaction, in the order of their numbers
+abbrev pub rows_of : Distance → Schedule → List Row
+rows_of d h = map (row_of d h) (numbers (accepted_in h))

@@ -1,0 +1,19 @@
+-- What a ledger is, of a history and of a script.
+use Rattle.std.specs.Prelude.{◌≡◌, ℕ, List, ⊤}
+use Rattle.esr_items.specs.Weights.{weighted}
+use Rattle.esr_history.specs.Machine.{Schedule}
+use Rattle.esr_views.specs.State.{ScriptState}
+use Rattle.esr_tables.specs.declared.format.Format.{Format}
+use Rattle.esr_tables.specs.declared.format.Format.TheVariants.{Text, Csv, Json}
+use Rattle.esr_tables.specs.Csv.{ledger_csv}
+
+-- The ledger of a history: each row says what the history says, beside the numbers of two lines, of which nothing is
+-- promised: a history knows no lines.
+abbrev pub IsLedgerOf : Schedule → List (List ℕ) → List ℕ → Type 0
+IsLedgerOf h names text = (first : ℕ → ℕ) × (last : ℕ → ℕ) × (text ≡ ledger_csv weighted h names first last)
+
+-- That of a script, in CSV. Nothing is promised of the other forms.
+abbrev pub IsLedger : Format → ScriptState → List ℕ → Type 0
+IsLedger Csv s text = IsLedgerOf s.history s.transactions text
+IsLedger Text s text = ⊤
+IsLedger Json s text = ⊤

@@ -1,0 +1,127 @@
+//! What each update exported. A history keeps what queries imported, and of exports nothing: so it is made again, entry
+//! by entry, by a machine, which knows its accounts. That takes the time and memory of a second run; the machine is
+//! gone before rows are made. Where no query imported anything, no update exported anything either, as there are no
+//! other charges, and nothing is made again.
+
+ghost use Rattle.std.specs.Prelude.{◌≡◌, ◌<◌, ◌≤◌, ◌+◌, true, map, replicate, IfOk, OnOk, length};
+ghost use Rattle.std.specs.List.{range_with_len};
+ghost use Rattle.esr_history.specs.BackLinks.{begun_count};
+ghost use Rattle.esr_history.specs.Machine.{empty_schedule, charges_in, export_in};
+ghost use Rattle.esr_history.specs.Totals.{all_imports};
+ghost use Rattle.esr_items.specs.Weights.{weighted};
+ghost use Rattle.esr_explain.specs.Explain.{until};
+
+use crate::distances::txn_at;
+use esr_core::Machine;
+use esr_history::{History, NoMemory, TxnId};
+use esr_items::{Store, Weighted, WeightedRef};
+use std::alloc::{AllocError, Global};
+
+/// A machine that is to make a history again.
+fn replayer<'a>(
+    alloc: Global,
+    history: &'a History<Weighted>,
+) -> Result<Machine<WeightedRef<'a>>, NoMemory>
+    ensures { IfOk result (λ m. m ≡ empty_schedule history.entry.now.schedule) }
+{
+    let store = Store::of_valid(alloc, history.opening_values())?;
+    Machine::new(alloc, store, WeightedRef(history.metric()))
+}
+
+/// Makes one entry again.
+fn replay_one(
+    history: &History<Weighted>,
+    machine: &mut Machine<WeightedRef<'_>>,
+    i: usize,
+) -> Result<(), NoMemory>
+    requires place { i < length history.now.schedule.entries }
+    requires machine { machine.old ≡ until i history.now.schedule }
+    ensures { OnOk result (machine.new ≡ until (i + 1) history.now.schedule) }
+{
+    let Some(entry) = history.log().get(i) else {
+        unreachable!()
+    };
+    if machine.step(entry.event).is_err() {
+        return Err(NoMemory);
+    }
+    Ok(())
+}
+
+/// Makes all entries again.
+fn replay(
+    history: &History<Weighted>,
+    machine: &mut Machine<WeightedRef<'_>>,
+) -> Result<(), NoMemory>
+    requires { machine.old ≡ empty_schedule history.now.schedule }
+    ensures { OnOk result (machine.new ≡ history.now.schedule) }
+{
+    for i in 0..history.log().len() {
+        replay_one(history, machine, i)?;
+    }
+    Ok(())
+}
+
+/// What the transactions of a machine exported, the first transaction 0, which there is not.
+fn exports_in(
+    alloc: Global,
+    machine: &Machine<WeightedRef<'_>>,
+    count: usize,
+) -> Result<Vec<u64>, AllocError>
+    requires { count ≤ 65536 }
+    ensures { IfOk result (λ v. v.items ≡ map (export_in (charges_in weighted machine.now)) (range_with_len 0 count)) }
+{
+    let mut exports = Vec::new(alloc);
+    for number in 0..count {
+        exports.push(machine.export(TxnId(number as u32)))?;
+    }
+    Ok(exports)
+}
+
+/// Whether no transaction imported anything.
+fn imports_nothing(history: &History<Weighted>) -> bool
+    ensures { result ≡ true → all_imports weighted history.now.schedule ≡ 0 }
+{
+    for place in 0..history.begun_count() {
+        if history.import(txn_at(history, place)) > 0 {
+            return false;
+        }
+    }
+    true
+}
+
+/// What each transaction exported, as a machine that makes the history again knows it.
+fn replayed_exports(
+    alloc: Global,
+    history: &History<Weighted>,
+    count: usize,
+) -> Result<Vec<u64>, NoMemory>
+    requires { count ≤ 65536 }
+    ensures { IfOk result (λ v. v.items ≡ map (export_in (charges_in weighted history.now.schedule))
+        (range_with_len 0 count)) }
+{
+    let mut machine = replayer(alloc, history)?;
+    replay(history, &mut machine)?;
+    let exports = exports_in(alloc, &machine, count)?;
+    Ok(exports)
+}
+
+/// No export of so many transactions.
+fn no_exports(alloc: Global, count: usize) -> Result<Vec<u64>, AllocError>
+    ensures { IfOk result (λ v. v.items ≡ replicate count 0) }
+{
+    vec![in alloc; 0u64; count]
+}
+
+/// What each transaction exported, by their numbers; there is no transaction 0.
+pub fn exports(alloc: Global, history: &History<Weighted>) -> Result<Vec<u64>, NoMemory>
+    ensures { IfOk result (λ v. v.items ≡ map (export_in (charges_in weighted history.now.schedule))
+        (range_with_len 0 (begun_count history.now.schedule.entries + 1))) }
+{
+    let _legal = history.log(); // brings the invariant into the proof
+    let count = history.begun_count().saturating_add(1);
+    if imports_nothing(history) {
+        let exports = no_exports(alloc, count)?;
+        return Ok(exports);
+    }
+    replayed_exports(alloc, history, count)
+}

@@ -1,0 +1,92 @@
+//! The ledger of a script: a row for each accepted begin, in their order.
+
+ghost use Rattle.std.specs.Prelude.{◌≡◌, IfOk};
+ghost use Rattle.esr_items.specs.Weights.{weighted};
+ghost use Rattle.esr_tables.specs.Csv.{ledger_csv};
+ghost use Rattle.esr_tables.specs.Entries.{AreColumns};
+ghost use Rattle.esr_tables.specs.Spans.{first_of, last_of};
+ghost use Rattle.esr_tables.specs.Written.{IsLedger, IsLedgerOf};
+ghost use Rattle.esr_views.specs.Ask.{IsRecorded};
+ghost use Rattle.esr_views.specs.State.{ScriptState};
+
+use crate::csv::push_ledger;
+use crate::format::Format;
+use crate::json::ledger_json;
+use crate::rows::{Columns, columns_of};
+use crate::spans::{Spans, spans_in, spans_of};
+use crate::text::ledger_text;
+use esr_history::History;
+use esr_items::Weighted;
+use esr_report::Names;
+use esr_views::{Recording, ScriptView};
+use std::alloc::{AllocError, Global};
+
+/// What each transaction of a script did: its kind and limit, what it was charged, how its lines were answered, how it
+/// ended and, of a committed query, how far it was from the nearest serial placement.
+#[derive(Clone, Copy)]
+pub struct Ledger {
+    pub format: Format,
+}
+
+/// A ledger as CSV.
+fn ledger_csv(
+    alloc: Global,
+    transactions: &Names,
+    history: &History<Weighted>,
+    columns: &Columns,
+    spans: &Spans,
+) -> Result<Vec<u8>, AllocError>
+    requires { AreColumns history.now.schedule columns.now }
+    ensures { IfOk result (λ text. text.items ≡ ledger_csv weighted history.now.schedule
+        transactions.now (first_of spans.now) (last_of spans.now)) }
+{
+    let mut out = Vec::new(alloc);
+    push_ledger(&mut out, transactions, history, columns, spans)?;
+    Ok(out)
+}
+
+/// The ledger of a history that came from no script, as CSV. Its lines are those of the script that gives it again.
+pub fn history_ledger(
+    alloc: Global,
+    history: &History<Weighted>,
+    transactions: &Names,
+) -> Result<Vec<u8>, AllocError>
+    ensures { IfOk result (λ text. IsLedgerOf history.now.schedule transactions.now text.items) }
+{
+    let Ok(columns) = columns_of(alloc, history) else {
+        return Err(AllocError);
+    };
+    let spans = spans_in(alloc, history)?;
+    ledger_csv(alloc, transactions, history, &columns, &spans)
+}
+
+/// The ledger of a script in this form.
+fn text_in(alloc: Global, recording: &Recording<'_>, format: Format) -> Result<Vec<u8>, AllocError>
+    ensures { (s : ScriptState) → IsRecorded s recording.now → IfOk result (λ text. IsLedger format s text.items) }
+{
+    let history = &recording.history;
+    let Ok(columns) = columns_of(alloc, history) else {
+        return Err(AllocError);
+    };
+    let spans = spans_of(alloc, recording)?;
+    match format {
+        Format::Text => ledger_text(alloc, &recording.transactions, history, &columns, &spans),
+        Format::Csv => ledger_csv(alloc, &recording.transactions, history, &columns, &spans),
+        Format::Json => ledger_json(alloc, &recording.transactions, history, &columns, &spans),
+    }
+}
+
+impl ScriptView for Ledger {
+    ghost IsTextOf = { λ l s text. IsLedger l.format s text };
+
+    fn text_of(
+        &self,
+        alloc: Global,
+        recording: &Recording<'_>,
+    ) -> Result<Option<Vec<u8>>, AllocError> {
+        match text_in(alloc, recording, self.format) {
+            Ok(text) => Ok(Some(text)),
+            Err(error) => Err(error),
+        }
+    }
+}

@@ -1,0 +1,188 @@
+//! The rows of a ledger: what a history says of each transaction. A row is made where it is written, from a few numbers
+//! that are found of all transactions at once: of 65,000 transactions all rows would take 6 MB.
+
+ghost use Rattle.std.specs.Prelude.{◌≡◌, ◌<◌, ◌≤◌, ◌+◌, List, Some, length, map, IfOk};
+ghost use Rattle.esr_order.specs.Scans.{commits_in};
+ghost use Rattle.std.specs.List.{range_with_len};
+ghost use Rattle.esr_history.specs.declared.event.Entry.{Entry};
+ghost use Rattle.esr_history.specs.BackLinks.{begun_count};
+ghost use Rattle.esr_history.specs.Events.{beginnings, is_query, limit_of};
+ghost use Rattle.esr_history.specs.Machine.{Schedule, charges_in, accepted_in, export_in};
+ghost use Rattle.esr_items.specs.Weights.{weighted};
+ghost use Rattle.esr_tables.specs.Rows.{charged_of, end_of, kind_at, kind_of, row_of, tally_of};
+ghost use Rattle.esr_tables.specs.Entries.{AreColumns, AreTallies, end_at};
+
+use crate::distances::{distance_at, distances, txn_at};
+use crate::exports::exports;
+use crate::kinds::{Kind, kinds};
+use crate::tallies::{Tally, tallies};
+use esr_history::{Entry, Event, History, Log, NoMemory, TxnId};
+use esr_items::Weighted;
+use std::alloc::Global;
+
+/// How a transaction ended.
+#[derive(Clone, Copy)]
+pub enum End {
+    Committed,
+    Aborted,
+    Active,
+}
+
+/// What a history says of a transaction.
+#[derive(Clone, Copy)]
+pub struct Row {
+    pub number: TxnId,
+    pub kind: Kind,
+    pub limit: u64,
+    /// What it imported as a query, or exported as an update.
+    pub charged: u64,
+    /// What is left of the limit.
+    pub left: u64,
+    pub tally: Tally,
+    pub end: End,
+    /// How far it was from the nearest serial placement, as a committed query.
+    pub distance: Option<u64>,
+}
+
+/// What is found of all transactions at once.
+#[derive(Drop)]
+pub struct Columns {
+    kinds: Vec<Kind>,
+    tallies: Vec<Tally>,
+    exports: Vec<u64>,
+    distances: Vec<Option<u64>>,
+}
+
+/// What is found of all transactions at once.
+pub fn columns_of(alloc: Global, history: &History<Weighted>) -> Result<Columns, NoMemory>
+    ensures { IfOk result (λ c. AreColumns history.now.schedule c) }
+{
+    let exports = exports(alloc, history)?;
+    let kinds = kinds(alloc, history)?;
+    let tallies = tallies(alloc, history)?;
+    let distances = distances(alloc, history)?;
+    Ok(Columns {
+        kinds,
+        tallies,
+        exports,
+        distances,
+    })
+}
+
+/// Whether an entry is an accepted commit.
+fn is_commit(entry: Entry) -> bool
+    ensures { result ≡ commits_in (Some entry) }
+{
+    if entry.is_refused() {
+        return false;
+    }
+    matches!(entry.event, Event::Commit { txn: _ })
+}
+
+/// How a transaction ended whose accepted commit or abort is at this place, if there is one.
+fn end_at(log: &Log, place: Option<u64>) -> End
+    ensures { result ≡ end_at log.now.entries place }
+{
+    let Some(place) = place else {
+        return End::Active;
+    };
+    match log.get(place as usize) {
+        Some(entry) if is_commit(entry) => End::Committed,
+        _ => End::Aborted,
+    }
+}
+
+/// How a transaction ended.
+fn end_of(history: &History<Weighted>, t: TxnId) -> End
+    requires { (1 ≤ t.0) × (t.0 ≤ begun_count history.now.schedule.entries) }
+    ensures { result ≡ end_of history.now.schedule t.0 }
+{
+    let Some(facts) = history.facts(t) else {
+        unreachable!()
+    };
+    end_at(history.log(), facts.end)
+}
+
+/// The kind of a transaction.
+fn kind_at(kinds: &[Kind], t: TxnId) -> Kind
+    requires { 1 ≤ t.0 }
+    ensures { (h : Schedule) → kinds.now ≡ map kind_of (beginnings (accepted_in h)) → result ≡ kind_at h t.0 }
+{
+    match kinds.get(t.0 as usize - 1) {
+        Some(kind) => *kind,
+        None => Kind::Update,
+    }
+}
+
+/// The limit of a transaction.
+fn limit_of(history: &History<Weighted>, t: TxnId) -> u64
+    ensures { result ≡ limit_of (accepted_in history.now.schedule) t.0 }
+{
+    match history.facts(t) {
+        Some(facts) => facts.limit,
+        None => 0,
+    }
+}
+
+/// Whether a transaction is a query.
+fn is_query(history: &History<Weighted>, t: TxnId) -> bool
+    ensures { result ≡ is_query (accepted_in history.now.schedule) t.0 }
+{
+    match history.facts(t) {
+        Some(facts) => facts.query,
+        None => false,
+    }
+}
+
+/// What a transaction imported as a query, or exported as an update, beside what all exported.
+fn charged_of(history: &History<Weighted>, exports: &[u64], t: TxnId) -> u64
+    requires exports { exports.now ≡ map (export_in (charges_in weighted history.now.schedule))
+        (range_with_len 0 (begun_count history.now.schedule.entries + 1)) }
+    requires begun { t.0 ≤ begun_count history.now.schedule.entries }
+    ensures { result ≡ charged_of weighted history.now.schedule t.0 }
+{
+    if is_query(history, t) {
+        return history.import(t);
+    }
+    match exports.get(t.0 as usize) {
+        Some(export) => *export,
+        None => 0,
+    }
+}
+
+/// The tally of a transaction.
+fn tally_at(tallies: &[Tally], t: TxnId) -> Tally
+    requires { t.0 < length tallies.now }
+    ensures { (es : List Entry) → AreTallies es tallies.now → result ≡ tally_of es t.0 }
+{
+    tallies[t.0 as usize]
+}
+
+/// The row of a transaction that has begun.
+fn row_of(history: &History<Weighted>, columns: &Columns, t: TxnId) -> Row
+    requires columns { AreColumns history.now.schedule columns.now }
+    requires begun { (1 ≤ t.0) × (t.0 ≤ begun_count history.now.schedule.entries) }
+    ensures { result ≡ row_of weighted history.now.schedule t.0 }
+{
+    let limit = limit_of(history, t);
+    let charged = charged_of(history, &columns.exports, t);
+    Row {
+        number: t,
+        kind: kind_at(&columns.kinds, t),
+        limit,
+        charged,
+        left: limit.saturating_sub(charged),
+        tally: tally_at(&columns.tallies, t),
+        end: end_of(history, t),
+        distance: distance_at(&columns.distances, t),
+    }
+}
+
+/// The row of the transaction that began behind so many others.
+pub fn row_at(history: &History<Weighted>, columns: &Columns, place: usize) -> Row
+    requires columns { AreColumns history.now.schedule columns.now }
+    requires begun { place < begun_count history.now.schedule.entries }
+    ensures { result ≡ row_of weighted history.now.schedule (place + 1) }
+{
+    row_of(history, columns, txn_at(history, place))
+}

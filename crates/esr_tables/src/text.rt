@@ -1,0 +1,160 @@
+//! A ledger for people: columns as wide as their widest cell, numbers on the right and words on the left. The rows are
+//! gone over twice, for the widths and for the text, so that no cell is kept.
+
+ghost use Rattle.esr_tables.specs.Entries.{AreColumns};
+
+use crate::cells::{CELLS, Cell, Content, content_of};
+use crate::rows::{Columns, Row, row_at};
+use crate::spans::{Span, Spans};
+use crate::words::push_number;
+use esr_history::History;
+use esr_items::Weighted;
+use esr_report::{Names, name_of_transaction};
+use std::alloc::{AllocError, Global};
+
+/// Whether the words of a column stand on its left.
+fn is_of_words(cell: Cell) -> bool {
+    matches!(cell, Cell::Name | Cell::Kind | Cell::End)
+}
+
+/// How many decimal digits a number has.
+fn digits_of(number: u64) -> usize {
+    let mut digits = itoa::Buffer::new();
+    digits.format(number).len()
+}
+
+/// How wide a cell is.
+fn width_of(content: Content<'_>) -> usize {
+    match content {
+        Content::Number(number) => digits_of(number),
+        Content::Word(word) => word.len(),
+        Content::Nothing => 1,
+    }
+}
+
+/// The widths of the columns.
+#[derive(Clone, Copy)]
+struct Widths([usize; 15]);
+
+impl Widths {
+    /// Widens the columns to their heads.
+    fn of_heads() -> Widths {
+        let mut widths = Widths([0; 15]);
+        for (width, (_, _, head)) in widths.0.iter_mut().zip(CELLS.iter()) {
+            *width = head.len();
+        }
+        widths
+    }
+
+    /// Widens the columns to the cells of a row.
+    fn widen(&mut self, name: &str, row: &Row, span: Span) {
+        for (width, (cell, _, _)) in self.0.iter_mut().zip(CELLS.iter()) {
+            *width = (*width).max(width_of(content_of(*cell, name, row, span)));
+        }
+    }
+}
+
+/// Appends so many blanks.
+fn push_blanks(out: &mut String, count: usize) -> Result<(), AllocError> {
+    for _ in 0..count {
+        out.push_str(" ")?;
+    }
+    Ok(())
+}
+
+/// Appends what is in a cell, on its side.
+fn push_cell(
+    out: &mut String,
+    cell: Cell,
+    content: Content<'_>,
+    width: usize,
+) -> Result<(), AllocError> {
+    let blanks = width.saturating_sub(width_of(content));
+    if !is_of_words(cell) {
+        push_blanks(out, blanks)?;
+    }
+    match content {
+        Content::Number(number) => push_number(out, number)?,
+        Content::Word(word) => out.push_str(word)?,
+        Content::Nothing => out.push_str("-")?,
+    }
+    if is_of_words(cell) {
+        push_blanks(out, blanks)?;
+    }
+    Ok(())
+}
+
+/// Appends the heads. Those of what blocked stand below the words "blocked by".
+fn push_heads(out: &mut String, widths: &Widths) -> Result<(), AllocError> {
+    let mut before = 0usize;
+    for (width, (cell, _, _)) in widths.0.iter().zip(CELLS.iter()) {
+        if *cell == Cell::ByLock {
+            push_blanks(out, before)?;
+            out.push_str("blocked by\n")?;
+        }
+        before = before.saturating_add(*width).saturating_add(2);
+    }
+    for (width, (cell, _, head)) in widths.0.iter().zip(CELLS.iter()) {
+        if *cell != Cell::Number {
+            out.push_str("  ")?;
+        }
+        push_cell(out, *cell, Content::Word(head), *width)?;
+    }
+    out.push_str("\n")
+}
+
+/// Appends a row, with its name and lines.
+fn push_row(
+    out: &mut String,
+    widths: &Widths,
+    name: &str,
+    row: &Row,
+    span: Span,
+) -> Result<(), AllocError> {
+    for (width, (cell, _, _)) in widths.0.iter().zip(CELLS.iter()) {
+        if *cell != Cell::Number {
+            out.push_str("  ")?;
+        }
+        push_cell(out, *cell, content_of(*cell, name, row, span), *width)?;
+    }
+    out.push_str("\n")
+}
+
+/// The widths of the columns of a ledger.
+fn widths_of(
+    transactions: &Names,
+    history: &History<Weighted>,
+    columns: &Columns,
+    spans: &Spans,
+) -> Widths
+    requires { AreColumns history.now.schedule columns.now }
+{
+    let mut widths = Widths::of_heads();
+    for place in 0..history.begun_count() {
+        let row = row_at(history, columns, place);
+        let name = name_of_transaction(transactions, row.number);
+        widths.widen(name, &row, spans.of(row.number));
+    }
+    widths
+}
+
+/// A ledger for people.
+pub fn ledger_text(
+    alloc: Global,
+    transactions: &Names,
+    history: &History<Weighted>,
+    columns: &Columns,
+    spans: &Spans,
+) -> Result<Vec<u8>, AllocError>
+    requires { AreColumns history.now.schedule columns.now }
+{
+    let widths = widths_of(transactions, history, columns, spans);
+    let mut out = String::new(alloc);
+    push_heads(&mut out, &widths)?;
+    for place in 0..history.begun_count() {
+        let row = row_at(history, columns, place);
+        let name = name_of_transaction(transactions, row.number);
+        push_row(&mut out, &widths, name, &row, spans.of(row.number))?;
+    }
+    Ok(out.into_bytes())
+}

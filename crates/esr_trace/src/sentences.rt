@@ -1,0 +1,234 @@
+//! What a picture says in words above its lanes, and prose too: whether what the query read was ever true at one moment, where the
+//! nearest is, what it was charged and by whom, and which updates it had to be behind.
+
+use crate::subject::Audited;
+use crate::text::{MAX_NAMES, push_names, push_rest};
+use crate::trace::{QueryTrace, Sum};
+use esr_history::TxnId;
+use esr_report::name_of_transaction;
+use esr_text::{first, push_number, wrap};
+use std::alloc::{AllocError, Global};
+
+/// So many letters are on a line of a picture at most.
+const LINE: usize = 120;
+
+/// The name of a transaction.
+fn name<'a>(audited: &Audited<'a>, txn: TxnId) -> &'a str {
+    name_of_transaction(audited.transactions, txn)
+}
+
+/// Where the line is.
+fn push_moment(
+    out: &mut String,
+    audited: &Audited<'_>,
+    trace: &QueryTrace,
+) -> Result<(), AllocError> {
+    let before = &audited.finding.before;
+    if trace.committed == 0 {
+        return out.push_str("at the start");
+    }
+    if before.is_empty() {
+        return out.push_str("before all updates");
+    }
+    out.push_str("after ")?;
+    push_names(out, audited.transactions, before)
+}
+
+/// Whether it is placed behind updates that had committed when it began, so that earlier moments do not count.
+fn has_to_be_behind(audited: &Audited<'_>) -> bool {
+    !audited.finding.problem.must().is_empty()
+}
+
+/// Whether what it read was ever true at one moment. That of a strict query may have been, before what it had to see.
+pub fn push_verdict(
+    out: &mut String,
+    audited: &Audited<'_>,
+    trace: &QueryTrace,
+) -> Result<(), AllocError> {
+    let query = name(audited, audited.finding.query);
+    if trace.observed_reads.is_empty() {
+        return write!(out, "{query} read nothing.");
+    }
+    write!(out, "What {query}")?;
+    if audited.finding.distance > 0 {
+        return out.push_str(if has_to_be_behind(audited) {
+            " read was true at no moment that a strict report may have."
+        } else {
+            " read was never true at one moment."
+        });
+    }
+    out.push_str(" read was true at one moment, ")?;
+    push_moment(out, audited, trace)?;
+    out.push('.')
+}
+
+/// The nearest moment, where none has all that was read.
+pub fn push_nearest_moment(
+    out: &mut String,
+    audited: &Audited<'_>,
+    trace: &QueryTrace,
+) -> Result<(), AllocError> {
+    out.push_str(if has_to_be_behind(audited) {
+        "The nearest of these, "
+    } else {
+        "The nearest moment, "
+    })?;
+    push_moment(out, audited, trace)?;
+    out.push_str(", differs by ")?;
+    push_number(out, audited.finding.distance)?;
+    out.push('.')
+}
+
+/// The updates that were charged most, with their amounts.
+fn push_charges(
+    out: &mut String,
+    audited: &Audited<'_>,
+    charges: &[Sum],
+) -> Result<(), AllocError> {
+    let mut joint = ": ";
+    for charge in first(charges, MAX_NAMES) {
+        out.push_str(joint)?;
+        out.push_str(name(audited, TxnId(charge.number)))?;
+        out.push(' ')?;
+        push_number(out, charge.amount)?;
+        joint = ", ";
+    }
+    push_rest(out, charges.len())
+}
+
+/// The updates that were charged, most first, where their sums are what the query imported.
+fn push_charged(
+    alloc: Global,
+    out: &mut String,
+    audited: &Audited<'_>,
+    trace: &QueryTrace,
+) -> Result<(), AllocError> {
+    if trace.charge_sum() != audited.finding.import {
+        return Ok(());
+    }
+    let charges = trace.sums_by_update(alloc)?;
+    push_charges(out, audited, &charges)
+}
+
+/// What the query was charged of its limit, and by whom. Nobody is named where the sums do not agree.
+fn push_charge_sentence(
+    alloc: Global,
+    out: &mut String,
+    audited: &Audited<'_>,
+    trace: &QueryTrace,
+) -> Result<(), AllocError> {
+    let limit = match audited.history.facts(audited.finding.query) {
+        Some(facts) => facts.limit,
+        None => 0,
+    };
+    out.push_str("Charged ")?;
+    push_number(out, audited.finding.import)?;
+    out.push_str(" of its limit of ")?;
+    push_number(out, limit)?;
+    push_charged(alloc, out, audited, trace)?;
+    out.push('.')
+}
+
+/// The updates that a strict query had to be behind.
+fn updates_seen(alloc: Global, audited: &Audited<'_>) -> Result<Vec<TxnId>, AllocError> {
+    let problem = &audited.finding.problem;
+    let mut seen = Vec::new(alloc);
+    for position in problem.must() {
+        if let Some(update) = problem.updates().get(*position as usize) {
+            seen.push(*update)?;
+        }
+    }
+    Ok(seen)
+}
+
+/// The same in words, where there are any.
+pub fn push_strict(
+    alloc: Global,
+    out: &mut String,
+    audited: &Audited<'_>,
+) -> Result<(), AllocError> {
+    if !has_to_be_behind(audited) {
+        return Ok(());
+    }
+    let seen = updates_seen(alloc, audited)?;
+    push_predecessors(out, audited, &seen)
+}
+
+/// What a strict query had to be behind.
+fn push_predecessors(
+    out: &mut String,
+    audited: &Audited<'_>,
+    seen: &[TxnId],
+) -> Result<(), AllocError> {
+    out.push_str("It is strict, and had to be behind ")?;
+    push_names(out, audited.transactions, seen)?;
+    out.push_str(", which had committed when it began.")
+}
+
+/// A sentence above the lanes.
+#[derive(Clone, Copy)]
+enum Sentence {
+    Verdict,
+    Nearest,
+    Charge,
+    Strict,
+}
+
+/// The sentences above the lanes, of those that there are.
+static SENTENCES: [Sentence; 4] = [
+    Sentence::Verdict,
+    Sentence::Nearest,
+    Sentence::Charge,
+    Sentence::Strict,
+];
+
+fn all_sentences() -> &'static [Sentence] {
+    &SENTENCES
+}
+
+/// A sentence, or nothing where it is not said.
+fn push_sentence(
+    alloc: Global,
+    out: &mut String,
+    sentence: Sentence,
+    audited: &Audited<'_>,
+    trace: &QueryTrace,
+) -> Result<(), AllocError> {
+    match sentence {
+        Sentence::Verdict => push_verdict(out, audited, trace),
+        Sentence::Nearest if audited.finding.distance == 0 => Ok(()),
+        Sentence::Nearest => push_nearest_moment(out, audited, trace),
+        Sentence::Charge => push_charge_sentence(alloc, out, audited, trace),
+        Sentence::Strict => push_strict(alloc, out, audited),
+    }
+}
+
+/// Adds the lines of a sentence, if it is said.
+fn push_lines(
+    alloc: Global,
+    lines: &mut Vec<String>,
+    sentence: Sentence,
+    audited: &Audited<'_>,
+    trace: &QueryTrace,
+) -> Result<(), AllocError> {
+    let mut words = String::new(alloc);
+    push_sentence(alloc, &mut words, sentence, audited, trace)?;
+    if words.is_empty() {
+        Ok(())
+    } else {
+        wrap(alloc, lines, LINE, &words)
+    }
+}
+
+/// The sentences above the lanes.
+pub fn sentences_of(
+    alloc: Global,
+    audited: &Audited<'_>,
+    trace: &QueryTrace,
+) -> Result<Vec<String>, AllocError> {
+    let mut lines = Vec::new(alloc);
+    for sentence in all_sentences() {
+        push_lines(alloc, &mut lines, *sentence, audited, trace)?;
+    }
+    Ok(lines)
+}

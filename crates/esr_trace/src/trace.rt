@@ -1,0 +1,460 @@
+//! What the history tells of a query: each value that it read and whose that was, and what it was charged, by whom.
+//!
+//! One pass over the log. An item's writer is looked at again when the item is touched next: where it has ended by
+//! then, its value has been kept or put back. So an end costs nothing, whatever the update wrote. A history keeps of a
+//! query only what it imported all together; each charge is taken here by the definition of one, and not told where
+//! their sum is not the import. Of a query that is active or has aborted it tells as much, as far as it came.
+
+use esr_history::{Entry, Event, History, MAX_TRANSACTIONS, Reply, TxnId};
+use esr_items::{ItemId, Metric, Weighted};
+use std::alloc::{AllocError, Global};
+
+/// The numbers of transactions are below this.
+const MAX_NUMBERS: usize = MAX_TRANSACTIONS + 1;
+
+/// So many charges are kept one by one. Those of the same reads, one after another, are kept as one.
+const MAX_CHARGES: usize = 12;
+
+/// How a transaction ended, as the query could know it at its end.
+#[derive(Clone, Copy)]
+pub enum End {
+    /// It committed before the query did.
+    Committed,
+    Aborted,
+    /// It committed after the query did, or not at all.
+    Later,
+}
+
+/// A value that the query read of an item, and how often.
+#[derive(Clone, Copy)]
+pub struct ObservedRead {
+    pub item: ItemId,
+    pub value: i64,
+    /// The update that had written it, unless it is the opening value.
+    pub writer: Option<TxnId>,
+    /// Whether that update had not ended then.
+    pub is_dirty: bool,
+    pub count: u64,
+    /// Whether that update wrote another value over it.
+    pub overwritten: bool,
+    /// The place of the first such read in the log.
+    pub place: usize,
+}
+
+/// What made a charge.
+#[derive(Clone, Copy, PartialEq, Eq)]
+pub enum Cause {
+    /// The query read a value that an update had changed and not committed.
+    Read,
+    /// An update changed a value that the query had read so often.
+    Write { reads: u64 },
+}
+
+/// A charge to the query, or several one after another of reads that were alike.
+#[derive(Clone, Copy)]
+pub struct Charge {
+    pub update: TxnId,
+    pub item: ItemId,
+    /// How much was charged, all together.
+    pub amount: u64,
+    /// How often.
+    pub count: u64,
+    pub cause: Cause,
+    /// The value before the update's change, and behind it.
+    pub old: i64,
+    pub new: i64,
+    /// The place of the first in the log.
+    pub place: usize,
+}
+
+impl Charge {
+    /// Whether another one is of a read that was like those of this one.
+    fn is_like(&self, other: &Charge) -> bool {
+        self.cause == Cause::Read
+            && other.cause == Cause::Read
+            && self.update == other.update
+            && self.item == other.item
+            && self.old == other.old
+            && self.new == other.new
+    }
+
+    /// Takes another one in.
+    fn take_in(&mut self, other: &Charge) {
+        self.amount = self.amount.saturating_add(other.amount);
+        self.count = self.count.saturating_add(other.count);
+    }
+}
+
+/// A sum of charges, of a transaction or an item of that number.
+#[derive(Clone, Copy)]
+pub struct Sum {
+    pub number: u32,
+    pub amount: u64,
+}
+
+/// An item as the pass has come by it.
+#[derive(Clone, Copy)]
+struct ItemState {
+    current: i64,
+    committed: i64,
+    /// The update that has written it, and had not ended when the item was touched last.
+    writer: Option<TxnId>,
+    /// The update that left the committed value, unless it is the opening value.
+    keeper: Option<TxnId>,
+    /// How often the query has read it.
+    reads: u64,
+}
+
+impl ItemState {
+    /// Keeps or puts back what the writer wrote, where it has ended.
+    fn settle(&mut self, ends: &[End]) {
+        let Some(writer) = self.writer else {
+            return;
+        };
+        match end_in(ends, writer) {
+            End::Committed => {
+                self.committed = self.current;
+                self.keeper = self.writer;
+                self.writer = None;
+            }
+            End::Aborted => {
+                self.current = self.committed;
+                self.writer = None;
+            }
+            End::Later => {}
+        }
+    }
+}
+
+/// The distance of two values of an item. A metric asks for values in range, which those of a history are, but no type
+/// here says so; its weight is the distance of 0 and 1.
+fn gap(metric: &Weighted, item: ItemId, a: i64, b: i64) -> u64 {
+    metric.distance(item, 0, 1).saturating_mul(a.abs_diff(b))
+}
+
+/// How a transaction ended.
+fn end_in(ends: &[End], txn: TxnId) -> End {
+    ends.get(txn.0 as usize).copied().unwrap_or(End::Later)
+}
+
+/// Adds to the sum of that number.
+fn add_to(sums: &mut [u64], number: u32, amount: u64) {
+    if let Some(sum) = sums.get_mut(number as usize) {
+        *sum = sum.saturating_add(amount);
+    }
+}
+
+/// The sums above 0, most first.
+fn ranking(alloc: Global, sums: &[u64]) -> Result<Vec<Sum>, AllocError> {
+    let mut ranks = Vec::new(alloc);
+    for (number, amount) in (0u32..65_536).zip(sums.iter()) {
+        if *amount > 0 {
+            ranks.push((u64::MAX.saturating_sub(*amount), number))?;
+        }
+    }
+    ranks.sort_unstable();
+    let mut ranking = Vec::new(alloc);
+    for (rank, number) in &ranks {
+        ranking.push(Sum {
+            number: *number,
+            amount: u64::MAX.saturating_sub(*rank),
+        })?;
+    }
+    Ok(ranking)
+}
+
+/// What the history tells of a query.
+#[derive(Drop)]
+pub struct QueryTrace {
+    query: TxnId,
+    items: Vec<ItemState>,
+    ends: Vec<End>,
+    /// What the query was charged, by the number of the update and by that of the item.
+    by_update: Vec<u64>,
+    by_item: Vec<u64>,
+    /// Each value that the query read of an item, once.
+    pub observed_reads: Vec<ObservedRead>,
+    /// The first charges, and how many there are of all.
+    pub charges: Vec<Charge>,
+    pub charge_count: u64,
+    /// Whether charges came that are not kept.
+    is_cut: bool,
+    /// How many updates committed before the query.
+    pub committed: u64,
+    /// The place of the query's begin in the log.
+    pub begin: Option<usize>,
+    pub is_strict: bool,
+    has_ended: bool,
+}
+
+/// The items before the first entry.
+fn openings(alloc: Global, history: &History<Weighted>) -> Result<Vec<ItemState>, AllocError> {
+    let mut items = Vec::new(alloc);
+    for number in 0..history.items() {
+        let value = history.opening(ItemId(number));
+        items.push(ItemState {
+            current: value,
+            committed: value,
+            writer: None,
+            keeper: None,
+            reads: 0,
+        })?;
+    }
+    Ok(items)
+}
+
+impl QueryTrace {
+    fn new(
+        alloc: Global,
+        history: &History<Weighted>,
+        query: TxnId,
+    ) -> Result<QueryTrace, AllocError> {
+        Ok(QueryTrace {
+            query,
+            items: openings(alloc, history)?,
+            ends: vec![in alloc; End::Later; MAX_NUMBERS]?,
+            by_update: vec![in alloc; 0u64; MAX_NUMBERS]?,
+            by_item: vec![in alloc; 0u64; history.items() as usize]?,
+            observed_reads: Vec::new(alloc),
+            charges: Vec::new(alloc),
+            charge_count: 0,
+            is_cut: false,
+            committed: 0,
+            begin: None,
+            is_strict: false,
+            has_ended: false,
+        })
+    }
+
+    /// How a transaction ended.
+    pub fn end(&self, txn: TxnId) -> End {
+        end_in(&self.ends, txn)
+    }
+
+    /// Notes a charge, where it is above 0.
+    fn charge(&mut self, charge: Charge) -> Result<(), AllocError> {
+        if charge.amount == 0 {
+            return Ok(());
+        }
+        add_to(&mut self.by_update, charge.update.0, charge.amount);
+        add_to(&mut self.by_item, charge.item.0, charge.amount);
+        self.charge_count = self.charge_count.saturating_add(1);
+        self.keep(charge)
+    }
+
+    /// Keeps a charge, if there is room.
+    fn keep(&mut self, charge: Charge) -> Result<(), AllocError> {
+        let is_cut = self.is_cut;
+        if let Some(last) = self.charges.last_mut() {
+            if !is_cut && last.is_like(&charge) {
+                last.take_in(&charge);
+                return Ok(());
+            }
+        }
+        if self.charges.len() < MAX_CHARGES {
+            self.charges.push(charge)?;
+        } else {
+            self.is_cut = true;
+        }
+        Ok(())
+    }
+
+    /// Notes a value that the query read.
+    fn see(&mut self, seen: ObservedRead) -> Result<(), AllocError> {
+        for observed in &mut self.observed_reads {
+            if observed.item == seen.item
+                && observed.value == seen.value
+                && observed.writer == seen.writer
+                && observed.is_dirty == seen.is_dirty
+            {
+                observed.count = observed.count.saturating_add(1);
+                return Ok(());
+            }
+        }
+        self.observed_reads.push(seen)?;
+        Ok(())
+    }
+
+    /// Notes that an update wrote another value over its own, which the query may have read. All sights are looked at, so
+    /// this is for such writes alone: where updates write each item once, it never comes.
+    fn overwrite(&mut self, item: ItemId, update: TxnId, value: i64) {
+        for observed in &mut self.observed_reads {
+            if observed.item == item && observed.writer == Some(update) {
+                observed.overwritten = observed.value != value;
+            }
+        }
+    }
+
+    /// Notes an accepted read of the query.
+    fn note_read(
+        &mut self,
+        metric: &Weighted,
+        place: usize,
+        item: ItemId,
+        value: i64,
+    ) -> Result<(), AllocError> {
+        let Some(state) = self.items.get_mut(item.0 as usize) else {
+            return Ok(());
+        };
+        state.settle(&self.ends);
+        state.reads = state.reads.saturating_add(1);
+        let now = *state;
+        if let Some(update) = now.writer {
+            self.charge(Charge {
+                update,
+                item,
+                amount: gap(metric, item, now.current, now.committed),
+                count: 1,
+                cause: Cause::Read,
+                old: now.committed,
+                new: now.current,
+                place,
+            })?;
+        }
+        self.see(ObservedRead {
+            item,
+            value,
+            writer: now.writer.or(now.keeper),
+            is_dirty: now.writer.is_some(),
+            count: 1,
+            overwritten: false,
+            place,
+        })
+    }
+
+    /// Notes an accepted write.
+    fn note_write(
+        &mut self,
+        metric: &Weighted,
+        place: usize,
+        update: TxnId,
+        item: ItemId,
+        value: i64,
+    ) -> Result<(), AllocError> {
+        let Some(state) = self.items.get_mut(item.0 as usize) else {
+            return Ok(());
+        };
+        state.settle(&self.ends);
+        let before = *state;
+        state.writer = Some(update);
+        state.current = value;
+        if before.reads == 0 {
+            return Ok(());
+        }
+        if before.writer == Some(update) {
+            self.overwrite(item, update, value);
+        }
+        if self.has_ended {
+            return Ok(());
+        }
+        let each = gap(metric, item, value, before.current);
+        self.charge(Charge {
+            update,
+            item,
+            amount: each.saturating_mul(before.reads),
+            count: 1,
+            cause: Cause::Write {
+                reads: before.reads,
+            },
+            old: before.current,
+            new: value,
+            place,
+        })
+    }
+
+    /// Notes an accepted commit, of a query or an update.
+    fn note_commit(&mut self, txn: TxnId, is_query: bool) {
+        if txn == self.query {
+            self.has_ended = true;
+        }
+        if !is_query && !self.has_ended {
+            self.committed = self.committed.saturating_add(1);
+            self.note_end(txn, End::Committed);
+        }
+    }
+
+    /// Notes an accepted abort.
+    fn note_abort(&mut self, txn: TxnId) {
+        if txn == self.query {
+            self.has_ended = true;
+        }
+        self.note_end(txn, End::Aborted);
+    }
+
+    fn note_end(&mut self, txn: TxnId, end: End) {
+        if let Some(place) = self.ends.get_mut(txn.0 as usize) {
+            *place = end;
+        }
+    }
+
+    /// Notes the begin of a transaction.
+    fn note_begin(&mut self, place: usize, txn: TxnId, is_strict: bool) {
+        if txn == self.query {
+            self.begin = Some(place);
+            self.is_strict = is_strict;
+        }
+    }
+
+    fn note(
+        &mut self,
+        history: &History<Weighted>,
+        place: usize,
+        entry: Entry,
+    ) -> Result<(), AllocError> {
+        if entry.is_refused() {
+            return Ok(());
+        }
+        match (entry.event, entry.reply) {
+            (Event::BeginQuery { strict, .. }, Reply::Begun(txn)) => {
+                self.note_begin(place, txn, strict);
+            }
+            (Event::Write { txn, item, value }, _) => {
+                self.note_write(history.metric(), place, txn, item, value)?;
+            }
+            (Event::Read { txn, item }, Reply::Value(value)) if txn == self.query => {
+                self.note_read(history.metric(), place, item, value)?;
+            }
+            (Event::Commit { txn }, _) => {
+                let is_query = history.facts(txn).is_some_and(|facts| facts.query);
+                self.note_commit(txn, is_query);
+            }
+            (Event::Abort { txn }, _) => self.note_abort(txn),
+            _ => {}
+        }
+        Ok(())
+    }
+
+    /// What updates were charged to the query, most first.
+    pub fn sums_by_update(&self, alloc: Global) -> Result<Vec<Sum>, AllocError> {
+        ranking(alloc, &self.by_update)
+    }
+
+    /// What the query was charged on items, most first.
+    pub fn sums_by_item(&self, alloc: Global) -> Result<Vec<Sum>, AllocError> {
+        ranking(alloc, &self.by_item)
+    }
+
+    /// The sum of all charges.
+    pub fn charge_sum(&self) -> u64 {
+        let mut sum = 0u64;
+        for amount in &self.by_item {
+            sum = sum.saturating_add(*amount);
+        }
+        sum
+    }
+}
+
+/// What the history tells of a query.
+pub fn trace_of(
+    alloc: Global,
+    history: &History<Weighted>,
+    query: TxnId,
+) -> Result<QueryTrace, AllocError> {
+    let mut trace = QueryTrace::new(alloc, history, query)?;
+    for place in 0..history.log().len() {
+        if let Some(entry) = history.log().get(place) {
+            trace.note(history, place, entry)?;
+        }
+    }
+    Ok(trace)
+}

@@ -1,0 +1,19 @@
+//! What a script answers to one who asks for one of its queries: its names, its history, and what the audit finds.
+
+use esr_audit::Finding;
+use esr_history::History;
+use esr_items::Weighted;
+use esr_report::Names;
+
+/// What a script tells of one of its queries.
+#[derive(Drop)]
+pub struct AuditedQuery {
+    /// The names of the items, in the order of their numbers, from 0.
+    pub items: Names,
+    /// The names of the transactions, in the order of their numbers, from 1.
+    pub transactions: Names,
+    /// The history after the whole script.
+    pub history: History<Weighted>,
+    /// What the audit finds of the query.
+    pub finding: Finding,
+}

@@ -1,6 +1,0 @@
--- What holds at each turn of the loop in `are_same_pairs`.
-use Rattle.std.proofs.Common.{◌≡◌, take}
-use Rattle.esr_work.proofs.comparison.are_same_pairs.Given as goal
-
-abbrev pub invariant-loop-i : goal.invariant-loop-i
-invariant-loop-i l = take l.i l.a ≡ take l.i l.b
