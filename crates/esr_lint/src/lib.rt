@@ -24,4 +24,4 @@ pub use listing::{Listing, Unlisted};
 pub use observer::{End, Observer, TxnStatus, Unobserved};
 pub use place::{Place, Source};
 pub use reason::{Finding, NumberFault, Reason, find_reason};
-pub use reporter::{ErrorReporter, NoQuery, When};
+pub use reporter::{ErrorReporter, NotFound, Reports, Sought};

@@ -1,0 +1,29 @@
+//! Decides which additional output goes to standard error.
+
+use esr_cli::Progress;
+use std::io::IsTerminal;
+
+/// Which additional output goes to standard error.
+#[derive(Clone, Copy)]
+pub struct Console {
+    /// Whether a progress indicator is shown.
+    pub progress: bool,
+    /// Whether standard error is a terminal. Then lines with errors are reported as they are read, and a fault is
+    /// explained by further lines.
+    pub is_terminal: bool,
+}
+
+impl Console {
+    pub fn new(progress: Progress, stderr: &impl IsTerminal) -> Console {
+        let is_terminal = stderr.is_terminal();
+        let progress = match progress {
+            Progress::AtATerminal => is_terminal,
+            Progress::Always => true,
+            Progress::Never => false,
+        };
+        Console {
+            progress,
+            is_terminal,
+        }
+    }
+}
