@@ -18,7 +18,7 @@ use esr_commands::{
     audit_script, check, execute_command, fail, is_closed_pipe, line_at_fault, list_faults,
     open_file, report_fault,
 };
-use esr_drive::{DriveFault, Form, NoGate, drive};
+use esr_drive::{DriveFault, DriveOutput, NoGate, drive};
 use esr_explain::Explaining;
 use esr_explore::{ExploreFault, Measure, Search, explore};
 use esr_history::Watched;
@@ -205,11 +205,11 @@ fn do_task<
         Task::Drive {
             workers: _,
             script: true,
-        } => drive_file(rt, console, source, input, Form::Script),
+        } => drive_file(rt, console, source, input, DriveOutput::Script),
         Task::Drive {
             workers,
             script: false,
-        } => drive_file(rt, console, source, input, Form::Text { workers }),
+        } => drive_file(rt, console, source, input, DriveOutput::Text { workers }),
         Task::Explore { seeds, all, worst } => match search_of(seeds, all, worst) {
             Ok(search) => explore_file(rt, console, source, input, search),
             Err(mistake) => fail(rt, &mistake, 2),
@@ -294,7 +294,7 @@ fn drive_file<R: Print + Eprint + AllocGlobal + Threads + Wait + Sync, I: Read +
     console: Console,
     source: Source<'_>,
     input: I,
-    form: Form,
+    form: DriveOutput,
 ) -> u8
     requires { HasWorkers form }
 {

@@ -4,7 +4,7 @@
 ghost use Rattle.std.specs.Prelude.{◌≡◌, false};
 ghost use Rattle.esr_base.specs.Watch.{failed};
 
-use crate::claim::{Claim, claim_of};
+use crate::claim::{BundleClaim, claim_of};
 use crate::console::Console;
 use crate::detail::detail_of;
 use crate::fault::{InFile, RunHelp, fail, report_fault};
@@ -210,7 +210,7 @@ fn write_claim(
     let line = claim.line(alloc, query)?;
     let mut writer = Watched::new(Output::new(alloc, io::writer(rt), false));
     Ok(match writer.send_all(&line) {
-        Ok(()) => Ok(matches!(claim, Claim::Of(_))),
+        Ok(()) => Ok(matches!(claim, BundleClaim::Of(_))),
         Err(_) if writer.inner().is_closed() => Err(1),
         Err(_) => Err(fail(rt, &JudgeFault::Write, 1)),
     })

@@ -6,7 +6,7 @@
 //! allocated before a line has an error or a name is not found. A failure to report is not an error of the run.
 
 use crate::answer::{fault_of, is_error};
-use crate::observer::{End, Observer, TxnStatus};
+use crate::observer::{Observer, TxnEnd, TxnSummary};
 use crate::place::Source;
 use std::alloc::{AllocError, Global};
 use std::fmt;
@@ -44,10 +44,10 @@ impl<'a> Sought<'a> {
     }
 
     /// Returns whether a transaction with this status is of the kind that is looked up.
-    fn accepts(self, status: TxnStatus) -> bool {
+    fn accepts(self, status: TxnSummary) -> bool {
         match self {
             Sought::Nothing => false,
-            Sought::CommittedQuery(_) => status.is_query && status.end == End::Committed,
+            Sought::CommittedQuery(_) => status.is_query && status.end == TxnEnd::Committed,
             Sought::Query(_) => status.is_query,
             Sought::Transaction(_) => true,
         }
@@ -91,7 +91,7 @@ pub struct ErrorReporter<'a, E> {
     sought: Sought<'a>,
     faults: u64,
     kept: Vec<Kept>,
-    found: Option<TxnStatus>,
+    found: Option<TxnSummary>,
     candidates: u64,
     names: Vec<u8>,
 }
@@ -209,7 +209,7 @@ impl<E: Eprint> Observer for ErrorReporter<'_, E> {
         }
     }
 
-    fn see_transaction(&mut self, name: &str, status: TxnStatus) {
+    fn see_transaction(&mut self, name: &str, status: TxnSummary) {
         if self.sought.name().is_some_and(|sought| sought == name) {
             self.found = Some(status);
         }
@@ -254,36 +254,36 @@ impl fmt::Display for Count {
 #[derive(Clone, Copy)]
 pub struct NotFound<'a> {
     sought: Sought<'a>,
-    status: Option<TxnStatus>,
+    status: Option<TxnSummary>,
     candidates: u64,
     names: &'a [u8],
 }
 
 /// Returns why a transaction with this status is not a committed query.
-fn reason_of(status: Option<TxnStatus>) -> &'static str {
+fn reason_of(status: Option<TxnSummary>) -> &'static str {
     match status {
         None => "does not exist",
         Some(
-            TxnStatus {
+            TxnSummary {
                 is_query: false,
                 ..
             },
         ) => "is an update",
         Some(
-            TxnStatus {
-                end: End::Active,
+            TxnSummary {
+                end: TxnEnd::Active,
                 ..
             },
         ) => "is still active",
         Some(
-            TxnStatus {
-                end: End::Aborted,
+            TxnSummary {
+                end: TxnEnd::Aborted,
                 ..
             },
         ) => "was aborted",
         Some(
-            TxnStatus {
-                end: End::Committed,
+            TxnSummary {
+                end: TxnEnd::Committed,
                 ..
             },
         ) => "was committed",
