@@ -1,8 +1,8 @@
-//! Many runs of the blocks of a drive file on one thread: in all orders of their lines, or in drawn ones, and what came
-//! of them.
+//! Runs the blocks of a drive file many times on one thread, in all interleavings of their lines or in random ones, and
+//! summarizes the outcomes.
 //!
-//! A drive shows what threads did once. Here each run is a list of turns and nothing else, so that it can be had again,
-//! and all of them can be gone through. What is told of a run is of a legal history, in which each entry answers the
+//! A drive shows one schedule of its threads. Here a run is determined by its list of turns, so it can be reproduced,
+//! and all schedules can be enumerated. Each summary describes a legal history in which each entry is the reply to the
 //! next line of a block.
 #![tactic(auto)]
 

@@ -1,9 +1,9 @@
-//! In which order blocks of lines take their turns: all orders, so many drawn ones, and how many there are.
+//! Enumerates the interleavings of blocks of lines: all of them, a number of random ones, or only their count.
 //!
-//! An order is a list of block numbers, in which each block stands as often as it has lines. All orders are made turn by
-//! turn: each that begins an order, longer by each block that has a line left. A walk from an order to the next greater
-//! one would need no list of them, but more proof; with at most 100,000 orders of at most 1,000 turns the list is small.
-//! That a drawn order is as likely as another is promised by nothing.
+//! An interleaving is a list of block numbers in which each block occurs once for each of its lines. All interleavings
+//! are built by extending each prefix with every block that has a line left. A successor function would avoid the list
+//! but needs more proof; with at most 100,000 interleavings of at most 1,000 turns the list is small. No clause states
+//! that a random interleaving is uniformly distributed.
 #![tactic(auto)]
 
 mod count;
