@@ -17,7 +17,7 @@ use esr_commands::{
     DriveText, Question, RenderQuery, RenderScript, RunScript, WriteBundle, audit_script, check,
     execute_command, fail, is_shown, line_at_fault, list_faults, open_file,
 };
-use esr_drive::{Form, NoGate, drive};
+use esr_drive::{DriveOutput, NoGate, drive};
 use esr_explain::Explaining;
 use esr_explore::{ExploreFault, Measure, Search, explore};
 use esr_history::Watched;
@@ -168,11 +168,11 @@ fn do_task<
         Task::Drive {
             workers: _,
             script: true,
-        } => drive_file(rt, source, input, Form::Script),
+        } => drive_file(rt, source, input, DriveOutput::Script),
         Task::Drive {
             workers,
             script: false,
-        } => drive_file(rt, source, input, Form::Text { workers }),
+        } => drive_file(rt, source, input, DriveOutput::Text { workers }),
         Task::Explore { seeds, all, worst } => match search_of(seeds, all, worst) {
             Ok(search) => explore_file(rt, source, input, search),
             Err(mistake) => fail(rt, &mistake, 2),
@@ -254,7 +254,7 @@ fn drive_file<R: Print + Eprint + AllocGlobal + Threads + Wait + Sync, I: Read +
     rt: &R,
     source: Source<'_>,
     input: I,
-    form: Form,
+    form: DriveOutput,
 ) -> u8
     requires { HasWorkers form }
 {

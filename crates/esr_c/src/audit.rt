@@ -11,7 +11,7 @@ ghost use Rattle.esr_c.specs.Answers.{IsTotal, IsFound, IsCounted, IsBundleOf, I
 use crate::engine::Status;
 use esr_audit::{AuditError, Finding};
 use esr_bundle::to_json;
-use esr_engine::Engine;
+use esr_engine::EmbeddedEngine;
 use esr_history::TxnId;
 use std::alloc::{AllocError, Global};
 
@@ -34,7 +34,7 @@ pub struct EsrFinding {
     pub count: usize,
 }
 
-pub(crate) fn totals_of(engine: &Engine) -> EsrTotals
+pub(crate) fn totals_of(engine: &EmbeddedEngine) -> EsrTotals
     ensures total { IsTotal result engine.now }
     ensures limits { IsWithinLimits weighted engine.now }
 {
@@ -79,7 +79,7 @@ pub(crate) fn hand_out<T: Copy>(room: &mut [T], count: &mut usize, list: &[T]) -
 
 pub(crate) fn show_values(
     alloc: Global,
-    engine: &Engine,
+    engine: &EmbeddedEngine,
     values: &mut [i64],
     count: &mut usize,
 ) -> Status
@@ -104,7 +104,11 @@ fn numbers(alloc: Global, txns: &[TxnId]) -> Result<Vec<u32>, AllocError>
 }
 
 /// The audit of a query, or why there is none.
-pub(crate) fn find(alloc: Global, engine: &mut Engine, query: u32) -> Result<Finding, Status>
+pub(crate) fn find(
+    alloc: Global,
+    engine: &mut EmbeddedEngine,
+    query: u32,
+) -> Result<Finding, Status>
     ensures same { engine.new ≡ engine.old }
     ensures query { IfOk result (λ f. f.query.0 ≡ query) }
     ensures ok { IfOk result (IsFindingOf weighted engine.old query) }
@@ -120,7 +124,7 @@ pub(crate) fn find(alloc: Global, engine: &mut Engine, query: u32) -> Result<Fin
 
 pub(crate) fn show_finding(
     alloc: Global,
-    engine: &mut Engine,
+    engine: &mut EmbeddedEngine,
     query: u32,
     before: &mut [u32],
     finding: &mut EsrFinding,
@@ -148,7 +152,7 @@ pub(crate) fn show_finding(
 }
 
 /// The bundle of a query, or why there is none.
-fn bundle(alloc: Global, engine: &mut Engine, query: u32) -> Result<Vec<u8>, Status>
+fn bundle(alloc: Global, engine: &mut EmbeddedEngine, query: u32) -> Result<Vec<u8>, Status>
     ensures same { engine.new ≡ engine.old }
     ensures ok { IfOk result (λ v. IsBundleOf engine.old query v.items) }
     ensures refused { IsErrOf result Status.NotACommittedQuery ↔ (is_committed_query engine.old query ≡ false) }
@@ -164,7 +168,7 @@ fn bundle(alloc: Global, engine: &mut Engine, query: u32) -> Result<Vec<u8>, Sta
 
 pub(crate) fn show_bundle(
     alloc: Global,
-    engine: &mut Engine,
+    engine: &mut EmbeddedEngine,
     query: u32,
     bytes: &mut [u8],
     count: &mut usize,

@@ -15,7 +15,7 @@ use crate::audit::{find, hand_out};
 use crate::engine::Status;
 use crate::past::{items, transactions};
 use esr_audit::Finding;
-use esr_engine::Engine;
+use esr_engine::EmbeddedEngine;
 use esr_explain::explanation;
 use esr_history::History;
 use esr_items::Weighted;
@@ -29,7 +29,7 @@ fn explain(
     alloc: Global,
     items: &Names,
     transactions: &Names,
-    engine: &Engine,
+    engine: &EmbeddedEngine,
     finding: &Finding,
     query: u32,
 ) -> Result<Vec<u8>, Status>
@@ -47,7 +47,7 @@ fn explain(
 /// The explanation of a query, or why there is none.
 fn explanation_text(
     alloc: Global,
-    engine: &mut Engine,
+    engine: &mut EmbeddedEngine,
     query: u32,
     names: &[u8],
 ) -> Result<Vec<u8>, Status>
@@ -92,7 +92,7 @@ fn draw<'a>(
 /// The picture of a query, or why there is none.
 fn picture_text(
     alloc: Global,
-    engine: &mut Engine,
+    engine: &mut EmbeddedEngine,
     query: u32,
     names: &[u8],
 ) -> Result<Vec<u8>, Status>
@@ -114,7 +114,7 @@ fn picture_text(
 
 pub(crate) fn show_explanation(
     alloc: Global,
-    engine: &mut Engine,
+    engine: &mut EmbeddedEngine,
     query: u32,
     names: &[u8],
     bytes: &mut [u8],
@@ -140,7 +140,7 @@ pub(crate) fn show_explanation(
 
 pub(crate) fn show_picture(
     alloc: Global,
-    engine: &mut Engine,
+    engine: &mut EmbeddedEngine,
     query: u32,
     names: &[u8],
     bytes: &mut [u8],

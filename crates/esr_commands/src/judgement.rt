@@ -4,7 +4,7 @@
 ghost use Rattle.std.specs.Prelude.{◌≡◌, false};
 ghost use Rattle.esr_base.specs.Watch.{failed};
 
-use crate::claim::{Claim, claim_of};
+use crate::claim::{BundleClaim, claim_of};
 use crate::detail::detail_of;
 use crate::fail;
 use crate::fault::RunText;
@@ -161,7 +161,7 @@ fn judge_claim<I: Read + Drop>(
         return fail(rt, &"out of memory", 1);
     };
     match write_claim(rt, alloc, asked, bytes, query) {
-        Ok(Some(Claim::Of(_))) => 0,
+        Ok(Some(BundleClaim::Of(_))) => 0,
         Ok(Some(_)) => {
             if verbose {
                 report_detail(rt, alloc, Some(bytes));
@@ -180,7 +180,7 @@ fn write_claim(
     asked: &AuditedQuery,
     bytes: &[u8],
     query: &str,
-) -> Result<Option<Claim>, AllocError> {
+) -> Result<Option<BundleClaim>, AllocError> {
     let claim = claim_of(alloc, asked, bytes)?;
     let line = claim.line(alloc, query)?;
     let mut writer = Watched::new(io::writer(rt));

@@ -16,7 +16,7 @@ mod meter;
 mod open;
 mod output;
 
-pub use claim::{Claim, claim_of};
+pub use claim::{BundleClaim, claim_of};
 pub use command::{
     Command, RenderQuery, RenderScript, RunScript, WriteBundle, audit_script, execute_command,
 };

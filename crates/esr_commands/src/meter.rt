@@ -6,7 +6,7 @@
 //! thread alone. No clause specifies the text, and a failure to write it is not an error of the run.
 
 use esr_cli::Progress;
-use esr_lint::{ErrorReporter, NoQuery, Observer, TxnStatus, is_error};
+use esr_lint::{ErrorReporter, NoQuery, Observer, TxnSummary, is_error};
 use esr_script::Gate;
 use std::fmt::Display;
 use std::io::IsTerminal;
@@ -135,7 +135,7 @@ impl<R: Clock + Eprint, E: Eprint> Observer for LineObserver<'_, '_, '_, R, E> {
         }
     }
 
-    fn see_transaction(&mut self, name: &str, status: TxnStatus) {
+    fn see_transaction(&mut self, name: &str, status: TxnSummary) {
         self.reporter.see_transaction(name, status);
     }
 

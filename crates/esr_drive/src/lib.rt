@@ -13,5 +13,5 @@ mod threads;
 
 pub use esr_board::{Gate, NoGate};
 pub use esr_plan::DriveFault;
-pub use form::Form;
+pub use form::DriveOutput;
 pub use pipeline::drive;

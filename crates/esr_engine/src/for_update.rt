@@ -7,11 +7,11 @@
 ghost use Rattle.std.specs.Prelude.{◌≡◌, ◌↔◌, true, IfOk, IfErr, OnOk, IsErrOf};
 ghost use Rattle.esr_engine.specs.ForUpdate.{reply_for_update, after_for_update, has_lock, lock_event, IsHeldValue, IsPartlyDone, no_pair};
 
-use crate::engine::{Engine, Unanswered};
+use crate::engine::{EmbeddedEngine, Unanswered};
 use esr_history::{Event, MAX_ENTRIES, Reply, TxnId};
 use esr_items::ItemId;
 
-impl Engine {
+impl EmbeddedEngine {
     /// Whether a transaction holds the write lock on an item.
     fn has_lock(&self, t: TxnId, x: ItemId) -> bool
         ensures { result ≡ has_lock self.now t.0 x.0 }

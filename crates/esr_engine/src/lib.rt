@@ -17,7 +17,7 @@ mod for_update;
 mod opening;
 mod renewals;
 
-pub use account::{Account, TxnStatus};
-pub use engine::{Counts, Engine, Unanswered};
+pub use account::{AccountView, TxnStatus};
+pub use engine::{Counts, EmbeddedEngine, Unanswered};
 pub use esr_history::Kind;
 pub use opening::OpenError;

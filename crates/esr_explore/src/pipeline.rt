@@ -169,7 +169,7 @@ fn all_summaries(
 
 /// What a search finds: the orders that were gone through, and what is told of each run.
 #[derive(Drop)]
-struct Found {
+struct SearchResult {
     ways: Ways,
     summaries: Vec<RunSummary>,
 }
@@ -182,7 +182,7 @@ fn search_orders(
     queries: &[Query<'_>],
     counts: &[u32],
     seeds: Option<u64>,
-) -> Result<Found, ExploreFault>
+) -> Result<SearchResult, ExploreFault>
     requires sound { IsSound drive_plan.now }
     requires counts { counts.now ≡ line_counts (map (λ b. b.items) drive_plan.now.blocks.items) }
     ensures all { seeds ≡ None → IfOk result (λ found. AreRunSummaries drive_plan.now.values.items
@@ -197,7 +197,7 @@ fn search_orders(
 {
     let ways = ways_of(alloc, counts, seeds)?;
     let summaries = all_summaries(alloc, drive_plan, queries, &ways, counts)?;
-    Ok(Found { ways, summaries })
+    Ok(SearchResult { ways, summaries })
 }
 
 /// What is written of the runs that these tales are of.
@@ -256,7 +256,7 @@ fn text_of(
 {
     let counts = line_counts(alloc, drive_plan.blocks.as_slice())?;
     let queries = queries_of(alloc, drive_plan.blocks.as_slice())?;
-    let Found { ways, summaries } = search_orders(
+    let SearchResult { ways, summaries } = search_orders(
         alloc,
         drive_plan,
         &queries,

@@ -19,10 +19,10 @@ mod place;
 mod reason;
 mod reporter;
 
-pub use answer::{Fault, fault_of, is_error};
+pub use answer::{FaultyLine, fault_of, is_error};
 pub use kept_line::KeptLine;
 pub use listing::{Listing, Unlisted};
-pub use observer::{End, Observer, TxnStatus, Unobserved};
+pub use observer::{Observer, TxnEnd, TxnSummary, Unobserved};
 pub use place::{Place, Source};
-pub use reason::{Finding, NumberFault, Reason, find_reason};
+pub use reason::{Diagnosis, NumberFault, Reason, find_reason};
 pub use reporter::{ErrorReporter, NoQuery, When};

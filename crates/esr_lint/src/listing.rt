@@ -1,7 +1,7 @@
 //! Lists all that is wrong in a script, a line for each: `FILE:LINE:COLUMN: REASON`.
 
 use crate::answer::mistake_of;
-use crate::observer::{End, Observer, TxnStatus};
+use crate::observer::{Observer, TxnEnd, TxnSummary};
 use crate::place::Source;
 use std::alloc::Global;
 use std::fmt::Write as _;
@@ -113,8 +113,8 @@ impl<W: Write> Observer for Listing<'_, W> {
         self.note(listed);
     }
 
-    fn see_transaction(&mut self, name: &str, status: TxnStatus) {
-        if status.end != End::Active || self.failed.is_some() {
+    fn see_transaction(&mut self, name: &str, status: TxnSummary) {
+        if status.end != TxnEnd::Active || self.failed.is_some() {
             return;
         }
         let source = self.source;

@@ -2,7 +2,7 @@
 
 /// How a transaction ended, or that it has not.
 #[derive(Clone, Copy)]
-pub enum End {
+pub enum TxnEnd {
     Active,
     Committed,
     Aborted,
@@ -10,9 +10,9 @@ pub enum End {
 
 /// What became of a transaction.
 #[derive(Clone, Copy)]
-pub struct TxnStatus {
+pub struct TxnSummary {
     pub is_query: bool,
-    pub end: End,
+    pub end: TxnEnd,
 }
 
 /// Looks on while the lines of a script are answered. Nothing is promised of it but that it returns.
@@ -22,7 +22,7 @@ pub trait Observer {
 
     /// A transaction after the last line, in the order of the begins. They are shown where a query that was asked for
     /// is no committed one, and at the end of a listing.
-    fn see_transaction(&mut self, name: &str, status: TxnStatus);
+    fn see_transaction(&mut self, name: &str, status: TxnSummary);
 
     /// No more lines come. What the script leads to is not written yet.
     fn see_end(&mut self);
@@ -35,7 +35,7 @@ pub struct Unobserved;
 impl Observer for Unobserved {
     fn see_line(&mut self, _number: u64, _line: &[u8], _answer: &[u8]) {}
 
-    fn see_transaction(&mut self, _name: &str, _status: TxnStatus) {}
+    fn see_transaction(&mut self, _name: &str, _status: TxnSummary) {}
 
     fn see_end(&mut self) {}
 }

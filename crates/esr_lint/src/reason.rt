@@ -5,7 +5,7 @@
 //! reading of lines itself knows no reasons: it has one spelling for each command, and says no more than that a line
 //! has another.
 
-use crate::forms::{Form, Slot, first_words, form_of};
+use crate::forms::{CommandSyntax, Slot, first_words, form_of};
 use crate::near::nearest;
 use std::fmt;
 
@@ -48,7 +48,7 @@ pub enum Reason<'a> {
 
 /// A reason, and the column of the first byte that it is about, from 1.
 #[derive(Clone, Copy)]
-pub struct Finding<'a> {
+pub struct Diagnosis<'a> {
     pub column: usize,
     pub reason: Reason<'a>,
 }
@@ -65,7 +65,7 @@ fn encoding_fault(line: &[u8]) -> Option<Reason<'_>> {
 }
 
 /// What is wrong with the blanks between words.
-fn blank_fault(line: &[u8]) -> Option<Finding<'_>> {
+fn blank_fault(line: &[u8]) -> Option<Diagnosis<'_>> {
     let mut before = b' ';
     let mut column = 1usize;
     for byte in line {
@@ -75,14 +75,14 @@ fn blank_fault(line: &[u8]) -> Option<Finding<'_>> {
             } else {
                 Reason::TwoBlanks
             };
-            return Some(Finding { column, reason });
+            return Some(Diagnosis { column, reason });
         }
         before = *byte;
         column = column.saturating_add(1);
     }
     if before == b' ' {
         let reason = Reason::BlankBehind;
-        return Some(Finding {
+        return Some(Diagnosis {
             column: line.len(),
             reason,
         });
@@ -91,13 +91,13 @@ fn blank_fault(line: &[u8]) -> Option<Finding<'_>> {
 }
 
 /// What is wrong with the bytes of a line, whatever its words are.
-fn byte_fault(line: &[u8]) -> Option<Finding<'_>> {
+fn byte_fault(line: &[u8]) -> Option<Diagnosis<'_>> {
     if let Some(reason) = encoding_fault(line) {
-        return Some(Finding { column: 1, reason });
+        return Some(Diagnosis { column: 1, reason });
     }
     if line.ends_with(b"\r") {
         let reason = Reason::CarriageReturn;
-        return Some(Finding {
+        return Some(Diagnosis {
             column: line.len(),
             reason,
         });
@@ -106,16 +106,16 @@ fn byte_fault(line: &[u8]) -> Option<Finding<'_>> {
 }
 
 /// The first byte that no command has.
-fn odd_byte(line: &[u8]) -> Option<Finding<'_>> {
+fn odd_byte(line: &[u8]) -> Option<Diagnosis<'_>> {
     let mut column = 1usize;
     for byte in line {
         match *byte {
-            b'\t' => return Some(Finding {
+            b'\t' => return Some(Diagnosis {
                 column,
                 reason: Reason::Tab,
             }),
             b' '..=b'~' => {}
-            other => return Some(Finding {
+            other => return Some(Diagnosis {
                 column,
                 reason: Reason::NotAscii(other),
             }),
@@ -221,19 +221,19 @@ fn slot_fault<'a>(slot: Slot, word: &'a [u8]) -> Option<Reason<'a>> {
 }
 
 /// What is wrong with the words behind the first one.
-fn words_fault<'a>(words: &'a [u8], form: Form) -> Finding<'a> {
+fn words_fault<'a>(words: &'a [u8], form: CommandSyntax) -> Diagnosis<'a> {
     let mut column = form.word.len().saturating_add(2);
     let mut last = column;
     let mut slots = form.slots.iter();
     for word in words.split(|b| *b == b' ') {
         if word.starts_with(b"#") {
-            return Finding {
+            return Diagnosis {
                 column,
                 reason: Reason::Comment,
             };
         }
         let Some(slot) = slots.next() else {
-            return Finding {
+            return Diagnosis {
                 column,
                 reason: Reason::Extra {
                     word,
@@ -242,17 +242,17 @@ fn words_fault<'a>(words: &'a [u8], form: Form) -> Finding<'a> {
             };
         };
         if let Some(reason) = slot_fault(*slot, word) {
-            return Finding { column, reason };
+            return Diagnosis { column, reason };
         }
         last = column;
         column = column.saturating_add(word.len()).saturating_add(1);
     }
     match slots.next() {
-        None | Some(Slot::Weight | Slot::Strict) => Finding {
+        None | Some(Slot::Weight | Slot::Strict) => Diagnosis {
             column: last,
             reason: Reason::StrictUpdate,
         },
-        Some(slot) => Finding {
+        Some(slot) => Diagnosis {
             column,
             reason: Reason::Missing {
                 slot: *slot,
@@ -263,17 +263,17 @@ fn words_fault<'a>(words: &'a [u8], form: Form) -> Finding<'a> {
 }
 
 /// What is wrong with the words of a line.
-fn line_fault(line: &[u8]) -> Finding<'_> {
+fn line_fault(line: &[u8]) -> Diagnosis<'_> {
     let end = line.iter().position(|b| *b == b' ').unwrap_or(line.len());
     let word = line.get(..end).unwrap_or(line);
     if word == b"session".as_slice() {
-        return Finding {
+        return Diagnosis {
             column: 1,
             reason: Reason::Session,
         };
     }
     let Some(form) = form_of(word) else {
-        return Finding {
+        return Diagnosis {
             column: 1,
             reason: Reason::UnknownCommand(word),
         };
@@ -286,12 +286,12 @@ fn line_fault(line: &[u8]) -> Finding<'_> {
                     slot: *slot,
                     text: form.text,
                 };
-                Finding {
+                Diagnosis {
                     column: end.saturating_add(1),
                     reason,
                 }
             }
-            None => Finding {
+            None => Diagnosis {
                 column: 1,
                 reason: Reason::UnknownCommand(word),
             },
@@ -300,7 +300,7 @@ fn line_fault(line: &[u8]) -> Finding<'_> {
 }
 
 /// Why a line that is no command is none.
-pub fn find_reason(line: &[u8]) -> Finding<'_> {
+pub fn find_reason(line: &[u8]) -> Diagnosis<'_> {
     if let Some(finding) = byte_fault(line) {
         return finding;
     }

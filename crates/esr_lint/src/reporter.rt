@@ -5,7 +5,7 @@
 //! fault or a query is sought in vain. That a line cannot be told is no fault of the run.
 
 use crate::answer::{fault_of, is_error};
-use crate::observer::{End, Observer, TxnStatus};
+use crate::observer::{Observer, TxnEnd, TxnSummary};
 use crate::place::Source;
 use std::alloc::Global;
 use std::fmt;
@@ -39,7 +39,7 @@ pub struct ErrorReporter<'a, E> {
     lines: u64,
     faults: u64,
     first: Option<Kept>,
-    found: Option<TxnStatus>,
+    found: Option<TxnSummary>,
     queries: u64,
     names: Vec<u8>,
 }
@@ -141,11 +141,11 @@ impl<E: Eprint> Observer for ErrorReporter<'_, E> {
         }
     }
 
-    fn see_transaction(&mut self, name: &str, status: TxnStatus) {
+    fn see_transaction(&mut self, name: &str, status: TxnSummary) {
         if name == self.sought {
             self.found = Some(status);
         }
-        if status.is_query && status.end == End::Committed {
+        if status.is_query && status.end == TxnEnd::Committed {
             self.add_name(name);
         }
     }
@@ -202,7 +202,7 @@ impl fmt::Display for Count {
 #[derive(Clone, Copy)]
 pub struct NoQuery<'a> {
     name: &'a str,
-    status: Option<TxnStatus>,
+    status: Option<TxnSummary>,
     queries: u64,
     names: &'a [u8],
 }
@@ -213,26 +213,26 @@ impl fmt::Display for NoQuery<'_> {
         let why = match self.status {
             None => "was never begun",
             Some(
-                TxnStatus {
+                TxnSummary {
                     is_query: false,
                     ..
                 },
             ) => "is an update",
             Some(
-                TxnStatus {
-                    end: End::Active,
+                TxnSummary {
+                    end: TxnEnd::Active,
                     ..
                 },
             ) => "has not ended",
             Some(
-                TxnStatus {
-                    end: End::Aborted,
+                TxnSummary {
+                    end: TxnEnd::Aborted,
                     ..
                 },
             ) => "has aborted",
             Some(
-                TxnStatus {
-                    end: End::Committed,
+                TxnSummary {
+                    end: TxnEnd::Committed,
                     ..
                 },
             ) => "has committed",

@@ -6,7 +6,7 @@ ghost use Rattle.esr_page.specs.Page.{IsPage};
 use crate::audits::{Audits, audit_all};
 use crate::chart::push_chart;
 use crate::details::{heading_of, tell_farthest};
-use crate::rows::{Row, Rows, rows_of};
+use crate::rows::{QueryRow, QueryRows, rows_of};
 use crate::style::{head, script};
 use crate::table::push_table;
 use esr_history::TxnId;
@@ -27,7 +27,7 @@ pub struct Page<'a, P, W> {
 
 /// What the queries were off and charged together, of those that committed.
 #[derive(Clone, Copy)]
-struct Totals<'a> {
+struct PageTotals<'a> {
     queries: u64,
     exact: u64,
     distance: u64,
@@ -36,8 +36,8 @@ struct Totals<'a> {
 }
 
 /// The sums over the queries that committed.
-fn totals_of<'a>(rows: &[Row<'a>]) -> Totals<'a> {
-    let mut totals = Totals {
+fn totals_of<'a>(rows: &[QueryRow<'a>]) -> PageTotals<'a> {
+    let mut totals = PageTotals {
         queries: 0,
         exact: 0,
         distance: 0,
@@ -60,7 +60,7 @@ fn totals_of<'a>(rows: &[Row<'a>]) -> Totals<'a> {
 }
 
 /// How many queries and updates there were, and how far the farthest was off.
-fn push_sums(out: &mut String, totals: Totals<'_>, updates: u64) -> Result<(), AllocError> {
+fn push_sums(out: &mut String, totals: PageTotals<'_>, updates: u64) -> Result<(), AllocError> {
     out.push_str("<p>")?;
     push_count(
         out,
@@ -107,7 +107,7 @@ fn push_order(out: &mut String, names: &Names, order: &[TxnId]) -> Result<(), Al
 fn push_overview(
     alloc: Global,
     out: &mut String,
-    all: &mut Rows<'_>,
+    all: &mut QueryRows<'_>,
     audits: &Audits,
 ) -> Result<(), AllocError> {
     out.push_str(head())?;
@@ -134,7 +134,7 @@ impl<P: Part, W: Part> Page<'_, P, W> {
         out: &mut String,
         recording: &Recording<'_>,
         audits: &Audits,
-        all: &mut Rows<'_>,
+        all: &mut QueryRows<'_>,
         told: &[TxnId],
     ) -> Result<(), AllocError> {
         push_overview(alloc, out, all, audits)?;

@@ -16,7 +16,7 @@ pub const MAX_POINTS: usize = 12;
 
 /// What a block of prose is.
 #[derive(Clone, Copy)]
-pub enum Kind {
+pub enum BlockKind {
     Paragraph,
     /// A point of a list below a paragraph.
     Point,
@@ -25,7 +25,7 @@ pub enum Kind {
 /// A block of prose.
 #[derive(Drop)]
 pub struct Block {
-    pub kind: Kind,
+    pub kind: BlockKind,
     pub words: String,
 }
 
@@ -33,7 +33,7 @@ pub struct Block {
 fn add_block(
     alloc: Global,
     blocks: &mut Vec<Block>,
-    kind: Kind,
+    kind: BlockKind,
 ) -> Result<&mut String, AllocError> {
     let words = String::new(alloc);
     blocks.push(Block { kind, words })?;
@@ -45,12 +45,12 @@ fn add_block(
 
 /// The words of one more paragraph.
 pub fn add_paragraph(alloc: Global, blocks: &mut Vec<Block>) -> Result<&mut String, AllocError> {
-    add_block(alloc, blocks, Kind::Paragraph)
+    add_block(alloc, blocks, BlockKind::Paragraph)
 }
 
 /// The words of one more point.
 pub fn add_point(alloc: Global, blocks: &mut Vec<Block>) -> Result<&mut String, AllocError> {
-    add_block(alloc, blocks, Kind::Point)
+    add_block(alloc, blocks, BlockKind::Point)
 }
 
 /// How many more there are of some things than are listed.

@@ -29,9 +29,10 @@ use esr_board::Gate;
 use esr_grammar::{Line, Parsed, parse_line};
 use esr_history::{Event, Reply, TxnId};
 use esr_items::{ItemId, MAX_ITEMS, MAX_VALUE, MAX_WEIGHT};
-use esr_lint::{End, Observer, TxnStatus};
+use esr_lint::{Observer, TxnEnd, TxnSummary};
 use esr_report::{
-    LineError, Names, Subject, audit_line, error_line, item_line, totals_line, weighted_item_line,
+    LineError, Names, ReplyNames, audit_line, error_line, item_line, totals_line,
+    weighted_item_line,
 };
 use esr_views::{AuditedQuery, Recording};
 use std::alloc::{AllocError, Global};
@@ -170,7 +171,7 @@ impl Script {
     #[inline(always)]
     fn ask(
         &mut self,
-        subject: Subject<'_>,
+        subject: ReplyNames<'_>,
         echo: Echo<'_>,
         event: Event,
         out: &mut Vec<u8>,
@@ -214,7 +215,7 @@ impl Script {
             txn: self.transaction(txn),
             item: self.item(item),
         };
-        let subject = Subject {
+        let subject = ReplyNames {
             txn,
             item,
             value: 0,
@@ -240,7 +241,7 @@ impl Script {
             item: self.item(item),
             value,
         };
-        let subject = Subject { txn, item, value };
+        let subject = ReplyNames { txn, item, value };
         self.ask(subject, Echo::Write(words), event, out)
     }
 
@@ -323,9 +324,9 @@ impl Script {
         self.stage.ensure_started(self.alloc)?;
         match self.stage.status_of(q) {
             Some(
-                TxnStatus {
+                TxnSummary {
                     is_query: true,
-                    end: End::Committed,
+                    end: TxnEnd::Committed,
                 },
             ) => Ok(()),
             _ => line_or_fault(error_line(out, LineError::NotACommittedQuery)),
@@ -362,7 +363,7 @@ impl Script {
     }
 
     /// The name of a transaction, and what became of it.
-    fn transaction_at(&self, position: usize) -> Option<(&str, TxnStatus)> {
+    fn transaction_at(&self, position: usize) -> Option<(&str, TxnSummary)> {
         let position = u32::try_from(position).ok()?;
         let name = self.transactions.name_of(position)?;
         let status = self.stage.status_of(TxnId(position.checked_add(1)?))?;
@@ -497,10 +498,10 @@ impl Script {
 }
 
 /// A transaction alone is named.
-fn alone(txn: &str) -> Subject<'_>
+fn alone(txn: &str) -> ReplyNames<'_>
     ensures { named_by result ≡ record { txn = txn.now; item = []; value = pos 0 } }
 {
-    Subject {
+    ReplyNames {
         txn,
         item: "",
         value: 0,

@@ -5,7 +5,7 @@ ghost use Rattle.std.specs.Prelude.{◌≤◌};
 
 use crate::keys::keys_width;
 use crate::scene::{
-    Arrow, Lane, MAX_LANES, MAX_UPDATES, Scene, Strays, Stretch, Update, have_stray,
+    Arrow, Lane, LaneSegment, MAX_LANES, MAX_UPDATES, Scene, Strays, Update, have_stray,
 };
 use esr_text::{letters_of, number_letters};
 
@@ -71,7 +71,7 @@ fn label_width(lane: &Lane<'_>) -> u16 {
 }
 
 /// The letters of a piece of a lane: its value, and how often it was read.
-fn piece_letters(stretch: &Stretch) -> usize {
+fn piece_letters(stretch: &LaneSegment) -> usize {
     let times = if stretch.reads > 1 {
         number_letters(stretch.reads).min(7) + 3
     } else {

@@ -7,7 +7,7 @@ use crate::elements::{
     push_vertical,
 };
 use crate::frame::Frame;
-use crate::scene::{Lane, LaneReads, Scene, Strays, Stretch};
+use crate::scene::{Lane, LaneReads, LaneSegment, Scene, Strays};
 use esr_text::{push_count, push_number, push_value};
 use std::alloc::AllocError;
 
@@ -75,7 +75,7 @@ fn push_label(out: &mut String, lane: &Lane<'_>, y: u32) -> Result<(), AllocErro
 }
 
 /// The value of a stretch and how often it was read, or how many values it has.
-fn push_piece(out: &mut String, stretch: Stretch, x: u32, y: u32) -> Result<(), AllocError> {
+fn push_piece(out: &mut String, stretch: LaneSegment, x: u32, y: u32) -> Result<(), AllocError> {
     let versions = stretch.versions;
     if versions > 1 {
         open_text(out, "m q", x, y)?;
@@ -91,7 +91,7 @@ fn push_piece(out: &mut String, stretch: Stretch, x: u32, y: u32) -> Result<(), 
 }
 
 /// How a stretch is drawn.
-fn class_of(stretch: Stretch) -> &'static str {
+fn class_of(stretch: LaneSegment) -> &'static str {
     if stretch.reads > 9 {
         "u z"
     } else if stretch.reads > 1 {
@@ -110,7 +110,7 @@ fn class_of(stretch: Stretch) -> &'static str {
 /// A stretch of a lane, from its slot to that of the next one.
 fn push_stretch(
     out: &mut String,
-    stretch: Stretch,
+    stretch: LaneSegment,
     end: u32,
     y: u32,
     frame: &Frame,
@@ -127,7 +127,7 @@ fn push_stretch(
 }
 
 /// Where the stretch at a place ends.
-fn end_of(stretches: &[Stretch], place: usize, frame: &Frame) -> u32
+fn end_of(stretches: &[LaneSegment], place: usize, frame: &Frame) -> u32
     ensures { result ≤ 20000000 }
 {
     match stretches.get(place.saturating_add(1)) {

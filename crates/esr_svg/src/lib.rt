@@ -16,6 +16,6 @@ mod svg;
 
 pub use frame::fitting_updates;
 pub use scene::{
-    Arrow, Lane, LaneReads, MAX_LANES, MAX_UPDATES, Scene, Stray, Strays, Stretch, Update,
+    Arrow, Lane, LaneReads, LaneSegment, MAX_LANES, MAX_UPDATES, Scene, Stray, Strays, Update,
 };
 pub use svg::{Parts, parts_of};

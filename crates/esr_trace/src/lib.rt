@@ -15,4 +15,4 @@ pub use part::Part;
 pub use sentences::{push_nearest_moment, push_strict, push_verdict, sentences_of};
 pub use subject::Audited;
 pub use text::{MAX_NAMES, push_names, push_rest};
-pub use trace::{Cause, Charge, End, ObservedRead, QueryTrace, Sum, trace_of};
+pub use trace::{Cause, ChargeGroup, ObservedRead, QueryTrace, Sum, WriterEnd, trace_of};

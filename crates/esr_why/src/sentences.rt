@@ -11,7 +11,7 @@ use std::alloc::AllocError;
 
 /// A script with the line of each entry.
 #[derive(Clone, Copy)]
-pub struct Script<'a> {
+pub struct NumberedScript<'a> {
     pub items: &'a Names,
     pub transactions: &'a Names,
     pub history: &'a History<Weighted>,
@@ -19,10 +19,10 @@ pub struct Script<'a> {
     pub lines: &'a [u32],
 }
 
-impl<'a> Script<'a> {
+impl<'a> NumberedScript<'a> {
     /// What a script leads to, with the line of each entry.
-    pub fn new(recording: &'a Recording<'_>) -> Script<'a> {
-        Script {
+    pub fn new(recording: &'a Recording<'_>) -> NumberedScript<'a> {
+        NumberedScript {
             items: &recording.items,
             transactions: &recording.transactions,
             history: &recording.history,

@@ -1,4 +1,4 @@
--- Why `Engine::account` keeps its contract: the goals that are left to a proof of ours.
+-- Why `EmbeddedEngine::account` keeps its contract: the goals that are left to a proof of ours.
 use Rattle.std.proofs.Common.{◌≡◌, ◌∙◌, ap, subst, List, Some}
 use Rattle.esr_items.specs.Weights.{weighted}
 use Rattle.esr_history.specs.declared.event.Entry.{Entry}
@@ -6,7 +6,7 @@ use Rattle.esr_history.specs.BackLinks.{facts_of}
 use Rattle.esr_history.specs.Machine.{Schedule, IsLegal}
 use Rattle.esr_engine.specs.Statuses.{status_at}
 use Rattle.esr_engine.proofs.Statuses.{account_from_facts}
-use Rattle.esr_engine.proofs.engine.Engine.account.Goals as goal
+use Rattle.esr_engine.proofs.engine.EmbeddedEngine.account.Goals as goal
 
 pub returns-in-Some-clause-account : goal.returns-in-Some-clause-account
 returns-in-Some-clause-account c =

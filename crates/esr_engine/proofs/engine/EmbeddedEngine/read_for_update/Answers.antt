@@ -1,4 +1,4 @@
--- Why `Engine::read_for_update` keeps its contract: the goals that are left to a proof of ours.
+-- Why `EmbeddedEngine::read_for_update` keeps its contract: the goals that are left to a proof of ours.
 use Rattle.std.proofs.Common.{◌≡◌, ◌≤◌, ◌+◌, ◌∙◌, ℕ, ap, sym, subst, arith, false, true≢false, nat_lt, IfOk}
 use Rattle.std.proofs.lemmas.Bool.Decides.{nat_tests}
 use Rattle.esr_items.specs.Weights.{weighted}
@@ -11,8 +11,8 @@ use Rattle.esr_engine.specs.ForUpdate.{lock_event, no_pair}
 use Rattle.esr_engine.specs.Room.{is_full, taken}
 use Rattle.esr_engine.proofs.Active.{pair_room}
 use Rattle.esr_engine.proofs.Locking.{Finished, finish, held_steps, taken_steps}
-use Rattle.esr_engine.proofs.engine.Engine.read_for_update.Goals as goal
-use Rattle.esr_engine.proofs.engine.Engine.read_for_update.Goals.{After-step, After-step-in-Ok-Wrote}
+use Rattle.esr_engine.proofs.engine.EmbeddedEngine.read_for_update.Goals as goal
+use Rattle.esr_engine.proofs.engine.EmbeddedEngine.read_for_update.Goals.{After-step, After-step-in-Ok-Wrote}
 
 held : (c : After-step) → Finished c.args.self.now c.args.t c.args.x c.step.result c.step.new.self
 held c =

@@ -1,12 +1,12 @@
--- Why `Engine::write` keeps its contract: the goals that are left to a proof of ours.
+-- Why `EmbeddedEngine::write` keeps its contract: the goals that are left to a proof of ours.
 use Rattle.std.proofs.Common.{◌≡◌, ◌∙◌, sym, subst, false, rules}
 use Rattle.esr_items.specs.Weights.{weighted}
 use Rattle.esr_history.specs.declared.event.Event.TheVariants.{Write}
 use Rattle.esr_history.specs.Machine.{Schedule, extended, reply_to}
 use Rattle.esr_engine.specs.Room.{is_full}
 use Rattle.esr_engine.proofs.Stepped.{some_active, stepped}
-use Rattle.esr_engine.proofs.engine.Engine.write.Goals as goal
-use Rattle.esr_engine.proofs.engine.Engine.write.Goals.{In-Ok}
+use Rattle.esr_engine.proofs.engine.EmbeddedEngine.write.Goals as goal
+use Rattle.esr_engine.proofs.engine.EmbeddedEngine.write.Goals.{In-Ok}
 
 -- what the machine has answered, and what it left, of the value as it was given
 replied : (c : In-Ok) → c.in-Ok.reply ≡ reply_to weighted c.self.inside.machine (Write c.args.t c.args.x c.args.v)

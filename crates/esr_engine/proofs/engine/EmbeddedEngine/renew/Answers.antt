@@ -1,8 +1,8 @@
--- Why `Engine::renew` keeps its contract: the goals that are left to a proof of ours.
+-- Why `EmbeddedEngine::renew` keeps its contract: the goals that are left to a proof of ours.
 use Rattle.std.proofs.Common.{◌≡◌, ◌∙◌, ap, sym, true, false, true≢false, refl}
 use Rattle.esr_core.specs.Renewed.{has_active}
 use Rattle.esr_engine.proofs.Renewal.{has_some, has_none}
-use Rattle.esr_engine.proofs.engine.Engine.renew.Goals as goal
+use Rattle.esr_engine.proofs.engine.EmbeddedEngine.renew.Goals as goal
 
 pub returns-then-self-gt0-clause-active : goal.returns-then-self-gt0-clause-active
 returns-then-self-gt0-clause-active c =

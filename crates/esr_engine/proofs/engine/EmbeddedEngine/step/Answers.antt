@@ -1,9 +1,9 @@
--- Why `Engine::step` keeps its contract: the goals that are left to a proof of ours.
+-- Why `EmbeddedEngine::step` keeps its contract: the goals that are left to a proof of ours.
 use Rattle.std.proofs.Common.{◌≡◌, ◌∙◌, sym, subst, false}
 use Rattle.esr_history.specs.Machine.{Schedule}
 use Rattle.esr_engine.specs.Room.{is_full}
 use Rattle.esr_engine.proofs.Stepped.{some_active, stepped}
-use Rattle.esr_engine.proofs.engine.Engine.step.Goals as goal
+use Rattle.esr_engine.proofs.engine.EmbeddedEngine.step.Goals as goal
 
 pub active_after-self-inside-requires-clause-some : goal.active_after-self-inside-requires-clause-some
 active_after-self-inside-requires-clause-some c =

@@ -1,6 +1,6 @@
--- Why `Engine::audit` keeps its contract: the goals that are left to a proof of ours.
+-- Why `IndexedMachine::audit` keeps its contract: the goals that are left to a proof of ours.
 use Rattle.std.proofs.Common.{◌≡◌, ◌∙◌, Result, Ok, Err, OnOk, false, is_err, length, sym}
-use Rattle.esr_script.proofs.engine.Engine.audit.Goals as goal
+use Rattle.esr_script.proofs.engine.IndexedMachine.audit.Goals as goal
 
 given : {T E : Type 0} (r : Result T E) (P : Type 0) → is_err r ≡ false → OnOk r P → P
 given (Ok x) P ok p = p

@@ -1,9 +1,9 @@
--- Why `Engine::start_anew` keeps its contract: the goals that are left to a proof of ours.
+-- Why `EmbeddedEngine::start_anew` keeps its contract: the goals that are left to a proof of ours.
 use Rattle.std.proofs.Common.{◌∙◌, ap, subst}
 use Rattle.esr_items.specs.Weights.{weighted}
 use Rattle.esr_history.specs.Machine.{Schedule, IsLegal}
 use Rattle.esr_core.proofs.Renewed.{as_one}
-use Rattle.esr_engine.proofs.engine.Engine.start_anew.Goals as goal
+use Rattle.esr_engine.proofs.engine.EmbeddedEngine.start_anew.Goals as goal
 
 pub returns-clause-serializable : goal.returns-clause-serializable
 returns-clause-serializable c =

@@ -1,11 +1,11 @@
--- Why `Engine::read` keeps its contract: the goals that are left to a proof of ours.
+-- Why `EmbeddedEngine::read` keeps its contract: the goals that are left to a proof of ours.
 use Rattle.std.proofs.Common.{◌≡◌, ◌∙◌, sym, subst, false}
 use Rattle.esr_history.specs.declared.event.Event.TheVariants.{Read}
 use Rattle.esr_items.specs.Weights.{weighted}
 use Rattle.esr_history.specs.Machine.{Schedule, reply_to}
 use Rattle.esr_engine.specs.Room.{is_full}
 use Rattle.esr_engine.proofs.Stepped.{some_active, stepped}
-use Rattle.esr_engine.proofs.engine.Engine.read.Goals as goal
+use Rattle.esr_engine.proofs.engine.EmbeddedEngine.read.Goals as goal
 
 pub active_after-self-inside-requires-clause-some : goal.active_after-self-inside-requires-clause-some
 active_after-self-inside-requires-clause-some c =
