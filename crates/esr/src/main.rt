@@ -1,9 +1,9 @@
-//! The program `esr`: reads its words, does the job that they ask for, and maps what came of it to a status: 0 done
-//! (for `check`: valid), 1 invalid, bad, a fault, or a line at fault where `--bail` or `lint` looks for them, 2 a
-//! mistake in the words.
+//! The program `esr`: parses its arguments, executes the job, and maps the result to an exit status: 0 for success (for
+//! `check`: the bundle is valid), 1 for an invalid or malformed bundle, a fault, or a line with an error under `--bail`
+//! or `lint`, and 2 for wrong arguments.
 //!
-//! Help and the version that were asked for end with 0, and with 1 where they cannot be written. A status does not
-//! depend on standard error: what is told there is told where it can be, and the status is the same where it cannot.
+//! `--help` and `--version` exit with 0, or with 1 if the text cannot be written. The exit status does not depend on
+//! standard error: if a message cannot be written there, the status is the same.
 #![tactic(auto)]
 
 ghost use Rattle.std.specs.Prelude.{◌≡◌, ◌≤◌, false};

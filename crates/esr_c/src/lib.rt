@@ -1,10 +1,11 @@
-//! Engines for C programs. An engine lives in a variable of its caller, who gives it to one call at a time: closed, or
-//! holds an engine of `esr_engine`. `bindings/c/esr.h` declares what is here.
+//! Engines for C programs. An engine is stored in a variable of the caller, who passes it to one call at a time. It is
+//! either closed or contains an engine of `esr_engine`. `bindings/c/esr.h` declares the functions.
 //!
-//! The variable is two words that begin as zeros, so an engine has a closed state that each call can answer, and
-//! contracts speak of the history behind the variable in place of memory. No export has a premise, since a premise that
-//! C breaks is undefined behaviour: what can be asked is answered by a status. Lists go into a room of the caller's,
-//! with the count told where the room is too small, so C frees nothing that the library made.
+//! The variable is two words that start as zeros. A zeroed variable is a closed engine, to which every call returns a
+//! status, and contracts speak of the history of the engine instead of memory. No exported function has a precondition,
+//! because violating one from C would be undefined behaviour: every argument that can be checked is checked and
+//! reported by a status. Lists are written to a buffer of the caller; if it is too small, the call returns the required
+//! count. C therefore never frees memory that the library allocated.
 #![tactic(auto)]
 
 ghost use Rattle.esr_base.specs.declared.limits.TheConstants.{MAX_ITEMS};

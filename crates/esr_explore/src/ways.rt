@@ -3,11 +3,13 @@
 ghost use Rattle.std.specs.Prelude.{◌≡◌, ◌≤◌, Some, IfOk, length, map, sum};
 ghost use Rattle.esr_plan.specs.declared.draft.TheConstants.{MAX_BLOCKS};
 ghost use Rattle.esr_plan.specs.declared.fault.DriveFault.TheVariants.{NoMemory};
-ghost use Rattle.esr_interleavings.specs.Orders.{first_turns};
+ghost use Rattle.esr_explore.specs.Orders.{first_turns};
 ghost use Rattle.esr_explore.specs.declared.ways.ExploreFault.TheVariants.{Drive};
 ghost use Rattle.esr_explore.specs.Searches.{orders_of};
 
-use esr_interleavings::{MAX_ORDERS, all_orders, count_orders, draw_order};
+use crate::count::count_orders;
+use crate::draws::draw_order;
+use crate::orders::{MAX_ORDERS, all_orders};
 use esr_plan::{Call, DriveFault};
 use std::alloc::{AllocError, Global};
 use std::fmt;

@@ -1,5 +1,5 @@
-//! Tables of names, and the lines of a report: the bytes of every line of output, each defined once for scripts, audits
-//! and drives.
+//! Tables of names, and the lines of a report. Every line of output is defined here once, for scripts, audits and
+//! drives.
 #![tactic(auto)]
 
 mod key;

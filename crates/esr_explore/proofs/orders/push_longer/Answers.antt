@@ -1,8 +1,8 @@
 -- Why `push_longer` keeps its contract: the goals that are left to a proof of ours.
 use Rattle.std.proofs.Common.{◌∙◌, ◌++◌, ap, map}
-use Rattle.esr_interleavings.specs.Orders.{longer_by}
-use Rattle.esr_interleavings.proofs.Every.{one_more}
-use Rattle.esr_interleavings.proofs.orders.push_longer.Goals as goal
+use Rattle.esr_explore.specs.Orders.{longer_by}
+use Rattle.esr_explore.proofs.Every.{one_more}
+use Rattle.esr_explore.proofs.orders.push_longer.Goals as goal
 
 pub loop-block-preserved : goal.loop-block-preserved
 loop-block-preserved c =

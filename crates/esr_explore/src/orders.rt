@@ -2,7 +2,7 @@
 
 ghost use Rattle.std.specs.Prelude.{◌≡◌, ℕ, List, ◌+◌, ◌<◌, ◌≤◌, ◌^◌, ◌==◌, ◌∷◌, [], ◌++◌, IfOk, IfNone, IfSome, OnOk, count_by, length, map, flat_map};
 ghost use Rattle.std.specs.List.{Contains};
-ghost use Rattle.esr_interleavings.specs.Orders.{AreMany, IsOrder, first_turns, longer, longer_by, turns_of};
+ghost use Rattle.esr_explore.specs.Orders.{AreMany, IsOrder, first_turns, longer, longer_by, turns_of};
 
 use std::alloc::{AllocError, Global};
 

@@ -2,7 +2,7 @@
 //! seed gives the same order on each machine.
 
 ghost use Rattle.std.specs.Prelude.{◌≡◌, ◌<◌, ◌≤◌, IfNone, IfOk, IfSome, length, slice_index_or, sum};
-ghost use Rattle.esr_interleavings.specs.Orders.{IsOrder};
+ghost use Rattle.esr_explore.specs.Orders.{IsOrder};
 
 use std::alloc::{AllocError, Global};
 

@@ -7,7 +7,7 @@ use Rattle.std.proofs.lemmas.List.Sums.{sum_by-append, sum_by-cons}
 use Rattle.std.proofs.lemmas.List.FromFn.{length-range_with_len, get_or-range_with_len}
 use Rattle.std.proofs.lemmas.List.Elements.{Contains-append_left, Contains-append_right}
 use Rattle.std.proofs.lemmas.Grind.{flat_map-append}
-use Rattle.esr_interleavings.specs.Orders.{IsOrder, first_turns, lines_of, longer, longer_by, turns_of}
+use Rattle.esr_explore.specs.Orders.{IsOrder, first_turns, lines_of, longer, longer_by, turns_of}
 
 -- what is in a part is in all
 in_flat : {X Y : Type 0} (f : X → List Y) (xs : List X) (x : X) (y : Y) → Contains xs x → Contains (f x) y → Contains (flat_map f xs) y

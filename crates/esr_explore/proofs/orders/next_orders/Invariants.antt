@@ -1,7 +1,7 @@
 -- What holds at each turn of the loop in `next_orders`.
 use Rattle.std.proofs.Common.{◌≡◌, flat_map, map, take}
-use Rattle.esr_interleavings.specs.Orders.{longer}
-use Rattle.esr_interleavings.proofs.orders.next_orders.Given as goal
+use Rattle.esr_explore.specs.Orders.{longer}
+use Rattle.esr_explore.proofs.orders.next_orders.Given as goal
 
 abbrev pub invariant-loop-order : goal.invariant-loop-order
 invariant-loop-order l =

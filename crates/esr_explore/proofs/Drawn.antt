@@ -4,7 +4,7 @@ use Rattle.std.proofs.lemmas.Bool.{cases_eq, cases_lt}
 use Rattle.std.proofs.lemmas.Bool.Decides.{nat_tests}
 use Rattle.std.proofs.lemmas.List.{get_or_past}
 use Rattle.std.proofs.lemmas.List.Sums.{sum_by-set, sum_by_push, get_or-le-sum_by}
-use Rattle.esr_interleavings.specs.Orders.{IsOrder, lines_of, turns_of}
+use Rattle.esr_explore.specs.Orders.{IsOrder, lines_of, turns_of}
 
 -- of so many turns: each block has had as many as it has fewer lines left
 pub record IsDrawn (counts left order : List ℕ) (turns : ℕ) : Type 0 where

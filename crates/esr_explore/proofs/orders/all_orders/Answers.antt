@@ -2,9 +2,9 @@
 use Rattle.std.proofs.Common.{◌≡◌, ◌∙◌, ℕ, suc, List, ap, arith, flat_map, length, map, subst, sym}
 use Rattle.std.proofs.lemmas.List.{length-map}
 use Rattle.std.specs.List.{Contains}
-use Rattle.esr_interleavings.specs.Orders.{first_turns, longer}
-use Rattle.esr_interleavings.proofs.Every.{every}
-use Rattle.esr_interleavings.proofs.orders.all_orders.Goals as goal
+use Rattle.esr_explore.specs.Orders.{first_turns, longer}
+use Rattle.esr_explore.proofs.Every.{every}
+use Rattle.esr_explore.proofs.orders.all_orders.Goals as goal
 
 pub returns-clause-every : goal.returns-clause-every
 returns-clause-every c order is =
