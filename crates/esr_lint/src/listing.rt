@@ -133,7 +133,11 @@ impl<W: Write> Observer for Listing<'_, W> {
             return;
         }
         let source = self.source;
-        let listed = writeln!(self.text, "{source}\"{name}\" is still active at the end").is_ok();
+        let listed = writeln!(
+            self.text,
+            "{source}transaction \"{name}\" is still active at the end"
+        )
+        .is_ok();
         self.note(listed);
     }
 

@@ -74,13 +74,13 @@ fn push_sums(out: &mut String, totals: PageTotals<'_>, updates: u64) -> Result<(
     push_number(out, totals.exact)?;
     out.push_str(" of ")?;
     push_number(out, totals.queries)?;
-    out.push_str("</dd></div>\n<div><dt>Off, all together</dt><dd>")?;
+    out.push_str("</dd></div>\n<div><dt>Total distance</dt><dd>")?;
     push_number(out, totals.distance)?;
-    out.push_str("</dd></div>\n<div><dt>Charged, all together</dt><dd>")?;
+    out.push_str("</dd></div>\n<div><dt>Total charged</dt><dd>")?;
     push_number(out, totals.charged)?;
     out.push_str("</dd></div>\n")?;
     if let Some((name, distance)) = totals.farthest {
-        write!(out, "<div><dt>Farthest off</dt><dd>{name}, by ")?;
+        write!(out, "<div><dt>Largest distance</dt><dd>{name}, ")?;
         push_number(out, distance)?;
         out.push_str("</dd></div>\n")?;
     }

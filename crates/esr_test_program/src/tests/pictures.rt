@@ -30,8 +30,8 @@ static BANK_DRAWN: [&str; 20] = [
     "<title id='report-title'>Audit of report</title>\n",
     "<desc id='report-desc'>Distance 100, import 100. In order: [report], transfer. checking: read 500, as at its place. savings: read 1,600, off by 100 from its place.</desc>\n",
     "<text class='h' x='20' y='28'>report: distance 100, import 100</text>\n",
-    "<text class='q' x='20' y='50'>What report read was never true at one moment.</text>\n",
-    "<text class='q' x='20' y='70'>The nearest moment, before all updates, differs by 100.</text>\n",
+    "<text class='q' x='20' y='50'>What report read was never a consistent state.</text>\n",
+    "<text class='q' x='20' y='70'>The nearest state, before all updates, differs by 100.</text>\n",
     "<text class='q' x='20' y='90'>Charged 100 of its limit of 200: transfer 100.</text>\n",
     "<path class='d' d='M352 142V268'/>\n",
     "<rect class='a' x='310' y='114' width='84' height='28' rx='6'/><text class='m' x='352' y='133' text-anchor='middle'>transfer</text>\n",
@@ -98,7 +98,7 @@ fn a_report_of_the_bank_is_drawn(rt: HostRuntime) {
 /// Any text from `<svg ` to `</svg>` keeps the contract: it could lack an item's second read, or say nothing at all.
 #[test]
 fn little_is_drawn(rt: HostRuntime) {
-    let texts = ["q read nothing.</text>", "Not drawn: 1 more update.</text>"];
+    let texts = ["q read no item.</text>", "Not drawn: 1 more update.</text>"];
     has(&rt, rt.alloc(), NOTHING_READ, "q", &texts);
     let texts = [
         "q: distance 6, import 6</text>",
@@ -115,7 +115,7 @@ fn little_is_drawn(rt: HostRuntime) {
 fn values_that_did_not_stay_are_told(rt: HostRuntime) {
     let texts = [
         ">read 9 of u, which aborted</text>",
-        ">read 6 of v, which wrote over it</text>",
+        ">read 6 of v, which overwrote it</text>",
         ">3 x 2</text>",
         ">read 8 of w, which aborted; it is above as well</text>",
     ];

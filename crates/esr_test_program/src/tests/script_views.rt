@@ -14,7 +14,7 @@ use std::str::from_utf8;
 
 /// The whole prose about the report of the bank.
 static BANK_TOLD: &str = "\
-What report read was never true at one moment. The nearest moment, before all
+What report read was never a consistent state. The nearest state, before all
 updates, differs by 100.
 
 report is a query that began in line 3 and committed in line 10.
@@ -23,20 +23,20 @@ It read 2 values:
   - checking 500, in line 4, as at the start
   - savings 1,600, in line 9, as transfer had left it
 
-Together they are 2,100.
+In total they are 2,100.
 
 It was charged 100 of its limit of 200:
   - 100 in line 6: transfer changed checking from 500 to 400, and report had
     read it
 
-At the nearest moment the values were:
-  - savings 1,500: what was read is off by 100
+In the nearest state, the values were:
+  - savings 1,500: the values read are off by 100
   - checking 500, as read
 
-Together they were 2,000 there: the sum of what was read is off by 100.
+In total they were 2,000 there: the sum of the values read is off by 100.
 
-A charge is made before anybody knows how things end: of the 100 that it was
-charged, all was needed in the end.
+Charges are made before the outcome is known: of the 100 that it was
+charged, all were necessary.
 ";
 
 /// Lines that make no entry, a value that was given up, an item with a weight, a strict query, one that aborted and one
@@ -104,10 +104,10 @@ fn a_report_of_the_bank_is_told(rt: HostRuntime) {
 fn what_became_of_values_and_queries_is_told(rt: HostRuntime) {
     let alloc = rt.alloc();
     let report = [
-        "What report read was true at no moment that a strict report may have.",
-        "It is strict, and had to be\nbehind morning, which had committed when it began.",
+        "What report read was not a state that a strict report may be placed at.",
+        "It is strict, so it must be placed after morning, which had committed before it began.",
         "report is a strict query that began in line 8 and committed in line 21.",
-        "  - till 90, in line 13, which evening had written and not committed; it aborted\n    later, in line 19\n",
+        "  - till 90, in line 13, which evening had written but not committed; it aborted\n    later, in line 19\n",
         "; a difference of gold counts 3 times",
         "By item: till 410, gold 6. By update: evening 416.",
     ];
