@@ -12,31 +12,32 @@ ghost use Rattle.esr_cli.specs.Job.{work_of, HasWorkers as HasItsWorkers};
 ghost use Rattle.esr_drive.specs.Drive.{HasWorkers};
 
 use either::{Left, Right};
-use esr_cli::{Format, Job, Progress, Task, command};
+use esr_cli::{Format, Job, Progress, Task, VERSION, command};
 use esr_commands::{
-    Console, DriveHelp, Output, Question, RenderQuery, RenderScript, RunScript, WriteBundle,
-    audit_script, check, execute_command, fail, is_closed_pipe, line_at_fault, list_faults,
-    open_file, report_fault,
+    AuditText, Console, DriveHelp, Output, Question, RenderQuery, RenderScript, RunScript,
+    WriteBundle, audit_script, audit_script_as, check, execute_command, fail, is_closed_pipe,
+    line_at_fault, list_faults, open_file, report_fault,
 };
 use esr_drive::{DriveFault, DriveOutput, NoGate, drive};
 use esr_explain::Explaining;
 use esr_explore::{ExploreFault, Measure, Search, explore};
 use esr_history::Watched;
-use esr_lint::{KeptLine, Source};
-use esr_page::Page;
-use esr_picture::Drawing;
+use esr_lint::{KeptLine, Notes, Source};
+use esr_page::{Origin, Page};
+use esr_picture::{Drawing, NotedDrawing};
 use esr_prose::{Passage, Prose};
-use esr_script::TeeReader;
-use esr_tables::{AuditTable, Data, ExplanationTable, Ledger};
+use esr_script::{AuditedScript, TeeReader};
+use esr_tables::{Data, ExplanationTable, Ledger, audit_table};
 use esr_why::Why;
-use std::alloc::AllocError;
-use std::io;
+use httpdate::HttpDate;
+use std::alloc::{AllocError, Global};
 use std::io::Read;
 use std::process::ExitCode;
 use std::rt::Files;
 use std::sync::Wait;
 use std::thread::Threads;
-use std::time::Clock;
+use std::time::{Clock, SystemTime};
+use std::{fs, io};
 
 fn main(rt: HostRuntime) -> ExitCode {
     let alloc = rt.alloc();
@@ -58,7 +59,7 @@ fn main(rt: HostRuntime) -> ExitCode {
     }
     match command(alloc, words.as_slice()) {
         Ok(job) => {
-            let console = Console::new(job.progress, &rt.stderr());
+            let console = Console::new(job.progress, &rt.stderr(), &rt.stdin());
             let status = match (job.task, job.file) {
                 (Task::Lint, Some(_)) => lint_each(&rt, console, owned.as_slice()),
                 _ => do_job(&rt, console, job),
@@ -70,6 +71,40 @@ fn main(rt: HostRuntime) -> ExitCode {
             Err(_) if error.exit_code() == 0 => ExitCode::from(fail(&rt, &"write failed", 1)),
             _ => ExitCode::from(error.exit_code() as u8),
         },
+    }
+}
+
+/// Returns whether an operand names an input.
+fn is_input<R: Files>(rt: &R, path: &str) -> bool {
+    path == "-" || fs::metadata(rt, path).is_ok()
+}
+
+/// Accepts the operands of `why` in both orders: NAME and FILE are swapped if only the second one is an input.
+fn in_order<'a, R: Files>(rt: &R, job: Job<'a>) -> Job<'a>
+    ensures { HasItsWorkers (work_of job.task) → HasItsWorkers (work_of result.task) }
+{
+    let (Task::Why { name: Some(second) }, Some(first)) = (job.task, job.file) else {
+        return job;
+    };
+    if is_input(rt, first) || !is_input(rt, second) {
+        return job;
+    }
+    Job {
+        task: Task::Why { name: Some(first) },
+        file: Some(second),
+        bail: job.bail,
+        progress: job.progress,
+        format: job.format,
+    }
+}
+
+/// Returns the arguments of a task that takes the name of a transaction before the file.
+fn name_usage(task: Task<'_>) -> Option<&'static str> {
+    match task {
+        Task::Certify { .. } => Some("certify NAME FILE"),
+        Task::Explain { .. } => Some("explain NAME FILE"),
+        Task::Picture { .. } => Some("picture NAME FILE"),
+        _ => None,
     }
 }
 
@@ -85,8 +120,18 @@ fn do_job<'a, R: Input + Print + Eprint + Files + AllocGlobal + Clock + Threads 
     if job.format.is_none() {
         return fail(rt, &"--format must be text, csv or json", 2);
     }
+    let job = in_order(rt, job);
     let (source, input) = match job.file.filter(|file| *file != "-") {
-        None => (Source(None), Left(rt.reader())),
+        None => {
+            if console.is_typed
+                && let Some(usage) = name_usage(job.task)
+            {
+                let _ = eprintln!(rt;
+                    "esr: reading the script from the terminal, up to Ctrl-D (usage: esr {usage})"
+                );
+            }
+            (Source(None), Left(rt.reader()))
+        }
         Some(path) => match open_file(rt, path) {
             Ok(file) => (Source(Some(path)), Right(file)),
             Err(why) => return fail(rt, &format_args!("{path}: {why}"), 1),
@@ -117,52 +162,46 @@ fn do_task<
                 job,
                 source,
                 input,
-                &RenderScript { script_view },
+                &RenderScript {
+                    script_view,
+                    notes: None,
+                },
             )
         }
         Task::Explain { name, prose: false } => match data_of(job.format) {
             Some(data) => {
                 let query_view = &ExplanationTable { data };
-                let work = RenderQuery { name, query_view };
+                let work = RenderQuery {
+                    name,
+                    query_view,
+                    notes: None,
+                };
                 execute_command(rt, console, job, source, input, &work)
             }
             None => {
                 let query_view = &Explaining;
-                let work = RenderQuery { name, query_view };
+                let work = RenderQuery {
+                    name,
+                    query_view,
+                    notes: None,
+                };
                 execute_command(rt, console, job, source, input, &work)
             }
         },
         Task::Picture { name } => {
-            let query_view = &Drawing;
-            let work = RenderQuery { name, query_view };
+            let notes = &Notes::new(rt.alloc());
+            let work = RenderQuery {
+                name,
+                query_view: &NotedDrawing { notes },
+                notes: Some(notes),
+            };
             execute_command(rt, console, job, source, input, &work)
         }
-        Task::Page { worst } => {
-            let script_view = &Page {
-                worst,
-                picture: &Drawing,
-                words: &Passage,
-            };
-            execute_command(
-                rt,
-                console,
-                job,
-                source,
-                input,
-                &RenderScript { script_view },
-            )
-        }
+        Task::Page { worst } => show_page(rt, console, job, source, input, worst),
         Task::Audit { workers } => match data_of(job.format) {
             Some(data) => {
-                let script_view = &AuditTable { data };
-                execute_command(
-                    rt,
-                    console,
-                    job,
-                    source,
-                    input,
-                    &RenderScript { script_view },
-                )
+                let view = &AuditTable { data };
+                audit_script_as(rt, console, job, source, input, workers, view)
             }
             None => audit_script(rt, console, job, source, input, workers),
         },
@@ -176,7 +215,10 @@ fn do_task<
                 job,
                 source,
                 input,
-                &RenderScript { script_view },
+                &RenderScript {
+                    script_view,
+                    notes: None,
+                },
             )
         }
         Task::Why { name } => {
@@ -187,7 +229,10 @@ fn do_task<
                 job,
                 source,
                 input,
-                &RenderScript { script_view },
+                &RenderScript {
+                    script_view,
+                    notes: None,
+                },
             )
         }
         Task::Check {
@@ -215,6 +260,68 @@ fn do_task<
             Err(mistake) => fail(rt, &mistake, 2),
         },
         Task::Lint => list_faults(rt, console, source, input),
+    }
+}
+
+/// Returns the text of today's date, as in `27 Nov 2026`, unless the clock cannot be read.
+fn today(rt: &impl Clock, alloc: Global) -> Option<String> {
+    let since = SystemTime::now(rt)
+        .ok()?
+        .duration_since(SystemTime::UNIX_EPOCH)
+        .ok()?;
+    let date = HttpDate::from_unix_secs(since.as_secs()).ok()?;
+    let text = format!(in alloc; "{date}").ok()?;
+    // A date of a header begins with the day of the week and ends with the time.
+    let mut words = text.split(' ');
+    let (_, day, month, year) = (words.next()?, words.next()?, words.next()?, words.next()?);
+    format!(in alloc; "{day} {month} {year}").ok()
+}
+
+/// Prints the page about a script.
+fn show_page<'a, R: Print + Eprint + AllocGlobal + Clock, I: Read + Drop>(
+    rt: &'a R,
+    console: Console,
+    job: Job<'a>,
+    source: Source<'a>,
+    input: I,
+    worst: u64,
+) -> u8 {
+    let alloc = rt.alloc();
+    let notes = &Notes::new(alloc);
+    let date = today(rt, alloc);
+    let Source(file) = source;
+    let origin = Origin {
+        file,
+        date: date.as_deref(),
+        version: VERSION,
+        notes,
+    };
+    let work = RenderScript {
+        script_view: &Page {
+            worst,
+            picture: &Drawing,
+            words: &Passage,
+            origin,
+        },
+        notes: Some(notes),
+    };
+    execute_command(rt, console, job, source, input, &work)
+}
+
+/// The audits of a script as a table.
+#[derive(Drop)]
+struct AuditTable {
+    data: Data,
+}
+
+impl AuditText for AuditTable {
+    fn text_of(&self, alloc: Global, audited: &AuditedScript) -> Result<Vec<u8>, AllocError> {
+        let AuditedScript {
+            transactions,
+            history,
+            found,
+        } = audited;
+        audit_table(alloc, self.data, transactions, history, found)
     }
 }
 

@@ -9,7 +9,7 @@ ghost use Rattle.clap.specs.Words.{App, app_of, new_app, with_rule, with_subcomm
 ghost use Rattle.clap.specs.declared.builder.command.Command.TheViews.{out-Command};
 ghost use Rattle.esr_cli.specs.Program.{all_rule, as_script_rule, audit, bail_rule, certify, check, drive, esr, explain, explore, file_rule, files_rule, format_rule, ledger, lint, name_rule, no_progress_rule, of_rule, page, program, progress_rule, prose_rule, queries, query_rule, with_file, script_rule, scripts, seeds_rule, steps_rule, tables, verbose_rule, why, with_name, with_script, workers_rule, worst_by_rule, worst_rule};
 
-use crate::help;
+use crate::{VERSION, help};
 use clap::{Arg, ArgAction, Command, value_parser};
 use std::alloc::{AllocError, Global};
 
@@ -431,7 +431,7 @@ fn shell<'a>(alloc: Global) -> Command<'a>
     Command::new(alloc, "esr")
         .about("Epsilon-serializable transactions over integers")
         .after_help(help::SCRIPT)
-        .version("0.1.0")
+        .version(VERSION)
         .subcommand_required(true)
 }
 

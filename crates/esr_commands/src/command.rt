@@ -14,10 +14,13 @@ use crate::meter::{LineObserver, Meter};
 use crate::output::Output;
 use esr_cli::{Job, Task};
 use esr_history::Watched;
-use esr_lint::{ErrorReporter, Observer, Reports, Sought, Source};
-use esr_script::{RunFault, audit, certify, certify_steps, render_query, render_script, run};
+use esr_lint::{ErrorReporter, Notes, Observer, Reports, Sought, Source};
+use esr_script::{
+    AuditedScript, RunFault, audit, audit_silently, certify, certify_steps, render_query,
+    render_script, run,
+};
 use esr_views::{QueryView, ScriptView};
-use std::alloc::Global;
+use std::alloc::{AllocError, Global};
 use std::io;
 use std::io::{Read, Write};
 use std::thread::Threads;
@@ -25,6 +28,9 @@ use std::time::Clock;
 
 /// What is done with a script that is read once.
 pub trait Command {
+    /// Returns where lines with errors are noted, if the output shows them.
+    fn notes(&self) -> Option<&Notes>;
+
     /// Does it.
     fn execute<R: Read, W: Write, O: Observer>(
         &self,
@@ -42,6 +48,10 @@ pub trait Command {
 pub struct RunScript;
 
 impl Command for RunScript {
+    fn notes(&self) -> Option<&Notes> {
+        None
+    }
+
     fn execute<R: Read, W: Write, O: Observer>(
         &self,
         alloc: Global,
@@ -61,6 +71,10 @@ pub struct WriteBundle<'a> {
 }
 
 impl Command for WriteBundle<'_> {
+    fn notes(&self) -> Option<&Notes> {
+        None
+    }
+
     fn execute<R: Read, W: Write, O: Observer>(
         &self,
         alloc: Global,
@@ -81,9 +95,15 @@ impl Command for WriteBundle<'_> {
 pub struct RenderQuery<'a, T> {
     pub name: &'a str,
     pub query_view: &'a T,
+    /// Where lines with errors are noted, if the view shows them.
+    pub notes: Option<&'a Notes>,
 }
 
 impl<T: QueryView> Command for RenderQuery<'_, T> {
+    fn notes(&self) -> Option<&Notes> {
+        self.notes
+    }
+
     fn execute<R: Read, W: Write, O: Observer>(
         &self,
         alloc: Global,
@@ -99,9 +119,15 @@ impl<T: QueryView> Command for RenderQuery<'_, T> {
 #[derive(Drop)]
 pub struct RenderScript<'a, S> {
     pub script_view: &'a S,
+    /// Where lines with errors are noted, if the view shows them.
+    pub notes: Option<&'a Notes>,
 }
 
 impl<S: ScriptView> Command for RenderScript<'_, S> {
+    fn notes(&self) -> Option<&Notes> {
+        self.notes
+    }
+
     fn execute<R: Read, W: Write, O: Observer>(
         &self,
         alloc: Global,
@@ -126,7 +152,8 @@ pub fn execute_command<R: Print + Eprint + AllocGlobal + Clock, I: Read + Drop, 
     let mut reader = Watched::new(input);
     let mut writer = Watched::new(Output::new(alloc, io::writer(rt), is_buffered(job)));
     let reports = reports_of(console, job.task);
-    let reporter = ErrorReporter::new(rt, alloc, source, reports, sought_by(job.task));
+    let sought = sought_by(job.task);
+    let reporter = ErrorReporter::new(rt, alloc, source, reports, sought, command.notes());
     let meter = Meter::new(rt, console);
     let mut observer = LineObserver::new(reporter, &meter);
     let ended = command.execute(alloc, &mut reader, &mut writer, &mut observer);
@@ -149,7 +176,7 @@ pub fn audit_script<R: Print + Eprint + AllocGlobal + Clock + Threads + Sync, I:
     let mut reader = Watched::new(input);
     let mut writer = Watched::new(Output::new(alloc, io::writer(rt), is_buffered(job)));
     let reports = reports_of(console, job.task);
-    let reporter = ErrorReporter::new(rt, alloc, source, reports, Sought::Nothing);
+    let reporter = ErrorReporter::new(rt, alloc, source, reports, Sought::Nothing, None);
     let meter = Meter::new(rt, console);
     let mut observer = LineObserver::new(reporter, &meter);
     let ended = audit(
@@ -163,6 +190,60 @@ pub fn audit_script<R: Print + Eprint + AllocGlobal + Clock + Threads + Sync, I:
     );
     meter.clear();
     finish(rt, console, job, source, ended, &observer, writer.inner())
+}
+
+/// A text of the audits of a script.
+pub trait AuditText {
+    /// Returns the text.
+    fn text_of(&self, alloc: Global, audited: &AuditedScript) -> Result<Vec<u8>, AllocError>;
+}
+
+/// Prints a text of the audits of a script.
+pub fn audit_script_as<
+    R: Print + Eprint + AllocGlobal + Clock + Threads + Sync,
+    I: Read + Drop,
+    V: AuditText,
+>(
+    rt: &R,
+    console: Console,
+    job: Job<'_>,
+    source: Source<'_>,
+    input: I,
+    workers: u64,
+    view: &V,
+) -> u8
+    requires { (1 ≤ workers) × (workers ≤ 64) }
+{
+    let alloc = rt.alloc();
+    let mut reader = Watched::new(input);
+    let mut writer = Watched::new(Output::new(alloc, io::writer(rt), is_buffered(job)));
+    let reports = reports_of(console, job.task);
+    let reporter = ErrorReporter::new(rt, alloc, source, reports, Sought::Nothing, None);
+    let meter = Meter::new(rt, console);
+    let mut observer = LineObserver::new(reporter, &meter);
+    let audited = audit_silently(rt, alloc, &mut reader, workers, &meter, &mut observer);
+    meter.clear();
+    let ended = match audited {
+        Ok(audited) => print_audits(alloc, &audited, view, &mut writer),
+        Err(fault) => Err(fault),
+    };
+    finish(rt, console, job, source, ended, &observer, writer.inner())
+}
+
+/// Prints a text of audits.
+fn print_audits<V: AuditText, W: Write>(
+    alloc: Global,
+    audited: &AuditedScript,
+    view: &V,
+    writer: &mut Watched<W>,
+) -> Result<(), RunFault> {
+    let Ok(text) = view.text_of(alloc, audited) else {
+        return Err(RunFault::NoMemory);
+    };
+    match writer.send_all(&text) {
+        Ok(()) => Ok(()),
+        Err(_) => Err(RunFault::Write),
+    }
 }
 
 /// Returns the fault text if a text of the whole script was asked for a name that does not exist.

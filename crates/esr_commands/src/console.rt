@@ -11,10 +11,12 @@ pub struct Console {
     /// Whether standard error is a terminal. Then lines with errors are reported as they are read, and a fault is
     /// explained by further lines.
     pub is_terminal: bool,
+    /// Whether standard error and standard input are both terminals, so that a person types the input.
+    pub is_typed: bool,
 }
 
 impl Console {
-    pub fn new(progress: Progress, stderr: &impl IsTerminal) -> Console {
+    pub fn new(progress: Progress, stderr: &impl IsTerminal, stdin: &impl IsTerminal) -> Console {
         let is_terminal = stderr.is_terminal();
         let progress = match progress {
             Progress::AtATerminal => is_terminal,
@@ -24,6 +26,7 @@ impl Console {
         Console {
             progress,
             is_terminal,
+            is_typed: is_terminal && stdin.is_terminal(),
         }
     }
 }

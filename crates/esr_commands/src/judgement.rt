@@ -142,7 +142,7 @@ fn ask_script<'a, R: Print + Eprint + Files + AllocGlobal + Clock>(
         held: !console.is_terminal,
     };
     let sought = Sought::CommittedQuery(query);
-    let reporter = ErrorReporter::new(rt, alloc, source, reports, sought);
+    let reporter = ErrorReporter::new(rt, alloc, source, reports, sought, None);
     let meter = Meter::new(rt, console);
     let mut observer = LineObserver::new(reporter, &meter);
     match ask(alloc, &mut reader, query, &mut observer) {

@@ -19,7 +19,8 @@ mod output;
 
 pub use claim::{BundleClaim, claim_of};
 pub use command::{
-    Command, RenderQuery, RenderScript, RunScript, WriteBundle, audit_script, execute_command,
+    AuditText, Command, RenderQuery, RenderScript, RunScript, WriteBundle, audit_script,
+    audit_script_as, execute_command,
 };
 pub use console::Console;
 pub use detail::detail_of;

@@ -53,11 +53,17 @@ pub struct Diagnosis<'a> {
     pub reason: Reason<'a>,
 }
 
-/// What is wrong with the encoding, whatever the words say.
+/// Returns whether at least every second byte is NUL, as in ASCII text that is saved as UTF-16. A single NUL byte is not.
+fn is_wide(line: &[u8]) -> bool {
+    let zeros = line.iter().filter(|byte| **byte == 0).count();
+    line.len() > 1 && zeros.saturating_mul(2) >= line.len().saturating_sub(1)
+}
+
+/// Returns the error of the encoding, whatever the words are.
 fn encoding_fault(line: &[u8]) -> Option<Reason<'_>> {
     if line.starts_with(b"\xEF\xBB\xBF") {
         Some(Reason::ByteOrderMark)
-    } else if line.starts_with(b"\xFF\xFE") || line.starts_with(b"\xFE\xFF") || line.contains(&0) {
+    } else if line.starts_with(b"\xFF\xFE") || line.starts_with(b"\xFE\xFF") || is_wide(line) {
         Some(Reason::Utf16)
     } else {
         None
@@ -429,7 +435,7 @@ impl fmt::Display for Reason<'_> {
             ),
             Reason::NotAscii(byte) => write!(
                 f,
-                "byte \\x{byte:02x} is not ASCII; names may contain only letters, digits and _"
+                "byte \\x{byte:02x} is not printable ASCII; names may contain only letters, digits and _"
             ),
             Reason::Session => f.write_str(
                 "\"session\" is allowed only in drive files; use esr drive",

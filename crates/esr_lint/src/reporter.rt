@@ -6,6 +6,7 @@
 //! allocated before a line has an error or a name is not found. A failure to report is not an error of the run.
 
 use crate::answer::{fault_of, is_error};
+use crate::notes::Notes;
 use crate::observer::{Observer, TxnEnd, TxnSummary};
 use crate::place::Source;
 use std::alloc::{AllocError, Global};
@@ -89,6 +90,7 @@ pub struct ErrorReporter<'a, E> {
     source: Source<'a>,
     reports: Reports,
     sought: Sought<'a>,
+    notes: Option<&'a Notes>,
     faults: u64,
     kept: Vec<Kept>,
     found: Option<TxnSummary>,
@@ -103,6 +105,7 @@ impl<'a, E: Eprint> ErrorReporter<'a, E> {
         source: Source<'a>,
         reports: Reports,
         sought: Sought<'a>,
+        notes: Option<&'a Notes>,
     ) -> ErrorReporter<'a, E> {
         ErrorReporter {
             to,
@@ -110,6 +113,7 @@ impl<'a, E: Eprint> ErrorReporter<'a, E> {
             source,
             reports,
             sought,
+            notes,
             faults: 0,
             kept: Vec::new(alloc),
             found: None,
@@ -157,6 +161,16 @@ impl<'a, E: Eprint> ErrorReporter<'a, E> {
         }
     }
 
+    /// Notes a line for a page or a picture.
+    fn note(&self, number: u64, line: &[u8], answer: &[u8]) {
+        let place = self.source.line(number);
+        if let Some(notes) = self.notes
+            && let Some(fault) = fault_of(line, answer)
+        {
+            notes.add(&format_args!("{place}: {fault}"));
+        }
+    }
+
     /// Keeps a line to report it later.
     fn keep(&mut self, number: u64, line: &[u8], answer: &[u8]) {
         if let Ok(kept) = Kept::new(self.alloc, number, line, answer) {
@@ -199,6 +213,7 @@ impl<E: Eprint> Observer for ErrorReporter<'_, E> {
             return;
         }
         self.faults = self.faults.saturating_add(1);
+        self.note(number, line, answer);
         if self.faults > self.limit() {
             return;
         }

@@ -7,21 +7,25 @@ use std::process::Abort;
 type Row = (&'static [u8], usize, &'static str);
 
 /// Lines that are no command, the column of what is wrong, and the reason.
-static ROWS: [Row; 32] = [
+static ROWS: [Row; 34] = [
     // The ways to misspell one line, each with its own reason: a blank at its end,
     (b"item a 1 ", 9, "trailing space"),
     // a blank in front,
     (b" item a 1", 1, "leading space"),
     // two blanks,
-    (b"item  a 1", 6, "consecutive spaces; separate words with a single space"),
-    // a tab,
-    (b"item\ta 1", 5, "tab character; separate words with a single space"),
-    // the line end of another system,
     (
-        b"item a 1\r",
-        9,
-        "line ends with CR LF; use LF only",
+        b"item  a 1",
+        6,
+        "consecutive spaces; separate words with a single space",
     ),
+    // a tab,
+    (
+        b"item\ta 1",
+        5,
+        "tab character; separate words with a single space",
+    ),
+    // the line end of another system,
+    (b"item a 1\r", 9, "line ends with CR LF; use LF only"),
     // the mark of another editor,
     (
         b"\xEF\xBB\xBFitem a 1",
@@ -29,27 +33,27 @@ static ROWS: [Row; 32] = [
         "file starts with a byte order mark; save it as UTF-8 without one",
     ),
     // another encoding,
+    (b"\xFF\xFEi\0t\0", 1, "file is UTF-16; save it as UTF-8"),
+    // the same encoding without a mark,
+    (b"\0i\0t", 1, "file is UTF-16; save it as UTF-8"),
+    // one NUL byte in a line of ASCII,
     (
-        b"\xFF\xFEi\0t\0",
-        1,
-        "file is UTF-16; save it as UTF-8",
+        b"item a\0 1",
+        7,
+        "byte \\x00 is not printable ASCII; names may contain only letters, digits and _",
     ),
     // a letter of another alphabet,
     (
         b"item caf\xC3\xA9 1",
         9,
-        "byte \\xc3 is not ASCII; names may contain only letters, digits and _",
+        "byte \\xc3 is not printable ASCII; names may contain only letters, digits and _",
     ),
     // a capital,
     (b"Item a 1", 1, "unknown command \"Item\"; item?"),
     // letters that changed places,
     (b"itme a 1", 1, "unknown command \"itme\"; item?"),
     // a name that begins with a digit,
-    (
-        b"item 1a 1",
-        6,
-        "name \"1a\" does not start with a letter",
-    ),
+    (b"item 1a 1", 6, "name \"1a\" does not start with a letter"),
     // a name with another byte,
     (
         b"item a-b 1",
@@ -77,11 +81,7 @@ static ROWS: [Row; 32] = [
         "\"1,000\" has a digit separator; write digits only",
     ),
     // zeros in front,
-    (
-        b"item a 007",
-        8,
-        "\"007\" has leading zeros; remove them",
-    ),
+    (b"item a 007", 8, "\"007\" has leading zeros; remove them"),
     // a zero with a sign,
     (b"item a -0", 8, "\"-0\" is not allowed; write 0"),
     // a digit too many,
@@ -135,11 +135,7 @@ static ROWS: [Row; 32] = [
         "unexpected \"b\"; usage: read TRANSACTION ITEM",
     ),
     // The first word alone.
-    (
-        b"commit",
-        7,
-        "missing name; usage: commit TRANSACTION",
-    ),
+    (b"commit", 7, "missing name; usage: commit TRANSACTION"),
     // What `totals` is asked with.
     (b"totals q", 8, "unexpected \"q\"; usage: totals"),
     // A line of another kind of file.

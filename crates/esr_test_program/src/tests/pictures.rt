@@ -5,8 +5,8 @@ ghost use Rattle.esr_base.specs.Watch.{failed};
 
 use crate::tests::devices::{Way, check_cut, cut_after, narrow_until};
 use esr_history::Watched;
-use esr_lint::Unobserved;
-use esr_picture::Drawing;
+use esr_lint::{Notes, Unobserved};
+use esr_picture::{Drawing, NotedDrawing};
 use esr_script::{RunFault, render_query};
 use std::alloc::{AllocError, Global};
 use std::io::{Read, Write};
@@ -107,6 +107,41 @@ fn little_is_drawn(rt: HostRuntime) {
         ">off by 2 x 3 = 6</text>",
     ];
     has(&rt, rt.alloc(), TWICE, "q", &texts);
+}
+
+/// Lines with errors are in a box above the picture, which stays where it is.
+#[test]
+fn lines_with_errors_are_drawn(rt: HostRuntime) {
+    let alloc = rt.alloc();
+    let notes = Notes::new(alloc);
+    for number in 2..8 {
+        notes.add(&format_args!("line {number}: \"a<b\""));
+    }
+    let mut reader = Watched::new(BANK.as_bytes());
+    let mut writer = Watched::new(Vec::new(alloc));
+    let view = NotedDrawing { notes: &notes };
+    let ended = render_query(
+        alloc,
+        &mut reader,
+        &mut writer,
+        "report",
+        &view,
+        &mut Unobserved,
+    );
+    assert!(&rt; ended == Ok(()));
+    let written = from_utf8(writer.inner().as_slice()).unwrap_or("");
+    for text in [
+        " viewBox='0 -128 ",
+        "<rect class='x' x='10' y='-120' ",
+        "<text class='r' x='20' y='-104'>6 lines of the script have errors and are not drawn:</text>",
+        "<text class='r' x='20' y='-86'>line 2: &quot;a&lt;b&quot;</text>",
+        "<text class='r' x='20' y='-14'>line 6: ",
+    ] {
+        assert!(&rt; written.contains(text), "the picture has {}", text);
+    }
+    for text in BANK_DRAWN {
+        assert!(&rt; written.contains(text), "the picture has {}", text);
+    }
 }
 
 /// A value that was read and given up, one that was read twice, one that its writer wrote over, and one that was given up

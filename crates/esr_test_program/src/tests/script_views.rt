@@ -2,8 +2,8 @@
 
 use crate::tests::pictures::BANK;
 use esr_history::Watched;
-use esr_lint::Unobserved;
-use esr_page::Page;
+use esr_lint::{Notes, Unobserved};
+use esr_page::{Origin, Page};
 use esr_picture::Drawing;
 use esr_prose::{Passage, Prose};
 use esr_script::{RunFault, render_script};
@@ -113,11 +113,11 @@ fn what_became_of_values_and_queries_is_told(rt: HostRuntime) {
     ];
     has(&rt, alloc, DAY, &Prose { name: "report" }, &report);
     let other = [
-        "other aborted, so no moment is compared with it.",
+        "other aborted, so it is not compared with any state.",
         "aborted in line 20.",
     ];
     has(&rt, alloc, DAY, &Prose { name: "other" }, &other);
-    let active = ["it would be off by at most the 410 that it has been charged."];
+    let active = ["its error would be at most the 410 that it has been charged."];
     has(&rt, alloc, DAY, &Prose { name: "active" }, &active);
 }
 
@@ -131,12 +131,18 @@ fn what_is_no_query_is_not_told(rt: HostRuntime) {
     }
 }
 
-/// A page that tells of so many queries.
-fn page(worst: u64) -> Page<'static, Drawing, Passage> {
+/// Returns a page with the details of `worst` queries.
+fn page<'a>(worst: u64, notes: &'a Notes) -> Page<'a, Drawing, Passage> {
     Page {
         worst,
         picture: &Drawing,
         words: &Passage,
+        origin: Origin {
+            file: Some("<bank>"),
+            date: Some("27 Nov 2026"),
+            version: "1.2.3",
+            notes,
+        },
     }
 }
 
@@ -145,7 +151,7 @@ fn page(worst: u64) -> Page<'static, Drawing, Passage> {
 fn a_page_has_each_part(rt: HostRuntime) {
     let texts = [
         "<p>1 committed query among 1 committed update.</p>",
-        "<dd>report, by 100</dd>",
+        "<dd>report, 100</dd>",
         "<li><a href='#q-report' title='report: limit 200, charged 100, off by 100'>",
         "<tr id='r-report'><td class='num'>1</td><th scope='row'><a href='#q-report'>report</a></th><td>query</td><td class='num'>200</td><td class='num'>100</td><td class='num'>100</td><td class='num'>2</td><td>committed</td><td class='num'>100</td></tr>",
         "<section id='q-report'><h3>report: off by 100</h3>",
@@ -153,11 +159,28 @@ fn a_page_has_each_part(rt: HostRuntime) {
         "<li>savings 1,600, in line 9, as transfer had left it</li>",
         "<p class='order'>transfer</p>",
     ];
-    has(&rt, rt.alloc(), BANK, &page(10), &texts);
+    let alloc = rt.alloc();
+    let notes = Notes::new(alloc);
+    has(&rt, alloc, BANK, &page(10, &notes), &texts);
     let texts = [
         "<td>aborted</td><td class='num'>-</td>",
         "<td>still active</td><td class='num'>-</td>",
         "<h2 id='all'>All queries</h2>",
     ];
-    has(&rt, rt.alloc(), DAY, &page(0), &texts);
+    has(&rt, alloc, DAY, &page(0, &notes), &texts);
+}
+
+/// The name of a file may contain any letter, and a line with an error any printable one.
+#[test]
+fn a_page_names_its_origin_and_the_lines_with_errors(rt: HostRuntime) {
+    let alloc = rt.alloc();
+    let notes = Notes::new(alloc);
+    let origin = ["<p class='origin'>&lt;bank&gt;, 27 Nov 2026, esr 1.2.3</p>\n<p>1 committed"];
+    has(&rt, alloc, BANK, &page(10, &notes), &origin);
+    notes.add(&"line 3: unknown command \"a&b\"");
+    let errors = [
+        "<div class='errors' role='alert'><p>1 line of the script has an error and is left out here.",
+        "<li>line 3: unknown command &quot;a&amp;b&quot;</li>\n</ul></div>\n",
+    ];
+    has(&rt, alloc, BANK, &page(10, &notes), &errors);
 }
