@@ -109,7 +109,7 @@ fn little_is_drawn(rt: HostRuntime) {
     has(&rt, rt.alloc(), TWICE, "q", &texts);
 }
 
-/// Lines with errors are in a box above the picture, which stays where it is.
+/// Lines with errors are in a box above the picture, which is drawn as without them.
 #[test]
 fn lines_with_errors_are_drawn(rt: HostRuntime) {
     let alloc = rt.alloc();
