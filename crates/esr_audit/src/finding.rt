@@ -98,7 +98,7 @@ pub enum AuditError {
     #[error("out of memory")]
     NoMemory = 2,
     /// An audit has 1 to 64 workers.
-    #[error("number of workers out of range (1 to 64)")]
+    #[error("workers out of range")]
     WorkersOutOfRange = 3,
 }
 

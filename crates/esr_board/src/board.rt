@@ -55,7 +55,7 @@ pub enum BoardError {
     #[error("more than 65,535 jobs")]
     TooManyJobs = 1,
     /// A board has 1 to 64 seats.
-    #[error("number of seats out of range (1 to 64)")]
+    #[error("seats out of range")]
     SeatsOutOfRange = 2,
     /// Out of memory.
     #[error("out of memory")]
@@ -64,5 +64,5 @@ pub enum BoardError {
 
 /// A seat that drew a number was not given back.
 #[derive(Clone, Copy, PartialEq, Eq, Debug, Error)]
-#[error("a seat is missing")]
+#[error("a seat was not given back")]
 pub struct ClaimsMissing;

@@ -41,12 +41,15 @@ pub fn check<'a, R: Print + Eprint + Files + AllocGlobal + Clock, I: Read + Drop
 ) -> u8 {
     match (question.script, question.query) {
         (None, None) => check_alone(rt, console, source, input, question.verbose),
-        (Some(script), Some(query)) => match ask_script(rt, console, script, query) {
-            Ok(asked) => {
-                check_claim(rt, console, source, input, &asked, query, question.verbose)
-            }
-            Err(status) => status,
-        },
+        (Some(script), Some(query)) => check_with_script(
+            rt,
+            console,
+            source,
+            input,
+            script,
+            query,
+            question.verbose,
+        ),
         _ => fail(rt, &"--script and --query must be used together", 2),
     }
 }
@@ -123,46 +126,52 @@ fn check_alone<I: Read + Drop>(
     status_of(verdict)
 }
 
-/// Returns the query of a script, or the status if there is no such query.
-fn ask_script<'a, R: Print + Eprint + Files + AllocGlobal + Clock>(
+/// Checks a bundle against a query of a script. Lines with errors of the script are reported unless a fault is.
+fn check_with_script<'a, R: Print + Eprint + Files + AllocGlobal + Clock, I: Read + Drop>(
     rt: &'a R,
     console: Console,
+    source: Source<'_>,
+    input: I,
     path: &'a str,
     query: &'a str,
-) -> Result<AuditedQuery, u8> {
+    verbose: bool,
+) -> u8 {
     let alloc = rt.alloc();
     let file = match open_file(rt, path) {
         Ok(file) => file,
-        Err(reason) => return Err(fail(rt, &format_args!("{path}: {reason}"), 1)),
+        Err(reason) => return fail(rt, &format_args!("{path}: {reason}"), 1),
     };
-    let source = Source(Some(path));
+    let script = Source(Some(path));
     let mut reader = Watched::new(file);
     let reports = Reports {
         first_only: false,
         held: !console.is_terminal,
     };
     let sought = Sought::CommittedQuery(query);
-    let reporter = ErrorReporter::new(rt, alloc, source, reports, sought, None);
+    let reporter = ErrorReporter::new(rt, alloc, script, reports, sought, None);
     let meter = Meter::new(rt, console);
     let mut observer = LineObserver::new(reporter, &meter);
     match ask(alloc, &mut reader, query, &mut observer) {
         Ok(asked) => {
-            observer.release();
-            Ok(asked)
+            let verdict = check_claim(rt, console, source, input, &asked, query, verbose);
+            if verdict.is_ok() {
+                observer.release();
+            }
+            status_of(verdict)
         }
         Err(fault) => {
             let help = RunHelp {
-                source,
+                source: script,
                 fault,
                 line: observer.next_line(),
                 not_found: Some(observer.refusal()),
             };
-            Err(report_fault(rt, console, &fault, &help))
+            report_fault(rt, console, &fault, &help)
         }
     }
 }
 
-/// Checks a bundle against a query of a script.
+/// Checks a bundle against a query. Returns whether it is valid and belongs to the query, or the status after a fault.
 fn check_claim<I: Read + Drop>(
     rt: &(impl Print + Eprint + AllocGlobal),
     console: Console,
@@ -171,30 +180,26 @@ fn check_claim<I: Read + Drop>(
     asked: &AuditedQuery,
     query: &str,
     verbose: bool,
-) -> u8 {
+) -> Result<bool, u8> {
     let alloc = rt.alloc();
     let mut reader = Watched::new(TeeReader::new(alloc, input));
     let mut verdict = Watched::new(Vec::new(alloc));
     match judge(alloc, &mut reader, &mut verdict) {
         Ok(_) => {}
         // The verdict is kept in memory, so no device has failed.
-        Err(JudgeFault::Write) => return fail(rt, &JudgeFault::NoMemory, 1),
-        Err(fault) => return report_judge_fault(rt, console, source, fault),
+        Err(JudgeFault::Write) => return Err(fail(rt, &JudgeFault::NoMemory, 1)),
+        Err(fault) => return Err(report_judge_fault(rt, console, source, fault)),
     }
     let Some(bytes) = reader.inner().copy() else {
-        return fail(rt, &JudgeFault::NoMemory, 1);
+        return Err(fail(rt, &JudgeFault::NoMemory, 1));
     };
-    match write_claim(rt, alloc, asked, bytes, query) {
-        Ok(Ok(true)) => 0,
-        Ok(Ok(false)) => {
-            if verbose {
-                report_detail(rt, alloc, Some(bytes));
-            }
-            1
-        }
-        Ok(Err(status)) => status,
-        Err(_) => fail(rt, &JudgeFault::NoMemory, 1),
+    let Ok(written) = write_claim(rt, alloc, asked, bytes, query) else {
+        return Err(fail(rt, &JudgeFault::NoMemory, 1));
+    };
+    if verbose && let Ok(false) = written {
+        report_detail(rt, alloc, Some(bytes));
     }
+    written
 }
 
 /// Prints the line of a claim. Returns whether the bundle is valid and belongs to the query, or the status after a

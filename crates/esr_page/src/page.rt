@@ -12,7 +12,7 @@ use crate::table::push_table;
 use esr_history::TxnId;
 use esr_lint::Notes;
 use esr_report::{Names, name_of_transaction};
-use esr_text::{markup_or_nothing, push_count, push_escaped, push_number};
+use esr_text::{markup_or_nothing, push_count, push_number, push_plain};
 use esr_trace::Part;
 use esr_views::{Recording, ScriptView};
 use std::alloc::{AllocError, Global};
@@ -41,13 +41,13 @@ pub struct Origin<'a> {
 /// Appends the file, the date and the version of the program.
 fn push_origin(out: &mut String, origin: Origin<'_>) -> Result<(), AllocError> {
     out.push_str("<p class='origin'>")?;
-    push_escaped(out, origin.file.unwrap_or("standard input"))?;
+    push_plain(out, origin.file.unwrap_or("standard input"))?;
     if let Some(date) = origin.date {
         out.push_str(", ")?;
-        push_escaped(out, date)?;
+        push_plain(out, date)?;
     }
     out.push_str(", esr ")?;
-    push_escaped(out, origin.version)?;
+    push_plain(out, origin.version)?;
     out.push_str("</p>\n")
 }
 
@@ -68,7 +68,7 @@ fn push_errors(alloc: Global, out: &mut String, notes: &Notes) -> Result<(), All
     let text = notes.text(alloc)?;
     for line in text.lines() {
         out.push_str("<li>")?;
-        push_escaped(out, line)?;
+        push_plain(out, line)?;
         out.push_str("</li>\n")?;
     }
     out.push_str("</ul></div>\n")

@@ -17,11 +17,11 @@ pub struct Receipt {
 #[derive(Clone, Copy, Debug, PartialEq, Eq, Error)]
 pub enum CloseError {
     /// There are fewer receipts than the history has entries.
-    #[error("collected {gathered} of {total} receipts")]
+    #[error("{gathered} of {total} receipts were gathered")]
     SessionMissing { gathered: u64, total: u64 },
     /// The first receipt, list by list, that names no entry of the history, or another event or reply than the
     /// entry's, or a place that an earlier receipt has, or one not above that of the receipt before it in its list.
-    #[error("receipt does not belong to this history")]
+    #[error("a receipt is not of this history")]
     ForeignReceipt(Receipt),
     /// An allocation failed.
     #[error("out of memory")]

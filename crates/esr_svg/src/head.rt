@@ -5,7 +5,7 @@
 use crate::elements::{open_text, push_text};
 use crate::frame::{ERROR_LINE, Frame, MAX_ERRORS};
 use crate::scene::{Lane, Scene, Update};
-use esr_text::{first, push_escaped, push_number, push_value};
+use esr_text::{first, push_number, push_plain, push_value};
 use std::alloc::AllocError;
 
 const STYLE: &str = "<style>\n\
@@ -202,7 +202,7 @@ fn push_errors(
     let mut up = above.saturating_sub(24);
     for error in first(errors, MAX_ERRORS) {
         write!(out, "<text class='r' x='20' y='-{up}'>")?;
-        push_escaped(out, error)?;
+        push_plain(out, error)?;
         out.push_str("</text>\n")?;
         up = up.saturating_sub(ERROR_LINE);
     }

@@ -134,7 +134,7 @@ fn lines_with_errors_are_drawn(rt: HostRuntime) {
         " viewBox='0 -128 ",
         "<rect class='x' x='10' y='-120' ",
         "<text class='r' x='20' y='-104'>6 lines of the script have errors and are not drawn:</text>",
-        "<text class='r' x='20' y='-86'>line 2: &quot;a&lt;b&quot;</text>",
+        "<text class='r' x='20' y='-86'>line 2: \"a\u{ff1c}b\"</text>",
         "<text class='r' x='20' y='-14'>line 6: ",
     ] {
         assert!(&rt; written.contains(text), "the picture has {}", text);

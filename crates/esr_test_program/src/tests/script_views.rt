@@ -35,8 +35,8 @@ In the nearest state, the values were:
 
 In total they were 2,000 there: the sum of the values read is off by 100.
 
-Charges are made before the outcome is known: of the 100 that it was
-charged, all were necessary.
+Charges are made before the outcome is known: of the 100 that it was charged,
+all were necessary.
 ";
 
 /// Lines that make no entry, a value that was given up, an item with a weight, a strict query, one that aborted and one
@@ -175,12 +175,12 @@ fn a_page_has_each_part(rt: HostRuntime) {
 fn a_page_names_its_origin_and_the_lines_with_errors(rt: HostRuntime) {
     let alloc = rt.alloc();
     let notes = Notes::new(alloc);
-    let origin = ["<p class='origin'>&lt;bank&gt;, 27 Nov 2026, esr 1.2.3</p>\n<p>1 committed"];
+    let origin = ["<p class='origin'>\u{ff1c}bank>, 27 Nov 2026, esr 1.2.3</p>\n<p>1 committed"];
     has(&rt, alloc, BANK, &page(10, &notes), &origin);
     notes.add(&"line 3: unknown command \"a&b\"");
     let errors = [
         "<div class='errors' role='alert'><p>1 line of the script has an error and is left out here.",
-        "<li>line 3: unknown command &quot;a&amp;b&quot;</li>\n</ul></div>\n",
+        "<li>line 3: unknown command \"a\u{ff06}b\"</li>\n</ul></div>\n",
     ];
     has(&rt, alloc, BANK, &page(10, &notes), &errors);
 }
