@@ -427,7 +427,7 @@ fn shell<'a>(alloc: Global) -> Command<'a>
     Command::new(alloc, "esr")
         .about("Epsilon-serializable transactions over whole-number items")
         .after_help(help::SCRIPT)
-        .version("0.1.0")
+        .version("0.3.0")
         .subcommand_required(true)
 }
 
