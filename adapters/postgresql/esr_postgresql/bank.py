@@ -17,7 +17,8 @@ from typing import Any, Callable, Iterator
 
 import psycopg2
 
-from .record import Record
+from esr_history.record import Record
+
 from .recorder import Recorder
 from .tables import RecordingError, Table
 

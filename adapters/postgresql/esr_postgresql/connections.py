@@ -14,7 +14,8 @@ from __future__ import annotations
 import functools
 from typing import TYPE_CHECKING, Any, Iterable, NamedTuple, Optional, Sequence, Union
 
-from .record import Action, Operation, Outcome
+from esr_history.record import Action, Operation, Outcome
+
 from .tables import Place, RecordingError, Table
 
 try:
@@ -32,12 +33,14 @@ if TYPE_CHECKING:
 
 ServerError: type[Exception] = psycopg2.Error
 
-# Which database of which server a connection is to. (Numbers of tables are of one database.)
-DATABASE = "select oid, pg_postmaster_start_time() from pg_database where datname = current_database()"
+# The database of a connection, the same after a restart of the server. (Numbers of tables are of one database.)
+DATABASE = """select oid, (select system_identifier from pg_control_system())
+    from pg_database where datname = current_database()"""
 NOW = "(extract(epoch from clock_timestamp()) * 1000000)::bigint"
+LASTS = "current_setting('synchronous_commit') <> 'off'"
 ABOUT_TO_END = f"""select pg_current_xact_id_if_assigned()::text, current_setting('transaction_isolation'),
-    (extract(epoch from transaction_timestamp()) * 1000000)::bigint, {NOW}"""
-HAS_ENDED = f"select null, current_setting('transaction_isolation'), {NOW}, {NOW}"
+    (extract(epoch from transaction_timestamp()) * 1000000)::bigint, {NOW}, {LASTS}"""
+HAS_ENDED = f"select null, current_setting('transaction_isolation'), {NOW}, {NOW}, {LASTS}"
 
 
 class Row(NamedTuple):
@@ -59,15 +62,20 @@ Noted = Union[Row, Rest]
 
 
 class Ended(NamedTuple):
-    """A transaction as its connection saw it."""
+    """A transaction as its connection saw it. Its `outcome` is COMMITTED if the server acknowledged the commit. `life`
+    counts the starts and recoveries of the server before it, `faults` are the rows that cannot be recorded, and `lasts`
+    is whether an acknowledged commit survives a crash."""
 
     name: str
     noted: tuple[Noted, ...]
-    xid: Optional[int]
-    level: str
-    began: int
-    ended: int
-    outcome: Outcome
+    xid: Optional[int] = None
+    level: str = ""
+    began: int = 0
+    ended: int = 0
+    outcome: Outcome = Outcome.ABORTED
+    life: int = 1
+    lasts: bool = False
+    faults: tuple[str, ...] = ()
 
 
 class _Recording(extensions.cursor):  # type: ignore[misc]
@@ -133,10 +141,12 @@ class RecordingConnection(extensions.connection):  # type: ignore[misc]
     def _open(self, recorder: Recorder, label: str) -> None:
         self.recorder, self.label = recorder, label
         self._noted: list[Noted] = []
+        self._faults: list[str] = []
         self._savepoints: list[tuple[str, int]] = []
-        self._asked: Optional[tuple[Any, ...]] = None
+        self._asked: Optional[Ended] = None
         self._is_recorded = recorder.database == self._query(DATABASE)
         super().rollback()
+        self._life = recorder.life()
 
     def cursor(self, name: Optional[str] = None, cursor_factory: Optional[type] = None, **named: Any) -> Any:
         """A cursor as the application asks for it, and noting what its statements do."""
@@ -156,20 +166,25 @@ class RecordingConnection(extensions.connection):  # type: ignore[misc]
             self._ask()
 
     def _has_run(self, cursor: Any) -> dict[str, set[str]]:
-        """Notes what a statement did. Answers which items of which tables its result has."""
+        """Notes the rows of a result. Returns the items of each table in it."""
         seen = self._note(cursor) if cursor.description else {}
+        word = cursor.statusmessage
         if self.get_transaction_status() == extensions.TRANSACTION_STATUS_IDLE:
-            self._keep(Outcome.ABORTED if cursor.statusmessage == "ROLLBACK" else Outcome.COMMITTED)
-        elif cursor.statusmessage in ("SAVEPOINT", "ROLLBACK", "COMMIT"):
-            self._note_savepoint(cursor.statusmessage, cursor.query.decode(errors="replace"))
+            self._keep(Outcome.ABORTED if word == "ROLLBACK" else Outcome.COMMITTED)
+        elif word in ("SAVEPOINT", "ROLLBACK", "COMMIT"):
+            name = cursor.query.decode(errors="replace").lower().strip().rstrip(";").split()[-1]
+            if word == "COMMIT" or name == "chain":
+                self._keep(Outcome.COMMITTED if word == "COMMIT" else Outcome.ABORTED)
+            else:
+                self._note_savepoint(word, name)
         return seen
 
     def _note(self, cursor: Any) -> dict[str, set[str]]:
+        word = cursor.statusmessage.split(" ")[0]
         places = self.recorder.places(cursor.description) if self._is_recorded else []
         seen: dict[str, set[str]] = {}
         if not places or cursor.rowcount < 1:
             return seen
-        word = cursor.statusmessage.split(" ")[0]
         for row in cursor._rows():
             for place in places:
                 if row[place.xmin] is None:
@@ -177,25 +192,22 @@ class RecordingConnection(extensions.connection):  # type: ignore[misc]
                 try:
                     operation = _operation(place, row, word)
                 except RecordingError as error:
-                    self.recorder.fault(str(error))
+                    self._faults.append(str(error))
                     continue
                 seen.setdefault(place.table.name, set()).add(operation.item)
                 self._noted.append(Row(place.table, operation))
         return seen
 
-    def _note_savepoint(self, word: str, query: str) -> None:
-        """A transaction goes on behind SAVEPOINT and ROLLBACK TO, which undoes deletions. (Other writes have versions,
-        of which the server is asked.)"""
-        name = query.lower().strip().rstrip(";").split()[-1]
+    def _note_savepoint(self, word: str, name: str) -> None:
+        """Notes a savepoint, or removes the deletions that ROLLBACK TO undoes. (Other writes have versions, whose status
+        the server reports.)"""
         places = [place for other, place in self._savepoints if other == name]
-        if word == "COMMIT" or name == "chain":
-            self.recorder.fault("a transaction that was ended AND CHAIN cannot be told from the next one")
-        elif word == "SAVEPOINT":
+        if word == "SAVEPOINT":
             self._savepoints.append((name, len(self._noted)))
         elif places:
             self._noted[places[-1] :] = [noted for noted in self._noted[places[-1] :] if not deletes(noted)]
         elif any(map(deletes, self._noted)):
-            self.recorder.fault(f"what was deleted before {query!r} cannot be told")
+            self._faults.append(f"it is unknown which deletions ROLLBACK TO {name} undid")
 
     def _covers(self, table: str, seen: set[str], keys: Optional[Iterable[Any]]) -> None:
         known = self.recorder.table(table)
@@ -212,30 +224,40 @@ class RecordingConnection(extensions.connection):  # type: ignore[misc]
             row: tuple[Any, ...] = cursor.fetchone()
             return row
 
+    def _ended(self, statement: str) -> Ended:
+        """Returns the current transaction, whose outcome is not known yet."""
+        xid, level, began, ended, lasts = self._query(statement)
+        name = self.recorder.next_name(self.label)
+        number = int(xid) if xid else None
+        noted, faults = tuple(self._noted), tuple(self._faults)
+        return Ended(name, noted, number, level, began, ended, Outcome.ABORTED, self._life, lasts, faults)
+
     def _ask(self) -> None:
-        if self._noted and self.get_transaction_status() == extensions.TRANSACTION_STATUS_INTRANS:
-            self._asked = self._query(ABOUT_TO_END)
+        if (self._noted or self._faults) and self.get_transaction_status() == extensions.TRANSACTION_STATUS_INTRANS:
+            self._asked = self._ended(ABOUT_TO_END)
+            self.recorder.about_to_end(self._asked)
 
     def _keep(self, outcome: Outcome) -> None:
         """Hands over the transaction that has ended."""
-        noted, asked = tuple(self._noted), self._asked
-        self._noted, self._savepoints, self._asked = [], [], None
-        if not noted:
-            return
-        if asked is None and outcome is Outcome.COMMITTED:
+        ended, self._asked = self._asked, None
+        if ended is None and outcome is Outcome.COMMITTED and (self._noted or self._faults):
             # (a statement that was a transaction by itself)
-            asked = self._query(HAS_ENDED)
+            ended = self._ended(HAS_ENDED)
             if self.get_transaction_status() != extensions.TRANSACTION_STATUS_IDLE:
                 super().rollback()
-        xid, level, began, ended = asked or (None, "", 0, 0)
-        self.recorder.keep(Ended(self.label, noted, int(xid) if xid else None, level, began, ended, outcome))
+            self.recorder.about_to_end(ended)
+        elif ended is None and self._noted:
+            ended = Ended(self.recorder.next_name(self.label), tuple(self._noted), life=self._life)
+        self._noted, self._faults, self._savepoints = [], [], []
+        if ended is not None:
+            self.recorder.keep(ended._replace(outcome=outcome))
 
     def commit(self) -> None:
-        self._ask()
         try:
+            self._ask()
             super().commit()
         except BaseException:
-            # (an update is looked up at the end; a report that was not told that it has committed is none)
+            # (the server reports at the end how an update ended; a report without an acknowledged commit is left out)
             self._keep(Outcome.ABORTED)
             raise
         self._keep(Outcome.COMMITTED if self._asked else Outcome.ABORTED)

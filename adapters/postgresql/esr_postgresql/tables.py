@@ -10,9 +10,9 @@ from __future__ import annotations
 
 from dataclasses import dataclass
 from decimal import Decimal
-from typing import Any, NamedTuple, Sequence
+from typing import Any, NamedTuple, Optional, Sequence
 
-from .record import MAX_VALUE
+from esr_history.record import MAX_VALUE
 
 XID_TYPE = 28  # the number of the type xid
 EXACT = ("smallint", "integer", "bigint", "numeric")
@@ -65,6 +65,9 @@ class Table:
         return int(scaled)
 
 
+Rows = dict[str, tuple[Table, int, str]]  # (of each item its table, value and version)
+
+
 class Place(NamedTuple):
     """Where the columns of a table's row are in a result."""
 
@@ -90,8 +93,8 @@ class KnownTable:
         def numbered(number: int) -> list[int]:
             return [place for place, column in mine if column.table_column == number]
 
-        # (psycopg2 tells no number of a system column)
-        xmins = [place for place, column in mine if column.name == "xmin" and column.type_code == XID_TYPE]
+        # (psycopg2 has no number of a system column; object-relational mappers give it an alias such as accounts_xmin)
+        xmins = [place for place, column in mine if column.name.endswith("xmin") and column.type_code == XID_TYPE]
         values = numbered(self.value)
         rows = zip(zip(*map(numbered, self.key)), values, xmins)
         found = [Place(self.table, key, value, xmin) for key, value, xmin in rows]
@@ -128,13 +131,22 @@ def known_table(cursor: Any, table: Table) -> KnownTable:
     return KnownTable(table, row[0], {name: number for name, (number, _) in columns.items()})
 
 
-def rows_of(cursor: Any, tables: Sequence[Table]) -> dict[str, tuple[Table, int, str]]:
-    """All rows of the tables: of each item its table, its value and its version."""
+def rows_of(cursor: Any, tables: Sequence[Table], faults: Optional[dict[str, str]] = None) -> Rows:
+    """Returns all rows of the tables: for each item its table, its value and its version. Adds rows that cannot be
+    recorded to `faults`.
+
+    # Errors
+    RecordingError for such a row, without `faults`."""
     found = {}
     for table in tables:
         columns = ", ".join(_quoted(name) for name in (*table.key, table.value))
         cursor.execute(f"select {columns}, xmin from {table.name}")
         for *key, value, xmin in cursor:
             item = table.item(key)
-            found[item] = (table, table.whole(item, value), str(xmin))
+            try:
+                found[item] = (table, table.whole(item, value), str(xmin))
+            except RecordingError as error:
+                if faults is None:
+                    raise
+                faults[item] = str(error)
     return found

@@ -22,7 +22,7 @@ from dataclasses import dataclass
 from typing import Optional
 
 from .cycles import Edges, NotSerializable, Reason, cycle_of, groups
-from .record import Record, Transaction
+from .record import Outcome, Record, Transaction
 from .versions import Chain, IncompleteRecord, Read, Resolver
 
 
@@ -102,9 +102,21 @@ def history_of(record: Record) -> History:
     return History(record, updates, reports, resolver.chains, update_reads, report_reads, serial)
 
 
+def gaps(history: History) -> list[str]:
+    """Returns why the record does not have every operation: a sentence for each reason. If there is one, an update may
+    be missing, and a report that shows no error is not known to be exact."""
+    found = [note.text for note in history.record.notes if note.is_gap]
+    for outcome, text in ((Outcome.UNKNOWN, "updates that ended unknown"), (Outcome.LEFT_OUT, "updates left out")):
+        names = [each.name for each in history.record.transactions if each.outcome is outcome and each.may_write]
+        if names:
+            found.append(f"{text}: {', '.join(names)}")
+    if unrecorded_endings(history):
+        found.append("values at the end without a recorded writer")
+    return found
+
+
 def unrecorded_endings(history: History) -> list[str]:
-    """The items that have at the end a version that nobody recorded has written. No recorded transaction has read
-    it."""
+    """Returns the items whose version at the end has no recorded writer. No recorded transaction has read it."""
     found = []
     for ending in history.record.endings:
         chain = history.chains[ending.item]

@@ -16,8 +16,9 @@ import pathlib
 import shutil
 from typing import Optional
 
-from .order import history_of
-from .program import Program, ProgramError, off_reads
+from .order import History, history_of
+from .placement import PlacedReport
+from .program import Finding, Program, ProgramError, off_reads
 from .record import Record
 from .result import AuditedReport, ExplainedReport, Result
 from .script import Conversion, Script, convert
@@ -43,21 +44,49 @@ def write_scripts(conversion: Conversion, folder: pathlib.Path) -> list[str]:
 
 
 def _write_audits(reports: list[AuditedReport], folder: pathlib.Path) -> None:
-    lines = ["report\tlevel\treads\tdistance\tcharged\tname in script\tscript\n"]
+    lines = ["report\tlevel\treads\tdistance\tcharged\tsum error\tname in script\tscript\n"]
     for each in reports:
         finding, placed = each.finding, each.placed
         lines.append(
             f"{each.name}\t{placed.report.level}\t{len(placed.reads)}\t{finding.distance}\t{finding.charged}"
-            f"\t{finding.name}\t{os.path.basename(each.path)}\n"
+            f"\t{each.sum_error}\t{finding.name}\t{os.path.basename(each.path)}\n"
         )
     (folder / "audits.tsv").write_text("".join(lines), encoding="utf-8")
 
 
-def _audited_script(script: Script, path: str, program: Program, workers: int) -> list[AuditedReport]:
-    """The reports of a script, as the program audits them."""
+def _sum_error(history: History, script: Script, placed: PlacedReport, finding: Finding) -> int:
+    """Returns by how much the sum of a report's reads exceeds their sum at the nearest placement. (Of the writers of an
+    item, those before the placement are the first ones.)"""
+    if not finding.distance:
+        return 0
+    error, names = 0, script.transactions.by_label
+    for read in placed.reads:
+        chain = history.chains[read.item]
+        low, high = script.opening[read.item], len(chain.writers)
+        while low < high:
+            middle = (low + high + 1) // 2
+            if names.get(history.updates[chain.writers[middle - 1]].name) in finding.before:
+                low = middle
+            else:
+                high = middle - 1
+        error += (chain.values[read.number] or 0) - (chain.values[low] or 0)
+    return error
+
+
+def _audited_script(
+    history: History, script: Script, path: str, program: Program, workers: int
+) -> list[AuditedReport]:
+    """Returns the reports of a script, as the program audits them."""
+    if not script.lines:
+        return []
     program.check_answers(script, path)
     placed = {script.transactions[each.report.name]: each for each in script.window.reports}
-    found = [AuditedReport(placed[finding.name], script, path, finding) for finding in program.audit(path, workers)]
+    found = [
+        AuditedReport(
+            placed[finding.name], script, path, finding, _sum_error(history, script, placed[finding.name], finding)
+        )
+        for finding in program.audit(path, workers)
+    ]
     if len(found) != len(placed):
         raise ProgramError(f"{path}: {len(found)} reports were audited, and not {len(placed)}")
     return found
@@ -81,7 +110,7 @@ def audited(record: Record, folder: str, program: Program, worst: int = 3, worke
     workers = workers or min(os.cpu_count() or 1, MAX_WORKERS)
     reports: list[AuditedReport] = []
     for script, path in zip(conversion.scripts, write_scripts(conversion, room)):
-        reports += _audited_script(script, path, program, workers)
+        reports += _audited_script(history, script, path, program, workers)
     _write_audits(reports, room)
     shutil.rmtree(room / "worst", ignore_errors=True)
     (room / "worst").mkdir()

@@ -39,10 +39,11 @@ class Script:
     answers: list[str] = field(default_factory=list)
     items: Names = field(default_factory=lambda: Names("i"))
     transactions: Names = field(default_factory=lambda: Names("t"))
+    opening: dict[str, int] = field(default_factory=dict)  # (the number of each item's version before the window)
     updates: int = 0
 
     def text(self) -> str:
-        return "\n".join(self.lines) + "\n"
+        return "".join(f"{line}\n" for line in self.lines)
 
     def say(self, line: str, answer: str) -> None:
         self.lines.append(line)
@@ -68,7 +69,7 @@ class _Charges:
         return sums[bisect_left(positions, last)] - sums[bisect_left(positions, first)]
 
     def of(self, window: Window) -> int:
-        """What all writes of a window are charged together."""
+        """Returns the sum of the charges of all writes of a window."""
         return sum(
             self.between(read.item, read.slot, report.commit) for report in window.reports for read in report.reads
         )
@@ -101,9 +102,10 @@ class _Writer:
             self.item(item)
 
     def opening(self, item: str) -> int:
-        """The value of an item in the first slot of the window. A row that is not there counts 0."""
+        """Returns the value of an item in the first slot of the window, 0 for a row that does not exist."""
         chain = self.history.chains[item]
         number = sum(1 for writer in chain.writers if self.positions.of[writer] < self.script.window.first)
+        self.script.opening[item] = number
         return chain.values[number] or 0
 
     def item(self, item: str) -> None:

@@ -76,13 +76,13 @@ class Resolver:
         self.faults: list[str] = []
         self.chains = {item.name: Chain(item.value, item.version) for item in record.items.values()}
         self.others = {
-            operation.version: other
+            (operation.item, operation.version): other
             for other in record.transactions
             if not other.is_committed
             for operation in other.operations
             if operation.action is Action.WRITE
         }
-        self.labels: dict[Optional[str], str] = {}
+        self.labels = {label: each.name for each in record.transactions for label in each.labels}
         for place, update in enumerate(updates):
             for operation in update.operations:
                 if operation.action is Action.WRITE:
@@ -93,7 +93,6 @@ class Resolver:
         return "the opening version" if writer is None else self.updates[writer].name
 
     def write(self, place: int, operation: Operation) -> None:
-        self.labels[operation.version] = self.updates[place].name
         same = self.chains[operation.item].write(place, operation)
         if same is not None:
             self.faults.append(
@@ -102,17 +101,19 @@ class Resolver:
             )
 
     def missing(self, reader: str, read: Operation) -> str:
-        """Says of a version that no committed transaction is recorded to have written."""
-        told = f"{read.value} of {read.item} by {read.version}, which {reader} read, has no recorded writer"
+        """Describes a version that has no committed writer in the record."""
+        text = f"{read.value} of {read.item} by {read.version}, which {reader} read, has no recorded writer"
+        other = self.others.get((read.item, read.version))
+        if other is not None:
+            if other.outcome is Outcome.ABORTED:
+                return f"{text} that committed: {other.name} aborted, and an audit is of reads of what was committed"
+            if other.outcome is Outcome.LEFT_OUT:
+                return f"{text}: {other.name} was left out, {other.reason}"
+            return f"{text} that committed: how {other.name} ended is unknown"
         if read.version in self.labels:
             writer = self.labels[read.version]
-            return f"{told}: {writer} has that label, and a write of {read.item} by it was not recorded"
-        if read.version in self.others:
-            other = self.others[read.version]
-            if other.outcome is Outcome.ABORTED:
-                return f"{told} that committed: {other.name} aborted, and an audit is of reads of what was committed"
-            return f"{told} that committed: how {other.name} ended is unknown"
-        return told
+            return f"{text}: {writer} has that label, and a write of {read.item} by it was not recorded"
+        return text
 
     def absence(self, reader: str, item: str) -> Optional[int]:
         """The version that a read of a row that was not there saw."""
@@ -166,10 +167,16 @@ class Resolver:
         return found
 
     def check_endings(self, record: Record) -> None:
-        """At the end each item has the version of its last writer, or one of somebody who was not recorded."""
+        """Checks that each item ends with the version of its last writer, or with one that has no recorded writer."""
         for ending in record.endings:
             chain = self.chains[ending.item]
             number = chain.numbers.get(ending.version or "")
+            writer = self.labels.get(ending.version or "")
+            if number is None and writer is not None and (ending.item, ending.version) not in self.others:
+                self.faults.append(
+                    f"at the end {ending.item} is {ending.value} by {ending.version}, which is {writer}: a write of it"
+                    " by this transaction was not recorded"
+                )
             if number is not None and number != len(chain.writers):
                 self.faults.append(
                     f"at the end {ending.item} is by {self.name(ending.item, number)}, but by the times of the commits"

@@ -29,11 +29,13 @@ class ProgramError(Exception):
 
 @dataclass(frozen=True)
 class Finding:
-    """What the audit found of a report: its least distance, and what the engine would have charged it."""
+    """The audit of a report: its least distance, the charge that the engine would have made, and the updates before the
+    nearest placement by their names in the script (only for a report that is off)."""
 
     name: str
     distance: int
     charged: int
+    before: frozenset[str] = frozenset()
 
 
 @dataclass(frozen=True)
@@ -84,7 +86,7 @@ class Program:
                 raise ProgramError(f"{path}: the line '{line}' was answered '{answer}' and not '{expected}'")
 
     def audit(self, path: str, workers: int) -> list[Finding]:
-        """What the audit finds of each report."""
+        """Returns the audit of each report."""
         findings = []
         command = [self.path, "audit", "--workers", str(workers)]
         with open(path, "rb") as file, subprocess.Popen(
@@ -92,10 +94,11 @@ class Program:
         ) as done:
             assert done.stdout is not None and done.stderr is not None
             for line in done.stdout:
-                # (the list of updates at the end of a line may be long, and is not needed)
-                words = line[:120].decode().split(" ", 7)
-                if words[0] == "audit":
-                    findings.append(Finding(words[1], int(words[3]), int(words[5])))
+                words = line.split(b" ", 7)
+                if words[0] == b"audit":
+                    # (the list of updates may be long, and is not needed for an exact report)
+                    before = frozenset(words[7].decode().strip().split(",") if words[3] != b"0" else ())
+                    findings.append(Finding(words[1].decode(), int(words[3]), int(words[5]), before))
             said = done.stderr.read().decode(errors="replace").strip()
         if done.returncode:
             raise ProgramError(f"{' '.join(command)} < {path}: {said or done.returncode}")
