@@ -92,7 +92,7 @@ def _audited_script(
     return found
 
 
-def _explained(report: AuditedReport, program: Program, folder: pathlib.Path) -> ExplainedReport:
+def explained(report: AuditedReport, program: Program, folder: pathlib.Path) -> ExplainedReport:
     name = report.finding.name
     explanation = program.explanation(name, report.path)
     (folder / f"{name}.txt").write_text(explanation, encoding="ascii")
@@ -115,7 +115,6 @@ def audited(record: Record, folder: str, program: Program, worst: int = 3, worke
     shutil.rmtree(room / "worst", ignore_errors=True)
     (room / "worst").mkdir()
     off = sorted((report for report in reports if report.distance), key=lambda report: -report.distance)
-    explained = [_explained(report, program, room / "worst") for report in off[:worst]]
-    result = Result(record, history, conversion, reports, explained)
+    result = Result(record, history, conversion, reports, [explained(each, program, room / "worst") for each in off[:worst]])
     (room / "result.txt").write_text(result.text(), encoding="utf-8")
     return result

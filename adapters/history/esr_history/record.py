@@ -115,13 +115,15 @@ class Note(NamedTuple):
 
 @dataclass
 class Record:
-    """A whole recording. Of two updates that ended at the same time, the one that appears first committed first."""
+    """A whole recording. Of two updates that ended at the same time, the one that appears first committed first. Without
+    `has_update_reads` only the writes of updates are recorded, and whether they are serializable is unknown."""
 
     system: str
     items: dict[str, Item] = field(default_factory=dict)
     transactions: list[Transaction] = field(default_factory=list)
     endings: list[Ending] = field(default_factory=list)
     notes: list[Note] = field(default_factory=list)
+    has_update_reads: bool = True
 
 
 # ---- writing
@@ -132,8 +134,11 @@ def json_line(content: dict[str, Any]) -> str:
     return json.dumps(content, ensure_ascii=False, separators=(",", ":")) + "\n"
 
 
-def head_line(system: str) -> str:
-    return json_line({"record": "esr", "format": FORMAT, "system": system})
+def head_line(record: Record) -> str:
+    content: dict[str, Any] = {"record": "esr", "format": FORMAT, "system": record.system}
+    if not record.has_update_reads:
+        content["update_reads"] = False
+    return json_line(content)
 
 
 def item_line(item: Item) -> str:
@@ -166,7 +171,7 @@ def note_line(note: Note) -> str:
 
 def lines(record: Record) -> Iterator[str]:
     """Yields the lines of a record, each with its line feed."""
-    yield head_line(record.system)
+    yield head_line(record)
     yield from map(item_line, record.items.values())
     yield from map(transaction_line, record.transactions)
     for ending in record.endings:
@@ -333,8 +338,10 @@ def load(file: IO[str]) -> Record:
     if head.number_of("format") not in KNOWN_FORMATS:
         known = " and ".join(map(str, KNOWN_FORMATS))
         raise head.error(f"the format is {head.content['format']}, and this program reads {known}")
-    head.only("record", "format", "system")
-    record = Record(head.text("system", ""))
+    head.only("record", "format", "system", "update_reads")
+    record = Record(head.text("system", ""), has_update_reads=head.content.get("update_reads", True))
+    if not isinstance(record.has_update_reads, bool):
+        raise head.error("'update_reads' has to be true or false")
     names: dict[str, int] = {}
     for line in objects:
         _add(line, record, names)

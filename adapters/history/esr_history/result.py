@@ -12,6 +12,10 @@ from .program import Finding, OffRead
 from .record import Outcome, Record, Transaction
 from .script import Conversion, Script
 
+UNSEEN = (
+    "reads of the updates: not in the log, so whether the updates are serializable is unknown. A report that is off is"
+    " off in every serial order of them; one that is exact agrees with an order that keeps all writes"
+)
 MAX_ENDINGS = 3
 MAX_NAMES = 10
 MAX_READS = 3
@@ -115,6 +119,9 @@ def _record(result: Result) -> Iterator[str]:
 
 
 def _order(result: Result) -> Iterator[str]:
+    if not result.record.has_update_reads:
+        yield line("unseen", UNSEEN)
+        return
     how = "is" if result.history.keeps_commit_order else "differs from"
     yield line("order", f"the updates are serializable; the serial order {how} the order of the commits")
 
@@ -154,7 +161,9 @@ def _reports(result: Result) -> Iterator[str]:
         yield line("reports", "none was audited")
         return
     is_sample = len(conversion.items) < conversion.all_items or conversion.sampled
-    if gaps(result.history):
+    if not result.record.has_update_reads:
+        exact = "exact if the updates are serializable"
+    elif gaps(result.history):
         exact = "without an error among the recorded updates, not known to be exact since the record has gaps"
     elif is_sample:
         exact = "exact, as far as the sample goes"

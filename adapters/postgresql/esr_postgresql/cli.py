@@ -115,6 +115,18 @@ def parser() -> argparse.ArgumentParser:
     record.add_argument(
         "--record", metavar="FILE", default="record.jsonl", help="the path of the record (record.jsonl)"
     )
+    watch = command("watch", "audit reports among unchanged writers, whose writes are read from the log", _watch)
+    _add_server(watch)
+    _add_tables(watch)
+    watch.add_argument("--reports", metavar="FILE", required=True, help="the file to which reports append their lines")
+    watch.add_argument("--seconds", metavar="N", type=float, help="how long to watch (until SIGINT or SIGTERM)")
+    watch.add_argument("--window", metavar="N", type=float, default=5.0, help="audit every N seconds (5)")
+    add_audit_options(watch)
+    reports = command("reports", "run a program whose reports return pg_current_snapshot(), for watch", _reports)
+    _add_server(reports)
+    _add_tables(reports)
+    reports.add_argument("--to", metavar="FILE", required=True, help="the file to append the reports to")
+    _add_program(reports)
     finish = command("finish", "make the record of a recording whose recorder was killed", _finish)
     _add_server(finish)
     finish.add_argument("recording", metavar=f"FILE{OPEN}", help="the recording, as its recorder left it")
@@ -222,6 +234,33 @@ def _record(words: argparse.Namespace) -> None:
     target = os.path.abspath(words.record)
     record = _recorded(words, target)
     print(f"{target}: {len(record.transactions):,} transactions, {len(record.items):,} items")
+
+
+def _watch(words: argparse.Namespace) -> None:
+    program = program_of(words)
+    with _failures():
+        from .watch import Watch, stop_at_signals
+
+        tables = [Table.parse(text) for text in words.table]
+        watch = Watch(words.dsn, tables, words.reports, words.out, program, words.window)
+        stop_at_signals(watch)
+        watch.run(words.seconds)
+    print(watch.result(words.worst), end="", flush=True)
+    if not watch.findings.reports:
+        raise Stop(NOTHING_AUDITED, "nothing was audited: no report that committed was recorded")
+
+
+def _reports(words: argparse.Namespace) -> None:
+    if not os.path.isfile(words.program):
+        raise Stop(FAILED, f"there is no program {words.program}")
+    with _failures():
+        from .reports import ReportRecorder
+
+        recorder = ReportRecorder(words.dsn, [Table.parse(text) for text in words.table], words.to)
+    with recorder.in_place_of_psycopg2():
+        _run_recorded(words.program, words.words)
+    if not recorder.count:
+        raise Stop(NOTHING_AUDITED, "no report was recorded: no statement returned pg_current_snapshot()")
 
 
 def _finish(words: argparse.Namespace) -> None:

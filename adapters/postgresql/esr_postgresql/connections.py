@@ -11,8 +11,10 @@ Rejected: to rewrite statements so that they ask for versions. The application w
 
 from __future__ import annotations
 
+import contextlib
 import functools
-from typing import TYPE_CHECKING, Any, Iterable, NamedTuple, Optional, Sequence, Union
+import threading
+from typing import Any, Iterable, Iterator, NamedTuple, Optional, Sequence, Union
 
 from esr_history.record import Action, Operation, Outcome
 
@@ -27,9 +29,6 @@ except ImportError as missing:
         "psycopg2 is not installed for this Python: Debian has it as python3-psycopg2 (for /usr/bin/python3), and"
         " `pip install psycopg2-binary` gets it for any other"
     ) from missing
-
-if TYPE_CHECKING:
-    from .recorder import Recorder
 
 ServerError: type[Exception] = psycopg2.Error
 
@@ -135,10 +134,10 @@ def _ending(name: str) -> Any:
 class RecordingConnection(extensions.connection):  # type: ignore[misc]
     """A connection whose transactions are recorded."""
 
-    recorder: Recorder
+    recorder: Any
     label: str
 
-    def _open(self, recorder: Recorder, label: str) -> None:
+    def _open(self, recorder: Connector, label: str) -> None:
         self.recorder, self.label = recorder, label
         self._noted: list[Noted] = []
         self._faults: list[str] = []
@@ -283,3 +282,54 @@ def _operation(place: Place, row: Sequence[Any], word: str) -> Operation:
 
 def deletes(noted: Noted) -> bool:
     return isinstance(noted, Row) and noted.operation.action is Action.WRITE and noted.operation.version is None
+
+
+class Connector:
+    """Makes connections whose transactions are recorded. A recorder is one, with methods that take what they noted."""
+
+    connection_class: type = RecordingConnection
+    database: tuple[Any, ...]
+
+    def __init__(self, dsn: str) -> None:
+        self._dsn = dsn
+        self._lock = threading.Lock()
+        self._connections = 0
+        self._counts: dict[str, int] = {}
+
+    def connect(self, label: Optional[str] = None) -> RecordingConnection:
+        """Returns a connection to the recorder's database. The names of its transactions are the label (`c1`, `c2` ..
+        by default) and a number."""
+        return self._connected(label, psycopg2.connect, self._dsn)
+
+    def _connected(self, label: Optional[str], connect: Any, dsn: Optional[str], **named: Any) -> RecordingConnection:
+        with self._lock:
+            self._connections += 1
+            label = label or f"c{self._connections}"
+        connection: RecordingConnection = connect(dsn, connection_factory=self.connection_class, **named)
+        connection._open(self, label)
+        return connection
+
+    @contextlib.contextmanager
+    def in_place_of_psycopg2(self) -> Iterator[None]:
+        """Makes every connection of psycopg2.connect one of this recorder. Transactions of other databases are not
+        recorded."""
+        plain = psycopg2.connect
+
+        def connect(
+            dsn: Optional[str] = None, connection_factory: Any = None, cursor_factory: Any = None, **named: Any
+        ) -> RecordingConnection:
+            if connection_factory is not None:
+                raise RecordingError("a connection with its own connection_factory cannot be recorded")
+            return self._connected(None, plain, dsn, cursor_factory=cursor_factory, **named)
+
+        psycopg2.connect = connect
+        try:
+            yield
+        finally:
+            psycopg2.connect = plain
+
+    def next_name(self, label: str) -> str:
+        """Returns the name of the next transaction of a connection."""
+        with self._lock:
+            count = self._counts[label] = self._counts.get(label, 0) + 1
+            return f"{label}_{count}"

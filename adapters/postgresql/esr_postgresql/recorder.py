@@ -25,13 +25,12 @@ application sent. For writes from the write-ahead log see `watch`.
 from __future__ import annotations
 
 import contextlib
-import threading
 import time
 from typing import Any, Iterator, NamedTuple, Optional, Sequence
 
 from esr_history.record import Action, Ending, Item, Note, Operation, Outcome, Record, Transaction
 
-from .connections import DATABASE, Ended, RecordingConnection, Rest, Row, deletes
+from .connections import DATABASE, Connector, Ended, Rest, Row, deletes
 from .journal import Journal, Recording
 from .tables import Place, RecordingError, Rows, Table, known_table, rows_of
 
@@ -49,16 +48,13 @@ ENDINGS = """select label,
     from unnest(%s::bigint[], %s::bigint[]) as each(label, xid)"""
 
 
-class Recorder:
+class Recorder(Connector):
     """Records the transactions of its connections from its construction until `finish`. The rows of the tables at the
     construction are the opening versions. It may be used by several threads, each with its own connection. With
     `journal`, the path of a new file, transactions are appended to that file as they end."""
 
     def __init__(self, dsn: str, tables: Sequence[Table], journal: Optional[str] = None) -> None:
-        self._dsn = dsn
-        self._lock = threading.Lock()
-        self._connections = 0
-        self._counts: dict[str, int] = {}
+        super().__init__(dsn)
         self._guard: Any = None
         self.database: tuple[Any, ...]
         with _reading(dsn) as cursor:
@@ -74,38 +70,6 @@ class Recorder:
     def unversioned(self) -> int:
         """The number of statements that read or wrote a recorded value without key and xmin."""
         return self._recording.unversioned
-
-    def connect(self, label: Optional[str] = None) -> RecordingConnection:
-        """Returns a connection to the recorder's database. The names of its transactions are the label (`c1`, `c2` ..
-        by default) and a number."""
-        return self._connected(label, psycopg2.connect, self._dsn)
-
-    def _connected(self, label: Optional[str], connect: Any, dsn: Optional[str], **named: Any) -> RecordingConnection:
-        with self._lock:
-            self._connections += 1
-            label = label or f"c{self._connections}"
-        connection: RecordingConnection = connect(dsn, connection_factory=RecordingConnection, **named)
-        connection._open(self, label)
-        return connection
-
-    @contextlib.contextmanager
-    def in_place_of_psycopg2(self) -> Iterator[None]:
-        """Makes every connection of psycopg2.connect one of this recorder. Transactions of other databases are not
-        recorded."""
-        plain = psycopg2.connect
-
-        def connect(
-            dsn: Optional[str] = None, connection_factory: Any = None, cursor_factory: Any = None, **named: Any
-        ) -> RecordingConnection:
-            if connection_factory is not None:
-                raise RecordingError("a connection with its own connection_factory cannot be recorded")
-            return self._connected(None, plain, dsn, cursor_factory=cursor_factory, **named)
-
-        psycopg2.connect = connect
-        try:
-            yield
-        finally:
-            psycopg2.connect = plain
 
     def life(self) -> int:
         """Returns the number of the server's current life, from 1. A connection that was opened before this call and
@@ -137,12 +101,6 @@ class Recorder:
                     if self._journal:
                         self._journal.unversioned()
         return found
-
-    def next_name(self, label: str) -> str:
-        """Returns the name of the next transaction of a connection."""
-        with self._lock:
-            count = self._counts[label] = self._counts.get(label, 0) + 1
-            return f"{label}_{count}"
 
     def about_to_end(self, ended: Ended) -> None:
         """Appends a transaction to the journal. If the recorder is killed before `keep`, the server knows how it

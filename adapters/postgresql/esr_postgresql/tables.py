@@ -85,6 +85,13 @@ class KnownTable:
         self.key = [columns[name] for name in table.key]
         self.value = columns[table.value]
 
+    def values_of(self, description: Sequence[Any]) -> list[tuple[tuple[int, ...], int]]:
+        """Returns the columns of the key and the value for each time that a result has rows of the table."""
+        mine = [(place, column) for place, column in enumerate(description) if column.table_oid == self.oid]
+        keys = [[place for place, column in mine if column.table_column == number] for number in self.key]
+        values = [place for place, column in mine if column.table_column == self.value]
+        return list(zip(zip(*keys), values))
+
     def places(self, description: Sequence[Any]) -> tuple[list[Place], bool]:
         """The rows of the table that a result has, one for each time that the table is in it; and whether it has
         values of the table beyond these, without what tells their versions."""
