@@ -10,11 +10,13 @@ A file of reports has one JSON line for each report that committed, so that prog
 
 A STATEMENT has `snapshot`, the text of `pg_current_snapshot()`, and either `rows`, a list of [ITEM, VALUE], or `sums` and
 `counts`, objects that have for a table its sum or its number of rows, over all its rows. Values are numbers or decimal texts.
+With `rows`, `all` lists the tables of which the statement read all rows, so that a row that is not in `rows` was absent.
 `began` and `ended` are microseconds of the server's clock. A report that also wrote has `"writes":true`, and a statement
 that could not be understood has `fault`.
 
 The module writes such lines for Python programs that use psycopg2. Rows are found by the column numbers that the server
-reports. Sums are found in the plan of the statement (EXPLAIN, on a separate connection), which names tables and conditions.
+reports. Sums, and whether a statement read all rows of a table, are found in its plan (EXPLAIN, on a separate connection),
+which names tables and conditions.
 
 Rejected: reading the statement, which needs a parser; and sums over a condition, whose rows the log does not determine.
 """
@@ -49,9 +51,13 @@ class ReportConnection(RecordingConnection):
 
     recorder: ReportRecorder
 
+    def _is_about_to_run(self, query: Any) -> None:
+        super()._is_about_to_run(query)
+        self._template = str(query)
+
     def _note(self, cursor: Any) -> dict[str, set[str]]:
         if self._is_recorded and cursor.rowcount > 0:
-            content = self.recorder.statement(cursor)
+            content = self.recorder.statement(cursor, self._template)
             if content is not None:
                 self._noted.append(Statement(content))
         return {}
@@ -68,7 +74,7 @@ class ReportRecorder(Connector):
         self._writing, self._explaining = threading.Lock(), threading.Lock()
         self._plain = psycopg2.connect(dsn)
         self._plain.autocommit = True
-        self._plans: dict[str, Any] = {}
+        self._plans: dict[str, _Plan] = {}
         with self._plain.cursor() as cursor:
             cursor.execute(DATABASE)
             self.database = cursor.fetchone()
@@ -96,8 +102,9 @@ class ReportRecorder(Connector):
             self._file.flush()
             self.count += 1
 
-    def statement(self, cursor: Any) -> Optional[dict[str, Any]]:
-        """Returns what a statement read, or None if it has no snapshot."""
+    def statement(self, cursor: Any, template: str) -> Optional[dict[str, Any]]:
+        """Returns what a statement read, or None if it has no snapshot. (Statements of one template have one plan here:
+        parameters do not add conditions.)"""
         snapshots = [
             place
             for place, column in enumerate(cursor.description)
@@ -109,44 +116,57 @@ class ReportRecorder(Connector):
         content: dict[str, Any] = {"snapshot": str(rows[0][snapshots[0]])}
         places = [(known, *each) for known in self._known for each in known.values_of(cursor.description)]
         try:
+            plan = self._plan(cursor.query.decode(errors="replace"), template)
             if places:
-                read = {known.table.item([row[part] for part in key]): row[value] for row in rows for known, key, value in places if row[value] is not None}
+                read = {
+                    known.table.item([row[part] for part in key]): row[value]
+                    for row in rows
+                    for known, key, value in places
+                    if row[key[0]] is not None  # (None on the other side of an outer join)
+                }
                 content["rows"] = [[item, str(value)] for item, value in read.items()]
+                content["all"] = [known.table.name for known in self._known if known.table.name in plan.whole]
             else:
-                content.update(self._aggregates(cursor, rows))
+                content.update(self._aggregates(cursor, plan, rows))
         except RecordingError as error:
             content["fault"] = str(error)
         return content
 
-    def _aggregates(self, cursor: Any, rows: list[tuple[Any, ...]]) -> dict[str, Any]:
-        text = cursor.query.decode(errors="replace")
-        columns = self._columns(text)
-        if not columns or len(rows) != 1:
+    def _aggregates(self, cursor: Any, plan: _Plan, rows: list[tuple[Any, ...]]) -> dict[str, Any]:
+        if not plan.aggregates or len(rows) != 1:
+            text = " ".join(cursor.query.decode(errors="replace").split())
             raise RecordingError(
-                "no key and value of a watched table, and no sum or count over all its rows, in the result of: "
-                + " ".join(text.split())
+                f"no key and value of a watched table, and no sum or count over all its rows, in the result of: {text}"
             )
         found: dict[str, Any] = {"sums": {}, "counts": {}}
-        for place, (kind, table) in columns.items():
+        for place, (kind, table) in plan.aggregates.items():
             value = rows[0][place]
             found[kind][table.name] = str(0 if value is None else value)
         return found
 
-    def _columns(self, text: str) -> dict[int, tuple[str, Table]]:
-        """Returns which columns of a statement's result are the sum or the count of all rows of a table."""
+    def _plan(self, text: str, template: str) -> _Plan:
         with self._explaining:
-            if text not in self._plans:
+            if template not in self._plans:
                 with self._plain.cursor() as cursor:
                     try:
                         cursor.execute("explain (verbose, format json) " + text)
                         plan = cursor.fetchone()[0][0]["Plan"]
                     except psycopg2.Error as error:
                         raise RecordingError(f"EXPLAIN fails: {str(error).strip()}") from None
-                self._plans[text] = self._of_plan(plan)
-            found: dict[int, tuple[str, Table]] = self._plans[text]
-            return found
+                self._plans[template] = _Plan(self._aggregates_of(plan), self._whole_tables(plan))
+            return self._plans[template]
 
-    def _of_plan(self, plan: dict[str, Any]) -> dict[int, tuple[str, Table]]:
+    def _whole_tables(self, plan: dict[str, Any]) -> frozenset[str]:
+        """Returns the tables that a plan scans without a condition."""
+        nodes = list(_nodes(plan))
+        scans = [(self._leaves.get(_leaf(each)), each) for each in nodes if "Relation Name" in each]
+        if any(each["Node Type"] == "Limit" for each in nodes):
+            return frozenset()
+        whole = {known.table.name for known, _ in scans if known is not None}
+        return frozenset(whole) - {known.table.name for known, each in scans if known is not None and not _is_whole(each)}
+
+    def _aggregates_of(self, plan: dict[str, Any]) -> dict[int, tuple[str, Table]]:
+        """Returns the columns of the result that are the sum or the count of all rows of a table."""
         known: dict[str, tuple[str, Table]] = {}
         for node in _nodes(plan):
             if node["Node Type"] == "Aggregate" and node.get("Partial Mode") != "Partial":
@@ -158,10 +178,8 @@ class ReportRecorder(Connector):
         """Returns the outputs of an aggregate that are the sum or count of all rows of one table. An aggregate that is a
         subselect also has the name of its parameter."""
         below = list(_nodes(node))
-        leaves = {(each["Schema"], each["Relation Name"]) for each in below if "Relation Name" in each}
-        tables = {self._leaves.get(leaf) for leaf in leaves}
-        is_whole = all(each["Node Type"] in WHOLE_SCANS and not any(key in each for key in CONDITIONS) for each in below)
-        if len(tables) != 1 or None in tables or not is_whole:
+        tables = {self._leaves.get(_leaf(each)) for each in below if "Relation Name" in each}
+        if len(tables) != 1 or None in tables or not all(map(_is_whole, below)):
             return {}
         (known,) = (each for each in tables if each is not None)
         found = {}
@@ -184,6 +202,21 @@ def _leaves(cursor: Any, known: KnownTable) -> list[tuple[str, str]]:
         (known.oid, known.oid),
     )
     return [tuple(row) for row in cursor.fetchall()]
+
+
+class _Plan(NamedTuple):
+    """The plan of a statement: the columns that are sums and counts of tables, and the tables that are read wholly."""
+
+    aggregates: dict[int, tuple[str, Table]]
+    whole: frozenset[str]
+
+
+def _leaf(node: dict[str, Any]) -> tuple[str, str]:
+    return node["Schema"], node["Relation Name"]
+
+
+def _is_whole(node: dict[str, Any]) -> bool:
+    return node["Node Type"] in WHOLE_SCANS and not any(key in node for key in CONDITIONS)
 
 
 def _nodes(plan: dict[str, Any]) -> Iterator[dict[str, Any]]:

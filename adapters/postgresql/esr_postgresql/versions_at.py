@@ -26,6 +26,9 @@ class View(NamedTuple):
     last: int
     hidden: frozenset[int]
 
+    def sees(self, place: int) -> bool:
+        return place < self.first or (place < self.last and place not in self.hidden)
+
 
 class Versions:
     """The rows of watched tables, and their versions since the base."""
@@ -88,9 +91,23 @@ class Versions:
     def version(self, item: str, view: View) -> tuple[Optional[int], Optional[int]]:
         """Returns the value of an item and the place of its writer, None for the base."""
         for place, value in reversed(self.chains.get(item, [])):
-            if place < view.first or (place < view.last and place not in view.hidden):
+            if view.sees(place):
                 return value, place
         return self.values.get(item), None
+
+    def presences(self, item: str) -> list[tuple[int, bool]]:
+        """Returns the places of the commits that inserted or deleted a row, and whether it existed afterwards."""
+        found: list[tuple[int, bool]] = []
+        for place, value in self.chains.get(item, []):
+            if found and found[-1][0] == place:
+                found.pop()
+            found.append((place, value is not None))
+        flips, exists = [], self.values.get(item) is not None
+        for place, after in found:
+            if after != exists:
+                flips.append((place, after))
+                exists = after
+        return flips
 
     def total(self, table: str, view: View) -> tuple[int, int]:
         """Returns the sum and the number of the rows of a table."""

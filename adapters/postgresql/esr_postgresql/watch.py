@@ -40,15 +40,17 @@ MARGIN = 20  # commits around a report among which it may be placed
 MAX_ITEMS, MAX_COMMITS, MAX_REPORTS = 900, 3_000, 300  # of a window
 RESTART = 120.0  # seconds to wait for a server that restarts
 MAX_REASONS = 10
-UNCHANGED = "unchanged"
+UNCHANGED, OPENING = "unchanged", "opening"
 
 
 class Read(NamedTuple):
-    """A statement: the commits that it sees, and the rows that it read, or all of some tables."""
+    """A statement: the commits that it sees, the rows that it read, and the tables of which it read or counted all
+    rows."""
 
     view: View
-    rows: tuple[str, ...]
+    rows: frozenset[str]
     tables: frozenset[str]
+    counted: frozenset[str]
 
 
 class Report(NamedTuple):
@@ -110,7 +112,13 @@ def _read(content: dict[str, Any], versions: Versions) -> Read:
         count = versions.total(name, view)[1]
         if int(value) != count:
             raise RecordingError(f"it counted {value} rows of {name}, which has {count} at its snapshot")
-    return Read(view, tuple(item for item, _ in rows), frozenset(sums) | frozenset(counts))
+    whole = {name for name in content.get("all", []) if name in versions.tables and _has_all(name, rows, versions, view)}
+    return Read(view, frozenset(item for item, _ in rows), frozenset(sums) | whole, frozenset(counts))
+
+
+def _has_all(name: str, rows: list[Any], versions: Versions, view: View) -> bool:
+    """Whether a result has all rows of a table. (A join may leave out some.)"""
+    return sum(1 for item, _ in rows if versions.table_of(item).name == name) == versions.total(name, view)[1]
 
 
 def _report(content: dict[str, Any], versions: Versions) -> Report:
@@ -144,17 +152,43 @@ def _windows(reports: list[Report], versions: Versions) -> Iterator[tuple[int, i
         yield first, last, group
 
 
-def _operations(report: Report, versions: Versions, items: set[str], first: int) -> Iterator[Operation]:
-    """Yields the reads of a report of the items of a window."""
+def _operations(report: Report, versions: Versions, items: dict[str, str], first: int) -> Iterator[Operation]:
+    """Yields the reads of a report of the items of a window, whose tables are given."""
+
+    def operation(item: str, value: Optional[int], place: Optional[int]) -> Operation:
+        is_opening = place is None or place < first
+        return Operation(Action.READ, item, value, OPENING if is_opening else str(versions.commits[place or 0].xid))
+
     for read in report.reads:
-        rows = [item for item in read.rows if item in items]
-        rows += [item for item in items if versions.table_of(item).name in read.tables and item not in read.rows]
-        for item in rows:
-            value, place = versions.version(item, read.view)
-            if place is not None and place >= first:
-                yield Operation(Action.READ, item, value, str(versions.commits[place].xid))
-            else:
-                yield Operation(Action.READ, item, value, None if value is None else "opening")
+        for item, table in items.items():
+            if item in read.rows or table in read.tables:
+                yield operation(item, *versions.version(item, read.view))
+            flips = versions.presences(item) if table in read.counted else []
+            seen = [flip for flip in flips if read.view.sees(flip[0])]
+            if any(place >= first for place, _ in flips):
+                place, exists = seen[-1] if seen else (None, not flips[0][1])
+                yield operation(_row(item), int(exists), place)
+
+
+def _row(item: str) -> str:
+    """Returns the item that is 1 while a row exists. A count reads these and no values."""
+    return f"{item} exists"
+
+
+def _add_counts(record: Record, first: int, last: int, versions: Versions, tables: set[str]) -> dict[int, list[Operation]]:
+    """Adds the items of rows that come and go in a window. Returns the writes of its commits."""
+    writes: dict[int, list[Operation]] = {}
+    for item in versions.written(first, last):
+        flips = versions.presences(item) if versions.table_of(item).name in tables else []
+        if any(place >= first for place, _ in flips):
+            before = [exists for place, exists in flips if place < first]
+            opening = before[-1] if before else not flips[0][1]
+            record.items[_row(item)] = Item(_row(item), int(opening), OPENING)
+        for place, exists in flips:
+            if first <= place < last:
+                version = str(versions.commits[place].xid)
+                writes.setdefault(place, []).append(Operation(Action.WRITE, _row(item), int(exists), version))
+    return writes
 
 
 def window_record(first: int, last: int, reports: list[Report], versions: Versions, system: str) -> Record:
@@ -163,20 +197,23 @@ def window_record(first: int, last: int, reports: list[Report], versions: Versio
     record = Record(system, has_update_reads=False)
     for item in versions.written(first, last):
         value, table = versions.value_at(item, first), versions.table_of(item)
-        version = None if value is None else "opening"
-        record.items[item] = Item(item, value, version, table.weight, table.scale)
+        record.items[item] = Item(item, value, OPENING, table.weight, table.scale)
+    items = {item: versions.table_of(item).name for item in record.items}
+    counted = {table for report in reports for read in report.reads for table in read.counted}
+    rows = _add_counts(record, first, last, versions, counted)
     time_of_last = 0
-    for commit in versions.commits[first:last]:
+    for place in range(first, last):
+        commit = versions.commits[place]
         time_of_last = max(time_of_last, commit.time)
-        writes = tuple(Operation(Action.WRITE, item, value, str(commit.xid)) for _, item, value in commit.changes)
-        name = f"x{commit.xid}"
-        record.transactions.append(Transaction(name, Outcome.COMMITTED, time_of_last, time_of_last, writes))
-    items = set(record.items)
+        writes = [Operation(Action.WRITE, item, value, str(commit.xid)) for _, item, value in commit.changes]
+        writes += rows.get(place, [])
+        times = time_of_last, time_of_last
+        record.transactions.append(Transaction(f"x{commit.xid}", Outcome.COMMITTED, *times, tuple(writes)))
     for report in reports:
         operations = tuple(_operations(report, versions, items, first))
         if not operations:
-            record.items.setdefault(UNCHANGED, Item(UNCHANGED, 0, "opening"))
-            operations = (Operation(Action.READ, UNCHANGED, 0, "opening"),)
+            record.items.setdefault(UNCHANGED, Item(UNCHANGED, 0, OPENING))
+            operations = (Operation(Action.READ, UNCHANGED, 0, OPENING),)
         times = report.began, max(report.began, report.ended)
         record.transactions.append(Transaction(report.name, Outcome.COMMITTED, *times, operations, report.level))
     return record
