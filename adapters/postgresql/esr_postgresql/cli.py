@@ -11,6 +11,7 @@ import traceback
 from typing import Iterator
 
 from esr_history.cli import (
+    CANNOT_BE_AUDITED,
     FAILED,
     NOTHING_AUDITED,
     STATUSES,
@@ -127,6 +128,10 @@ def parser() -> argparse.ArgumentParser:
     _add_tables(reports)
     reports.add_argument("--to", metavar="FILE", required=True, help="the file to append the reports to")
     _add_program(reports)
+    lint = command("lint", "name reports of a program whose statements do not share a snapshot", _lint)
+    _add_server(lint)
+    _add_tables(lint)
+    _add_program(lint)
     finish = command("finish", "make the record of a recording whose recorder was killed", _finish)
     _add_server(finish)
     finish.add_argument("recording", metavar=f"FILE{OPEN}", help="the recording, as its recorder left it")
@@ -261,6 +266,23 @@ def _reports(words: argparse.Namespace) -> None:
         _run_recorded(words.program, words.words)
     if not recorder.count:
         raise Stop(NOTHING_AUDITED, "no report was recorded: no statement returned pg_current_snapshot()")
+
+
+def _lint(words: argparse.Namespace) -> None:
+    if not os.path.isfile(words.program):
+        raise Stop(FAILED, f"there is no program {words.program}")
+    with _failures():
+        from .lint import Linter
+
+        linter = Linter(words.dsn, [Table.parse(text) for text in words.table])
+    with linter.in_place_of_psycopg2():
+        _run_recorded(words.program, words.words)
+    linter.finish()
+    if not linter.reports:
+        raise Stop(NOTHING_AUDITED, "no report was seen: no transaction only read a watched table")
+    if linter.findings:
+        raise Stop(CANNOT_BE_AUDITED, linter.text())
+    print(linter.text())
 
 
 def _finish(words: argparse.Namespace) -> None:

@@ -79,7 +79,7 @@ class ReportRecorder(Connector):
             cursor.execute(DATABASE)
             self.database = cursor.fetchone()
             self._known = [known_table(cursor, table) for table in tables]
-            self._leaves = {leaf: known for known in self._known for leaf in _leaves(cursor, known)}
+            self._leaves = {leaf: known for known in self._known for leaf in leaves_of(cursor, known)}
         self.count = 0
 
     def life(self) -> int:
@@ -158,7 +158,7 @@ class ReportRecorder(Connector):
 
     def _whole_tables(self, plan: dict[str, Any]) -> frozenset[str]:
         """Returns the tables that a plan scans without a condition."""
-        nodes = list(_nodes(plan))
+        nodes = list(nodes_of(plan))
         scans = [(self._leaves.get(_leaf(each)), each) for each in nodes if "Relation Name" in each]
         if any(each["Node Type"] == "Limit" for each in nodes):
             return frozenset()
@@ -168,7 +168,7 @@ class ReportRecorder(Connector):
     def _aggregates_of(self, plan: dict[str, Any]) -> dict[int, tuple[str, Table]]:
         """Returns the columns of the result that are the sum or the count of all rows of a table."""
         known: dict[str, tuple[str, Table]] = {}
-        for node in _nodes(plan):
+        for node in nodes_of(plan):
             if node["Node Type"] == "Aggregate" and node.get("Partial Mode") != "Partial":
                 known.update(self._of_aggregate(node))
         outputs = [_bare(text) for text in plan.get("Output", [])]
@@ -177,7 +177,7 @@ class ReportRecorder(Connector):
     def _of_aggregate(self, node: dict[str, Any]) -> dict[str, tuple[str, Table]]:
         """Returns the outputs of an aggregate that are the sum or count of all rows of one table. An aggregate that is a
         subselect also has the name of its parameter."""
-        below = list(_nodes(node))
+        below = list(nodes_of(node))
         tables = {self._leaves.get(_leaf(each)) for each in below if "Relation Name" in each}
         if len(tables) != 1 or None in tables or not all(map(_is_whole, below)):
             return {}
@@ -194,7 +194,7 @@ class ReportRecorder(Connector):
         return found
 
 
-def _leaves(cursor: Any, known: KnownTable) -> list[tuple[str, str]]:
+def leaves_of(cursor: Any, known: KnownTable) -> list[tuple[str, str]]:
     """Returns the schemas and names of a table and its partitions."""
     cursor.execute(
         "select n.nspname, c.relname from pg_class c join pg_namespace n on n.oid = c.relnamespace"
@@ -219,10 +219,10 @@ def _is_whole(node: dict[str, Any]) -> bool:
     return node["Node Type"] in WHOLE_SCANS and not any(key in node for key in CONDITIONS)
 
 
-def _nodes(plan: dict[str, Any]) -> Iterator[dict[str, Any]]:
+def nodes_of(plan: dict[str, Any]) -> Iterator[dict[str, Any]]:
     yield plan
     for each in plan.get("Plans", []):
-        yield from _nodes(each)
+        yield from nodes_of(each)
 
 
 def _bare(text: str) -> str:
