@@ -23,7 +23,6 @@ Rejected: reading the statement, which needs a parser; and sums over a condition
 
 from __future__ import annotations
 
-import json
 import re
 import threading
 from typing import Any, Iterator, NamedTuple, Optional, Sequence
@@ -240,21 +239,3 @@ def _sort(text: str, table: Table) -> Optional[str]:
     if found[1] == "sum":
         return "sums" if re.sub(r"::\w+$", "", column.strip("()")) == table.value else None
     return "counts" if column in ("*", table.value, *table.key) else None
-
-
-def load_line(text: str) -> dict[str, Any]:
-    """Reads a line of a file of reports.
-
-    # Errors
-    RecordingError if it is not one."""
-    try:
-        content = json.loads(text)
-        name, statements = content["report"], content["statements"]
-        is_good = isinstance(name, str) and isinstance(statements, list) and all("snapshot" in each for each in statements)
-        is_good = is_good and isinstance(content["began"], int) and isinstance(content["ended"], int)
-    except (ValueError, KeyError, TypeError):
-        is_good = False
-    if not is_good:
-        raise RecordingError(f"not a line of a file of reports: {text.strip()[:200]}")
-    found: dict[str, Any] = content
-    return found

@@ -13,8 +13,8 @@ from __future__ import annotations
 
 from typing import Iterator, NamedTuple, Optional, Sequence
 
+from .decoding import Change, Commit, Snapshot
 from .tables import RecordingError, Rows, Table
-from .wal import Change, Commit, Snapshot
 
 Totals = dict[str, tuple[int, int]]
 
