@@ -344,6 +344,7 @@ def restart(dsn, folder, program):
             connection = recorder.connect(f"life{number}")
             connection.cursor().execute("select id, v, pg_current_snapshot() from t")
             connection.commit()
+            recorder.close()
             if number == 0:
                 time.sleep(3)  # (a window closes)
                 dsn.restart()

@@ -1,12 +1,12 @@
-"""From a record to a result: it is converted, the scripts are run and audited, and the files of the result written.
+"""From a record to a result: converts it, runs and audits the scripts, and writes the files of the result.
 
-    script.esr      the script (script_1.esr, script_2.esr .. where there are several)
-    legend.tsv      what the names of the script stand for
-    audits.tsv      for each report its distance, and what the engine would have charged it
-    worst/          of the reports that are off most NAME.txt, an explanation; NAME.svg, a picture; NAME.json, a bundle
-    result.txt      what is also printed
+    script.esr      the script (script_1.esr, script_2.esr .. if there are several)
+    legend.tsv      the originals of the names of the script
+    audits.tsv      for each report its distance, the charge that the engine would have made, and the error of its sum
+    worst/          for the worst reports NAME.txt, an explanation; NAME.svg, a picture; NAME.json, a bundle
+    result.txt      the printed text
 
-The invariant: what is told of a report was found of a script each of whose lines was answered as the record says.
+The invariant: each finding about a report is of a script whose every line had the reply that the record implies.
 """
 
 from __future__ import annotations
@@ -27,7 +27,7 @@ MAX_WORKERS = 64
 
 
 def write_scripts(conversion: Conversion, folder: pathlib.Path) -> list[str]:
-    """Writes the scripts and the legend, and answers the paths of the scripts."""
+    """Writes the scripts and the legend, and returns the paths of the scripts."""
     folder.mkdir(parents=True, exist_ok=True)
     for old in folder.glob("script*.esr"):
         old.unlink()
@@ -102,19 +102,21 @@ def explained(report: AuditedReport, program: Program, folder: pathlib.Path) -> 
 
 
 def audited(record: Record, folder: str, program: Program, worst: int = 3, workers: Optional[int] = None) -> Result:
-    """Converts a record, audits it, and leaves the files of the result in a folder. Raises IncompleteRecord,
-    NotSerializable, TooLarge or ProgramError."""
-    room = pathlib.Path(folder)
+    """Converts a record, audits it, and writes the files of the result to a folder.
+
+    # Errors
+    IncompleteRecord, NotSerializable, TooLarge or ProgramError."""
+    target = pathlib.Path(folder)
     history = history_of(record)
     conversion = convert(history)
     workers = workers or min(os.cpu_count() or 1, MAX_WORKERS)
     reports: list[AuditedReport] = []
-    for script, path in zip(conversion.scripts, write_scripts(conversion, room)):
+    for script, path in zip(conversion.scripts, write_scripts(conversion, target)):
         reports += _audited_script(history, script, path, program, workers)
-    _write_audits(reports, room)
-    shutil.rmtree(room / "worst", ignore_errors=True)
-    (room / "worst").mkdir()
+    _write_audits(reports, target)
+    shutil.rmtree(target / "worst", ignore_errors=True)
+    (target / "worst").mkdir()
     off = sorted((report for report in reports if report.distance), key=lambda report: -report.distance)
-    result = Result(record, history, conversion, reports, [explained(each, program, room / "worst") for each in off[:worst]])
-    (room / "result.txt").write_text(result.text(), encoding="utf-8")
+    result = Result(record, history, conversion, reports, [explained(each, program, target / "worst") for each in off[:worst]])
+    (target / "result.txt").write_text(result.text(), encoding="utf-8")
     return result

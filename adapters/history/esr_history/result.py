@@ -1,4 +1,4 @@
-"""What was found of a record, and the text that tells it."""
+"""The findings of a record, and their text."""
 
 from __future__ import annotations
 
@@ -52,7 +52,7 @@ class ExplainedReport:
 
 @dataclass(frozen=True)
 class Result:
-    """What was found of a record: of all reports that could be told, and more of the worst of them."""
+    """The findings of a record: of all reports that a script contains, and more of the worst of them."""
 
     record: Record
     history: History
@@ -66,11 +66,11 @@ class Result:
 
     @property
     def off(self) -> int:
-        """How many reports are not exact."""
+        """Returns the number of reports that are not exact."""
         return sum(1 for distance in self.distances if distance)
 
     def text(self) -> str:
-        """What is printed: lines that begin with what they are about, or with blanks where they go on."""
+        """Returns the printed text: lines that begin with their subject, or with blanks if they continue one."""
         parts = (_record(self), _order(self), _conversion(self.conversion), _reports(self))
         lines = [line for part in parts for line in part]
         lines += [line for explained in self.worst for line in _worst(explained)]
@@ -128,10 +128,10 @@ def _order(result: Result) -> Iterator[str]:
 
 def _conversion(conversion: Conversion) -> Iterator[str]:
     if len(conversion.items) < conversion.all_items:
-        told = f"{len(conversion.items):,} of {conversion.all_items:,} items"
-        yield line("sample", f"{told}: distances are at least what is told")
-    if conversion.untold:
-        yield line("", f"{_counted(conversion.untold, 'report')} that read none of these: left out")
+        count = f"{len(conversion.items):,} of {conversion.all_items:,} items"
+        yield line("sample", f"{count}: distances are at least those shown")
+    if conversion.unread:
+        yield line("", f"{_counted(conversion.unread, 'report')} that read none of these: left out")
     if conversion.sampled:
         yield line(
             "sample",

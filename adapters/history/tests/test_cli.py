@@ -117,7 +117,7 @@ worst      report: off by 100, its sum by +100; {self.room}/out/worst/report.svg
             status, out, _ = self.audit(made, "--worst", "0")
         self.assertEqual(status, 0)
         for text in (
-            "sample     3 of 5 items: distances are at least what is told\n",
+            "sample     3 of 5 items: distances are at least those shown\n",
             "sample     4 reads of 3 reports that read more\n",
             "windows    2, since a script has at most ",
             "           endless is too long for a window: left out\n",

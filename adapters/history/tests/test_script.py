@@ -189,7 +189,7 @@ class Limits(unittest.TestCase):
         )
         with mock.patch.object(windows, "MAX_ITEMS", 1):
             conversion = convert(history_of(made))
-        self.assertEqual((conversion.items, conversion.all_items, conversion.untold), (["x"], 2, 1))
+        self.assertEqual((conversion.items, conversion.all_items, conversion.unread), (["x"], 2, 1))
 
     def test_a_sample_of_reads(self):
         with mock.patch.object(placement, "MAX_READS", 4):

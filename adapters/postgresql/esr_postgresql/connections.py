@@ -1,12 +1,12 @@
-"""Connections of psycopg2 that note what their statements read and write.
+"""Connections of psycopg2 that note which rows their statements read and write.
 
-The idea: a cursor looks at the result of each statement before the application does, and a connection hands over what
-its cursors noted when the transaction has ended. The application gets what plain connections and cursors give.
+The idea: a cursor looks at the result of each statement before the application does, and a connection hands over the noted
+rows when the transaction has ended. The application sees the behavior of plain connections and cursors.
 
-The invariant: what is handed over is of one transaction. It is noted between two ends of transactions, however they
-come about: by a call, by a statement, or by a statement that is a transaction by itself.
+The invariant: the rows that are handed over belong to one transaction. They are noted between two ends of transactions,
+whether a call, a statement, or a statement that is a transaction by itself ends it.
 
-Rejected: to rewrite statements so that they ask for versions. The application would run something else than it says.
+Rejected: rewriting statements so that they return versions. The application would run other statements than it sends.
 """
 
 from __future__ import annotations
@@ -43,14 +43,14 @@ HAS_ENDED = f"select null, current_setting('transaction_isolation'), {NOW}, {NOW
 
 
 class Row(NamedTuple):
-    """A row of a result: what was done with it."""
+    """A row of a result: it was read or written."""
 
     table: Table
     operation: Operation
 
 
 class Rest(NamedTuple):
-    """The rows that were not there: all of a table, or those of `keys`, that are not among `present`."""
+    """The absent rows: all of a table, or those of `keys`, that are not among `present`."""
 
     table: Table
     present: frozenset[str]
@@ -78,8 +78,7 @@ class Ended(NamedTuple):
 
 
 class _Recording(extensions.cursor):  # type: ignore[misc]
-    """What makes a class of cursors one whose statements are noted. It gives the application what that class
-    gives."""
+    """A mixin for classes of cursors that notes their statements. The application sees the class's own behavior."""
 
     row_factory: Any
 
@@ -97,12 +96,12 @@ class _Recording(extensions.cursor):  # type: ignore[misc]
             self.execute(query, each)
 
     def covers(self, table: str, keys: Optional[Iterable[Any]] = None) -> None:
-        """Notes that the last statement looked at all rows of a table, or at all with one of some keys: those that
-        are not in its result were not there. A key of several columns is a tuple."""
+        """Notes that the last statement looked at all rows of a table, or at all with one of some keys: those that are not
+        in its result were absent. A key of several columns is a tuple."""
         self.connection._covers(table, self._seen.get(table, set()), keys)
 
     def _rows(self) -> list[tuple[Any, ...]]:
-        """All rows of the result, as plain tuples; the application finds them unread."""
+        """Returns all rows of the result as plain tuples, and rewinds the result for the application."""
         factory, self.row_factory = self.row_factory, None
         rows: list[tuple[Any, ...]] = extensions.cursor.fetchall(self)
         self.row_factory = factory
@@ -112,14 +111,14 @@ class _Recording(extensions.cursor):  # type: ignore[misc]
 
 @functools.lru_cache(maxsize=None)
 def _recording(factory: type) -> type:
-    """A class of cursors, noting its statements."""
+    """Returns a class of cursors that notes its statements."""
     bases = (_Recording,) if factory is extensions.cursor else (_Recording, factory)
     return type(f"Recording{factory.__name__}", bases, {})
 
 
 def _ending(name: str) -> Any:
-    """A method of connections that ends a transaction otherwise than by committing it, as far as can be seen from here.
-    (How an update ended is asked of the server.)"""
+    """Returns a method of connections that ends a transaction without committing it, as far as the client can see. (The
+    server reports how an update ended.)"""
     plain = getattr(extensions.connection, name)
 
     @functools.wraps(plain)
@@ -148,16 +147,16 @@ class RecordingConnection(extensions.connection):  # type: ignore[misc]
         self._life = recorder.life()
 
     def cursor(self, name: Optional[str] = None, cursor_factory: Optional[type] = None, **named: Any) -> Any:
-        """A cursor as the application asks for it, and noting what its statements do."""
+        """Returns a cursor of the requested class that notes its statements."""
         if name is not None:
             raise RecordingError(f"the cursor {name} is one of the server, which cannot be recorded: give it no name")
         factory = _recording(cursor_factory or self.cursor_factory or extensions.cursor)
         return super().cursor(cursor_factory=factory, **named)
 
-    # what the cursors tell
+    # ---- called by cursors
 
     def _is_about_to_run(self, query: Any) -> None:
-        """A statement that ends the transaction is the last chance to ask for its number."""
+        """Asks for the transaction's number before a statement that ends it."""
         if isinstance(query, Composable):
             query = query.as_string(self)
         text = query.decode(errors="replace") if isinstance(query, bytes) else query
@@ -215,7 +214,7 @@ class RecordingConnection(extensions.connection):  # type: ignore[misc]
             asked = frozenset(known.item(key if isinstance(key, tuple) else (key,)) for key in keys)
         self._noted.append(Rest(known, frozenset(seen), asked))
 
-    # how a transaction ends
+    # ---- the end of a transaction
 
     def _query(self, statement: str) -> tuple[Any, ...]:
         with super().cursor(cursor_factory=extensions.cursor) as cursor:
@@ -272,7 +271,7 @@ class RecordingConnection(extensions.connection):  # type: ignore[misc]
 
 
 def _operation(place: Place, row: Sequence[Any], word: str) -> Operation:
-    """The operation that a row of a result is."""
+    """Returns the operation of a row of a result."""
     item = place.table.item([row[part] for part in place.key])
     if word == "DELETE":
         return Operation(Action.WRITE, item, None, None)
@@ -295,6 +294,10 @@ class Connector:
         self._lock = threading.Lock()
         self._connections = 0
         self._counts: dict[str, int] = {}
+
+    def life(self) -> int:
+        """Returns the number of the server's current life, from 1."""
+        return 1
 
     def connect(self, label: Optional[str] = None) -> RecordingConnection:
         """Returns a connection to the recorder's database. The names of its transactions are the label (`c1`, `c2` ..

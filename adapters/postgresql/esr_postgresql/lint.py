@@ -97,9 +97,6 @@ class Linter(Connector):
         self.reports = 0
         self._alone: dict[str, list[Look]] = {}
 
-    def life(self) -> int:
-        return 1
-
     def about_to_end(self, ended: Ended) -> None:
         """Does nothing: a report counts when it ends."""
 

@@ -280,7 +280,7 @@ class _Outcomes:
         """Returns the outcome of a transaction, and when it ended."""
         labels = _labels(each)
         if not labels:
-            # (no status tells when a DELETE outside a block committed)
+            # (the time of the commit of a DELETE outside a block is unknown)
             return (Outcome.UNKNOWN if any(map(deletes, each.noted)) else each.outcome), each.ended
         outcome, time_of_commit = self.statuses[labels[0]]
         if each.life != self.life and outcome is Outcome.COMMITTED:

@@ -1,7 +1,7 @@
 """Reports that only add `pg_current_snapshot()` to their statements: what each statement read, for `watch`.
 
 The idea: with the snapshot of a statement and the log of all writes, the version of every row that the statement read is
-known without `xmin`. So a report may use `sum` and `count`: the rows behind them follow from the snapshot, and the number
+known without `xmin`. So a report may use `sum` and `count`: their rows follow from the snapshot, and the number
 that the report got is compared with theirs.
 
 A file of reports has one JSON line for each report that committed, so that programs in any language can write it:
@@ -81,8 +81,10 @@ class ReportRecorder(Connector):
             self._leaves = {leaf: known for known in self._known for leaf in leaves_of(cursor, known)}
         self.count = 0
 
-    def life(self) -> int:
-        return 1
+    def close(self) -> None:
+        """Closes the file."""
+        self._file.close()
+        self._plain.close()
 
     def about_to_end(self, ended: Ended) -> None:
         """Does nothing: a report counts when its commit is acknowledged."""

@@ -1,9 +1,9 @@
-"""Tables whose rows are items, and where their rows are in the result of a statement.
+"""Tables whose rows are items, and the places of their rows in the result of a statement.
 
-The idea: of each column of a result the server tells from which column of which table it comes. So the key, the value
-and the version of a row are found by that, whatever the statement looks like and whatever else it asks for.
+The idea: for each column of a result the server reports the table and the column that it comes from. This identifies the
+key, the value and the version of a row, whatever else the statement returns.
 
-Rejected: to read the statement. It would take a parser of SQL, and views, joins and functions would still hide tables.
+Rejected: reading the statement. It would take a parser of SQL, and views, joins and functions would still hide tables.
 """
 
 from __future__ import annotations
@@ -19,13 +19,13 @@ EXACT = ("smallint", "integer", "bigint", "numeric")
 
 
 class RecordingError(Exception):
-    """A recording that cannot be made. The message says what to do."""
+    """A recording that cannot be made. The message contains the remedy."""
 
 
 @dataclass(frozen=True)
 class Table:
-    """A table whose rows are items: by the columns `key`, with the values of the column `value`, of which `scale`
-    decimal digits behind the point are kept. A difference of one unit counts `weight`."""
+    """A table whose rows are items: by the columns `key`, with the values of the column `value`, which has `scale` decimal
+    digits. A difference of one unit counts `weight`."""
 
     name: str
     key: tuple[str, ...]
@@ -44,11 +44,11 @@ class Table:
         return Table(parts[0], tuple(parts[1].split(",")), parts[2], int(parts[3]) if len(parts) == 4 else 0)
 
     def item(self, key: Sequence[Any]) -> str:
-        """The item of a row."""
+        """Returns the item of a row."""
         return f"{self.name}/{','.join(str(part) for part in key)}"
 
     def whole(self, item: str, value: Any) -> int:
-        """A value as a whole number of units of the scale."""
+        """Returns a value as an integer number of units of the scale."""
         if value is None:
             raise RecordingError(f"{item}: {self.value} is null; a recorded column has a value in every row")
         if isinstance(value, bool) or not isinstance(value, (int, Decimal)) or not Decimal(value).is_finite():
@@ -69,7 +69,7 @@ Rows = dict[str, tuple[Table, int, str]]  # (of each item its table, value and v
 
 
 class Place(NamedTuple):
-    """Where the columns of a table's row are in a result."""
+    """The columns of a table's row in a result."""
 
     table: Table
     key: tuple[int, ...]
@@ -93,8 +93,8 @@ class KnownTable:
         return list(zip(zip(*keys), values))
 
     def places(self, description: Sequence[Any]) -> tuple[list[Place], bool]:
-        """The rows of the table that a result has, one for each time that the table is in it; and whether it has
-        values of the table beyond these, without what tells their versions."""
+        """Returns the columns of each row of the table in a result, and whether the result has more values of the table,
+        without their keys or versions."""
         mine = [(place, column) for place, column in enumerate(description) if column.table_oid == self.oid]
 
         def numbered(number: int) -> list[int]:
@@ -116,7 +116,7 @@ def _quoted(name: str) -> str:
 
 
 def known_table(cursor: Any, table: Table) -> KnownTable:
-    """A table as the server has it."""
+    """Looks up a table on the server."""
     cursor.execute("select oid, relkind from pg_class where oid = to_regclass(%s)", (table.name,))
     row = cursor.fetchone()
     if row is None:

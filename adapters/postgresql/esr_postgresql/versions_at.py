@@ -11,10 +11,13 @@ The invariant: `commits` are the commits since the base, in the order of the log
 
 from __future__ import annotations
 
+from collections import deque
 from typing import Iterator, NamedTuple, Optional, Sequence
 
 from .decoding import Change, Commit, Snapshot
 from .tables import RecordingError, Rows, Table
+
+MAX_BEFORE = 10_000
 
 Totals = dict[str, tuple[int, int]]
 
@@ -43,7 +46,8 @@ class Versions:
             total, count = totals[table.name]
             totals[table.name] = total + value, count + 1
             self.items[table.name].add(item)
-        self.opening, self.before = snapshot, set[int]()
+        self.opening = snapshot
+        self.before: deque[int] = deque(maxlen=MAX_BEFORE)  # (the last commits before the base)
         self.commits: list[Commit] = []
         self.totals: list[Totals] = [totals]
         self.chains: dict[str, list[tuple[int, Optional[int]]]] = {}
@@ -141,7 +145,7 @@ class Versions:
         return None
 
     def trim(self, place: int) -> None:
-        """Moves the base behind the first commits. Faults stay."""
+        """Moves the base past the first commits. Faults stay."""
         if place <= 0:
             return
         for item, chain in list(self.chains.items()):
@@ -153,8 +157,7 @@ class Versions:
                 self.chains[item] = rest
             else:
                 del self.chains[item]
-        self.before.update(commit.xid for commit in self.commits[:place])
-        self.before = set(sorted(self.before)[-10_000:])
+        self.before.extend(commit.xid for commit in self.commits[:place])
         faults = [fault for commit in self.commits[:place] for fault in commit.faults]
         self.commits, self.totals = self.commits[place:], self.totals[place:]
         if faults:

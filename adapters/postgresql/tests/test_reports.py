@@ -32,6 +32,7 @@ class Reports(unittest.TestCase):
         self.path = file.name
         tables = [Table("t", ("id",), "v", 2), Table("u", ("k", "n"), "v")]
         self.recorder = ReportRecorder(DSN, tables, self.path)
+        self.addCleanup(self.recorder.close)
         self.connection = self.recorder.connect("r")
         self.addCleanup(self.connection.close)
 
