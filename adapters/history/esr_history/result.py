@@ -128,8 +128,8 @@ def _order(result: Result) -> Iterator[str]:
 
 def _conversion(conversion: Conversion) -> Iterator[str]:
     if len(conversion.items) < conversion.all_items:
-        count = f"{len(conversion.items):,} of {conversion.all_items:,} items"
-        yield line("sample", f"{count}: distances are at least those shown")
+        sample = f"{len(conversion.items):,} of {conversion.all_items:,} items"
+        yield line("sample", f"{sample}: distances are at least those shown")
     if conversion.unread:
         yield line("", f"{_counted(conversion.unread, 'report')} that read none of these: left out")
     if conversion.sampled:

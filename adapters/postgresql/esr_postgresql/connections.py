@@ -14,7 +14,7 @@ from __future__ import annotations
 import contextlib
 import functools
 import threading
-from typing import Any, Iterable, Iterator, NamedTuple, Optional, Sequence, Union
+from typing import Any, Iterable, Iterator, NamedTuple, Optional, Sequence
 
 from esr_history.record import Action, Operation, Outcome
 
@@ -57,7 +57,7 @@ class Rest(NamedTuple):
     keys: Optional[frozenset[str]]
 
 
-Noted = Union[Row, Rest]
+Noted = Any  # (a Row, a Rest, or a statement of a subclass of connections)
 
 
 class Ended(NamedTuple):

@@ -67,7 +67,7 @@ class Journal:
 
     def transaction(self, each: Ended) -> None:
         noted = [self._noted(one) for one in each.noted]
-        content = {"transaction": each.name, "xid": each.xid, "level": each.level, "began": each.began}
+        content: dict[str, Any] = {"transaction": each.name, "xid": each.xid, "level": each.level, "began": each.began}
         content.update(ended=each.ended, life=each.life, lasts=each.lasts, faults=list(each.faults), noted=noted)
         self._append(content)
 
@@ -100,7 +100,8 @@ def _take(content: dict[str, Any], recording: Recording, ended: dict[str, Ended]
     if "item" in content:
         recording.opening[content["item"]] = (tables[content["table"]], content["value"], content["version"])
     elif "life" in content and "transaction" not in content:
-        recording.lives.append(tuple(content["life"]))
+        started, checkpointer = content["life"]
+        recording.lives.append((started, checkpointer))
     elif "unversioned" in content:
         recording.unversioned += 1
     elif "outcome" in content:

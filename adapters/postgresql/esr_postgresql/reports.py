@@ -202,7 +202,7 @@ def leaves_of(cursor: Any, known: KnownTable) -> list[tuple[str, str]]:
         " where c.oid in (select %s union select relid from pg_partition_tree(%s))",
         (known.oid, known.oid),
     )
-    return [tuple(row) for row in cursor.fetchall()]
+    return [(schema, name) for schema, name in cursor.fetchall()]
 
 
 class _Plan(NamedTuple):
