@@ -147,7 +147,7 @@ def current_life(dsn: str, recording: Recording) -> int:
         server = _server(connection)
     finally:
         connection.close()
-    is_same = server == recording.lives[-1] and server[1] is not None
+    is_same = recording.lives[-1:] == [server] and server[1] is not None
     return len(recording.lives) + (0 if is_same else 1)
 
 

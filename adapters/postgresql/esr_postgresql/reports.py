@@ -69,7 +69,6 @@ class ReportRecorder(Connector):
 
     def __init__(self, dsn: str, tables: Sequence[Table], path: str) -> None:
         super().__init__(dsn)
-        self._file = open(path, "a", encoding="utf-8")
         self._writing, self._explaining = threading.Lock(), threading.Lock()
         self._plain = psycopg2.connect(dsn)
         self._plain.autocommit = True
@@ -79,6 +78,7 @@ class ReportRecorder(Connector):
             self.database = cursor.fetchone()
             self._known = [known_table(cursor, table) for table in tables]
             self._leaves = {leaf: known for known in self._known for leaf in leaves_of(cursor, known)}
+        self._file = open(path, "a", encoding="utf-8")
         self.count = 0
 
     def close(self) -> None:

@@ -19,6 +19,7 @@ from __future__ import annotations
 import contextlib
 import os
 import pathlib
+import shutil
 import signal
 import sys
 import time
@@ -115,6 +116,8 @@ class Watch:
     def run(self, seconds: Optional[float]) -> None:
         """Watches. A restart of the server ends one log and begins another."""
         self._folder.mkdir(parents=True, exist_ok=True)
+        for old in [*self._folder.glob("window_*"), self._folder / "worst"]:
+            shutil.rmtree(old, ignore_errors=True)
         until = time.monotonic() + seconds if seconds is not None else float("inf")
         log: Optional[Log] = self._opened(0.0)
         while log is not None:

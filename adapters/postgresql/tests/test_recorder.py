@@ -554,6 +554,25 @@ other.commit()
         self.assertIn("reports    0 without an error among the recorded updates, not known", done.stdout)
         self.assertIn("distance   worst 5, mean 5.0\n", done.stdout)
 
+    def test_a_server_that_is_down_at_the_end(self):
+        program = f"""
+import psycopg2
+from esr_postgresql import recorder
+connection = psycopg2.connect({DSN!r})
+connection.cursor().execute("update t set v = 5 where id = 1 returning id, v, xmin")
+connection.commit()
+def down(*_):
+    raise psycopg2.OperationalError("the server is down")
+recorder._statuses = down
+"""
+        with tempfile.TemporaryDirectory() as room:
+            done = self.command("run", "--dsn", DSN, "--table", "t:id:v", "--out", room, "PROGRAM", program=program)
+            path = os.path.join(room, "record.jsonl.open")
+            said = f"esr-postgres: the server is down; the recording is kept: esr-postgres finish {path}\n"
+            self.assertEqual((done.returncode, done.stderr), (2, said))
+            done = self.command("finish", "--dsn", DSN, path, program="")
+            self.assertEqual((done.returncode, done.stdout), (0, f"{path[:-5]}: 1 transactions, 1 items\n"))
+
     # ---- the command
 
     def test_a_program_whose_statements_have_no_versions(self):
