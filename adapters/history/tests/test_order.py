@@ -3,10 +3,10 @@ lack."""
 
 import unittest
 
-from esr_postgresql.cycles import NotSerializable
-from esr_postgresql.order import history_of, unrecorded_endings
-from esr_postgresql.record import Outcome
-from esr_postgresql.versions import IncompleteRecord
+from esr_history.cycles import NotSerializable
+from esr_history.order import history_of, unrecorded_endings
+from esr_history.record import Outcome
+from esr_history.versions import IncompleteRecord
 
 from .written import read, record, transaction, write
 
@@ -173,7 +173,7 @@ class Lacks(unittest.TestCase):
         self.said(
             record(
                 {"x": 1, "y": 1},
-                transaction("u", 0, 1, write("y", 7, "99")),
+                transaction("u", 0, 1, write("y", 7, "99"), labels=("99",)),
                 transaction("report", 0, 1, read("x", 7, "99")),
             ),
             "7 of x by 99, which report read, has no recorded writer: u has that label, and a write of x by it was not"

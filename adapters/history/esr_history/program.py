@@ -1,10 +1,10 @@
-"""The program `esr`: it runs a script, audits it, explains and draws a report.
+"""The program `esr`: runs a script, audits it, explains and draws a report.
 
-The idea: nothing of the engine or of the audit is done here. What the program answers to each line is compared with
-what the record says, so that a script that tells something else than the record is found, whatever the reason.
+The idea: nothing of the engine or of the audit is done here. The program's reply to each line is compared with the one that
+the record implies, so that a script that differs from the record is found, whatever the reason.
 
-Rejected: to take over the distances from a run without looking at its answers. A line that was blocked or refused
-would silently be missing from the history that the audit is about.
+Rejected: taking the distances from a run without looking at its replies. A line that was blocked or refused would silently
+be missing from the history that is audited.
 """
 
 from __future__ import annotations
@@ -24,16 +24,18 @@ REPOSITORY = pathlib.Path(__file__).resolve().parents[3]
 
 
 class ProgramError(Exception):
-    """The program is not there, or it ended with a fault, or it answered something else than the record says."""
+    """The program is missing, ended with a fault, or replied something else than the record implies."""
 
 
 @dataclass(frozen=True)
 class Finding:
-    """What the audit found of a report: its least distance, and what the engine would have charged it."""
+    """The audit of a report: its least distance, the charge that the engine would have made, and the updates before the
+    nearest placement by their names in the script (only for a report that is off)."""
 
     name: str
     distance: int
     charged: int
+    before: frozenset[str] = frozenset()
 
 
 @dataclass(frozen=True)
@@ -47,7 +49,7 @@ class OffRead:
 
 
 def found(given: Optional[str] = None) -> str:
-    """The program: the one given, or that of the variable ESR, or the repository's, or the one on PATH."""
+    """Returns the path of the program: the given one, or that of the variable ESR, the repository's, or the one on PATH."""
     for path in (given, os.environ.get("ESR")):
         if path:
             if not os.access(path, os.X_OK):
@@ -67,24 +69,24 @@ class Program:
         self.path = path
 
     def output(self, words: list[str], script: str) -> str:
-        """What it writes, of a script in a file."""
+        """Returns its output for a script in a file."""
         with open(script, "rb") as file:
             done = subprocess.run([self.path, *words], stdin=file, capture_output=True, check=False)
         said = done.stderr.decode(errors="replace")
         if done.returncode:
             raise ProgramError(f"{self.path} {' '.join(words)} < {script}: {said.strip() or done.returncode}")
-        sys.stderr.write(said)  # (as where the program is not built, and is run without proof)
+        sys.stderr.write(said)  # (if the program is not built, it runs without proof and prints so)
         return done.stdout.decode()
 
     def check_answers(self, script: Script, path: str) -> None:
-        """Runs a script, and compares the answer to each line with what the record says."""
+        """Runs a script, and compares the reply to each line with the one that the record implies."""
         answers = self.output(["run"], path).splitlines()
         for line, expected, answer in zip_longest(script.lines, script.answers, answers):
             if answer != expected:
                 raise ProgramError(f"{path}: the line '{line}' was answered '{answer}' and not '{expected}'")
 
     def audit(self, path: str, workers: int) -> list[Finding]:
-        """What the audit finds of each report."""
+        """Returns the audit of each report."""
         findings = []
         command = [self.path, "audit", "--workers", str(workers)]
         with open(path, "rb") as file, subprocess.Popen(
@@ -92,10 +94,11 @@ class Program:
         ) as done:
             assert done.stdout is not None and done.stderr is not None
             for line in done.stdout:
-                # (the list of updates at the end of a line may be long, and is not needed)
-                words = line[:120].decode().split(" ", 7)
-                if words[0] == "audit":
-                    findings.append(Finding(words[1], int(words[3]), int(words[5])))
+                words = line.split(b" ", 7)
+                if words[0] == b"audit":
+                    # (the list of updates may be long, and is not needed for an exact report)
+                    before = frozenset(words[7].decode().strip().split(",") if words[3] != b"0" else ())
+                    findings.append(Finding(words[1].decode(), int(words[3]), int(words[5]), before))
             said = done.stderr.read().decode(errors="replace").strip()
         if done.returncode:
             raise ProgramError(f"{' '.join(command)} < {path}: {said or done.returncode}")

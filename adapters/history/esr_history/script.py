@@ -1,12 +1,12 @@
 """Scripts of `esr` from a history: the updates one after another, and the reports in their slots among them.
 
-The invariant: the program accepts every line. No update waits for another, since each commits before the next begins.
-No report reads what is not committed, since it reads in slots, where no update is active; so its reads are charged
-nothing. A write is charged to the reports that have read the item and have not committed. All charges of a script
-together are computed here, and are at most the limit that each transaction has, so no sum of some of them passes it.
-The counts of items, transactions, reads and entries are seen to by `windows` and `placement`.
+The invariant: the program accepts every line. No update waits for another, since each commits before the next begins. No
+report reads an uncommitted value, since it reads in slots, when no update is active; so its reads are charged nothing. A
+write is charged to the reports that have read the item and have not committed. All charges of a script together are
+computed here, and are at most the limit that each transaction has, so that no sum of some of them exceeds it. `windows` and
+`placement` keep the limits of items, transactions, reads and entries.
 
-The answer to each line follows from the record; `program` compares it with what the program says.
+The reply to each line follows from the record; `program` compares it with the program's.
 """
 
 from __future__ import annotations
@@ -27,22 +27,23 @@ LIMIT = 10**18
 
 
 class TooLarge(Exception):
-    """A history that no script can tell."""
+    """A history that no script can contain."""
 
 
 @dataclass
 class Script:
-    """A script, the answer to each of its lines, and what its names stand for."""
+    """A script, the reply to each of its lines, and the originals of its names."""
 
     window: Window
     lines: list[str] = field(default_factory=list)
     answers: list[str] = field(default_factory=list)
     items: Names = field(default_factory=lambda: Names("i"))
     transactions: Names = field(default_factory=lambda: Names("t"))
+    opening: dict[str, int] = field(default_factory=dict)  # (the number of each item's version before the window)
     updates: int = 0
 
     def text(self) -> str:
-        return "\n".join(self.lines) + "\n"
+        return "".join(f"{line}\n" for line in self.lines)
 
     def say(self, line: str, answer: str) -> None:
         self.lines.append(line)
@@ -53,7 +54,7 @@ class Script:
 
 
 class _Charges:
-    """How much the writes of each item change it, up to each slot."""
+    """The changes of each item by its writes, up to each slot."""
 
     def __init__(self, positions: Positions) -> None:
         self.positions: dict[str, list[int]] = {}
@@ -63,19 +64,19 @@ class _Charges:
             self.sums[item] = list(accumulate(_changes(positions.history, item, chain), initial=0))
 
     def between(self, item: str, first: int, last: int) -> int:
-        """The sum of the changes by the updates between two slots."""
+        """Returns the sum of the changes by the updates between two slots."""
         positions, sums = self.positions[item], self.sums[item]
         return sums[bisect_left(positions, last)] - sums[bisect_left(positions, first)]
 
     def of(self, window: Window) -> int:
-        """What all writes of a window are charged together."""
+        """Returns the sum of the charges of all writes of a window."""
         return sum(
             self.between(read.item, read.slot, report.commit) for report in window.reports for read in report.reads
         )
 
 
 def _changes(history: History, item: str, chain: Chain) -> Iterator[int]:
-    """For each writer of an item, how much its writes change the item, step by step, times the item's weight."""
+    """Yields for each writer of an item the sum of the changes by its writes, times the item's weight."""
     weight = history.record.items[item].weight
     value = chain.values[0] or 0
     for writer in chain.writers:
@@ -101,9 +102,10 @@ class _Writer:
             self.item(item)
 
     def opening(self, item: str) -> int:
-        """The value of an item in the first slot of the window. A row that is not there counts 0."""
+        """Returns the value of an item in the first slot of the window, 0 for a row that does not exist."""
         chain = self.history.chains[item]
         number = sum(1 for writer in chain.writers if self.positions.of[writer] < self.script.window.first)
+        self.script.opening[item] = number
         return chain.values[number] or 0
 
     def item(self, item: str) -> None:
@@ -128,12 +130,12 @@ class _Writer:
         self.script.say(f"commit {name}", f"committed {name}")
 
     def update(self, update: Transaction) -> None:
-        told = [operation for operation in update.operations if operation.item in self.items]
-        if not told:
+        operations = [operation for operation in update.operations if operation.item in self.items]
+        if not operations:
             return
         self.script.updates += 1
         name = self.begin(update, "update")
-        for operation in told:
+        for operation in operations:
             self.operation(name, operation.action, operation.item, operation.value)
         self.commit(name)
 
@@ -165,18 +167,22 @@ class _Writer:
 
 @dataclass
 class Conversion:
-    """What is told of a history: its scripts, the items and reports that they have, and what they leave out."""
+    """The scripts of a history, their items, and the reports that they leave out: `too_long` for a window, `unread` since
+    they read none of the items. `sampled` reports have more reads than a script may have."""
 
     scripts: list[Script]
     items: list[str]
     all_items: int
     too_long: list[PlacedReport]
     sampled: list[PlacedReport]
-    untold: int
+    unread: int
 
 
 def convert(history: History) -> Conversion:
-    """The scripts of a history. Raises TooLarge where the changes are so large that a limit could not hold them."""
+    """Returns the scripts of a history.
+
+    # Errors
+    TooLarge if the changes exceed every limit."""
     positions = Positions(history)
     placed = placed_reports(positions)
     used = items_used(history)
@@ -185,7 +191,7 @@ def convert(history: History) -> Conversion:
     windows, too_long = windows_of(history, reports, set(items))
     charges = _Charges(positions)
     if any(charges.of(window) > LIMIT for window in windows):
-        raise TooLarge(f"the changes beside the reports add up to more than {LIMIT}: give the values a smaller scale")
+        raise TooLarge(f"the changes during the reports add up to more than {LIMIT}: give the values a smaller scale")
     scripts = [_Writer(positions, window, items).write() for window in windows]
     sampled = [report for report in reports if report.left_out]
     return Conversion(scripts, items, len(used), too_long, sampled, len(placed) - len(reports))

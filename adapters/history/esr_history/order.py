@@ -1,18 +1,18 @@
-"""The order of versions and of updates, as far as a record decides it.
+"""The order of versions and of updates, as far as a record determines it.
 
-The idea: the versions of an item are in the order in which their writers committed, since a writer keeps its lock on
-the row to its end. From this follow the dependencies of the committed updates: the writer of a version comes before
-who read it and before the writer of the next version, and who read a version comes before the writer of the next one.
-An order of the updates that keeps all of these is a serial order. Of all serial orders the one nearest to the commit
-order is taken: always the update that committed first of those that nothing holds back.
+The idea: the versions of an item are in the order in which their writers committed, since a writer keeps its lock on the
+row to its end. The dependencies of the committed updates follow: the writer of a version comes before its readers and
+before the writer of the next version, and a reader of a version comes before the writer of the next one. An order of the
+updates that keeps all dependencies is a serial order. Of all serial orders the one nearest to the commit order is taken:
+always the update that committed first of those whose predecessors have all been taken.
 
-The invariant: in `History.serial` each committed update stands once, behind all that it depends on. So right behind
-the writer of a version, and up to the writer of the next one, an item has just that version.
+The invariant: `History.serial` contains each committed update once, after all updates that it depends on. So from the
+writer of a version to the writer of the next one, an item has exactly that version.
 
-Rejected: the commit order itself. At serializable, PostgreSQL lets an update that read an old version commit behind
-the update that replaced it; the commit order is then no serial order, and another is. Rejected too: a report as one
-of the nodes. Reports may be anywhere, which is what the audit asks about, and a report at read committed would make a
-cycle with the updates that it saw half of.
+Rejected: the commit order itself. At serializable, PostgreSQL lets an update that read an old version commit after the
+update that replaced it; the commit order is then not a serial order, and another one is. Rejected too: reports as nodes. A
+report may be anywhere, which is the question of the audit, and a report at read committed would form a cycle with the
+updates that it saw half of.
 """
 
 from __future__ import annotations
@@ -22,14 +22,14 @@ from dataclasses import dataclass
 from typing import Optional
 
 from .cycles import Edges, NotSerializable, Reason, cycle_of, groups
-from .record import Record, Transaction
+from .record import Outcome, Record, Transaction
 from .versions import Chain, IncompleteRecord, Read, Resolver
 
 
 @dataclass
 class History:
-    """What a record says: the committed updates in commit order, and a serial order of them, by their places there;
-    the committed reports; the versions; and of each the reads of others' versions."""
+    """The history of a record: the committed updates in commit order, and a serial order of them, by their places there;
+    the committed reports; the versions; and the reads of other transactions' versions by each."""
 
     record: Record
     updates: list[Transaction]
@@ -45,7 +45,7 @@ class History:
 
 
 def dependencies(chains: dict[str, Chain], reads: list[list[Read]]) -> Edges:
-    """For each update the updates that come behind it, and why: of several reasons the first found."""
+    """Returns for each update the updates that come after it, with the first reason found."""
     edges: Edges = [{} for _ in reads]
 
     def edge(before: Optional[int], after: Optional[int], reason: Reason, item: str) -> None:
@@ -63,11 +63,11 @@ def dependencies(chains: dict[str, Chain], reads: list[list[Read]]) -> Edges:
 
 
 def serial_order(edges: Edges) -> list[int]:
-    """The updates, each behind all that come before it: of those that nothing holds back always the smallest number.
-    Those that a cycle holds back are left out."""
+    """Returns the updates, each after its predecessors: always the smallest number whose predecessors have all been taken.
+    Updates of a cycle, and those after one, are left out."""
     held = [0] * len(edges)
-    for behind in edges:
-        for update in behind:
+    for following in edges:
+        for update in following:
             held[update] += 1
     free = [update for update, count in enumerate(held) if not count]  # (ascending, so it is a heap)
     order = []
@@ -81,8 +81,10 @@ def serial_order(edges: Edges) -> list[int]:
 
 
 def history_of(record: Record) -> History:
-    """What a record says. Raises IncompleteRecord where it lacks a writer, and NotSerializable where the updates have
-    no serial order."""
+    """Returns the history of a record.
+
+    # Errors
+    IncompleteRecord if it lacks a writer, NotSerializable if the updates have no serial order."""
     committed = [each for each in record.transactions if each.is_committed and each.operations]
     updates = sorted((each for each in committed if each.writes), key=lambda update: update.ended)
     reports = [each for each in committed if not each.writes]
@@ -102,9 +104,21 @@ def history_of(record: Record) -> History:
     return History(record, updates, reports, resolver.chains, update_reads, report_reads, serial)
 
 
+def gaps(history: History) -> list[str]:
+    """Returns why the record does not have every operation: a sentence for each reason. If there is one, an update may
+    be missing, and a report that shows no error is not known to be exact."""
+    found = [note.text for note in history.record.notes if note.is_gap]
+    for outcome, text in ((Outcome.UNKNOWN, "updates that ended unknown"), (Outcome.LEFT_OUT, "updates left out")):
+        names = [each.name for each in history.record.transactions if each.outcome is outcome and each.may_write]
+        if names:
+            found.append(f"{text}: {', '.join(names)}")
+    if unrecorded_endings(history):
+        found.append("values at the end without a recorded writer")
+    return found
+
+
 def unrecorded_endings(history: History) -> list[str]:
-    """The items that have at the end a version that nobody recorded has written. No recorded transaction has read
-    it."""
+    """Returns the items whose version at the end has no recorded writer. No recorded transaction has read it."""
     found = []
     for ending in history.record.endings:
         chain = history.chains[ending.item]

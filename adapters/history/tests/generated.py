@@ -11,7 +11,7 @@ import sys
 if __name__ == "__main__":
     sys.path.insert(0, str(pathlib.Path(__file__).resolve().parents[1]))
 
-from esr_postgresql.record import Action, Ending, Item, Operation, Outcome, Record, Transaction, lines
+from esr_history.record import Action, Ending, Item, Operation, Outcome, Record, Transaction, lines
 
 
 def bank(updates, reports, accounts=60, span=300, seed=1):

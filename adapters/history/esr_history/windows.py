@@ -1,13 +1,14 @@
-"""What of a history is told by which script, within the limits of the program.
+"""The parts of a history that fit the scripts, within the limits of the program.
 
-- *Windows.* What is too long for one script is cut into several. A report is told in the first window that has the
-  whole of it, from the slot where it begins to the one where it commits.
-- *Samples.* Of more than 4,096 items a sample is told, those that reports read first. (Of more than 1,000 reads of a
-  report a sample is taken where it is placed.) A distance over a sample is at most the whole one.
+- *Windows.* A history that is too long for one script is cut into several. A report is in the first window that contains it
+  wholly, from the slot where it begins to the one where it commits.
+- *Samples.* Of more than 4,096 items a sample is kept, first those that reports read. (Of more than 1,000 reads of a report
+  a sample is taken during placement.) A distance over a sample is at most the whole one.
 
-The invariant: the script of a window has at most as many items, transactions and entries as the program takes.
+The invariant: the script of a window has at most as many items, transactions and entries as the program accepts.
 
-Rejected: to cut by time. How many updates a piece of time has is not known, and a report across the cut would be lost.
+Rejected: cutting by time. The number of updates in a span of time is not known, and a report across the cut would be
+lost.
 """
 
 from __future__ import annotations
@@ -25,7 +26,7 @@ MAX_ENTRIES = 1_000_000
 
 @dataclass(frozen=True)
 class Window:
-    """The updates of the serial order from slot `first` to slot `last`, and reports that are told among them."""
+    """The updates of the serial order from slot `first` to slot `last`, and the reports among them."""
 
     first: int
     last: int
@@ -33,13 +34,13 @@ class Window:
 
 
 def items_used(history: History) -> list[str]:
-    """The items that a transaction read or wrote, in their order in the record."""
+    """Returns the items that a transaction read or wrote, in their order in the record."""
     used = {operation.item for each in history.updates + history.reports for operation in each.operations}
     return [item for item in history.record.items if item in used]
 
 
 def sample_of_items(items: list[str], reports: list[PlacedReport]) -> list[str]:
-    """As many of some items as a script can have: all, or those that reports read and then others."""
+    """Returns as many of some items as a script can have: all, or those that reports read and then others."""
     if len(items) <= MAX_ITEMS:
         return items
     wanted = {read.item for report in reports for read in report.reads}
@@ -51,21 +52,21 @@ def sample_of_items(items: list[str], reports: list[PlacedReport]) -> list[str]:
 
 
 def restricted(reports: list[PlacedReport], items: set[str]) -> list[PlacedReport]:
-    """The reports with their reads of some items alone, those that have any."""
+    """Returns the reports with only their reads of some items, and without reports that have none."""
     kept = [replace(each, reads=tuple(read for read in each.reads if read.item in items)) for each in reports]
     return [each for each in kept if each.reads]
 
 
 class _Sizes:
-    """How many updates a script has that tells a piece of the serial order, and how many entries they make."""
+    """The number of updates and entries of a part of the serial order."""
 
     def __init__(self, history: History, items: set[str]) -> None:
-        told = [
+        counts = [
             sum(operation.item in items for operation in history.updates[update].operations)
             for update in history.serial
         ]
-        self.updates = list(accumulate((1 if count else 0 for count in told), initial=0))
-        self.entries = list(accumulate((count + 2 if count else 0 for count in told), initial=0))
+        self.updates = list(accumulate((1 if count else 0 for count in counts), initial=0))
+        self.entries = list(accumulate((count + 2 if count else 0 for count in counts), initial=0))
 
     def fits(self, first: int, last: int, reports: int, entries: int) -> bool:
         transactions = self.updates[last] - self.updates[first] + reports
@@ -75,8 +76,8 @@ class _Sizes:
 
 
 def _window(first: int, reports: list[PlacedReport], sizes: _Sizes) -> Window:
-    """A window from a slot with as many reports as a script can have. It ends where the last of them commits; it has
-    none where the first report is too long by itself."""
+    """Returns a window from a slot with as many reports as a script can have. It ends when the last of them commits, and
+    has none if the first report is too long by itself."""
     chosen: list[PlacedReport] = []
     entries = 0
     for report in sorted(reports, key=lambda report: report.commit):
@@ -90,8 +91,7 @@ def _window(first: int, reports: list[PlacedReport], sizes: _Sizes) -> Window:
 def windows_of(
     history: History, reports: list[PlacedReport], items: set[str]
 ) -> tuple[list[Window], list[PlacedReport]]:
-    """The windows that tell all reports, and the reports that are too long for any. One window of all where it will
-    do."""
+    """Returns the windows that contain all reports, one if that suffices, and the reports that are too long for any."""
     sizes, count = _Sizes(history, items), len(history.updates)
     if sizes.fits(0, count, len(reports), sum(report.entries for report in reports)):
         return [Window(0, count, tuple(reports))], []
@@ -103,6 +103,6 @@ def windows_of(
             rest = rest[1:]
             continue
         windows.append(window)
-        told = {report.report.name for report in window.reports}
-        rest = [report for report in rest if report.report.name not in told]
+        names = {report.report.name for report in window.reports}
+        rest = [report for report in rest if report.report.name not in names]
     return windows, too_long

@@ -1,13 +1,12 @@
-"""The versions of items, and which of them each read saw.
+"""The versions of items, and the version that each read saw.
 
-The idea: the versions of an item are in the order in which their writers committed, since a writer keeps its lock on
-the row to its end. A read says the label of the version that it saw.
+The idea: the versions of an item are in the order in which their writers committed, since a writer keeps its lock on the
+row to its end. A read has the label of the version that it saw.
 
-The invariant: behind `Resolver` each read of another's version has the number of that version in the item's chain, and
-its value is the one that the version has; or `faults` says by name why not. Nothing is guessed: a record that lacks a
-writer is told to lack it.
+The invariant: after `Resolver` each read of another transaction's version has the number of that version in the item's
+chain, and has its value; or `faults` names the reason. Nothing is guessed: a missing writer is reported.
 
-Rejected: to find versions by their values. Values come back.
+Rejected: finding versions by their values. Values recur.
 """
 
 from __future__ import annotations
@@ -16,21 +15,21 @@ from typing import NamedTuple, Optional
 
 from .record import Action, Operation, Outcome, Record, Transaction
 
-FAULTS_TOLD = 10
+MAX_FAULTS_SHOWN = 10
 
 
 class IncompleteRecord(Exception):
-    """A record that lacks a writer, or contradicts itself. `faults` says each by name."""
+    """A record that lacks a writer, or contradicts itself. `faults` names each."""
 
     def __init__(self, faults: list[str]) -> None:
         self.faults = faults
-        more = len(faults) - FAULTS_TOLD
-        told = faults[:FAULTS_TOLD] + ([f"and {more} more"] if more > 0 else [])
-        super().__init__("\n".join(told))
+        more = len(faults) - MAX_FAULTS_SHOWN
+        shown = faults[:MAX_FAULTS_SHOWN] + ([f"and {more} more"] if more > 0 else [])
+        super().__init__("\n".join(shown))
 
 
 class Chain:
-    """The versions of an item: number 0 is the opening one, number k is what the k-th of `writers` left."""
+    """The versions of an item: number 0 is the opening one, number k is that of the k-th of `writers`."""
 
     def __init__(self, value: Optional[int], label: Optional[str]) -> None:
         self.writers: list[int] = []
@@ -38,8 +37,7 @@ class Chain:
         self.numbers: dict[str, int] = {} if label is None else {label: 0}
 
     def write(self, update: int, operation: Operation) -> Optional[int]:
-        """Takes a write of an update. Answers the number of the version that has the same label already, if it is not
-        the update's own."""
+        """Takes a write of an update. Returns the number of an earlier version by another update with the same label."""
         if not self.writers or self.writers[-1] != update:
             self.writers.append(update)
             self.values.append(None)
@@ -49,15 +47,15 @@ class Chain:
         return None if number == len(self.writers) else number
 
     def absences(self) -> list[int]:
-        """The numbers of the versions where the row was not there."""
+        """Returns the numbers of the versions in which the row does not exist."""
         return [number for number, value in enumerate(self.values) if value is None]
 
     def writer(self, number: int) -> Optional[int]:
-        """Who left a version; None of the opening one."""
+        """Returns the writer of a version, None for the opening one."""
         return self.writers[number - 1] if number else None
 
     def replacer(self, number: int) -> Optional[int]:
-        """Who left the next version, if there is one."""
+        """Returns the writer of the next version, if there is one."""
         return self.writers[number] if number < len(self.writers) else None
 
 
@@ -76,13 +74,13 @@ class Resolver:
         self.faults: list[str] = []
         self.chains = {item.name: Chain(item.value, item.version) for item in record.items.values()}
         self.others = {
-            operation.version: other
+            (operation.item, operation.version): other
             for other in record.transactions
             if not other.is_committed
             for operation in other.operations
             if operation.action is Action.WRITE
         }
-        self.labels: dict[Optional[str], str] = {}
+        self.labels = {label: each.name for each in record.transactions for label in each.labels}
         for place, update in enumerate(updates):
             for operation in update.operations:
                 if operation.action is Action.WRITE:
@@ -93,7 +91,6 @@ class Resolver:
         return "the opening version" if writer is None else self.updates[writer].name
 
     def write(self, place: int, operation: Operation) -> None:
-        self.labels[operation.version] = self.updates[place].name
         same = self.chains[operation.item].write(place, operation)
         if same is not None:
             self.faults.append(
@@ -102,20 +99,22 @@ class Resolver:
             )
 
     def missing(self, reader: str, read: Operation) -> str:
-        """Says of a version that no committed transaction is recorded to have written."""
-        told = f"{read.value} of {read.item} by {read.version}, which {reader} read, has no recorded writer"
+        """Describes a version that has no committed writer in the record."""
+        text = f"{read.value} of {read.item} by {read.version}, which {reader} read, has no recorded writer"
+        other = self.others.get((read.item, read.version))
+        if other is not None:
+            if other.outcome is Outcome.ABORTED:
+                return f"{text} that committed: {other.name} aborted, and an audit is of reads of what was committed"
+            if other.outcome is Outcome.LEFT_OUT:
+                return f"{text}: {other.name} was left out, {other.reason}"
+            return f"{text} that committed: how {other.name} ended is unknown"
         if read.version in self.labels:
             writer = self.labels[read.version]
-            return f"{told}: {writer} has that label, and a write of {read.item} by it was not recorded"
-        if read.version in self.others:
-            other = self.others[read.version]
-            if other.outcome is Outcome.ABORTED:
-                return f"{told} that committed: {other.name} aborted, and an audit is of reads of what was committed"
-            return f"{told} that committed: how {other.name} ended is unknown"
-        return told
+            return f"{text}: {writer} has that label, and a write of {read.item} by it was not recorded"
+        return text
 
     def absence(self, reader: str, item: str) -> Optional[int]:
-        """The version that a read of a row that was not there saw."""
+        """Returns the version that a read of an absent row saw."""
         absences = self.chains[item].absences()
         if len(absences) == 1:
             return absences[0]
@@ -127,7 +126,7 @@ class Resolver:
         return None
 
     def version(self, reader: str, read: Operation) -> Optional[int]:
-        """The number of the version that a read of another's version saw; a fault is noted where there is none."""
+        """Returns the number of the version that a read of another transaction's version saw, or notes a fault."""
         chain = self.chains[read.item]
         if read.value is None and read.version is None:
             return self.absence(reader, read.item)
@@ -142,8 +141,8 @@ class Resolver:
         return number
 
     def reads(self, transaction: Transaction, place: Optional[int] = None) -> list[Read]:
-        """The reads of others' versions by a transaction, which is the update of a place or a report. Its reads of
-        its own versions are compared with what it wrote."""
+        """Returns the reads of other transactions' versions by a transaction, which is the update of a place or a report.
+        Compares its reads of its own versions with its writes."""
         found = []
         own: dict[str, Operation] = {}
         for operation in transaction.operations:
@@ -166,10 +165,16 @@ class Resolver:
         return found
 
     def check_endings(self, record: Record) -> None:
-        """At the end each item has the version of its last writer, or one of somebody who was not recorded."""
+        """Checks that each item ends with the version of its last writer, or with one that has no recorded writer."""
         for ending in record.endings:
             chain = self.chains[ending.item]
             number = chain.numbers.get(ending.version or "")
+            writer = self.labels.get(ending.version or "")
+            if number is None and writer is not None and (ending.item, ending.version) not in self.others:
+                self.faults.append(
+                    f"at the end {ending.item} is {ending.value} by {ending.version}, which is {writer}: a write of it"
+                    " by this transaction was not recorded"
+                )
             if number is not None and number != len(chain.writers):
                 self.faults.append(
                     f"at the end {ending.item} is by {self.name(ending.item, number)}, but by the times of the commits"

@@ -1,11 +1,10 @@
 """Names of a script for names of a record.
 
-The idea: a name of a script is a letter and up to 15 letters, digits and `_`. A label that is like that keeps its name,
-and so does one that becomes like that when other signs are made `_` (`accounts/7` becomes `accounts_7`). Where that is
-too long, or somebody else's name, what stands behind the schema is tried (`bank.accounts/7`), then the key alone
-(`i_7`), and at last a number (`i1`).
+The idea: a name of a script is a letter and up to 15 letters, digits and `_`. A label of this form keeps its name, and so
+does one that gets this form when other characters become `_` (`accounts/7` becomes `accounts_7`). If that is too long or
+taken, the part after the schema is tried (`bank.accounts/7`), then the key alone (`i_7`), and finally a number (`i1`).
 
-The invariant: no two labels have one name. Rejected: numbers for all. Pictures and explanations are read by people.
+The invariant: no two labels have one name. Rejected: numbers for all. People read pictures and explanations.
 """
 
 from __future__ import annotations
@@ -26,7 +25,7 @@ class Names:
         self.count = 0
 
     def __getitem__(self, label: str) -> str:
-        """The name of a label: a new one where it has none yet."""
+        """Returns the name of a label, a new one if it has none yet."""
         name = self.by_label.get(label)
         if name is None:
             name = next(name for name in self._tried(label) if FORM.fullmatch(name) and name not in self.labels)
@@ -34,7 +33,7 @@ class Names:
         return name
 
     def _tried(self, label: str) -> Iterator[str]:
-        """What is tried as a name of a label, the best first."""
+        """Yields candidates for the name of a label, the best first."""
         for text in (label, label.split(".", 1)[-1], f"{self.letter}_{label.rsplit('/', 1)[-1]}"):
             yield re.sub(r"[^a-z0-9]", "_", text.lower())
         while True:

@@ -1,4 +1,4 @@
-"""What was found of a record, and the text that tells it."""
+"""The findings of a record, and their text."""
 
 from __future__ import annotations
 
@@ -6,24 +6,30 @@ from dataclasses import dataclass
 from typing import Iterable, Iterator
 
 from . import placement, windows
-from .order import History, unrecorded_endings
+from .order import History, gaps, unrecorded_endings
 from .placement import PlacedReport
 from .program import Finding, OffRead
 from .record import Outcome, Record, Transaction
 from .script import Conversion, Script
 
-ENDINGS_TOLD = 3
-READS_TOLD = 3
+UNSEEN = (
+    "reads of the updates: not in the log, so whether the updates are serializable is unknown. A report that is off is"
+    " off in every serial order of them; one that is exact agrees with an order that keeps all writes"
+)
+MAX_ENDINGS = 3
+MAX_NAMES = 10
+MAX_READS = 3
 
 
 @dataclass(frozen=True)
 class AuditedReport:
-    """A report, the script that tells it, and what was found of it."""
+    """A report, its script, its audit, and by how much the sum of its reads is too large at the nearest placement."""
 
     placed: PlacedReport
     script: Script
     path: str
     finding: Finding
+    sum_error: int = 0
 
     @property
     def name(self) -> str:
@@ -46,7 +52,7 @@ class ExplainedReport:
 
 @dataclass(frozen=True)
 class Result:
-    """What was found of a record: of all reports that could be told, and more of the worst of them."""
+    """The findings of a record: of all reports that a script contains, and more of the worst of them."""
 
     record: Record
     history: History
@@ -60,11 +66,11 @@ class Result:
 
     @property
     def off(self) -> int:
-        """How many reports are not exact."""
+        """Returns the number of reports that are not exact."""
         return sum(1 for distance in self.distances if distance)
 
     def text(self) -> str:
-        """What is printed: lines that begin with what they are about, or with blanks where they go on."""
+        """Returns the printed text: lines that begin with their subject, or with blanks if they continue one."""
         parts = (_record(self), _order(self), _conversion(self.conversion), _reports(self))
         lines = [line for part in parts for line in part]
         lines += [line for explained in self.worst for line in _worst(explained)]
@@ -77,6 +83,11 @@ def line(subject: str, text: str) -> str:
 
 def _counted(count: int, noun: str) -> str:
     return f"{count:,} {noun}" + ("" if count == 1 else "s")
+
+
+def _first(names: list[str], count: int) -> str:
+    more = f" and {len(names) - count:,} more" if len(names) > count else ""
+    return ", ".join(names[:count]) + more
 
 
 def _at_levels(transactions: Iterable[Transaction]) -> str:
@@ -96,25 +107,31 @@ def _record(result: Result) -> Iterator[str]:
         yield line("", f"{_counted(aborted, 'transaction')} that aborted: left out")
     unknown = [each.name for each in record.transactions if each.outcome is Outcome.UNKNOWN]
     if unknown:
-        yield line("", f"how they ended is unknown, left out: {', '.join(unknown)}")
+        yield line("", f"how they ended is unknown, left out: {_first(unknown, MAX_NAMES)}")
+    for each in record.transactions:
+        if each.outcome is Outcome.LEFT_OUT:
+            yield line("", f"{each.name} was left out: {each.reason}")
     others = unrecorded_endings(history)
     if others:
-        more = f" and {len(others) - ENDINGS_TOLD:,} more" if len(others) > ENDINGS_TOLD else ""
-        told = ", ".join(others[:ENDINGS_TOLD]) + more
-        yield line("", f"written by somebody who was not recorded, after all that was read here: {told}")
+        yield line("", f"written at the end by a transaction that was not recorded: {_first(others, MAX_ENDINGS)}")
+    for note in record.notes:
+        yield line("", note.text)
 
 
 def _order(result: Result) -> Iterator[str]:
+    if not result.record.has_update_reads:
+        yield line("unseen", UNSEEN)
+        return
     how = "is" if result.history.keeps_commit_order else "differs from"
     yield line("order", f"the updates are serializable; the serial order {how} the order of the commits")
 
 
 def _conversion(conversion: Conversion) -> Iterator[str]:
     if len(conversion.items) < conversion.all_items:
-        told = f"{len(conversion.items):,} of {conversion.all_items:,} items"
-        yield line("sample", f"{told}: distances are at least what is told")
-    if conversion.untold:
-        yield line("", f"{_counted(conversion.untold, 'report')} that read none of these: left out")
+        sample = f"{len(conversion.items):,} of {conversion.all_items:,} items"
+        yield line("sample", f"{sample}: distances are at least those shown")
+    if conversion.unread:
+        yield line("", f"{_counted(conversion.unread, 'report')} that read none of these: left out")
     if conversion.sampled:
         yield line(
             "sample",
@@ -139,26 +156,35 @@ def _units(record: Record) -> str:
 
 
 def _reports(result: Result) -> Iterator[str]:
-    count, distances = len(result.reports), result.distances
+    count, distances, conversion = len(result.reports), result.distances, result.conversion
     if not count:
-        yield line("reports", "none was recorded")
+        yield line("reports", "none was audited")
         return
-    conversion = result.conversion
     is_sample = len(conversion.items) < conversion.all_items or conversion.sampled
-    exact = "exact, as far as the sample goes" if is_sample else "exact: they read what some serial order shows"
+    if not result.record.has_update_reads:
+        exact = "exact if the updates are serializable"
+    elif gaps(result.history):
+        exact = "without an error among the recorded updates, not known to be exact since the record has gaps"
+    elif is_sample:
+        exact = "exact, as far as the sample goes"
+    else:
+        exact = "exact: they read what some serial order shows"
     yield line("reports", f"{count - result.off:,} {exact}; {result.off:,} off")
     if result.off:
-        mean = sum(distances) / count
-        yield line("distance", f"worst {max(distances):,}, mean {mean:,.1f}{_units(result.record)}")
+        mean, units = sum(distances) / count, _units(result.record)
+        bound = "at most, among the updates of a window: " if len(conversion.scripts) > 1 else ""
+        yield line("distance", f"{bound}worst {max(distances):,}, mean {mean:,.1f}{units}")
+        errors = [abs(report.sum_error) for report in result.reports]
+        yield line("sum", f"worst error {max(errors):,}, mean {sum(errors) / count:,.1f}{units}")
 
 
 def _worst(explained: ExplainedReport) -> Iterator[str]:
     report = explained.report
-    yield line("worst", f"{report.name}: off by {report.distance:,}; {explained.picture}")
-    for read in explained.reads[:READS_TOLD]:
+    yield line("worst", f"{report.name}: off by {report.distance:,}, its sum by {report.sum_error:+,}; {explained.picture}")
+    for read in explained.reads[:MAX_READS]:
         item = report.script.items.labels[read.item]
         yield line(
             "", f"read {read.value} of {item}, which is {read.nearest} at the nearest place: off by {read.off}"
         )
-    if len(explained.reads) > READS_TOLD:
-        yield line("", f"and {_counted(len(explained.reads) - READS_TOLD, 'more read')}")
+    if len(explained.reads) > MAX_READS:
+        yield line("", f"and {_counted(len(explained.reads) - MAX_READS, 'more read')}")

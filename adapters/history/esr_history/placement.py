@@ -1,15 +1,15 @@
-"""Where reports stand among the updates of a serial order.
+"""The places of reports among the updates of a serial order.
 
-The idea: call the gap behind the first j updates of the serial order *slot* j. A version of an item stands from the
-slot behind its writer to the slot before the writer of the next version. A read of it may be put into any of these
-slots, and gives the value that was recorded. It is put into the nearest to where the report had come, so a report
-begins, reads and commits beside the updates beside which it did so in the database.
+The idea: call the gap after the first j updates of the serial order *slot* j. A version of an item is current from the slot
+after its writer to the slot before the writer of the next version. A read of it may be placed in any of these slots, and
+returns the recorded value. It is placed in the nearest one to the report's progress, so that a report begins, reads and
+commits among the updates that were concurrent with it in the database.
 
-The invariant: each read of a placed report is in a slot where its version stands, not before the slot where the report
-begins and not behind the one where it commits, which is behind all updates that had committed when the report ended.
+The invariant: each read of a placed report is in a slot where its version is current, not before the slot where the report
+begins and not after the one where it commits, which is after all updates that had committed when the report ended.
 
-Rejected: to begin all reports first and to read right behind the version's writer. The distances would be the same,
-but every later write would be charged to every report, and an explanation would tell of updates long past or to come.
+Rejected: beginning all reports first and reading directly after the version's writer. The distances would be the same, but
+every later write would be charged to every report, and an explanation would contain updates long past or to come.
 """
 
 from __future__ import annotations
@@ -27,7 +27,7 @@ MAX_READS = 1_000
 
 
 class PlacedRead(NamedTuple):
-    """A read of a version of an item, and the slot where it is told."""
+    """A read of a version of an item, and its slot."""
 
     slot: int
     item: str
@@ -50,7 +50,7 @@ class PlacedReport:
 
 
 def spread(count: int, most: int) -> list[int]:
-    """At most so many numbers below a count, evenly spread."""
+    """Returns at most `most` numbers below a count, evenly spread."""
     if count <= most:
         return list(range(count))
     return [place * count // most for place in range(most)]
@@ -68,18 +68,18 @@ class Positions:
         self._slots = list(accumulate((position + 1 for position in self.of), max, initial=0))
 
     def at(self, time: int) -> int:
-        """The first slot behind all updates that had committed at a time."""
+        """Returns the first slot after all updates that had committed at a time."""
         return self._slots[bisect_right(self._times, time)]
 
     def span(self, read: Read) -> tuple[int, int]:
-        """The first and the last slot where the version that was read stands."""
+        """Returns the first and the last slot where the version that was read is current."""
         chain = self.history.chains[read.item]
         writer, replacer = chain.writer(read.number), chain.replacer(read.number)
         first = 0 if writer is None else self.of[writer] + 1
         return first, len(self.of) if replacer is None else self.of[replacer]
 
     def place(self, report: Transaction, reads: list[Read]) -> PlacedReport:
-        """A report, with at most as many reads as a script may have of it."""
+        """Returns a placed report, with at most as many reads as a script may have of it."""
         kept = [reads[place] for place in spread(len(reads), MAX_READS)]
         spans = [self.span(read) for read in kept]
         begin = min([self.at(report.began)] + [last for _, last in spans])
@@ -92,7 +92,7 @@ class Positions:
 
 
 def placed_reports(positions: Positions) -> list[PlacedReport]:
-    """All reports, by the slots where they begin."""
+    """Returns all reports, by the slots where they begin."""
     reports = zip(positions.history.reports, positions.history.report_reads)
     placed = [positions.place(report, reads) for report, reads in reports]
     return sorted(placed, key=lambda report: (report.begin, report.commit))

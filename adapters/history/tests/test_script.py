@@ -3,12 +3,12 @@
 import unittest
 from unittest import mock
 
-from esr_postgresql import placement, windows
-from esr_postgresql.names import Names
-from esr_postgresql.order import history_of
-from esr_postgresql.placement import spread
-from esr_postgresql.record import Item
-from esr_postgresql.script import TooLarge, convert
+from esr_history import placement, windows
+from esr_history.names import Names
+from esr_history.order import history_of
+from esr_history.placement import spread
+from esr_history.record import Item
+from esr_history.script import TooLarge, convert
 
 from .generated import bank
 from .written import answers, distances, read, record, transaction, write
@@ -189,7 +189,7 @@ class Limits(unittest.TestCase):
         )
         with mock.patch.object(windows, "MAX_ITEMS", 1):
             conversion = convert(history_of(made))
-        self.assertEqual((conversion.items, conversion.all_items, conversion.untold), (["x"], 2, 1))
+        self.assertEqual((conversion.items, conversion.all_items, conversion.unread), (["x"], 2, 1))
 
     def test_a_sample_of_reads(self):
         with mock.patch.object(placement, "MAX_READS", 4):

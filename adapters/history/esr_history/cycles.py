@@ -1,10 +1,9 @@
-"""Cycles of updates that have no serial order: found, and told by their usual names.
+"""Cycles of updates that have no serial order, with their usual names.
 
-The idea: updates each of which comes before each other are a strongly connected component of the dependencies. Of each
-component a shortest cycle through one of its first updates is told, since that is what a person can check.
+The idea: updates that all come before one another are a strongly connected component of the dependencies. Of each component
+a shortest cycle through one of its first updates is shown, since a person can check that.
 
-Rejected: to tell all cycles, of which there may be exponentially many, and to tell the components alone, which say who
-is to blame and not why.
+Rejected: all cycles, of which there may be exponentially many; and the components alone, which do not show the reason.
 """
 
 from __future__ import annotations
@@ -72,13 +71,13 @@ class NotSerializable(Exception):
         super().__init__("\n".join(str(cycle) for cycle in cycles))
 
 
-# For each update, by its place in the commit order, the updates that come behind it, and why.
+# For each update, by its place in the commit order, the updates that come after it, and why.
 Edges = list[dict[int, tuple[Reason, str]]]
 
 
 def groups(edges: Edges, among: Iterable[int]) -> Iterator[list[int]]:
     """The largest groups of updates of which each comes before each other (Tarjan's strongly connected components,
-    with a stack of its own in place of recursion), those of one update left out."""
+    with an explicit stack instead of recursion), without those of one update."""
     number: dict[int, int] = {}
     low: dict[int, int] = {}
     stack: list[int] = []
@@ -91,8 +90,8 @@ def groups(edges: Edges, among: Iterable[int]) -> Iterator[list[int]]:
         stack.append(root)
         on_stack.add(root)
         while walk:
-            update, behind = walk[-1]
-            following = next(behind, None)
+            update, edges_left = walk[-1]
+            following = next(edges_left, None)
             if following is None:
                 walk.pop()
                 if walk:
@@ -121,15 +120,15 @@ def way_back(edges: Edges, start: int, among: set[int]) -> list[int]:
     while front:
         following = []
         for update in front:
-            for behind in edges[update]:
-                if behind == start:
+            for after in edges[update]:
+                if after == start:
                     way = [update]
                     while way[-1] != start:
                         way.append(came[way[-1]])
                     return way[::-1]
-                if behind in among and behind not in came:
-                    came[behind] = update
-                    following.append(behind)
+                if after in among and after not in came:
+                    came[after] = update
+                    following.append(after)
         front = following
     raise AssertionError("a group without a way back")
 
@@ -149,6 +148,6 @@ def cycle_of(edges: Edges, group: list[int], updates: list[Transaction]) -> Cycl
         Step(updates[before].name, updates[after].name, *edges[before][after])
         for before, after in zip(way, way[1:] + way[:1])
     ]
-    # (told from a read of what another replaced, if there is one)
+    # (starting with a read of a version that another replaced, if there is one)
     first = next((place for place, step in enumerate(steps) if step.reason is Reason.READ_WRITE), 0)
     return Cycle(tuple(steps[first:] + steps[:first]))

@@ -3,7 +3,7 @@
 import pathlib
 import sys
 
-from esr_postgresql.record import Action, Ending, Item, Operation, Outcome, Record, Transaction
+from esr_history.record import Action, Ending, Item, Operation, Outcome, Record, Transaction
 
 CHECKS = pathlib.Path(__file__).resolve().parents[3] / "checks"
 sys.path.insert(0, str(CHECKS))
@@ -19,8 +19,8 @@ def write(item, value, version):
     return Operation(Action.WRITE, item, value, version)
 
 
-def transaction(name, began, ended, *operations, outcome=Outcome.COMMITTED, level=""):
-    return Transaction(name, outcome, began, ended, operations, level)
+def transaction(name, began, ended, *operations, outcome=Outcome.COMMITTED, level="", labels=(), reason=""):
+    return Transaction(name, outcome, began, ended, operations, level, labels, reason)
 
 
 def record(items, *transactions, endings=()):

@@ -3,7 +3,7 @@
 import io
 import unittest
 
-from esr_postgresql.record import Item, Outcome, RecordError, lines, load
+from esr_history.record import Item, Outcome, RecordError, lines, load
 
 from .written import read, record, transaction, write
 
@@ -34,15 +34,15 @@ class Reading(unittest.TestCase):
         self.assertEqual(str(caught.exception), text)
 
     def test_a_head_is_asked_for(self):
-        self.refused('line 1: a record begins with {"record": "esr", "format": 1, "system": ...}', ITEM)
-        self.refused('line 1: a record begins with {"record": "esr", "format": 1, "system": ...}')
-        self.refused("line 1: the format is 2, and only 1 is known here", HEAD.replace("1", "2"))
+        self.refused('line 1: a record begins with {"record": "esr", "format": 2, "system": ...}', ITEM)
+        self.refused('line 1: a record begins with {"record": "esr", "format": 2, "system": ...}')
+        self.refused("line 1: the format is 3, and this program reads 1 and 2", HEAD.replace("1", "3"))
 
     def test_lines_that_are_no_objects(self):
         self.refused("line 2: not an object", HEAD, "[]\n")
         with self.assertRaisesRegex(RecordError, "^line 3: not JSON: "):
             loaded(HEAD, ITEM, "{\n")
-        self.refused("line 2: a line has one of the keys item, transaction and end", HEAD, '{"itme":"a"}\n')
+        self.refused("line 2: a line has one of the keys item, transaction, end and note", HEAD, '{"itme":"a"}\n')
 
     def test_items(self):
         self.refused("line 3: the item a/1 is declared twice", HEAD, ITEM, ITEM)
@@ -71,7 +71,7 @@ class Reading(unittest.TestCase):
     def test_transactions(self):
         form = '{{"transaction":"u","outcome":"{}","began":{},"ended":2,"operations":{}}}\n'
         self.refused(
-            "line 3: the outcome is 'lost', and has to be committed, aborted or unknown",
+            "line 3: the outcome is 'lost', and has to be committed, aborted, unknown or left out",
             HEAD,
             ITEM,
             form.format("lost", 1, "[]"),
@@ -97,4 +97,4 @@ class Reading(unittest.TestCase):
             form.format("committed", 1, '[["write","a/1",null,null]]'),
         )
         good = form.format("committed", 1, "[]")
-        self.refused("line 4: the transaction u stands on line 3 already", HEAD, ITEM, good, good)
+        self.refused("line 4: the transaction u is on line 3 already", HEAD, ITEM, good, good)
