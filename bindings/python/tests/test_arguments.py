@@ -181,7 +181,7 @@ class Arguments(unittest.TestCase):
             Bank({f"i{n}": 0 for n in range(4097)})
 
     def test_a_total_out_of_range_leaves_the_update_active(self):
-        """It names item and total; the update goes on, and nothing of the refused call is in it."""
+        """It names item and total, and the update continues without the refused call."""
         for optimistic in (True, False):
             bank = Bank({"a": 10**12, "b": 0}, optimistic=optimistic)
 

@@ -184,7 +184,7 @@ class Handles(unittest.TestCase):
 
 class Renewals(unittest.TestCase):
     def test_a_failure_leaves_the_bank_alive(self):
-        """It continues in the old history up to its last transaction; then the error is the cause of what is raised; once
+        """It continues in the old history up to its last transaction. Then it raises an exception with that cause. Once
         the function passes, the next begin renews."""
         broken, calls = [True], []
 
