@@ -127,8 +127,9 @@ class Bank(Mapping[str, int]):
         if store is None:
             self._open(opening, counted)
             return
-        values = _merged(opening, store.open(opening))
+        stored = store.open(opening)
         try:
+            values = _merged(opening, stored)
             self._open(values, counted)
         except BaseException:
             store.close()
