@@ -66,7 +66,7 @@ class PostgreSQLStore:
                 cursor.execute("COMMIT")
         except psycopg2.Error as why:
             self.close()
-            raise StoreUnfit(f"{self.table}: {str(why).strip()}") from why
+            raise StoreUnfit(f"{self.table}: {_one_line(why)}") from why
         except BaseException:
             self.close()
             raise
@@ -118,6 +118,7 @@ class PostgreSQLStore:
 
     def _connect(self) -> Any:
         self._connection = connection = psycopg2.connect(self.dsn)
+        connection.autocommit = True  # BEGIN and COMMIT are sent here
         with connection.cursor() as cursor:
             cursor.execute("select current_setting('synchronous_commit')")
             if cursor.fetchone()[0] == "off":
@@ -125,8 +126,6 @@ class PostgreSQLStore:
             cursor.execute(f"set lock_timeout = '{int(min(self.patience, 10**6) * 1000)}ms'")
             cursor.execute(BACKEND)
             self._backend = cursor.fetchone()
-        connection.commit()
-        connection.autocommit = True  # BEGIN and COMMIT are sent here
         return connection
 
     def _drop(self) -> None:
@@ -144,7 +143,7 @@ class PostgreSQLStore:
             self._undo()
             if isinstance(why, psycopg2.Error):
                 is_final = isinstance(why, (psycopg2.IntegrityError, psycopg2.DataError))
-                raise NotWritten(f"{self.table}: {str(why).strip()}", is_final) from why
+                raise NotWritten(f"{self.table}: {_one_line(why)}", is_final) from why
             raise
         with connection.cursor() as cursor:
             cursor.execute("COMMIT")
@@ -208,6 +207,11 @@ class PostgreSQLStore:
         if guard is not None:
             with contextlib.suppress(psycopg2.Error):
                 guard.close()
+
+
+def _one_line(why: BaseException) -> str:
+    """Returns the text of an exception. Those of libpq have several lines."""
+    return " ".join(str(why).split())
 
 
 def _quoted(name: str) -> str:
