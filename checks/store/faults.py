@@ -4,7 +4,7 @@ usage: faults.py full FOLDER           a folder on a small file system that is i
        faults.py cut DSN TIMES         cuts by turns before the server has the COMMIT and before the reply
        faults.py server DSN PATIENCE   kills the server four times
 
-In each, eight threads transfer and one reports. The store is opened again afterwards and compared with what was answered.
+In each, eight threads transfer and one reports. Then the store is reopened, and compared with the transfers that were answered.
 """
 
 import os
@@ -79,12 +79,12 @@ class Load:
         demand(not self.errors, f"{self.errors}")
 
     def compare(self, store):
-        """Opens the store again. Returns how many transfers it has that were not answered."""
+        """Reopens the store. Returns how many transfers it has that were not answered."""
         from esr import Bank
 
         self.bank.close()
         with Bank(store=store) as bank:
-            kept = Balances().compare(bank.snapshot(), "opened again")
+            kept = Balances().compare(bank.snapshot(), "reopened")
         for thread, (answered, number) in enumerate(zip(self.answered, kept)):
             allowed = answered + (thread in self.unknown)
             demand(

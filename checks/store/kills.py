@@ -1,4 +1,4 @@
-"""Kills a bank with a store by SIGKILL at random moments, opens it again and compares.
+"""Kills a bank with a store by SIGKILL at random moments, reopens and compares it.
 
 usage: kills.py [--planted FAULT] sqlite PATH TIMES
        kills.py [--planted FAULT] postgresql DSN TIMES

@@ -259,7 +259,7 @@ class NotWritten(StoreError):
 
 
 class StoreStopped(StoreError):
-    """The store failed for longer than `store_patience`, so the bank has stopped. Open it again from the store.
+    """The store failed for longer than `store_patience`, so the bank has stopped. Reopen it from the store.
 
     >>> raise StoreStopped("the bank has stopped: disk full", False)
     Traceback (most recent call last):

@@ -179,7 +179,7 @@ class StoreQueue:
                 error = self._write(group)
             except BaseException as why:  # a defect of the package or of the store
                 LOG.exception("the writer of the store failed")
-                error = StoreStopped(f"the bank has stopped: {why!r}; open it again from the store")
+                error = StoreStopped(f"the bank has stopped: {why!r}; reopen it from the store")
             self._finish(group, error)
         try:
             self.store.close()
@@ -259,4 +259,4 @@ class StoreQueue:
 
 def _stopped(failure: BaseException, is_written: Optional[bool]) -> StoreStopped:
     unknown = "" if is_written is False else "; whether the store has the last updates is unknown"
-    return StoreStopped(f"the bank has stopped{unknown}: {failure}; open it again from the store", is_written)
+    return StoreStopped(f"the bank has stopped{unknown}: {failure}; reopen it from the store", is_written)

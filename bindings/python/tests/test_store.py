@@ -372,7 +372,7 @@ class Faults(Case):
                     report.read("pocket")
                 before = self.values()["checking"]
                 self.store.fault, self.store.silent = fault, 3 * (is_written is None)
-                with self.assertRaisesRegex(StoreStopped, "the bank has stopped.*open it again from the store") as caught:
+                with self.assertRaisesRegex(StoreStopped, "the bank has stopped.*reopen it from the store") as caught:
                     transfer(bank)
                 self.assertEqual(caught.exception.is_written, is_written)
                 self.refuse_each_call(bank, report)
@@ -437,7 +437,7 @@ class Faults(Case):
         bank = self.bank(60.0)
         self.execute("create trigger t before update on esr_items when new.value < 0 begin select raise(abort, 'no'); end")
         begun = time.monotonic()
-        with self.assertRaisesRegex(StoreStopped, "no; open it again"):
+        with self.assertRaisesRegex(StoreStopped, "no; reopen it"):
             transfer(bank, 501)
         self.assertLess(time.monotonic() - begun, 10)
         self.assertEqual(self.values()["checking"], 500)
