@@ -616,12 +616,12 @@ class Bank(Mapping[str, int]):
                     raise BankClosed(f"the bank was closed before {transaction._shown()} ended, which has not committed")
                 return
             commits = error is None and (self._queue is None or self._queue.stopped is None)
-            self._answer(c.library.esr_commit if commits else c.library.esr_abort, transaction.number)
             transaction._state = ENDED
             self._waits.forget(transaction.number)
             self._active.pop(transaction.number, None)
             if not self._active:
                 self._ended.notify_all()
+            self._end(transaction.number, commits)
             self._counters.aborts += not commits and not transaction._is_retried
             if commits:
                 ticket = self._note_commit(transaction)
@@ -630,6 +630,16 @@ class Bank(Mapping[str, int]):
                 self._wait_for_store(ticket)
             except StoreStopped as why:
                 raise why from None
+
+    def _end(self, txn: int, commits: bool) -> None:
+        """Commits or aborts in the engine. A commit for which the allocation fails has changed nothing and is aborted, since an
+        active transaction would hold off every renewal."""
+        try:
+            self._answer(c.library.esr_commit if commits else c.library.esr_abort, txn)
+        except MemoryError:
+            if commits:
+                self._answer(c.library.esr_abort, txn)
+            raise
 
     def _note_commit(self, transaction: Transaction) -> Optional[Ticket]:
         if isinstance(transaction, Update):
@@ -653,7 +663,8 @@ class Bank(Mapping[str, int]):
             while True:
                 with self._lock:
                     transaction._require_active()
-                    self._raise_deadlock(transaction)
+                    if self._waits.given_up:
+                        self._raise_deadlock(transaction)
                     reply = events()
                     if reply.kind != c.REFUSED:
                         return reply

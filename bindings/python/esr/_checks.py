@@ -37,16 +37,25 @@ def integer_in(what: str, value: object, least: int, greatest: int) -> int:
 
 def limit(value: object) -> int:
     """Checks the limit of a transaction."""
+    if type(value) is int and 0 <= value <= MAX_LIMIT:
+        return value
     return integer_in("limit", value, 0, MAX_LIMIT)
 
 
 def written(item: str, value: object) -> int:
     """Checks a value that is written to an item."""
+    if type(value) is int and -MAX_VALUE <= value <= MAX_VALUE:
+        return value
     what = f"the value of {item!r}"
     number = integer(what, value)
     if not -MAX_VALUE <= number <= MAX_VALUE:
         raise WriteOutOfRange(5, _text(what, number, -MAX_VALUE, MAX_VALUE), 0, item)
     return number
+
+
+def change(item: str, value: object) -> int:
+    """Checks a change of an item, of which only the sum with the item's value has a range."""
+    return value if type(value) is int else integer(f"the change of {item!r}", value)
 
 
 def seconds(what: str, value: object) -> float:

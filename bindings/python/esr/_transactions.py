@@ -108,6 +108,9 @@ class Transaction:
 
     def _require_active(self) -> None:
         """Raises an exception unless the transaction is active. The lock is held."""
+        queue = self._bank._queue
+        if self._state is ACTIVE and not self._bank._is_closed and (queue is None or queue.stopped is None):
+            return  # no renewal has come between, since that waits for the end of active transactions
         self._require_history()
         if self._state != ACTIVE:
             raise HandleExpired(f"{self._shown()} has ended")
@@ -224,7 +227,7 @@ class Update(Transaction):
         ...     update.add("checking", -100)
         400
         """
-        bank, item, delta = self._bank, self._bank._number_of(name), checks.integer(f"the change of {name!r}", more)
+        bank, item, delta = self._bank, self._bank._number_of(name), checks.change(name, more)
         self._item = name
         total = 0
 
@@ -250,13 +253,14 @@ class Draft(Update):
 
     def __init__(self, bank: "Bank", limit: int, name: Optional[str], waiting: Waiting) -> None:
         super().__init__(bank, limit, name, waiting)
-        self._restart()
+        self._overtaken: Optional[Overtaken] = None
+        self._seen: Dict[str, Tuple[int, int]]
+        self._events: List[Tuple[int, str]]
+        self._moment = 0
 
     def _restart(self) -> None:
-        self._overtaken: Optional[Overtaken] = None
-        self._seen: Dict[str, Tuple[int, int]] = {}
-        self._wrote = {}
-        self._events: List[Tuple[int, str]] = []
+        """Forgets the run before, and begins one on the values of this moment."""
+        self._overtaken, self._seen, self._wrote, self._events = None, {}, {}, []
         self._moment = self._bank._mirror[None][0]
         self._state = ACTIVE
 
@@ -267,10 +271,11 @@ class Draft(Update):
     def _require_current(self) -> None:
         if self._overtaken:
             raise self._overtaken
+        if self._state is ACTIVE and not self._bank._is_closed:
+            return
         if self._bank._is_closed:
             raise BankClosed("the bank is closed")
-        if self._state != ACTIVE:
-            raise HandleExpired(f"{self._shown() if self.number else 'the update'} has ended")
+        raise HandleExpired(f"{self._shown() if self.number else 'the update'} has ended")
 
     def read(self, name: str) -> int:
         self._require_current()
@@ -306,9 +311,11 @@ class Draft(Update):
         self._wrote[name] = number
 
     def add(self, name: str, more: int) -> int:
-        total = self.read(name) + checks.integer(f"the change of {name!r}", more)
-        self.write(name, total)
-        return self._wrote[name]
+        total = checks.written(name, self.read(name) + checks.change(name, more))
+        if name not in self._wrote:
+            self._events.append((c.WRITE, name))
+        self._wrote[name] = total
+        return total
 
     @property
     def charged(self) -> int:
@@ -334,7 +341,7 @@ class Draft(Update):
             self.number, self._renewals = reply.txn, bank.renewals
             bank._note_name(self)
             outcome = self._give_events()
-            bank._answer(c.library.esr_commit if outcome else c.library.esr_abort, self.number)
+            bank._end(self.number, bool(outcome))
             if not outcome:
                 return outcome, None
             bank._counters.updates += 1
@@ -441,8 +448,8 @@ class Query(Transaction):
         return self._audit_text(c.library.esr_bundle)
 
     def explain(self) -> str:
-        """Returns the text that `esr explain` prints for the bank's `script()`: each read with the value at the nearest serial
-        placement, each charge with the update that caused it, and the sums.
+        """Returns the text of `esr explain`: each read with the value at the nearest serial placement, each charge with the
+        update that caused it, and the sums. Transactions are `t1`, `t2`, also those with a name.
 
         >>> from esr import Bank
         >>> with Bank({"checking": 500}).report(0) as report:
@@ -454,7 +461,7 @@ class Query(Transaction):
         return self._audit_text(c.library.esr_explain, self._bank._names, len(self._bank._names)).decode()
 
     def picture(self) -> str:
-        """Returns its audit as a picture, as `esr picture` draws it: one SVG.
+        """Returns its audit as a picture, as `esr picture` draws it: one SVG. Transactions are `t1`, `t2`.
 
         >>> from esr import Bank
         >>> with Bank({"checking": 500}).report(0) as report:

@@ -254,6 +254,21 @@ class Renewals(unittest.TestCase):
             self.assertEqual((bank.renewals, bank.counts.active), (1, 0))
 
 
+class Memory(unittest.TestCase):
+    def test_a_commit_without_memory_is_aborted(self):
+        """So the transaction does not hold off renewals for ever."""
+        library = esr._bank.c.library
+        for optimistic in (True, False):
+            bank = Bank({"a": 0}, optimistic=optimistic)
+            with mock.patch.object(library, "esr_commit", return_value=esr._bank.c.NO_MEMORY):
+                with self.assertRaises(MemoryError):
+                    bank.transact(0, lambda update: update.add("a", 1))
+                with self.assertRaises(MemoryError), bank.report(0) as report:
+                    report.read("a")
+            self.assertEqual((bank["a"], bank.counts.active, bank.active()), (0, 0, []))
+            renew(bank)
+
+
 class EventLoops(unittest.TestCase):
     def test_a_transaction_in_a_coroutine_is_refused(self):
         bank = Bank({"a": 0})
