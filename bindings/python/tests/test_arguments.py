@@ -10,7 +10,7 @@ import esr
 from esr import Bank, EsrError, OutOfRange, SQLiteStore, UnknownItem, WrongType
 
 EDGES = [0, 1_000, 10**12, 10**18, 2**31, 2**32, 2**53, 2**63, 2**64, 2**65, 2**128, 10**5000]
-NUMBERS = sorted({sign * (edge + near) for edge in EDGES for near in (-2, -1, 0, 1, 2, 100) for sign in (1, -1)})
+NUMBERS = sorted({sign * (edge + near) for edge in EDGES for near in (-1, 0, 1, 100) for sign in (1, -1)})
 OTHERS = [None, "1", b"1", "", 1.0, 0.5, math.nan, -math.inf, 1j, [], [1], (1,), {}, {1}, object(), int, fractions.Fraction(2)]
 OTHERS += [decimal.Decimal(2), lambda: 1]
 
@@ -120,7 +120,7 @@ class Arguments(unittest.TestCase):
     def test_a_number_has_its_exact_effect_or_is_out_of_range(self):
         for (call, argument), (name, least, greatest, effect) in CALLS.items():
             for number in NUMBERS:
-                for value in (number, Index(number)):
+                for value in (number, Index(number)) if number in EDGES else (number,):
                     with self.subTest(call=call, argument=argument, bits=number.bit_length()):
                         if least <= number <= greatest:
                             self.assertEqual(effect(value), number)
