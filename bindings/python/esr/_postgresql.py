@@ -15,7 +15,7 @@ import psycopg2
 
 from ._checks import seconds, text
 from ._errors import NotWritten, StoreInUse, StoreUnfit
-from ._store import Change
+from ._store import Change, one_line
 
 BANKS = "create table if not exists esr_bank (store text primary key, epoch bigint not null, last bigint not null)"
 BACKEND = "select pid, backend_start from pg_stat_activity where pid = pg_backend_pid()"
@@ -66,7 +66,7 @@ class PostgreSQLStore:
                 cursor.execute("COMMIT")
         except psycopg2.Error as why:
             self.close()
-            raise StoreUnfit(f"{self.table}: {_one_line(why)}") from why
+            raise StoreUnfit(f"{self.table}: {one_line(why)}") from why
         except BaseException:
             self.close()
             raise
@@ -143,7 +143,7 @@ class PostgreSQLStore:
             self._undo()
             if isinstance(why, psycopg2.Error):
                 is_final = isinstance(why, (psycopg2.IntegrityError, psycopg2.DataError))
-                raise NotWritten(f"{self.table}: {_one_line(why)}", is_final) from why
+                raise NotWritten(f"{self.table}: {one_line(why)}", is_final) from why
             raise
         with connection.cursor() as cursor:
             cursor.execute("COMMIT")
@@ -207,11 +207,6 @@ class PostgreSQLStore:
         if guard is not None:
             with contextlib.suppress(psycopg2.Error):
                 guard.close()
-
-
-def _one_line(why: BaseException) -> str:
-    """Returns the text of an exception. Those of libpq have several lines."""
-    return " ".join(str(why).split())
 
 
 def _quoted(name: str) -> str:

@@ -235,7 +235,7 @@ class StoreQueue:
                     return _stopped(failure, None)
             if time.monotonic() >= until:
                 return _stopped(failure, False)
-            LOG.warning("the store has not taken a write, trying again: %s", failure)
+            LOG.warning("the store has not taken a write, trying again: %s", one_line(failure))
             time.sleep(min(pause, max(0.0, until - time.monotonic())))
             pause = min(pause * 2, LONGEST_PAUSE)
 
@@ -259,4 +259,9 @@ class StoreQueue:
 
 def _stopped(failure: BaseException, is_written: Optional[bool]) -> StoreStopped:
     unknown = "" if is_written is False else "; whether the store has the last updates is unknown"
-    return StoreStopped(f"the bank has stopped{unknown}: {failure}; reopen it from the store", is_written)
+    return StoreStopped(f"the bank has stopped{unknown}: {one_line(failure)}; reopen it from the store", is_written)
+
+
+def one_line(failure: BaseException) -> str:
+    """Returns the text of an exception in one line. Those of libpq have several."""
+    return " ".join(str(failure).split())

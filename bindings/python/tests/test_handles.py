@@ -158,6 +158,25 @@ class Handles(unittest.TestCase):
         thread.join(10)
         self.assertEqual(errors, [BankClosed])
 
+    def test_a_close_wakes_a_begin_that_waits_for_a_renewal(self):
+        bank, errors, begun = Bank({"a": 0}, patience=30), [], time.monotonic()
+
+        def begin():
+            try:
+                bank.update(0).__enter__()
+            except EsrError as why:
+                errors.append(type(why))
+
+        bank.update(0).__enter__().write("a", 1)
+        with mock.patch("esr._bank.NEARLY_FULL", 999_999):
+            thread = threading.Thread(target=begin)
+            thread.start()
+            time.sleep(0.1)
+            self.assertEqual(errors, [])
+            bank.close()
+            thread.join()
+        self.assertEqual((errors, time.monotonic() - begun < 20), ([BankClosed], True))
+
     def test_before_its_begin_and_twice(self):
         bank = Bank({"a": 0})
         self.refuse(

@@ -261,6 +261,9 @@ class Names(unittest.TestCase):
         rows = list(csv.reader(io.StringIO(bank.ledger())))
         self.assertEqual([row[1] for row in rows[1:]], ["transfer", 'late, "very"', "t1", "twice", "twice", "t6", "count"])
         self.assertEqual(repr(report), "<Query 7 'count' of limit 0, ended>")
+        with mock.patch("esr._bank.NEARLY_FULL", 999_990):
+            bank.transact(0, lambda update: update.add("a", 1))
+        self.assertEqual((bank.renewals, bank.ledger().splitlines()[1][:5]), (1, "1,t1,"))
 
     def test_logs(self):
         bank = Bank({"a": 0})

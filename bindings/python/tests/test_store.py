@@ -301,6 +301,8 @@ class Waiting(Case):
         self.assertEqual(sorted(name for name, _ in self.returned), ["ahead", "close"])
 
     def test_an_interrupt_of_a_caller_does_not_stop_the_write(self):
+        handler = signal.signal(signal.SIGINT, signal.default_int_handler)  # it is ignored in the background of a shell
+        self.addCleanup(signal.signal, signal.SIGINT, handler)
         threading.Timer(0.1, os.kill, (os.getpid(), signal.SIGINT)).start()
         with self.assertRaises(KeyboardInterrupt):
             transfer(self.bank)
