@@ -71,11 +71,9 @@ __all__ = [
     "NotWritten",
     "OutOfRange",
     "Overtaken",
-    "PostgreSQLStore",
     "Query",
     "Refused",
     "RenewalFailed",
-    "SQLiteStore",
     "Store",
     "StoreError",
     "StoreInUse",
@@ -90,7 +88,8 @@ __all__ = [
 
 
 def __getattr__(name: str) -> type:
-    """Imports a store when it is first used: a Python without SQLite or psycopg2 has the rest of the package."""
+    """Imports a store when it is first used: a Python without SQLite or psycopg2 has the rest of the package. So neither is in
+    `__all__`."""
     if name == "SQLiteStore":
         from ._sqlite import SQLiteStore
 

@@ -6,6 +6,8 @@ import importlib.util
 import json
 import pathlib
 import re
+import subprocess
+import sys
 import threading
 import time
 import unittest
@@ -293,13 +295,18 @@ class Mapping(unittest.TestCase):
         self.assertIn(f'\nversion = "{esr.__version__}"\n', project.read_text(encoding="utf-8"))
 
     def test_every_public_name_is_there_and_documented(self):
-        for name in esr.__all__:
+        for name in [*esr.__all__, "SQLiteStore"]:
             with self.subTest(name):
-                if name == "PostgreSQLStore" and importlib.util.find_spec("psycopg2") is None:
-                    continue
                 self.assertTrue(getattr(esr, name).__doc__)
         with self.assertRaises(AttributeError):
             esr.nothing
+
+    def test_the_package_needs_no_database(self):
+        """It imports neither SQLite nor psycopg2 nor asyncio, and all its names are there without them."""
+        program = "import sys; sys.modules.update(sqlite3=None, psycopg2=None); from esr import *; Bank({'a': 1}).close()"
+        program += "; print('asyncio' in sys.modules)"
+        done = subprocess.run([sys.executable, "-c", program], capture_output=True, text=True, check=False)
+        self.assertEqual((done.stdout, done.stderr), ("False\n", ""))
 
 
 class Optimistic(unittest.TestCase):

@@ -279,7 +279,7 @@ class Waiting(Case):
         self.assertIn("committed", self.waits("ledger", self.bank.ledger))
 
     def test_the_work_before_a_renewal(self):
-        self.bank._before_renewal = lambda bank: [report.finding for report in bank.due()]
+        self.bank._before_renewal = lambda bank: self.returned.append(("work", bank.due()))
 
         def begin():
             with mock.patch("esr._bank.NEARLY_FULL", 999_999), self.bank.update(0):
@@ -360,6 +360,7 @@ class Faults(Case):
         for fault in ("before", "lost", "kept"):
             with self.subTest(fault):
                 bank = self.bank()
+                transfer(bank)
                 before = bank["checking"]
                 self.store.fault, self.store.silent = fault, 2
                 transfer(bank)
@@ -472,6 +473,38 @@ class Faults(Case):
         thread.join()
         self.assertGreaterEqual(time.monotonic() - begun, 0.2)
         self.assertEqual(self.values()["checking"], 400)
+
+    def test_updates_that_wait_when_the_bank_stops_are_never_written(self):
+        store, errors, calls = HeldStore(), [], []
+
+        def write(number, changes):
+            calls.append(number)
+            store.writes.set()
+            store.is_open.wait()
+            raise NotWritten("a constraint", is_final=True)
+
+        def run():
+            try:
+                transfer(bank)
+            except StoreStopped as why:
+                errors.append(why.is_written)
+
+        store.write = write
+        store.is_open.clear()
+        bank = Bank(OPENING, store=store)
+        threads = [threading.Thread(target=run) for _ in range(3)]
+        threads[0].start()
+        store.writes.wait()
+        for thread in threads[1:]:
+            thread.start()
+        while bank.metrics().updates < 3:
+            time.sleep(0.001)
+        time.sleep(0.05)
+        store.is_open.set()
+        for thread in threads:
+            thread.join()
+        bank.close()
+        self.assertEqual((errors, len(calls), store.values, store.closes), ([False] * 3, 1, OPENING, 1))
 
     def test_a_store_that_breaks_its_protocol_stops_the_bank(self):
         store = HeldStore()
