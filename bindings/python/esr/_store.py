@@ -15,7 +15,7 @@ Invariants:
 
 Rejected: a commit in the store before the commit in the engine. It holds locks for milliseconds, so practically every
 report would be charged. Also rejected: the first waiting thread as the writer. A KeyboardInterrupt would hit it in the
-middle of a write; signals never reach a thread of its own.
+middle of a write; signals reach the main thread only, which is never the writer.
 """
 
 import logging
