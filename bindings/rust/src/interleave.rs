@@ -7,7 +7,7 @@
 //!
 //! Atomics follow the release-acquire model with per-thread views: a relaxed or acquire load may return any store that is
 //! not older than what the thread has already observed, and each possible store is one more choice. Sequentially consistent
-//! operations and read-modify-writes observe the newest store. Load buffering is not modelled.
+//! operations, read-modify-writes and loads after a spin observe the newest store. Load buffering is not modelled.
 //!
 //! Time is virtual: it advances only when every thread waits, and then to the earliest deadline. So a test that asserts that
 //! no time has passed finds a lost wake-up, which a timeout would hide otherwise.
@@ -83,11 +83,12 @@ struct State {
     preemptions: u32,
     path: Vec<Choice>,
     depth: usize,
-    locations: usize,
+    /// For each atomic, the index of its newest store.
+    newest: View,
     failure: Option<String>,
 }
 
-struct Run {
+pub(crate) struct Run {
     id: u64,
     max_preemptions: u32,
     state: Mutex<State>,
@@ -278,7 +279,7 @@ fn explore_once<S: Send + Sync + 'static>(
             preemptions: 0,
             path,
             depth: 0,
-            locations: 0,
+            newest: View::new(),
             failure: None,
         }),
         switched: Condvar::new(),
@@ -379,8 +380,8 @@ impl AtomicU64 {
         let mut stores = self.stores.lock().unwrap_or_else(PoisonError::into_inner);
         if stores.run != run.id {
             stores.run = run.id;
-            stores.location = state.locations;
-            state.locations += 1;
+            stores.location = state.newest.len();
+            state.newest.push(0);
             let value = self.real.load(Ordering::SeqCst);
             stores.list = vec![(value, View::new())];
         }
@@ -429,6 +430,7 @@ impl AtomicU64 {
             join(&mut view, &stores.list[index - 1].1);
         }
         stores.list.push((value, view));
+        state.newest[location] = index;
         self.real.store(value, Ordering::SeqCst);
     }
 
@@ -621,7 +623,12 @@ pub(crate) fn yield_now() {
     let Some((run, me)) = simulated() else {
         return thread::yield_now();
     };
-    run.lock().threads[me].status = Status::Spinning;
+    let mut state = run.lock();
+    // a thread that polls observes each store at last, so the search need not repeat the same old one
+    let newest = state.newest.clone();
+    join(&mut state.threads[me].current, &newest);
+    state.threads[me].status = Status::Spinning;
+    drop(state);
     run.point(me);
 }
 

@@ -404,29 +404,29 @@ mod tests {
         );
     }
 
-    /// Reads two items whose sum is 0 at each moment, in both orders.
+    /// Reads two items whose sum is 0 at each moment.
     fn read_both(mirror: &Mirror) {
-        for [first, second] in [[0, 1], [1, 0]] {
-            let mut draft = draft_of(mirror);
-            if let (Ok(a), Ok(b)) = (draft.read(mirror, first), draft.read(mirror, second)) {
-                assert_eq!(a + b, 0, "a body saw half a commit");
-            }
+        let mut draft = draft_of(mirror);
+        if let (Ok(a), Ok(b)) = (draft.read(mirror, 0), draft.read(mirror, 1)) {
+            assert_eq!(a + b, 0, "a body saw half a commit");
         }
     }
 
     /// In every schedule, and for every store that a load may observe, no reader sees half of a commit.
     #[test]
     fn no_schedule_shows_half_a_commit() {
-        let writer: fn(&Mirror) = |mirror| {
-            mirror.publish([(0, 5), (1, -5)].into_iter());
-            mirror.publish([(1, -7), (0, 7)].into_iter());
-        };
-        let test = || {
-            let mirror = Arc::new(Mirror::of(&[0, 0]));
-            (mirror, vec![writer, read_both as fn(&Mirror)])
-        };
-        let runs = explore(2, test, |_, _| {});
-        println!("{runs} schedules");
+        let writers: [fn(&Mirror); 2] = [
+            |mirror| mirror.publish([(0, 5), (1, -5)].into_iter()),
+            |mirror| mirror.publish([(1, -7), (0, 7)].into_iter()),
+        ];
+        for writer in writers {
+            let test = || {
+                let mirror = Arc::new(Mirror::of(&[0, 0]));
+                (mirror, vec![writer, read_both as fn(&Mirror)])
+            };
+            let runs = explore(2, test, |_, _| {});
+            println!("{runs} schedules");
+        }
     }
 
     /// In every schedule a draft that is not stale under the lock has read the values of that moment.
@@ -445,10 +445,15 @@ mod tests {
                     draft.read(&shared.mirror, mine),
                     draft.read(&shared.mirror, other),
                 );
-                let (Ok(a), Ok(b)) = both else { continue };
+                let (Ok(a), Ok(b)) = both else {
+                    spin_loop();
+                    continue;
+                };
                 draft.write(mine, a + b + 1).expect("it is in range");
                 let mut values = shared.lock.lock();
                 if draft.is_stale(&shared.mirror) {
+                    drop(values);
+                    spin_loop();
                     continue;
                 }
                 assert_eq!((values[mine as usize], values[other as usize]), (a, b));

@@ -23,6 +23,8 @@ mod closing;
 mod handle;
 mod items;
 mod state;
+#[cfg(test)]
+mod tests;
 mod update;
 
 pub use builder::BankBuilder;
