@@ -220,7 +220,7 @@ impl<T> Drop for Guard<'_, T> {
 #[cfg(test)]
 mod tests {
     use super::*;
-    use crate::interleave::explore;
+    use crate::interleave::{Depth, explore};
 
     /// In every schedule threads exclude each other and lose nothing, and none is woken by its timeout alone.
     #[test]
@@ -231,14 +231,14 @@ mod tests {
             }
         };
         let test = || (Arc::new(Lock::new(0)), vec![body; 2]);
-        let runs = explore(2, test, |lock, now| {
+        let runs = explore(Depth::fine(2), test, |lock, now| {
             assert_eq!(*lock.value.lock().unwrap(), 4);
             assert!(now < NAP, "a wake-up was lost");
         });
         println!("{runs} schedules of two threads");
         let once: fn(&Lock<u64>) = |lock| *lock.lock() += 1;
         let test = || (Arc::new(Lock::new(0)), vec![once; 3]);
-        let runs = explore(1, test, |lock, now| {
+        let runs = explore(Depth::fine(1), test, |lock, now| {
             assert_eq!(*lock.value.lock().unwrap(), 3);
             assert!(now < NAP, "a wake-up was lost");
         });

@@ -2,8 +2,8 @@
 //!
 //! [`explore`] runs the threads of a test one at a time. Each operation on a simulated primitive is a scheduling point, at
 //! which the scheduler may switch to another thread. A depth-first search over these choices repeats the test until every
-//! schedule with at most `preemptions` forced switches was tried. Switches at which the running thread cannot continue are
-//! free.
+//! schedule was tried that has at most the given number of forced switches. Switches at which the running thread cannot
+//! continue are free.
 //!
 //! Atomics follow the release-acquire model with per-thread views: a relaxed or acquire load may return any store that is
 //! not older than what the thread has already observed, and each possible store is one more choice. Sequentially consistent
@@ -72,6 +72,32 @@ struct Sim {
     released: View,
 }
 
+/// How thoroughly [`explore`] searches.
+#[derive(Clone, Copy, Debug)]
+pub(crate) struct Depth {
+    /// The maximum number of forced switches in a schedule.
+    pub(crate) preemptions: u32,
+    /// Whether each load and store is a scheduling point, and loads may observe old stores. Otherwise only acquire loads,
+    /// read-modify-writes and waits are scheduling points: enough for code whose atomics are explored on their own.
+    pub(crate) is_fine: bool,
+}
+
+impl Depth {
+    pub(crate) const fn fine(preemptions: u32) -> Depth {
+        Depth {
+            preemptions,
+            is_fine: true,
+        }
+    }
+
+    pub(crate) const fn coarse(preemptions: u32) -> Depth {
+        Depth {
+            preemptions,
+            is_fine: false,
+        }
+    }
+}
+
 /// A choice of a schedule: the option that was taken, and how many there were.
 type Choice = (usize, usize);
 
@@ -90,7 +116,7 @@ struct State {
 
 pub(crate) struct Run {
     id: u64,
-    max_preemptions: u32,
+    depth: Depth,
     state: Mutex<State>,
     switched: Condvar,
 }
@@ -194,7 +220,7 @@ impl Run {
 
     fn switch(&self, state: &mut State, me: usize) {
         let can_continue = state.threads[me].status == Status::Runnable;
-        if can_continue && state.preemptions >= self.max_preemptions {
+        if can_continue && state.preemptions >= self.depth.preemptions {
             return;
         }
         let mut ready = state.ready();
@@ -226,13 +252,13 @@ impl Run {
     }
 }
 
-/// Runs threads under every schedule with at most `preemptions` forced switches. `test` sets a run up and returns its
+/// Runs threads under every schedule of the given depth. `test` sets a run up and returns its
 /// threads and a check of the end, which is passed the virtual time that has gone by. Returns the number of schedules.
 ///
 /// # Panics
 /// If a thread or the check panics in some schedule, or a schedule does not end.
 pub(crate) fn explore<S: Send + Sync + 'static>(
-    preemptions: u32,
+    depth: Depth,
     test: impl Fn() -> (Arc<S>, Vec<fn(&S)>),
     check: impl Fn(&S, Duration),
 ) -> u64 {
@@ -240,7 +266,7 @@ pub(crate) fn explore<S: Send + Sync + 'static>(
     let mut runs = 0;
     loop {
         runs += 1;
-        path = explore_once(runs, preemptions, path, &test, &check);
+        path = explore_once(runs, depth, path, &test, &check);
         while let Some((taken, options)) = path.pop() {
             if taken + 1 < options {
                 path.push((taken + 1, options));
@@ -255,7 +281,7 @@ pub(crate) fn explore<S: Send + Sync + 'static>(
 
 fn explore_once<S: Send + Sync + 'static>(
     id: u64,
-    max_preemptions: u32,
+    depth: Depth,
     path: Vec<Choice>,
     test: &impl Fn() -> (Arc<S>, Vec<fn(&S)>),
     check: &impl Fn(&S, Duration),
@@ -270,7 +296,7 @@ fn explore_once<S: Send + Sync + 'static>(
     };
     let run = Arc::new(Run {
         id,
-        max_preemptions,
+        depth,
         state: Mutex::new(State {
             threads: bodies.iter().map(|_| sim()).collect(),
             running: usize::MAX,
@@ -395,7 +421,7 @@ impl AtomicU64 {
         let location = stores.location;
         let oldest = seen(&state.threads[me].current, location);
         let last = stores.list.len() - 1;
-        let options = if newest || order == Ordering::SeqCst {
+        let options = if newest || order == Ordering::SeqCst || !run.depth.is_fine {
             1
         } else {
             last - oldest + 1
@@ -438,7 +464,9 @@ impl AtomicU64 {
         let Some((run, me)) = simulated() else {
             return self.real.load(order);
         };
-        run.point(me);
+        if run.depth.is_fine || is_acquire(order) {
+            run.point(me);
+        }
         self.observe(&run, me, order, false)
     }
 
@@ -446,7 +474,9 @@ impl AtomicU64 {
         let Some((run, me)) = simulated() else {
             return self.real.store(value, order);
         };
-        run.point(me);
+        if run.depth.is_fine {
+            run.point(me);
+        }
         self.publish(&run, me, value, order, false);
     }
 
@@ -680,7 +710,7 @@ mod tests {
             };
             (flags, vec![writer, reader])
         };
-        explore(2, test, |flags, _| {
+        explore(Depth::fine(2), test, |flags, _| {
             let seen = flags.seen.lock().unwrap();
             ALL.lock().unwrap().extend(seen.iter().copied());
         });
@@ -720,7 +750,7 @@ mod tests {
         let atomic: fn(&AtomicU64) = |n| _ = n.fetch_add(1, Ordering::Relaxed);
         let ends = Mutex::new(Vec::new());
         explore(
-            2,
+            Depth::fine(2),
             || (counter(), vec![plain; 2]),
             |n, _| {
                 ends.lock().unwrap().push(n.real.load(Ordering::SeqCst));
@@ -728,7 +758,7 @@ mod tests {
         );
         assert!(ends.lock().unwrap().contains(&1));
         let runs = explore(
-            2,
+            Depth::fine(2),
             || (counter(), vec![atomic; 2]),
             |n, _| {
                 assert_eq!(n.real.load(Ordering::SeqCst), 2);
@@ -741,11 +771,13 @@ mod tests {
     #[test]
     fn lost_wakeups_are_found() {
         let lone: fn(&()) = |()| park_timeout(Duration::MAX);
-        let found = panic::catch_unwind(|| explore(0, || (Arc::new(()), vec![lone]), |_, _| {}));
+        let found = panic::catch_unwind(|| {
+            explore(Depth::fine(0), || (Arc::new(()), vec![lone]), |_, _| {})
+        });
         assert!(found.is_err());
         let timed: fn(&()) = |()| park_timeout(Duration::from_millis(5));
         let runs = explore(
-            0,
+            Depth::fine(0),
             || (Arc::new(()), vec![timed]),
             |_, now| {
                 assert_eq!(now, Duration::from_millis(5));

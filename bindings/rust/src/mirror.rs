@@ -334,7 +334,7 @@ pub(crate) fn commit_of(txn: u32) -> sys::Event {
 #[cfg(test)]
 mod tests {
     use super::*;
-    use crate::interleave::explore;
+    use crate::interleave::{Depth, explore};
     use std::{
         sync::{Arc, atomic::AtomicBool},
         thread,
@@ -424,7 +424,7 @@ mod tests {
                 let mirror = Arc::new(Mirror::of(&[0, 0]));
                 (mirror, vec![writer, read_both as fn(&Mirror)])
             };
-            let runs = explore(2, test, |_, _| {});
+            let runs = explore(Depth::fine(2), test, |_, _| {});
             println!("{runs} schedules");
         }
     }
@@ -470,7 +470,7 @@ mod tests {
             let threads: Vec<fn(&Shared)> = vec![|shared| add(shared, 0), |shared| add(shared, 1)];
             (shared, threads)
         };
-        let runs = explore(2, test, |shared, _| {
+        let runs = explore(Depth::fine(2), test, |shared, _| {
             let values = *shared.lock.lock();
             assert!(values == [1, 2] || values == [2, 1], "{values:?}");
         });

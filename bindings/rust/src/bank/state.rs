@@ -82,7 +82,7 @@ pub(super) struct State {
     /// Feeds the second engine, if there is one.
     pub(super) feed: Option<Feed>,
     /// A renewal is due when this number of transactions is left.
-    reserved: u64,
+    pub(super) reserved: u64,
     /// When a failed renewal is retried, and why it failed.
     pub(super) failed_renewal: Option<(Instant, String)>,
     /// The threads that wait for capacity in the history.

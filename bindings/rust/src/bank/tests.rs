@@ -1,18 +1,25 @@
 //! The bank's protocol under every schedule of small cases, over the engine itself.
 
 use super::*;
-use crate::{BankUpdate, engine::MAX_TRANSACTIONS, interleave::explore};
+use crate::{
+    engine::MAX_TRANSACTIONS,
+    interleave::{Depth, explore},
+};
 use std::{sync::Arc, time::Duration};
 
 type Body = fn(&Bank);
 
-/// Returns a bank of two accounts, which is nearly full if `left` says how many numbers are left.
-fn bank(left: Option<u32>) -> Arc<Bank> {
+/// Within this time no timeout ends.
+const PROMPT: Duration = Duration::from_micros(400);
+
+/// Returns a bank of two accounts, whose history may be due for a renewal.
+fn bank(is_due: bool) -> Arc<Bank> {
     let bank = Bank::builder().item("a", 10).item("b", 20).open();
     let bank = bank.expect("two items");
-    if let Some(left) = left {
+    if is_due {
         let mut state = bank.lock();
-        for _ in left..MAX_TRANSACTIONS {
+        state.reserved = u64::from(MAX_TRANSACTIONS) - 3;
+        for _ in 0..3 {
             let txn = state.engine.begin_update(0).expect("it has capacity");
             state.engine.abort(txn).expect("it is active");
         }
@@ -32,13 +39,10 @@ fn values(bank: &Bank) -> (i64, i64) {
 }
 
 /// Checks the end of a run: nothing is active, and no thread waited for its timeout.
-fn check_end(bank: &Bank, now: Duration) {
+fn check_end(bank: &Bank, now: Duration, max: Duration) {
     assert_eq!(bank.counts().active, 0, "a transaction stays active");
     assert!(bank.active().is_empty());
-    assert!(
-        now < Duration::from_millis(1),
-        "a wake-up was lost: {now:?}"
-    );
+    assert!(now < max, "a wake-up was lost: {now:?}");
 }
 
 fn transfer(update: &mut BankUpdate<'_, '_>) -> Result<(), Error> {
@@ -70,11 +74,11 @@ fn optimistic_updates() {
         (vec![moves, reports], 1),
     ] {
         let runs = explore(
-            2,
-            || (bank(None), bodies.clone()),
+            Depth::coarse(3),
+            || (bank(false), bodies.clone()),
             |bank, now| {
                 assert_eq!(values(bank), (10 - moved, 20 + moved), "an update was lost");
-                check_end(bank, now);
+                check_end(bank, now, PROMPT);
             },
         );
         println!("{runs} schedules");
@@ -107,11 +111,12 @@ fn locks_wakeups_and_victims() {
     };
     for bodies in [vec![up, up], vec![up, down], vec![up, ahead]] {
         let runs = explore(
-            2,
-            || (bank(None), bodies.clone()),
+            Depth::coarse(3),
+            || (bank(false), bodies.clone()),
             |bank, now| {
                 assert_eq!(values(bank), (12, 22), "an update was lost");
-                check_end(bank, now);
+                // a transaction without locks may wait for its pause, but a ring does not wait for its share of 50 ms
+                check_end(bank, now, Duration::from_millis(25));
             },
         );
         println!("{runs} schedules");
@@ -148,12 +153,12 @@ fn renewals() {
         (vec![slow, reports], (11, 21)),
     ] {
         let runs = explore(
-            1,
-            || (bank(Some(1)), bodies.clone()),
+            Depth::coarse(3),
+            || (bank(true), bodies.clone()),
             |bank, now| {
                 assert_eq!(values(bank), ends, "an update was lost");
-                assert_eq!(bank.renewals(), 1);
-                check_end(bank, now);
+                assert!(bank.renewals() > 0);
+                check_end(bank, now, PROMPT);
             },
         );
         println!("{runs} schedules");
