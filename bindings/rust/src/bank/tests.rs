@@ -74,7 +74,7 @@ fn optimistic_updates() {
         (vec![moves, reports], 1),
     ] {
         let runs = explore(
-            Depth::coarse(3),
+            Depth::coarse(2),
             || (bank(false), bodies.clone()),
             |bank, now| {
                 assert_eq!(values(bank), (10 - moved, 20 + moved), "an update was lost");
@@ -111,7 +111,7 @@ fn locks_wakeups_and_victims() {
     };
     for bodies in [vec![up, up], vec![up, down], vec![up, ahead]] {
         let runs = explore(
-            Depth::coarse(3),
+            Depth::coarse(2),
             || (bank(false), bodies.clone()),
             |bank, now| {
                 assert_eq!(values(bank), (12, 22), "an update was lost");
@@ -153,7 +153,7 @@ fn renewals() {
         (vec![slow, reports], (11, 21)),
     ] {
         let runs = explore(
-            Depth::coarse(3),
+            Depth::coarse(2),
             || (bank(true), bodies.clone()),
             |bank, now| {
                 assert_eq!(values(bank), ends, "an update was lost");
