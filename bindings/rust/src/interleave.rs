@@ -767,7 +767,7 @@ mod tests {
         assert!(runs >= 2);
     }
 
-    /// A thread that nobody wakes is a deadlock, and one that only its timeout wakes has let time pass.
+    /// A thread that no other wakes is a deadlock, and one that only its timeout wakes has let time pass.
     #[test]
     fn lost_wakeups_are_found() {
         let lone: fn(&()) = |()| park_timeout(Duration::MAX);

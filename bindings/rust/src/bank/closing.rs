@@ -100,7 +100,7 @@ impl<'a> Closing<'a> {
         self.engine.bundle(report)
     }
 
-    /// Returns the whole history as a script: see [`Bank::script`].
+    /// Returns the whole history as a script: see [`Bank::script`](crate::Bank::script).
     ///
     /// ```
     /// let bank = esr::Bank::builder()
@@ -119,7 +119,7 @@ impl<'a> Closing<'a> {
         Ok(self.named(text))
     }
 
-    /// Explains one of the reports: see [`Bank::explain`].
+    /// Explains one of the reports: see [`Bank::explain`](crate::Bank::explain).
     ///
     /// ```
     /// let bank = esr::Bank::builder()
@@ -140,7 +140,7 @@ impl<'a> Closing<'a> {
         Ok(self.named(text))
     }
 
-    /// Draws one of the reports: see [`Bank::picture`].
+    /// Draws one of the reports: see [`Bank::picture`](crate::Bank::picture).
     ///
     /// ```
     /// let bank = esr::Bank::builder()
@@ -160,7 +160,7 @@ impl<'a> Closing<'a> {
         self.engine.picture_by(report, self.items.texts())
     }
 
-    /// Returns the ledger of the whole history: see [`Bank::ledger`].
+    /// Returns the ledger of the whole history: see [`Bank::ledger`](crate::Bank::ledger).
     ///
     /// ```
     /// let bank = esr::Bank::builder()

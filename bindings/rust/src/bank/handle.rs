@@ -39,7 +39,7 @@ impl<'a> Handle<'a> {
         }
         let mut rounds = Rounds::default();
         loop {
-            let reply = events(&mut *self.bank.lock());
+            let reply = events(&mut self.bank.lock());
             match reply {
                 Ok(Reply::Refused(reason)) => {
                     let can_retry =

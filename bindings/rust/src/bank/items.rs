@@ -41,6 +41,12 @@ impl Hasher for NameHasher {
 }
 
 /// The items of one bank.
+///
+/// ```
+/// let bank = esr::Bank::builder().item("checking", 500).open()?;
+/// assert!(bank.item("checking").is_ok());
+/// # Ok::<(), esr::Error>(())
+/// ```
 #[derive(Debug)]
 pub struct Items {
     /// Distinguishes banks, so that a handle of another bank is not mistaken.
@@ -168,7 +174,7 @@ impl ItemKey for Item {
     }
 }
 
-/// Replaces `t5` by `NAME_5` in the words of a text that are transactions, where `name` has a name for transaction 5.
+/// Replaces each transaction `t5` of a text by `NAME_5`, if `name` returns a name for transaction 5.
 pub(super) fn with_names<'a>(
     text: String,
     items: &Items,

@@ -621,7 +621,7 @@ impl Bank {
             None => Err(Error::NoMemory),
         };
         let finding = match found {
-            // there is no second engine, or it was given up
+            // the second engine was given up, or none was asked for
             Err(Error::NoMemory) if state.renewals == report.renewals => {
                 state.engine.audit(report.query)?
             }
