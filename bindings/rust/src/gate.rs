@@ -81,15 +81,16 @@ impl Gate {
         self.state.load(Ordering::Relaxed) == OPEN
     }
 
-    /// Enters, or returns false as soon as `is_useful` does while polling.
-    fn enter(&self, is_useful: impl Fn() -> bool) -> bool {
-        if self.is_open() && self.urgent.load(Ordering::Relaxed) == 0 && self.try_enter() {
+    /// Enters, or returns false as soon as `is_useful` does while polling. With `has_priority` it does not let urgent threads
+    /// go first.
+    fn enter(&self, has_priority: bool, is_useful: impl Fn() -> bool) -> bool {
+        let may_try = || has_priority || self.urgent.load(Ordering::Relaxed) == 0;
+        if self.is_open() && may_try() && self.try_enter() {
             return true;
         }
         self.polling.fetch_add(1, Ordering::SeqCst);
         for poll in 0..POLLS {
-            let is_polite = poll >= POLITE_POLLS || self.urgent.load(Ordering::Relaxed) == 0;
-            if self.is_open() && is_polite && self.try_enter() {
+            if self.is_open() && (poll >= POLITE_POLLS || may_try()) && self.try_enter() {
                 self.polling.fetch_sub(1, Ordering::SeqCst);
                 return true;
             }
@@ -197,12 +198,22 @@ impl<T> Lock<T> {
 
     /// Takes the lock. A panic of an earlier holder leaves no call half done, so it does not matter here.
     pub(crate) fn lock(&self) -> Guard<'_, T> {
-        self.lock_while(|| true).expect("it is useful")
+        self.lock_while(None, || true).expect("it is useful")
     }
 
-    /// Takes the lock, or returns `None` as soon as `is_useful` returns false.
-    pub(crate) fn lock_while(&self, is_useful: impl Fn() -> bool) -> Option<Guard<'_, T>> {
-        if !self.gate.enter(is_useful) {
+    /// Makes the calling thread urgent until the result is dropped.
+    pub(crate) fn priority(&self) -> Priority<'_> {
+        self.gate.urgent.fetch_add(1, Ordering::SeqCst);
+        Priority(&self.gate)
+    }
+
+    /// Takes the lock, or returns `None` as soon as `is_useful` returns false while this thread polls.
+    pub(crate) fn lock_while(
+        &self,
+        priority: Option<&Priority<'_>>,
+        is_useful: impl Fn() -> bool,
+    ) -> Option<Guard<'_, T>> {
+        if !self.gate.enter(priority.is_some(), is_useful) {
             return None;
         }
         let value = if cfg!(test) {
@@ -218,6 +229,15 @@ impl<T> Lock<T> {
             gate: &self.gate,
             value: Some(value),
         })
+    }
+}
+
+/// The priority of a thread: while it lasts, other threads that poll let urgent ones go first.
+pub(crate) struct Priority<'a>(&'a Gate);
+
+impl Drop for Priority<'_> {
+    fn drop(&mut self) {
+        self.0.urgent.fetch_sub(1, Ordering::SeqCst);
     }
 }
 
@@ -271,7 +291,7 @@ mod tests {
         let once: fn(&Lock<u64>) = |lock| *lock.lock() += 1;
         // a thread that gives up while another one relied on it
         let fickle: fn(&Lock<u64>) = |lock| {
-            if let Some(mut value) = lock.lock_while(|| false) {
+            if let Some(mut value) = lock.lock_while(None, || false) {
                 *value += 1;
             } else {
                 *lock.lock() += 1;

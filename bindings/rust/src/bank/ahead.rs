@@ -16,14 +16,18 @@ use crate::{
     Error, Event, Options, Refusal, Reply, Txn,
     engine::refusal_of,
     error::Refused,
-    gate::pause,
+    gate::{Priority, pause},
     mirror::{Draft, Misfit, commit_of},
     patience::{Rounds, Waiting},
+    sync::Instant,
 };
-use std::sync::atomic::Ordering;
+use std::{sync::atomic::Ordering, time::Duration};
 
 /// A body that was overtaken this often runs step by step.
 const MAX_RERUNS: u32 = 64;
+/// A body that was overtaken this often gets priority for the lock, if its last run took less than [`SHORT`].
+const PATIENT_RERUNS: u32 = 8;
+const SHORT: Duration = Duration::from_micros(20);
 /// An update that met a lock this often runs step by step.
 const MAX_BLOCKED: u32 = 4;
 /// The number of polls for the end of a lock before the thread sleeps.
@@ -51,10 +55,11 @@ impl Bank {
         options: &Options,
         draft: &mut Draft,
         waiting: &mut Option<Waiting>,
-        reruns: u32,
+        (reruns, priority): (u32, Option<&Priority<'_>>),
     ) -> Result<Outcome, Error> {
         self.check_not_inside_renewal()?;
-        let Some(mut state) = self.state.lock_while(|| !draft.is_stale(&self.mirror)) else {
+        let is_fresh = || !draft.is_stale(&self.mirror);
+        let Some(mut state) = self.state.lock_while(priority, is_fresh) else {
             return Ok(Outcome::Stale);
         };
         if state.is_nearly_full() {
@@ -163,13 +168,19 @@ impl Bank {
     ) -> Option<Result<T, E>> {
         let mut draft = Draft::take();
         let (mut reruns, mut blocked) = (0, 0);
+        let mut last = Duration::MAX;
         let result = loop {
             draft.restart(&self.mirror);
+            let begun = (reruns > 0).then(Instant::now);
+            let is_urgent = reruns >= PATIENT_RERUNS && last < SHORT;
+            let priority = is_urgent.then(|| self.state.priority());
             let mode = Mode::Ahead(self, &mut draft);
             let result = body(&mut BankUpdate { mode });
+            last = begun.map_or(Duration::MAX, |begun| begun.elapsed());
+            let attempt = (reruns, priority.as_ref());
             let outcome = match result {
                 _ if draft.is_overtaken() => Outcome::Stale,
-                Ok(value) => match self.submit(options, &mut draft, waiting, reruns) {
+                Ok(value) => match self.submit(options, &mut draft, waiting, attempt) {
                     Ok(Outcome::Committed) => break Some(Ok(value)),
                     Ok(outcome) => outcome,
                     Err(error) => break Some(Err(error.into())),
@@ -180,6 +191,7 @@ impl Bank {
                     break Some(Err(error));
                 }
             };
+            drop(priority);
             match outcome {
                 Outcome::Locked {
                     other,
