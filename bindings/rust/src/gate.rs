@@ -28,7 +28,7 @@ use std::{
 };
 
 /// The number of polls before a thread sleeps.
-const POLLS: u32 = if cfg!(test) { 2 } else { 100 };
+const POLLS: u32 = if cfg!(test) { 1 } else { 100 };
 /// The number of polls for which a thread lets urgent ones go first. They may have been preempted.
 const POLITE_POLLS: u32 = POLLS / 2;
 /// A sleeper that has waited longer is woken although other threads poll.
@@ -298,7 +298,7 @@ mod tests {
             }
         };
         let test = || (Arc::new(Lock::new(0)), vec![once, once, fickle]);
-        let runs = explore(Depth::fine(1), test, |lock, now| {
+        let runs = explore(Depth::coarse(3), test, |lock, now| {
             assert_eq!(*lock.value.lock().unwrap(), 3);
             assert!(now < NAP, "a wake-up was lost");
         });

@@ -151,9 +151,14 @@ impl Twin {
     /// Opens a second engine for one that has just been opened, and the end that feeds it.
     pub(crate) fn open(opening: &[i64], weights: &[u32]) -> Result<(Twin, Feed), Error> {
         let engine = Engine::open_weighted(opening, weights)?;
+        Twin::start(Some(engine), weights)
+    }
+
+    /// Starts the thread, and returns the end that feeds it. Without an engine it begins at the next renewal.
+    pub(crate) fn start(engine: Option<Engine>, weights: &[u32]) -> Result<(Twin, Feed), Error> {
         let between = Arc::new(Between::default());
         let mut auditor = Auditor {
-            engine: Some(engine),
+            engine,
             weights: weights.to_vec(),
             between: between.clone(),
             events: Vec::new(),

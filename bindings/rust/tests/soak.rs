@@ -1,11 +1,13 @@
 //! Eight threads with panics, errors, deadlocks, reports and renewals: every committed update is in the script of its
-//! history exactly once, and no other; no value is lost. `esr audit`, which `ESR_PROGRAM` names, accepts each script and
-//! computes the same distances, imports and sets as the bank did. `ESR_SOAK_SECONDS` is the duration, 2 by default.
+//! history exactly once, and no other; no value is lost. Each script is accepted by `esr audit`, which `ESR_PROGRAM` names, or
+//! else by another engine, with the distances, imports and sets that the bank had found. `ESR_SOAK_SECONDS` is the duration,
+//! 2 by default.
 
-use esr::{Bank, BankQuery, BankUpdate, Error, Options, Report};
+use esr::{Bank, BankQuery, BankUpdate, Engine, Error, Event, Options, Report};
 use std::{
     collections::{HashMap, HashSet},
     env, fs, panic,
+    path::Path,
     process::Command,
     sync::{
         Mutex,
@@ -47,6 +49,66 @@ fn committed(script: &str) -> u64 {
     count
 }
 
+/// Returns the audits of a script by `esr audit`.
+fn audited(program: &str, path: &Path) -> HashMap<String, String> {
+    let output = Command::new(program).arg("audit").arg(path).output();
+    let output = output.expect("the program runs");
+    assert!(output.status.success(), "esr audit: {}", output.status);
+    let text = String::from_utf8(output.stdout).expect("it is ASCII");
+    let audits = text.lines().filter_map(|line| line.strip_prefix("audit "));
+    let audits = audits.filter_map(|line| line.split_once(' '));
+    audits
+        .map(|(name, rest)| (name.into(), rest.into()))
+        .collect()
+}
+
+/// Returns the audits of a script by another engine, which executes it line by line.
+fn replayed(closed: &Closed) -> HashMap<String, String> {
+    let (mut items, mut opening, mut txns) = (HashMap::new(), Vec::new(), HashMap::new());
+    let mut engine = None;
+    let number = |word: &str| word.parse::<i64>().expect("a number");
+    for line in closed.script.lines() {
+        let words: Vec<&str> = line.split(' ').collect();
+        if let ["item", name, value] = words[..] {
+            items.insert(name, opening.len() as u32);
+            opening.push(number(value));
+            continue;
+        }
+        let open = || Engine::open(&opening).expect("the items are within the limits");
+        let engine = engine.get_or_insert_with(open);
+        let reply = engine.step(match words[..] {
+            ["begin", name, kind, limit] => {
+                let limit = number(limit) as u64;
+                let begun = match kind {
+                    "update" => engine.begin_update(limit),
+                    _ => engine.begin_query(limit),
+                };
+                txns.insert(name, begun.expect("it has capacity"));
+                continue;
+            }
+            ["read", name, item] => Event::Read {
+                txn: txns[name],
+                item: items[item],
+            },
+            ["write", name, item, value] => Event::Write {
+                txn: txns[name],
+                item: items[item],
+                value: number(value),
+            },
+            ["commit", name] => Event::Commit { txn: txns[name] },
+            ["abort", name] => Event::Abort { txn: txns[name] },
+            _ => panic!("{line}"),
+        });
+        reply.expect("it has capacity");
+    }
+    let mut audit = |name: &String| {
+        let engine = engine.as_mut().expect("it has events");
+        let finding = engine.audit(txns[name.as_str()]).expect("it has committed");
+        (name.clone(), line_of(&finding))
+    };
+    closed.findings.keys().map(&mut audit).collect()
+}
+
 /// Counts the updates of each history, and compares its audits with those of the program. Returns the numbers of updates,
 /// histories and compared reports.
 fn check(histories: &Receiver<Closed>, program: Option<&str>) -> (u64, u64, u64) {
@@ -55,20 +117,15 @@ fn check(histories: &Receiver<Closed>, program: Option<&str>) -> (u64, u64, u64)
     for closed in histories {
         updates += committed(&closed.script);
         count += 1;
-        let Some(program) = program else { continue };
-        fs::write(&path, &closed.script).expect("the folder is writable");
-        let output = Command::new(program).arg("audit").arg(&path).output();
-        let output = output.expect("the program runs");
-        assert!(output.status.success(), "esr audit: {}", output.status);
-        let text = String::from_utf8(output.stdout).expect("it is ASCII");
-        let audits = text.lines().filter_map(|line| line.strip_prefix("audit "));
-        let audits: HashMap<&str, &str> = audits.filter_map(|line| line.split_once(' ')).collect();
+        let audits = match program {
+            Some(program) => {
+                fs::write(&path, &closed.script).expect("the folder is writable");
+                audited(program, &path)
+            }
+            None => replayed(&closed),
+        };
         for (name, finding) in &closed.findings {
-            assert_eq!(
-                audits.get(name.as_str()).copied(),
-                Some(finding.as_str()),
-                "{name}"
-            );
+            assert_eq!(audits.get(name), Some(finding), "{name}");
             compared += 1;
         }
     }
@@ -123,7 +180,7 @@ fn client(bank: &Bank, names: &[String], id: u64, end: Instant) -> ([i64; ITEMS]
     (change, count)
 }
 
-/// Sums all accounts every 60 ms until the end. Returns the last sum and report.
+/// Sums all accounts four times a second until the end. Returns the last sum and report.
 fn clerk(
     bank: &Bank,
     names: &[String],
@@ -142,7 +199,7 @@ fn clerk(
         };
         last = Some(bank.report_unaudited(1_000_000, sum).expect("it commits"));
         reports.fetch_add(1, Ordering::Relaxed);
-        thread::sleep(Duration::from_millis(60));
+        thread::sleep(Duration::from_millis(250));
     }
     last
 }
@@ -217,6 +274,6 @@ fn every_history_is_accepted() {
         updates, committed,
         "the scripts have other updates than the callers"
     );
-    println!("{count} histories, {compared} reports compared with esr audit");
+    println!("{count} histories, {compared} reports compared");
     assert!(updates > 0);
 }

@@ -6,7 +6,7 @@ use super::{
     state::{RESERVED_NUMBERS, State},
 };
 use crate::{Engine, Error, Patience, gate::Lock, mirror::Mirror, sync::AtomicU64, twin::Twin};
-use std::{error, fmt};
+use std::{error, fmt, sync::OnceLock};
 
 /// The work before a renewal.
 pub(super) type BeforeRenewal =
@@ -27,7 +27,7 @@ pub struct BankBuilder {
     patience: Patience,
     before_renewal: Option<BeforeRenewal>,
     is_optimistic: bool,
-    background_audits: bool,
+    background_audits: Option<bool>,
 }
 
 impl Default for BankBuilder {
@@ -39,7 +39,7 @@ impl Default for BankBuilder {
             patience: Patience::default(),
             before_renewal: None,
             is_optimistic: true,
-            background_audits: false,
+            background_audits: None,
         }
     }
 }
@@ -178,8 +178,12 @@ impl BankBuilder {
     }
 
     /// Sets whether reports are audited on a thread of the bank, by a second engine that replays the same events. Then only
-    /// the report's caller waits for an audit. It costs the memory of a second engine, up to 16 MB for the events, and,
-    /// while there are reports, the time to replay them.
+    /// the report's caller waits for an audit; otherwise an audit holds the lock for about half a microsecond for each
+    /// transaction of the history. It costs the memory of a second engine, up to 16 MB for the events, a tenth of the
+    /// throughput, and, while there are reports, the time to replay the events.
+    ///
+    /// By default a bank starts the second engine at the first renewal after a report has committed. So a bank without
+    /// reports does not pay for it, and audits hold the lock in the first history only.
     ///
     /// ```
     /// use esr::{Bank, Error};
@@ -190,7 +194,7 @@ impl BankBuilder {
     /// # Ok::<(), Error>(())
     /// ```
     pub fn background_audits(mut self, background_audits: bool) -> BankBuilder {
-        self.background_audits = background_audits;
+        self.background_audits = Some(background_audits);
         self
     }
 
@@ -207,11 +211,12 @@ impl BankBuilder {
         let items = Items::new(self.names)?;
         let label = |number: usize| items.name(number as u32).to_owned();
         let engine = Engine::open_labelled(&self.opening, &self.weights, label)?;
-        let (twin, feed) = if self.background_audits {
-            let (twin, feed) = Twin::open(&self.opening, &self.weights)?;
-            (Some(twin), Some(feed))
-        } else {
-            (None, None)
+        let (twin, feed) = match self.background_audits {
+            Some(true) => {
+                let (twin, feed) = Twin::open(&self.opening, &self.weights)?;
+                (OnceLock::from(twin), Some(feed))
+            }
+            _ => (OnceLock::new(), None),
         };
         let reserved = self.before_renewal.as_ref().map_or(0, |_| RESERVED_NUMBERS);
         Ok(Bank {
@@ -223,6 +228,8 @@ impl BankBuilder {
             dropped: AtomicU64::new(0),
             is_optimistic: self.is_optimistic,
             twin,
+            weights: self.weights,
+            may_start_twin: self.background_audits.is_none(),
             before_renewal: self.before_renewal,
         })
     }

@@ -54,7 +54,7 @@ use std::{
     collections::HashMap,
     fmt,
     panic::{self, AssertUnwindSafe},
-    sync::atomic::Ordering,
+    sync::{OnceLock, atomic::Ordering},
     thread,
 };
 use update::Mode;
@@ -103,7 +103,11 @@ pub struct Bank {
     /// The number of optimistic updates whose body failed before the engine had heard of them.
     dropped: AtomicU64,
     is_optimistic: bool,
-    twin: Option<Twin>,
+    /// The second engine, once there is one.
+    twin: OnceLock<Twin>,
+    weights: Vec<u32>,
+    /// Whether a renewal after a report starts it.
+    may_start_twin: bool,
     before_renewal: Option<BeforeRenewal>,
 }
 
@@ -186,6 +190,13 @@ impl Bank {
                 return Ok(());
             }
             return Err(Error::RenewalFailed { why });
+        }
+        if self.may_start_twin && state.feed.is_none() && state.metrics.reports > 0 {
+            // without a thread, audits hold the lock as before
+            if let Ok((twin, feed)) = Twin::start(None, &self.weights) {
+                let _ = self.twin.set(twin);
+                state.feed = Some(feed);
+            }
         }
         state.renew()?;
         state.metrics.count_renewal(begun.elapsed());
@@ -295,7 +306,7 @@ impl Bank {
     }
 
     fn wake_twin(&self) {
-        if let Some(twin) = &self.twin {
+        if let Some(twin) = self.twin.get() {
             twin.wake();
         }
     }

@@ -12,14 +12,16 @@ type Body = fn(&Bank);
 /// Within this time no timeout ends.
 const PROMPT: Duration = Duration::from_micros(400);
 
-/// Returns a bank of two accounts, whose history may be due for a renewal.
-fn bank(is_due: bool) -> Arc<Bank> {
-    let bank = Bank::builder().item("a", 10).item("b", 20).open();
-    let bank = bank.expect("two items");
-    if is_due {
+/// Returns a bank of two accounts. Its history is due for a renewal after three transactions, of which `used` have ended, if
+/// there are any.
+fn bank(used: u32) -> Arc<Bank> {
+    let items = [("a", 10), ("b", 20)];
+    let builder = Bank::builder().items(items).background_audits(false);
+    let bank = builder.open().expect("two items");
+    if used > 0 {
         let mut state = bank.lock();
         state.reserved = u64::from(MAX_TRANSACTIONS) - 3;
-        for _ in 0..3 {
+        for _ in 0..used {
             let txn = state.engine.begin_update(0).expect("it has capacity");
             state.engine.abort(txn).expect("it is active");
         }
@@ -75,7 +77,7 @@ fn optimistic_updates() {
     ] {
         let runs = explore(
             Depth::coarse(2),
-            || (bank(false), bodies.clone()),
+            || (bank(0), bodies.clone()),
             |bank, now| {
                 assert_eq!(values(bank), (10 - moved, 20 + moved), "an update was lost");
                 check_end(bank, now, PROMPT);
@@ -112,7 +114,7 @@ fn locks_wakeups_and_victims() {
     for bodies in [vec![up, up], vec![up, down], vec![up, ahead]] {
         let runs = explore(
             Depth::coarse(2),
-            || (bank(false), bodies.clone()),
+            || (bank(0), bodies.clone()),
             |bank, now| {
                 assert_eq!(values(bank), (12, 22), "an update was lost");
                 // a transaction without locks may wait for its pause, but a ring does not wait for its share of 50 ms
@@ -147,14 +149,14 @@ fn renewals() {
             "{found:?}"
         );
     };
-    for (bodies, ends) in [
-        (vec![slow, quick], (11, 22)),
-        (vec![reports, quick], (10, 21)),
-        (vec![slow, reports], (11, 21)),
+    for (used, bodies, ends) in [
+        (3, vec![slow, quick], (11, 22)),
+        (2, vec![reports, quick], (10, 21)),
+        (2, vec![slow, reports], (11, 21)),
     ] {
         let runs = explore(
             Depth::coarse(2),
-            || (bank(true), bodies.clone()),
+            || (bank(used), bodies.clone()),
             |bank, now| {
                 assert_eq!(values(bank), ends, "an update was lost");
                 assert!(bank.renewals() > 0);
