@@ -1,11 +1,11 @@
--- Why `ProgressEventSource::on_reply` keeps its contract: the goals that are left to a proof of ours.
+-- Why `BlockProgressEventSource::on_reply` keeps its contract: the goals that are left to a proof of ours.
 use Rattle.std.proofs.Common.{◌≡◌, ◌+◌, ◌++◌, ◌∷◌, [], List, true, false, arith, sym, subst, ◌∙◌}
 use Rattle.esr_history.specs.declared.event.Reply.{Reply}
 use Rattle.esr_session.specs.Receipts.{is_blocked}
 use Rattle.esr_drive.specs.Runs.{IsUnderWay}
 use Rattle.esr_drive.proofs.Calling.{blocked_again, answered}
-use Rattle.esr_drive.proofs.run.ProgressEventSource.on_reply.Goals as goal
-use Rattle.esr_drive.proofs.run.ProgressEventSource.on_reply.Goals.{else-is_blocked-via-then-is_blocked+else-self-lt-TURNS, else-is_blocked-via-else-is_blocked}
+use Rattle.esr_drive.proofs.run.BlockProgressEventSource.on_reply.Goals as goal
+use Rattle.esr_drive.proofs.run.BlockProgressEventSource.on_reply.Goals.{else-is_blocked-via-then-is_blocked+else-self-lt-TURNS, else-is_blocked-via-else-is_blocked}
 
 pub returns-then-self-lt-TURNS : goal.returns-then-self-lt-TURNS
 returns-then-self-lt-TURNS c =
