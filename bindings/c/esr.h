@@ -1,4 +1,4 @@
-/* esr: an embedded epsilon-serializable transaction engine. Version 0.2.0.
+/* esr: an embedded epsilon-serializable transaction engine. Version 0.3.0.
  *
  * An engine is a variable of the caller, initialized with ESR_CLOSED:
  *
@@ -49,7 +49,7 @@
 extern "C" {
 #endif
 
-#define ESR_VERSION "0.2.0"
+#define ESR_VERSION "0.3.0"
 
 /* The limits. */
 #define ESR_MAX_ITEMS 4096u

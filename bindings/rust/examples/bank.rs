@@ -37,7 +37,7 @@ fn report(bank: &Mutex<Engine>) -> Result<(Txn, i64), Error> {
             .sum();
         match sum {
             Ok(sum) => return bank.lock().unwrap().commit(query).map(|()| (query, sum)),
-            Err(Error::Refused(why)) if why.may_pass_later() => {
+            Err(Error::Refused(why)) if why.reason.may_pass_later() => {
                 bank.lock().unwrap().abort(query)?;
                 thread::sleep(Duration::from_micros(50));
             }

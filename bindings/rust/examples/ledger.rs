@@ -30,7 +30,7 @@ impl From<Error> for TransferError {
 
 /// Moves an amount, if the account has it. What was written is taken back where it has not.
 fn transfer(bank: &Bank, from: &str, to: &str, amount: i64) -> Result<(), TransferError> {
-    bank.transact(2 * amount.unsigned_abs(), |update| {
+    bank.try_transact(2 * amount.unsigned_abs(), |update| {
         let left = update.add(from, -amount)?;
         if left < 0 {
             return Err(TransferError::TooLittle(left + amount));

@@ -1,8 +1,8 @@
-//! Events, replies, refusals, errors and findings.
+//! Events, replies, refusals and findings.
 
 use std::{error, fmt};
 
-/// The number of a transaction of one history, from 1, in the order of the begins. Only an engine makes one.
+/// The number of a transaction in one history, from 1, in the order of the begins. Only an engine creates one.
 ///
 /// ```
 /// let mut engine = esr::Engine::open(&[0])?;
@@ -13,7 +13,7 @@ use std::{error, fmt};
 pub struct Txn(pub(crate) u32);
 
 impl Txn {
-    /// The number.
+    /// Returns the number.
     ///
     /// ```
     /// let mut engine = esr::Engine::open(&[500])?;
@@ -32,7 +32,7 @@ impl fmt::Display for Txn {
     }
 }
 
-/// What a program asks of an engine.
+/// An event that a program passes to an engine.
 ///
 /// ```
 /// use esr::{Engine, Event, Reply};
@@ -50,43 +50,43 @@ pub enum Event {
         /// At most 10^18.
         limit: u64,
     },
-    /// Begins a query that may import up to `limit`. The audit of a strict one places it behind all that had committed
-    /// when it began.
+    /// Begins a query that may import up to `limit`. The audit of a strict one places it after all updates that had
+    /// committed when it began.
     BeginQuery {
         /// At most 10^18.
         limit: u64,
-        /// Whether it is placed behind all that had committed.
+        /// Whether it is placed after all updates that had committed.
         strict: bool,
     },
     /// Reads an item.
     Read {
-        /// Who reads.
+        /// The reading transaction.
         txn: Txn,
         /// The item's number, from 0.
         item: u32,
     },
     /// Writes an item.
     Write {
-        /// Who writes: an update.
+        /// The writing update.
         txn: Txn,
         /// The item's number, from 0.
         item: u32,
         /// From -10^12 to 10^12.
         value: i64,
     },
-    /// Ends a transaction, and keeps what it wrote.
+    /// Commits a transaction.
     Commit {
-        /// Which.
+        /// The transaction.
         txn: Txn,
     },
-    /// Ends a transaction, and takes back what it wrote.
+    /// Aborts a transaction: its writes are undone.
     Abort {
-        /// Which.
+        /// The transaction.
         txn: Txn,
     },
 }
 
-/// What an engine answers.
+/// The reply of an engine to an event.
 ///
 /// ```
 /// use esr::{Engine, Event, Reply};
@@ -116,14 +116,15 @@ pub enum Reply {
     Refused(Refusal),
 }
 
-/// Why an event is refused. The refusal stands in the history, and changed nothing else.
+/// Why an event is refused. The refusal is an entry of the history, and changes nothing else.
 ///
 /// ```
-/// use esr::{Engine, Error, Refusal};
+/// use esr::{Engine, Refusal};
 ///
 /// let mut engine = Engine::open(&[500])?;
 /// let txn = engine.begin_query(0)?;
-/// assert_eq!(engine.write(txn, 0, 400), Err(Error::Refused(Refusal::QueryMayNotWrite)));
+/// let error = engine.write(txn, 0, 400).unwrap_err();
+/// assert_eq!(error.refusal(), Some(Refusal::QueryMayNotWrite));
 /// # Ok::<(), esr::Error>(())
 /// ```
 #[derive(Clone, Copy, PartialEq, Eq, Debug)]
@@ -131,30 +132,30 @@ pub enum Reply {
 pub enum Refusal {
     /// No transaction has that number.
     NoSuchTransaction,
-    /// The transaction has committed or was aborted.
+    /// The transaction has ended.
     AlreadyEnded,
     /// No item has that number or name.
     NoSuchItem,
-    /// A query reads only.
+    /// A query only reads.
     QueryMayNotWrite,
     /// A written value outside -10^12 to 10^12.
     ValueOutOfRange,
     /// Above 10^18.
     LimitOutOfRange,
-    /// Not of this crate's calls, which answer `HistoryFull` where 65,535 have begun.
+    /// Not returned by this crate, whose calls fail with `HistoryFull` after 65,535 begins.
     TooManyTransactions,
-    /// Of one query: more than 1,000.
+    /// More than 1,000 reads of one query.
     TooManyReads,
-    /// Another update holds a lock that is in the way.
+    /// Another update holds a conflicting lock.
     BlockedByLock(Txn),
-    /// The query's import would pass its limit.
+    /// The import of a query would exceed its limit.
     BlockedByImport(Txn),
-    /// The update's export would pass its limit.
+    /// The export of an update would exceed its limit.
     BlockedByExport(Txn),
 }
 
 impl Refusal {
-    /// Whether the same event may be answered otherwise once another transaction has ended.
+    /// Reports whether the same event may be accepted after another transaction has ended.
     ///
     /// ```
     /// assert!(!esr::Refusal::NoSuchItem.may_pass_later());
@@ -167,12 +168,17 @@ impl Refusal {
         )
     }
 
-    /// Who is in the way of a transaction, where it is another: a read of a query may be in the way of its own limit.
+    /// Returns the transaction that is in the way, unless it is `txn` itself: a query may be blocked by its own limit.
     pub(crate) fn other_than(self, txn: Txn) -> Option<Txn> {
+        self.names().filter(|other| *other != txn)
+    }
+
+    /// Returns the transaction that the refusal names.
+    pub(crate) fn names(self) -> Option<Txn> {
         match self {
             Refusal::BlockedByLock(other)
             | Refusal::BlockedByImport(other)
-            | Refusal::BlockedByExport(other) => Some(other).filter(|other| *other != txn),
+            | Refusal::BlockedByExport(other) => Some(other),
             _ => None,
         }
     }
@@ -202,79 +208,7 @@ impl fmt::Display for Refusal {
 
 impl error::Error for Refusal {}
 
-/// Why a call is not done. The engine has not changed, but that a refusal stands in its history.
-///
-/// ```
-/// let told = esr::Engine::open(&[10_i64.pow(13)]).map(drop);
-/// assert_eq!(told, Err(esr::Error::ValueOutOfRange));
-/// ```
-#[derive(Clone, Copy, PartialEq, Eq, Debug)]
-#[non_exhaustive]
-pub enum Error {
-    /// More than 4,096 items.
-    TooManyItems,
-    /// An opening value outside -10^12 to 10^12.
-    ValueOutOfRange,
-    /// A weight of 0, or above 1,000.
-    WeightOutOfRange,
-    /// No transaction has that number.
-    NotBegun,
-    /// A text asks for a name of each item: a letter and up to 15 letters, digits or underscores, none twice.
-    BadNames,
-    /// The transaction is no query, or has not committed.
-    NotACommittedQuery,
-    /// There is no room for the event beside the ends of what is active, or no number for a begin: end that, and
-    /// [`Engine::renew`](crate::Engine::renew).
-    HistoryFull,
-    /// Memory was refused.
-    NoMemory,
-    /// A transaction is active.
-    TransactionActive,
-    /// The update or report was the youngest of a ring in which each waits for the next: it was given up.
-    Deadlock,
-    /// Others have changed what the body of an optimistic update had read: it runs anew. No caller is answered this, and a
-    /// body hands it on.
-    Overtaken,
-    /// The history is full, and the work before its renewal fails: see
-    /// [`BankBuilder::try_before_renewal`](crate::BankBuilder::try_before_renewal).
-    RenewalFailed,
-    /// Two items of one name.
-    NameTwice,
-    /// The event was refused. [`Engine::step`](crate::Engine::step) answers [`Reply::Refused`] in its place.
-    Refused(Refusal),
-}
-
-impl fmt::Display for Error {
-    fn fmt(&self, f: &mut fmt::Formatter<'_>) -> fmt::Result {
-        f.write_str(match self {
-            Error::TooManyItems => "too many items",
-            Error::ValueOutOfRange => "value out of range",
-            Error::WeightOutOfRange => "weight out of range",
-            Error::NotBegun => "no such transaction",
-            Error::BadNames => "not a name for each item",
-            Error::NotACommittedQuery => "not a committed query",
-            Error::HistoryFull => "history full",
-            Error::NoMemory => "out of memory",
-            Error::TransactionActive => "a transaction is active",
-            Error::Deadlock => "deadlock: given up as the youngest of a ring",
-            Error::Overtaken => "overtaken: others have changed what was read",
-            Error::RenewalFailed => "history full: the work before its renewal failed",
-            Error::NameTwice => "two items of one name",
-            Error::Refused(why) => return write!(f, "refused: {why}"),
-        })
-    }
-}
-
-impl error::Error for Error {
-    fn source(&self) -> Option<&(dyn error::Error + 'static)> {
-        match self {
-            Error::Refused(why) => Some(why),
-            _ => None,
-        }
-    }
-}
-
-/// What has been imported and exported, which is the same, and how many entries the history has.
+/// The total import, which equals the total export, and the number of entries.
 ///
 /// ```
 /// let mut engine = esr::Engine::open(&[500])?;
@@ -285,13 +219,13 @@ impl error::Error for Error {
 #[derive(Clone, Copy, PartialEq, Eq, Debug)]
 #[non_exhaustive]
 pub struct Totals {
-    /// What all queries have imported, and all updates exported.
+    /// The total import of all queries, and export of all updates.
     pub import: u128,
-    /// How many events were answered, refusals among them.
+    /// The number of entries, including refusals.
     pub entries: u64,
 }
 
-/// What a history has, and what is left of it beside the ends of what is active.
+/// The size of a history, and what is left of it.
 ///
 /// ```
 /// let mut engine = esr::Engine::open(&[500])?;
@@ -303,19 +237,19 @@ pub struct Totals {
 #[derive(Clone, Copy, PartialEq, Eq, Debug)]
 #[non_exhaustive]
 pub struct Counts {
-    /// How many events were answered, refusals among them.
+    /// The number of entries, including refusals.
     pub entries: u64,
-    /// How many transactions have begun.
+    /// The number of transactions that have begun.
     pub transactions: u64,
-    /// How many of them are active.
+    /// The number of active transactions.
     pub active: u64,
-    /// How many more events may be answered.
+    /// The number of entries left, without those reserved for the ends of active transactions.
     pub entries_left: u64,
-    /// How many more transactions may begin.
+    /// The number of transactions that can still begin.
     pub transactions_left: u64,
 }
 
-/// How a transaction stands.
+/// The state of a transaction.
 ///
 /// ```
 /// let mut engine = esr::Engine::open(&[500])?;
@@ -334,7 +268,7 @@ pub enum Standing {
     Aborted,
 }
 
-/// What is known of a transaction at any time. What a query has read so far is off by at most what it was charged.
+/// The account of a transaction. The reads of a query so far are off by at most its charges.
 ///
 /// ```
 /// let mut engine = esr::Engine::open(&[500])?;
@@ -345,17 +279,17 @@ pub enum Standing {
 #[derive(Clone, Copy, PartialEq, Eq, Debug)]
 #[non_exhaustive]
 pub struct Account {
-    /// Whether it is a query, and else an update.
+    /// Whether it is a query; otherwise it is an update.
     pub is_query: bool,
-    /// Whether it is active, and how it ended.
+    /// Its state.
     pub standing: Standing,
-    /// The most that it may be charged.
+    /// Its limit.
     pub limit: u64,
-    /// What it was charged so far: what a query has imported, or an update exported.
+    /// Its charges so far: the import of a query, the export of an update.
     pub charged: u64,
 }
 
-/// What an audit finds of a committed query.
+/// The result of the audit of a committed query.
 ///
 /// ```
 /// let mut engine = esr::Engine::open(&[500])?;
@@ -369,9 +303,9 @@ pub struct Account {
 #[derive(Clone, PartialEq, Eq, Debug)]
 #[non_exhaustive]
 pub struct Finding {
-    /// The least distance of what the query read from any serial placement.
+    /// The distance of the values that the query read from the nearest serial placement.
     pub distance: u64,
-    /// What the query was charged: at least the distance.
+    /// The import of the query, which is at least the distance.
     pub import: u64,
     /// The smallest set of updates before such a placement, in the order of their commits.
     pub before: Vec<Txn>,

@@ -1,4 +1,4 @@
-//! What a bank has done since it was opened, for those who watch it.
+//! Counters of a bank, and its active transactions, for monitoring.
 
 use crate::{Finding, Txn};
 use std::{fmt::Write, time::Duration};
@@ -13,51 +13,56 @@ use std::{fmt::Write, time::Duration};
 /// bank.report(0, |report| report.read("checking"))?;
 /// let metrics = bank.metrics();
 /// assert_eq!((metrics.updates, metrics.reports, metrics.distances[0]), (1, 1, 1));
-/// assert!(metrics.to_prometheus().contains("\nesr_updates_total{way=\"stepwise\"} 1\n"));
+/// assert!(metrics.to_prometheus().contains("\nesr_updates_total{mode=\"optimistic\"} 1\n"));
 /// # Ok::<(), Error>(())
 /// ```
 #[derive(Clone, PartialEq, Eq, Debug, Default)]
 #[non_exhaustive]
 pub struct Metrics {
-    /// Updates that have committed.
+    /// Committed updates.
     pub updates: u64,
-    /// How many of them were given to the engine whole: see [`BankBuilder::optimistic`](crate::BankBuilder::optimistic).
-    pub whole: u64,
-    /// Reports that have committed.
+    /// The updates among them that ran optimistically: see [`BankBuilder::optimistic`](crate::BankBuilder::optimistic).
+    pub optimistic_updates: u64,
+    /// Committed reports.
     pub reports: u64,
-    /// Updates and reports that an error or a panic of their body took back, or that ended with their patience.
+    /// Updates and reports that failed: by an error or panic of their body, or at the end of their patience.
     pub aborts: u64,
-    /// How often a body ran anew.
+    /// Bodies that ran again.
     pub reruns: u64,
-    /// How many transactions were given up as the youngest of a ring.
+    /// Victims of deadlocks.
     pub deadlocks: u64,
-    /// How many transactions have waited for others.
+    /// Transactions that have waited for others.
     pub waits: u64,
-    /// How long, in all.
+    /// Their total waiting time.
     pub waited: Duration,
-    /// How often the bank was renewed.
+    /// Renewals.
     pub renewals: u64,
-    /// How many updates went on in a new history.
+    /// Updates that were carried over a renewal.
     pub carried: u64,
-    /// How long everybody was stopped for that, with the work before it.
+    /// The total time of renewals, including the work before them. No transaction runs during it.
     pub renewing: Duration,
-    /// The longest such stop.
+    /// The longest renewal.
     pub longest_renewal: Duration,
-    /// How often the work before a renewal failed, and it was put off.
-    pub renewals_put_off: u64,
+    /// Renewals whose work failed, and which are retried.
+    pub failed_renewals: u64,
     /// Audits of [`report`](crate::Bank::report), [`strict_report`](crate::Bank::strict_report) and
     /// [`audit`](crate::Bank::audit).
     pub audits: u64,
-    /// How many of them were made beside the bank: fewer than all where it has no second engine for that, or gave it up.
-    pub beside: u64,
-    /// How long the callers waited for them.
+    /// The audits among them on the second engine: see
+    /// [`BankBuilder::background_audits`](crate::BankBuilder::background_audits).
+    pub background_audits: u64,
+    /// The total time that callers waited for audits.
     pub auditing: Duration,
-    /// The longest.
+    /// The longest audit.
     pub longest_audit: Duration,
-    /// How many audits found a distance of 0, of at most 1, 10, 100 and so on, each only under the first that fits.
+    /// The number of audits with a distance of 0, at most 1, 10, 100 and so on, each counted once.
     pub distances: [u64; 20],
     /// The sum of the distances.
     pub distance: u128,
+    /// Active transactions, when this was read.
+    pub active: u64,
+    /// The age of the oldest of them.
+    pub oldest_active: Duration,
 }
 
 impl Metrics {
@@ -83,7 +88,7 @@ impl Metrics {
         self.longest_renewal = self.longest_renewal.max(time);
     }
 
-    /// The counters in the text format of Prometheus.
+    /// Returns the counters in the text format of Prometheus.
     ///
     /// ```
     /// let bank = esr::Bank::builder().item("checking", 500).open()?;
@@ -97,30 +102,31 @@ impl Metrics {
             _ = writeln!(text, "# HELP {name} {help}\n# TYPE {name} {kind}");
         };
         let name = "esr_updates_total";
-        head(&mut text, name, "counter", "Updates that have committed.");
-        let stepwise = self.updates - self.whole;
-        _ = writeln!(text, "{name}{{way=\"whole\"}} {}", self.whole);
-        _ = writeln!(text, "{name}{{way=\"stepwise\"}} {stepwise}");
+        head(&mut text, name, "counter", "Committed updates.");
+        let stepwise = self.updates - self.optimistic_updates;
+        let optimistic = self.optimistic_updates;
+        _ = writeln!(text, "{name}{{mode=\"optimistic\"}} {optimistic}");
+        _ = writeln!(text, "{name}{{mode=\"stepwise\"}} {stepwise}");
         let seconds = |time: Duration| format!("{:.9}", time.as_secs_f64());
         for (name, help, value) in [
             (
                 "esr_reports_total",
-                "Reports that have committed.",
+                "Committed reports.",
                 self.reports.to_string(),
             ),
             (
                 "esr_aborts_total",
-                "Updates and reports that were taken back.",
+                "Failed updates and reports.",
                 self.aborts.to_string(),
             ),
             (
                 "esr_reruns_total",
-                "Bodies that ran anew.",
+                "Bodies that ran again.",
                 self.reruns.to_string(),
             ),
             (
                 "esr_deadlocks_total",
-                "Transactions given up as the youngest of a ring.",
+                "Victims of deadlocks.",
                 self.deadlocks.to_string(),
             ),
             (
@@ -130,7 +136,7 @@ impl Metrics {
             ),
             (
                 "esr_wait_seconds_total",
-                "How long they waited.",
+                "Their waiting time.",
                 seconds(self.waited),
             ),
             (
@@ -139,14 +145,19 @@ impl Metrics {
                 self.renewals.to_string(),
             ),
             (
+                "esr_carried_updates_total",
+                "Updates that were carried over a renewal.",
+                self.carried.to_string(),
+            ),
+            (
                 "esr_renewal_seconds_total",
-                "How long renewals stopped everybody.",
+                "The time of renewals, during which no transaction runs.",
                 seconds(self.renewing),
             ),
             (
-                "esr_renewals_put_off_total",
+                "esr_failed_renewals_total",
                 "Renewals whose work failed.",
-                self.renewals_put_off.to_string(),
+                self.failed_renewals.to_string(),
             ),
             (
                 "esr_audits_total",
@@ -154,13 +165,13 @@ impl Metrics {
                 self.audits.to_string(),
             ),
             (
-                "esr_audits_beside_total",
-                "How many of them held no lock.",
-                self.beside.to_string(),
+                "esr_background_audits_total",
+                "Audits on the second engine.",
+                self.background_audits.to_string(),
             ),
             (
                 "esr_audit_seconds_total",
-                "How long callers waited for them.",
+                "The time that callers waited for audits.",
                 seconds(self.auditing),
             ),
         ] {
@@ -170,20 +181,35 @@ impl Metrics {
         for (name, help, value) in [
             (
                 "esr_longest_renewal_seconds",
-                "The longest stop for a renewal.",
-                self.longest_renewal,
+                "The longest renewal.",
+                seconds(self.longest_renewal),
             ),
             (
                 "esr_longest_audit_seconds",
-                "The longest wait for an audit.",
-                self.longest_audit,
+                "The longest audit.",
+                seconds(self.longest_audit),
+            ),
+            (
+                "esr_active_transactions",
+                "Active transactions.",
+                self.active.to_string(),
+            ),
+            (
+                "esr_oldest_active_seconds",
+                "The age of the oldest active transaction.",
+                seconds(self.oldest_active),
             ),
         ] {
             head(&mut text, name, "gauge", help);
-            _ = writeln!(text, "{name} {}", seconds(value));
+            _ = writeln!(text, "{name} {value}");
         }
         let name = "esr_distance";
-        head(&mut text, name, "histogram", "Distances that audits found.");
+        head(
+            &mut text,
+            name,
+            "histogram",
+            "Distances of audited reports.",
+        );
         let mut below = 0;
         for (n, count) in self.distances.iter().enumerate() {
             below += count;
@@ -196,7 +222,7 @@ impl Metrics {
     }
 }
 
-/// A transaction of a bank that has not ended.
+/// An active transaction of a bank.
 ///
 /// ```
 /// use esr::{Bank, Error};
@@ -206,7 +232,7 @@ impl Metrics {
 ///     report.read("checking")?;
 ///     let active = bank.active();
 ///     assert_eq!((active[0].is_query, active[0].limit, active[0].waits_for), (true, 100, None));
-///     Ok::<_, Error>(())
+///     Ok(())
 /// })?;
 /// assert!(bank.active().is_empty());
 /// # Ok::<(), Error>(())
@@ -216,15 +242,17 @@ impl Metrics {
 pub struct Active {
     /// Its number in the history.
     pub txn: Txn,
-    /// Whether it is a report, and else an update.
+    /// Its name: see [`Options::name`](crate::Options::name).
+    pub name: Option<String>,
+    /// Whether it is a report; otherwise it is an update.
     pub is_query: bool,
     /// How long ago it began.
     pub age: Duration,
-    /// The most that it may be charged.
+    /// Its limit.
     pub limit: u64,
-    /// What it was charged so far.
+    /// Its charges so far.
     pub charged: u64,
-    /// Whether it waits for somebody just now, and for whom where that is known.
+    /// The transaction that it waits for.
     pub waits_for: Option<Txn>,
     /// The item at which it waits.
     pub waits_at: Option<String>,
@@ -234,7 +262,7 @@ pub struct Active {
 mod tests {
     use super::*;
 
-    /// Each distance is counted under the first bound that it does not pass.
+    /// Each distance is counted once, under the first bound that it does not exceed.
     #[test]
     fn distances_are_counted() {
         let mut metrics = Metrics::default();

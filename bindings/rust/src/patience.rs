@@ -1,32 +1,27 @@
-//! How long those who are blocked go on trying, over an engine and in a bank.
+//! How long blocked transactions retry, over an engine and in a bank.
 //!
-//! Patience is a time, which a transaction spends by waiting: for its events, for the ends of others and for room, over
-//! all its attempts. A count of tries would be used up at once where whoever is waited for is not let run meanwhile, as
-//! happens on a machine that is busy.
+//! Patience is a time that a transaction spends by waiting: for its events, for the ends of others and for capacity, over
+//! all its attempts. A number of retries would be used up at once on a busy machine, on which the transaction that is waited
+//! for does not run meanwhile.
 //!
-//! Where a bank wakes whoever may try again, nothing is tried before. Else each pause is longer than the one before, up to
-//! some milliseconds, and has a draw of its own: two that were blocked by each other and waited alike would meet again.
-//! The first rounds only let others run, since a counter that many change is free again at once.
+//! A bank wakes transactions that may retry. Over an engine, pauses become longer, up to some milliseconds, and are random:
+//! two transactions that block each other and wait alike would meet again. The first pauses only yield the processor, since
+//! a counter that many threads change is free again at once.
 //!
-//! Whoever waits holds what others may wait for, so an attempt waits for an event only for its share. Then it is aborted,
-//! and begun anew once those who wait for it have had the time to notice. The share doubles from attempt to attempt: where
-//! two wait for each other and nobody tells them, one gives up soon, and where somebody is slow, a later attempt waits
-//! long enough.
+//! A waiting transaction holds locks that others may wait for, so an attempt waits for an event only for its share. Then it
+//! is aborted, and runs again when the others have had time to notice. The share doubles from attempt to attempt: if two
+//! wait for each other unnoticed, one gives up soon, and if one is slow, a later attempt waits long enough.
 
-use std::{
-    collections::hash_map::RandomState,
-    hash::{BuildHasher, Hasher},
-    thread,
-    time::{Duration, Instant},
-};
+use crate::sync::{Instant, park_timeout, sleep, uniform_draw, yield_now};
+use std::time::Duration;
 
-/// No pause is longer.
+/// The longest pause.
 const LONGEST: Duration = Duration::from_millis(5);
-/// In so long everybody who waits has tried again.
+/// Within this time every waiting transaction has retried.
 const ROUND: Duration = Duration::from_millis(10);
 
-/// How long a transaction waits for others, in all, before its caller is told that it is blocked: 10 seconds where nothing
-/// else is said. Its own work does not count, however long it takes.
+/// How long a transaction waits for others in total before its call fails: 10 seconds by default. Its own work does not
+/// count.
 ///
 /// ```
 /// use esr::{Bank, Error, Patience, Refusal};
@@ -34,12 +29,13 @@ const ROUND: Duration = Duration::from_millis(10);
 ///
 /// let short = Patience::of(Duration::from_millis(20));
 /// let bank = Bank::builder().item("checking", 500).patience(short).open()?;
-/// let told = bank.transact(0, |first| {
+/// let result = bank.transact_stepwise(0, |first| {
 ///     first.write("checking", 400)?;
-///     // an update within the other waits for it in vain
+///     // an update within the other one waits for it in vain
 ///     bank.transact(0, |second| second.write("checking", 300))
 /// });
-/// assert!(matches!(told, Err(Error::Refused(Refusal::BlockedByLock(_)))));
+/// let refusal = result.unwrap_err().refusal();
+/// assert!(matches!(refusal, Some(Refusal::BlockedByLock(_))));
 /// assert_eq!(bank.value("checking")?, 500);
 /// # Ok::<(), Error>(())
 /// ```
@@ -49,7 +45,7 @@ pub struct Patience {
 }
 
 impl Patience {
-    /// Waits for so long in all, and with nothing not at all: what is blocked is told at once.
+    /// Returns a patience of the given total. With zero a blocked event fails at once.
     ///
     /// ```
     /// use esr::Patience;
@@ -69,37 +65,36 @@ impl Default for Patience {
     }
 }
 
-/// What is left of the patience of a transaction, over all its attempts.
+/// The rest of the patience of a transaction, over all its attempts.
 #[derive(Clone, Copy, Debug)]
 pub(crate) struct Waiting {
     left: Duration,
-    /// What has been waited in this attempt, and before it began.
+    /// The time waited in this attempt, and before it began.
     waited: Duration,
-    /// How many rounds only let others run.
+    /// The number of rounds that only yield the processor.
     yields: u32,
-    /// The first pause behind these, which is doubled from round to round.
+    /// The first pause after these, which doubles from round to round.
     pause: Duration,
-    /// How long this attempt may wait for one event.
+    /// The time for which this attempt may wait for one event.
     share: Duration,
-    /// Whether it has waited so long.
+    /// Whether it has waited that long.
     has_given_up: bool,
 }
 
-/// How often, and how long, something was waited for.
+/// The pauses for one event: their number and total.
 #[derive(Default, Debug)]
 pub(crate) struct Rounds {
     count: u32,
     waited: Duration,
 }
 
-/// A time between the half of it and the whole.
-fn draw(most: Duration) -> Duration {
-    let number = RandomState::new().build_hasher().finish();
-    most.saturating_mul(8 + (number % 9) as u32) / 16
+/// Returns a random time from half of the given one up to all of it.
+fn draw(max: Duration) -> Duration {
+    max.saturating_mul(8 + (uniform_draw() % 9) as u32) / 16
 }
 
 impl Waiting {
-    /// Where nobody finds rings of waiters: an attempt may be in one from its first wait on.
+    /// Returns the patience over an engine, where rings of waiters are not detected.
     pub(crate) fn of_engine(patience: Patience) -> Waiting {
         Waiting {
             left: patience.total,
@@ -111,8 +106,8 @@ impl Waiting {
         }
     }
 
-    /// Where rings of waiters are found, but for those in which somebody has come to its own limit, and whoever is waited
-    /// for is woken.
+    /// Returns the patience in a bank, which detects rings of waiters, unless one has reached its own limit, and wakes
+    /// waiters.
     pub(crate) fn of_bank(patience: Patience) -> Waiting {
         Waiting {
             left: patience.total,
@@ -124,18 +119,18 @@ impl Waiting {
         }
     }
 
-    /// The patience that is left.
+    /// Returns the patience that is left.
     pub(crate) fn rest(&self) -> Duration {
         self.left
     }
 
-    /// Counts a time that has gone by in vain.
+    /// Spends a time.
     pub(crate) fn spend(&mut self, time: Duration) {
         self.left = self.left.saturating_sub(time);
         self.waited += time;
     }
 
-    /// The patience of the next attempt, which counts its own time.
+    /// Returns the patience of the next attempt.
     pub(crate) fn of_next_attempt(self) -> Waiting {
         Waiting {
             waited: Duration::ZERO,
@@ -143,27 +138,34 @@ impl Waiting {
         }
     }
 
-    /// How long this attempt has waited.
+    /// Returns how long this attempt has waited.
     pub(crate) fn waited(&self) -> Duration {
         self.waited
     }
 
-    /// Counts an attempt that had no room in the history: as a share, so that one that never has any ends too.
+    /// Spends a share, for an attempt without capacity in the history, so that these end too.
     pub(crate) fn spend_share(&mut self) {
         self.spend(self.share);
     }
 
-    /// Waits a little, longer in each round, or until this thread is woken. False, and at once, where no patience is left.
+    /// Waits until this thread is woken, as long as patience lasts.
+    pub(crate) fn park(&mut self) {
+        let begun = Instant::now();
+        park_timeout(self.left);
+        self.spend(begun.elapsed());
+    }
+
+    /// Waits, longer in each round, or until this thread is woken. Returns false at once if no patience is left.
     pub(crate) fn pause(&mut self, rounds: &mut Rounds) -> bool {
         if self.left.is_zero() {
             return false;
         }
         let begun = Instant::now();
         match rounds.count.checked_sub(self.yields) {
-            None => thread::yield_now(),
+            None => yield_now(),
             Some(n) => {
-                let most = self.pause.saturating_mul(1 << n.min(16)).min(LONGEST);
-                thread::park_timeout(draw(most).min(self.left));
+                let max = self.pause.saturating_mul(1 << n.min(16)).min(LONGEST);
+                park_timeout(draw(max).min(self.left));
             }
         }
         let waited = begun.elapsed();
@@ -173,21 +175,22 @@ impl Waiting {
         true
     }
 
-    /// The same before an event is tried again. False also where the attempt has waited for it as long as it may.
+    /// Waits before an event is retried. Returns false also if the attempt has waited for it as long as it may.
     pub(crate) fn pause_for_event(&mut self, rounds: &mut Rounds) -> bool {
         self.has_given_up = rounds.waited >= self.share || !self.pause(rounds);
         !self.has_given_up
     }
 
-    /// Whether the attempt has waited for an event as long as it may.
+    /// Reports whether the attempt has waited for an event as long as it may.
     pub(crate) fn has_given_up(&self) -> bool {
         self.has_given_up
     }
 
-    /// Waits until others have tried again, before the next attempt, which may wait twice as long. Whether patience is left.
+    /// Waits until others have retried, before the next attempt, which may wait twice as long. Reports whether patience is
+    /// left.
     pub(crate) fn pause_for_attempt(&mut self) -> bool {
         let begun = Instant::now();
-        thread::sleep(draw(self.share.min(ROUND)).min(self.left));
+        sleep(draw(self.share.min(ROUND)).min(self.left));
         self.spend(begun.elapsed());
         self.share = self.share.saturating_mul(2);
         self.has_given_up = false;
@@ -199,7 +202,7 @@ impl Waiting {
 mod tests {
     use super::*;
 
-    /// The patience is gone after as long as was said, and every pause behind it is none.
+    /// Patience ends after its total, and later pauses return at once.
     #[test]
     fn patience_ends() {
         let mut waiting = Waiting::of_bank(Patience::of(Duration::from_millis(30)));
@@ -210,7 +213,7 @@ mod tests {
         assert!(!waiting.pause_for_attempt() && waiting.rest().is_zero());
     }
 
-    /// An event is waited for as long as the share of its attempt, which doubles.
+    /// An event is waited for during the share of its attempt, which doubles.
     #[test]
     fn shares_grow() {
         let mut waiting = Waiting::of_engine(Patience::default());

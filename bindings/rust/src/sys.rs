@@ -65,8 +65,8 @@ pub(crate) struct Event {
     pub value: i64,
 }
 
-/// A call that tells of a query: its number, the names of the items, and the room for the text.
-pub(crate) type Telling = unsafe extern "C" fn(
+/// A call that writes a text about a query, by names of the items.
+pub(crate) type QueryText = unsafe extern "C" fn(
     engine: &mut Engine,
     query: u32,
     names: *const u8,
@@ -76,10 +76,9 @@ pub(crate) type Telling = unsafe extern "C" fn(
     count: &mut usize,
 ) -> u32;
 
-// A call without lists is safe: references promise what `esr.h` asks, and no call has a further condition. A list
-// crosses as a pointer and a length.
+// A call without lists is safe: references meet the rules of `esr.h`, and no call has another condition. A list is passed
+// as a pointer and a length.
 unsafe extern "C" {
-    pub(crate) fn esr_open(engine: &mut Engine, opening: *const i64, items: usize) -> u32;
     pub(crate) fn esr_open_weighted(
         engine: &mut Engine,
         opening: *const i64,

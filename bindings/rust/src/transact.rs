@@ -6,12 +6,12 @@ use crate::{
 };
 use std::sync::{Mutex, MutexGuard, PoisonError};
 
-/// No panic leaves a call half done, so a lock that one has poisoned is taken all the same.
+/// Takes the lock. A panic leaves no call half done, so poisoning does not matter.
 fn lock(engine: &Mutex<Engine>) -> MutexGuard<'_, Engine> {
     engine.lock().unwrap_or_else(PoisonError::into_inner)
 }
 
-/// An update that [`transact`] has begun. Each call takes the lock for itself, so that others go on in between.
+/// An update that [`transact`] has begun. Each call takes the lock for itself, so that others run in between.
 ///
 /// ```
 /// use esr::{Engine, Patience, transact};
@@ -31,7 +31,7 @@ pub struct Update<'a> {
 }
 
 impl Update<'_> {
-    /// The number of the update.
+    /// Returns the number of the update.
     ///
     /// ```
     /// use esr::{Engine, Patience, transact};
@@ -55,12 +55,12 @@ impl Update<'_> {
     ) -> Result<Reply, Error> {
         let mut rounds = Rounds::default();
         loop {
-            // (the lock is free again at the end of this line, and not held while waiting)
+            // the lock is released at the end of this line, and not held while waiting
             let reply = event(&mut lock(self.engine))?;
             match reply {
                 Reply::Refused(why)
                     if why.may_pass_later() && self.waiting.pause_for_event(&mut rounds) => {}
-                Reply::Refused(why) => return Err(Error::Refused(why)),
+                Reply::Refused(why) => return Err(why.into()),
                 reply => return Ok(reply),
             }
         }
@@ -78,7 +78,7 @@ impl Update<'_> {
     /// ```
     ///
     /// # Errors
-    /// `Refused` where it is refused, or blocked at each try; `HistoryFull`, `NoMemory`.
+    /// `Refused` if it is refused, or blocked at each retry; `HistoryFull`, `NoMemory`.
     pub fn read(&mut self, item: u32) -> Result<i64, Error> {
         let txn = self.txn;
         match self.step(|engine| engine.step(Event::Read { txn, item }))? {
@@ -143,7 +143,7 @@ impl Update<'_> {
 impl Drop for Update<'_> {
     fn drop(&mut self) {
         if !self.ended {
-            // Where memory is wanting, the update stays active until its engine is dropped.
+            // if the allocation fails, the update stays active until its engine is dropped
             let _ = lock(self.engine).abort(self.txn);
         }
     }
@@ -167,9 +167,9 @@ fn attempt<T>(
     Ok(value)
 }
 
-/// Runs an update: begins it, runs the body, and commits. What is blocked is tried again, after a pause that grows; after
-/// some time the update is aborted and the body runs anew, until its [`Patience`] has ended. Any other error of the body
-/// aborts the update and is answered, and so does a panic.
+/// Runs an update: begins it, runs the body, and commits. A blocked event is retried after growing pauses; after some time
+/// the update is aborted and the body runs again, until its [`Patience`] has ended. Any other error of the body, and a
+/// panic, aborts the update.
 ///
 /// ```
 /// use esr::{Engine, Patience, transact};
@@ -187,7 +187,7 @@ fn attempt<T>(
 /// ```
 ///
 /// # Errors
-/// `Refused` with the last reason where patience has ended, and the body's own errors.
+/// `Refused` with the last reason when patience has ended, and the errors of the body.
 pub fn transact<T>(
     engine: &Mutex<Engine>,
     limit: u64,
@@ -197,9 +197,9 @@ pub fn transact<T>(
     let mut waiting = Waiting::of_engine(patience);
     loop {
         match attempt(engine, limit, &mut waiting, &mut body) {
-            // (the body may also answer a refusal of another transaction, which has been waited for already)
-            Err(Error::Refused(why))
-                if why.may_pass_later()
+            // the body may also return a refusal of another transaction, which was waited for already
+            Err(Error::Refused(refused))
+                if refused.reason.may_pass_later()
                     && waiting.has_given_up()
                     && waiting.pause_for_attempt() => {}
             answer => return answer,

@@ -1,13 +1,11 @@
-//! A second engine that is given the same events on a thread of its own, and audits there.
+//! A second engine, which replays the accepted events of the first on its own thread and audits there.
 //!
-//! What an engine answers follows from the events that it was given, so the second is in the state in which the first was,
-//! and its findings are those of the first. What was refused is left out, as it changed nothing: a transaction has the
-//! same number, and the history the same entries in the same order, but for these. Each read has the value that the first
-//! engine answered, and is compared; where anything differs, or memory is wanting, the twin is given up, and the bank
-//! audits under its lock as it would without one.
+//! An engine is deterministic, so the second reaches the state of the first, and its findings are the same. Refused events
+//! are omitted, as they change nothing. Each read has the value that the first engine returned, which is compared; when
+//! anything differs or an allocation fails, the second engine is given up, and the bank audits under its lock.
 //!
-//! The log of a history is at most 16 MB. The thread sleeps until somebody begins a report; at a renewal, where no audit
-//! is wanted, the log is dropped, and the twin begins anew from the values.
+//! The log of a history is at most 16 MB. The thread sleeps until a report begins. At a renewal without pending audits the
+//! log is dropped, and the second engine restarts from the values.
 
 use crate::{Engine, Error, Finding, Txn, sys};
 use std::{
@@ -20,15 +18,15 @@ use std::{
     thread::{self, JoinHandle},
 };
 
-/// So many entries are handed over at once.
+/// The number of entries that are handed over at once.
 const PART: usize = 4_096;
 
-/// What the last transaction of a part may have beside.
+/// The capacity of a part for the rest of its last transaction.
 const ROOM: usize = 64;
-/// So many parts are kept for their memory: those of a history that nobody audits.
+/// The number of unused parts that are kept for their memory.
 const SPARE: usize = 256;
 
-/// An event that was accepted. A begin has its limit as the value, and a read what was read.
+/// An accepted event. The value of a begin is its limit, that of a read the value read.
 #[derive(Clone, Copy, Debug)]
 pub(crate) struct Entry {
     pub(crate) value: i64,
@@ -47,7 +45,7 @@ enum Part {
 struct Queue {
     parts: VecDeque<Part>,
     spare: Vec<Vec<Entry>>,
-    /// Audits among the parts.
+    /// The number of audits among the parts.
     audits: usize,
     is_wanted: bool,
     is_closed: bool,
@@ -65,14 +63,14 @@ impl Between {
     }
 }
 
-/// The end at which the bank is, under its lock.
+/// The bank's end, under its lock.
 pub(crate) struct Feed {
     entries: Vec<Entry>,
     between: Arc<Between>,
 }
 
 impl Feed {
-    pub(crate) fn note(&mut self, kind: u32, txn: u32, item: u32, value: i64) {
+    pub(crate) fn push(&mut self, kind: u32, txn: u32, item: u32, value: i64) {
         self.entries.push(Entry {
             value,
             txn,
@@ -84,7 +82,7 @@ impl Feed {
         }
     }
 
-    pub(crate) fn note_all(&mut self, events: &[sys::Event]) {
+    pub(crate) fn push_all(&mut self, events: &[sys::Event]) {
         self.entries.extend(events.iter().map(|event| Entry {
             value: event.value,
             txn: event.txn,
@@ -98,15 +96,15 @@ impl Feed {
 
     fn hand_over(&mut self) {
         let mut queue = self.between.lock();
-        let blank = queue
+        let empty = queue
             .spare
             .pop()
             .unwrap_or_else(|| Vec::with_capacity(PART + ROOM));
-        let part = mem::replace(&mut self.entries, blank);
+        let part = mem::replace(&mut self.entries, empty);
         queue.parts.push_back(Part::Entries(part));
     }
 
-    /// Asks for an audit of a query that has committed, in its place among the events.
+    /// Requests the audit of a committed query, at this point of the log.
     pub(crate) fn ask(&mut self, query: Txn) -> Receiver<Result<Finding, Error>> {
         self.hand_over();
         let (sender, receiver) = channel();
@@ -117,7 +115,7 @@ impl Feed {
         receiver
     }
 
-    /// Notes that the history begins anew from these values.
+    /// Restarts the history from these values.
     pub(crate) fn renew(&mut self, values: Vec<i64>) {
         self.entries.clear();
         let mut queue = self.between.lock();
@@ -132,7 +130,7 @@ impl Feed {
 }
 
 impl Queue {
-    /// Keeps the memory of a part that has been dealt with.
+    /// Keeps the memory of a used part.
     fn keep(&mut self, part: Part) {
         if let Part::Entries(mut entries) = part {
             entries.clear();
@@ -143,19 +141,24 @@ impl Queue {
     }
 }
 
-/// The thread and its engine. It ends where this is dropped.
+/// The auditing thread. It ends when this is dropped.
 pub(crate) struct Twin {
     between: Arc<Between>,
     thread: Option<JoinHandle<()>>,
 }
 
 impl Twin {
-    /// A twin of an engine that has just been opened, and what feeds it.
+    /// Opens a second engine for one that has just been opened, and the end that feeds it.
     pub(crate) fn open(opening: &[i64], weights: &[u32]) -> Result<(Twin, Feed), Error> {
         let engine = Engine::open_weighted(opening, weights)?;
+        Twin::start(Some(engine), weights)
+    }
+
+    /// Starts the thread, and returns the end that feeds it. Without an engine it begins at the next renewal.
+    pub(crate) fn start(engine: Option<Engine>, weights: &[u32]) -> Result<(Twin, Feed), Error> {
         let between = Arc::new(Between::default());
         let mut auditor = Auditor {
-            engine: Some(engine),
+            engine,
             weights: weights.to_vec(),
             between: between.clone(),
             events: Vec::new(),
@@ -171,7 +174,7 @@ impl Twin {
         Ok((Twin { between, thread }, feed))
     }
 
-    /// Lets the thread begin, or go on: somebody reads for a report, or waits for an audit. The bank's lock is not held.
+    /// Wakes the thread, for a report or an audit. The bank's lock is not held.
     pub(crate) fn wake(&self) {
         self.between.lock().is_wanted = true;
         self.between.wanted.notify_one();
@@ -189,7 +192,7 @@ impl Drop for Twin {
 }
 
 struct Auditor {
-    /// None once it has been given up.
+    /// `None` once it was given up.
     engine: Option<Engine>,
     weights: Vec<u32>,
     between: Arc<Between>,
@@ -212,11 +215,11 @@ impl Auditor {
                         Some(engine) => engine.audit(query),
                         None => Err(Error::NoMemory),
                     };
-                    // (whoever has asked may be gone)
+                    // the caller may be gone
                     let _ = asker.send(audit);
                 }
                 Part::Renewed(values) => {
-                    // the old one goes first, so that there are never three
+                    // the old one is closed first, so that there are never three
                     self.engine = None;
                     self.engine = Engine::open_weighted(&values, &self.weights).ok();
                 }
@@ -224,7 +227,7 @@ impl Auditor {
         }
     }
 
-    /// The next part, once somebody wants it.
+    /// Waits for the next part.
     fn next(&mut self) -> Option<Part> {
         let mut queue = self.between.lock();
         loop {
@@ -243,7 +246,7 @@ impl Auditor {
         }
     }
 
-    /// Whether the twin answered as the first engine did.
+    /// Replays entries. Reports whether the replies are those of the first engine.
     fn replay(&mut self, entries: &[Entry]) -> bool {
         let Some(engine) = &mut self.engine else {
             return false;

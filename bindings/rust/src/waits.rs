@@ -1,38 +1,38 @@
-//! Who waits for whom among the transactions of a bank, which of them has been given up, and who is woken.
+//! The wait-for graph of the transactions of a bank, deadlock victims, and wake-ups.
 //!
-//! Each transaction waits for at most one other, the one that its last refusal named, so a ring is found by following
-//! these steps from whoever has just begun to wait: no ring can come about at another moment. Of a ring the youngest is
-//! given up, and woken to learn of that. One that is begun anew keeps the age of its first attempt, so it becomes the
-//! oldest in time, and it waits for the end of whom it had waited for. Without the one it might be given up for ever, and
-//! without the other it would close the same ring again before they wake.
+//! Each transaction waits for at most one other, which its last refusal named. So a ring can only appear when a transaction
+//! begins to wait, and is found by following the graph from there. The youngest transaction of a ring is the victim and is
+//! woken. A transaction that runs again keeps the age of its first attempt, so it becomes the oldest in time; before it runs
+//! again, it waits for the end of the transaction that it had waited for. Without the first rule it might be the victim
+//! forever, and without the second it would close the same ring again.
 //!
-//! Whoever waits sleeps, and tries again after a while by itself. It is woken before where the transaction that it waits
-//! for has ended: at one item one at a time, and the next when that one has tried, since all of them would fight for what
-//! one gets. Who holds locks is woken at once, for others may wait for it in turn. Who holds none keeps nobody waiting,
-//! so of these one is woken now and then: each that comes costs whoever is at work more than a small transaction does.
+//! A waiting thread sleeps and retries by itself after some time. It is woken earlier when the transaction it waits for has
+//! ended: at each item one thread at a time, and the next one after that has retried, since they would compete for an item
+//! that one of them gets. A transaction that holds locks is woken at once, because others may wait for it. One that holds
+//! none delays no other, so these are woken at most once in a millisecond: each wake-up costs the running thread more than a
+//! small transaction.
 
-use crate::Txn;
-use std::{
-    collections::BTreeMap,
-    thread::{self, Thread},
-    time::{Duration, Instant},
+use crate::{
+    Refusal, Txn,
+    sync::{Instant, Thread, current},
 };
+use std::{collections::BTreeMap, time::Duration};
 
-/// How long after a wake-up nobody is woken who holds nothing.
+/// For this time after a wake-up no transaction is woken that holds no locks.
 const BETWEEN: Duration = Duration::from_millis(1);
 
-/// When somebody first began what a transaction does: the later, the younger.
+/// The order in which bodies first began: the larger, the younger.
 #[derive(Clone, Copy, PartialEq, Eq, PartialOrd, Ord, Debug)]
 pub(crate) struct Age(pub(crate) u64);
 
-/// Whether others may wait for a transaction.
+/// Whether other transactions may wait for a transaction.
 #[derive(Clone, Copy, PartialEq, Eq, PartialOrd, Ord, Debug)]
 pub(crate) enum Holds {
     Locks,
     Nothing,
 }
 
-/// A transaction that waits where an event of it is blocked.
+/// A transaction, which waits if an event of it is blocked.
 #[derive(Clone, Copy, Debug)]
 pub(crate) struct Waiter {
     pub(crate) txn: Txn,
@@ -40,11 +40,12 @@ pub(crate) struct Waiter {
     pub(crate) holds: Holds,
 }
 
-/// For whom and where somebody waits, and the thread that it sleeps in.
+/// A waiting transaction, and its thread.
 #[derive(Debug)]
 struct Wait {
-    /// Nobody once that one has ended, and then it may try again.
+    /// `None` once that transaction has ended, and this one may retry.
     blocker: Option<Txn>,
+    reason: Refusal,
     item: u32,
     waiter: Waiter,
     thread: Thread,
@@ -54,21 +55,22 @@ struct Wait {
 #[derive(Debug, Default)]
 pub(crate) struct Waits {
     waiting: BTreeMap<Txn, Wait>,
-    /// Who has been given up, and whom it waited for.
-    given_up: BTreeMap<Txn, Txn>,
-    /// Who has been woken to try again at an item, and has not yet.
+    /// Deadlock victims: the transaction that each waited for, and its refusal.
+    victims: BTreeMap<Txn, (Txn, Refusal)>,
+    /// For each item the transaction that was woken and has not retried yet.
     woken: BTreeMap<u32, Txn>,
     last_wake: Option<Instant>,
 }
 
 impl Waits {
-    /// Notes that a transaction of this thread waits for another at an item. Where a ring closes, its youngest is given up.
-    pub(crate) fn begin(&mut self, waiter: Waiter, item: u32, blocker: Txn) {
+    /// Registers a transaction of this thread as waiting for another at an item. If a ring closes, its youngest is the victim.
+    pub(crate) fn begin(&mut self, waiter: Waiter, item: u32, blocker: Txn, reason: Refusal) {
         let wait = Wait {
             blocker: Some(blocker),
+            reason,
             item,
             waiter,
-            thread: thread::current(),
+            thread: current(),
         };
         self.waiting.insert(waiter.txn, wait);
         if let Some(victim) = self.youngest_of_ring(waiter.txn) {
@@ -76,7 +78,7 @@ impl Waits {
         }
     }
 
-    /// Notes that a transaction waits no longer, or tries again. Where it had been woken, the next one is.
+    /// Registers a transaction as not waiting, or retrying. If it had been woken, the next one is.
     pub(crate) fn end(&mut self, txn: Txn) {
         let Some(wait) = self.waiting.remove(&txn) else {
             return;
@@ -87,34 +89,34 @@ impl Waits {
         }
     }
 
-    /// Forgets a transaction, which has ended: who waits for it may try again. Whom it waited for, where it had been given
-    /// up.
+    /// Removes a transaction that has ended: others that wait for it may retry. Returns the transaction that it waited for,
+    /// if it was a victim.
     pub(crate) fn forget(&mut self, txn: Txn) -> Option<Txn> {
         self.end(txn);
         self.free(txn);
-        self.given_up.remove(&txn)
+        self.victims.remove(&txn).map(|(other, _)| other)
     }
 
-    /// Whether a transaction waits: for whom, where that one has not ended, and at which item.
+    /// Returns the transaction that a waiting one waits for, if that has not ended, and the item.
     pub(crate) fn wait_of(&self, txn: Txn) -> Option<(Option<Txn>, u32)> {
         let wait = self.waiting.get(&txn);
         wait.map(|wait| (wait.blocker, wait.item))
     }
 
-    /// Whether a transaction has been given up.
-    pub(crate) fn has_given_up(&self, txn: Txn) -> bool {
-        self.given_up.contains_key(&txn)
+    /// Returns the refusal of a transaction that is a deadlock victim.
+    pub(crate) fn victim(&self, txn: Txn) -> Option<Refusal> {
+        self.victims.get(&txn).map(|(_, reason)| *reason)
     }
 
     fn give_up(&mut self, victim: Txn) {
         if let Some(wait) = self.waiting.remove(&victim) {
-            let other = wait.blocker.map(|other| (victim, other));
-            self.given_up.extend(other);
+            let other = wait.blocker.map(|other| (victim, (other, wait.reason)));
+            self.victims.extend(other);
             wait.thread.unpark();
         }
     }
 
-    /// Lets those try again who wait for a transaction.
+    /// Lets transactions retry that wait for one that has ended.
     fn free(&mut self, ended: Txn) {
         let mut items = Vec::new();
         for wait in self.waiting.values_mut() {
@@ -128,8 +130,8 @@ impl Waits {
         }
     }
 
-    /// Wakes one of those who may try again at an item, where nobody is on the way: the oldest that holds something, or of
-    /// those who hold nothing.
+    /// Wakes one of the transactions that may retry at an item, unless one is about to: the oldest that holds locks, or else
+    /// the oldest.
     fn wake_at(&mut self, item: u32) {
         let ready = |wait: &&Wait| wait.item == item && wait.blocker.is_none();
         let next = self.waiting.values().filter(ready);
@@ -148,7 +150,7 @@ impl Waits {
     fn youngest_of_ring(&self, txn: Txn) -> Option<Txn> {
         let mut at = txn;
         let mut youngest = (Age(0), txn);
-        // a ring that `txn` leads to without being part of it has been dissolved already
+        // a ring that `txn` leads to without being part of it was dissolved before
         for _ in 0..=self.waiting.len() {
             let wait = self.waiting.get(&at)?;
             youngest = youngest.max((wait.waiter.age, at));
@@ -165,6 +167,8 @@ impl Waits {
 mod tests {
     use super::*;
 
+    const LOCK: Refusal = Refusal::BlockedByLock(Txn(1));
+
     fn waiter(txn: u32, age: u64) -> Waiter {
         Waiter {
             txn: Txn(txn),
@@ -173,25 +177,25 @@ mod tests {
         }
     }
 
-    /// A wait at one item, by a transaction that holds locks and is as old as its number.
+    /// Adds a wait at one item, of a transaction that holds locks and is as old as its number.
     fn wait(waits: &mut Waits, txn: u32, blocker: u32) {
-        waits.begin(waiter(txn, txn.into()), 0, Txn(blocker));
+        waits.begin(waiter(txn, txn.into()), 0, Txn(blocker), LOCK);
     }
 
     fn woken(waits: &Waits) -> Option<u32> {
         waits.woken.get(&0).map(|txn| txn.number())
     }
 
-    /// Two that wait for each other: the younger goes, and a third who waits for one of them does not.
+    /// Of two that wait for each other the younger is the victim, and not a third that waits for one of them.
     #[test]
-    fn the_youngest_of_a_ring_is_given_up() {
+    fn the_youngest_of_a_ring_is_the_victim() {
         let mut waits = Waits::default();
         wait(&mut waits, 9, 4);
         wait(&mut waits, 4, 7);
-        assert!(![4, 7, 9].iter().any(|n| waits.has_given_up(Txn(*n))));
+        assert!(![4, 7, 9].iter().any(|n| waits.victim(Txn(*n)).is_some()));
         wait(&mut waits, 7, 4);
-        assert!(waits.has_given_up(Txn(7)));
-        assert!(!waits.has_given_up(Txn(4)) && !waits.has_given_up(Txn(9)));
+        assert!(waits.victim(Txn(7)).is_some());
+        assert!(waits.victim(Txn(4)).is_none() && waits.victim(Txn(9)).is_none());
     }
 
     /// A ring of three closes at its last step.
@@ -200,40 +204,40 @@ mod tests {
         let mut waits = Waits::default();
         wait(&mut waits, 1, 2);
         wait(&mut waits, 2, 3);
-        assert!(!waits.has_given_up(Txn(3)));
+        assert!(waits.victim(Txn(3)).is_none());
         wait(&mut waits, 3, 1);
-        assert!(waits.has_given_up(Txn(3)));
+        assert!(waits.victim(Txn(3)).is_some());
         assert_eq!(waits.forget(Txn(3)), Some(Txn(1)));
-        assert!(!waits.has_given_up(Txn(3)));
+        assert!(waits.victim(Txn(3)).is_none());
     }
 
-    /// One that was begun anew is as old as it was, though its number is the largest.
+    /// A transaction that runs again is as old as it was, though its number is the largest.
     #[test]
     fn age_is_kept_over_attempts() {
         let mut waits = Waits::default();
-        waits.begin(waiter(8, 1), 0, Txn(5));
-        waits.begin(waiter(5, 5), 0, Txn(8));
-        assert!(waits.has_given_up(Txn(5)) && !waits.has_given_up(Txn(8)));
+        waits.begin(waiter(8, 1), 0, Txn(5), LOCK);
+        waits.begin(waiter(5, 5), 0, Txn(8), LOCK);
+        assert!(waits.victim(Txn(5)).is_some() && waits.victim(Txn(8)).is_none());
     }
 
-    /// Whoever goes on before the ring closes is in none.
+    /// A transaction that stops waiting before the ring closes is in none.
     #[test]
-    fn whoever_waits_no_longer_is_in_no_ring() {
+    fn a_transaction_that_does_not_wait_is_in_no_ring() {
         let mut waits = Waits::default();
         wait(&mut waits, 1, 2);
         waits.end(Txn(1));
         wait(&mut waits, 2, 1);
-        assert!(!waits.has_given_up(Txn(1)) && !waits.has_given_up(Txn(2)));
+        assert!(waits.victim(Txn(1)).is_none() && waits.victim(Txn(2)).is_none());
     }
 
-    /// Of those who may try again one is woken, and each of them in turn as the one before has tried, got through or not.
+    /// Of the transactions that may retry one is woken at a time, and the next one after that has retried.
     #[test]
     fn one_is_woken_at_a_time() {
         let mut waits = Waits::default();
         for txn in [4, 3, 5] {
             wait(&mut waits, txn, 1);
         }
-        waits.begin(waiter(6, 6), 1, Txn(1));
+        waits.begin(waiter(6, 6), 1, Txn(1), LOCK);
         assert_eq!(woken(&waits), None);
         waits.forget(Txn(1));
         assert_eq!(
@@ -251,16 +255,16 @@ mod tests {
         assert_eq!(woken(&waits), Some(3));
     }
 
-    /// Who holds nothing comes after whoever does, and soon after another wake-up not at all.
+    /// Without locks a transaction is woken after those with locks, and not soon after another wake-up.
     #[test]
-    fn who_holds_nothing_is_woken_now_and_then() {
+    fn transactions_without_locks_are_woken_rarely() {
         let mut waits = Waits::default();
         for (txn, blocker) in [(2, 1), (3, 1), (5, 4)] {
             let free = Waiter {
                 holds: Holds::Nothing,
                 ..waiter(txn, txn.into())
             };
-            waits.begin(free, 0, Txn(blocker));
+            waits.begin(free, 0, Txn(blocker), LOCK);
         }
         waits.forget(Txn(1));
         assert_eq!(woken(&waits), Some(2));

@@ -12,6 +12,12 @@ use std::{
     time::{Duration, Instant},
 };
 
+/// Returns the reason of a refusal.
+fn refusal<T>(result: &Result<T, Error>) -> Option<Refusal> {
+    let error = result.as_ref().err();
+    error.and_then(Error::refusal)
+}
+
 fn two_accounts() -> Bank {
     let builder = Bank::builder().item("checking", 500).item("savings", 1500);
     builder.open().expect("two accounts are within the limits")
@@ -22,13 +28,12 @@ fn two_accounts() -> Bank {
 fn unknown_names_are_refused() {
     let bank = two_accounts();
     let answer = bank.transact(0, |update| update.read("pocket"));
-    assert_eq!(answer, Err(Error::Refused(Refusal::NoSuchItem)));
-    assert_eq!(
-        bank.value("pocket"),
-        Err(Error::Refused(Refusal::NoSuchItem))
-    );
+    let unknown = Some(Refusal::NoSuchItem);
+    assert_eq!(answer.unwrap_err().refusal(), unknown);
+    assert_eq!(bank.value("pocket").unwrap_err().refusal(), unknown);
     let twice = Bank::builder().item("a", 1).item("a", 2).open();
-    assert_eq!(twice.err(), Some(Error::NameTwice));
+    let name = "a".to_owned();
+    assert_eq!(twice.err(), Some(Error::NameTwice { name }));
 }
 
 /// An error of the body takes back what the update wrote, and is answered as it is.
@@ -73,7 +78,7 @@ fn a_panic_rolls_back() {
 #[test]
 fn a_report_tells_how_far_it_was() {
     let bank = two_accounts();
-    bank.transact(200, |transfer| {
+    bank.transact_stepwise(200, |transfer| {
         transfer.write("checking", 400)?;
         let (sum, finding) = thread::scope(|threads| {
             let report = || {
@@ -169,14 +174,11 @@ fn patience_ends() {
     let bank = Bank::builder().item("checking", 500).patience(short).open();
     let bank = bank.expect("one item is within the limits");
     let begun = Instant::now();
-    let told = bank.transact(0, |first| {
+    let result = bank.transact_stepwise(0, |first| {
         first.write("checking", 400)?;
         bank.transact(0, |second| second.write("checking", 300))
     });
-    assert!(matches!(
-        told,
-        Err(Error::Refused(Refusal::BlockedByLock(_)))
-    ));
+    assert!(matches!(refusal(&result), Some(Refusal::BlockedByLock(_))));
     assert!(begun.elapsed() >= Duration::from_millis(100));
     assert_eq!(bank.transact(0, |next| next.add("checking", 1)), Ok(501));
 }
@@ -211,7 +213,7 @@ fn a_bank_renews_itself() {
             .expect("nothing is in its way");
     }
     assert_eq!((bank.renewals(), audits.load(Ordering::Relaxed)), (1, 1));
-    assert_eq!(bank.audit(due), Err(Error::NotACommittedQuery));
+    assert_eq!(bank.audit(due), Err(Error::ReportExpired));
     assert_eq!(bank.value("hits"), Ok(i64::from(MAX_TRANSACTIONS)));
 }
 
@@ -223,7 +225,7 @@ fn weights_and_charges() {
         .item("money", 0)
         .open()
         .expect("they are within the limits");
-    bank.transact(900, |sale| {
+    bank.transact_stepwise(900, |sale| {
         sale.add("phones", -1)?;
         let report = || {
             bank.report(900, |report| {
@@ -239,7 +241,9 @@ fn weights_and_charges() {
     })
     .expect("nothing is in its way");
     let bad = Bank::builder().weighted_item("phones", 15, 1_001).open();
-    assert_eq!(bad.err(), Some(Error::WeightOutOfRange));
+    let item = "phones".to_owned();
+    let weight = 1_001;
+    assert_eq!(bad.err(), Some(Error::WeightOutOfRange { item, weight }));
 }
 
 /// Eight threads move money and read sums through renewals: each sum is off by at most what its report imported, every

@@ -8,6 +8,12 @@ use std::{
     time::{Duration, Instant},
 };
 
+/// Returns the reason of a refusal.
+fn refusal<T>(result: &Result<T, Error>) -> Option<Refusal> {
+    let error = result.as_ref().err();
+    error.and_then(Error::refusal)
+}
+
 #[test]
 fn an_engine_goes_to_another_thread() {
     fn sends<T: Send>(_: &T) {}
@@ -23,17 +29,26 @@ fn an_engine_goes_to_another_thread() {
 
 #[test]
 fn errors_and_refusals_by_name() {
-    assert_eq!(Engine::open(&[0; 4097]).unwrap_err(), Error::TooManyItems);
+    let count = 4097;
+    let many = Engine::open(&[0; 4097]).unwrap_err();
+    assert_eq!(many, Error::TooManyItems { count });
     assert_eq!(
         Engine::open(&[1_000_000_000_001]).unwrap_err(),
-        Error::ValueOutOfRange
+        Error::ValueOutOfRange {
+            item: "0".into(),
+            value: 1_000_000_000_001
+        }
     );
     let mut engine = Engine::open(&[0]).unwrap();
     let first = engine.begin_update(0).unwrap();
     let second = engine.begin_update(0).unwrap();
     engine.write(first, 0, 5).unwrap();
     let blocked = engine.write(second, 0, 6).unwrap_err();
-    assert_eq!(blocked, Error::Refused(Refusal::BlockedByLock(first)));
+    assert_eq!(blocked.refusal(), Some(Refusal::BlockedByLock(first)));
+    assert_eq!(
+        blocked.to_string(),
+        "refused: blocked by a lock of 1 at item 0"
+    );
     let source = error::Error::source(&blocked).map(ToString::to_string);
     assert_eq!(source.as_deref(), Some("blocked by a lock of 1"));
     assert_eq!(engine.audit(first).unwrap_err(), Error::NotACommittedQuery);
@@ -117,7 +132,7 @@ fn transact_gives_up_and_aborts() {
         runs += 1;
         update.read(0)
     });
-    assert_eq!(answer, Err(Error::Refused(Refusal::BlockedByLock(holder))));
+    assert_eq!(refusal(&answer), Some(Refusal::BlockedByLock(holder)));
     assert!(runs > 1 && begun.elapsed() >= Duration::from_millis(20));
     let mut engine = bank.into_inner().unwrap();
     // The holder is still active, and each attempt was aborted.
@@ -135,7 +150,7 @@ fn transact_without_patience() {
     bank.lock().unwrap().write(holder, 0, 1).unwrap();
     let none = Patience::of(Duration::ZERO);
     let answer = transact(&bank, 0, none, |update| update.read(0));
-    assert_eq!(answer, Err(Error::Refused(Refusal::BlockedByLock(holder))));
+    assert_eq!(refusal(&answer), Some(Refusal::BlockedByLock(holder)));
     // Two entries of the holder, and a begin, a blocked read and an abort.
     assert_eq!(bank.into_inner().unwrap().totals().entries, 2 + 3);
 }
@@ -151,10 +166,7 @@ fn transact_answers_what_another_was_told() {
         update.write(0, 1)?;
         transact(&bank, 0, short, |other| other.write(0, 2))
     });
-    assert!(matches!(
-        answer,
-        Err(Error::Refused(Refusal::BlockedByLock(_)))
-    ));
+    assert!(matches!(refusal(&answer), Some(Refusal::BlockedByLock(_))));
     assert_eq!(
         (runs, bank.into_inner().unwrap().values()),
         (1, Ok(vec![0]))
@@ -230,8 +242,8 @@ fn read_for_update_excludes_others() {
     );
     assert_eq!(engine.read_for_update(first, 0), Ok(3));
     assert_eq!(
-        engine.read_for_update(second, 0),
-        Err(Error::Refused(Refusal::BlockedByLock(first)))
+        refusal(&engine.read_for_update(second, 0)),
+        Some(Refusal::BlockedByLock(first))
     );
     engine.write(first, 0, 4).unwrap();
     engine.commit(first).unwrap();
@@ -247,6 +259,9 @@ fn read_for_update_excludes_others() {
     );
     assert_eq!(engine.renew(), Err(Error::TransactionActive));
     engine.renew_aborting().unwrap();
-    assert_eq!(engine.account(second).unwrap_err(), Error::NotBegun);
+    assert_eq!(
+        engine.account(second).unwrap_err(),
+        Error::NotBegun { txn: second }
+    );
     assert_eq!(engine.values(), Ok(vec![4]));
 }

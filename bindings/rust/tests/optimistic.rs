@@ -12,6 +12,12 @@ use std::{
     time::{Duration, Instant},
 };
 
+/// Returns the reason of a refusal.
+fn refusal<T>(result: &Result<T, Error>) -> Option<Refusal> {
+    let error = result.as_ref().err();
+    error.and_then(Error::refusal)
+}
+
 fn builder() -> BankBuilder {
     let builder = Bank::builder().item("checking", 500).item("savings", 1500);
     builder.optimistic(true)
@@ -69,22 +75,30 @@ fn refusals_are_the_same() {
     for is_optimistic in [false, true] {
         let bank = builder().optimistic(is_optimistic).open();
         let bank = bank.expect("two accounts are within the limits");
-        let told = bank.transact(0, |update| update.read("pocket"));
-        assert_eq!(told, Err(Error::Refused(Refusal::NoSuchItem)));
-        let last = esr::last_refusal().map(|last| (last.item, last.why));
-        assert_eq!(last, Some(("pocket".into(), Refusal::NoSuchItem)));
-        let told = bank.transact(0, |update| update.write("checking", 1_000_000_000_001));
-        let out = Err(Error::Refused(Refusal::ValueOutOfRange));
-        assert_eq!(told, out);
-        let told = bank.transact(0, |update| update.add("checking", i64::MAX).map(drop));
-        assert_eq!(told, out);
-        let told = bank.transact(u64::MAX, |update| update.add("checking", 1));
-        assert_eq!(told, Err(Error::Refused(Refusal::LimitOutOfRange)));
-        let told = bank.transact(0, |update| {
-            assert_eq!(update.write("savings", i64::MIN), out);
+        let text = |result: Result<i64, Error>| result.unwrap_err().to_string();
+        let range = "(-1000000000000 to 1000000000000)";
+        let unknown = bank.transact(0, |update| update.read("pocket"));
+        assert_eq!(text(unknown), "refused: no such item: pocket");
+        let large = bank.transact(0, |update| {
+            update.write("checking", 1_000_000_000_001).map(|()| 0)
+        });
+        let why = "refused: value out of range: 1000000000001 for item checking";
+        assert_eq!(text(large), format!("{why} {range}"));
+        let large = bank.transact(0, |update| update.add("checking", i64::MAX));
+        let why = format!(
+            "refused: value out of range: {} for item checking",
+            i64::MAX
+        );
+        assert_eq!(text(large), format!("{why} {range}"));
+        let unlimited = bank.transact(u64::MAX, |update| update.add("checking", 1));
+        let why = format!("refused: limit out of range: {}", u64::MAX);
+        assert_eq!(text(unlimited), format!("{why} (0 to 1000000000000000000)"));
+        let result = bank.transact(0, |update| {
+            let out = update.write("savings", i64::MIN).unwrap_err().refusal();
+            assert_eq!(out, Some(Refusal::ValueOutOfRange));
             update.add("savings", 1)
         });
-        assert_eq!(told, Ok(1501));
+        assert_eq!(result, Ok(1501));
         assert_eq!(bank.snapshot_in_order(), Ok(vec![500, 1501]));
         assert_eq!((bank.counts().active, bank.active().len()), (0, 0));
     }
@@ -116,7 +130,8 @@ fn errors_and_panics_leave_nothing() {
         Ok(501)
     );
     let metrics = bank.metrics();
-    assert_eq!((metrics.updates, metrics.whole, metrics.aborts), (1, 1, 1));
+    assert_eq!((metrics.updates, metrics.optimistic_updates), (1, 1));
+    assert_eq!(metrics.aborts, 2);
 }
 
 /// A body that others have overtaken never sees values that were not together, and runs anew.
@@ -166,7 +181,7 @@ fn a_lock_is_waited_for() {
     });
     assert_eq!(bank.snapshot_in_order(), Ok(vec![401, 1600]));
     let metrics = bank.metrics();
-    assert_eq!((metrics.updates, metrics.whole), (2, 1));
+    assert_eq!((metrics.updates, metrics.optimistic_updates), (2, 1));
 }
 
 /// Where nobody ends what is in the way, the caller is told why once patience has ended; also where it is the update
@@ -180,7 +195,8 @@ fn patience_ends() {
         first.write("checking", 400)?;
         bank.transact(0, |second| second.write("checking", 300))
     });
-    let is_locked = |told| matches!(told, Err(Error::Refused(Refusal::BlockedByLock(_))));
+    let is_locked =
+        |result: Result<(), Error>| matches!(refusal(&result), Some(Refusal::BlockedByLock(_)));
     assert!(is_locked(told));
     let told = bank.transact(0, |first| {
         first.add("checking", 1)?;
@@ -216,7 +232,7 @@ fn reports_are_charged_and_waited_for() {
         (values, finding.distance, finding.import),
         ((500, 1600), 100, 100)
     );
-    assert_eq!(bank.metrics().whole, 1);
+    assert_eq!(bank.metrics().optimistic_updates, 1);
     let met = Barrier::new(2);
     thread::scope(|threads| {
         let (bank, met) = (&bank, &met);
@@ -241,7 +257,10 @@ fn reports_are_charged_and_waited_for() {
         );
     });
     let metrics = bank.metrics();
-    assert_eq!((metrics.updates, metrics.whole, metrics.reports), (2, 1, 2));
+    assert_eq!(
+        (metrics.updates, metrics.optimistic_updates, metrics.reports),
+        (2, 1, 2)
+    );
     assert!(metrics.waits > 0 && !metrics.waited.is_zero());
 }
 
@@ -257,8 +276,8 @@ fn reads_in_one_hold() {
     );
     assert_eq!(read(&[]), Ok((vec![], 0)));
     assert_eq!(
-        read(&["savings", "pocket"]),
-        Err(Error::Refused(Refusal::NoSuchItem))
+        refusal(&read(&["savings", "pocket"])),
+        Some(Refusal::NoSuchItem)
     );
     thread::scope(|threads| {
         threads.spawn(|| {
@@ -338,8 +357,9 @@ fn a_renewal_may_be_put_off() {
         let why = bank.renewal_failure();
         assert_eq!(why.as_deref(), Some("no disk for 0 reports"));
         let told = bank.transact(1, |update| update.add("checking", 1));
-        assert_eq!(told, Err(Error::RenewalFailed));
-        assert!(bank.metrics().renewals_put_off > 0);
+        let why = "no disk for 0 reports".to_owned();
+        assert_eq!(told, Err(Error::RenewalFailed { why }));
+        assert!(bank.metrics().failed_renewals > 0);
         FAILS.store(false, Ordering::Relaxed);
         assert!(bank.transact(1, |update| update.add("checking", 1)).is_ok());
         assert_eq!((bank.renewals(), bank.renewal_failure()), (1, None));
@@ -350,10 +370,10 @@ fn a_renewal_may_be_put_off() {
 /// An update goes on through renewals: its locks, its writes that nobody else sees, and what is left of its limit.
 #[test]
 fn a_slow_update_does_not_hold_a_renewal_off() {
-    for audits_beside in [false, true] {
+    for background_audits in [false, true] {
         let builder = builder().item("hits", 0).item("seen", 7);
         let short = Patience::of(Duration::from_millis(50));
-        let builder = builder.audits_beside(audits_beside).patience(short);
+        let builder = builder.background_audits(background_audits).patience(short);
         let bank = builder.open().expect("four items are within the limits");
         let told = bank.transact_stepwise(150, |slow| {
             assert_eq!(slow.read("seen")?, 7);
@@ -384,8 +404,9 @@ fn a_slow_update_does_not_hold_a_renewal_off() {
                 println!("round {round}: longest update {longest:?}");
                 assert_eq!((bank.renewals(), bank.counts().active), (round, 1));
                 // its locks are there, and its writes are its own
-                let is_locked =
-                    |told| matches!(told, Err(Error::Refused(Refusal::BlockedByLock(_))));
+                let is_locked = |result: Result<(), Error>| {
+                    matches!(refusal(&result), Some(Refusal::BlockedByLock(_)))
+                };
                 assert!(is_locked(bank.transact(0, |other| other.write("seen", 8))));
                 assert!(is_locked(
                     bank.transact(0, |other| other.write("savings", 8))
@@ -405,7 +426,7 @@ fn a_slow_update_does_not_hold_a_renewal_off() {
                 // of its limit 50 are left
                 let told = look().map(drop);
                 assert!(
-                    matches!(told, Err(Error::Refused(Refusal::BlockedByExport(_)))),
+                    matches!(refusal(&told), Some(Refusal::BlockedByExport(_))),
                     "{told:?}"
                 );
                 assert_eq!(slow.charged(), 100);
@@ -430,8 +451,8 @@ fn a_slow_update_does_not_hold_a_renewal_off() {
         let metrics = bank.metrics();
         assert_eq!((metrics.carried, bank.counts().active), (2, 0));
         assert_eq!(
-            metrics.beside,
-            if audits_beside { metrics.audits } else { 0 }
+            metrics.background_audits,
+            if background_audits { metrics.audits } else { 0 }
         );
     }
 }
@@ -470,13 +491,15 @@ fn a_soak_loses_nothing() {
     const ITEMS: usize = 12;
     let seconds =
         std::env::var("ESR_SOAK_SECONDS").map_or(2, |text| text.parse().expect("a number"));
-    for audits_beside in [false, true] {
+    for background_audits in [false, true] {
         let names: Vec<String> = (0..ITEMS).map(|n| format!("account{n}")).collect();
         let builder = names
             .iter()
             .fold(Bank::builder(), |builder, name| builder.item(name, 1000));
         let builder = builder.item("rate", 3).item("slow0", 0).item("slow1", 0);
-        let builder = builder.optimistic(true).audits_beside(audits_beside);
+        let builder = builder
+            .optimistic(true)
+            .background_audits(background_audits);
         let bank = builder.open().expect("they are within the limits");
         let end = Instant::now() + Duration::from_secs(seconds);
         let (moved, reports) = (AtomicU64::new(0), AtomicU64::new(0));
@@ -569,12 +592,15 @@ fn a_soak_loses_nothing() {
         assert_eq!(metrics.updates, all);
         assert_eq!(metrics.reports, reports.load(Ordering::Relaxed));
         assert_eq!((bank.counts().active, metrics.aborts), (0, 0));
-        let beside = if audits_beside { metrics.audits } else { 0 };
-        assert_eq!((metrics.beside, metrics.audits), (beside, metrics.reports));
+        let beside = if background_audits { metrics.audits } else { 0 };
+        assert_eq!(
+            (metrics.background_audits, metrics.audits),
+            (beside, metrics.reports)
+        );
         println!(
             "{} updates, {} whole, {} reruns, {} reports, {} renewals, {} carried",
             metrics.updates,
-            metrics.whole,
+            metrics.optimistic_updates,
             metrics.reruns,
             metrics.reports,
             metrics.renewals,
@@ -585,7 +611,7 @@ fn a_soak_loses_nothing() {
 
 /// What the twin finds of reports beside work in progress is what the bank's own engine explains of them.
 #[test]
-fn audits_beside_find_the_same() {
+fn background_audits_find_the_same() {
     const ITEMS: usize = 5;
     let names: Vec<String> = (0..ITEMS).map(|n| format!("account{n}")).collect();
     let mut builder = Bank::builder().weighted_item(&names[0], 1000, 3);
@@ -593,7 +619,10 @@ fn audits_beside_find_the_same() {
         builder = builder.item(name, 1000);
     }
     let short = Patience::of(Duration::from_millis(300));
-    let builder = builder.optimistic(true).audits_beside(true).patience(short);
+    let builder = builder
+        .optimistic(true)
+        .background_audits(true)
+        .patience(short);
     let bank = builder.open().expect("they are within the limits");
     let open = AtomicBool::new(true);
     let client = |mut random: u64| {
@@ -605,7 +634,7 @@ fn audits_beside_find_the_same() {
                 thread::sleep(Duration::from_micros(50));
                 update.write(&names[to], 1000)?;
                 update.add(&names[to], 7)?;
-                if fails { Err(Error::NotBegun) } else { Ok(()) }
+                if fails { Err(Error::BadNames) } else { Ok(()) }
             };
             // (one that is blocked by a report with a small limit may lose its patience)
             let _ = if draw(&mut random, 2) == 0 {
@@ -667,5 +696,5 @@ fn audits_beside_find_the_same() {
     });
     let metrics = bank.metrics();
     assert!(metrics.audits > 0 && metrics.distances[0] < metrics.audits);
-    assert_eq!(metrics.beside, metrics.audits); // the twin was never given up
+    assert_eq!(metrics.background_audits, metrics.audits); // the twin was never given up
 }

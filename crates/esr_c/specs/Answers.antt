@@ -162,13 +162,14 @@ IsPartly None new t x = new ≡ None
 IsPartly (Some h) None t x = ⊥
 IsPartly (Some h) (Some g) t x = IsPartlyDone h g t x
 
--- A call that read an item for an update ended with this status. Where memory was refused the lock may have been taken.
+-- A call that reads an item for an update returns this status. With 13 the lock may have been taken; with 12 nothing has changed.
 pub record IsForUpdateCall (t : TxnId) (x : ItemId) (old new : Option Schedule) (before after : EsrReply) (status : ℕ) : Type 0 where
   pub known : IsEventStatus status
   pub closed : status ≡ 14 ↔ (old ≡ None)
   pub full : IfSome old (λ h. (status ≡ 12) ↔ (no_pair h ≡ true))
   pub reply : status ≡ 0 → IsForUpdateReply t x old new after
   pub err : status ≢ 0 → (after ≡ before) × IsPartly old new t x
+  pub kept : status ≡ 12 → new ≡ old
 
 -- how a transaction stands, and its account
 abbrev pub txn_status_number : TxnStatus → ℕ

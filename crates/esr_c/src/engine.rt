@@ -244,6 +244,7 @@ fn read_and_reply(
     ensures done { result ≡ Status.Done → (engine.new ≡ after_for_update engine.old txn item)
         × (reply.new ≡ reply_fields (reply_for_update engine.old txn item)) }
     ensures err { result ≢ Status.Done → (reply.new ≡ reply.old) × IsPartlyDone engine.old engine.new txn item }
+    ensures kept { result ≡ Status.Full → engine.new ≡ engine.old }
 {
     match engine.read_for_update(txn, item) {
         Ok(read) => {

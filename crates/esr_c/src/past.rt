@@ -1,6 +1,6 @@
 //! The past of an engine as text: its script and its ledger.
 
-ghost use Rattle.std.specs.Prelude.{◌≡◌, ◌≢◌, ◌⊎◌, ◌<◌, Some, None, length, IfOk, IfErr, IsErrOf};
+ghost use Rattle.std.specs.Prelude.{◌≡◌, ◌≢◌, ◌⊎◌, ◌<◌, Some, None, length, IfOk, IfErr, IsErrOf, drop};
 ghost use Rattle.esr_engine.specs.Room.{begun};
 ghost use Rattle.esr_dump.specs.Naming.{transaction_names};
 ghost use Rattle.esr_c.specs.Answers.{IsValuesStatus, status_number};
@@ -69,6 +69,7 @@ pub(crate) fn show_script(
     ensures small { result ≡ Status.TooSmall → (length bytes.old < count.new)
         × IsTextLong (IsScriptOf engine.now names.now) count.new }
     ensures kept { result ≢ Status.Done → bytes.new ≡ bytes.old }
+    ensures rest { drop count.new bytes.new ≡ drop count.new bytes.old }
     ensures untold { result ≢ Status.Done → result ≢ Status.TooSmall → count.new ≡ count.old }
 {
     match script_text(alloc, engine, names) {
@@ -101,6 +102,7 @@ pub(crate) fn show_ledger(
     ensures small { result ≡ Status.TooSmall → (length bytes.old < count.new)
         × IsTextLong (IsLedgerOf engine.now) count.new }
     ensures kept { result ≢ Status.Done → bytes.new ≡ bytes.old }
+    ensures rest { drop count.new bytes.new ≡ drop count.new bytes.old }
     ensures untold { result ≢ Status.Done → result ≢ Status.TooSmall → count.new ≡ count.old }
 {
     match ledger_text(alloc, engine) {

@@ -2,7 +2,7 @@
 //!
 //! Both tell what an audit found, and are made of the engine's own history, so that nobody has to run the script for them.
 
-ghost use Rattle.std.specs.Prelude.{◌≡◌, ◌≢◌, ◌↔◌, ◌⊎◌, ◌<◌, false, None, length, IfOk, IfErr, IsErrOf};
+ghost use Rattle.std.specs.Prelude.{◌≡◌, ◌≢◌, ◌↔◌, ◌⊎◌, ◌<◌, false, None, length, IfOk, IfErr, IsErrOf, drop};
 ghost use Rattle.esr_items.specs.Weights.{weighted};
 ghost use Rattle.esr_history.specs.Queries.{is_committed_query};
 ghost use Rattle.esr_audit.specs.Findings.{IsFindingOf};
@@ -130,6 +130,7 @@ pub(crate) fn show_explanation(
     ensures small { result ≡ Status.TooSmall → (length bytes.old < count.new)
         × IsTextLong (IsExplanationOf engine.old query names.now) count.new }
     ensures kept { result ≢ Status.Done → bytes.new ≡ bytes.old }
+    ensures rest { drop count.new bytes.new ≡ drop count.new bytes.old }
     ensures untold { result ≢ Status.Done → result ≢ Status.TooSmall → count.new ≡ count.old }
 {
     match explanation_text(alloc, engine, query, names) {
@@ -155,6 +156,7 @@ pub(crate) fn show_picture(
     ensures picture { result ≡ Status.Done → IsTextIn IsSvg count.new bytes.new }
     ensures small { result ≡ Status.TooSmall → (length bytes.old < count.new) × IsTextLong IsSvg count.new }
     ensures kept { result ≢ Status.Done → bytes.new ≡ bytes.old }
+    ensures rest { drop count.new bytes.new ≡ drop count.new bytes.old }
     ensures untold { result ≢ Status.Done → result ≢ Status.TooSmall → count.new ≡ count.old }
 {
     match picture_text(alloc, engine, query, names) {

@@ -166,4 +166,4 @@ serial order.
 
 For example:
 
-  $ esr page examples/audit.esr > page.html";
+  $ esr page examples/report.esr > page.html";

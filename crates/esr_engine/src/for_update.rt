@@ -41,17 +41,19 @@ impl EmbeddedEngine {
         }
     }
 
-    /// Takes the write lock on an item for an update, where it does not hold it, and reads the item. The reply is that
-    /// of the read; where the lock is refused it is that of the write, and there is no read.
+    /// Takes the write lock on an item for an update that does not hold it, and reads the item. Returns the reply to the
+    /// read, or the reply to the write if the lock is refused; then the item is not read.
     ///
     /// # Errors
-    /// `Full` exactly where there are not two entries left beside the ends, `NoMemory` if an allocation failed: then
-    /// nothing has changed, but that the lock may have been taken, and the call may be given again.
+    /// `Full` if and only if fewer than two entries are left in addition to the reserved ends; then nothing has changed.
+    /// `NoMemory` if an allocation failed; then nothing has changed, except that the update may hold the lock, and the call
+    /// can be retried.
     pub fn read_for_update(&mut self, t: TxnId, x: ItemId) -> Result<Reply, Unanswered>
         ensures reply { IfOk result (λ reply. reply ≡ reply_for_update self.old t x) }
         ensures added { OnOk result (self.new ≡ after_for_update self.old t x) }
         ensures held { IfOk result (IsHeldValue self.old self.new t x) }
         ensures full { IsErrOf result Unanswered.Full ↔ (no_pair self.old ≡ true) }
+        ensures kept { IsErrOf result Unanswered.Full → self.new ≡ self.old }
         ensures err { IfErr result (λ _. IsPartlyDone self.old self.new t x) }
     {
         if self.demand() + 2 > MAX_ENTRIES {

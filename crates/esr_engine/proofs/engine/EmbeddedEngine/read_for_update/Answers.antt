@@ -76,3 +76,8 @@ pub returns-in-Ok-Wrote-clause-full : goal.returns-in-Ok-Wrote-clause-full
 returns-in-Ok-Wrote-clause-full c =
     let room = roomy (goal.at.returns-in-Ok-Wrote-clause-full c).After-step-in-Ok-Wrote in
     (λ e. absurd (true≢false (sym (c.step-in-Ok-Wrote.ensures.full.0 e) ∙ room.1)), λ p. absurd (true≢false (sym p ∙ room.0)))
+
+pub returns-in-Ok-Wrote-clause-kept : goal.returns-in-Ok-Wrote-clause-kept
+returns-in-Ok-Wrote-clause-kept c =
+    let room = roomy (goal.at.returns-in-Ok-Wrote-clause-kept c).After-step-in-Ok-Wrote in
+    λ e. absurd (true≢false (sym (c.step-in-Ok-Wrote.ensures.full.0 e) ∙ room.1))

@@ -1,0 +1,114 @@
+//! The load of `threads.h` over a `Bank`, with the same arguments and output. It compiles with older versions of the crate,
+//! too: `--cfg background` uses the second engine for audits, and `--cfg stepwise` runs updates step by step.
+
+use esr::{Bank, Error};
+use std::{
+    env,
+    sync::atomic::{AtomicBool, Ordering},
+    thread,
+    time::{Duration, Instant},
+};
+
+const ITEMS: usize = 4096;
+const LIMIT: u64 = 1_000_000_000_000_000_000;
+
+fn next_below(state: &mut u64, span: usize) -> usize {
+    *state ^= *state << 13;
+    *state ^= *state >> 7;
+    *state ^= *state << 17;
+    ((*state >> 32) as usize * span) >> 32
+}
+
+/// Runs transactions until the end, and returns their latencies in nanoseconds.
+fn work(bank: &Bank, names: &[String], place: (usize, usize), is_hot: bool, ended: &AtomicBool) -> Vec<u32> {
+    let (id, threads) = place;
+    let (span, mut latencies) = (ITEMS / threads, Vec::with_capacity(1 << 22));
+    let mut state = 88_172_645_463_325_252 + 7919 * id as u64;
+    while !ended.load(Ordering::Relaxed) {
+        let mut items = [0; 4];
+        for (n, item) in items.iter_mut().enumerate() {
+            *item = span * id + next_below(&mut state, span);
+            if is_hot {
+                *item = if n == 3 { 0 } else { (*item).max(1) };
+            }
+        }
+        let body = |update: &mut esr::BankUpdate<'_, '_>| {
+            for (n, item) in items.into_iter().enumerate() {
+                let name = names[item].as_str();
+                if is_hot && n == 3 {
+                    update.add(name, 1)?;
+                } else {
+                    let value = update.read(name)?;
+                    update.write(name, value + 1)?;
+                }
+            }
+            Ok::<_, Error>(())
+        };
+        let begun = Instant::now();
+        #[cfg(not(stepwise))]
+        let done = bank.transact(LIMIT, body);
+        #[cfg(stepwise)]
+        let done = bank.transact_stepwise(LIMIT, body);
+        let nanoseconds = begun.elapsed().as_nanos();
+        done.expect("it commits");
+        latencies.push(nanoseconds.min(u32::MAX.into()) as u32);
+    }
+    latencies
+}
+
+/// Sums 1,000 items again and again. Returns the number of reports, and the longest.
+fn report(bank: &Bank, names: &[String], period: Duration, ended: &AtomicBool) -> (usize, Duration) {
+    let (mut count, mut longest) = (0, Duration::ZERO);
+    while !ended.load(Ordering::Relaxed) {
+        let begun = Instant::now();
+        let sum = bank.report(LIMIT, |report| {
+            #[cfg(not(before))]
+            let sum = report.read_all(names.iter().step_by(4).take(1000))?.iter().sum::<i64>();
+            #[cfg(before)]
+            let sum = names.iter().step_by(4).take(1000).map(|name| report.read(name)).sum::<Result<i64, Error>>()?;
+            Ok::<_, Error>(sum)
+        });
+        let (_, finding) = sum.expect("it commits");
+        assert!(finding.distance <= finding.import);
+        longest = longest.max(begun.elapsed());
+        count += 1;
+        thread::sleep(period.saturating_sub(begun.elapsed()));
+    }
+    (count, longest)
+}
+
+fn main() {
+    let words: Vec<String> = env::args().collect();
+    let is_hot = words[1] == "hot";
+    let threads: usize = words[2].parse().expect("a number of threads");
+    let time: f64 = words[3].parse().expect("a number of seconds");
+    let period = Duration::from_millis(words[4].parse().expect("a number of milliseconds"));
+    let names: Vec<String> = (0..ITEMS).map(|n| format!("i{n}")).collect();
+    let builder = names.iter().fold(Bank::builder(), |builder, name| builder.item(name.clone(), 0));
+    #[cfg(background)]
+    let builder = builder.background_audits(true);
+    let bank = builder.open().expect("the items are within the limits");
+    let ended = AtomicBool::new(false);
+    let begun = Instant::now();
+    let (mut latencies, reports, taken) = thread::scope(|scope| {
+        let (bank, names, ended) = (&bank, &names[..], &ended);
+        let workers = (0..threads).map(|id| scope.spawn(move || work(bank, names, (id, threads), is_hot, ended)));
+        let workers: Vec<_> = workers.collect();
+        let reporter = (!period.is_zero()).then(|| scope.spawn(move || report(bank, names, period, ended)));
+        thread::sleep(Duration::from_secs_f64(time));
+        ended.store(true, Ordering::Relaxed);
+        let all: Vec<u32> = workers.into_iter().flat_map(|worker| worker.join().expect("no panic")).collect();
+        let taken = begun.elapsed();
+        (all, reporter.map(|reporter| reporter.join().expect("no panic")), taken)
+    });
+    let sum: i64 = names.iter().map(|name| bank.value(name.as_str()).expect("it is there")).sum();
+    assert_eq!(sum, 4 * latencies.len() as i64, "a transaction was lost");
+    latencies.sort_unstable();
+    print!("{:.0}", latencies.len() as f64 / taken.as_secs_f64());
+    for share in [0.5, 0.99, 0.999, 1.0] {
+        let place = ((latencies.len() - 1) as f64 * share) as usize;
+        print!(" {:.1}", f64::from(latencies[place]) / 1000.0);
+    }
+    let (count, longest) = reports.unwrap_or_default();
+    println!(" {count} {}", longest.as_micros());
+}

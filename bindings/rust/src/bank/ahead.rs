@@ -1,0 +1,212 @@
+//! Optimistic updates: the body runs on the mirror, and the engine executes the draft in one hold of the lock.
+//!
+//! The argument why such an update is an ordinary transaction is at the head of `mirror`.
+//!
+//! This is the default of `transact`, although it changes five things for a program. All of them are within what `transact`
+//! promised before: (a) reports no longer see the middle of such an update, so they import less, never more; work in
+//! progress that is meant to be seen is `transact_stepwise`. (b) A body runs again more often; it was required to have no
+//! other effects before, since deadlocks had the same consequence. (c) `charged` in a body is 0, and the history has no
+//! entries of a body that fails, because the engine has not heard of it. (d) A body that begins another update of the same
+//! item commits the inner one at each run; before, it waited for itself until its patience ended. Both break the rule that a
+//! body begins nothing else in its bank. (e) `add` is one read and one write of the history. In return, eight threads run
+//! about four times as many updates, and no update blocks others while its body runs.
+
+use super::{Bank, BankUpdate, Mode, state::State};
+use crate::{
+    Error, Event, Options, Refusal, Reply, Txn,
+    engine::refusal_of,
+    error::Refused,
+    gate::{Priority, pause},
+    mirror::{Draft, Misfit, commit_of},
+    patience::{Rounds, Waiting},
+    sync::Instant,
+};
+use std::{sync::atomic::Ordering, time::Duration};
+
+/// A body that was overtaken this often runs step by step.
+const MAX_RERUNS: u32 = 64;
+/// A body that was overtaken this often gets priority for the lock, if its last run took less than [`SHORT`].
+const PATIENT_RERUNS: u32 = 8;
+const SHORT: Duration = Duration::from_micros(20);
+/// An update that met a lock this often runs step by step.
+const MAX_BLOCKED: u32 = 4;
+/// The number of polls for the end of a lock before the thread sleeps.
+const POLLS: u32 = 400;
+
+/// The outcome of a draft.
+enum Outcome {
+    Committed,
+    /// Other updates have changed what it had read.
+    Stale,
+    /// Transaction `other` holds a lock; `ends` transactions had ended by then.
+    Locked {
+        other: Txn,
+        renewals: u64,
+        ends: u64,
+    },
+    /// A limit is in the way, or the history has no capacity.
+    Blocked,
+}
+
+impl Bank {
+    /// Executes a draft as one transaction, in one hold of the lock.
+    fn submit(
+        &self,
+        options: &Options,
+        draft: &mut Draft,
+        waiting: &mut Option<Waiting>,
+        (reruns, priority): (u32, Option<&Priority<'_>>),
+    ) -> Result<Outcome, Error> {
+        self.check_not_inside_renewal()?;
+        let is_fresh = || !draft.is_stale(&self.mirror);
+        let Some(mut state) = self.state.lock_while(priority, is_fresh) else {
+            return Ok(Outcome::Stale);
+        };
+        if state.is_nearly_full() {
+            drop(state);
+            state = self.lock_with_capacity(self.waiting_in(options, waiting))?;
+        }
+        // no one else publishes during the hold: a draft that is not stale now has read the engine's committed values
+        if draft.is_stale(&self.mirror) {
+            return Ok(Outcome::Stale);
+        }
+        self.submit_in(&mut state, options, draft, reruns)
+    }
+
+    fn submit_in(
+        &self,
+        state: &mut State,
+        options: &Options,
+        draft: &mut Draft,
+        reruns: u32,
+    ) -> Result<Outcome, Error> {
+        let limit = options.limit;
+        let begin = Event::BeginUpdate { limit };
+        let txn = match state.engine.step(begin)? {
+            Reply::Begun(txn) => txn,
+            Reply::Refused(reason) => return Err(Refused::of(reason).limit(limit).into()),
+            other => unreachable!("{other:?}"),
+        };
+        let (events, replies) = draft.events_of(txn.number());
+        let (answered, error) = state.engine.replay(events, replies);
+        let judged = draft.judge(answered);
+        let ended = match (judged, &error) {
+            (Ok(()), None) => state.engine.step(Event::Commit { txn }),
+            _ => Ok(Reply::Aborted),
+        };
+        if let Some(feed) = &mut state.feed {
+            feed.push(1, txn.number(), 0, limit as i64);
+            let accepted = answered - usize::from(matches!(judged, Err(Misfit::Refused(_))));
+            feed.push_all(&draft.events()[..accepted]);
+        }
+        if let Ok(Reply::Committed) = ended {
+            self.mirror.publish(draft.writes());
+            if let Some(feed) = &mut state.feed {
+                feed.push_all(&[commit_of(txn.number())]);
+            }
+            if let Some(name) = &options.name {
+                state.names.insert(txn.number(), name.clone());
+            }
+            state.metrics.updates += 1;
+            state.metrics.optimistic_updates += 1;
+            state.metrics.reruns += u64::from(reruns);
+            return Ok(Outcome::Committed);
+        }
+        // the engine keeps capacity for the end of each active transaction
+        let abort = Event::Abort { txn };
+        state.engine.step(abort)?;
+        state.log(abort, txn, 0);
+        match (judged, error) {
+            (_, Some(Error::NoMemory)) => Err(Error::NoMemory),
+            (Err(Misfit::Refused(reply)), _) => match refusal_of(reply) {
+                Refusal::BlockedByLock(other) => Ok(Outcome::Locked {
+                    other,
+                    renewals: state.renewals,
+                    ends: self.ends.load(Ordering::Relaxed),
+                }),
+                _ => Ok(Outcome::Blocked),
+            },
+            (Err(Misfit::Stale), _) => Ok(Outcome::Stale),
+            _ => ended.and(Ok(Outcome::Blocked)),
+        }
+    }
+
+    /// Returns the rest of an update's patience, which is all of it if it has not waited yet.
+    fn waiting_in<'w>(
+        &self,
+        options: &Options,
+        waiting: &'w mut Option<Waiting>,
+    ) -> &'w mut Waiting {
+        waiting.get_or_insert_with(|| self.waiting_of(options))
+    }
+
+    /// Waits for the end of a transaction that holds a lock: polls first, then sleeps.
+    fn wait_for_lock(&self, other: Txn, renewals: u64, mut ends: u64, waiting: &mut Waiting) {
+        let mut rounds = Rounds::default();
+        let mut polls = 0;
+        loop {
+            let now = self.ends.load(Ordering::Acquire);
+            if now != ends && self.has_ended(other, renewals) {
+                return;
+            }
+            ends = now;
+            if polls < POLLS {
+                polls += 1;
+                pause();
+            } else if !waiting.pause(&mut rounds) || self.has_ended(other, renewals) {
+                return;
+            }
+        }
+    }
+
+    /// Runs an update optimistically. Returns `None` if it has to run step by step.
+    pub(super) fn run_ahead<T, E: From<Error>>(
+        &self,
+        options: &Options,
+        waiting: &mut Option<Waiting>,
+        body: &mut impl FnMut(&mut BankUpdate<'_, '_>) -> Result<T, E>,
+    ) -> Option<Result<T, E>> {
+        let mut draft = Draft::take();
+        let (mut reruns, mut blocked) = (0, 0);
+        let mut last = Duration::MAX;
+        let result = loop {
+            draft.restart(&self.mirror);
+            let begun = (reruns > 0).then(Instant::now);
+            let is_urgent = reruns >= PATIENT_RERUNS && last < SHORT;
+            let priority = is_urgent.then(|| self.state.priority());
+            let mode = Mode::Ahead(self, &mut draft);
+            let result = body(&mut BankUpdate { mode });
+            last = begun.map_or(Duration::MAX, |begun| begun.elapsed());
+            let attempt = (reruns, priority.as_ref());
+            let outcome = match result {
+                _ if draft.is_overtaken() => Outcome::Stale,
+                Ok(value) => match self.submit(options, &mut draft, waiting, attempt) {
+                    Ok(Outcome::Committed) => break Some(Ok(value)),
+                    Ok(outcome) => outcome,
+                    Err(error) => break Some(Err(error.into())),
+                },
+                // the body saw values of one moment, so this is its result, and there is nothing to undo
+                Err(error) => {
+                    self.dropped.fetch_add(1, Ordering::Relaxed);
+                    break Some(Err(error));
+                }
+            };
+            drop(priority);
+            match outcome {
+                Outcome::Locked {
+                    other,
+                    renewals,
+                    ends,
+                } if blocked < MAX_BLOCKED => {
+                    blocked += 1;
+                    reruns += 1;
+                    self.wait_for_lock(other, renewals, ends, self.waiting_in(options, waiting));
+                }
+                Outcome::Stale if reruns < MAX_RERUNS => reruns += 1,
+                _ => break None,
+            }
+        };
+        draft.put_back();
+        result
+    }
+}

@@ -1,0 +1,242 @@
+//! Opens a bank.
+
+use super::{
+    Bank, Closing,
+    items::Items,
+    state::{RESERVED_NUMBERS, State},
+};
+use crate::{Engine, Error, Patience, gate::Lock, mirror::Mirror, sync::AtomicU64, twin::Twin};
+use std::{error, fmt, sync::OnceLock};
+
+/// The work before a renewal.
+pub(super) type BeforeRenewal =
+    Box<dyn Fn(&mut Closing<'_>) -> Result<(), Box<dyn error::Error + Send + Sync>> + Send + Sync>;
+
+/// The items and options of a bank that is to be opened.
+///
+/// ```
+/// let builder = esr::Bank::builder().item("checking", 500).weighted_item("phones", 15, 900);
+/// assert_eq!(builder.open()?.value("phones")?, 15);
+/// # Ok::<(), esr::Error>(())
+/// ```
+#[must_use]
+pub struct BankBuilder {
+    names: Vec<String>,
+    opening: Vec<i64>,
+    weights: Vec<u32>,
+    patience: Patience,
+    before_renewal: Option<BeforeRenewal>,
+    is_optimistic: bool,
+    background_audits: Option<bool>,
+}
+
+impl Default for BankBuilder {
+    fn default() -> BankBuilder {
+        BankBuilder {
+            names: Vec::new(),
+            opening: Vec::new(),
+            weights: Vec::new(),
+            patience: Patience::default(),
+            before_renewal: None,
+            is_optimistic: true,
+            background_audits: None,
+        }
+    }
+}
+
+impl BankBuilder {
+    /// Adds an item with its opening value.
+    ///
+    /// ```
+    /// let bank = esr::Bank::builder().item("checking", 500).open()?;
+    /// assert_eq!(bank.value("checking")?, 500);
+    /// # Ok::<(), esr::Error>(())
+    /// ```
+    pub fn item(self, name: impl Into<String>, value: i64) -> BankBuilder {
+        self.weighted_item(name, value, 1)
+    }
+
+    /// Adds items with their opening values.
+    ///
+    /// ```
+    /// let bank = esr::Bank::builder().items([("checking", 500), ("savings", 1500)]).open()?;
+    /// assert_eq!(bank.value("savings")?, 1500);
+    /// # Ok::<(), esr::Error>(())
+    /// ```
+    pub fn items<N: Into<String>>(self, items: impl IntoIterator<Item = (N, i64)>) -> BankBuilder {
+        let items = items.into_iter();
+        items.fold(self, |builder, (name, value)| builder.item(name, value))
+    }
+
+    /// Adds an item whose differences are multiplied by a weight, 1 to 1,000. So limits can be amounts of money although
+    /// items are pieces.
+    ///
+    /// ```
+    /// // 15 phones at 900: the sale of one is a change of 900
+    /// let bank = esr::Bank::builder().weighted_item("phones", 15, 900).open()?;
+    /// bank.transact(900, |sale| sale.add("phones", -1))?;
+    /// # Ok::<(), esr::Error>(())
+    /// ```
+    pub fn weighted_item(
+        mut self,
+        name: impl Into<String>,
+        value: i64,
+        weight: u32,
+    ) -> BankBuilder {
+        self.names.push(name.into());
+        self.opening.push(value);
+        self.weights.push(weight);
+        self
+    }
+
+    /// Sets how long a transaction waits for others in total before its call fails: see [`Patience`].
+    ///
+    /// ```
+    /// use esr::{Bank, Patience};
+    /// use std::time::Duration;
+    ///
+    /// let bank = Bank::builder().item("checking", 500).patience(Patience::of(Duration::from_secs(1))).open()?;
+    /// # Ok::<(), esr::Error>(())
+    /// ```
+    pub fn patience(mut self, patience: Patience) -> BankBuilder {
+        self.patience = patience;
+        self
+    }
+
+    /// Sets the work that is done with a history before it is gone, such as audits. The work is passed the history and runs
+    /// under the bank's lock, so it cannot use the bank itself. A panic of it counts as a failure: see
+    /// [`try_before_renewal`](BankBuilder::try_before_renewal).
+    ///
+    /// ```
+    /// use esr::{Bank, Error};
+    ///
+    /// let bank = Bank::builder()
+    ///     .item("checking", 500)
+    ///     .before_renewal(|closing| {
+    ///         for report in closing.due().to_vec() {
+    ///             println!("{}", closing.audit(report).expect("it has committed"));
+    ///         }
+    ///     })
+    ///     .open()?;
+    /// # Ok::<(), Error>(())
+    /// ```
+    pub fn before_renewal(
+        self,
+        work: impl Fn(&mut Closing<'_>) + Send + Sync + 'static,
+    ) -> BankBuilder {
+        self.try_before_renewal(move |closing| {
+            work(closing);
+            Ok(())
+        })
+    }
+
+    /// Sets work before a renewal that may fail. A renewal whose work failed is retried after 100 ms. Until then the bank
+    /// continues in the old history, of which a tenth is reserved for this; when that is used up, a begin fails with
+    /// [`Error::RenewalFailed`]. [`Bank::renewal_failure`] returns the error of the work.
+    ///
+    /// ```
+    /// use esr::Bank;
+    /// use std::{fs::OpenOptions, io::Write};
+    ///
+    /// let bank = Bank::builder()
+    ///     .item("checking", 500)
+    ///     .try_before_renewal(|closing| {
+    ///         let mut file = OpenOptions::new().append(true).open("/audits")?;
+    ///         for report in closing.due().to_vec() {
+    ///             writeln!(file, "{}", closing.audit(report)?)?;
+    ///         }
+    ///         Ok(())
+    ///     })
+    ///     .open()?;
+    /// # Ok::<(), esr::Error>(())
+    /// ```
+    pub fn try_before_renewal(
+        mut self,
+        work: impl Fn(&mut Closing<'_>) -> Result<(), Box<dyn error::Error + Send + Sync>>
+        + Send
+        + Sync
+        + 'static,
+    ) -> BankBuilder {
+        self.before_renewal = Some(Box::new(work));
+        self
+    }
+
+    /// Sets whether [`Bank::transact`] runs bodies optimistically, which it does by default. With `false` every update runs
+    /// as by [`Bank::transact_stepwise`].
+    ///
+    /// ```
+    /// use esr::{Bank, Error};
+    ///
+    /// let bank = Bank::builder().item("checking", 500).optimistic(false).open()?;
+    /// bank.transact(100, |update| update.add("checking", -100))?;
+    /// assert_eq!(bank.metrics().optimistic_updates, 0);
+    /// # Ok::<(), Error>(())
+    /// ```
+    pub fn optimistic(mut self, is_optimistic: bool) -> BankBuilder {
+        self.is_optimistic = is_optimistic;
+        self
+    }
+
+    /// Sets whether reports are audited on a thread of the bank, by a second engine that replays the same events. Then only
+    /// the report's caller waits for an audit; otherwise an audit holds the lock for about half a microsecond for each
+    /// transaction of the history. It costs the memory of a second engine, up to 16 MB for the events, a tenth of the
+    /// throughput, and, while there are reports, the time to replay the events.
+    ///
+    /// By default a bank starts the second engine at the first renewal after a report has committed. So a bank without
+    /// reports does not pay for it, and audits hold the lock in the first history only.
+    ///
+    /// ```
+    /// use esr::{Bank, Error};
+    ///
+    /// let bank = Bank::builder().item("checking", 500).background_audits(true).open()?;
+    /// let (_, finding) = bank.report(100, |report| report.read("checking"))?;
+    /// assert_eq!(finding.distance, 0);
+    /// # Ok::<(), Error>(())
+    /// ```
+    pub fn background_audits(mut self, background_audits: bool) -> BankBuilder {
+        self.background_audits = Some(background_audits);
+        self
+    }
+
+    /// Opens the bank.
+    ///
+    /// ```
+    /// let twice = esr::Bank::builder().item("checking", 500).item("checking", 1500).open();
+    /// assert_eq!(twice.unwrap_err().to_string(), "two items of one name: checking");
+    /// ```
+    ///
+    /// # Errors
+    /// `NameTwice`, `TooManyItems`, `ValueOutOfRange`, `WeightOutOfRange`, `NoMemory`.
+    pub fn open(self) -> Result<Bank, Error> {
+        let items = Items::new(self.names)?;
+        let label = |number: usize| items.name(number as u32).to_owned();
+        let engine = Engine::open_labelled(&self.opening, &self.weights, label)?;
+        let (twin, feed) = match self.background_audits {
+            Some(true) => {
+                let (twin, feed) = Twin::open(&self.opening, &self.weights)?;
+                (OnceLock::from(twin), Some(feed))
+            }
+            _ => (OnceLock::new(), None),
+        };
+        let reserved = self.before_renewal.as_ref().map_or(0, |_| RESERVED_NUMBERS);
+        Ok(Bank {
+            items,
+            patience: self.patience,
+            state: Lock::new(State::new(engine, feed, reserved)),
+            mirror: Mirror::of(&self.opening),
+            ends: AtomicU64::new(0),
+            dropped: AtomicU64::new(0),
+            is_optimistic: self.is_optimistic,
+            twin,
+            weights: self.weights,
+            may_start_twin: self.background_audits.is_none(),
+            before_renewal: self.before_renewal,
+        })
+    }
+}
+
+impl fmt::Debug for BankBuilder {
+    fn fmt(&self, f: &mut fmt::Formatter<'_>) -> fmt::Result {
+        f.debug_struct("BankBuilder").finish_non_exhaustive()
+    }
+}

@@ -1,0 +1,223 @@
+//! A transaction that runs step by step: each event takes the lock for itself, so that others run in between.
+
+use super::{
+    Bank, Report,
+    state::{Hold, Me, State},
+};
+use crate::{
+    Error, Event, Finding, Reply, Txn,
+    patience::{Rounds, Waiting},
+    waits::Holds,
+};
+use std::{
+    cell::{Cell, RefCell},
+    sync::atomic::Ordering,
+};
+
+/// An active transaction. It is aborted if it is dropped before it has committed, so also by a panic of its body.
+pub(super) struct Handle<'a> {
+    pub(super) bank: &'a Bank,
+    pub(super) me: Me,
+    pub(super) waiting: Waiting,
+    /// Why it has to be given up. Each later event fails with this error.
+    pub(super) stop: Option<Error>,
+    pub(super) is_active: bool,
+    pub(super) is_query: bool,
+    /// Whether its body has failed.
+    pub(super) has_failed: bool,
+}
+
+impl<'a> Handle<'a> {
+    /// Executes events in one hold of the lock. When another transaction blocks one, all of them are retried later.
+    fn step(
+        &mut self,
+        item: &Cell<u32>,
+        events: impl Fn(&mut State) -> Result<Reply, Error>,
+    ) -> Result<Reply, Error> {
+        if let Some(error) = &self.stop {
+            return Err(error.clone());
+        }
+        let mut rounds = Rounds::default();
+        loop {
+            let reply = events(&mut self.bank.lock());
+            match reply {
+                Ok(Reply::Refused(reason)) => {
+                    let can_retry =
+                        reason.may_pass_later() && self.waiting.pause_for_event(&mut rounds);
+                    if can_retry {
+                        continue;
+                    }
+                    let name = self.bank.items.name(item.get());
+                    let error: Error = self.bank.lock().describe(self.me, reason, name).into();
+                    return Err(if reason.may_pass_later() {
+                        self.stop_for(error)
+                    } else {
+                        error
+                    });
+                }
+                Err(Error::Deadlock(refused)) => {
+                    let name = self.bank.items.name(item.get());
+                    let refused = self.bank.lock().describe(self.me, refused.reason, name);
+                    return Err(self.stop_for(Error::Deadlock(Box::new(refused))));
+                }
+                Err(error @ Error::HistoryFull) => return Err(self.stop_for(error)),
+                Err(error) => return Err(error),
+                accepted => {
+                    self.me.holds = Holds::Locks;
+                    return accepted;
+                }
+            }
+        }
+    }
+
+    fn stop_for(&mut self, error: Error) -> Error {
+        self.stop = Some(error.clone());
+        error
+    }
+
+    pub(super) fn read(&mut self, item: u32) -> Result<i64, Error> {
+        let me = self.me;
+        match self.step(&Cell::new(item), |state| state.read(me, item))? {
+            Reply::Value(value) => Ok(value),
+            other => unreachable!("{other:?}"),
+        }
+    }
+
+    /// Reads items in one hold of the lock. After a read that was blocked the rest follows in another hold.
+    pub(super) fn read_all(&mut self, items: &[u32]) -> Result<Vec<i64>, Error> {
+        let me = self.me;
+        let values = RefCell::new(Vec::with_capacity(items.len()));
+        let at = Cell::new(0);
+        if !items.is_empty() {
+            self.step(&at, |state| {
+                loop {
+                    let item = items[values.borrow().len()];
+                    at.set(item);
+                    let reply = state.read(me, item)?;
+                    let Reply::Value(value) = reply else {
+                        return Ok(reply);
+                    };
+                    values.borrow_mut().push(value);
+                    if values.borrow().len() == items.len() {
+                        return Ok(reply);
+                    }
+                }
+            })?;
+        }
+        Ok(values.into_inner())
+    }
+
+    pub(super) fn write(&mut self, item: u32, value: i64) -> Result<(), Error> {
+        let me = self.me;
+        let wrote = self.step(&Cell::new(item), |state| state.write(me, item, value));
+        wrote.map(drop).map_err(|error| with_value(error, value))
+    }
+
+    pub(super) fn add(&mut self, item: u32, more: i64) -> Result<i64, Error> {
+        let me = self.me;
+        let sum = Cell::new(0);
+        self.step(&Cell::new(item), |state| {
+            let reply = state.read_for_update(me, item)?;
+            let Reply::Value(value) = reply else {
+                return Ok(reply);
+            };
+            sum.set(value.saturating_add(more));
+            state.write(me, item, sum.get())
+        })
+        .map_err(|error| with_value(error, sum.get()))?;
+        Ok(sum.get())
+    }
+
+    pub(super) fn charged(&self) -> u64 {
+        self.bank.lock().charged(self.me.handle)
+    }
+
+    /// Returns its number in the current history.
+    pub(super) fn txn(&self) -> Txn {
+        self.bank.lock().active(self.me.handle).txn
+    }
+
+    /// Commits it. Returns its number, and the hold of the lock.
+    fn end(mut self) -> Result<(Hold<'a>, Txn), Error> {
+        let mut state = self.bank.lock();
+        let txn = state.waiter(self.me)?.txn;
+        let commit = Event::Commit { txn };
+        state.engine.step(commit)?;
+        self.is_active = false;
+        let writes = &state.active(self.me.handle).writes;
+        self.bank.mirror.publish(writes.iter().copied());
+        state.log(commit, txn, 0);
+        if self.is_query {
+            state.metrics.reports += 1;
+        } else {
+            state.metrics.updates += 1;
+        }
+        self.remove(&mut state);
+        Ok((state, txn))
+    }
+
+    /// Removes it after its end. Returns the transaction it waited for, if it was a deadlock's victim.
+    fn remove(&self, state: &mut State) -> Option<Txn> {
+        let waited_for = state.remove(self.me.handle);
+        let waited = self.waiting.waited();
+        if !waited.is_zero() {
+            state.metrics.waits += 1;
+            state.metrics.waited += waited;
+        }
+        self.bank.ends.fetch_add(1, Ordering::Release);
+        if state.is_nearly_full() && state.may_renew() {
+            state.wake_for_capacity();
+        }
+        waited_for
+    }
+
+    /// Aborts it. Returns the transaction it waited for, if it was a deadlock's victim.
+    pub(super) fn abort(&mut self) -> Option<Txn> {
+        let mut state = self.bank.lock();
+        // the engine keeps capacity for the end of each active transaction
+        let active = state.active(self.me.handle);
+        let (txn, is_lost) = (active.txn, active.is_lost);
+        if !is_lost && state.engine.abort(txn).is_ok() {
+            state.log(Event::Abort { txn }, txn, 0);
+        }
+        self.is_active = false;
+        if self.has_failed {
+            state.metrics.aborts += 1;
+        }
+        self.remove(&mut state)
+    }
+
+    pub(super) fn commit(self) -> Result<(), Error> {
+        self.end().map(drop)
+    }
+
+    pub(super) fn commit_and_audit(self) -> Result<Finding, Error> {
+        let bank = self.bank;
+        let (state, query) = self.end()?;
+        let report = bank.report_of(&state, query);
+        bank.audit_of(state, report)
+    }
+
+    pub(super) fn commit_as_due(self) -> Result<Report, Error> {
+        let bank = self.bank;
+        let (mut state, query) = self.end()?;
+        state.due.push(query);
+        Ok(bank.report_of(&state, query))
+    }
+}
+
+fn with_value(mut error: Error, value: i64) -> Error {
+    if let Error::Refused(refused) = &mut error {
+        refused.value = Some(value);
+    }
+    error
+}
+
+impl Drop for Handle<'_> {
+    fn drop(&mut self) {
+        if self.is_active {
+            self.has_failed = true;
+            self.abort();
+        }
+    }
+}

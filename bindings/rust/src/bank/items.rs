@@ -1,0 +1,245 @@
+//! The items of a bank: names, numbers, handles, and the names in texts.
+
+use crate::{Error, Refusal, error::Refused};
+use std::{
+    collections::{HashMap, HashSet},
+    fmt,
+    hash::{BuildHasherDefault, Hasher},
+    sync::atomic::{AtomicU32, Ordering},
+};
+
+/// Hashes eight bytes at a time. The names are the program's own, so the hash need not resist chosen collisions.
+#[derive(Default)]
+struct NameHasher {
+    hash: u64,
+}
+
+impl NameHasher {
+    fn add(&mut self, word: u64) {
+        self.hash = (self.hash.rotate_left(5) ^ word).wrapping_mul(0x9e37_79b9_7f4a_7c15);
+    }
+}
+
+impl Hasher for NameHasher {
+    fn write(&mut self, bytes: &[u8]) {
+        let mut words = bytes.chunks_exact(8);
+        for word in &mut words {
+            let word = word.try_into().expect("it has eight bytes");
+            self.add(u64::from_le_bytes(word));
+        }
+        let rest = words.remainder().iter().rev();
+        self.add(rest.fold(0, |word, byte| word << 8 | u64::from(*byte)));
+    }
+
+    fn write_u8(&mut self, byte: u8) {
+        self.add(byte.into());
+    }
+
+    fn finish(&self) -> u64 {
+        self.hash.rotate_left(26)
+    }
+}
+
+/// The items of one bank.
+///
+/// ```
+/// let bank = esr::Bank::builder().item("checking", 500).open()?;
+/// assert!(bank.item("checking").is_ok());
+/// # Ok::<(), esr::Error>(())
+/// ```
+#[derive(Debug)]
+pub struct Items {
+    /// Distinguishes banks, so that a handle of another bank is not mistaken.
+    bank: u32,
+    numbers: HashMap<String, u32, BuildHasherDefault<NameHasher>>,
+    names: Vec<String>,
+    /// The names in texts, one on each line.
+    texts: String,
+}
+
+/// Reports whether a script may use it as a name.
+pub(super) fn is_name(name: &str) -> bool {
+    let starts = name.starts_with(|letter: char| letter.is_ascii_alphabetic());
+    starts && name.len() <= 16 && name.bytes().all(|b| b.is_ascii_alphanumeric() || b == b'_')
+}
+
+/// Returns the names in texts: an item that no script can name is called `iN` by its number N, or `iN_`, `iN__`, ..  if
+/// another item has that name.
+fn names_in_texts(names: &[String]) -> String {
+    let taken: HashSet<&str> = names.iter().map(String::as_str).collect();
+    let shown = names.iter().enumerate().map(|(number, name)| {
+        if is_name(name) {
+            return name.clone();
+        }
+        let mut shown = format!("i{number}");
+        while taken.contains(shown.as_str()) {
+            shown.push('_');
+        }
+        shown
+    });
+    shown.collect::<Vec<_>>().join("\n")
+}
+
+impl Items {
+    pub(super) fn new(names: Vec<String>) -> Result<Items, Error> {
+        static BANKS: AtomicU32 = AtomicU32::new(0);
+        let mut numbers =
+            HashMap::with_capacity_and_hasher(names.len(), BuildHasherDefault::default());
+        for (number, name) in names.iter().enumerate() {
+            if numbers.insert(name.clone(), number as u32).is_some() {
+                return Err(Error::NameTwice { name: name.clone() });
+            }
+        }
+        Ok(Items {
+            bank: BANKS.fetch_add(1, Ordering::Relaxed),
+            numbers,
+            texts: names_in_texts(&names),
+            names,
+        })
+    }
+
+    pub(super) fn bank(&self) -> u32 {
+        self.bank
+    }
+
+    pub(super) fn len(&self) -> usize {
+        self.names.len()
+    }
+
+    pub(super) fn name(&self, item: u32) -> &str {
+        self.names.get(item as usize).map_or("?", String::as_str)
+    }
+
+    pub(super) fn names(&self) -> impl Iterator<Item = &str> {
+        self.names.iter().map(String::as_str)
+    }
+
+    /// Returns the names in texts, one on each line.
+    pub(super) fn texts(&self) -> &str {
+        &self.texts
+    }
+}
+
+/// An item of one bank, which is read and written without a look-up of its name.
+///
+/// ```
+/// let bank = esr::Bank::builder().item("checking", 500).open()?;
+/// let checking = bank.item("checking")?;
+/// assert_eq!(bank.transact(0, |update| update.add(checking, -100))?, 400);
+/// # Ok::<(), esr::Error>(())
+/// ```
+#[derive(Clone, Copy, PartialEq, Eq, Hash, Debug)]
+pub struct Item {
+    pub(super) bank: u32,
+    pub(super) number: u32,
+}
+
+mod sealed {
+    pub trait Sealed {}
+    impl<T: AsRef<str> + ?Sized> Sealed for &T {}
+    impl Sealed for super::Item {}
+}
+
+/// What names an item: its name, or an [`Item`].
+pub trait ItemKey: sealed::Sealed {
+    #[doc(hidden)]
+    fn number(&self, items: &Items) -> Result<u32, Error>;
+    #[doc(hidden)]
+    fn label(&self, items: &Items) -> String;
+}
+
+impl<T: AsRef<str> + ?Sized> ItemKey for &T {
+    fn number(&self, items: &Items) -> Result<u32, Error> {
+        let name = self.as_ref();
+        let number = items.numbers.get(name).copied();
+        number.ok_or_else(|| Refused::of(Refusal::NoSuchItem).item(name).into())
+    }
+
+    fn label(&self, _: &Items) -> String {
+        self.as_ref().to_owned()
+    }
+}
+
+impl ItemKey for Item {
+    fn number(&self, items: &Items) -> Result<u32, Error> {
+        if self.bank == items.bank {
+            return Ok(self.number);
+        }
+        let other = format!("{} (of another bank)", self.number);
+        Err(Refused::of(Refusal::NoSuchItem).item(other).into())
+    }
+
+    fn label(&self, items: &Items) -> String {
+        items.name(self.number).to_owned()
+    }
+}
+
+/// Replaces each transaction `t5` of a text by `NAME_5`, if `name` returns a name for transaction 5.
+pub(super) fn with_names<'a>(
+    text: String,
+    items: &Items,
+    name: impl Fn(u32) -> Option<&'a str>,
+) -> String {
+    let is_txn = |word: &str| {
+        let digits = word.strip_prefix('t');
+        digits
+            .is_some_and(|digits| !digits.is_empty() && digits.bytes().all(|b| b.is_ascii_digit()))
+    };
+    // (an item may be called t5 as well)
+    if items.names().any(is_txn) {
+        return text;
+    }
+    let mut named = String::with_capacity(text.len());
+    for part in text.split_inclusive([' ', ',', '\n']) {
+        let word = part.trim_end_matches([' ', ',', '\n']);
+        let found = is_txn(word)
+            .then(|| word[1..].parse().ok().and_then(&name))
+            .flatten();
+        let found = found.map(|name| format!("{name}_{}", &word[1..]));
+        match found.filter(|name| is_name(name)) {
+            Some(name) => {
+                named.push_str(&name);
+                named.push_str(&part[word.len()..]);
+            }
+            None => named.push_str(part),
+        }
+    }
+    named
+}
+
+impl fmt::Display for Item {
+    fn fmt(&self, f: &mut fmt::Formatter<'_>) -> fmt::Result {
+        self.number.fmt(f)
+    }
+}
+
+#[cfg(test)]
+mod tests {
+    use super::*;
+
+    /// One name that no script has leaves the others as they are, and is replaced by one that no other item has.
+    #[test]
+    fn one_bad_name_is_replaced_alone() {
+        let names = ["checking", "my savings", "i1", "7up"];
+        let items = Items::new(names.map(String::from).to_vec()).expect("four names");
+        assert_eq!(items.texts(), "checking\ni1_\ni1\ni3");
+        let twice = Items::new(vec!["a".into(), "a".into()]).unwrap_err();
+        assert_eq!(twice, Error::NameTwice { name: "a".into() });
+    }
+
+    /// Names of transactions replace their numbers in texts, unless an item could be confused with one.
+    #[test]
+    fn transactions_have_names_in_texts() {
+        let items = Items::new(vec!["a".into()]).expect("one name");
+        let name = |txn| (txn == 2).then_some("fee");
+        let text = "begin t2 update 0\nbefore t1,t2,t22\n2,t2,update\n".to_owned();
+        assert_eq!(
+            with_names(text.clone(), &items, name),
+            "begin fee_2 update 0\nbefore t1,fee_2,t22\n2,fee_2,update\n"
+        );
+        let long = |_| Some("a_very_long_name");
+        assert_eq!(with_names(text.clone(), &items, long), text);
+        let items = Items::new(vec!["t2".into()]).expect("one name");
+        assert_eq!(with_names(text.clone(), &items, name), text);
+    }
+}

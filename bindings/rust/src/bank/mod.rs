@@ -1,0 +1,908 @@
+//! A bank: an engine that threads share, with named items, which renews its history before it is full.
+//!
+//! `transact` runs a body on a mirror of the committed values, without the lock, and executes its events in one hold of the
+//! lock (`ahead`, `mirror`). Reports, and updates by `transact_stepwise`, take the lock for each event (`handle`), so that
+//! others run in between and a report sees work in progress.
+//!
+//! A blocked transaction sleeps until it can retry, as long as its patience lasts. `waits` keeps the wait-for graph; of a
+//! ring of waiters the youngest is aborted at once, and its body runs again. Once the history is nearly full nothing begins;
+//! when the last report has ended, the next thread that wants to begin renews the engine and carries active updates over
+//! (`state`). Every active transaction is owned by a handle whose drop aborts it, so a renewal never waits forever.
+//!
+//! A bank is fastest while one thread uses it for some time: then the engine is in the cache of one processor. So an item
+//! that becomes free is not reserved for a waiter, which would leave it idle until that thread runs; the first thread to
+//! come takes it.
+//!
+//! Rejected: retrying after pauses alone, which are too short for a counter that eight threads change and too long for a
+//! transfer; waking every waiter each time, or polling a few times before sleeping, after which threads alternate at each
+//! transaction and fetch the engine from each other's caches.
+
+mod ahead;
+mod builder;
+mod closing;
+mod handle;
+mod items;
+mod state;
+#[cfg(test)]
+mod tests;
+mod update;
+
+pub use builder::BankBuilder;
+pub use closing::Closing;
+pub use items::{Item, ItemKey};
+pub use update::{BankQuery, BankUpdate};
+
+use crate::{
+    Active, Counts, Error, Event, Finding, Metrics, Options, Patience, Reply, Standing, Totals,
+    Txn,
+    error::{MAX_LIMIT, Refused},
+    gate::Lock,
+    mirror::Mirror,
+    patience::{Rounds, Waiting},
+    sync::{AtomicU64, Instant, current},
+    twin::Twin,
+    waits::{Age, Holds},
+};
+use builder::BeforeRenewal;
+use handle::Handle;
+use items::{Items, with_names};
+use state::{Hold, Me, RETRY, State};
+use std::{
+    any::Any,
+    borrow::Cow,
+    cell::Cell,
+    collections::HashMap,
+    fmt,
+    panic::{self, AssertUnwindSafe},
+    sync::{OnceLock, atomic::Ordering},
+    thread,
+};
+use update::Mode;
+
+thread_local! {
+    /// The bank whose work before a renewal runs on this thread.
+    static RENEWING: Cell<Option<u32>> = const { Cell::new(None) };
+}
+
+/// A committed report, by which it can be audited until the bank is renewed.
+///
+/// ```
+/// let bank = esr::Bank::builder().item("checking", 500).open()?;
+/// let (value, report) = bank.report_unaudited(0, |report| report.read("checking"))?;
+/// assert_eq!((value, bank.audit(report)?.distance), (500, 0));
+/// # Ok::<(), esr::Error>(())
+/// ```
+#[derive(Clone, Copy, PartialEq, Eq, Hash, Debug)]
+pub struct Report {
+    bank: u32,
+    renewals: u64,
+    query: Txn,
+}
+
+/// An engine that threads share, with named items.
+///
+/// ```
+/// use esr::Bank;
+///
+/// let bank = Bank::builder().item("checking", 500).item("savings", 1500).open()?;
+/// bank.transact(200, |transfer| {
+///     transfer.add("checking", -100)?;
+///     transfer.add("savings", 100)
+/// })?;
+/// let (sum, finding) = bank.report(200, |report| Ok(report.read("checking")? + report.read("savings")?))?;
+/// assert_eq!((sum, finding.distance), (2000, 0));
+/// # Ok::<(), esr::Error>(())
+/// ```
+pub struct Bank {
+    items: Items,
+    patience: Patience,
+    state: Lock<State>,
+    mirror: Mirror,
+    /// The number of step-by-step transactions that have ended.
+    ends: AtomicU64,
+    /// The number of optimistic updates whose body failed before the engine had heard of them.
+    dropped: AtomicU64,
+    is_optimistic: bool,
+    /// The second engine, once there is one.
+    twin: OnceLock<Twin>,
+    weights: Vec<u32>,
+    /// Whether a renewal after a report starts it.
+    may_start_twin: bool,
+    before_renewal: Option<BeforeRenewal>,
+}
+
+/// Counts a body that panics.
+struct PanicCounter<'a>(&'a AtomicU64);
+
+impl Drop for PanicCounter<'_> {
+    fn drop(&mut self) {
+        if thread::panicking() {
+            self.0.fetch_add(1, Ordering::Relaxed);
+        }
+    }
+}
+
+/// Beginning and renewing.
+impl Bank {
+    /// Returns a builder without items.
+    ///
+    /// ```
+    /// let bank = esr::Bank::builder().item("checking", 500).item("savings", 1500).open()?;
+    /// # Ok::<(), esr::Error>(())
+    /// ```
+    pub fn builder() -> BankBuilder {
+        BankBuilder::default()
+    }
+
+    /// Takes the lock.
+    ///
+    /// # Panics
+    /// If the work before a renewal of this bank calls it, which would wait for itself. The bank reports that as a failure of
+    /// the work.
+    fn lock(&self) -> Hold<'_> {
+        assert!(!self.is_inside_renewal(), "{}", Error::InsideRenewal);
+        self.state.lock()
+    }
+
+    fn is_inside_renewal(&self) -> bool {
+        self.before_renewal.is_some() && RENEWING.get() == Some(self.items.bank())
+    }
+
+    fn check_not_inside_renewal(&self) -> Result<(), Error> {
+        if self.is_inside_renewal() {
+            return Err(Error::InsideRenewal);
+        }
+        Ok(())
+    }
+
+    fn waiting_of(&self, options: &Options) -> Waiting {
+        Waiting::of_bank(options.patience.unwrap_or(self.patience))
+    }
+
+    /// Takes the lock when the history has capacity for a begin, and renews it if no other thread does.
+    fn lock_with_capacity(&self, waiting: &mut Waiting) -> Result<Hold<'_>, Error> {
+        self.check_not_inside_renewal()?;
+        loop {
+            let mut state = self.lock();
+            if !state.is_nearly_full() || state.may_continue() {
+                return Ok(state);
+            }
+            if state.may_renew() {
+                self.renew(&mut state)?;
+                return Ok(state);
+            }
+            if waiting.rest().is_zero() {
+                return Err(Error::HistoryFull);
+            }
+            state.wait_for_capacity(current());
+            drop(state);
+            waiting.park();
+        }
+    }
+
+    /// Does the work before a renewal, and renews. After failed work the bank continues in the old history if it can.
+    fn renew(&self, state: &mut State) -> Result<(), Error> {
+        let begun = Instant::now();
+        if let Err(why) = self.work_before_renewal(state) {
+            state.metrics.failed_renewals += 1;
+            state.failed_renewal = Some((Instant::now() + RETRY, why.clone()));
+            if state.may_continue() {
+                return Ok(());
+            }
+            return Err(Error::RenewalFailed { why });
+        }
+        if self.may_start_twin && state.feed.is_none() && state.metrics.reports > 0 {
+            // without a thread, audits hold the lock as before
+            if let Ok((twin, feed)) = Twin::start(None, &self.weights) {
+                let _ = self.twin.set(twin);
+                state.feed = Some(feed);
+            }
+        }
+        state.renew()?;
+        state.metrics.count_renewal(begun.elapsed());
+        Ok(())
+    }
+
+    fn work_before_renewal(&self, state: &mut State) -> Result<(), String> {
+        let Some(work) = &self.before_renewal else {
+            return Ok(());
+        };
+        let outer = RENEWING.replace(Some(self.items.bank()));
+        let mut closing = Closing::of(state, &self.items);
+        let done = panic::catch_unwind(AssertUnwindSafe(|| work(&mut closing)));
+        RENEWING.set(outer);
+        match done {
+            Ok(done) => done.map_err(|error| error.to_string()),
+            Err(panic) => Err(format!("panicked: {}", text_of(panic.as_ref()))),
+        }
+    }
+
+    /// Begins a transaction. One that begins again keeps the age of its first attempt.
+    fn begin(
+        &self,
+        options: &Options,
+        is_query: bool,
+        age: Option<Age>,
+        mut waiting: Waiting,
+    ) -> Result<Handle<'_>, Error> {
+        let mut state = self.lock_with_capacity(&mut waiting)?;
+        let limit = options.limit;
+        let event = match is_query {
+            true => Event::BeginQuery {
+                limit,
+                strict: options.is_strict,
+            },
+            false => Event::BeginUpdate { limit },
+        };
+        let txn = match state.engine.step(event)? {
+            Reply::Begun(txn) => txn,
+            Reply::Refused(reason) => return Err(Refused::of(reason).limit(limit).into()),
+            other => unreachable!("{other:?}"),
+        };
+        state.log(event, txn, 0);
+        let handle = state.add(txn, is_query, limit, options.name.clone());
+        let age = age.unwrap_or_else(|| {
+            state.bodies += 1;
+            Age(state.bodies)
+        });
+        Ok(Handle {
+            bank: self,
+            me: Me {
+                handle,
+                age,
+                holds: Holds::Nothing,
+            },
+            waiting,
+            stop: None,
+            is_active: true,
+            is_query,
+            has_failed: false,
+        })
+    }
+
+    /// Runs a body in a transaction, and again in another one after it had to be given up.
+    fn run<T, E: From<Error>, R>(
+        &self,
+        options: &Options,
+        is_query: bool,
+        mut waiting: Waiting,
+        mut body: impl FnMut(&mut Handle<'_>) -> Result<T, E>,
+        end: impl Fn(Handle<'_>, T) -> Result<R, Error>,
+    ) -> Result<R, E> {
+        let mut age = None;
+        loop {
+            let mut handle = self.begin(options, is_query, age, waiting)?;
+            if handle.is_query {
+                self.wake_twin();
+            }
+            age = Some(handle.me.age);
+            let result = body(&mut handle);
+            let why = match (handle.stop.take(), result) {
+                (None, Ok(value)) => return end(handle, value).map_err(E::from),
+                (None, Err(error)) => return Err(error),
+                (Some(why), _) => why,
+            };
+            waiting = handle.waiting.of_next_attempt();
+            let is_deadlock = matches!(why, Error::Deadlock(_));
+            let renewals = self.count_rerun(is_deadlock);
+            match (&why, handle.abort()) {
+                (Error::Deadlock(_), Some(txn)) => self.wait_for_end(txn, renewals, &mut waiting),
+                (Error::HistoryFull, _) => waiting.spend_share(),
+                _ => _ = waiting.pause_for_attempt(),
+            }
+            if waiting.rest().is_zero() {
+                self.lock().metrics.aborts += 1;
+                return Err(why.into());
+            }
+        }
+    }
+
+    /// Counts an attempt that is given up. Returns the number of renewals.
+    fn count_rerun(&self, is_deadlock: bool) -> u64 {
+        let mut state = self.lock();
+        state.metrics.reruns += 1;
+        state.metrics.deadlocks += u64::from(is_deadlock);
+        state.renewals
+    }
+
+    fn wake_twin(&self) {
+        if let Some(twin) = self.twin.get() {
+            twin.wake();
+        }
+    }
+
+    /// Reports whether a transaction has ended, of the history after the given number of renewals.
+    fn has_ended(&self, txn: Txn, renewals: u64) -> bool {
+        let mut state = self.lock();
+        let account = state.engine.account(txn);
+        state.renewals != renewals
+            || account.map_or(true, |account| account.standing != Standing::Active)
+    }
+
+    /// Waits for the end of a transaction, as long as patience lasts.
+    fn wait_for_end(&self, txn: Txn, renewals: u64, waiting: &mut Waiting) {
+        let mut rounds = Rounds::default();
+        while !self.has_ended(txn, renewals) && waiting.pause(&mut rounds) {}
+    }
+}
+
+fn text_of(panic: &(dyn Any + Send)) -> String {
+    let text = panic.downcast_ref::<&str>().map(ToString::to_string);
+    text.or_else(|| panic.downcast_ref::<String>().cloned())
+        .unwrap_or_else(|| "a value that is not text".into())
+}
+
+/// Updates and reports.
+impl Bank {
+    /// Runs an update: runs the body and commits. After a deadlock, or when the update was blocked for some time or other
+    /// updates changed what it had read, the body runs again, until its [`Patience`] has ended. An error or panic of the
+    /// body aborts the update.
+    ///
+    /// The body runs on the committed values of one moment, and its events are executed together when it has ended. So it
+    /// must have no other effects, and must not begin other transactions in the bank. [`transact_stepwise`] executes each
+    /// event at once. [`try_transact`] is for bodies with their own error type.
+    ///
+    /// ```
+    /// let bank = esr::Bank::builder().item("checking", 500).item("savings", 1500).open()?;
+    /// let left = bank.transact(200, |transfer| {
+    ///     transfer.add("savings", 100)?;
+    ///     Ok(transfer.add("checking", -100)?)
+    /// })?;
+    /// assert_eq!(left, 400);
+    /// # Ok::<(), esr::Error>(())
+    /// ```
+    ///
+    /// # Errors
+    /// The body's, and when its patience has ended the last reason: `Deadlock`, `Refused`, `HistoryFull`.
+    ///
+    /// [`transact_stepwise`]: Bank::transact_stepwise
+    /// [`try_transact`]: Bank::try_transact
+    pub fn transact<T>(
+        &self,
+        options: impl Into<Options>,
+        body: impl FnMut(&mut BankUpdate<'_, '_>) -> Result<T, Error>,
+    ) -> Result<T, Error> {
+        self.try_transact(options, body)
+    }
+
+    /// Runs an update like [`transact`](Bank::transact), by a body with its own error type.
+    ///
+    /// ```
+    /// use esr::{Bank, Error};
+    ///
+    /// #[derive(Debug, PartialEq)]
+    /// enum Failed {
+    ///     TooLittle(i64),
+    ///     Engine(Error),
+    /// }
+    ///
+    /// impl From<Error> for Failed {
+    ///     fn from(error: Error) -> Failed {
+    ///         Failed::Engine(error)
+    ///     }
+    /// }
+    ///
+    /// let bank = Bank::builder().item("checking", 50).open()?;
+    /// let result = bank.try_transact(100, |update| match update.add("checking", -100)? {
+    ///     left if left < 0 => Err(Failed::TooLittle(left)),
+    ///     left => Ok(left),
+    /// });
+    /// assert_eq!(result, Err(Failed::TooLittle(-50)));
+    /// assert_eq!(bank.value("checking")?, 50);
+    /// # Ok::<(), Error>(())
+    /// ```
+    ///
+    /// # Errors
+    /// Those of [`transact`](Bank::transact).
+    pub fn try_transact<T, E: From<Error>>(
+        &self,
+        options: impl Into<Options>,
+        mut body: impl FnMut(&mut BankUpdate<'_, '_>) -> Result<T, E>,
+    ) -> Result<T, E> {
+        let options = options.into();
+        let mut waiting = None;
+        if self.is_optimistic && options.limit <= MAX_LIMIT {
+            let _counter = PanicCounter(&self.dropped);
+            if let Some(result) = self.run_ahead(&options, &mut waiting, &mut body) {
+                return result;
+            }
+        }
+        let waiting = waiting.unwrap_or_else(|| self.waiting_of(&options));
+        self.run_stepwise(&options, waiting, body)
+    }
+
+    /// Runs an update like [`transact`](Bank::transact), but executes each event at once: the update takes its locks as the
+    /// body runs, and a report that reads meanwhile sees its work in progress and is charged for it.
+    ///
+    /// ```
+    /// let bank = esr::Bank::builder().item("checking", 500).open()?;
+    /// bank.transact_stepwise(100, |update| {
+    ///     update.add("checking", -100)?;
+    ///     assert_eq!(bank.report_unaudited(100, |report| report.read("checking"))?.0, 400);
+    ///     Ok(())
+    /// })?;
+    /// # Ok::<(), esr::Error>(())
+    /// ```
+    ///
+    /// # Errors
+    /// Those of [`transact`](Bank::transact).
+    pub fn transact_stepwise<T>(
+        &self,
+        options: impl Into<Options>,
+        body: impl FnMut(&mut BankUpdate<'_, '_>) -> Result<T, Error>,
+    ) -> Result<T, Error> {
+        self.try_transact_stepwise(options, body)
+    }
+
+    /// Runs an update like [`transact_stepwise`](Bank::transact_stepwise), by a body with its own error type.
+    ///
+    /// ```
+    /// let bank = esr::Bank::builder().item("checking", 50).open()?;
+    /// let result = bank.try_transact_stepwise(100, |update| match update.add("checking", -100)? {
+    ///     left if left < 0 => Err(Box::<dyn std::error::Error>::from("too little")),
+    ///     left => Ok(left),
+    /// });
+    /// assert_eq!(result.unwrap_err().to_string(), "too little");
+    /// # Ok::<(), esr::Error>(())
+    /// ```
+    ///
+    /// # Errors
+    /// Those of [`transact`](Bank::transact).
+    pub fn try_transact_stepwise<T, E: From<Error>>(
+        &self,
+        options: impl Into<Options>,
+        body: impl FnMut(&mut BankUpdate<'_, '_>) -> Result<T, E>,
+    ) -> Result<T, E> {
+        let options = options.into();
+        let waiting = self.waiting_of(&options);
+        self.run_stepwise(&options, waiting, body)
+    }
+
+    fn run_stepwise<T, E: From<Error>>(
+        &self,
+        options: &Options,
+        waiting: Waiting,
+        mut body: impl FnMut(&mut BankUpdate<'_, '_>) -> Result<T, E>,
+    ) -> Result<T, E> {
+        self.run(
+            options,
+            false,
+            waiting,
+            |handle| {
+                let mode = Mode::Steps(handle);
+                body(&mut BankUpdate { mode })
+            },
+            |handle, value| handle.commit().map(|()| value),
+        )
+    }
+
+    /// Runs a report: begins a query, runs the body, commits, and audits. The body runs again as that of an update does.
+    ///
+    /// ```
+    /// let bank = esr::Bank::builder().item("checking", 500).item("savings", 1500).open()?;
+    /// let (sum, finding) = bank.report(100, |report| Ok(report.read("checking")? + report.read("savings")?))?;
+    /// assert_eq!((sum, finding.distance), (2000, 0));
+    /// # Ok::<(), esr::Error>(())
+    /// ```
+    ///
+    /// # Errors
+    /// Those of [`transact`](Bank::transact).
+    pub fn report<T>(
+        &self,
+        options: impl Into<Options>,
+        body: impl FnMut(&mut BankQuery<'_, '_>) -> Result<T, Error>,
+    ) -> Result<(T, Finding), Error> {
+        self.try_report(options, body)
+    }
+
+    /// Runs a report like [`report`](Bank::report), by a body with its own error type.
+    ///
+    /// ```
+    /// let bank = esr::Bank::builder().item("checking", 50).open()?;
+    /// let result = bank.try_report(100, |report| match report.read("checking")? {
+    ///     left if left < 100 => Err(Box::<dyn std::error::Error>::from("too little")),
+    ///     left => Ok(left),
+    /// });
+    /// assert_eq!(result.unwrap_err().to_string(), "too little");
+    /// # Ok::<(), esr::Error>(())
+    /// ```
+    ///
+    /// # Errors
+    /// Those of [`transact`](Bank::transact).
+    pub fn try_report<T, E: From<Error>>(
+        &self,
+        options: impl Into<Options>,
+        body: impl FnMut(&mut BankQuery<'_, '_>) -> Result<T, E>,
+    ) -> Result<(T, Finding), E> {
+        self.query(&options.into(), body, |handle, value| {
+            Ok((value, handle.commit_and_audit()?))
+        })
+    }
+
+    /// Runs a strict report: its audit places it after all updates that had committed when it began.
+    ///
+    /// ```
+    /// let bank = esr::Bank::builder().item("checking", 500).open()?;
+    /// bank.transact(0, |update| update.write("checking", 400))?;
+    /// let (value, finding) = bank.strict_report(100, |report| report.read("checking"))?;
+    /// assert_eq!((value, finding.distance, finding.before.len()), (400, 0, 1));
+    /// # Ok::<(), esr::Error>(())
+    /// ```
+    ///
+    /// # Errors
+    /// Those of [`transact`](Bank::transact).
+    pub fn strict_report<T>(
+        &self,
+        options: impl Into<Options>,
+        body: impl FnMut(&mut BankQuery<'_, '_>) -> Result<T, Error>,
+    ) -> Result<(T, Finding), Error> {
+        self.try_report(options.into().strict(), body)
+    }
+
+    /// Runs a report that is audited later: by [`audit`](Bank::audit), or before the bank is renewed.
+    ///
+    /// ```
+    /// let bank = esr::Bank::builder().item("checking", 500).open()?;
+    /// let (value, report) = bank.report_unaudited(100, |report| report.read("checking"))?;
+    /// println!("{value}, off by {}", bank.audit(report)?.distance);
+    /// # Ok::<(), esr::Error>(())
+    /// ```
+    ///
+    /// # Errors
+    /// Those of [`transact`](Bank::transact).
+    pub fn report_unaudited<T>(
+        &self,
+        options: impl Into<Options>,
+        body: impl FnMut(&mut BankQuery<'_, '_>) -> Result<T, Error>,
+    ) -> Result<(T, Report), Error> {
+        self.query(&options.into(), body, |handle, value| {
+            Ok((value, handle.commit_as_due()?))
+        })
+    }
+
+    fn query<T, E: From<Error>, R>(
+        &self,
+        options: &Options,
+        mut body: impl FnMut(&mut BankQuery<'_, '_>) -> Result<T, E>,
+        end: impl Fn(Handle<'_>, T) -> Result<R, Error>,
+    ) -> Result<R, E> {
+        self.run(
+            options,
+            true,
+            self.waiting_of(options),
+            |handle| body(&mut BankQuery { handle }),
+            end,
+        )
+    }
+}
+
+/// Committed reports and the history.
+impl Bank {
+    fn report_of(&self, state: &State, query: Txn) -> Report {
+        Report {
+            bank: self.items.bank(),
+            renewals: state.renewals,
+            query,
+        }
+    }
+
+    /// Takes the lock, if the history still has the report.
+    fn lock_with(&self, report: Report) -> Result<Hold<'_>, Error> {
+        self.check_not_inside_renewal()?;
+        let state = self.lock();
+        if report.bank != self.items.bank() {
+            return Err(Error::NotACommittedQuery);
+        }
+        if report.renewals != state.renewals {
+            return Err(Error::ReportExpired);
+        }
+        Ok(state)
+    }
+
+    /// Audits a report that ended without an audit.
+    ///
+    /// ```
+    /// let bank = esr::Bank::builder().item("checking", 500).open()?;
+    /// let (_, report) = bank.report_unaudited(100, |report| report.read("checking"))?;
+    /// assert_eq!(bank.audit(report)?.to_string(), "distance 0 import 0 before -");
+    /// # Ok::<(), esr::Error>(())
+    /// ```
+    ///
+    /// # Errors
+    /// `ReportExpired` if the bank has been renewed since, `NotACommittedQuery` for another bank's report, `NoMemory`.
+    pub fn audit(&self, report: Report) -> Result<Finding, Error> {
+        let mut state = self.lock_with(report)?;
+        state.due.retain(|due| *due != report.query);
+        self.audit_of(state, report)
+    }
+
+    /// Audits a committed report, on the second engine if there is one.
+    fn audit_of<'a>(&'a self, mut state: Hold<'a>, report: Report) -> Result<Finding, Error> {
+        let begun = Instant::now();
+        let found = match &mut state.feed {
+            Some(feed) => {
+                let receiver = feed.ask(report.query);
+                drop(state);
+                self.wake_twin();
+                let found = receiver.recv().unwrap_or(Err(Error::NoMemory));
+                state = self.lock();
+                state.metrics.background_audits += u64::from(found.is_ok());
+                found
+            }
+            None => Err(Error::NoMemory),
+        };
+        let finding = match found {
+            // the second engine was given up, or none was asked for
+            Err(Error::NoMemory) if state.renewals == report.renewals => {
+                state.engine.audit(report.query)?
+            }
+            found => found?,
+        };
+        state.metrics.count_audit(&finding, begun.elapsed());
+        Ok(finding)
+    }
+
+    /// Returns the history since the last renewal as a script of `esr run`, with the accepted and blocked events. Items have
+    /// their names; one that is not a name of a script (a letter, and up to 15 letters, digits or underscores) is called
+    /// `i` and its number. Transactions are called `t1`, `t2`, or by their name: see [`Options::name`].
+    ///
+    /// ```
+    /// let bank = esr::Bank::builder().item("checking", 500).open()?;
+    /// bank.transact(0, |update| update.add("checking", -100))?;
+    /// let script = bank.script()?;
+    /// assert!(script.starts_with("item checking 500\nbegin t1 update 0\n"));
+    /// # Ok::<(), esr::Error>(())
+    /// ```
+    ///
+    /// # Errors
+    /// `NoMemory`.
+    pub fn script(&self) -> Result<String, Error> {
+        self.check_not_inside_renewal()?;
+        let mut state = self.lock();
+        let text = state.engine.script_by(self.items.texts())?;
+        Ok(self.named(&state, text))
+    }
+
+    fn named(&self, state: &State, text: String) -> String {
+        if state.names.is_empty() {
+            return text;
+        }
+        with_names(text, &self.items, |txn| {
+            state.names.get(&txn).map(Cow::as_ref)
+        })
+    }
+
+    /// Explains a report as `esr explain` does: each read with the value of the nearest serial placement, and each charge
+    /// with the update that caused it.
+    ///
+    /// ```
+    /// let bank = esr::Bank::builder().item("checking", 500).open()?;
+    /// let (_, report) = bank.report_unaudited(0, |report| report.read("checking"))?;
+    /// assert_eq!(
+    ///     bank.explain(report)?,
+    ///     "read checking 500 nearest 500 off 0\nbefore -\nafter -\ndistance 0 import 0\n"
+    /// );
+    /// assert!(bank.picture(report)?.starts_with("<svg"));
+    /// # Ok::<(), esr::Error>(())
+    /// ```
+    ///
+    /// # Errors
+    /// Those of [`audit`](Bank::audit).
+    pub fn explain(&self, report: Report) -> Result<String, Error> {
+        let mut state = self.lock_with(report)?;
+        let text = state.engine.explain_by(report.query, self.items.texts())?;
+        Ok(self.named(&state, text))
+    }
+
+    /// Draws the audit of a report as one SVG, in which transactions have their numbers.
+    ///
+    /// ```
+    /// let bank = esr::Bank::builder().item("checking", 500).open()?;
+    /// let (_, report) = bank.report_unaudited(100, |report| report.read("checking"))?;
+    /// assert!(bank.picture(report)?.starts_with("<svg"));
+    /// # Ok::<(), esr::Error>(())
+    /// ```
+    ///
+    /// # Errors
+    /// Those of [`audit`](Bank::audit).
+    pub fn picture(&self, report: Report) -> Result<String, Error> {
+        let mut state = self.lock_with(report)?;
+        state.engine.picture_by(report.query, self.items.texts())
+    }
+
+    /// Returns the ledger of the history since the last renewal as CSV, a line for each transaction: see
+    /// [`Engine::ledger`](crate::Engine::ledger).
+    ///
+    /// ```
+    /// let bank = esr::Bank::builder().item("checking", 500).open()?;
+    /// bank.transact(200, |update| update.add("checking", -100))?;
+    /// assert!(bank.ledger()?.contains("\n1,t1,update,200,0,200,"));
+    /// # Ok::<(), esr::Error>(())
+    /// ```
+    ///
+    /// # Errors
+    /// `NoMemory`.
+    pub fn ledger(&self) -> Result<String, Error> {
+        self.check_not_inside_renewal()?;
+        let mut state = self.lock();
+        let text = state.engine.ledger()?;
+        Ok(self.named(&state, text))
+    }
+
+    /// Returns the size of the history since the last renewal, and what is left of it.
+    ///
+    /// ```
+    /// let bank = esr::Bank::builder().item("checking", 500).open()?;
+    /// bank.transact(0, |update| update.add("checking", -100))?;
+    /// let counts = bank.counts();
+    /// assert_eq!((counts.transactions, counts.active), (1, 0));
+    /// # Ok::<(), esr::Error>(())
+    /// ```
+    #[must_use]
+    pub fn counts(&self) -> Counts {
+        self.lock().engine.counts()
+    }
+
+    /// Returns the total import since the last renewal, and the number of entries.
+    ///
+    /// ```
+    /// let bank = esr::Bank::builder().item("checking", 500).open()?;
+    /// assert_eq!(bank.totals().import, 0);
+    /// # Ok::<(), esr::Error>(())
+    /// ```
+    #[must_use]
+    pub fn totals(&self) -> Totals {
+        self.lock().engine.totals()
+    }
+}
+
+/// Values, and what an operator watches.
+impl Bank {
+    /// Returns a handle of an item, by which it is read and written without a look-up of its name.
+    ///
+    /// ```
+    /// let bank = esr::Bank::builder().item("checking", 500).open()?;
+    /// let checking = bank.item("checking")?;
+    /// assert_eq!(bank.report(0, |report| report.read(checking))?.0, 500);
+    /// # Ok::<(), esr::Error>(())
+    /// ```
+    ///
+    /// # Errors
+    /// `Refused` if no item has that name.
+    pub fn item(&self, name: &str) -> Result<Item, Error> {
+        Ok(Item {
+            bank: self.items.bank(),
+            number: name.number(&self.items)?,
+        })
+    }
+
+    /// Returns the committed value of an item, without the lock.
+    ///
+    /// ```
+    /// let bank = esr::Bank::builder().item("checking", 500).open()?;
+    /// assert_eq!(bank.value("checking")?, 500);
+    /// # Ok::<(), esr::Error>(())
+    /// ```
+    ///
+    /// # Errors
+    /// `Refused` if no item has that name.
+    pub fn value(&self, item: impl ItemKey) -> Result<i64, Error> {
+        Ok(self.mirror.value(item.number(&self.items)?))
+    }
+
+    /// Returns the committed values of all items at one moment, by their names. They are exact and need no limit. Values
+    /// that an active update has written are not among them: a report reads those, and its audit computes by how much it
+    /// is off.
+    ///
+    /// ```
+    /// let bank = esr::Bank::builder().item("checking", 500).item("savings", 1500).open()?;
+    /// let snapshot = bank.snapshot()?;
+    /// assert_eq!((snapshot["checking"], snapshot.values().sum::<i64>()), (500, 2000));
+    /// # Ok::<(), esr::Error>(())
+    /// ```
+    ///
+    /// # Errors
+    /// `NoMemory`.
+    pub fn snapshot(&self) -> Result<HashMap<&str, i64>, Error> {
+        let values = self.snapshot_in_order()?;
+        Ok(self.items.names().zip(values).collect())
+    }
+
+    /// Returns a [`snapshot`](Bank::snapshot) in the order in which the builder was given the items.
+    ///
+    /// ```
+    /// let bank = esr::Bank::builder().item("checking", 500).item("savings", 1500).open()?;
+    /// assert_eq!(bank.snapshot_in_order()?, [500, 1500]);
+    /// # Ok::<(), esr::Error>(())
+    /// ```
+    ///
+    /// # Errors
+    /// `NoMemory`.
+    pub fn snapshot_in_order(&self) -> Result<Vec<i64>, Error> {
+        self.check_not_inside_renewal()?;
+        self.lock().engine.values()
+    }
+
+    /// Returns counters since the bank was opened.
+    ///
+    /// ```
+    /// let bank = esr::Bank::builder().item("checking", 500).open()?;
+    /// bank.transact(0, |update| update.add("checking", -100))?;
+    /// assert_eq!(bank.metrics().updates, 1);
+    /// # Ok::<(), esr::Error>(())
+    /// ```
+    #[must_use]
+    pub fn metrics(&self) -> Metrics {
+        let state = self.lock();
+        let mut metrics = state.metrics.clone();
+        metrics.aborts += self.dropped.load(Ordering::Relaxed);
+        metrics.active = state.active.len() as u64;
+        let ages = state.active.iter().map(|active| active.since.elapsed());
+        metrics.oldest_active = ages.max().unwrap_or_default();
+        metrics
+    }
+
+    /// Returns the active transactions, the oldest first. Bodies that run optimistically are not among them.
+    ///
+    /// ```
+    /// let bank = esr::Bank::builder().item("checking", 500).open()?;
+    /// assert!(bank.active().is_empty());
+    /// # Ok::<(), esr::Error>(())
+    /// ```
+    #[must_use]
+    pub fn active(&self) -> Vec<Active> {
+        let mut state = self.lock();
+        let handles = state.active.iter().map(|active| active.handle);
+        let handles: Vec<u64> = handles.collect();
+        let charges: Vec<u64> = handles.iter().map(|h| state.charged(*h)).collect();
+        let mut list = Vec::with_capacity(charges.len());
+        for (active, charged) in state.active.iter().zip(charges) {
+            let wait = state.waits.wait_of(active.txn);
+            list.push(Active {
+                txn: active.txn,
+                name: active.name.as_ref().map(ToString::to_string),
+                is_query: active.is_query,
+                age: active.since.elapsed(),
+                limit: active.limit,
+                charged,
+                waits_for: wait.and_then(|(blocker, _)| blocker),
+                waits_at: wait.map(|(_, item)| self.items.name(item).to_owned()),
+            });
+        }
+        list.sort_by_key(|active| active.txn);
+        list
+    }
+
+    /// Returns why the last renewal failed, if its work failed and it has not succeeded since.
+    ///
+    /// ```
+    /// let bank = esr::Bank::builder().item("checking", 500).open()?;
+    /// assert_eq!(bank.renewal_failure(), None);
+    /// # Ok::<(), esr::Error>(())
+    /// ```
+    #[must_use]
+    pub fn renewal_failure(&self) -> Option<String> {
+        let state = self.lock();
+        state.failed_renewal.as_ref().map(|(_, why)| why.clone())
+    }
+
+    /// Returns how often the bank has been renewed.
+    ///
+    /// ```
+    /// let bank = esr::Bank::builder().item("checking", 500).open()?;
+    /// assert_eq!(bank.renewals(), 0);
+    /// # Ok::<(), esr::Error>(())
+    /// ```
+    #[must_use]
+    pub fn renewals(&self) -> u64 {
+        self.lock().renewals
+    }
+}
+
+impl fmt::Debug for Bank {
+    fn fmt(&self, f: &mut fmt::Formatter<'_>) -> fmt::Result {
+        f.debug_struct("Bank")
+            .field("items", &self.items.len())
+            .finish_non_exhaustive()
+    }
+}

@@ -1,0 +1,168 @@
+//! The bank's protocol under every schedule of small cases, over the engine itself.
+
+use super::*;
+use crate::{
+    engine::MAX_TRANSACTIONS,
+    interleave::{Depth, explore},
+};
+use std::{sync::Arc, time::Duration};
+
+type Body = fn(&Bank);
+
+/// Within this time no timeout ends.
+const PROMPT: Duration = Duration::from_micros(400);
+
+/// Returns a bank of two accounts. Its history is due for a renewal after three transactions, of which `used` have ended, if
+/// there are any.
+fn bank(used: u32) -> Arc<Bank> {
+    let items = [("a", 10), ("b", 20)];
+    let builder = Bank::builder().items(items).background_audits(false);
+    let bank = builder.open().expect("two items");
+    if used > 0 {
+        let mut state = bank.lock();
+        state.reserved = u64::from(MAX_TRANSACTIONS) - 3;
+        for _ in 0..used {
+            let txn = state.engine.begin_update(0).expect("it has capacity");
+            state.engine.abort(txn).expect("it is active");
+        }
+    }
+    Arc::new(bank)
+}
+
+fn values(bank: &Bank) -> (i64, i64) {
+    let values = bank.snapshot_in_order().expect("memory");
+    let mirrored = (bank.value("a").unwrap(), bank.value("b").unwrap());
+    assert_eq!(
+        mirrored,
+        (values[0], values[1]),
+        "the mirror differs from the engine"
+    );
+    (values[0], values[1])
+}
+
+/// Checks the end of a run: nothing is active, and no thread waited for its timeout.
+fn check_end(bank: &Bank, now: Duration, max: Duration) {
+    assert_eq!(bank.counts().active, 0, "a transaction stays active");
+    assert!(bank.active().is_empty());
+    assert!(now < max, "a wake-up was lost: {now:?}");
+}
+
+fn transfer(update: &mut BankUpdate<'_, '_>) -> Result<(), Error> {
+    let (a, b) = (update.read("a")?, update.read("b")?);
+    assert_eq!(a + b, 30, "a body saw half a commit");
+    update.write("a", a - 1)?;
+    update.write("b", b + 1)
+}
+
+/// Optimistic updates, with a body that fails and a report alongside.
+#[test]
+fn optimistic_updates() {
+    let moves: Body = |bank| bank.transact(100, transfer).expect("it commits");
+    let fails: Body = |bank| {
+        let failed: Result<(), Error> = bank.transact(100, |update| {
+            transfer(update)?;
+            Err(Error::BadNames)
+        });
+        assert_eq!(failed, Err(Error::BadNames));
+    };
+    let reports: Body = |bank| {
+        let read = |report: &mut BankQuery<'_, '_>| Ok(report.read("a")? + report.read("b")?);
+        let (sum, finding) = bank.report(100, read).expect("it commits");
+        assert!(sum.abs_diff(30) <= finding.import);
+    };
+    for (bodies, moved) in [
+        (vec![moves, moves], 2),
+        (vec![moves, fails], 1),
+        (vec![moves, reports], 1),
+    ] {
+        let runs = explore(
+            Depth::coarse(2),
+            || (bank(0), bodies.clone()),
+            |bank, now| {
+                assert_eq!(values(bank), (10 - moved, 20 + moved), "an update was lost");
+                check_end(bank, now, PROMPT);
+            },
+        );
+        println!("{runs} schedules");
+    }
+}
+
+/// Step-by-step updates with locks: one waits for the other and is woken, and of a ring the victim runs again.
+#[test]
+fn locks_wakeups_and_victims() {
+    let up: Body = |bank| {
+        bank.transact_stepwise(100, |update| {
+            update.add("a", 1)?;
+            update.add("b", 1)
+        })
+        .expect("it commits");
+    };
+    let down: Body = |bank| {
+        bank.transact_stepwise(100, |update| {
+            update.add("b", 1)?;
+            update.add("a", 1)
+        })
+        .expect("it commits");
+    };
+    let ahead: Body = |bank| {
+        bank.transact(100, |update| {
+            update.add("b", 1)?;
+            update.add("a", 1)
+        })
+        .expect("it commits");
+    };
+    for bodies in [vec![up, up], vec![up, down], vec![up, ahead]] {
+        let runs = explore(
+            Depth::coarse(2),
+            || (bank(0), bodies.clone()),
+            |bank, now| {
+                assert_eq!(values(bank), (12, 22), "an update was lost");
+                // a transaction without locks may wait for its pause, but a ring does not wait for its share of 50 ms
+                check_end(bank, now, Duration::from_millis(25));
+            },
+        );
+        println!("{runs} schedules");
+    }
+}
+
+/// A renewal, which an update is carried over and a report holds off.
+#[test]
+fn renewals() {
+    let slow: Body = |bank| {
+        bank.transact_stepwise(100, |update| {
+            let a = update.add("a", 1)?;
+            assert_eq!(update.read("a")?, a, "a carried update lost its write");
+            update.add("b", 1)
+        })
+        .expect("it commits");
+    };
+    let quick: Body = |bank| {
+        bank.transact(100, |update| update.add("b", 1))
+            .expect("it commits");
+    };
+    let reports: Body = |bank| {
+        let read = |report: &mut BankQuery<'_, '_>| Ok(report.read("a")? + report.read("b")?);
+        let (_, report) = bank.report_unaudited(100, read).expect("it commits");
+        let found = bank.audit(report);
+        assert!(
+            found.is_ok() || found == Err(Error::ReportExpired),
+            "{found:?}"
+        );
+    };
+    for (used, bodies, ends) in [
+        (3, vec![slow, quick], (11, 22)),
+        (2, vec![reports, quick], (10, 21)),
+        (2, vec![slow, reports], (11, 21)),
+    ] {
+        let runs = explore(
+            Depth::coarse(2),
+            || (bank(used), bodies.clone()),
+            |bank, now| {
+                assert_eq!(values(bank), ends, "an update was lost");
+                assert!(bank.renewals() > 0);
+                check_end(bank, now, PROMPT);
+            },
+        );
+        println!("{runs} schedules");
+    }
+}

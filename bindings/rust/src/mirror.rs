@@ -1,0 +1,496 @@
+//! The committed values of a bank, readable without its lock, and the drafts of updates that read there.
+//!
+//! A body of an optimistic update runs on the [`Mirror`]: the committed value of each item with the number of the
+//! publication (the commit) that wrote it. The body's reads and writes become a [`Draft`], which the bank submits to the
+//! engine as one transaction in one hold of the lock (`bank::ahead`).
+//!
+//! # Why such an update is an ordinary transaction of the engine
+//!
+//! 1. *The engine executes it.* Begin, reads, writes and commit are calls like any others, made under the lock. So
+//!    everything that is promised of the engine's histories is true of these: limits, locks, serializable updates, audits.
+//!    The mirror is not trusted. The commit is sent only if each reply of the engine equals the value that the body saw
+//!    ([`Draft::judge`]); otherwise the transaction is aborted and the body runs again.
+//! 2. *The body is that transaction.* A body is a function of the values that it reads. The run that commits saw exactly the
+//!    replies in the history, so with these reads it writes the values in the history and returns the value that the caller
+//!    gets. The history omits a second read of an item (the lock would have kept the value), a read of the update's own
+//!    write, and a write that is overwritten in the same hold. No other transaction can observe these.
+//! 3. *Order.* The whole update happens within one hold during the call, so the order of the holds is a serial order that
+//!    respects real time. Updates that run step by step meet the same locks in the engine as ever.
+//! 4. *A body sees one moment.* Publications are numbered under the lock. One marks its items (odd version), stores the new
+//!    moment, and then stores values and versions. A read returns a value between two equal even versions. A version up to
+//!    the draft's moment was the value at that moment: a later publication would show its version or its mark, and an
+//!    earlier one set its mark before the moment was stored, so the read waited for it. For a newer version the moment moves
+//!    forward, if everything read before still has its version; otherwise the body is stopped with [`Error::Overtaken`]. So
+//!    not even a run that is discarded sees half of a commit, and an assertion in a body cannot fail because of one.
+//! 5. *Failures.* An error or panic of a body that was not overtaken leaves nothing to undo: the engine has not heard of it.
+//!
+//! The unit tests run reads, publications and submissions under every schedule (`interleave`), and `tests/mutants`
+//! plants the faults that this argument excludes: reads that are not compared, versions that are not checked, marks that are
+//! not set, an aborted draft that stays active.
+
+use crate::{
+    Error, Refusal,
+    error::Refused,
+    sync::{AtomicI64, AtomicU64, fence, spin_loop, yield_now},
+    sys,
+};
+use std::{cell::Cell, collections::HashMap, sync::atomic::Ordering};
+
+/// The largest absolute value of an item.
+pub(crate) const MAX_VALUE: i64 = 1_000_000_000_000;
+/// Up to this number of items a draft is searched linearly.
+const FEW: usize = 24;
+const READ: u32 = 2;
+const WRITE: u32 = 3;
+const COMMIT: u32 = 4;
+const NONE: u32 = u32::MAX;
+
+/// The committed value of an item.
+#[derive(Debug)]
+struct Mirrored {
+    /// The publication that wrote the value, an even number; odd while the next one is in progress.
+    version: AtomicU64,
+    value: AtomicI64,
+}
+
+/// The committed values of all items. Only the holder of the bank's lock publishes.
+#[derive(Debug)]
+pub(crate) struct Mirror {
+    /// The last publication.
+    now: AtomicU64,
+    items: Box<[Mirrored]>,
+}
+
+impl Mirror {
+    pub(crate) fn of(opening: &[i64]) -> Mirror {
+        let mirrored = |value: &i64| Mirrored {
+            version: AtomicU64::new(0),
+            value: AtomicI64::new(*value),
+        };
+        Mirror {
+            now: AtomicU64::new(0),
+            items: opening.iter().map(mirrored).collect(),
+        }
+    }
+
+    /// Returns the value of an item and the publication that wrote it.
+    fn read(&self, item: u32) -> (u64, i64) {
+        let mirrored = &self.items[item as usize];
+        let mut rounds = 0_u32;
+        loop {
+            let before = mirrored.version.load(Ordering::Acquire);
+            let value = mirrored.value.load(Ordering::Relaxed);
+            // a thread that has read a new value sees below that its publication had begun
+            fence(Ordering::Acquire);
+            if before % 2 == 0 && mirrored.version.load(Ordering::Relaxed) == before {
+                return (before, value);
+            }
+            rounds += 1;
+            if rounds % 64 == 0 {
+                yield_now();
+            }
+            spin_loop();
+        }
+    }
+
+    pub(crate) fn value(&self, item: u32) -> i64 {
+        self.read(item).1
+    }
+
+    /// Publishes the writes of a commit. Each item occurs at most once.
+    pub(crate) fn publish(&self, writes: impl Iterator<Item = (u32, i64)> + Clone) {
+        if writes.clone().next().is_none() {
+            return;
+        }
+        let next = self.now.load(Ordering::Relaxed) + 2;
+        for (item, _) in writes.clone() {
+            let version = &self.items[item as usize].version;
+            version.store(next - 1, Ordering::Relaxed);
+        }
+        // a thread that sees this moment, or a value of it, sees the marks and waits for the values
+        self.now.store(next, Ordering::Release);
+        fence(Ordering::Release);
+        for (item, value) in writes {
+            let mirrored = &self.items[item as usize];
+            mirrored.value.store(value, Ordering::Relaxed);
+            mirrored.version.store(next, Ordering::Release);
+        }
+    }
+}
+
+/// An item that a body has read or written.
+#[derive(Clone, Copy, Debug)]
+struct Touched {
+    item: u32,
+    /// The publication whose value the body has read, if it has read one.
+    version: Option<u64>,
+    /// The index of its read event, or `NONE`.
+    read: u32,
+    /// The index of its write event, or `NONE`.
+    write: u32,
+}
+
+/// The reads and writes of a body: of each item the first read, unless it was written before, and the last write, at the
+/// place of the first.
+#[derive(Default, Debug)]
+pub(crate) struct Draft {
+    /// The publication up to which all reads are of one moment.
+    moment: u64,
+    touched: Vec<Touched>,
+    /// The indices of the items in `touched`, once there are more than `FEW`.
+    places: HashMap<u32, usize>,
+    events: Vec<sys::Event>,
+    replies: Vec<sys::Reply>,
+    overtaken: bool,
+}
+
+/// Why a draft does not commit.
+#[derive(Clone, Copy, Debug)]
+pub(crate) enum Misfit {
+    /// The engine answered a read with another value.
+    Stale,
+    /// The engine refused an event.
+    Refused(sys::Reply),
+    /// The engine did not answer all events.
+    Unanswered,
+}
+
+thread_local! {
+    /// An unused draft, kept for its memory.
+    static SPARE: Cell<Option<Box<Draft>>> = const { Cell::new(None) };
+}
+
+impl Draft {
+    /// Returns an empty draft, reusing the last one of this thread.
+    pub(crate) fn take() -> Box<Draft> {
+        SPARE.take().unwrap_or_default()
+    }
+
+    pub(crate) fn put_back(self: Box<Draft>) {
+        SPARE.set(Some(self));
+    }
+
+    /// Clears the draft: the body runs again, on the current values.
+    pub(crate) fn restart(&mut self, mirror: &Mirror) {
+        self.touched.clear();
+        self.places.clear();
+        self.events.clear();
+        self.overtaken = false;
+        self.moment = mirror.now.load(Ordering::Acquire);
+    }
+
+    fn place(&self, item: u32) -> Option<usize> {
+        if self.touched.len() <= FEW {
+            self.touched.iter().position(|touched| touched.item == item)
+        } else {
+            self.places.get(&item).copied()
+        }
+    }
+
+    fn touch(&mut self, touched: Touched) {
+        let place = self.touched.len();
+        self.touched.push(touched);
+        if place == FEW {
+            let places = self.touched.iter().enumerate();
+            self.places
+                .extend(places.map(|(n, touched)| (touched.item, n)));
+        } else if place > FEW {
+            self.places.insert(touched.item, place);
+        }
+    }
+
+    fn push(&mut self, kind: u32, item: u32, value: i64) -> u32 {
+        let index = self.events.len() as u32;
+        self.events.push(sys::Event {
+            kind,
+            item,
+            value,
+            ..sys::Event::default()
+        });
+        index
+    }
+
+    /// Reports whether a value that the body has read is no longer the committed one, or is about to be replaced.
+    pub(crate) fn is_stale(&self, mirror: &Mirror) -> bool {
+        self.touched.iter().any(|touched| {
+            let version = &mirror.items[touched.item as usize].version;
+            touched
+                .version
+                .is_some_and(|seen| version.load(Ordering::Acquire) != seen)
+        })
+    }
+
+    /// Reports whether the body was stopped because other updates changed what it had read.
+    pub(crate) fn is_overtaken(&self) -> bool {
+        self.overtaken
+    }
+
+    pub(crate) fn read(&mut self, mirror: &Mirror, item: u32) -> Result<i64, Error> {
+        if self.overtaken {
+            return Err(Error::Overtaken);
+        }
+        if let Some(place) = self.place(item) {
+            let Touched { read, write, .. } = self.touched[place];
+            let event = if write == NONE { read } else { write };
+            return Ok(self.events[event as usize].value);
+        }
+        loop {
+            let (version, value) = mirror.read(item);
+            if version <= self.moment {
+                let read = self.push(READ, item, value);
+                self.touch(Touched {
+                    item,
+                    version: Some(version),
+                    read,
+                    write: NONE,
+                });
+                return Ok(value);
+            }
+            // the value is newer than the earlier reads: are these still the committed values at a later moment?
+            let now = mirror.now.load(Ordering::Acquire);
+            if self.is_stale(mirror) {
+                self.overtaken = true;
+                return Err(Error::Overtaken);
+            }
+            self.moment = now;
+        }
+    }
+
+    pub(crate) fn write(&mut self, item: u32, value: i64) -> Result<(), Error> {
+        if self.overtaken {
+            return Err(Error::Overtaken);
+        }
+        if !(-MAX_VALUE..=MAX_VALUE).contains(&value) {
+            return Err(Refused::of(Refusal::ValueOutOfRange).value(value).into());
+        }
+        match self.place(item) {
+            Some(place) if self.touched[place].write != NONE => {
+                let write = self.touched[place].write as usize;
+                self.events[write].value = value;
+            }
+            Some(place) => self.touched[place].write = self.push(WRITE, item, value),
+            None => {
+                let write = self.push(WRITE, item, value);
+                self.touch(Touched {
+                    item,
+                    version: None,
+                    read: NONE,
+                    write,
+                });
+            }
+        }
+        Ok(())
+    }
+
+    /// Returns the events as those of transaction `txn`, and a buffer for their replies.
+    pub(crate) fn events_of(&mut self, txn: u32) -> (&[sys::Event], &mut [sys::Reply]) {
+        for event in &mut self.events {
+            event.txn = txn;
+        }
+        let count = self.events.len();
+        if self.replies.len() < count {
+            self.replies.resize(count, sys::Reply::default());
+        }
+        (&self.events, &mut self.replies[..count])
+    }
+
+    pub(crate) fn events(&self) -> &[sys::Event] {
+        &self.events
+    }
+
+    /// Checks that all events were answered, and each as the body saw it.
+    pub(crate) fn judge(&self, answered: usize) -> Result<(), Misfit> {
+        for (event, reply) in self.events.iter().zip(&self.replies[..answered]) {
+            match (reply.kind, event.kind) {
+                (6, _) => return Err(Misfit::Refused(*reply)),
+                (2, READ) if reply.value == event.value => {}
+                (3, WRITE) => {}
+                _ => return Err(Misfit::Stale),
+            }
+        }
+        if answered == self.events.len() {
+            Ok(())
+        } else {
+            Err(Misfit::Unanswered)
+        }
+    }
+
+    /// Returns the written items with their last values.
+    pub(crate) fn writes(&self) -> impl Iterator<Item = (u32, i64)> + Clone {
+        let writes = self.events.iter().filter(|event| event.kind == WRITE);
+        writes.map(|event| (event.item, event.value))
+    }
+}
+
+/// Returns the event that commits a transaction.
+pub(crate) fn commit_of(txn: u32) -> sys::Event {
+    sys::Event {
+        kind: COMMIT,
+        txn,
+        ..sys::Event::default()
+    }
+}
+
+#[cfg(test)]
+mod tests {
+    use super::*;
+    use crate::interleave::{Depth, explore};
+    use std::{
+        sync::{Arc, atomic::AtomicBool},
+        thread,
+    };
+
+    fn draft_of(mirror: &Mirror) -> Draft {
+        let mut draft = Draft::default();
+        draft.restart(mirror);
+        draft
+    }
+
+    /// Events are the first read and the last write of each item, and a body reads its own writes.
+    #[test]
+    fn a_draft_is_minimal() {
+        let mirror = Mirror::of(&[500, 1500]);
+        let mut draft = draft_of(&mirror);
+        assert_eq!(draft.read(&mirror, 0), Ok(500));
+        assert_eq!(draft.read(&mirror, 0), Ok(500));
+        for value in [400, 300] {
+            assert_eq!(draft.write(0, value), Ok(()));
+            assert_eq!(draft.read(&mirror, 0), Ok(value));
+        }
+        assert_eq!(draft.write(1, 7), Ok(()));
+        assert_eq!(draft.read(&mirror, 1), Ok(7));
+        let kinds = draft.events.iter().map(|e| (e.kind, e.item, e.value));
+        let kinds: Vec<_> = kinds.collect();
+        assert_eq!(kinds, [(READ, 0, 500), (WRITE, 0, 300), (WRITE, 1, 7)]);
+        assert_eq!(draft.writes().collect::<Vec<_>>(), [(0, 300), (1, 7)]);
+        let refused = draft.write(0, MAX_VALUE + 1).unwrap_err();
+        assert_eq!(refused.refusal(), Some(Refusal::ValueOutOfRange));
+        assert_eq!(draft.write(0, -MAX_VALUE), Ok(()));
+    }
+
+    /// A draft of many items finds them as one of few does.
+    #[test]
+    fn a_draft_finds_many_items() {
+        let mirror = Mirror::of(&[3; 200]);
+        let mut draft = draft_of(&mirror);
+        for item in 0..200 {
+            assert_eq!(draft.read(&mirror, item), Ok(3));
+            assert_eq!(draft.write(item, item.into()), Ok(()));
+        }
+        for item in (0..200).rev() {
+            assert_eq!(draft.read(&mirror, item), Ok(item.into()));
+        }
+        assert_eq!(draft.events.len(), 400);
+    }
+
+    /// A newer value is read as long as earlier reads are still current; otherwise the body is stopped.
+    #[test]
+    fn reads_are_of_one_moment() {
+        let mirror = Mirror::of(&[1, 2, 3]);
+        let mut draft = draft_of(&mirror);
+        assert_eq!(draft.read(&mirror, 0), Ok(1));
+        mirror.publish([(1, 20)].into_iter());
+        assert_eq!(draft.read(&mirror, 1), Ok(20));
+        assert!(!draft.is_stale(&mirror));
+        mirror.publish([(0, 10), (2, 30)].into_iter());
+        assert!(draft.is_stale(&mirror));
+        assert_eq!(draft.read(&mirror, 2), Err(Error::Overtaken));
+        assert_eq!(draft.read(&mirror, 0), Err(Error::Overtaken));
+        assert_eq!(draft.write(0, 1), Err(Error::Overtaken));
+        draft.restart(&mirror);
+        assert_eq!(
+            (draft.read(&mirror, 2), draft.read(&mirror, 0)),
+            (Ok(30), Ok(10))
+        );
+    }
+
+    /// Reads two items whose sum is 0 at each moment.
+    fn read_both(mirror: &Mirror) {
+        let mut draft = draft_of(mirror);
+        if let (Ok(a), Ok(b)) = (draft.read(mirror, 0), draft.read(mirror, 1)) {
+            assert_eq!(a + b, 0, "a body saw half a commit");
+        }
+    }
+
+    /// In every schedule, and for every store that a load may observe, no reader sees half of a commit.
+    #[test]
+    fn no_schedule_shows_half_a_commit() {
+        let writers: [fn(&Mirror); 2] = [
+            |mirror| mirror.publish([(0, 5), (1, -5)].into_iter()),
+            |mirror| mirror.publish([(1, -7), (0, 7)].into_iter()),
+        ];
+        for writer in writers {
+            let test = || {
+                let mirror = Arc::new(Mirror::of(&[0, 0]));
+                (mirror, vec![writer, read_both as fn(&Mirror)])
+            };
+            let runs = explore(Depth::fine(2), test, |_, _| {});
+            println!("{runs} schedules");
+        }
+    }
+
+    /// In every schedule a draft that is not stale under the lock has read the values of that moment.
+    #[test]
+    fn no_schedule_passes_a_stale_draft() {
+        struct Shared {
+            mirror: Mirror,
+            lock: crate::gate::Lock<[i64; 2]>,
+        }
+        // each thread adds the other item's value plus one to its own item, as a submission does
+        fn add(shared: &Shared, mine: u32) {
+            let other = 1 - mine;
+            loop {
+                let mut draft = draft_of(&shared.mirror);
+                let both = (
+                    draft.read(&shared.mirror, mine),
+                    draft.read(&shared.mirror, other),
+                );
+                let (Ok(a), Ok(b)) = both else {
+                    spin_loop();
+                    continue;
+                };
+                draft.write(mine, a + b + 1).expect("it is in range");
+                let mut values = shared.lock.lock();
+                if draft.is_stale(&shared.mirror) {
+                    drop(values);
+                    spin_loop();
+                    continue;
+                }
+                assert_eq!((values[mine as usize], values[other as usize]), (a, b));
+                values[mine as usize] = a + b + 1;
+                shared.mirror.publish(draft.writes());
+                return;
+            }
+        }
+        let test = || {
+            let shared = Arc::new(Shared {
+                mirror: Mirror::of(&[0, 0]),
+                lock: crate::gate::Lock::new([0, 0]),
+            });
+            let threads: Vec<fn(&Shared)> = vec![|shared| add(shared, 0), |shared| add(shared, 1)];
+            (shared, threads)
+        };
+        let runs = explore(Depth::fine(2), test, |shared, _| {
+            let values = *shared.lock.lock();
+            assert!(values == [1, 2] || values == [2, 1], "{values:?}");
+        });
+        println!("{runs} schedules");
+    }
+
+    /// The same by real threads, many times.
+    #[test]
+    fn no_reader_sees_half_a_commit() {
+        let (mirror, open) = (Mirror::of(&[0; 2]), AtomicBool::new(true));
+        thread::scope(|threads| {
+            threads.spawn(|| {
+                for n in 1..100_000 {
+                    mirror.publish([(0, n), (1, -n)].into_iter());
+                }
+                open.store(false, Ordering::Relaxed);
+            });
+            while open.load(Ordering::Relaxed) {
+                read_both(&mirror);
+            }
+        });
+    }
+}

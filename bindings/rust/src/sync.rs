@@ -1,0 +1,30 @@
+//! The synchronization primitives of the bank's protocol.
+//!
+//! They are those of the standard library. In the crate's unit tests they are the simulated ones of `interleave`, which
+//! behave like these outside of a simulation. So the tests explore the code that runs, not a model of it.
+
+#[cfg(test)]
+pub(crate) use crate::interleave::{
+    AtomicI64, AtomicU64, Instant, Thread, current, fence, park_timeout, sleep, spin_loop,
+    uniform_draw, yield_now,
+};
+#[cfg(not(test))]
+pub(crate) use real::*;
+
+#[cfg(not(test))]
+mod real {
+    pub(crate) use std::{
+        hint::spin_loop,
+        sync::atomic::{AtomicI64, AtomicU64, fence},
+        thread::{Thread, current, park_timeout, sleep, yield_now},
+        time::Instant,
+    };
+
+    /// Returns a number that differs from call to call and from thread to thread.
+    pub(crate) fn uniform_draw() -> u64 {
+        use std::hash::{BuildHasher, Hasher};
+        std::collections::hash_map::RandomState::new()
+            .build_hasher()
+            .finish()
+    }
+}
