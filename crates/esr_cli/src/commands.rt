@@ -431,11 +431,7 @@ fn shell<'a>(alloc: Global) -> Command<'a>
     Command::new(alloc, "esr")
         .about("Epsilon-serializable transactions over integers")
         .after_help(help::SCRIPT)
-<<<<<<< HEAD
         .version(VERSION)
-=======
-        .version("0.3.0")
->>>>>>> main
         .subcommand_required(true)
 }
 

@@ -22,7 +22,7 @@ use clap::{ArgMatches, Error};
 use std::alloc::Global;
 
 /// The version of the program.
-pub const VERSION: &str = "0.2.0";
+pub const VERSION: &str = "0.3.0";
 
 /// What is done with the input.
 #[derive(Clone, Copy, PartialEq, Eq)]
