@@ -21,6 +21,9 @@ use crate::commands::program;
 use clap::{ArgMatches, Error};
 use std::alloc::Global;
 
+/// The version of the program.
+pub const VERSION: &str = "0.3.0";
+
 /// What is done with the input.
 #[derive(Clone, Copy, PartialEq, Eq)]
 pub enum Task<'a> {

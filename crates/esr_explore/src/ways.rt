@@ -50,13 +50,13 @@ impl fmt::Display for ExploreFault {
             ExploreFault::Drive(fault) => write!(f, "{fault}"),
             ExploreFault::TooManyOrders(Some(count)) => write!(
                 f,
-                "{count} interleavings: 100,000 are the most for --all; --seeds draws some"
+                "{count} interleavings (maximum 100,000 for --all); use --seeds to sample"
             ),
             ExploreFault::TooManyOrders(None) => f.write_str(
-                "more than 10^18 interleavings: 100,000 are the most for --all; --seeds draws some",
+                "more than 10^18 interleavings (maximum 100,000 for --all); use --seeds to sample",
             ),
             ExploreFault::TooManyLinesInBlocks => f.write_str(
-                "more than 1,000 lines in blocks: too many for --all; --seeds draws some",
+                "more than 1,000 lines in blocks, too many for --all; use --seeds to sample",
             ),
         }
     }

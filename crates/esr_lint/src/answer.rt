@@ -57,21 +57,21 @@ pub fn mistake_of<'a>(line: &'a [u8], answer: &'a [u8]) -> Option<FaultyLine<'a>
 /// What is meant by the number of an error or a refusal, where its words leave something open.
 fn hint_of(answer: &[u8]) -> &'static str {
     if answer.starts_with(b"error 2 ") {
-        ": items stand before all other lines"
+        ": items must be declared before all other lines"
     } else if answer.starts_with(b"error 3 ") {
-        ": each name is bound once"
+        ": names must be unique"
     } else if answer.starts_with(b"error 4 ") || answer.starts_with(b"refused 5 ") {
-        ": 1,000,000,000,000 is the most"
+        ": allowed range is -1,000,000,000,000 to 1,000,000,000,000"
     } else if answer.starts_with(b"error 5 ") {
-        ": 4,096 is the most"
+        ": maximum 4,096"
     } else if answer.starts_with(b"error 7 ") {
-        ": 1 to 1,000"
+        ": allowed range is 1 to 1,000"
     } else if answer.starts_with(b"refused 6 ") {
-        ": 1,000,000,000,000,000,000 is the most"
+        ": maximum 1,000,000,000,000,000,000"
     } else if answer.starts_with(b"refused 7 ") {
-        ": 65,535 is the most"
+        ": maximum 65,535"
     } else if answer.starts_with(b"refused 8 ") {
-        ": 1,000 is the most"
+        ": maximum 1,000"
     } else {
         ""
     }

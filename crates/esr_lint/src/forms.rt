@@ -26,12 +26,12 @@ static FORMS: [CommandSyntax; 8] = [
     CommandSyntax {
         word: "item",
         slots: &[Slot::Name, Slot::Value, Slot::Weight, Slot::Limit],
-        text: "item NAME VALUE, with or without weight W behind it",
+        text: "item NAME VALUE [weight W]",
     },
     CommandSyntax {
         word: "begin",
         slots: &[Slot::Name, Slot::Kind, Slot::Limit, Slot::Strict],
-        text: "begin NAME update LIMIT, or begin NAME query LIMIT, with or without strict behind it",
+        text: "begin NAME update LIMIT, or begin NAME query LIMIT [strict]",
     },
     CommandSyntax {
         word: "read",

@@ -4,7 +4,7 @@ use crate::answer::mistake_of;
 use crate::observer::{Observer, TxnEnd, TxnSummary};
 use crate::place::Source;
 use std::alloc::Global;
-use std::fmt::Write as _;
+use std::fmt::{Display, Write as _};
 use std::io::Write;
 
 /// How many bytes are written at once.
@@ -44,6 +44,21 @@ impl<'a, W: Write> Listing<'a, W> {
             count: 0,
             failed: None,
         }
+    }
+
+    /// Returns the writer.
+    pub fn writer(&self) -> &W {
+        &self.writer
+    }
+
+    /// Lists the line that ended the run, after the last one that was executed.
+    pub fn list_last(&mut self, column: usize, text: &impl Display) {
+        if self.failed.is_some() {
+            return;
+        }
+        let place = self.source.line(self.next_line());
+        let listed = writeln!(self.text, "{place}:{column}: {text}").is_ok();
+        self.note(listed);
     }
 
     /// How much was listed.
@@ -118,7 +133,11 @@ impl<W: Write> Observer for Listing<'_, W> {
             return;
         }
         let source = self.source;
-        let listed = writeln!(self.text, "{source}\"{name}\" is still active at the end").is_ok();
+        let listed = writeln!(
+            self.text,
+            "{source}transaction \"{name}\" is still active at the end"
+        )
+        .is_ok();
         self.note(listed);
     }
 

@@ -1,7 +1,7 @@
 //! Who looks on while the lines of a script are answered.
 
-/// How a transaction ended, or that it has not.
-#[derive(Clone, Copy)]
+/// Whether and how a transaction ended.
+#[derive(Clone, Copy, PartialEq, Eq)]
 pub enum TxnEnd {
     Active,
     Committed,
@@ -20,8 +20,8 @@ pub trait Observer {
     /// A line by its number, from 1, without its line feed, and what is answered: nothing to a line that is skipped.
     fn see_line(&mut self, number: u64, line: &[u8], answer: &[u8]);
 
-    /// A transaction after the last line, in the order of the begins. They are shown where a query that was asked for
-    /// is no committed one, and at the end of a listing.
+    /// Receives a transaction after the last line, in the order of the begins. They are shown before a text of the
+    /// whole script is made, if a query that was asked for is not a committed one, and at the end of a listing.
     fn see_transaction(&mut self, name: &str, status: TxnSummary);
 
     /// No more lines come. What the script leads to is not written yet.

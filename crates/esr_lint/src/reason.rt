@@ -53,11 +53,17 @@ pub struct Diagnosis<'a> {
     pub reason: Reason<'a>,
 }
 
-/// What is wrong with the encoding, whatever the words say.
+/// Returns whether at least every second byte is NUL, as in ASCII text that is saved as UTF-16. A single NUL byte is not.
+fn is_wide(line: &[u8]) -> bool {
+    let zeros = line.iter().filter(|byte| **byte == 0).count();
+    line.len() > 1 && zeros.saturating_mul(2) >= line.len().saturating_sub(1)
+}
+
+/// Returns the error of the encoding, whatever the words are.
 fn encoding_fault(line: &[u8]) -> Option<Reason<'_>> {
     if line.starts_with(b"\xEF\xBB\xBF") {
         Some(Reason::ByteOrderMark)
-    } else if line.starts_with(b"\xFF\xFE") || line.starts_with(b"\xFE\xFF") || line.contains(&0) {
+    } else if line.starts_with(b"\xFF\xFE") || line.starts_with(b"\xFE\xFF") || is_wide(line) {
         Some(Reason::Utf16)
     } else {
         None
@@ -335,9 +341,9 @@ impl fmt::Display for Shown<'_> {
 impl fmt::Display for Slot {
     fn fmt<W: fmt::Write>(&self, f: &mut fmt::Formatter<W>) -> fmt::Result {
         let text = match self {
-            Slot::Name => "a name",
-            Slot::Value => "a value",
-            Slot::Limit => "a limit",
+            Slot::Name => "name",
+            Slot::Value => "value",
+            Slot::Limit => "limit",
             Slot::Kind => "update or query",
             Slot::Weight => "weight",
             Slot::Strict => "strict",
@@ -349,16 +355,18 @@ impl fmt::Display for Slot {
 impl fmt::Display for NumberFault {
     fn fmt<W: fmt::Write>(&self, f: &mut fmt::Formatter<W>) -> fmt::Result {
         match self {
-            NumberFault::Plus => f.write_str("has a plus sign; write it without"),
-            NumberFault::Minus => f.write_str("is negative; limits and weights are not"),
-            NumberFault::MinusZero => f.write_str("is written 0"),
-            NumberFault::LeadingZero => f.write_str("has zeros in front; write it without"),
-            NumberFault::Fraction => f.write_str(
-                "has a fraction; numbers are whole (take a smaller unit, as cents)",
+            NumberFault::Plus => f.write_str("has a plus sign; remove it"),
+            NumberFault::Minus => f.write_str(
+                "is negative; limits and weights must not be negative",
             ),
-            NumberFault::Separator => f.write_str("has a separator; write its digits alone"),
-            NumberFault::TooLong(most) => write!(f, "has too many digits; {most} is the most"),
-            NumberFault::NoNumber => f.write_str("is no whole number"),
+            NumberFault::MinusZero => f.write_str("is not allowed; write 0"),
+            NumberFault::LeadingZero => f.write_str("has leading zeros; remove them"),
+            NumberFault::Fraction => f.write_str(
+                "has a fraction; only integers are allowed (use a smaller unit, such as cents)",
+            ),
+            NumberFault::Separator => f.write_str("has a digit separator; write digits only"),
+            NumberFault::TooLong(most) => write!(f, "has too many digits (maximum {most})"),
+            NumberFault::NoNumber => f.write_str("is not an integer"),
         }
     }
 }
@@ -379,39 +387,35 @@ fn push_hint<W: fmt::Write>(
 fn push_word<W: fmt::Write>(f: &mut fmt::Formatter<W>, reason: Reason<'_>) -> fmt::Result {
     match reason {
         Reason::UnknownCommand(word) => {
-            write!(f, "\"{}\" is no command", Shown(word))?;
+            write!(f, "unknown command \"{}\"", Shown(word))?;
             push_hint(f, word, first_words())
         }
         Reason::Keyword { word, slot } => {
-            write!(f, "\"{}\" stands in place of {slot}", Shown(word))?;
+            write!(f, "expected {slot}, found \"{}\"", Shown(word))?;
             push_hint(f, word, keywords(slot))
         }
         Reason::LongName(word) => write!(
             f,
-            "the name \"{}\" has {} letters; 16 is the most",
+            "name \"{}\" is {} characters long (maximum 16)",
             Shown(word),
             word.len()
         ),
         Reason::FirstOfName(word) => write!(
             f,
-            "the name \"{}\" does not begin with a letter",
+            "name \"{}\" does not start with a letter",
             Shown(word)
         ),
         Reason::ByteOfName { word, byte } => {
             write!(
                 f,
-                "the name \"{}\" has a \"{}\"; names are letters, digits and _",
+                "name \"{}\" contains \"{}\"; names may contain only letters, digits and _",
                 Shown(word),
                 Shown(&[byte])
             )
         }
         Reason::Number { word, fault } => write!(f, "\"{}\" {fault}", Shown(word)),
-        Reason::Extra { word, text } => write!(
-            f,
-            "\"{}\" is too much; the form is: {text}",
-            Shown(word)
-        ),
-        _ => f.write_str("no command"),
+        Reason::Extra { word, text } => write!(f, "unexpected \"{}\"; usage: {text}", Shown(word)),
+        _ => f.write_str("not a command"),
     }
 }
 
@@ -419,26 +423,28 @@ impl fmt::Display for Reason<'_> {
     fn fmt<W: fmt::Write>(&self, f: &mut fmt::Formatter<W>) -> fmt::Result {
         match *self {
             Reason::ByteOrderMark => f.write_str(
-                "a byte order mark is in front; save the file as UTF-8 without one",
+                "file starts with a byte order mark; save it as UTF-8 without one",
             ),
-            Reason::Utf16 => f.write_str("this is UTF-16; save the file as UTF-8"),
-            Reason::CarriageReturn => f.write_str(
-                "the line ends with a carriage return (CR LF); lines end with LF alone",
+            Reason::Utf16 => f.write_str("file is UTF-16; save it as UTF-8"),
+            Reason::CarriageReturn => f.write_str("line ends with CR LF; use LF only"),
+            Reason::Tab => f.write_str("tab character; separate words with a single space"),
+            Reason::BlankInFront => f.write_str("leading space"),
+            Reason::BlankBehind => f.write_str("trailing space"),
+            Reason::TwoBlanks => f.write_str(
+                "consecutive spaces; separate words with a single space",
             ),
-            Reason::Tab => f.write_str("a tab; one blank separates words"),
-            Reason::BlankInFront => f.write_str("a blank in front"),
-            Reason::BlankBehind => f.write_str("a blank at the end"),
-            Reason::TwoBlanks => f.write_str("two blanks; one separates words"),
             Reason::NotAscii(byte) => write!(
                 f,
-                "the byte \\x{byte:02x} is no ASCII character; names are letters, digits and _"
+                "byte \\x{byte:02x} is not printable ASCII; names may contain only letters, digits and _"
             ),
-            Reason::Session => f.write_str("\"session\" is of a drive file; esr drive runs one"),
+            Reason::Session => f.write_str(
+                "\"session\" is allowed only in drive files; use esr drive",
+            ),
             Reason::Comment => f.write_str(
-                "a comment behind a command; a comment is a line of its own",
+                "comment after a command; comments must be on their own line",
             ),
-            Reason::Missing { slot, text } => write!(f, "{slot} is missing; the form is: {text}"),
-            Reason::StrictUpdate => f.write_str("only a query can be strict"),
+            Reason::Missing { slot, text } => write!(f, "missing {slot}; usage: {text}"),
+            Reason::StrictUpdate => f.write_str("only queries can be strict"),
             other => push_word(f, other),
         }
     }

@@ -131,7 +131,7 @@ fn push_legend(out: &mut String, top: u64, charges: &[u64]) -> Result<(), AllocE
     let count = charges.len();
     let above = charges.iter().filter(|charge| **charge > top).count();
     out.push_str(
-        "<p class='key'><span><i class='chg'></i> charged</span> <span><i class='dis'></i> off by</span> <span><i class='lim'></i> limit, where it is not above the chart</span></p>\n<p>The top of the chart stands for ",
+        "<p class='key'><span><i class='chg'></i> charged</span> <span><i class='dis'></i> off by</span> <span><i class='lim'></i> limit, unless it is above the chart</span></p>\n<p>The top of the chart stands for ",
     )?;
     push_number(out, top)?;
     out.push('.')?;

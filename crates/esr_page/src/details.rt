@@ -143,8 +143,8 @@ pub fn heading_of(rows: &[QueryRow<'_>], told: &[TxnId]) -> &'static str {
     if told.is_empty() {
         ""
     } else if rows.iter().any(|row| row.distance().unwrap_or(0) > 0) {
-        "<h2>The farthest off</h2>\n"
+        "<h2>Largest distances</h2>\n"
     } else {
-        "<h2>None was off; these were charged most</h2>\n"
+        "<h2>All exact; the queries with the largest charges</h2>\n"
     }
 }

@@ -15,4 +15,4 @@ mod rows;
 mod style;
 mod table;
 
-pub use page::Page;
+pub use page::{Origin, Page};

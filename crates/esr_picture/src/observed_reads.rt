@@ -80,9 +80,9 @@ fn fate_of(
         .is_some_and(|facts| facts.end.is_some());
     match trace.end(writer) {
         WriterEnd::Aborted => Some("aborted"),
-        WriterEnd::Later if has_ended => Some("committed only later"),
+        WriterEnd::Later if has_ended => Some("committed later"),
         WriterEnd::Later => Some("never ended"),
-        WriterEnd::Committed if observed.overwritten => Some("wrote over it"),
+        WriterEnd::Committed if observed.overwritten => Some("overwrote it"),
         WriterEnd::Committed => None,
     }
 }

@@ -287,6 +287,7 @@ impl<'a> SceneParts<'a> {
         let finding = self.audited_query.finding;
         let (others_off, others_sum) = others_off(&self.choice);
         Scene {
+            errors: Vec::new(*sentences.allocator()),
             query: name_of_transaction(self.audited_query.transactions, finding.query),
             distance: finding.distance,
             import: finding.import,

@@ -7,6 +7,7 @@
 
 mod answers;
 mod audit_text;
+mod audited;
 mod book;
 mod bundles;
 mod copier;
@@ -27,7 +28,8 @@ mod silent_run;
 mod sink;
 mod stage;
 
-pub use audit_text::audit;
+pub use audit_text::{audit, audit_silently};
+pub use audited::AuditedScript;
 pub use bundles::{certify, certify_steps};
 pub use copier::TeeReader;
 pub use esr_board::{Gate, NoGate};

@@ -10,7 +10,7 @@ ghost use Rattle.esr_report.specs.Subjects.{named_by};
 ghost use Rattle.esr_script.specs.Text.{Executes, EndsIn, start, closed, transaction_called, item_called, item_error, with_item, begin, ask, execute, answer, ScriptState};
 ghost use Rattle.esr_script.specs.Stages.{IsBegin, is_running, history_of};
 ghost use Rattle.esr_views.specs.Ask.{IsAnswered, IsFoundOf, IsRecorded};
-ghost use Rattle.esr_script.specs.Audit.{audit_output};
+ghost use Rattle.esr_script.specs.Audit.{IsAuditedScript, audit_output};
 ghost use Rattle.esr_history.specs.Queries.{is_committed_query};
 ghost use Rattle.esr_grammar.specs.Command.{view, Spells};
 ghost use Rattle.std.specs.List.{join_with_byte};
@@ -19,6 +19,7 @@ ghost use Rattle.esr_script.specs.Echoes.{IsEcho};
 ghost use Rattle.esr_base.specs.declared.limits.TheConstants.{MAX_ENTRIES, MAX_ITEMS};
 ghost use Rattle.esr_grammar.specs.Command as command;
 
+use crate::audited::AuditedScript;
 use crate::book::push_audit;
 use crate::echo::{Echo, push_reply};
 use crate::fault::RunFault;
@@ -409,6 +410,32 @@ impl Script {
             transactions,
             history: stage.into_history(),
             lines,
+        })
+    }
+
+    /// Ends the run, and audits the whole history with `workers` threads.
+    pub fn into_audited<T: Threads + Sync, G: Gate + Sync>(
+        mut self,
+        rt: &T,
+        workers: u64,
+        gate: &G,
+    ) -> Result<AuditedScript, RunFault>
+        requires { (1 ≤ workers) × (workers ≤ MAX_SEATS) }
+        ensures audited { IfOk result (IsAuditedScript self) }
+        ensures faults { IfErr result (λ e. e ≡ RunFault.NoMemory) }
+    {
+        self.stage.ensure_started(self.alloc)?;
+        let found = self.stage.audit_all(rt, self.alloc, workers, gate)?;
+        let Script {
+            alloc: _,
+            items: _items,
+            transactions,
+            stage,
+        } = self;
+        Ok(AuditedScript {
+            transactions,
+            history: stage.into_history(),
+            found,
         })
     }
 

@@ -14,7 +14,7 @@ mod lanes;
 mod scene;
 mod svg;
 
-pub use frame::fitting_updates;
+pub use frame::{MAX_ERROR_LETTERS, fitting_updates};
 pub use scene::{
     Arrow, Lane, LaneReads, LaneSegment, MAX_LANES, MAX_UPDATES, Scene, Stray, Strays, Update,
 };

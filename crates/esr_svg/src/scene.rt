@@ -97,6 +97,8 @@ pub struct Scene<'a> {
     pub query: &'a str,
     pub distance: u64,
     pub import: u64,
+    /// The lines with errors of the script, in a box at the top.
+    pub errors: Vec<String>,
     /// What is said above the lanes.
     pub sentences: Vec<String>,
     pub updates: Vec<Update<'a>>,

@@ -22,7 +22,7 @@ mod tallies;
 mod text;
 mod words;
 
-pub use audits::AuditTable;
+pub use audits::audit_table;
 pub use explanations::ExplanationTable;
 pub use format::{Data, Format};
 pub use ledger::{Ledger, history_ledger};

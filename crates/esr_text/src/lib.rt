@@ -4,11 +4,13 @@
 //! with the engine.
 #![tactic(auto)]
 
+mod escape;
 mod lines;
 mod lists;
 mod markup;
 mod numbers;
 
+pub use escape::push_plain;
 pub use lines::wrap;
 pub use lists::first;
 pub use markup::{is_attributes, is_markup, markup_or_nothing};

@@ -203,8 +203,8 @@ fn text_about(
 /// The one line where there is nothing to tell.
 fn push_nothing(out: &mut String, name: Option<&str>) -> Result<(), AllocError> {
     match name {
-        Some(name) => writeln!(out, "nothing of {name} was blocked"),
-        None => out.push_str("nothing was blocked\n"),
+        Some(name) => writeln!(out, "no line of {name} was blocked"),
+        None => out.push_str("no line was blocked\n"),
     }
 }
 
