@@ -7,7 +7,7 @@ use Rattle.esr_report.specs.Names.{name_of_transaction}
 use Rattle.esr_report.specs.Lines.{audit_line, order_line, totals_line}
 use Rattle.esr_items.specs.Weights.{weighted}
 use Rattle.esr_script.specs.Text.{ScriptState, final, RunFault}
-use Rattle.esr_script.specs.declared.audited.AuditedScript.{AuditedScript}
+use Rattle.esr_script.specs.declared.audited_script.AuditedScript.{AuditedScript}
 use Rattle.esr_script.specs.Ends.{IsWrittenBy}
 
 -- the line of what is told of a query, by the names of the transactions: the query, its distance, its import, and the

@@ -10,7 +10,7 @@ ghost use Rattle.esr_script.specs.Ends.{IsReachedBy};
 ghost use Rattle.esr_script.specs.ReaderToWriter.{ReadsAndWrites};
 ghost use Rattle.esr_script.specs.Text.{final};
 
-use crate::audited::AuditedScript;
+use crate::audited_script::AuditedScript;
 use crate::fault::RunFault;
 use crate::output::send_all;
 use crate::silent_run::replay;

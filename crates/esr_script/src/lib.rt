@@ -7,7 +7,7 @@
 
 mod answers;
 mod audit_text;
-mod audited;
+mod audited_script;
 mod book;
 mod bundles;
 mod copier;
@@ -29,7 +29,7 @@ mod sink;
 mod stage;
 
 pub use audit_text::{audit, audit_silently};
-pub use audited::AuditedScript;
+pub use audited_script::AuditedScript;
 pub use bundles::{certify, certify_steps};
 pub use copier::TeeReader;
 pub use esr_board::{Gate, NoGate};

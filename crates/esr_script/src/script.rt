@@ -19,7 +19,7 @@ ghost use Rattle.esr_script.specs.Echoes.{IsEcho};
 ghost use Rattle.esr_base.specs.declared.limits.TheConstants.{MAX_ENTRIES, MAX_ITEMS};
 ghost use Rattle.esr_grammar.specs.Command as command;
 
-use crate::audited::AuditedScript;
+use crate::audited_script::AuditedScript;
 use crate::book::push_audit;
 use crate::echo::{Echo, push_reply};
 use crate::fault::RunFault;
