@@ -157,7 +157,7 @@ each FILE in turn. The exit status is 1 if anything was listed.
 For example:
 
   $ printf 'item a 1\\nwirte u a 2\\n' | esr lint
-  line 2:1: \"wirte\" is no command; write?";
+  line 2:1: unknown command \"wirte\"; write?";
 
 pub const PAGE: &str =
     "The page is a single self-contained HTML file: totals, a chart and a table of all
