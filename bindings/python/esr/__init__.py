@@ -52,7 +52,7 @@ if TYPE_CHECKING:
     from ._postgresql import PostgreSQLStore as PostgreSQLStore
     from ._sqlite import SQLiteStore as SQLiteStore
 
-__version__ = "0.2.0"
+__version__ = "0.3.0"
 
 __all__ = [
     "Active",

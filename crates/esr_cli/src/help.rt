@@ -138,8 +138,7 @@ For example:
   $ printf 'item a 1\\nbegin q query 0\\nread q a\\ncommit q\\n' | esr ledger --format csv | tail -n 1
   1,q,query,0,0,0,1,0,0,0,0,committed,0,2,4";
 
-pub const WHY: &str =
-    "The operands are a FILE and a NAME, in either order.
+pub const WHY: &str = "The operands are a FILE and a NAME, in either order.
 
 Prints, for each blocked line, the request and either the charge, the remaining
 limit and the limit that would suffice, or the lock that blocked it and when that
