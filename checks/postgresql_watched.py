@@ -35,7 +35,7 @@ REPORTS = 10
 
 # Reports until the file STOP exists, and a line of their sums for each that committed.
 REPORTER = """
-import json, os, sys, time
+import json, os, random, sys, time
 import psycopg2
 dsn, level, stop, sums, *statements = sys.argv[1:]
 connection = psycopg2.connect(dsn)
@@ -48,7 +48,7 @@ with open(sums, "w") as file:
             cursor.execute(statement)
             rows = cursor.fetchall()
             found.append([[str(value) for value in row[:-1]] for row in rows])
-            time.sleep(0.002)
+            time.sleep(random.choice((0, 0.02)))
         connection.commit()
         file.write(json.dumps(found) + chr(10))
         file.flush()
@@ -213,12 +213,16 @@ class Reporter:
             [sys.executable, "-B", ADAPTER / "esr-postgres", *words, dsn, level, self.stop, self.sums, *statements]
         )
 
-    def end(self):
-        """Ends the program after some reports. Returns the rows of each statement of each report."""
+    def wait(self, count):
+        """Waits for some reports."""
         until = time.monotonic() + PATIENCE
-        while not self.sums.exists() or self.sums.read_text(encoding="utf-8").count("\n") < REPORTS:
+        while not self.sums.exists() or self.sums.read_text(encoding="utf-8").count("\n") < count:
             demand(self.process.poll() is None and time.monotonic() < until, "the reporter reports")
             time.sleep(0.05)
+
+    def end(self):
+        """Ends the program after some reports. Returns the rows of each statement of each report."""
+        self.wait(REPORTS)
         self.stop.write_text("", encoding="utf-8")
         self.process.wait(PATIENCE)
         lines = self.sums.read_text(encoding="utf-8").splitlines()
@@ -253,6 +257,7 @@ def pgbench(dsn, tool, folder, program, seconds):
         watch = Watch(dsn, BENCH, folder / f"pair_{number}", program)
         try:
             reporter = Reporter(dsn, watch, reports, *statements)
+            reporter.wait(1)  # (before the updates begin)
             level = updates.replace(" ", "\\ ")
             environment = {**os.environ, "PGOPTIONS": f"-c default_transaction_isolation={level}"}
             words = [tool, "-n", "-c", "6", "-T", str(seconds), "--max-tries=100", "-d", dsn]
