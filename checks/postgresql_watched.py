@@ -10,6 +10,7 @@ only add `pg_current_snapshot()` to their statements.
 """
 
 import contextlib
+import functools
 import json
 import os
 import pathlib
@@ -34,7 +35,7 @@ REPORTS = 10
 
 # Reports until the file STOP exists, and a line of their sums for each that committed.
 REPORTER = """
-import json, os, sys, time
+import json, os, random, sys, time
 import psycopg2
 dsn, level, stop, sums, *statements = sys.argv[1:]
 connection = psycopg2.connect(dsn)
@@ -47,7 +48,7 @@ with open(sums, "w") as file:
             cursor.execute(statement)
             rows = cursor.fetchall()
             found.append([[str(value) for value in row[:-1]] for row in rows])
-            time.sleep(0.002)
+            time.sleep(random.choice((0, 0.02)))
         connection.commit()
         file.write(json.dumps(found) + chr(10))
         file.flush()
@@ -97,7 +98,9 @@ for count in itertools.count():
             cursor.copy_from(io.StringIO(f"{fresh},{1 + fresh % 4},7.75,copied"), "account", sep=",")
         elif kind == 2:
             cursor.execute(
-                "insert into account values (%s, 1, 3) on conflict (id) do update set balance = account.balance + 3", (first,)
+                "insert into account values (%s, 1, 3)"
+                " on conflict (id) do update set balance = account.balance + 3",
+                (first,),
             )
         elif kind == 3:
             cursor.execute("delete from account where id = %s", (fresh - 2,))
@@ -131,7 +134,8 @@ class Account(Base):
     id = sqlalchemy.Column(sqlalchemy.Integer, primary_key=True)
     balance = sqlalchemy.Column(sqlalchemy.Numeric(13, 2))
 url, stop = sys.argv[1:]
-engine, chosen, count = sqlalchemy.create_engine("postgresql+psycopg2://", creator=lambda: psycopg2.connect(url)), random.Random(3), 0
+engine = sqlalchemy.create_engine("postgresql+psycopg2://", creator=lambda: psycopg2.connect(url))
+chosen, count = random.Random(3), 0
 while count < 5 or not os.path.exists(stop):
     with Session(engine) as session:
         try:
@@ -209,12 +213,16 @@ class Reporter:
             [sys.executable, "-B", ADAPTER / "esr-postgres", *words, dsn, level, self.stop, self.sums, *statements]
         )
 
-    def end(self):
-        """Ends the program after some reports. Returns the rows of each statement of each report."""
+    def wait(self, count):
+        """Waits for some reports."""
         until = time.monotonic() + PATIENCE
-        while not self.sums.exists() or self.sums.read_text(encoding="utf-8").count("\n") < REPORTS:
+        while not self.sums.exists() or self.sums.read_text(encoding="utf-8").count("\n") < count:
             demand(self.process.poll() is None and time.monotonic() < until, "the reporter reports")
             time.sleep(0.05)
+
+    def end(self):
+        """Ends the program after some reports. Returns the rows of each statement of each report."""
+        self.wait(REPORTS)
         self.stop.write_text("", encoding="utf-8")
         self.process.wait(PATIENCE)
         lines = self.sums.read_text(encoding="utf-8").splitlines()
@@ -241,13 +249,15 @@ def pgbench(dsn, tool, folder, program, seconds):
     """pgbench at each pair of levels."""
     quiet = {"stdout": subprocess.DEVNULL, "stderr": subprocess.DEVNULL, "check": True}
     subprocess.run([tool, "-i", "-s", "1", "-q", "-d", dsn], **quiet)
-    statements = [f"select sum({value}), pg_current_snapshot() from {table}" for table, _, value in (word.split(":") for word in BENCH)]
+    columns = [word.split(":") for word in BENCH]
+    statements = [f"select sum({value}), pg_current_snapshot() from {table}" for table, _, value in columns]
     is_broken = lambda rows: len({row[0][0] for row in rows}) > 1  # noqa: E731
     total_broken = 0
     for number, (updates, reports) in enumerate(PAIRS):
         watch = Watch(dsn, BENCH, folder / f"pair_{number}", program)
         try:
             reporter = Reporter(dsn, watch, reports, *statements)
+            reporter.wait(1)  # (before the updates begin)
             level = updates.replace(" ", "\\ ")
             environment = {**os.environ, "PGOPTIONS": f"-c default_transaction_isolation={level}"}
             words = [tool, "-n", "-c", "6", "-T", str(seconds), "--max-tries=100", "-d", dsn]
@@ -263,56 +273,73 @@ def pgbench(dsn, tool, folder, program, seconds):
     demand(total_broken > 0, "some report at read committed has different sums")
 
 
+STATEMENTS = {
+    "sum and count": (
+        "select sum(balance), count(*), pg_current_snapshot() from account",
+        "select sum(total), count(*), pg_current_snapshot() from branch",
+    ),
+    "row by row": (
+        "select id, balance, pg_current_snapshot() from account",
+        "select id, total, pg_current_snapshot() from branch",
+    ),
+    "a join": (
+        "select a.id, a.balance, b.id, b.total, pg_current_snapshot()"
+        " from account a full join branch b on b.id = a.branch",
+        "select count(*), pg_current_snapshot() from branch",
+    ),
+}
+SHAPES = [(kind, "read committed") for kind in STATEMENTS] + [("sum and count", "repeatable read")]
+
+
+def totals_differ(kind, rows):
+    """Whether the accounts of a report do not add up to its branches."""
+    if kind == "sum and count":
+        return rows[0][0][0] != rows[1][0][0]
+    if kind == "row by row":
+        return hundredths(rows[0], 1) != hundredths(rows[1], 1)
+    branches = {row[2]: round(100 * float(row[3])) for row in rows[0]}
+    return hundredths(rows[0], 1) != sum(branches.values())
+
+
+def started(programs, folder):
+    """Starts some programs: their texts and arguments."""
+    for number, (text, *words) in enumerate(programs):
+        path = folder / f"writer_{number}.py"
+        path.write_text(textwrap.dedent(text), encoding="utf-8")
+        yield subprocess.Popen([sys.executable, "-B", path, *words], stdout=subprocess.PIPE, text=True)
+
+
+def shape(dsn, watch, kind, level, has_orm, seconds):
+    """Watches the writers while a report of some shape runs. Returns the findings of both."""
+    stop = watch.folder / "stop_writers"
+    programs = [(WRITER, dsn, stop, "0"), (WRITER, dsn, stop, "1")] + [(ORM, dsn, stop)] * has_orm
+    writers = list(started(programs, watch.folder))
+    try:
+        reporter = Reporter(dsn, watch, level, *STATEMENTS[kind])
+        time.sleep(seconds)
+        found = reporter.end()
+        stop.write_text("", encoding="utf-8")
+        said = [writer.communicate(timeout=PATIENCE)[0] for writer in writers]
+        demand(all(writer.returncode == 0 for writer in writers), "the writers end with 0")
+        demand(not has_orm or int(said[2]) > 3, f"the SQLAlchemy program commits: {said}")
+        return (*watch.end(), found)
+    finally:
+        watch.kill()
+        for writer in writers:
+            writer.kill()
+
+
 def shop(dsn, folder, program, seconds):
     """A SQLAlchemy program and a writer of every kind."""
     with contextlib.closing(psycopg2.connect(dsn)) as plain, plain, plain.cursor() as cursor:
         cursor.execute(SHOP_TABLES)
-    has_orm = subprocess.run([sys.executable, "-c", "import sqlalchemy"], capture_output=True, check=False).returncode == 0
-    statements = {
-        "sum and count": (
-            "select sum(balance), count(*), pg_current_snapshot() from account",
-            "select sum(total), count(*), pg_current_snapshot() from branch",
-        ),
-        "row by row": (
-            "select id, balance, pg_current_snapshot() from account",
-            "select id, total, pg_current_snapshot() from branch",
-        ),
-        "a join": (
-            "select a.id, a.balance, b.id, b.total, pg_current_snapshot() from account a full join branch b on b.id = a.branch",
-            "select count(*), pg_current_snapshot() from branch",
-        ),
-    }
-
-    def adds_up(kind):
-        if kind == "sum and count":
-            return lambda rows: rows[0][0][0] != rows[1][0][0]
-        if kind == "row by row":
-            return lambda rows: hundredths(rows[0], 1) != hundredths(rows[1], 1)
-        return lambda rows: hundredths(rows[0], 1) != sum({row[2]: round(100 * float(row[3])) for row in rows[0]}.values())
-
-    for kind, level in (("sum and count", "read committed"), ("row by row", "read committed"), ("a join", "read committed"), ("sum and count", "repeatable read")):
+    tried = subprocess.run([sys.executable, "-c", "import sqlalchemy"], capture_output=True, check=False)
+    has_orm = tried.returncode == 0
+    for kind, level in SHAPES:
         watch = Watch(dsn, SHOP, folder / f"{kind} {level}".replace(" ", "_"), program)
-        writers = []
-        try:
-            stop = watch.folder / "stop_writers"
-            for number, (text, words) in enumerate([(WRITER, (dsn, stop, "0")), (WRITER, (dsn, stop, "1"))] + [(ORM, (dsn, stop))] * has_orm):
-                path = watch.folder / f"writer_{number}.py"
-                path.write_text(textwrap.dedent(text), encoding="utf-8")
-                writers.append(subprocess.Popen([sys.executable, "-B", path, *words], stdout=subprocess.PIPE, text=True))
-            reporter = Reporter(dsn, watch, level, *statements[kind])
-            time.sleep(seconds)
-            found = reporter.end()
-            stop.write_text("", encoding="utf-8")
-            said = [writer.communicate(timeout=PATIENCE)[0] for writer in writers]
-            text, distances = watch.end()
-        finally:
-            watch.kill()
-            for writer in writers:
-                writer.kill()
-        demand(all(writer.returncode == 0 for writer in writers), "the writers end with 0")
-        demand(not has_orm or int(said[2]) > 3, f"the SQLAlchemy program commits: {said}")
+        text, distances, found = shape(dsn, watch, kind, level, has_orm, seconds)
         name = f"{kind} at {level}, every kind of write{' and SQLAlchemy' if has_orm else ''}"
-        count, broken = compare(name, text, distances, found, adds_up(kind), level)
+        count, broken = compare(name, text, distances, found, functools.partial(totals_differ, kind), level)
         print(f"{name}: {count} reports, {broken} do not add up, and just these are off")
     if not has_orm:
         print("SQLAlchemy: not run: it is not installed (Debian's python3-sqlalchemy)")

@@ -146,9 +146,11 @@ def _chain(register: str, txns: list[_Txn], writers: dict[tuple[str, int], _Txn]
     """Returns the writers of a register in their only order."""
     rest, chain = list(txns), []
     while rest:
-        first = [
-            one for one in rest if not any(_is_before(other, one, register, writers, realtime) for other in rest if other is not one)
-        ]
+        first = []
+        for one in rest:
+            others = (other for other in rest if other is not one)
+            if not any(_is_before(other, one, register, writers, realtime) for other in others):
+                first.append(one)
         if len(first) != 1:
             one, other = (first or rest)[:2]
             why = "nothing orders them" if first else "each comes before the other"
