@@ -55,6 +55,7 @@ class Counts(ctypes.Structure):
 
 class Account(ctypes.Structure):
     _fields_ = [("query", c_bool), ("standing", c_uint32), ("limit", c_uint64), ("charged", c_uint64)]
+    standing: int
     charged: int
 
 
