@@ -331,11 +331,11 @@ class Interrupts(Case):
 
                     with mock.patch.object(bank, name, interrupted):
                         with self.assertRaises(KeyboardInterrupt):
-                            bank.transact(10**6, lambda update: update.add("checking", -100))
+                            bank.transact(0, lambda update: (update.add("checking", -100), update.add("savings", 100)))
                     self.assertEqual(interrupts, [])
                     self.assertEqual(bank.transact(10**6, lambda update: update.add("checking", -1)), 399)
-                    self.assertEqual((bank["checking"], bank.counts.active, bank.active()), (399, 0, []))
-                self.assertEqual(store.values["checking"], 399)
+                    self.assertEqual((bank.counts.active, bank.active()), (0, []))
+                self.assertEqual(store.values, {"checking": 399, "savings": 1600, "pocket": 0})
 
 
 class Groups(Case):
