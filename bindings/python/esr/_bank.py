@@ -648,7 +648,7 @@ class Bank(Mapping[str, int]):
             self._answer(c.library.esr_commit, txn)
             return self._publish(wrote)
         except BaseException:
-            if self._account(txn).standing == c.COMMITTED:
+            if self._account(txn).status == c.COMMITTED:
                 self._publish(wrote)
             else:
                 self._answer(c.library.esr_abort, txn)
