@@ -622,35 +622,43 @@ class Bank(Mapping[str, int]):
             self._active.pop(transaction.number, None)
             if not self._active:
                 self._ended.notify_all()
-            self._end(transaction.number, commits)
             self._counters.aborts += not commits and not transaction._is_retried
-            if commits:
-                ticket = self._note_commit(transaction)
+            if not commits:
+                self._answer(c.library.esr_abort, transaction.number)
+            elif isinstance(transaction, Update):
+                ticket = self._commit(transaction.number, transaction._wrote)
+                self._counters.updates += 1
+            else:
+                self._commit(transaction.number, {})
+                self._note_report(transaction)
         if self._queue is not None and (error is None or error is not transaction._given_up):
             try:
                 self._wait_for_store(ticket)
             except StoreStopped as why:
                 raise why from None
 
-    def _end(self, txn: int, commits: bool) -> None:
-        """Commits or aborts in the engine. A commit for which the allocation fails has changed nothing and is aborted, since an
-        active transaction would hold off every renewal."""
+    def _commit(self, txn: int, wrote: Mapping[str, int]) -> Optional[Ticket]:
+        """Commits in the engine, shows the writes, and returns their place in the queue of the store.
+
+        An interrupt may arrive after the engine's commit. Then the writes are shown all the same, since later updates read
+        them. A commit for which the allocation fails has changed nothing, and is aborted, since an active transaction would hold
+        off every renewal.
+        """
         try:
-            self._answer(c.library.esr_commit if commits else c.library.esr_abort, txn)
-        except MemoryError:
-            if commits:
+            self._answer(c.library.esr_commit, txn)
+            return self._publish(wrote)
+        except BaseException:
+            if self._account(txn).status == c.COMMITTED:
+                self._publish(wrote)
+            else:
                 self._answer(c.library.esr_abort, txn)
             raise
 
-    def _note_commit(self, transaction: Transaction) -> Optional[Ticket]:
-        if isinstance(transaction, Update):
-            self._counters.updates += 1
-            return self._publish(transaction._wrote)
-        assert isinstance(transaction, Query)
+    def _note_report(self, report: Transaction) -> None:
+        assert isinstance(report, Query)
         self._counters.reports += 1
-        transaction._has_committed = True
-        self._due.append(transaction)
-        return None
+        report._has_committed = True
+        self._due.append(report)
 
     # Blocked events
 

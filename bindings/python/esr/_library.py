@@ -54,7 +54,8 @@ class Counts(ctypes.Structure):
 
 
 class Account(ctypes.Structure):
-    _fields_ = [("query", c_bool), ("standing", c_uint32), ("limit", c_uint64), ("charged", c_uint64)]
+    _fields_ = [("query", c_bool), ("status", c_uint32), ("limit", c_uint64), ("charged", c_uint64)]
+    status: int
     charged: int
 
 

@@ -110,7 +110,7 @@ class StoreQueue:
         self.stopped: Optional[StoreStopped] = None
         self.writes = self.updates = 0
         self._number = 0
-        self._lock = threading.Lock()
+        self._lock = threading.RLock()  # a bank may be discarded, and close this, while this thread holds the lock
         self._filled = threading.Condition(self._lock)
         self._waiting: Deque[Ticket] = deque()
         self._is_writing = self._is_closing = False

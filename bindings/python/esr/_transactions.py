@@ -341,12 +341,13 @@ class Draft(Update):
             self.number, self._renewals = reply.txn, bank.renewals
             bank._note_name(self)
             outcome = self._give_events()
-            bank._end(self.number, bool(outcome))
             if not outcome:
+                bank._answer(c.library.esr_abort, self.number)
                 return outcome, None
+            ticket = bank._commit(self.number, self._wrote)
             bank._counters.updates += 1
             bank._counters.whole += 1
-            return True, bank._publish(self._wrote)
+            return True, ticket
 
     def _give_events(self) -> Optional[bool]:
         """Returns whether the replies are the values that the function saw, or None if an event is blocked."""

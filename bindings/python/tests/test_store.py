@@ -23,6 +23,7 @@ from esr import (
     StoreUnfit,
     UnknownItem,
 )
+from esr._library import library
 
 OPENING = {"checking": 500, "savings": 1500, "pocket": 0}
 
@@ -310,6 +311,31 @@ class Waiting(Case):
         self.ahead.join()
         transfer(self.bank)
         self.assertEqual((self.bank["checking"], self.store.values["checking"]), (200, 200))
+
+
+class Interrupts(Case):
+    def test_one_between_the_commit_and_the_queue_loses_no_update(self):
+        """Later updates read what the interrupted one wrote, so the store gets that too."""
+        for optimistic in (True, False):
+            for name in ("_publish", "_answer"):
+                store = HeldStore()
+                with Bank(OPENING, store=store, optimistic=optimistic) as bank:
+                    call, interrupts = getattr(bank, name), [KeyboardInterrupt]
+
+                    def interrupted(*arguments, call=call, interrupts=interrupts):
+                        if arguments[0] is library.esr_commit:
+                            call(*arguments)  # the interrupt arrives after the engine's commit
+                        if interrupts and (arguments[0] is library.esr_commit or len(arguments) == 1):
+                            raise interrupts.pop()
+                        return call(*arguments)
+
+                    with mock.patch.object(bank, name, interrupted):
+                        with self.assertRaises(KeyboardInterrupt):
+                            bank.transact(0, lambda update: (update.add("checking", -100), update.add("savings", 100)))
+                    self.assertEqual(interrupts, [])
+                    self.assertEqual(bank.transact(10**6, lambda update: update.add("checking", -1)), 399)
+                    self.assertEqual((bank.counts.active, bank.active()), (0, []))
+                self.assertEqual(store.values, {"checking": 399, "savings": 1600, "pocket": 0})
 
 
 class Groups(Case):
