@@ -283,7 +283,7 @@ mod tests {
             }
         };
         let test = || (Arc::new(Lock::new(0)), vec![body; 2]);
-        let runs = explore(Depth::fine(2), test, |lock, now| {
+        let runs = explore(Depth::coarse(4), test, |lock, now| {
             assert_eq!(*lock.value.lock().unwrap(), 4);
             assert!(now < NAP, "a wake-up was lost");
         });
@@ -293,13 +293,11 @@ mod tests {
         let fickle: fn(&Lock<u64>) = |lock| {
             if let Some(mut value) = lock.lock_while(None, || false) {
                 *value += 1;
-            } else {
-                *lock.lock() += 1;
             }
         };
         let test = || (Arc::new(Lock::new(0)), vec![once, once, fickle]);
         let runs = explore(Depth::coarse(3), test, |lock, now| {
-            assert_eq!(*lock.value.lock().unwrap(), 3);
+            assert!((2..=3).contains(&*lock.value.lock().unwrap()));
             assert!(now < NAP, "a wake-up was lost");
         });
         println!("{runs} schedules of three threads");
