@@ -30,7 +30,7 @@ use std::{
 /// The number of polls before a thread sleeps.
 const POLLS: u32 = if cfg!(test) { 1 } else { 100 };
 /// The number of polls for which a thread lets urgent ones go first. They may have been preempted.
-const POLITE_POLLS: u32 = POLLS / 2;
+const POLITE_POLLS: u32 = if cfg!(test) { 1 } else { 50 };
 /// A sleeper that has waited longer is woken although other threads poll.
 const OVERDUE: Duration = Duration::from_micros(100);
 /// A sleeper tries by itself after this time. It is woken before, so this only limits the damage of a kernel that is late.
@@ -279,7 +279,12 @@ mod tests {
     fn the_lock_excludes_and_wakes() {
         let body: fn(&Lock<u64>) = |lock| {
             for _ in 0..2 {
-                *lock.lock() += 1;
+                let mut value = lock.lock();
+                // scheduling points of a long hold
+                for _ in 0..2 {
+                    lock.gate.state.load(Ordering::SeqCst);
+                }
+                *value += 1;
             }
         };
         let test = || (Arc::new(Lock::new(0)), vec![body; 2]);
