@@ -106,6 +106,12 @@ def strict():
     return script.text(), "q"
 
 
+def errors(count):
+    """A report in a script with `count` lines with errors, which contain letters that markup reserves."""
+    text, query = rounds(6, 3, 0, False)
+    return text + "".join(f"<a href='&{number}'>{'x' * 70}\n" for number in range(count)), query
+
+
 def edges():
     """Each edge: a name of it, a script, and the query."""
     yield ("no_update",) + rounds(0, 3, 0, False)
@@ -118,6 +124,8 @@ def edges():
     yield ("items_400",) + rounds(20, 40, 0, False)
     yield ("items_many",) + rounds(900, 300, 0, False)
     yield ("strict",) + strict()
+    yield ("error",) + errors(1)
+    yield ("errors",) + errors(9)
     yield ("one_item",) + one_item(12, 1)
     yield ("one_item_often",) + one_item(12, 12)
     yield ("one_item_long",) + one_item(3000, 3)

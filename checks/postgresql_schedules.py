@@ -13,8 +13,8 @@ import typing
 import psycopg2
 from psycopg2.errors import LockNotAvailable, SerializationFailure
 
-from esr_postgresql.cycles import NotSerializable
-from esr_postgresql.order import history_of
+from esr_history.cycles import NotSerializable
+from esr_history.order import history_of
 from esr_postgresql.recorder import Recorder
 from esr_postgresql.tables import Table
 

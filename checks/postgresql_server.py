@@ -1,4 +1,4 @@
-"""A PostgreSQL server of our own: in a temporary folder, on a socket there, stopped and removed whatever happens."""
+"""A PostgreSQL server in a temporary folder, on a socket there, which is stopped and removed whatever happens."""
 
 import contextlib
 import glob
@@ -16,6 +16,8 @@ SETTINGS = {
     "fsync": "off",
     "autovacuum": "off",
     "max_connections": "40",
+    "wal_level": "logical",
+    "deadlock_timeout": "20ms",
     "max_prepared_transactions": "4",
     "listen_addresses": "''",
 }
@@ -44,9 +46,15 @@ def _ended_by_signal(number, _):
     raise SystemExit(128 + number)
 
 
+class Dsn(str):
+    """The connection parameters of a server; `restart` stops it as a crash does, and starts it."""
+
+    restart = None
+
+
 @contextlib.contextmanager
 def server():
-    """Starts a server, and gives the words for libpq that lead to it."""
+    """Starts a server, and yields its connection parameters for libpq."""
     folder = pathlib.Path(tempfile.mkdtemp(prefix="esr-pg-", dir="/tmp"))
     for number in (signal.SIGTERM, signal.SIGHUP):
         signal.signal(number, _ended_by_signal)
@@ -73,8 +81,11 @@ def server():
         run("initdb", "--auth=trust", "--username=esr", "--no-sync", "--encoding=UTF8", "--locale=C")
         words = " ".join(f"-c {name}={value}" for name, value in SETTINGS.items())
         try:
-            run("pg_ctl", "start", "-w", "-l", str(log), "-o", f"-k {folder} {words}")
-            yield f"host={folder} user=esr dbname=postgres"
+            options = ("-w", "-l", str(log), "-o", f"-k {folder} {words}")
+            run("pg_ctl", "start", *options)
+            dsn = Dsn(f"host={folder} user=esr dbname=postgres")
+            dsn.restart = lambda: run("pg_ctl", "restart", "-m", "immediate", *options)
+            yield dsn
         finally:
             if (data / "postmaster.pid").exists():
                 run("pg_ctl", "stop", "-w", "-m", "immediate")

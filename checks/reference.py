@@ -354,19 +354,17 @@ def audit(text):
 # ---- what is told on standard error
 
 FAULT = re.compile(
-    r"esr: (?:line \d+: )?(read failed|write failed|line too long|out of memory|history full|too many lines|input too long"
-    r"|not a committed query)(?:: .*)?|esr: (line \d+: error \d): .*"
+    r"esr: (read failed|write failed|line too long|out of memory|history full|too many lines|input too long"
+    r"|not a committed query|receipts do not match|line \d+: error \d)\n"
 )
-AT_FAULT = re.compile(r"esr: (\d+) lines? (?:is|are) at fault.*")
+AT_FAULT = re.compile(r"esr: (\d+) lines? (?:has an error|have errors).*")
 
 
 def told(error):
-    """The fault that was told last, without its line and its limit, or None; and how many lines were told to be at
-    fault."""
-    lines = error.decode().splitlines()
-    fault = FAULT.fullmatch(lines[-1]) if lines else None
-    counts = [int(found[1]) for found in map(AT_FAULT.fullmatch, lines) if found]
-    return (fault[1] or fault[2]) if fault else None, sum(counts)
+    """The fault, if standard error is exactly its line, or None; and the number of lines with errors that is reported."""
+    fault = FAULT.fullmatch(error.decode())
+    counts = [int(found[1]) for found in map(AT_FAULT.fullmatch, error.decode().splitlines()) if found]
+    return fault[1] if fault else None, sum(counts)
 
 
 def at_fault(output):

@@ -132,7 +132,7 @@ static void weights(void) {
         value(esr_read(&engine, 2, 0, &reply), &reply, 90);
         WANT(esr_account_of(&engine, 2, &account), ESR_DONE);
         WANT(account.query, true);
-        WANT(account.standing, ESR_ACTIVE);
+        WANT(account.status, ESR_ACTIVE);
         WANT(account.charged, 30);
         value(esr_read(&engine, 2, 1, &reply), &reply, 110);
         WANT(esr_account_of(&engine, 1, &account), ESR_DONE);
@@ -142,9 +142,9 @@ static void weights(void) {
         answered(esr_abort(&engine, 1, &reply), &reply, ESR_ABORTED);
         answered(esr_commit(&engine, 2, &reply), &reply, ESR_COMMITTED);
         WANT(esr_account_of(&engine, 1, &account), ESR_DONE);
-        WANT(account.standing, ESR_ABORTED);
+        WANT(account.status, ESR_ABORTED);
         WANT(esr_account_of(&engine, 2, &account), ESR_DONE);
-        WANT(account.standing, ESR_COMMITTED);
+        WANT(account.status, ESR_COMMITTED);
         WANT(esr_account_of(&engine, 3, &account), ESR_NOT_BEGUN);
         WANT(esr_renew(&engine), ESR_DONE);
     }

@@ -14,7 +14,7 @@ static int wrong;
     } while (0)
 
 static esr_status refused_begin(esr_engine *engine, esr_reply *reply) {
-    return esr_begin_query(engine, ESR_LARGEST_LIMIT + 1, false, reply);
+    return esr_begin_query(engine, ESR_MAX_LIMIT + 1, false, reply);
 }
 static esr_status accepted_read(esr_engine *engine, esr_reply *reply) { return esr_read(engine, 1, 1, reply); }
 static esr_status refused_write(esr_engine *engine, esr_reply *reply) { return esr_write(engine, 1, 9, 0, reply); }
@@ -41,8 +41,8 @@ static void fill(esr_status (*event)(esr_engine *, esr_reply *), bool fills) {
     while (status == ESR_DONE);
     WANT(status, ESR_HISTORY_FULL);
     WANT(esr_counts_of(&engine, &counts), ESR_DONE);
-    WANT(counts.entries + counts.active + counts.entries_left, ESR_MOST_ENTRIES);
-    WANT(counts.transactions + counts.transactions_left, ESR_MOST_TRANSACTIONS);
+    WANT(counts.entries + counts.active + counts.entries_left, ESR_MAX_ENTRIES);
+    WANT(counts.transactions + counts.transactions_left, ESR_MAX_TRANSACTIONS);
     if (fills) {
         WANT(counts.entries_left < 2, 1);
         WANT(esr_begin_query(&engine, 0, false, &reply), ESR_HISTORY_FULL);
@@ -51,14 +51,14 @@ static void fill(esr_status (*event)(esr_engine *, esr_reply *), bool fills) {
     WANT(esr_commit(&engine, 1, &reply), ESR_DONE);
     WANT(reply.kind, ESR_COMMITTED);
     WANT(esr_account_of(&engine, 1, &account), ESR_DONE);
-    WANT(account.standing, ESR_COMMITTED);
+    WANT(account.status, ESR_COMMITTED);
     for (uint32_t txn = 3; txn <= counts.transactions; txn++) {
         WANT(esr_abort(&engine, txn, &reply), ESR_DONE);
         WANT(reply.kind, ESR_ABORTED);
     }
     WANT(esr_renew(&engine), ESR_DONE);
     WANT(esr_counts_of(&engine, &counts), ESR_DONE);
-    WANT(counts.entries_left, ESR_MOST_ENTRIES);
+    WANT(counts.entries_left, ESR_MAX_ENTRIES);
     WANT(esr_values(&engine, values, 2, &count), ESR_DONE);
     WANT(values[0], 400);
     WANT(esr_begin_update(&engine, 0, &reply), ESR_DONE);

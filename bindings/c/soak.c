@@ -84,7 +84,7 @@ static void report(void) {
     }
     pthread_mutex_lock(&lock);
     if (ok && mine == generation) {
-        MUST(esr_account_of(&engine, txn, &account) == ESR_DONE && account.standing == ESR_ACTIVE);
+        MUST(esr_account_of(&engine, txn, &account) == ESR_DONE && account.status == ESR_ACTIVE);
         MUST(llabs((long long)sum - (long long)ACCOUNTS * EACH) <= (long long)account.charged);
         MUST(esr_commit(&engine, txn, &reply) == ESR_DONE && reply.kind == ESR_COMMITTED);
         esr_status found = esr_audit(&engine, txn, before, 0, &finding);

@@ -126,9 +126,9 @@ class Run:
 
 
 def spread(numbers):
-    """The worst and the middle of some numbers."""
+    """The maximum and the median of some numbers."""
     numbers = sorted(numbers) or [0]
-    return f"worst {numbers[-1]} middle {numbers[(len(numbers) - 1) // 2]}"
+    return f"max {numbers[-1]} median {numbers[(len(numbers) - 1) // 2]}"
 
 
 def summary(runs, blocks):

@@ -1,9 +1,8 @@
-"""The bank: tellers move money between accounts while reports add up all of them, in any database that can be
-recorded.
+"""The bank: tellers move money between accounts while reports add up all of them.
 
-Each transfer moves some units from one account to another, so the sum never changes. A report reads the accounts one
-by one, as a program does that has something to do with each. It is the example of the page README.md, and what the
-check of the repository runs at several isolation levels.
+Each transfer moves some units from one account to another, so the sum never changes. A report reads the accounts one by
+one, as a program does that processes each. It is the example of README.md, and `checks/postgresql` runs it at several
+isolation levels.
 """
 
 from __future__ import annotations
@@ -17,7 +16,8 @@ from typing import Any, Callable, Iterator
 
 import psycopg2
 
-from .record import Record
+from esr_history.record import Record
+
 from .recorder import Recorder
 from .tables import RecordingError, Table
 
@@ -25,12 +25,12 @@ SCHEMA = "esr_bank"
 TABLE = Table(f"{SCHEMA}.accounts", ("id",), "balance")
 OPENING = 1000
 
-Job = Callable[[Any, random.Random], None]  # what a teller or a report does in one transaction
+Job = Callable[[Any, random.Random], None]  # one transaction of a teller or a reporter
 
 
 @dataclass(frozen=True)
 class Bank:
-    """What the bank does. With `locks`, updates at read committed read FOR UPDATE, as they must lest they lose
+    """The parameters of a bank. With `locks`, updates at read committed read FOR UPDATE, which keeps them from losing
     updates."""
 
     updates: str = "read committed"
@@ -42,7 +42,7 @@ class Bank:
     locks: bool = True
 
     def record(self, dsn: str) -> Record:
-        """Runs the bank in a schema of its own, which is dropped behind it."""
+        """Runs the bank in its own schema, which is dropped afterwards."""
         with _schema(dsn, self.accounts):
             recorder = Recorder(dsn, [TABLE])
             jobs: list[tuple[str, str, Job]] = []
@@ -68,8 +68,8 @@ class Bank:
         opened: threading.Barrier,
         errors: list[BaseException],
     ) -> None:
-        """Does a job over and over, from when all have a connection. What the server refuses is given up, as by an
-        application that tries again."""
+        """Repeats a job, once all have a connection. A transaction that the server refuses is rolled back, as in an
+        application that retries with other values."""
         chosen = random.Random(label)
         try:
             connection = recorder.connect(label)
@@ -84,8 +84,8 @@ class Bank:
                     connection.rollback()
             connection.close()
         except threading.BrokenBarrierError:
-            pass  # (another could not connect, and has said why)
-        except BaseException as error:  # (told by the thread that waits for this one)
+            pass  # (another could not connect, and has reported it)
+        except BaseException as error:  # (raised by the thread that waits for this one)
             errors.append(error)
             opened.abort()
 
@@ -98,7 +98,7 @@ class Bank:
     def _transfer(self, cursor: Any, chosen: random.Random) -> None:
         locks = self.locks and self.updates == "read committed"
         amount = chosen.randrange(1, 100) * chosen.choice((1, -1))
-        accounts = sorted(chosen.sample(range(self.accounts), 2))  # (so that no two wait for each other)
+        accounts = sorted(chosen.sample(range(self.accounts), 2))  # (which avoids deadlocks)
         balances = [self._read(cursor, account, locks) for account in accounts]
         for account, balance in zip(accounts, (balances[0] - amount, balances[1] + amount)):
             cursor.execute(
@@ -114,7 +114,7 @@ class Bank:
 
 @contextlib.contextmanager
 def _schema(dsn: str, accounts: int) -> Iterator[None]:
-    """The schema of the bank, for as long as it runs."""
+    """Creates the schema of the bank while it runs."""
     connection = psycopg2.connect(dsn)
     connection.autocommit = True
     cursor = connection.cursor()

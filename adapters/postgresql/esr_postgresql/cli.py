@@ -5,224 +5,220 @@ from __future__ import annotations
 import argparse
 import contextlib
 import os
-import pathlib
 import runpy
 import sys
 import traceback
-from typing import Callable, Iterator, Optional, Sequence
+from typing import Iterator
 
-from .audit import audited, write_scripts
-from .cycles import NotSerializable
-from .order import history_of
-from .program import Program, ProgramError, found
-from .record import Record, RecordError, load, save
-from .result import line
-from .script import TooLarge, convert
+from esr_history.cli import (
+    CANNOT_BE_AUDITED,
+    FAILED,
+    NOTHING_AUDITED,
+    STATUSES,
+    Stop,
+    add_audit_options,
+    add_record_commands,
+    commands,
+    program_of,
+    show,
+    status_of,
+)
+from esr_history.record import Record, save
+
 from .tables import RecordingError, Table
-from .versions import IncompleteRecord
 
 DESCRIPTION = """\
-Audits the reports of a PostgreSQL database: how far what each report read was from
-anything that the updates beside it, one after another, ever left."""
+Audits the reports of a PostgreSQL database: how far each report was from every state
+that the concurrent updates, one after another, left."""
 
-EXAMPLES = """\
+EXAMPLES = f"""\
 examples:
-  a bank on a server, in a schema of its own, for four seconds:
+  a bank on a server, in its own schema, for four seconds:
     esr-postgres bank --dsn "host=/tmp dbname=test" --reports "read committed"
-  a program of your own, whose statements ask for id, balance and xmin:
+  a Python program whose statements return id, balance and xmin:
     esr-postgres run --dsn "dbname=shop" --table accounts:id:balance:2 shop.py
-  a record that was made before, or by another recorder:
+  a recording whose recorder was killed:
+    esr-postgres finish --dsn "dbname=shop" esr-audit/record.jsonl.open
+  a record of this or another recorder:
     esr-postgres audit record.jsonl
 
 The server needs track_commit_timestamp = on. The folder of a result (esr-audit, or
 that of --out) has result.txt, the script, a legend of its names, audits.tsv with the
 distance of each report, and of the worst an explanation, a picture and a bundle.
 
-status: 0 audited, whatever was found; 1 the record cannot be audited: the updates
-are not serializable, or it lacks a writer; 2 anything else. README.md beside this
-program says what a result means, and what it does not."""
+{STATUSES} README.md next to this
+program explains what a result means, and what it does not."""
 
-CYCLES_TOLD = 5
-
-
-class Stop(Exception):
-    """The end of the command: a status and what is said."""
-
-    def __init__(self, status: int, text: str) -> None:
-        super().__init__(text)
-        self.status = status
+LEVELS = ("read committed", "repeatable read", "serializable")
+OPEN = ".open"
 
 
-# ---- words
+# ---- arguments
 
 
-def _out(parser: argparse.ArgumentParser) -> None:
-    parser.add_argument("--out", metavar="FOLDER", default="esr-audit", help="where the result goes (esr-audit)")
-
-
-def _of_audit(parser: argparse.ArgumentParser) -> None:
-    _out(parser)
-    parser.add_argument("--worst", metavar="N", type=int, default=3, help="explain and draw the N worst reports (3)")
-    parser.add_argument(
-        "--workers", metavar="W", type=int, help="audit with W workers, 1 to 64 (one for each processor)"
-    )
-    parser.add_argument(
-        "--esr", metavar="PATH", help="the program esr (the variable ESR, or the one of this repository)"
-    )
-
-
-def _of_server(parser: argparse.ArgumentParser) -> None:
+def _add_server(parser: argparse.ArgumentParser) -> None:
     parser.add_argument(
         "--dsn", default="", help='the database, as in "host=/tmp dbname=test" (libpq\'s PG.. variables)'
     )
 
 
-def _of_program(parser: argparse.ArgumentParser) -> None:
+def _add_tables(parser: argparse.ArgumentParser) -> None:
     parser.add_argument(
         "--table",
         metavar="TABLE:KEY:VALUE[:SCALE]",
         action="append",
         required=True,
-        help="a table to record: its key columns, separated by commas, the column of its values, and how many digits"
-        " behind the point of a value are kept (0). May be given several times",
+        help="a table to record: its key columns, separated by commas, the column of its values, and the number of"
+        " decimal digits of a value (0). May be given several times",
     )
+
+
+def _add_program(parser: argparse.ArgumentParser) -> None:
     parser.add_argument("program", metavar="PROGRAM", help="a Python program that uses psycopg2")
-    parser.add_argument("words", metavar="WORD", nargs=argparse.REMAINDER, help="words for the program")
+    parser.add_argument("words", metavar="ARGUMENT", nargs=argparse.REMAINDER, help="arguments for the program")
 
 
-def parser() -> argparse.ArgumentParser:
-    top = argparse.ArgumentParser(
-        prog="esr-postgres",
-        description=DESCRIPTION,
-        epilog=EXAMPLES,
-        formatter_class=argparse.RawDescriptionHelpFormatter,
-    )
-    commands = top.add_subparsers(metavar="COMMAND", required=True)
-
-    def command(name: str, text: str, job: Callable[[argparse.Namespace], None]) -> argparse.ArgumentParser:
-        added = commands.add_parser(name, help=text, description=text[0].upper() + text[1:] + ".")
-        added.set_defaults(job=job)
-        return added
-
-    run = command("run", "record a program, convert what was recorded, and audit it", _run)
-    _of_server(run)
-    _of_program(run)
-    _of_audit(run)
-    bank = command("bank", "record a bank of tellers and reports, convert what was recorded, and audit it", _bank)
-    _of_server(bank)
+def _add_bank(bank: argparse.ArgumentParser) -> None:
     for word, noun in (("--updates", "transfers"), ("--reports", "reports")):
         bank.add_argument(
             word,
             metavar="LEVEL",
-            choices=("read committed", "repeatable read", "serializable"),
+            choices=LEVELS,
             default="read committed",
             help=f'isolation level of the {noun}, as in {word} "repeatable read" (read committed)',
         )
     bank.add_argument("--seconds", type=float, default=4.0, help="how long the bank is open (4)")
-    bank.add_argument("--accounts", type=int, default=60, help="how many accounts there are (60)")
-    bank.add_argument("--tellers", type=int, default=6, help="how many tellers transfer (6)")
-    bank.add_argument("--reporters", type=int, default=2, help="how many report (2)")
+    bank.add_argument("--accounts", type=int, default=60, help="the number of accounts (60)")
+    bank.add_argument("--tellers", type=int, default=6, help="the number of tellers, who transfer (6)")
+    bank.add_argument("--reporters", type=int, default=2, help="the number of reporters (2)")
     bank.add_argument(
         "--without-locks",
         action="store_true",
-        help="transfers at read committed read without FOR UPDATE, and lose one another",
+        help="transfers at read committed do not read FOR UPDATE, and lose updates",
     )
-    _of_audit(bank)
+
+
+def parser() -> argparse.ArgumentParser:
+    top, command = commands("esr-postgres", DESCRIPTION, EXAMPLES)
+    run = command("run", "record a program, convert the record, and audit it", _run)
+    _add_server(run)
+    _add_tables(run)
+    _add_program(run)
+    add_audit_options(run)
+    bank = command("bank", "record a bank of tellers and reports, convert the record, and audit it", _bank)
+    _add_server(bank)
+    _add_bank(bank)
+    add_audit_options(bank)
     record = command("record", "record a program", _record)
-    _of_server(record)
-    _of_program(record)
+    _add_server(record)
+    _add_tables(record)
+    _add_program(record)
     record.add_argument(
-        "--record", metavar="FILE", default="record.jsonl", help="where the record goes (record.jsonl)"
+        "--record", metavar="FILE", default="record.jsonl", help="the path of the record (record.jsonl)"
     )
-    convert = command("convert", "convert a record to a script of esr", _convert)
-    convert.add_argument("record", metavar="RECORD", help="a record, JSON lines")
-    _out(convert)
-    audit = command("audit", "convert a record, and audit it", _audit)
-    audit.add_argument("record", metavar="RECORD", help="a record, JSON lines")
-    _of_audit(audit)
+    watch = command("watch", "audit reports among unchanged writers, whose writes are read from the log", _watch)
+    _add_server(watch)
+    _add_tables(watch)
+    watch.add_argument("--reports", metavar="FILE", required=True, help="the file to which reports append their lines")
+    watch.add_argument("--seconds", metavar="N", type=float, help="how long to watch (until SIGINT or SIGTERM)")
+    watch.add_argument("--window", metavar="N", type=float, default=5.0, help="audit every N seconds (5)")
+    add_audit_options(watch)
+    reports = command("reports", "run a program whose reports return pg_current_snapshot(), for watch", _reports)
+    _add_server(reports)
+    _add_tables(reports)
+    reports.add_argument("--to", metavar="FILE", required=True, help="the file to append the reports to")
+    _add_program(reports)
+    lint = command("lint", "name reports of a program whose statements do not share a snapshot", _lint)
+    _add_server(lint)
+    _add_tables(lint)
+    _add_program(lint)
+    finish = command("finish", "make the record of a recording whose recorder was killed", _finish)
+    _add_server(finish)
+    finish.add_argument("recording", metavar=f"FILE{OPEN}", help="the recording, as its recorder left it")
+    add_record_commands(command)
     return top
 
 
-# ---- what the commands do
-
-
-def _loaded(path: str) -> Record:
-    try:
-        with open(path, encoding="utf-8") as file:
-            return load(file)
-    except (RecordError, UnicodeDecodeError) as error:
-        raise Stop(2, f"{path}: {error}") from None
+# ---- commands
 
 
 @contextlib.contextmanager
-def _faults_told() -> Iterator[None]:
-    """What cannot be recorded, and a server that does not answer, end the command. (Only commands that record ask for
-    psycopg2; `connections` says what to do where it is missing.)"""
+def _failures() -> Iterator[None]:
+    """Ends the command if the database cannot be recorded or its server fails. (Only commands that record need
+    psycopg2; `connections` reports how to install it.)"""
     from .connections import ServerError
 
     try:
         yield
     except (RecordingError, ServerError) as error:
-        raise Stop(2, str(error).strip()) from None
+        raise Stop(FAILED, str(error).strip()) from None
+
+
+@contextlib.contextmanager
+def _kept(path: str) -> Iterator[None]:
+    """If the record cannot be finished, names the recording and keeps it; otherwise removes it."""
+    try:
+        with _failures():
+            yield
+    except Stop as stop:
+        raise Stop(stop.status, f"{stop}; the recording is kept: esr-postgres finish {path}") from None
+    os.unlink(path)
 
 
 def _run_recorded(path: str, words: list[str]) -> None:
-    """Runs a program as Python runs it. However it ends, what it did is recorded."""
+    """Runs a program as Python runs it. It is recorded, however it ends."""
     sys.argv = [path, *words]
     sys.path.insert(0, os.path.dirname(os.path.abspath(path)))
     try:
         runpy.run_path(path, run_name="__main__")
     except SystemExit as end:
         if end.code:
-            print(f"esr-postgres: {path} ended with {end.code}; the record is of what it did", file=sys.stderr)
-    except Exception:  # (any that the program lets go)
+            print(f"esr-postgres: {path} ended with {end.code}; the record is up to there", file=sys.stderr)
+    except Exception:  # (any that the program does not catch)
         traceback.print_exc()
-        print(f"esr-postgres: {path} ended with this error; the record is of what it did", file=sys.stderr)
+        print(f"esr-postgres: {path} ended with this error; the record is up to there", file=sys.stderr)
 
 
-def _recorded(words: argparse.Namespace) -> Record:
-    """The record of a program."""
-    with _faults_told():
+def _recorded(words: argparse.Namespace, target: str) -> Record:
+    """Records a program, and saves its record."""
+    if not os.path.isfile(words.program):
+        raise Stop(FAILED, f"there is no program {words.program}")
+    with _failures():
         from .recorder import Recorder
 
-        made = Recorder(words.dsn, [Table.parse(text) for text in words.table])
-    if not os.path.isfile(words.program):
-        raise Stop(2, f"there is no program {words.program}")
-    with made.in_place_of_psycopg2():
+        recorder = Recorder(words.dsn, [Table.parse(text) for text in words.table], target + OPEN)
+    with recorder.in_place_of_psycopg2():
         _run_recorded(words.program, words.words)
-    if made.unversioned:
-        missed = "statements read or wrote a recorded value without key and xmin: not recorded"
-        print(f"esr-postgres: {made.unversioned} {missed}", file=sys.stderr)
-    with _faults_told():
-        record = made.finish()
+    with _kept(target + OPEN):
+        record = recorder.finish()
+        save(record, target)
     if not record.transactions:
-        print("esr-postgres: no statement had key, value and xmin of a recorded table in its result", file=sys.stderr)
+        raise Stop(
+            NOTHING_AUDITED,
+            "nothing was recorded, so nothing is audited: no statement had key, value and xmin of a recorded table in"
+            " its result",
+        )
     return record
 
 
-def _program(words: argparse.Namespace) -> Program:
-    """The program esr. (It is looked for before anything is recorded.)"""
-    return Program(found(words.esr))
-
-
-def _show(record: Record, program: Program, words: argparse.Namespace) -> None:
-    print(audited(record, words.out, program, words.worst, words.workers).text(), end="")
-
-
-def _kept(record: Record, folder: str) -> Record:
+def _target(words: argparse.Namespace) -> str:
+    """Returns the path of the record of a result."""
+    folder = os.path.abspath(words.out)
     os.makedirs(folder, exist_ok=True)
-    save(record, os.path.join(folder, "record.jsonl"))
-    return record
+    return os.path.join(folder, "record.jsonl")
 
 
 def _run(words: argparse.Namespace) -> None:
-    program = _program(words)
-    _show(_kept(_recorded(words), words.out), program, words)
+    program, target = program_of(words), _target(words)
+    here = os.getcwd()
+    record = _recorded(words, target)
+    os.chdir(here)
+    show(record, program, words)
 
 
 def _bank(words: argparse.Namespace) -> None:
-    program = _program(words)
-    with _faults_told():
+    program, target = program_of(words), _target(words)
+    with _failures():
         from .bank import Bank
 
         bank = Bank(
@@ -235,73 +231,72 @@ def _bank(words: argparse.Namespace) -> None:
             not words.without_locks,
         )
         record = bank.record(words.dsn)
-    _show(_kept(record, words.out), program, words)
+    save(record, target)
+    show(record, program, words)
 
 
 def _record(words: argparse.Namespace) -> None:
     target = os.path.abspath(words.record)
-    record = _recorded(words)
+    record = _recorded(words, target)
+    print(f"{target}: {len(record.transactions):,} transactions, {len(record.items):,} items")
+
+
+def _watch(words: argparse.Namespace) -> None:
+    program = program_of(words)
+    with _failures():
+        from .watch import Watch, stop_at_signals
+
+        tables = [Table.parse(text) for text in words.table]
+        watch = Watch(words.dsn, tables, words.reports, words.out, program, words.window)
+        stop_at_signals(watch)
+        watch.run(words.seconds)
+    print(watch.result(words.worst), end="", flush=True)
+    if not watch.findings.reports:
+        raise Stop(NOTHING_AUDITED, "nothing was audited: no report that committed was recorded")
+
+
+def _reports(words: argparse.Namespace) -> None:
+    if not os.path.isfile(words.program):
+        raise Stop(FAILED, f"there is no program {words.program}")
+    with _failures():
+        from .reports import ReportRecorder
+
+        recorder = ReportRecorder(words.dsn, [Table.parse(text) for text in words.table], words.to)
+    with recorder.in_place_of_psycopg2():
+        _run_recorded(words.program, words.words)
+    if not recorder.count:
+        raise Stop(NOTHING_AUDITED, "no report was recorded: no statement returned pg_current_snapshot()")
+
+
+def _lint(words: argparse.Namespace) -> None:
+    if not os.path.isfile(words.program):
+        raise Stop(FAILED, f"there is no program {words.program}")
+    with _failures():
+        from .lint import Linter
+
+        linter = Linter(words.dsn, [Table.parse(text) for text in words.table])
+    with linter.in_place_of_psycopg2():
+        _run_recorded(words.program, words.words)
+    linter.finish()
+    if not linter.reports:
+        raise Stop(NOTHING_AUDITED, "no report was seen: no transaction only read a watched table")
+    if linter.findings:
+        raise Stop(CANNOT_BE_AUDITED, linter.text())
+    print(linter.text())
+
+
+def _finish(words: argparse.Namespace) -> None:
+    with _failures():
+        from .journal import load
+        from .recorder import current_life, finished
+
+        with open(words.recording, encoding="utf-8") as file:
+            recording = load(file)
+        target = words.recording[: -len(OPEN)] if words.recording.endswith(OPEN) else words.recording + ".jsonl"
+        record = finished(words.dsn, recording, current_life(words.dsn, recording), was_killed=True)
     save(record, target)
     print(f"{target}: {len(record.transactions):,} transactions, {len(record.items):,} items")
 
 
-def _convert(words: argparse.Namespace) -> None:
-    conversion = convert(history_of(_loaded(words.record)))
-    for path in write_scripts(conversion, pathlib.Path(words.out)):
-        print(path)
-
-
-def _audit(words: argparse.Namespace) -> None:
-    _show(_loaded(words.record), _program(words), words)
-
-
-# ---- the whole
-
-
-def _not_serializable(error: NotSerializable) -> str:
-    groups = "a group" if len(error.cycles) == 1 else f"{len(error.cycles):,} groups"
-    lines = [
-        line(
-            "order",
-            f"the updates are not serializable: {error.count:,} of them are in {groups} where each comes before",
-        ),
-        line("", "each other, so no report is audited: without a serial order there is no place for one"),
-    ]
-    for cycle in error.cycles[:CYCLES_TOLD]:
-        lines.append(line("cycle", f"{cycle.kind}: {cycle.steps[0]}"))
-        lines += [line("", str(step)) for step in cycle.steps[1:]]
-    if len(error.cycles) > CYCLES_TOLD:
-        lines.append(line("", f"and a cycle of each of {len(error.cycles) - CYCLES_TOLD:,} more groups"))
-    return "\n".join(lines)
-
-
-def obey(arguments: Optional[Sequence[str]] = None) -> None:
-    """Does what the words say. Raises Stop with a status where that cannot be done."""
-    words = parser().parse_args(arguments)
-    try:
-        words.job(words)
-    except NotSerializable as error:
-        raise Stop(1, _not_serializable(error)) from None
-    except IncompleteRecord as error:
-        raise Stop(
-            1, "the record is incomplete:\n" + "\n".join(f"  {line}" for line in str(error).splitlines())
-        ) from None
-    except TooLarge as error:
-        raise Stop(1, str(error)) from None
-    except OSError as error:
-        raise Stop(2, f"{error.filename}: {error.strerror}" if error.filename else str(error)) from None
-    except (ProgramError, ImportError) as error:
-        raise Stop(2, str(error)) from None
-
-
 def main() -> int:
-    try:
-        obey()
-    except Stop as stop:
-        print(
-            stop if stop.status == 1 else f"esr-postgres: {stop}", file=sys.stdout if stop.status == 1 else sys.stderr
-        )
-        return stop.status
-    except KeyboardInterrupt:
-        return 130
-    return 0
+    return status_of(parser())

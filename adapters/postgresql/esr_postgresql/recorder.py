@@ -1,97 +1,87 @@
-"""A recorder for PostgreSQL: connections of psycopg2 that note what an application reads and writes.
+"""A recorder for PostgreSQL: psycopg2 connections that note the rows that an application reads and writes.
 
-The idea: the system column `xmin` of a row names the transaction that wrote this version of the row. So a result that
-has a row's key, its value and its `xmin` says which version was seen; after UPDATE or INSERT, with RETURNING, which
-version was left. The recorder finds these columns in the results of an application's statements by what the server
-tells of each column, its table and its number there; the statements are the application's own, but that they ask for
-them. Just before a commit one statement more asks for the transaction's number, its isolation level and the time. How
-the transactions ended, and when, is asked of the server when the recording ends.
+The idea: the system column `xmin` of a row is the number of the transaction that wrote this version of the row. A result
+with a row's key, its value and its `xmin` therefore identifies the version that was read or, after UPDATE or INSERT with
+RETURNING, the version that was written. The recorder finds these columns by the table and column numbers that the server
+reports for each result. The application's statements stay as they are, except that they return these columns. Just
+before a commit one more statement returns the transaction's number, its isolation level and the time. When the recording
+ends, the server reports how each transaction ended and when.
 
-The invariant: what is recorded as committed the server says is committed. An update whose commit the application did
-not see answered is looked up like any other, and what a ROLLBACK TO SAVEPOINT undid is left out, since each write has
-the number of its own subtransaction as its version.
+The invariants: a transaction is recorded as committed only if the server reports it so, and only if the number that the
+server was asked about was still its number: after a recovery of the server, numbers whose commit was not acknowledged
+are assigned a second time, so such a transaction is unknown. Writes that a ROLLBACK TO SAVEPOINT undid are left out, as
+each write has the number of its own subtransaction as its version.
 
-Versions are told by the 32 bits of `xmin`: a row that was frozen long ago still shows those, and its epoch is
-nowhere. A recording is far shorter than 2^32 transactions, so no two versions of a row that it sees have one label,
-but by an accident that the converter would name.
+A recovery is noticed by a guard connection, since no session survives one. (`pg_postmaster_start_time` does not change,
+and `pg_stat_activity` shows the start of the checkpointer only to privileged roles.)
 
-Rejected: to read the write-ahead log (it has what was written, and no reads), triggers (no reads either), and to
-rewrite statements (which needs a parser, and then the application runs something else than it says).
+Versions are the 32 bits of `xmin`: a frozen row still shows those, and its epoch is not stored. A recording is far
+shorter than 2^32 transactions, so two versions of a row have one label only by an accident that the converter names.
+
+Rejected: triggers, which see no reads, and rewriting statements, which needs a parser and runs other statements than the
+application sent. For writes from the write-ahead log see `watch`.
 """
 
 from __future__ import annotations
 
 import contextlib
-import threading
 import time
 from typing import Any, Iterator, NamedTuple, Optional, Sequence
 
-from .connections import DATABASE, Ended, RecordingConnection, Rest, Row, deletes
-from .record import Action, Ending, Item, Operation, Outcome, Record, Transaction
-from .tables import Place, RecordingError, Table, known_table, rows_of
+from esr_history.record import Action, Ending, Item, Note, Operation, Outcome, Record, Transaction
 
-import psycopg2  # isort: skip (`connections` says what to do where it is missing)
+from .connections import DATABASE, Connector, Ended, Rest, Row, deletes
+from .journal import Journal, Recording
+from .tables import Place, RecordingError, Rows, Table, known_table, rows_of
+
+import psycopg2  # isort: skip (`connections` reports how to install it)
 
 OLDEST_SERVER = 130000
 ROUNDS = 2**32
-PATIENCE = 10.0  # seconds that a commit in doubt is waited for
+PATIENCE = 10.0  # seconds to wait for a commit in doubt
 
-ENDINGS = """select label, pg_xact_status(xid::text::xid8),
+# (`pg_xact_status` fails for a number that has not been assigned, as after a recovery.)
+ENDINGS = """select label,
+    case when xid < 0 or xid > %s then 'aborted'
+        else pg_xact_status(xid::text::xid8) end,
     (extract(epoch from pg_xact_commit_timestamp(label::text::xid)) * 1000000)::bigint
     from unnest(%s::bigint[], %s::bigint[]) as each(label, xid)"""
 
 
-class Recorder:
-    """Records the transactions of its connections, from when it is made to `finish`. The rows of the tables then are
-    the opening versions. To be used from several threads, each with a connection of its own."""
+class Recorder(Connector):
+    """Records the transactions of its connections from its construction until `finish`. The rows of the tables at the
+    construction are the opening versions. It may be used by several threads, each with its own connection. With
+    `journal`, the path of a new file, transactions are appended to that file as they end."""
 
-    def __init__(self, dsn: str, tables: Sequence[Table]) -> None:
-        self._dsn = dsn
-        self._lock = threading.Lock()
-        self._ended: list[Ended] = []
-        self._connections = 0
-        self._counts: dict[str, int] = {}
-        self._faults: list[str] = []
-        self.unversioned = 0
+    def __init__(self, dsn: str, tables: Sequence[Table], journal: Optional[str] = None) -> None:
+        super().__init__(dsn)
+        self._guard: Any = None
         self.database: tuple[Any, ...]
         with _reading(dsn) as cursor:
-            self.system = _checked(cursor)
+            system = _checked(cursor)
             cursor.execute(DATABASE)
             self.database = cursor.fetchone()
             self._known = [known_table(cursor, table) for table in tables]
-            self._opening = rows_of(cursor, tables)
+            self._recording = Recording(system, list(tables), rows_of(cursor, tables))
+        self._journal = Journal(journal, self._recording) if journal else None
+        self.life()
 
-    def connect(self, label: Optional[str] = None) -> RecordingConnection:
-        """A connection to the recorder's database, whose transactions are called by the label (`c1`, `c2` .. where
-        none is given) and a number."""
-        return self._connected(label, psycopg2.connect, self._dsn)
+    @property
+    def unversioned(self) -> int:
+        """The number of statements that read or wrote a recorded value without key and xmin."""
+        return self._recording.unversioned
 
-    def _connected(self, label: Optional[str], connect: Any, dsn: Optional[str], **named: Any) -> RecordingConnection:
+    def life(self) -> int:
+        """Returns the number of the server's current life, from 1. A connection that was opened before this call and
+        works after it belongs to this life: the guard is older than the call, and no session survives a recovery."""
         with self._lock:
-            self._connections += 1
-            label = label or f"c{self._connections}"
-        connection: RecordingConnection = connect(dsn, connection_factory=RecordingConnection, **named)
-        connection._open(self, label)
-        return connection
-
-    @contextlib.contextmanager
-    def in_place_of_psycopg2(self) -> Iterator[None]:
-        """Makes every connection of psycopg2.connect one of this recorder. What is done in other databases is not
-        recorded."""
-        plain = psycopg2.connect
-
-        def connect(
-            dsn: Optional[str] = None, connection_factory: Any = None, cursor_factory: Any = None, **named: Any
-        ) -> RecordingConnection:
-            if connection_factory is not None:
-                raise RecordingError("a connection with a connection_factory of its own cannot be recorded")
-            return self._connected(None, plain, dsn, cursor_factory=cursor_factory, **named)
-
-        psycopg2.connect = connect
-        try:
-            yield
-        finally:
-            psycopg2.connect = plain
+            if self._guard is None or not _works(self._guard):
+                self._guard = psycopg2.connect(self._dsn)
+                self._guard.autocommit = True
+                self._recording.lives.append(_server(self._guard))
+                if self._journal:
+                    self._journal.life(self._recording.lives[-1])
+            return len(self._recording.lives)
 
     def table(self, name: str) -> Table:
         for known in self._known:
@@ -100,44 +90,91 @@ class Recorder:
         raise RecordingError(f"the table {name} is not recorded")
 
     def places(self, description: Sequence[Any]) -> list[Place]:
-        """Where a result has rows of the recorded tables."""
+        """Returns the columns of the rows of recorded tables in a result."""
         found = []
         for known in self._known:
             places, is_unversioned = known.places(description)
             found += places
             if is_unversioned:
                 with self._lock:
-                    self.unversioned += 1
+                    self._recording.unversioned += 1
+                    if self._journal:
+                        self._journal.unversioned()
         return found
 
-    def keep(self, ended: Ended) -> None:
-        """Takes a transaction that has ended, and gives its name a number."""
-        with self._lock:
-            count = self._counts[ended.name] = self._counts.get(ended.name, 0) + 1
-            self._ended.append(ended._replace(name=f"{ended.name}_{count}"))
+    def about_to_end(self, ended: Ended) -> None:
+        """Appends a transaction to the journal. If the recorder is killed before `keep`, the server knows how it
+        ended."""
+        if self._journal:
+            self._journal.transaction(ended)
 
-    def fault(self, text: str) -> None:
-        """Notes what cannot be recorded. The application goes on."""
+    def keep(self, ended: Ended) -> None:
+        """Takes a transaction that has ended."""
         with self._lock:
-            self._faults.append(text)
+            self._recording.ended.append(ended)
+        if self._journal:
+            self._journal.outcome(ended)
 
     def finish(self) -> Record:
-        """The record. What is still open is not in it. Raises RecordingError where something could not be
-        recorded."""
-        with self._lock:
-            ended = list(self._ended)
-        if self._faults:
-            more = f"; and {len(self._faults) - 1} more such rows" if len(self._faults) > 1 else ""
-            raise RecordingError(self._faults[0] + more)
-        statuses = _statuses(self._dsn, ended)
-        with _reading(self._dsn) as cursor:
-            closing = rows_of(cursor, [known.table for known in self._known])
-        return _record(self.system, self._opening, closing, ended, statuses)
+        """Returns the record, without transactions that are still open.
+
+        # Errors
+        RecordingError or an error of psycopg2 if the server cannot be asked how the transactions ended. The journal is
+        complete then, and `finished` continues from it."""
+        return finished(self._dsn, self._recording, self.life())
+
+
+def finished(dsn: str, recording: Recording, life: int, was_killed: bool = False) -> Record:
+    """Returns the record of a recording, after asking the server how its transactions ended. `life` is the number of
+    the server's current life."""
+    ended = list(recording.ended)
+    statuses = _statuses(dsn, ended, life)
+    closing = _closing(dsn, recording.tables)
+    notes = closing.notes()
+    if was_killed:
+        notes.append(Note("the recorder was killed: transactions that ended last may be missing", is_gap=True))
+    if recording.unversioned:
+        text = f"{recording.unversioned} statements read or wrote a recorded value without key and xmin: not recorded"
+        notes.append(Note(text, is_gap=True))
+    return _record(recording, closing, ended, _Outcomes(ended, statuses, life), notes)
+
+
+def current_life(dsn: str, recording: Recording) -> int:
+    """Returns the number of the server's current life for a recording whose recorder has died: the last one of the
+    recording if the server's processes are provably the same, otherwise a new one."""
+    connection = psycopg2.connect(dsn)
+    try:
+        server = _server(connection)
+    finally:
+        connection.close()
+    is_same = recording.lives[-1:] == [server] and server[1] is not None
+    return len(recording.lives) + (0 if is_same else 1)
+
+
+def _server(connection: Any) -> tuple[str, Optional[str]]:
+    """Returns the start times of the server and, if the role may see it, of its checkpointer, which is restarted by a
+    recovery."""
+    with connection.cursor() as cursor:
+        cursor.execute(
+            "select pg_postmaster_start_time()::text,"
+            " (select min(backend_start)::text from pg_stat_activity where backend_type = 'checkpointer')"
+        )
+        started, checkpointer = cursor.fetchone()
+        return started, checkpointer
+
+
+def _works(connection: Any) -> bool:
+    try:
+        with connection.cursor() as cursor:
+            cursor.execute("select 1")
+        return True
+    except psycopg2.Error:
+        return False
 
 
 @contextlib.contextmanager
 def _reading(dsn: str) -> Iterator[Any]:
-    """A cursor that reads one snapshot, on a connection of its own."""
+    """Yields a cursor that reads one snapshot, on a separate connection."""
     connection = psycopg2.connect(dsn)
     try:
         connection.set_session(isolation_level="REPEATABLE READ", readonly=True)
@@ -146,8 +183,24 @@ def _reading(dsn: str) -> Iterator[Any]:
         connection.close()
 
 
+class _Closing(NamedTuple):
+    """The rows of the tables at the end, and the faults of those that cannot be recorded."""
+
+    rows: Rows
+    faults: dict[str, str]
+
+    def notes(self) -> list[Note]:
+        return [Note(f"at the end {fault}", is_gap=True) for fault in self.faults.values()]
+
+
+def _closing(dsn: str, tables: Sequence[Table]) -> _Closing:
+    faults: dict[str, str] = {}
+    with _reading(dsn) as cursor:
+        return _Closing(rows_of(cursor, tables, faults), faults)
+
+
 def _checked(cursor: Any) -> str:
-    """The name of the server, where it can be recorded."""
+    """Returns the name of the server if it can be recorded."""
     cursor.execute(
         "select current_setting('server_version_num')::int, current_setting('server_version'),"
         " current_setting('track_commit_timestamp')"
@@ -167,49 +220,88 @@ def _checked(cursor: Any) -> str:
 
 
 class _Status(NamedTuple):
-    """What the server says of a transaction or a subtransaction."""
+    """The server's report about a transaction or a subtransaction."""
 
     outcome: Outcome
     time: int
 
 
 def _labels(each: Ended) -> list[int]:
-    """The 32 bits of the numbers under which a transaction wrote: its own, where it is known, and then those of its
+    """Returns the 32 bits of the numbers under which a transaction wrote: its own, if known, and then those of its
     subtransactions."""
     own = [each.xid % ROUNDS] if each.xid is not None else []
     rows = (noted.operation for noted in each.noted if isinstance(noted, Row))
     return own + [int(row.version) for row in rows if row.action is Action.WRITE and row.version is not None]
 
 
-def _statuses(dsn: str, ended: list[Ended]) -> dict[int, _Status]:
-    """How the writers ended. One that is still about to is waited for, for some seconds."""
+def _statuses(dsn: str, ended: list[Ended], life: int) -> dict[int, _Status]:
+    """Returns how the writers ended. Waits some seconds for those of this life that are still about to end."""
     labels = sorted({label for each in ended for label in _labels(each)})
+    current = {label for each in ended if each.life == life for label in _labels(each)}
     words = {"committed": Outcome.COMMITTED, "aborted": Outcome.ABORTED}
+    following = _next_number(dsn)
+    # (the newest number with these 32 bits that has been assigned)
+    full = [following - (following - label) % ROUNDS for label in labels]
     until = time.monotonic() + PATIENCE
     while True:
         with _reading(dsn) as cursor:
-            cursor.execute("select pg_snapshot_xmax(pg_current_snapshot())::text::bigint")
-            following = cursor.fetchone()[0]
-            # (the newest number with these 32 bits that has been given)
-            full = [following - (following - label) % ROUNDS for label in labels]
-            cursor.execute(ENDINGS, (labels, full))
-            statuses = {label: _Status(words.get(word, Outcome.UNKNOWN), stamp or 0) for label, word, stamp in cursor}
-        for label, status in statuses.items():
-            if status.outcome is Outcome.COMMITTED and not status.time:
-                raise RecordingError(f"the server has no time of the commit of transaction {label}")
-        if time.monotonic() > until or all(status.outcome is not Outcome.UNKNOWN for status in statuses.values()):
+            cursor.execute(ENDINGS, (following, labels, full))
+            statuses = {}
+            for label, word, stamp in cursor:
+                is_known = word != "committed" or stamp
+                statuses[label] = _Status(words.get(word, Outcome.UNKNOWN) if is_known else Outcome.UNKNOWN, stamp or 0)
+        if time.monotonic() > until or all(statuses[label].outcome is not Outcome.UNKNOWN for label in current):
             return statuses
         time.sleep(0.1)
+
+
+def _next_number(dsn: str) -> int:
+    """Returns a transaction number that is assigned now: all smaller ones have been assigned, no larger one has. (The
+    snapshot's xmax may be smaller than a number in progress.)"""
+    connection = psycopg2.connect(dsn)
+    try:
+        with connection.cursor() as cursor:
+            cursor.execute("select pg_current_xact_id()::text::bigint")
+            number: int = cursor.fetchone()[0]
+            return number
+    finally:
+        connection.close()
+
+
+class _Outcomes:
+    """Decides how transactions ended, from the server's report about their numbers and from the acknowledgements that
+    their connections received. A number of an earlier life of the server may be that of another transaction now."""
+
+    def __init__(self, ended: Sequence[Ended], statuses: dict[int, _Status], life: int) -> None:
+        self.statuses, self.life = statuses, life
+        self.owners = {_labels(each)[0]: each.name for each in sorted(ended, key=lambda e: e.life) if _labels(each)}
+
+    def of(self, each: Ended) -> tuple[Outcome, int]:
+        """Returns the outcome of a transaction, and when it ended."""
+        labels = _labels(each)
+        if not labels:
+            # (the time of the commit of a DELETE outside a block is unknown)
+            return (Outcome.UNKNOWN if any(map(deletes, each.noted)) else each.outcome), each.ended
+        outcome, time_of_commit = self.statuses[labels[0]]
+        if each.life != self.life and outcome is Outcome.COMMITTED:
+            is_acknowledged = each.outcome is Outcome.COMMITTED and each.lasts
+            if not is_acknowledged or self.owners[labels[0]] != each.name:
+                return Outcome.UNKNOWN, each.ended
+        return outcome, time_of_commit or each.ended
+
+    def undone(self, each: Ended) -> set[str]:
+        """Returns the labels of the subtransactions of a committed transaction that were rolled back."""
+        labels = _labels(each)
+        if self.of(each)[0] is not Outcome.COMMITTED:
+            return set()
+        return {str(label) for label in labels if self.statuses[label].outcome is Outcome.ABORTED}
 
 
 # ---- the record
 
 
-def _operations(each: Ended, statuses: dict[int, _Status], items: dict[str, Table]) -> Iterator[Operation]:
-    """What a transaction did, without what it undid itself, and with its reads of rows that were not there."""
-    labels = _labels(each)
-    is_committed = bool(labels) and statuses[labels[0]].outcome is Outcome.COMMITTED
-    undone = {str(label) for label in labels if is_committed and statuses[label].outcome is not Outcome.COMMITTED}
+def _operations(each: Ended, undone: set[str], items: dict[str, Table]) -> Iterator[Operation]:
+    """Yields the operations of a transaction without those that it undid, and its reads of rows that did not exist."""
     for noted in each.noted:
         if isinstance(noted, Rest):
             for item, table in items.items():
@@ -221,40 +313,39 @@ def _operations(each: Ended, statuses: dict[int, _Status], items: dict[str, Tabl
             yield noted.operation
 
 
-def _transaction(each: Ended, statuses: dict[int, _Status], items: dict[str, Table]) -> Transaction:
-    labels = _labels(each)
-    outcome, ended = each.outcome, each.ended
-    if labels:
-        outcome, time_of_commit = statuses[labels[0]]
-        ended = time_of_commit or ended
-    elif any(map(deletes, each.noted)):
-        outcome = Outcome.UNKNOWN  # (a DELETE outside a block: nothing tells when it committed)
-    return Transaction(
-        each.name, outcome, min(each.began, ended), ended, tuple(_operations(each, statuses, items)), each.level
-    )
+def _transaction(each: Ended, outcomes: _Outcomes, items: dict[str, Table]) -> Transaction:
+    outcome, ended = outcomes.of(each)
+    reason = ""
+    if each.faults and outcome is Outcome.COMMITTED:
+        outcome, reason = Outcome.LEFT_OUT, each.faults[0]
+        if len(each.faults) > 1:
+            reason += f" (and {len(each.faults) - 1} more)"
+    operations = tuple(_operations(each, outcomes.undone(each), items))
+    labels = (str(each.xid % ROUNDS),) if each.xid is not None else ()
+    began = min(each.began, ended)
+    return Transaction(each.name, outcome, began, ended, operations, each.level, labels, reason)
 
 
 def _record(
-    system: str,
-    opening: dict[str, tuple[Table, int, str]],
-    closing: dict[str, tuple[Table, int, str]],
-    ended: list[Ended],
-    statuses: dict[int, _Status],
+    recording: Recording, closing: _Closing, ended: list[Ended], outcomes: _Outcomes, notes: list[Note]
 ) -> Record:
-    """The record. Of rows that nobody touched there is nothing to tell."""
-    record = Record(system)
-    items = {item: table for item, (table, _, _) in {**opening, **closing}.items()}
+    """Returns the record. Rows that no recorded transaction read or wrote, and that are the same at the end, are left
+    out."""
+    record = Record(recording.system, notes=notes)
+    opening = recording.opening
+    items = {item: table for item, (table, _, _) in {**opening, **closing.rows}.items()}
     for each in ended:
         for noted in each.noted:
             if isinstance(noted, Row):
                 items.setdefault(noted.operation.item, noted.table)
-    done = [(_transaction(each, statuses, items), each.xid or max(_labels(each), default=0)) for each in ended]
+    done = [(_transaction(each, outcomes, items), each.xid or max(_labels(each), default=0)) for each in ended]
     record.transactions = [each for each, _ in sorted(done, key=lambda pair: (pair[0].ended, pair[1]))]
     used = {operation.item for each in record.transactions for operation in each.operations}
     for item, table in items.items():
-        if item in used or opening.get(item) != closing.get(item):
+        if item in used or opening.get(item) != closing.rows.get(item):
             _, value, version = opening.get(item, (table, None, None))
             record.items[item] = Item(item, value, version, table.weight, table.scale)
-            _, value, version = closing.get(item, (table, None, None))
-            record.endings.append(Ending(item, value, version))
+            if item not in closing.faults:
+                _, value, version = closing.rows.get(item, (table, None, None))
+                record.endings.append(Ending(item, value, version))
     return record

@@ -1,31 +1,31 @@
-"""Tables whose rows are items, and where their rows are in the result of a statement.
+"""Tables whose rows are items, and the places of their rows in the result of a statement.
 
-The idea: of each column of a result the server tells from which column of which table it comes. So the key, the value
-and the version of a row are found by that, whatever the statement looks like and whatever else it asks for.
+The idea: for each column of a result the server reports the table and the column that it comes from. This identifies the
+key, the value and the version of a row, whatever else the statement returns.
 
-Rejected: to read the statement. It would take a parser of SQL, and views, joins and functions would still hide tables.
+Rejected: reading the statement. It would take a parser of SQL, and views, joins and functions would still hide tables.
 """
 
 from __future__ import annotations
 
 from dataclasses import dataclass
 from decimal import Decimal
-from typing import Any, NamedTuple, Sequence
+from typing import Any, NamedTuple, Optional, Sequence
 
-from .record import MAX_VALUE
+from esr_history.record import MAX_VALUE
 
 XID_TYPE = 28  # the number of the type xid
 EXACT = ("smallint", "integer", "bigint", "numeric")
 
 
 class RecordingError(Exception):
-    """A recording that cannot be made. The message says what to do."""
+    """A recording that cannot be made. The message contains the remedy."""
 
 
 @dataclass(frozen=True)
 class Table:
-    """A table whose rows are items: by the columns `key`, with the values of the column `value`, of which `scale`
-    decimal digits behind the point are kept. A difference of one unit counts `weight`."""
+    """A table whose rows are items: by the columns `key`, with the values of the column `value`, which has `scale` decimal
+    digits. A difference of one unit counts `weight`."""
 
     name: str
     key: tuple[str, ...]
@@ -44,11 +44,11 @@ class Table:
         return Table(parts[0], tuple(parts[1].split(",")), parts[2], int(parts[3]) if len(parts) == 4 else 0)
 
     def item(self, key: Sequence[Any]) -> str:
-        """The item of a row."""
+        """Returns the item of a row."""
         return f"{self.name}/{','.join(str(part) for part in key)}"
 
     def whole(self, item: str, value: Any) -> int:
-        """A value as a whole number of units of the scale."""
+        """Returns a value as an integer number of units of the scale."""
         if value is None:
             raise RecordingError(f"{item}: {self.value} is null; a recorded column has a value in every row")
         if isinstance(value, bool) or not isinstance(value, (int, Decimal)) or not Decimal(value).is_finite():
@@ -65,8 +65,11 @@ class Table:
         return int(scaled)
 
 
+Rows = dict[str, tuple[Table, int, str]]  # (of each item its table, value and version)
+
+
 class Place(NamedTuple):
-    """Where the columns of a table's row are in a result."""
+    """The columns of a table's row in a result."""
 
     table: Table
     key: tuple[int, ...]
@@ -82,16 +85,23 @@ class KnownTable:
         self.key = [columns[name] for name in table.key]
         self.value = columns[table.value]
 
+    def values_of(self, description: Sequence[Any]) -> list[tuple[tuple[int, ...], int]]:
+        """Returns the columns of the key and the value for each time that a result has rows of the table."""
+        mine = [(place, column) for place, column in enumerate(description) if column.table_oid == self.oid]
+        keys = [[place for place, column in mine if column.table_column == number] for number in self.key]
+        values = [place for place, column in mine if column.table_column == self.value]
+        return list(zip(zip(*keys), values))
+
     def places(self, description: Sequence[Any]) -> tuple[list[Place], bool]:
-        """The rows of the table that a result has, one for each time that the table is in it; and whether it has
-        values of the table beyond these, without what tells their versions."""
+        """Returns the columns of each row of the table in a result, and whether the result has more values of the table,
+        without their keys or versions."""
         mine = [(place, column) for place, column in enumerate(description) if column.table_oid == self.oid]
 
         def numbered(number: int) -> list[int]:
             return [place for place, column in mine if column.table_column == number]
 
-        # (psycopg2 tells no number of a system column)
-        xmins = [place for place, column in mine if column.name == "xmin" and column.type_code == XID_TYPE]
+        # (psycopg2 has no number of a system column; object-relational mappers give it an alias such as accounts_xmin)
+        xmins = [place for place, column in mine if column.name.endswith("xmin") and column.type_code == XID_TYPE]
         values = numbered(self.value)
         rows = zip(zip(*map(numbered, self.key)), values, xmins)
         found = [Place(self.table, key, value, xmin) for key, value, xmin in rows]
@@ -106,7 +116,7 @@ def _quoted(name: str) -> str:
 
 
 def known_table(cursor: Any, table: Table) -> KnownTable:
-    """A table as the server has it."""
+    """Looks up a table on the server."""
     cursor.execute("select oid, relkind from pg_class where oid = to_regclass(%s)", (table.name,))
     row = cursor.fetchone()
     if row is None:
@@ -128,13 +138,22 @@ def known_table(cursor: Any, table: Table) -> KnownTable:
     return KnownTable(table, row[0], {name: number for name, (number, _) in columns.items()})
 
 
-def rows_of(cursor: Any, tables: Sequence[Table]) -> dict[str, tuple[Table, int, str]]:
-    """All rows of the tables: of each item its table, its value and its version."""
+def rows_of(cursor: Any, tables: Sequence[Table], faults: Optional[dict[str, str]] = None) -> Rows:
+    """Returns all rows of the tables: for each item its table, its value and its version. Adds rows that cannot be
+    recorded to `faults`.
+
+    # Errors
+    RecordingError for such a row, without `faults`."""
     found = {}
     for table in tables:
         columns = ", ".join(_quoted(name) for name in (*table.key, table.value))
         cursor.execute(f"select {columns}, xmin from {table.name}")
         for *key, value, xmin in cursor:
             item = table.item(key)
-            found[item] = (table, table.whole(item, value), str(xmin))
+            try:
+                found[item] = (table, table.whole(item, value), str(xmin))
+            except RecordingError as error:
+                if faults is None:
+                    raise
+                faults[item] = str(error)
     return found

@@ -1,12 +1,15 @@
 """The recorder, on a server: its words for libpq are in the variable ESR_POSTGRES_DSN, and without it nothing is tried.
 `checks/postgresql` starts one and runs these."""
 
+import contextlib
 import os
 import pathlib
+import signal
 import subprocess
 import sys
 import tempfile
 import threading
+import time
 import unittest
 from decimal import Decimal
 from unittest import mock
@@ -17,16 +20,16 @@ HERE = pathlib.Path(__file__).resolve().parent
 if DSN is not None:
     import psycopg2
     import psycopg2.extensions as extensions
-    from psycopg2.extras import DictCursor, RealDictCursor
+    from psycopg2.extras import DictCursor, RealDictCursor, execute_batch
     from psycopg2.sql import SQL
 
     from esr_postgresql import recorder as module
     from esr_postgresql.recorder import Recorder
 
-from esr_postgresql.order import history_of, unrecorded_endings  # noqa: E402
-from esr_postgresql.record import Action, Outcome  # noqa: E402
+from esr_history.order import gaps, history_of, unrecorded_endings  # noqa: E402
+from esr_history.record import Action, Outcome  # noqa: E402
+from esr_history.versions import IncompleteRecord  # noqa: E402
 from esr_postgresql.tables import RecordingError, Table  # noqa: E402
-from esr_postgresql.versions import IncompleteRecord  # noqa: E402
 
 SELECT = "select id, v, xmin from t where id = %s"
 UPDATE = "update t set v = %s where id = %s returning id, v, xmin"
@@ -252,15 +255,15 @@ class Recording(unittest.TestCase):
             [each for end, each in ends if end is Outcome.COMMITTED], [[("write", "t/1", 12)], [("read", "t/1", 12)]]
         )
 
-    def test_a_chain_cannot_be_recorded(self):
-        for end in ("commit and chain", "rollback and chain"):
-            connection = self.connect()
-            connection.cursor().execute(UPDATE, (11, 1))
+    def test_a_chain_is_two_transactions(self):
+        connection = self.connect()
+        for value, end in ((11, "commit and chain"), (12, "rollback and chain"), (13, "commit")):
+            connection.cursor().execute(UPDATE, (value, 1))
             connection.cursor().execute(end)
-            connection.rollback()
-            with self.assertRaisesRegex(RecordingError, "AND CHAIN"):
-                self.recorder.finish()
-            self.recorder._faults.clear()
+        _, done = self.finished()
+        ends = [(done[name].outcome, told(done[name])[0][2]) for name in ("c_1", "c_2", "c_3")]
+        committed, aborted = Outcome.COMMITTED, Outcome.ABORTED
+        self.assertEqual(ends, [(committed, 11), (aborted, 12), (committed, 13)])
 
     def test_what_is_done_in_another_database_is_not_recorded(self):
         self.plain.execute("drop database if exists elsewhere")
@@ -363,8 +366,38 @@ class Recording(unittest.TestCase):
         connection = self.connect()
         connection.cursor().execute(INSERT, (3, 10**12 + 1))
         connection.commit()
-        with self.assertRaisesRegex(RecordingError, r"^t/3: v is 1000000000001: beyond 1000000000000 units"):
-            self.recorder.finish()
+        connection.cursor().execute(UPDATE, (None, 2))
+        connection.commit()
+        connection.cursor().execute("select id, v, xmin from t")
+        connection.commit()
+        connection.cursor().execute(UPDATE, (11, 1))
+        connection.commit()
+        record, done = self.finished()
+        left_out = [(done[name].outcome, done[name].reason) for name in ("c_1", "c_2", "c_3")]
+        reason = "t/3: v is 1000000000001: beyond 1000000000000 units of its scale; give a smaller one"
+        null = "t/2: v is null; a recorded column has a value in every row"
+        self.assertEqual(
+            left_out,
+            [(Outcome.LEFT_OUT, reason), (Outcome.LEFT_OUT, null), (Outcome.LEFT_OUT, f"{reason} (and 1 more)")],
+        )
+        self.assertIs(done["c_4"].outcome, Outcome.COMMITTED)
+        self.assertEqual({note.text for note in record.notes}, {f"at the end {null}", f"at the end {reason}"})
+        history = history_of(record)
+        self.assertEqual([update.name for update in history.updates], ["c_4"])
+        self.assertIn("updates left out: c_1, c_2", gaps(history))
+
+    def test_wrong_scales(self):
+        self.plain.execute("drop table if exists s; create table s(id int primary key, v numeric)")
+        self.plain.execute("insert into s values (1, 1)")
+        self.recorder = Recorder(DSN, [Table("s", ("id",), "v")])
+        connection = self.connect()
+        connection.cursor().execute("update s set v = 1.5 returning id, v, xmin")
+        connection.commit()
+        connection.cursor().execute("update s set v = 2 returning id, v, xmin")
+        connection.commit()
+        _, done = self.finished()
+        self.assertIs(done["c_1"].outcome, Outcome.LEFT_OUT)
+        self.assertIs(done["c_2"].outcome, Outcome.COMMITTED)
         table = Table("t", ("id",), "v", 1)
         self.assertEqual(table.whole("t/1", Decimal("1.50")), 15)
         for value, said in (
@@ -397,7 +430,160 @@ class Recording(unittest.TestCase):
                 Table.parse(text)
         self.assertEqual(Table.parse("s:shop,article:amount:2"), Table("s", ("shop", "article"), "amount", 2))
 
+    def test_a_trigger_and_a_batch_are_named_also_if_nobody_reads_their_rows(self):
+        self.plain.execute(
+            "create or replace function mirror() returns trigger language plpgsql as"
+            " 'begin update t set v = new.v where id = 2; return null; end'"
+        )
+        self.plain.execute(
+            "create trigger mirror after update on t for each row when (new.id = 1) execute function mirror()"
+        )
+        connection = self.connect()
+        connection.cursor().execute(UPDATE, (11, 1))
+        connection.commit()
+        with self.assertRaisesRegex(
+            IncompleteRecord, r"^at the end t/2 is 11 by \d+, which is c_1: a write of it by this transaction was not"
+        ):
+            history_of(self.finished()[0])
+        self.plain.execute("drop trigger mirror on t")
+        self.recorder = Recorder(DSN, [Table("t", ("id",), "v")])
+        connection = self.connect()
+        cursor = connection.cursor()
+        cursor.execute(UPDATE, (12, 1))
+        execute_batch(cursor, "update t set v = %s where id = %s", [(5, 2), (6, 2)])
+        connection.commit()
+        with self.assertRaisesRegex(IncompleteRecord, r"^at the end t/2 is 6 by \d+, which is c_1: "):
+            history_of(self.finished()[0])
+
+    def test_versions_under_an_alias(self):
+        connection = self.connect()
+        connection.cursor().execute("select id as t_id, v as t_v, xmin as t_xmin from t where id = 1")
+        connection.commit()
+        self.assertEqual(told(self.finished()[1]["c_1"]), [("read", "t/1", 10)])
+
+    # ---- a server that recovers, and a recorder that is killed
+
+    def recover(self):
+        """Kills a backend, so that the server ends all others and recovers, and waits until it accepts connections."""
+        victim = psycopg2.connect(DSN)
+        os.kill(victim.get_backend_pid(), signal.SIGKILL)
+        until = time.monotonic() + 30
+        while time.monotonic() < until:
+            with contextlib.suppress(psycopg2.Error):
+                with self.plain.connection.cursor() as cursor:
+                    cursor.execute("select 1")
+                time.sleep(0.05)
+                continue
+            break
+        while True:
+            try:
+                plain = psycopg2.connect(DSN)
+                break
+            except psycopg2.OperationalError:
+                self.assertLess(time.monotonic(), until)
+                time.sleep(0.05)
+        plain.autocommit = True
+        self.addCleanup(plain.close)
+        self.plain = plain.cursor()
+
+    def test_a_number_that_is_assigned_again_after_a_recovery(self):
+        early, lost = self.connect("early"), self.connect("lost")
+        early.cursor().execute(UPDATE, (11, 1))
+        early.commit()
+        cursor = lost.cursor()
+        cursor.execute(UPDATE, (21, 2))
+        cursor.execute("select pg_current_xact_id()::text")
+        number = cursor.fetchone()[0]
+        lost._ask()
+        self.recover()
+        with self.assertRaises(psycopg2.Error):
+            lost.commit()
+        late = self.connect("late")
+        late.cursor().execute(UPDATE, (22, 2))
+        late.commit()
+        record, done = self.finished()
+        self.assertEqual((done["lost_1"].labels, done["late_1"].labels), ((number,), (number,)))
+        outcomes = [done[name].outcome for name in ("early_1", "lost_1", "late_1")]
+        self.assertEqual(outcomes, [Outcome.COMMITTED, Outcome.UNKNOWN, Outcome.COMMITTED])
+        history = history_of(record)
+        self.assertEqual(history.chains["t/2"].values, [20, 22])
+        self.assertIn("updates that ended unknown: lost_1", gaps(history))
+
+    def test_a_number_that_is_in_the_future_after_a_recovery(self):
+        lost = self.connect("lost")
+        lost.cursor().execute(UPDATE, (21, 2))
+        self.recover()
+        lost.close()
+        reader = self.connect("reader")
+        reader.cursor().execute(SELECT, (2,))
+        reader.commit()
+        record, done = self.finished()
+        self.assertIs(done["lost_1"].outcome, Outcome.ABORTED)
+        self.assertEqual(told(done["reader_1"]), [("read", "t/2", 20)])
+        self.assertEqual(gaps(history_of(record)), [])
+
+    def test_a_recorder_that_is_killed(self):
+        program = f"""
+import os, signal, psycopg2
+one, other = psycopg2.connect({DSN!r}), psycopg2.connect({DSN!r})
+def run(connection, statement):
+    cursor = connection.cursor()
+    cursor.execute(statement)
+run(one, "select id, v, xmin from t where id = 1")
+run(other, "update t set v = v - 5 where id = 1 returning id, v, xmin")
+run(other, "update t set v = v + 5 where id = 2 returning id, v, xmin")
+other.commit()
+run(one, "select id, v, xmin from t where id = 2")
+one.commit()
+run(other, "update t set v = 1 where id = 2 returning id, v, xmin")
+other._keep = lambda outcome: os.kill(os.getpid(), signal.SIGKILL)
+other.commit()
+"""
+        with tempfile.TemporaryDirectory() as room:
+            done = self.command("run", "--dsn", DSN, "--table", "t:id:v", "--out", room, "PROGRAM", program=program)
+            self.assertEqual(done.returncode, -signal.SIGKILL, done.stderr)
+            path = os.path.join(room, "record.jsonl")
+            with open(path + ".open", "a", encoding="utf-8") as file:
+                file.write('{"transaction":"c2_9","xi')
+            done = self.command("finish", "--dsn", DSN, path + ".open", program="")
+            self.assertEqual((done.returncode, done.stderr), (0, ""))
+            done = self.command("audit", path, "--out", room, program="")
+            self.assertEqual(done.returncode, 0, done.stdout + done.stderr)
+        self.assertIn("record     2 updates at read committed; 1 report at read committed; 2 items\n", done.stdout)
+        self.assertIn("the recorder was killed: transactions that ended last may be missing\n", done.stdout)
+        self.assertIn("reports    0 without an error among the recorded updates, not known", done.stdout)
+        self.assertIn("distance   worst 5, mean 5.0\n", done.stdout)
+
+    def test_a_server_that_is_down_at_the_end(self):
+        program = f"""
+import psycopg2
+from esr_postgresql import recorder
+connection = psycopg2.connect({DSN!r})
+connection.cursor().execute("update t set v = 5 where id = 1 returning id, v, xmin")
+connection.commit()
+def down(*_):
+    raise psycopg2.OperationalError("the server is down")
+recorder._statuses = down
+"""
+        with tempfile.TemporaryDirectory() as room:
+            done = self.command("run", "--dsn", DSN, "--table", "t:id:v", "--out", room, "PROGRAM", program=program)
+            path = os.path.join(room, "record.jsonl.open")
+            said = f"esr-postgres: the server is down; the recording is kept: esr-postgres finish {path}\n"
+            self.assertEqual((done.returncode, done.stderr), (2, said))
+            done = self.command("finish", "--dsn", DSN, path, program="")
+            self.assertEqual((done.returncode, done.stdout), (0, f"{path[:-5]}: 1 transactions, 1 items\n"))
+
     # ---- the command
+
+    def test_a_program_whose_statements_have_no_versions(self):
+        program = f"import psycopg2; psycopg2.connect({DSN!r}).cursor().execute('select id, v from t')"
+        done = self.command("run", "--dsn", DSN, "--table", "t:id:v", "PROGRAM", program=program)
+        self.assertEqual((done.returncode, done.stdout), (3, ""))
+        self.assertEqual(
+            done.stderr,
+            "esr-postgres: nothing was recorded, so nothing is audited: no statement had key, value and xmin of a"
+            " recorded table in its result\n",
+        )
 
     def command(self, *words, program):
         with tempfile.TemporaryDirectory() as room:
@@ -407,7 +593,7 @@ class Recording(unittest.TestCase):
             return subprocess.run(
                 [sys.executable, HERE.parent / "esr-postgres", *words],
                 cwd=room,
-                env={**os.environ, "ESR": str(HERE / "plain_esr")},
+                env={**os.environ, "ESR": str(HERE.parents[1] / "history" / "tests" / "plain_esr")},
                 capture_output=True,
                 text=True,
                 check=False,
@@ -436,11 +622,9 @@ sys.exit(3)
         )
         self.assertEqual(done.returncode, 0, done.stderr)
         self.assertIn("sum 35 --out of the program\n", done.stdout)
-        self.assertIn(
-            "reports    0 exact: they read what some serial order shows; 1 off\ndistance   worst 5", done.stdout
-        )
-        self.assertIn("ended with 3; the record is of what it did", done.stderr)
-        self.assertIn("1 statements read or wrote a recorded value without key and xmin: not recorded", done.stderr)
+        self.assertIn("; 1 off\ndistance   worst 5, mean 5.0\nsum        worst error 5, mean 5.0\n", done.stdout)
+        self.assertIn("ended with 3; the record is up to there", done.stderr)
+        self.assertIn("1 statements read or wrote a recorded value without key and xmin: not recorded", done.stdout)
 
     def test_words_that_lead_nowhere(self):
         done = self.command("run", "--dsn", DSN, "--table", "nowhere:id:v", "PROGRAM", program="")

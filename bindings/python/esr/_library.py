@@ -1,7 +1,7 @@
-"""The shared library, declared for ctypes. Nothing here decides anything: each function is the C call of its name.
+"""Declares the shared library for ctypes. Each function is the C call of its name.
 
-The calls of single events keep the interpreter's lock, as they are shorter than giving it away and taking it again: between
-them threads change only where Python changes them. Those that may take long let others run meanwhile.
+The calls of single events keep the interpreter's lock, since they take less time than releasing and acquiring it. Calls that
+may take long release it.
 """
 
 import ctypes
@@ -11,7 +11,9 @@ import pathlib
 import types
 from ctypes import POINTER, c_bool, c_char_p, c_int64, c_size_t, c_uint8, c_uint32, c_uint64
 
-DONE, BAD_NAMES, NOT_A_COMMITTED_QUERY, TOO_SMALL, FULL, NO_MEMORY = 0, 5, 6, 7, 12, 13
+DONE, TOO_SMALL, FULL, NO_MEMORY, IS_CLOSED = 0, 7, 12, 13, 14
+FIRST_THAT_MAY_PASS = 9
+"""Refusals from this number on may pass once another transaction has ended."""
 READ, WRITE = 2, 3
 BEGUN, VALUE, WROTE, COMMITTED, ABORTED, REFUSED = 1, 2, 3, 4, 5, 6
 QUICK = {"esr_begin_update", "esr_begin_query", "esr_read", "esr_write", "esr_read_for_update", "esr_commit", "esr_abort"}
@@ -21,10 +23,15 @@ QUICK |= {"esr_totals_of", "esr_counts_of", "esr_account_of"}
 
 class Engine(ctypes.Structure):
     _fields_ = [("is_open", c_bool), ("machine", ctypes.c_void_p)]
+    is_open: bool
 
 
 class Reply(ctypes.Structure):
     _fields_ = [("kind", c_uint32), ("refusal", c_uint32), ("txn", c_uint32), ("value", c_int64)]
+    kind: int
+    refusal: int
+    txn: int
+    value: int
 
 
 class Event(ctypes.Structure):
@@ -33,27 +40,39 @@ class Event(ctypes.Structure):
 
 class Totals(ctypes.Structure):
     _fields_ = [("high", c_uint64), ("low", c_uint64), ("entries", c_uint64)]
+    high: int
+    low: int
 
 
 class Counts(ctypes.Structure):
     _fields_ = [(name, c_uint64) for name in ("entries", "transactions", "active", "entries_left", "transactions_left")]
+    entries: int
+    transactions: int
+    active: int
+    entries_left: int
+    transactions_left: int
 
 
 class Account(ctypes.Structure):
-    _fields_ = [("query", c_bool), ("standing", c_uint32), ("limit", c_uint64), ("charged", c_uint64)]
+    _fields_ = [("query", c_bool), ("status", c_uint32), ("limit", c_uint64), ("charged", c_uint64)]
+    status: int
+    charged: int
 
 
 class Finding(ctypes.Structure):
     _fields_ = [("distance", c_uint64), ("imported", c_uint64), ("count", c_size_t)]
+    distance: int
+    imported: int
+    count: int
 
 
 def _path() -> str:
-    """ESR_LIBRARY, the file beside this one, or what the system finds."""
+    """Returns the path in ESR_LIBRARY, of the file in this folder, or of the installed library."""
     named = os.environ.get("ESR_LIBRARY")
-    beside = pathlib.Path(__file__).with_name("libesr.so.0")
-    found = named or (str(beside) if beside.exists() else ctypes.util.find_library("esr"))
+    packaged = pathlib.Path(__file__).with_name("libesr.so.0")
+    found = named or (str(packaged) if packaged.exists() else ctypes.util.find_library("esr"))
     if not found:
-        raise ImportError("libesr.so.0 is neither beside the package nor installed: set ESR_LIBRARY to its path")
+        raise ImportError("libesr.so.0 is neither in the package nor installed: set ESR_LIBRARY to its path")
     return found
 
 
@@ -87,7 +106,7 @@ def _load() -> types.SimpleNamespace:
         call = getattr(quick if name in QUICK else library, name)
         call.argtypes, call.restype = arguments, c_uint32
         setattr(calls, name, call)
-    # the same call as esr_do, of bytes
+    # esr_do with events and replies as bytes
     calls.esr_do_packed = ctypes.PyDLL(path).esr_do
     calls.esr_do_packed.argtypes = [engine, c_char_p, c_size_t, c_char_p, c_size_t, c_bool, POINTER(c_size_t)]
     calls.esr_do_packed.restype = c_uint32

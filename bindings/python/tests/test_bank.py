@@ -14,6 +14,7 @@ import time
 import unittest
 
 import esr
+import esr._sqlite
 from esr import Bank, Blocked, Deadlock, EsrError, OutOfRange, Refused, UnknownItem
 
 
@@ -62,7 +63,7 @@ def together(*bodies):
 
 def load_tests(loader, tests, pattern):
     """The examples of the documentation are tests too."""
-    for module in (esr, esr._bank, esr._errors):
+    for module in (esr, esr._bank, esr._transactions, esr._errors, esr._metrics, esr._store, esr._sqlite):
         tests.addTests(doctest.DocTestSuite(module))
     return tests
 
@@ -93,7 +94,7 @@ class Banks(unittest.TestCase):
             "item checking 500\nitem savings 1500\nbegin t1 update 200\nwrite t1 checking 400\ncommit t1\n"
             "begin t2 query 200\nread t2 checking\ncommit t2\n",
         )
-        self.assertEqual(Bank({"my savings": 1}).script(), "item i0 1\n")
+        self.assertEqual(Bank({"my savings": 1, "checking": 2}).script(), "item i0 1\nitem checking 2\n")
 
     def test_a_report_is_explained_and_drawn(self):
         """To the byte, by the names of the items; a notebook shows the picture, and nothing where there is none."""
@@ -199,7 +200,7 @@ class Banks(unittest.TestCase):
 
     def test_a_deadlock_is_given_up_by_the_younger(self):
         """Two that hold what the other wants: one learns it at once, and both get through by trying anew."""
-        bank, met, runs = two_accounts(patience=10), threading.Barrier(2), []
+        bank, met, runs = two_accounts(patience=10, optimistic=False), threading.Barrier(2), []
 
         def move(first, second):
             waited = []
@@ -220,7 +221,8 @@ class Banks(unittest.TestCase):
 
     def test_a_ring_that_nobody_finds_is_left(self):
         """A report that waits behind its own limit for an update which waits for that report: the update is begun anew."""
-        bank, has_written, has_read, runs = two_accounts(), threading.Event(), threading.Event(), []
+        bank, runs = two_accounts(optimistic=False), []
+        has_written, has_read = threading.Event(), threading.Event()
 
         def move(update):
             runs.append(update.number)
@@ -250,7 +252,7 @@ class Banks(unittest.TestCase):
                 bank.transact(0, lambda update: runs.append(update.number) or update.add("checking", 1))
             self.assertGreaterEqual(time.monotonic() - begun, 0.3)
             self.assertEqual((caught.exception.other, len(runs) > 1), (holder.number, True))
-        bank, runs = two_accounts(patience=0.1), []
+        bank, runs = two_accounts(patience=0.1, optimistic=False), []
 
         def within(update):
             runs.append(update.number)
@@ -394,7 +396,7 @@ class Banks(unittest.TestCase):
         self.assertEqual(len(calls), len(set(calls)))
 
     def test_a_soak_loses_nothing_either_way(self):
-        for words in ({}, {"optimistic": True}):
+        for words in ({}, {"optimistic": False}):
             self.soak(**words)
 
     def soak(self, **words):

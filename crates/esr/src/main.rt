@@ -1,9 +1,9 @@
-//! The program `esr`: reads its words, does the job that they ask for, and maps what came of it to a status: 0 done
-//! (for `check`: valid), 1 invalid, bad, a fault, or a line at fault where `--bail` or `lint` looks for them, 2 a
-//! mistake in the words.
+//! The program `esr`: parses its arguments, executes the job, and maps the result to an exit status: 0 for success (for
+//! `check`: the bundle is valid), 1 for an invalid or malformed bundle, a fault, or a line with an error under `--bail`
+//! or `lint`, and 2 for wrong arguments.
 //!
-//! Help and the version that were asked for end with 0, and with 1 where they cannot be written. A status does not
-//! depend on standard error: what is told there is told where it can be, and the status is the same where it cannot.
+//! `--help` and `--version` exit with 0, or with 1 if the text cannot be written. The exit status does not depend on
+//! standard error: if a message cannot be written there, the status is the same.
 #![tactic(auto)]
 
 ghost use Rattle.std.specs.Prelude.{◌≡◌, ◌≤◌, false};
@@ -12,37 +12,39 @@ ghost use Rattle.esr_cli.specs.Job.{work_of, HasWorkers as HasItsWorkers};
 ghost use Rattle.esr_drive.specs.Drive.{HasWorkers};
 
 use either::{Left, Right};
-use esr_cli::{Format, Job, Progress, Task, command};
+use esr_cli::{Format, Job, Progress, Task, VERSION, command};
 use esr_commands::{
-    DriveText, Question, RenderQuery, RenderScript, RunScript, WriteBundle, audit_script, check,
-    execute_command, fail, is_shown, line_at_fault, list_faults, open_file,
+    AuditText, Console, DriveHelp, Output, Question, RenderQuery, RenderScript, RunScript,
+    WriteBundle, audit_script, audit_script_as, check, execute_command, fail, is_closed_pipe,
+    line_at_fault, list_faults, open_file, report_fault,
 };
-use esr_drive::{Form, NoGate, drive};
+use esr_drive::{DriveFault, DriveOutput, NoGate, drive};
 use esr_explain::Explaining;
 use esr_explore::{ExploreFault, Measure, Search, explore};
 use esr_history::Watched;
-use esr_lint::{KeptLine, Source};
-use esr_page::Page;
-use esr_picture::Drawing;
+use esr_lint::{KeptLine, Notes, Source};
+use esr_page::{Origin, Page};
+use esr_picture::{Drawing, NotedDrawing};
 use esr_prose::{Passage, Prose};
-use esr_script::TeeReader;
-use esr_tables::{AuditTable, Data, ExplanationTable, Ledger};
+use esr_script::{AuditedScript, TeeReader};
+use esr_tables::{Data, ExplanationTable, Ledger, audit_table};
 use esr_why::Why;
-use std::alloc::AllocError;
-use std::io;
+use httpdate::HttpDate;
+use std::alloc::{AllocError, Global};
 use std::io::Read;
 use std::process::ExitCode;
 use std::rt::Files;
 use std::sync::Wait;
 use std::thread::Threads;
-use std::time::Clock;
+use std::time::{Clock, SystemTime};
+use std::{fs, io};
 
 fn main(rt: HostRuntime) -> ExitCode {
     let alloc = rt.alloc();
     let arguments = match std::env::args(&rt) {
         Ok(arguments) => arguments,
         Err(error) if error.kind() == io::ErrorKind::InvalidData => {
-            return ExitCode::from(fail(&rt, &"an argument is not UTF-8", 2));
+            return ExitCode::from(fail(&rt, &"argument is not valid UTF-8", 2));
         }
         Err(_) => return ExitCode::from(fail(&rt, &"out of memory", 2)),
     };
@@ -57,17 +59,52 @@ fn main(rt: HostRuntime) -> ExitCode {
     }
     match command(alloc, words.as_slice()) {
         Ok(job) => {
-            let shows = is_shown(job.progress, &rt.stderr());
+            let console = Console::new(job.progress, &rt.stderr(), &rt.stdin());
             let status = match (job.task, job.file) {
-                (Task::Lint, Some(_)) => lint_each(&rt, shows, owned.as_slice()),
-                _ => do_job(&rt, shows, job),
+                (Task::Lint, Some(_)) => lint_each(&rt, console, owned.as_slice()),
+                _ => do_job(&rt, console, job),
             };
             ExitCode::from(status)
         }
         Err(error) => match error.print(&rt) {
+            Err(failed) if error.exit_code() == 0 && is_closed_pipe(&failed) => ExitCode::from(1),
             Err(_) if error.exit_code() == 0 => ExitCode::from(fail(&rt, &"write failed", 1)),
             _ => ExitCode::from(error.exit_code() as u8),
         },
+    }
+}
+
+/// Returns whether an operand names an input.
+fn is_input<R: Files>(rt: &R, path: &str) -> bool {
+    path == "-" || fs::metadata(rt, path).is_ok()
+}
+
+/// Accepts the operands of `why` in both orders: NAME and FILE are swapped if only the second one is an input.
+fn in_order<'a, R: Files>(rt: &R, job: Job<'a>) -> Job<'a>
+    ensures { HasItsWorkers (work_of job.task) → HasItsWorkers (work_of result.task) }
+{
+    let (Task::Why { name: Some(second) }, Some(first)) = (job.task, job.file) else {
+        return job;
+    };
+    if is_input(rt, first) || !is_input(rt, second) {
+        return job;
+    }
+    Job {
+        task: Task::Why { name: Some(first) },
+        file: Some(second),
+        bail: job.bail,
+        progress: job.progress,
+        format: job.format,
+    }
+}
+
+/// Returns the arguments of a task that takes the name of a transaction before the file.
+fn name_usage(task: Task<'_>) -> Option<&'static str> {
+    match task {
+        Task::Certify { .. } => Some("certify NAME FILE"),
+        Task::Explain { .. } => Some("explain NAME FILE"),
+        Task::Picture { .. } => Some("picture NAME FILE"),
+        _ => None,
     }
 }
 
@@ -75,22 +112,32 @@ fn main(rt: HostRuntime) -> ExitCode {
 /// reads is proved and compiled once.
 fn do_job<'a, R: Input + Print + Eprint + Files + AllocGlobal + Clock + Threads + Wait + Sync>(
     rt: &'a R,
-    shows: bool,
+    console: Console,
     job: Job<'a>,
 ) -> u8
     requires { HasItsWorkers (work_of job.task) }
 {
     if job.format.is_none() {
-        return fail(rt, &"--format takes text, csv or json", 2);
+        return fail(rt, &"--format must be text, csv or json", 2);
     }
+    let job = in_order(rt, job);
     let (source, input) = match job.file.filter(|file| *file != "-") {
-        None => (Source(None), Left(rt.reader())),
+        None => {
+            if console.is_typed
+                && let Some(usage) = name_usage(job.task)
+            {
+                let _ = eprintln!(rt;
+                    "esr: reading the script from the terminal, up to Ctrl-D (usage: esr {usage})"
+                );
+            }
+            (Source(None), Left(rt.reader()))
+        }
         Some(path) => match open_file(rt, path) {
             Ok(file) => (Source(Some(path)), Right(file)),
             Err(why) => return fail(rt, &format_args!("{path}: {why}"), 1),
         },
     };
-    do_task(rt, shows, job, source, input)
+    do_task(rt, console, job, source, input)
 }
 
 /// Does the work of a job, from this input.
@@ -98,60 +145,95 @@ fn do_task<
     'a,
     R: Print + Eprint + Files + AllocGlobal + Clock + Threads + Wait + Sync,
     I: Read + Drop,
->(rt: &'a R, shows: bool, job: Job<'a>, source: Source<'a>, input: I) -> u8
+>(rt: &'a R, console: Console, job: Job<'a>, source: Source<'a>, input: I) -> u8
     requires { HasItsWorkers (work_of job.task) }
 {
     match job.task {
-        Task::Run => execute_command(rt, shows, job, source, input, &RunScript),
+        Task::Run => execute_command(rt, console, job, source, input, &RunScript),
         Task::Certify { name, steps } => {
             let work = WriteBundle { name, steps };
-            execute_command(rt, shows, job, source, input, &work)
+            execute_command(rt, console, job, source, input, &work)
         }
         Task::Explain { name, prose: true } => {
             let script_view = &Prose { name };
-            execute_command(rt, shows, job, source, input, &RenderScript { script_view })
+            execute_command(
+                rt,
+                console,
+                job,
+                source,
+                input,
+                &RenderScript {
+                    script_view,
+                    notes: None,
+                },
+            )
         }
         Task::Explain { name, prose: false } => match data_of(job.format) {
             Some(data) => {
                 let query_view = &ExplanationTable { data };
-                let work = RenderQuery { name, query_view };
-                execute_command(rt, shows, job, source, input, &work)
+                let work = RenderQuery {
+                    name,
+                    query_view,
+                    notes: None,
+                };
+                execute_command(rt, console, job, source, input, &work)
             }
             None => {
                 let query_view = &Explaining;
-                let work = RenderQuery { name, query_view };
-                execute_command(rt, shows, job, source, input, &work)
+                let work = RenderQuery {
+                    name,
+                    query_view,
+                    notes: None,
+                };
+                execute_command(rt, console, job, source, input, &work)
             }
         },
         Task::Picture { name } => {
-            let query_view = &Drawing;
-            let work = RenderQuery { name, query_view };
-            execute_command(rt, shows, job, source, input, &work)
-        }
-        Task::Page { worst } => {
-            let script_view = &Page {
-                worst,
-                picture: &Drawing,
-                words: &Passage,
+            let notes = &Notes::new(rt.alloc());
+            let work = RenderQuery {
+                name,
+                query_view: &NotedDrawing { notes },
+                notes: Some(notes),
             };
-            execute_command(rt, shows, job, source, input, &RenderScript { script_view })
+            execute_command(rt, console, job, source, input, &work)
         }
+        Task::Page { worst } => show_page(rt, console, job, source, input, worst),
         Task::Audit { workers } => match data_of(job.format) {
             Some(data) => {
-                let script_view = &AuditTable { data };
-                execute_command(rt, shows, job, source, input, &RenderScript { script_view })
+                let view = &AuditTable { data };
+                audit_script_as(rt, console, job, source, input, workers, view)
             }
-            None => audit_script(rt, shows, job, source, input, workers),
+            None => audit_script(rt, console, job, source, input, workers),
         },
         Task::Ledger => {
             let script_view = &Ledger {
                 format: table_format(job.format),
             };
-            execute_command(rt, shows, job, source, input, &RenderScript { script_view })
+            execute_command(
+                rt,
+                console,
+                job,
+                source,
+                input,
+                &RenderScript {
+                    script_view,
+                    notes: None,
+                },
+            )
         }
         Task::Why { name } => {
             let script_view = &Why { name };
-            execute_command(rt, shows, job, source, input, &RenderScript { script_view })
+            execute_command(
+                rt,
+                console,
+                job,
+                source,
+                input,
+                &RenderScript {
+                    script_view,
+                    notes: None,
+                },
+            )
         }
         Task::Check {
             script,
@@ -163,21 +245,83 @@ fn do_task<
                 query,
                 verbose,
             };
-            check(rt, shows, source, input, question)
+            check(rt, console, source, input, question)
         }
         Task::Drive {
             workers: _,
             script: true,
-        } => drive_file(rt, source, input, Form::Script),
+        } => drive_file(rt, console, source, input, DriveOutput::Script),
         Task::Drive {
             workers,
             script: false,
-        } => drive_file(rt, source, input, Form::Text { workers }),
+        } => drive_file(rt, console, source, input, DriveOutput::Text { workers }),
         Task::Explore { seeds, all, worst } => match search_of(seeds, all, worst) {
-            Ok(search) => explore_file(rt, source, input, search),
+            Ok(search) => explore_file(rt, console, source, input, search),
             Err(mistake) => fail(rt, &mistake, 2),
         },
-        Task::Lint => list_faults(rt, source, input),
+        Task::Lint => list_faults(rt, console, source, input),
+    }
+}
+
+/// Returns the text of today's date, as in `27 Nov 2026`, unless the clock cannot be read.
+fn today(rt: &impl Clock, alloc: Global) -> Option<String> {
+    let since = SystemTime::now(rt)
+        .ok()?
+        .duration_since(SystemTime::UNIX_EPOCH)
+        .ok()?;
+    let date = HttpDate::from_unix_secs(since.as_secs()).ok()?;
+    let text = format!(in alloc; "{date}").ok()?;
+    // A date of a header begins with the day of the week and ends with the time.
+    let mut words = text.split(' ');
+    let (_, day, month, year) = (words.next()?, words.next()?, words.next()?, words.next()?);
+    format!(in alloc; "{day} {month} {year}").ok()
+}
+
+/// Prints the page about a script.
+fn show_page<'a, R: Print + Eprint + AllocGlobal + Clock, I: Read + Drop>(
+    rt: &'a R,
+    console: Console,
+    job: Job<'a>,
+    source: Source<'a>,
+    input: I,
+    worst: u64,
+) -> u8 {
+    let alloc = rt.alloc();
+    let notes = &Notes::new(alloc);
+    let date = today(rt, alloc);
+    let Source(file) = source;
+    let origin = Origin {
+        file,
+        date: date.as_deref(),
+        version: VERSION,
+        notes,
+    };
+    let work = RenderScript {
+        script_view: &Page {
+            worst,
+            picture: &Drawing,
+            words: &Passage,
+            origin,
+        },
+        notes: Some(notes),
+    };
+    execute_command(rt, console, job, source, input, &work)
+}
+
+/// The audits of a script as a table.
+#[derive(Drop)]
+struct AuditTable {
+    data: Data,
+}
+
+impl AuditText for AuditTable {
+    fn text_of(&self, alloc: Global, audited: &AuditedScript) -> Result<Vec<u8>, AllocError> {
+        let AuditedScript {
+            transactions,
+            history,
+            found,
+        } = audited;
+        audit_table(alloc, self.data, transactions, history, found)
     }
 }
 
@@ -205,7 +349,7 @@ const SEEDS: u64 = 1_000;
 /// What is looked for among interleavings, or what is wrong with the words for it.
 fn search_of(seeds: Option<u64>, all: bool, worst: Option<&str>) -> Result<Search, &'static str> {
     if all && seeds.is_some() {
-        return Err("--seeds and --all exclude each other");
+        return Err("--seeds and --all are mutually exclusive");
     }
     let seeds = if all {
         None
@@ -216,7 +360,7 @@ fn search_of(seeds: Option<u64>, all: bool, worst: Option<&str>) -> Result<Searc
         return Ok(Search { seeds, worst: None });
     };
     match Measure::of_name(name) {
-        None => Err("--worst takes import, distance or blocked"),
+        None => Err("--worst must be import, distance or blocked"),
         worst => Ok(Search { seeds, worst }),
     }
 }
@@ -224,26 +368,28 @@ fn search_of(seeds: Option<u64>, all: bool, worst: Option<&str>) -> Result<Searc
 /// Runs the blocks of a drive file in many interleavings.
 fn explore_file<R: Print + Eprint + AllocGlobal, I: Read + Drop>(
     rt: &R,
+    console: Console,
     source: Source<'_>,
     input: I,
     search: Search,
 ) -> u8 {
     let alloc = rt.alloc();
-    // A copy has the line at fault, and tells on which line a file stopped that has not been read whole.
+    // The copy contains the line with an error, or the one that is too long.
     let mut reader = Watched::new(TeeReader::new(alloc, input));
-    let mut writer = Watched::new(io::writer(rt));
+    let mut writer = Watched::new(Output::new(alloc, io::writer(rt), false));
     match explore(alloc, &mut reader, &mut writer, search) {
         Ok(()) => 0,
+        Err(ExploreFault::Drive(DriveFault::Write)) if writer.inner().is_closed() => 1,
         Err(ExploreFault::Drive(fault)) => {
             let read = reader.inner().copy().unwrap_or_default();
             let line = line_at_fault(read, fault);
-            let text = DriveText {
+            let help = DriveHelp {
                 source,
                 fault,
                 line,
                 read,
             };
-            fail(rt, &text, 1)
+            report_fault(rt, console, &fault, &help)
         }
         Err(fault) => fail(rt, &format_args!("{source}{fault}"), 1),
     }
@@ -252,16 +398,17 @@ fn explore_file<R: Print + Eprint + AllocGlobal, I: Read + Drop>(
 /// Runs a drive file.
 fn drive_file<R: Print + Eprint + AllocGlobal + Threads + Wait + Sync, I: Read + Drop>(
     rt: &R,
+    console: Console,
     source: Source<'_>,
     input: I,
-    form: Form,
+    form: DriveOutput,
 ) -> u8
     requires { HasWorkers form }
 {
     let alloc = rt.alloc();
-    // A copy tells on which line a drive file stopped that has not been read whole.
+    // The copy contains the line that is too long.
     let mut reader = Watched::new(TeeReader::new(alloc, input));
-    let mut writer = Watched::new(io::writer(rt));
+    let mut writer = Watched::new(Output::new(alloc, io::writer(rt), false));
     let mut kept = KeptLine::new(alloc);
     match drive(
         rt,
@@ -273,16 +420,16 @@ fn drive_file<R: Print + Eprint + AllocGlobal + Threads + Wait + Sync, I: Read +
         &mut kept,
     ) {
         Ok(()) => 0,
-        Err(fault) => fail(
-            rt,
-            &DriveText {
+        Err(DriveFault::Write) if writer.inner().is_closed() => 1,
+        Err(fault) => {
+            let help = DriveHelp {
                 source,
                 fault,
                 line: kept.line(),
                 read: reader.inner().copy().unwrap_or_default(),
-            },
-            1,
-        ),
+            };
+            report_fault(rt, console, &fault, &help)
+        }
     }
 }
 
@@ -290,7 +437,7 @@ fn drive_file<R: Print + Eprint + AllocGlobal + Threads + Wait + Sync, I: Read +
 /// words behind it are the files. The status is that of the last that was not clean.
 fn lint_each<'a, R: Input + Print + Eprint + Files + AllocGlobal + Clock + Threads + Wait + Sync>(
     rt: &'a R,
-    shows: bool,
+    console: Console,
     words: &'a [String],
 ) -> u8 {
     let mut worst = 0;
@@ -302,7 +449,7 @@ fn lint_each<'a, R: Input + Print + Eprint + Files + AllocGlobal + Clock + Threa
             progress: Progress::Never,
             format: Some(Format::Text),
         };
-        let status = do_job(rt, shows, job);
+        let status = do_job(rt, console, job);
         if status != 0 {
             worst = status;
         }

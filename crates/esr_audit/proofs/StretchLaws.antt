@@ -4,7 +4,7 @@ use Rattle.std.specs.List.{range_with_len}
 use Rattle.std.proofs.lemmas.Grind.{flat_map-append}
 use Rattle.std.proofs.lemmas.List.{map-append}
 use Rattle.esr_base.specs.declared.numbers.TxnId.{TxnId}
-use Rattle.esr_audit.specs.declared.stretches.Stretch.{Stretch}
+use Rattle.esr_audit.specs.declared.stretches.TxnRange.{TxnRange}
 use Rattle.esr_audit.specs.Stretches.{numbers_in}
 
 -- one number more
@@ -20,11 +20,11 @@ longer first end le =
     ap (range_with_len first) count ∙ range_more first n ∙ ap (λ k. range_with_len first n ++ k ∷ []) last
 
 -- the numbers of one stretch more
-pub one_more : (ss : List Stretch) (s : Stretch) → flat_map numbers_in (ss ++ s ∷ []) ≡ flat_map numbers_in ss ++ numbers_in s
+pub one_more : (ss : List TxnRange) (s : TxnRange) → flat_map numbers_in (ss ++ s ∷ []) ≡ flat_map numbers_in ss ++ numbers_in s
 one_more ss s = flat_map-append numbers_in ss (s ∷ []) ∙ ap (λ l. flat_map numbers_in ss ++ l) (append-nil (numbers_in s))
 
 -- the last stretch goes on
-pub goes_on : (ss : List Stretch) (s : Stretch) (n end : ℕ) → s.first ≤ s.end → s.end ≡ n → end ≡ n + 1
+pub goes_on : (ss : List TxnRange) (s : TxnRange) (n end : ℕ) → s.first ≤ s.end → s.end ≡ n → end ≡ n + 1
     → flat_map numbers_in ss ++ range_with_len s.first (end - s.first) ≡ flat_map numbers_in ss ++ numbers_in s ++ n ∷ []
 goes_on ss s n end le is next =
     ap (λ k. flat_map numbers_in ss ++ range_with_len s.first (k - s.first)) (next ∙ ap (λ k. k + 1) (sym is))
@@ -33,7 +33,7 @@ goes_on ss s n end le is next =
     ∙ ap (λ k. flat_map numbers_in ss ++ numbers_in s ++ k ∷ []) is
 
 -- a stretch begins
-pub begins : (ss all : List Stretch) (s : Stretch) (n end : ℕ) → all ≡ ss ++ s ∷ [] → end ≡ n + 1
+pub begins : (ss all : List TxnRange) (s : TxnRange) (n end : ℕ) → all ≡ ss ++ s ∷ [] → end ≡ n + 1
     → flat_map numbers_in all ++ range_with_len n (end - n) ≡ flat_map numbers_in ss ++ numbers_in s ++ n ∷ []
 begins ss all s n end is next =
     let one : end - n ≡ 1 = omega (arith, next) in

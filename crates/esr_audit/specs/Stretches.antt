@@ -1,12 +1,12 @@
 -- Lists of transactions in little room.
 use Rattle.std.specs.Prelude.{ℕ, ◌-◌, List, map, flat_map}
 use Rattle.std.specs.List.{range_with_len}
-use Rattle.esr_audit.specs.declared.stretches.Stretch.{Stretch}
+use Rattle.esr_audit.specs.declared.stretches.TxnRange.{TxnRange}
 use Rattle.esr_audit.specs.declared.stretches.TxnList.{TxnList}
 use Rattle.esr_audit.specs.declared.stretches.TxnList.TheVariants.{Each, Stretches}
 
 -- the numbers from the first up to the end, and not with it
-abbrev pub numbers_in : Stretch → List ℕ
+abbrev pub numbers_in : TxnRange → List ℕ
 numbers_in s = range_with_len s.first (s.end - s.first)
 
 -- the numbers of the transactions, in order

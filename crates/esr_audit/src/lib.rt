@@ -18,4 +18,4 @@ pub use audit::{
 };
 pub use commits::{CommitLists, commit_lists};
 pub use finding::{AuditError, Book, Finding, Summaries, Summary};
-pub use stretches::{Stretch, TxnList};
+pub use stretches::{TxnList, TxnRange};

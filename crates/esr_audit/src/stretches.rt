@@ -12,7 +12,7 @@ use std::alloc::{AllocError, Global};
 
 /// Consecutive numbers of transactions, from the first up to the end, and not with it.
 #[derive(Clone, Copy, Debug)]
-pub struct Stretch {
+pub struct TxnRange {
     pub first: u32,
     pub end: u32,
 }
@@ -21,11 +21,11 @@ pub struct Stretch {
 #[derive(Debug, Drop)]
 pub enum TxnList {
     Each(Vec<TxnId>),
-    Stretches(Vec<Stretch>),
+    Stretches(Vec<TxnRange>),
 }
 
 /// Whether a transaction follows a stretch.
-fn follows(stretch: Stretch, t: TxnId) -> bool
+fn follows(stretch: TxnRange, t: TxnId) -> bool
     ensures begun { result ≡ true → stretch.first ≤ stretch.end }
     ensures next { result ≡ true → stretch.end ≡ t.0 }
 {
@@ -35,27 +35,27 @@ fn follows(stretch: Stretch, t: TxnId) -> bool
 /// The last stretch after one more transaction: it is longer, or is put to those before it, and the transaction begins
 /// one. None where memory was refused, or the number has no next.
 #[tactic(auto, using(crate::proofs::StretchLaws::goes_on, crate::proofs::StretchLaws::begins))]
-fn stretch_with(stretches: &mut Vec<Stretch>, last: Stretch, t: TxnId) -> Option<Stretch>
+fn stretch_with(stretches: &mut Vec<TxnRange>, last: TxnRange, t: TxnId) -> Option<TxnRange>
     ensures { IfSome result (λ s. flat_map numbers_in stretches.new.items ++ numbers_in s
         ≡ flat_map numbers_in stretches.old.items ++ numbers_in last ++ t.0 ∷ []) }
 {
     let end = t.0.checked_add(1)?;
     if follows(last, t) {
-        return Some(Stretch {
+        return Some(TxnRange {
             first: last.first,
             end,
         });
     }
     stretches.push(last).ok()?;
-    Some(Stretch { first: t.0, end })
+    Some(TxnRange { first: t.0, end })
 }
 
 /// The stretches of transactions; none where memory was refused, or a number has no next.
-fn stretches_of(alloc: Global, txns: &[TxnId]) -> Option<Vec<Stretch>>
+fn stretches_of(alloc: Global, txns: &[TxnId]) -> Option<Vec<TxnRange>>
     ensures { IfSome result (λ v. flat_map numbers_in v.items ≡ map (λ t. t.0) txns.now) }
 {
     let mut stretches = Vec::new(alloc);
-    let mut last = Stretch { first: 0, end: 0 };
+    let mut last = TxnRange { first: 0, end: 0 };
     for t in txns {
         last = stretch_with(&mut stretches, last, *t)?;
     }
@@ -64,7 +64,7 @@ fn stretches_of(alloc: Global, txns: &[TxnId]) -> Option<Vec<Stretch>>
 }
 
 /// Adds the transactions of a stretch.
-fn push_stretch(txns: &mut Vec<TxnId>, stretch: Stretch) -> Result<(), AllocError>
+fn push_stretch(txns: &mut Vec<TxnId>, stretch: TxnRange) -> Result<(), AllocError>
     ensures { OnOk result (map (λ t. t.0) txns.new.items ≡ map (λ t. t.0) txns.old.items ++ numbers_in stretch) }
 {
     for number in stretch.first..stretch.end {
@@ -74,7 +74,7 @@ fn push_stretch(txns: &mut Vec<TxnId>, stretch: Stretch) -> Result<(), AllocErro
 }
 
 /// The transactions of stretches.
-fn txns_of(alloc: Global, stretches: &[Stretch]) -> Result<Vec<TxnId>, AllocError>
+fn txns_of(alloc: Global, stretches: &[TxnRange]) -> Result<Vec<TxnId>, AllocError>
     ensures { IfOk result (λ v. map (λ t. t.0) v.items ≡ flat_map numbers_in stretches.now) }
 {
     let mut txns = Vec::new(alloc);

@@ -1,9 +1,9 @@
-//! What the engine and the checker share, and nothing of either: numbers of items and transactions, the limits, the error
-//! of a refused allocation, and readers and writers that remember a failure.
+//! Definitions that the engine and the certificate checker share: item and transaction numbers, the limits, the error
+//! of a failed allocation, and readers and writers that remember an I/O failure.
 //!
-//! The checker (`esr_cert`, `esr_flow`, `esr_bundle`) stands on this crate alone, so that whoever doubts the engine need
-//! not read a line of it. Crates above pass these names on, from where a caller looks for them: items from `esr_items`,
-//! transactions from `esr_history`.
+//! The checker (`esr_cert`, `esr_flow`, `esr_bundle`) depends on no other crate of the engine, so a reviewer who does
+//! not trust the engine need not read it. Higher crates re-export these names: items from `esr_items`, transactions
+//! from `esr_history`.
 #![tactic(auto)]
 
 mod limits;

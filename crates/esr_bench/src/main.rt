@@ -1,5 +1,5 @@
-//! Measures the check, the solver, the reading and writing of bundles, and sessions. What is measured is read as
-//! bundles that `bench/problems` writes, so this program has no generators to prove.
+//! Measures the certificate check, the solver, reading and writing of bundles, and sessions. The inputs are bundles
+//! that `bench/problems` writes, so this program contains no generators that would need a proof.
 #![tactic(auto)]
 
 mod agreement;

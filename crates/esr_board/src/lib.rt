@@ -1,8 +1,8 @@
-//! The parallel audit: a board hands out the numbers of jobs, each once, to workers on threads of their own.
+//! The parallel audit: a board assigns each job to exactly one of several worker threads.
 //!
-//! A claim is one `fetch_add` and no lock, so it needs no right to wait, and its bounds say so: a body that takes a
-//! lock is refused before anything is proved of it. What is found is proved to be what one thread finds, whatever the
-//! number of workers and however they take turns.
+//! A claim is one `fetch_add` and takes no lock. It therefore needs no permission to wait, and its bounds say so: the
+//! compiler rejects a body that takes a lock. The findings are proved to equal those of one thread, for any number of
+//! workers and any schedule.
 #![tactic(auto)]
 
 mod board;

@@ -1,9 +1,9 @@
-//! Bundles: a problem and a certificate as one JSON object, and the judgement of one.
+//! Bundles: a problem and its certificate as one JSON object, and the verdict on a bundle.
 //!
-//! It stands above the checker and not in it, so that the solver and the audit need not load the statements of
-//! `serde_json`. What bytes mean as a bundle is a function of a JSON tree, and the parser's contract says which tree
-//! they are. That costs memory, 7 times the text for a usual bundle and 18 times for one list of one-digit numbers, and
-//! nothing of JSON has to be defined here.
+//! This crate is above the checker rather than in it, so that the solver and the audit do not load the statements of
+//! `serde_json`. The meaning of a bundle is a function of its JSON tree, and the parser's contract relates the bytes to
+//! that tree. The tree costs memory (7 times the text for a usual bundle, 18 times for a list of one-digit numbers); in
+//! return no part of JSON has to be defined here.
 #![tactic(auto)]
 
 mod draft;

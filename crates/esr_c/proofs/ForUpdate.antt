@@ -17,15 +17,17 @@ module _ (t : TxnId) (x : ItemId) (h g : Schedule) (before after : EsrReply) whe
     full = (λ e. absurd (omega arith), λ p. let bad : Done ≡ Full = full.1 p in absurd (cc));
     reply = λ _. (ap (λ k. Some k) done.0, done.1);
     err = λ ne. absurd (ne refl);
+    kept = λ e. absurd (omega arith);
   }
 
-  pub call_full : (Full ≡ Full ↔ no_pair h ≡ true) → (after ≡ before) × IsPartlyDone h g t x → IsForUpdateCall t x (Some h) (Some g) before after 12
-  call_full full err = record {
+  pub call_full : (Full ≡ Full ↔ no_pair h ≡ true) → (after ≡ before) × IsPartlyDone h g t x → g ≡ h → IsForUpdateCall t x (Some h) (Some g) before after 12
+  call_full full err same = record {
     known = inr (inl refl);
     closed = (λ e. absurd (omega arith), λ e. absurd (cc));
     full = (λ _. full.0 refl, λ _. refl);
     reply = λ e. absurd (omega arith);
     err = λ _. err;
+    kept = λ _. ap (λ k. Some k) same;
   }
 
   pub call_refused : (NoMemory ≡ Full ↔ no_pair h ≡ true) → (after ≡ before) × IsPartlyDone h g t x → IsForUpdateCall t x (Some h) (Some g) before after 13
@@ -35,14 +37,15 @@ module _ (t : TxnId) (x : ItemId) (h g : Schedule) (before after : EsrReply) whe
     full = (λ e. absurd (omega arith), λ p. let bad : NoMemory ≡ Full = full.1 p in absurd (cc));
     reply = λ e. absurd (omega arith);
     err = λ _. err;
+    kept = λ e. absurd (omega arith);
   }
 
   pub call_of : (s : Status) → (s ≡ Done) ⊎ ((s ≡ Full) ⊎ (s ≡ NoMemory)) → (s ≡ Full ↔ no_pair h ≡ true)
       → (s ≡ Done → (g ≡ after_for_update h t x) × (after ≡ reply_fields (reply_for_update h t x)))
-      → (s ≢ Done → (after ≡ before) × IsPartlyDone h g t x) → IsForUpdateCall t x (Some h) (Some g) before after (status_number s)
-  call_of Done known full done err = call_done full (done refl)
-  call_of Full known full done err = call_full full (err (λ e. cc))
-  call_of NoMemory known full done err = call_refused full (err (λ e. cc))
-  call_of _ (inl is) full done err = absurd (cc)
-  call_of _ (inr (inl is)) full done err = absurd (cc)
-  call_of _ (inr (inr is)) full done err = absurd (cc)
+      → (s ≢ Done → (after ≡ before) × IsPartlyDone h g t x) → (s ≡ Full → g ≡ h) → IsForUpdateCall t x (Some h) (Some g) before after (status_number s)
+  call_of Done known full done err same = call_done full (done refl)
+  call_of Full known full done err same = call_full full (err (λ e. cc)) (same refl)
+  call_of NoMemory known full done err same = call_refused full (err (λ e. cc))
+  call_of _ (inl is) full done err same = absurd (cc)
+  call_of _ (inr (inl is)) full done err same = absurd (cc)
+  call_of _ (inr (inr is)) full done err same = absurd (cc)

@@ -22,7 +22,7 @@ use Rattle.esr_core.specs.Renewed.{committed_values, renewed, AreSerializableAsO
 use Rattle.esr_engine.specs.Accounts.{account_of}
 use Rattle.esr_engine.specs.ForUpdate.{after_for_update, no_pair, reply_for_update, IsPartlyDone}
 use Rattle.esr_engine.specs.Room.{is_full}
-use Rattle.esr_engine.specs.declared.account.Account.{Account}
+use Rattle.esr_engine.specs.declared.account.AccountView.{AccountView}
 use Rattle.esr_engine.specs.declared.account.TxnStatus.{TxnStatus}
 use Rattle.esr_engine.specs.declared.account.TxnStatus.TheVariants as txn_status
 use Rattle.esr_cert.specs.Certificate.{Certificate}
@@ -162,13 +162,14 @@ IsPartly None new t x = new ≡ None
 IsPartly (Some h) None t x = ⊥
 IsPartly (Some h) (Some g) t x = IsPartlyDone h g t x
 
--- A call that read an item for an update ended with this status. Where memory was refused the lock may have been taken.
+-- A call that reads an item for an update returns this status. With 13 the lock may have been taken; with 12 nothing has changed.
 pub record IsForUpdateCall (t : TxnId) (x : ItemId) (old new : Option Schedule) (before after : EsrReply) (status : ℕ) : Type 0 where
   pub known : IsEventStatus status
   pub closed : status ≡ 14 ↔ (old ≡ None)
   pub full : IfSome old (λ h. (status ≡ 12) ↔ (no_pair h ≡ true))
   pub reply : status ≡ 0 → IsForUpdateReply t x old new after
   pub err : status ≢ 0 → (after ≡ before) × IsPartly old new t x
+  pub kept : status ≡ 12 → new ≡ old
 
 -- how a transaction stands, and its account
 abbrev pub txn_status_number : TxnStatus → ℕ
@@ -176,7 +177,7 @@ txn_status_number txn_status.Active = 0
 txn_status_number txn_status.Committed = 4
 txn_status_number txn_status.Aborted = 5
 
-abbrev pub account_fields : Account → EsrAccount
+abbrev pub account_fields : AccountView → EsrAccount
 account_fields a = record { query = is_query_kind a.kind; txn_status = txn_status_number a.txn_status; limit = a.limit; charged = a.charged }
 
 abbrev pub IsAccount : Schedule → ℕ → EsrAccount → Type 0

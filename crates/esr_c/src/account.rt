@@ -6,7 +6,7 @@ ghost use Rattle.esr_history.specs.Machine.{accepted_in};
 ghost use Rattle.esr_c.specs.Answers.{IsAccount, account_fields, txn_status_number};
 
 use crate::engine::Status;
-use esr_engine::{Account, Engine, Kind, TxnStatus};
+use esr_engine::{AccountView, EmbeddedEngine, Kind, TxnStatus};
 use esr_history::TxnId;
 
 /// An account: whether it is a query's, how it stands (0 while active, else 4 committed or 5 aborted), its limit, and
@@ -31,7 +31,7 @@ fn txn_status_number(txn_status: TxnStatus) -> u32
 }
 
 /// An account as C reads it.
-fn fields(account: Account) -> EsrAccount
+fn fields(account: AccountView) -> EsrAccount
     ensures { result ≡ account_fields account }
 {
     EsrAccount {
@@ -42,7 +42,7 @@ fn fields(account: Account) -> EsrAccount
     }
 }
 
-pub(crate) fn show_account(engine: &Engine, txn: u32, account: &mut EsrAccount) -> Status
+pub(crate) fn show_account(engine: &EmbeddedEngine, txn: u32, account: &mut EsrAccount) -> Status
     ensures known { (result ≡ Status.Done) ⊎ (result ≡ Status.NotBegun) }
     ensures refused { (result ≡ Status.NotBegun) ↔ (is_begun (accepted_in engine.now) txn ≡ false) }
     ensures account { result ≡ Status.Done → IsAccount engine.now txn account.new }

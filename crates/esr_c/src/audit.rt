@@ -1,7 +1,7 @@
 //! Totals, values, audits and bundles as C reads them. A bundle goes out as its JSON, in place of a handle to the
 //! certificate.
 
-ghost use Rattle.std.specs.Prelude.{◌↔◌, ◌⊎◌, ◌<◌, ◌≤◌, IfOk, IfErr, IsErrOf, IsTrue, true, false, ◌≡◌, ◌≢◌, length, map, take};
+ghost use Rattle.std.specs.Prelude.{◌↔◌, ◌⊎◌, ◌<◌, ◌≤◌, IfOk, IfErr, IsErrOf, IsTrue, true, false, ◌≡◌, ◌≢◌, length, map, take, drop};
 ghost use Rattle.esr_items.specs.Weights.{weighted};
 ghost use Rattle.esr_history.specs.Queries.{is_committed_query};
 ghost use Rattle.esr_history.specs.Totals.{IsWithinLimits};
@@ -11,7 +11,7 @@ ghost use Rattle.esr_c.specs.Answers.{IsTotal, IsFound, IsCounted, IsBundleOf, I
 use crate::engine::Status;
 use esr_audit::{AuditError, Finding};
 use esr_bundle::to_json;
-use esr_engine::Engine;
+use esr_engine::EmbeddedEngine;
 use esr_history::TxnId;
 use std::alloc::{AllocError, Global};
 
@@ -34,7 +34,7 @@ pub struct EsrFinding {
     pub count: usize,
 }
 
-pub(crate) fn totals_of(engine: &Engine) -> EsrTotals
+pub(crate) fn totals_of(engine: &EmbeddedEngine) -> EsrTotals
     ensures total { IsTotal result engine.now }
     ensures limits { IsWithinLimits weighted engine.now }
 {
@@ -47,10 +47,11 @@ pub(crate) fn totals_of(engine: &Engine) -> EsrTotals
     }
 }
 
-/// Writes a list to the head of a room, where it fits.
+/// Copies a list to the beginning of a buffer if it fits, and leaves the rest of the buffer unchanged.
 fn fill<T: Copy>(room: &mut [T], list: &[T]) -> bool
     ensures fits { IsTrue result ↔ length list.now ≤ length room.old }
     ensures filled { IsTrue result → take (length list.now) room.new ≡ list.now }
+    ensures rest { drop (length list.now) room.new ≡ drop (length list.now) room.old }
     ensures kept { result ≡ false → room.new ≡ room.old }
 {
     if room.len() < list.len() {
@@ -61,11 +62,13 @@ fn fill<T: Copy>(room: &mut [T], list: &[T]) -> bool
     true
 }
 
-/// Tells the count of a list, and writes it to the head of a room, where it fits.
+/// Stores the length of a list, and copies the list to the beginning of a buffer if it fits. The rest of the buffer is
+/// unchanged.
 pub(crate) fn hand_out<T: Copy>(room: &mut [T], count: &mut usize, list: &[T]) -> Status
     ensures known { (result ≡ Status.Done) ⊎ (result ≡ Status.TooSmall) }
     ensures count { count.new ≡ length list.now }
     ensures filled { result ≡ Status.Done → take count.new room.new ≡ list.now }
+    ensures rest { drop count.new room.new ≡ drop count.new room.old }
     ensures small { result ≡ Status.TooSmall ↔ length room.old < length list.now }
     ensures kept { result ≢ Status.Done → room.new ≡ room.old }
 {
@@ -79,7 +82,7 @@ pub(crate) fn hand_out<T: Copy>(room: &mut [T], count: &mut usize, list: &[T]) -
 
 pub(crate) fn show_values(
     alloc: Global,
-    engine: &Engine,
+    engine: &EmbeddedEngine,
     values: &mut [i64],
     count: &mut usize,
 ) -> Status
@@ -89,6 +92,7 @@ pub(crate) fn show_values(
     ensures small { result ≡ Status.TooSmall → (length values.old < count.new)
         × (count.new ≡ length engine.now.opening) }
     ensures kept { result ≢ Status.Done → values.new ≡ values.old }
+    ensures rest { drop count.new values.new ≡ drop count.new values.old }
     ensures untold { result ≢ Status.Done → result ≢ Status.TooSmall → count.new ≡ count.old }
 {
     match engine.committed_values(alloc) {
@@ -104,7 +108,11 @@ fn numbers(alloc: Global, txns: &[TxnId]) -> Result<Vec<u32>, AllocError>
 }
 
 /// The audit of a query, or why there is none.
-pub(crate) fn find(alloc: Global, engine: &mut Engine, query: u32) -> Result<Finding, Status>
+pub(crate) fn find(
+    alloc: Global,
+    engine: &mut EmbeddedEngine,
+    query: u32,
+) -> Result<Finding, Status>
     ensures same { engine.new ≡ engine.old }
     ensures query { IfOk result (λ f. f.query.0 ≡ query) }
     ensures ok { IfOk result (IsFindingOf weighted engine.old query) }
@@ -120,7 +128,7 @@ pub(crate) fn find(alloc: Global, engine: &mut Engine, query: u32) -> Result<Fin
 
 pub(crate) fn show_finding(
     alloc: Global,
-    engine: &mut Engine,
+    engine: &mut EmbeddedEngine,
     query: u32,
     before: &mut [u32],
     finding: &mut EsrFinding,
@@ -133,6 +141,7 @@ pub(crate) fn show_finding(
     ensures small { result ≡ Status.TooSmall → (length before.old < finding.new.count)
         × IsCounted engine.old query finding.new }
     ensures kept { result ≢ Status.Done → before.new ≡ before.old }
+    ensures rest { drop finding.new.count before.new ≡ drop finding.new.count before.old }
     ensures untold { result ≢ Status.Done → result ≢ Status.TooSmall → finding.new ≡ finding.old }
 {
     let found = match find(alloc, engine, query) {
@@ -148,7 +157,7 @@ pub(crate) fn show_finding(
 }
 
 /// The bundle of a query, or why there is none.
-fn bundle(alloc: Global, engine: &mut Engine, query: u32) -> Result<Vec<u8>, Status>
+fn bundle(alloc: Global, engine: &mut EmbeddedEngine, query: u32) -> Result<Vec<u8>, Status>
     ensures same { engine.new ≡ engine.old }
     ensures ok { IfOk result (λ v. IsBundleOf engine.old query v.items) }
     ensures refused { IsErrOf result Status.NotACommittedQuery ↔ (is_committed_query engine.old query ≡ false) }
@@ -164,7 +173,7 @@ fn bundle(alloc: Global, engine: &mut Engine, query: u32) -> Result<Vec<u8>, Sta
 
 pub(crate) fn show_bundle(
     alloc: Global,
-    engine: &mut Engine,
+    engine: &mut EmbeddedEngine,
     query: u32,
     bytes: &mut [u8],
     count: &mut usize,
@@ -177,6 +186,7 @@ pub(crate) fn show_bundle(
     ensures small { result ≡ Status.TooSmall → (length bytes.old < count.new)
         × IsBundleLong engine.old query count.new }
     ensures kept { result ≢ Status.Done → bytes.new ≡ bytes.old }
+    ensures rest { drop count.new bytes.new ≡ drop count.new bytes.old }
     ensures untold { result ≢ Status.Done → result ≢ Status.TooSmall → count.new ≡ count.old }
 {
     match bundle(alloc, engine, query) {

@@ -8,7 +8,7 @@ ghost use Rattle.esr_c.specs.Many.{AreAnswered, IsAnsweredStatus, IsEnd, IsFullF
 
 use crate::engine::Status;
 use crate::reply::{EsrReply, to_reply};
-use esr_engine::{Engine, Unanswered};
+use esr_engine::{EmbeddedEngine, Unanswered};
 use esr_history::{Event, Reply, TxnId};
 use esr_items::ItemId;
 
@@ -55,7 +55,7 @@ fn event_of(event: EsrEvent) -> Option<Event>
 }
 
 /// Answers an event of many.
-fn answer_one(engine: &mut Engine, event: EsrEvent) -> Result<Reply, Status>
+fn answer_one(engine: &mut EmbeddedEngine, event: EsrEvent) -> Result<Reply, Status>
     ensures ok { IfOk result (λ reply. IsOne engine.old event engine.new reply) }
     ensures unknown { IsErrOf result Status.NoSuchEvent → event_of event ≡ None }
     ensures full { IsErrOf result Status.Full → IsFullFor engine.old event }
@@ -82,7 +82,7 @@ fn is_refusal(reply: Reply) -> bool
 /// Answers events one after another, to the first that is not answered, or is refused where that is to be the end. The
 /// count tells how many were answered.
 pub(crate) fn answer_all(
-    engine: &mut Engine,
+    engine: &mut EmbeddedEngine,
     events: &[EsrEvent],
     replies: &mut [EsrReply],
     stop: bool,

@@ -15,7 +15,7 @@ ghost use Rattle.esr_c.specs.Answers.{opened, reply_fields, status_number, IsEve
 use crate::handle::{EngineHandle, from_handle, into_handle, null_handle};
 use crate::reply::{EsrReply, to_reply};
 use esr_core::RenewError;
-use esr_engine::{Engine, OpenError, Unanswered};
+use esr_engine::{EmbeddedEngine, OpenError, Unanswered};
 use esr_history::{Event, Reply, TxnId};
 use esr_items::ItemId;
 use std::alloc::Global;
@@ -67,7 +67,7 @@ pub(crate) fn closed_engine() -> EsrEngine
     }
 }
 
-pub(crate) fn open_engine(engine: Box<Engine, Global>) -> EsrEngine
+pub(crate) fn open_engine(engine: Box<EmbeddedEngine, Global>) -> EsrEngine
     ensures { result.held.history ≡ Some engine.value }
 {
     EsrEngine {
@@ -77,7 +77,10 @@ pub(crate) fn open_engine(engine: Box<Engine, Global>) -> EsrEngine
 }
 
 /// The engine of a variable, which is closed from then on.
-pub(crate) fn take_engine(alloc: Global, variable: &mut EsrEngine) -> Option<Box<Engine, Global>>
+pub(crate) fn take_engine(
+    alloc: Global,
+    variable: &mut EsrEngine,
+) -> Option<Box<EmbeddedEngine, Global>>
     ensures engine { MatchOption result (variable.old.held.history ≡ None)
         (λ b. variable.old.held.history ≡ Some b.value) }
     ensures closed { variable.new.held.history ≡ None }
@@ -90,7 +93,11 @@ pub(crate) fn take_engine(alloc: Global, variable: &mut EsrEngine) -> Option<Box
 }
 
 /// An engine of these values and weights on the heap, where they may be such.
-fn make(alloc: Global, opening: &[i64], weights: &[u32]) -> Result<Box<Engine, Global>, Status>
+fn make(
+    alloc: Global,
+    opening: &[i64],
+    weights: &[u32],
+) -> Result<Box<EmbeddedEngine, Global>, Status>
     ensures ok { IfOk result (λ b. b.value ≡ opened opening.now weights.now) }
     ensures many { IsErrOf result Status.TooManyItems
         ↔ ((MAX_ITEMS < length opening.now) ⊎ (MAX_ITEMS < length weights.now)) }
@@ -101,7 +108,7 @@ fn make(alloc: Global, opening: &[i64], weights: &[u32]) -> Result<Box<Engine, G
     ensures err { IfErr result (λ e. (e ≡ Status.TooManyItems) ⊎ ((e ≡ Status.OutOfRange)
         ⊎ ((e ≡ Status.WeightOutOfRange) ⊎ (e ≡ Status.NoMemory)))) }
 {
-    let engine = match Engine::new(alloc, opening, weights) {
+    let engine = match EmbeddedEngine::new(alloc, opening, weights) {
         Ok(engine) => engine,
         Err(OpenError::TooManyItems) => return Err(Status::TooManyItems),
         Err(OpenError::ValueOutOfRange) => return Err(Status::OutOfRange),
@@ -226,12 +233,18 @@ pub(crate) fn write(
 }
 
 /// Takes the write lock on an item and reads it, and tells the reply.
-fn read_and_reply(engine: &mut Engine, txn: TxnId, item: ItemId, reply: &mut EsrReply) -> Status
+fn read_and_reply(
+    engine: &mut EmbeddedEngine,
+    txn: TxnId,
+    item: ItemId,
+    reply: &mut EsrReply,
+) -> Status
     ensures known { (result ≡ Status.Done) ⊎ ((result ≡ Status.Full) ⊎ (result ≡ Status.NoMemory)) }
     ensures full { result ≡ Status.Full ↔ (no_pair engine.old ≡ true) }
     ensures done { result ≡ Status.Done → (engine.new ≡ after_for_update engine.old txn item)
         × (reply.new ≡ reply_fields (reply_for_update engine.old txn item)) }
     ensures err { result ≢ Status.Done → (reply.new ≡ reply.old) × IsPartlyDone engine.old engine.new txn item }
+    ensures kept { result ≡ Status.Full → engine.new ≡ engine.old }
 {
     match engine.read_for_update(txn, item) {
         Ok(read) => {
@@ -263,7 +276,7 @@ pub(crate) fn read_for_update(
 }
 
 /// Renews an engine.
-pub(crate) fn renew_engine(alloc: Global, engine: &mut Engine) -> Status
+pub(crate) fn renew_engine(alloc: Global, engine: &mut EmbeddedEngine) -> Status
     ensures known { IsRenewStatus (status_number result) }
     ensures open { result ≢ Status.Closed }
     ensures active { (result ≡ Status.Active) ↔ (has_active engine.old ≡ true) }
@@ -279,7 +292,7 @@ pub(crate) fn renew_engine(alloc: Global, engine: &mut Engine) -> Status
 }
 
 /// Renews an engine, with what is active aborted.
-pub(crate) fn renew_engine_aborting(alloc: Global, engine: &mut Engine) -> Status
+pub(crate) fn renew_engine_aborting(alloc: Global, engine: &mut EmbeddedEngine) -> Status
     ensures known { (result ≡ Status.Done) ⊎ (result ≡ Status.NoMemory) }
     ensures renewed { status_number result ≡ 0 → engine.new ≡ renewed engine.old engine.old.weights }
     ensures serializable { result ≡ Status.Done → IsRenewed engine.old }
@@ -292,7 +305,7 @@ pub(crate) fn renew_engine_aborting(alloc: Global, engine: &mut Engine) -> Statu
 }
 
 /// Ends an engine, and drops its history.
-pub(crate) fn end(engine: Box<Engine, Global>)
+pub(crate) fn end(engine: Box<EmbeddedEngine, Global>)
     ensures { IsSound engine.value }
 {
     let _history = Box::into_inner(engine).close();

@@ -5,7 +5,7 @@ ghost use Rattle.std.specs.Prelude.{◌≡◌, Option, Some, None, IsSome};
 ghost use Rattle.esr_history.specs.Machine.{Schedule};
 
 use crate::pointer::{RawBox, box_from_raw, box_into_raw};
-use esr_engine::Engine;
+use esr_engine::EmbeddedEngine;
 use std::alloc::Global;
 use std::marker::Model;
 
@@ -32,32 +32,32 @@ pub(crate) fn null_handle() -> EngineHandle
     }
 }
 
-fn wrap(l: RawBox<Engine>) -> EngineHandle
+fn wrap(l: RawBox<EmbeddedEngine>) -> EngineHandle
     ensures { result.history ≡ Some l.value }
 {
     let RawBox { at } = l;
     EngineHandle { at: at as *mut u8 }
 }
 
-fn unwrap(h: EngineHandle) -> RawBox<Engine>
+fn unwrap(h: EngineHandle) -> RawBox<EmbeddedEngine>
     requires { IsSome h.history }
     ensures { h.history ≡ Some result.value }
 {
     let EngineHandle { at } = h;
     RawBox {
-        at: at as *mut Engine,
+        at: at as *mut EmbeddedEngine,
     }
 }
 
 /// The engine in a box.
-pub(crate) fn into_handle(b: Box<Engine, Global>) -> EngineHandle
+pub(crate) fn into_handle(b: Box<EmbeddedEngine, Global>) -> EngineHandle
     ensures { result.history ≡ Some b.value }
 {
     wrap(box_into_raw(b))
 }
 
 /// The box again.
-pub(crate) fn from_handle(alloc: Global, h: EngineHandle) -> Box<Engine, Global>
+pub(crate) fn from_handle(alloc: Global, h: EngineHandle) -> Box<EmbeddedEngine, Global>
     requires { IsSome h.history }
     ensures { h.history ≡ Some result.value }
 {

@@ -1,14 +1,15 @@
-//! Engines for C programs. An engine lives in a variable of its caller, who gives it to one call at a time: closed, or
-//! holds an engine of `esr_engine`. `bindings/c/esr.h` declares what is here.
+//! Engines for C programs. An engine is stored in a variable of the caller, who passes it to one call at a time. It is
+//! either closed or contains an engine of `esr_engine`. `bindings/c/esr.h` declares the functions.
 //!
-//! The variable is two words that begin as zeros, so an engine has a closed state that each call can answer, and
-//! contracts speak of the history behind the variable in place of memory. No export has a premise, since a premise that
-//! C breaks is undefined behaviour: what can be asked is answered by a status. Lists go into a room of the caller's,
-//! with the count told where the room is too small, so C frees nothing that the library made.
+//! The variable is two words that start as zeros. A zeroed variable is a closed engine, to which every call returns a
+//! status, and contracts speak of the history of the engine instead of memory. No exported function has a precondition,
+//! because violating one from C would be undefined behaviour: every argument that can be checked is checked and
+//! reported by a status. Lists are written to a buffer of the caller; if it is too small, the call returns the required
+//! count. C therefore never frees memory that the library allocated.
 #![tactic(auto)]
 
 ghost use Rattle.esr_base.specs.declared.limits.TheConstants.{MAX_ITEMS};
-ghost use Rattle.std.specs.Prelude.{IsSome, All, Any, ◌≡◌, ◌≢◌, ◌↔◌, ◌⊎◌, ◌<◌, ◌≤◌, [], length, None, Some, IfSome, true, false};
+ghost use Rattle.std.specs.Prelude.{IsSome, All, Any, ◌≡◌, ◌≢◌, ◌↔◌, ◌⊎◌, ◌<◌, ◌≤◌, [], length, None, Some, IfSome, IsSomeAnd, true, false, drop};
 ghost use Rattle.esr_items.specs.Values.{IsValue};
 ghost use Rattle.esr_items.specs.Weights.{IsWeight, weighted};
 ghost use Rattle.esr_history.specs.declared.event.Event.TheVariants.{BeginUpdate, BeginQuery, Read, Write, Commit, Abort};
@@ -207,12 +208,12 @@ pub extern "C" fn esr_abort(
     step(alloc, engine, Event::Abort { txn: TxnId(txn) }, reply).number()
 }
 
-/// Answers events one after another, as a call for each would, and tells how many were answered and their replies. It ends
-/// at the first that is not answered; where `stop` is set, behind the first that is refused.
+/// Executes events in order, each as a separate call would, and stores their number and their replies. Stops at the first
+/// event that receives no reply and, if `stop` is set, after the first refusal.
 ///
-/// 0, or 7 where there is less room for replies than there are events, 8 where the next is of no kind that there is, 12
-/// where there is no room for it beside the ends of what is active, 13 where an allocation failed, 14 where the engine is
-/// closed. With 7 and 14 nothing has changed.
+/// Returns 0; 7 if there are fewer replies than events; 8 if the next event is of an unknown kind; 12 if every entry left is
+/// reserved for the end of a transaction; 13 if an allocation failed; or 14 if the engine is closed. With 7 and 14 nothing
+/// has changed. The engine remains open in every case but 14.
 #[unsafe(no_mangle)]
 pub extern "C" fn esr_do(
     alloc: Global,
@@ -227,7 +228,7 @@ pub extern "C" fn esr_do(
     ensures small { IfSome engine.old.held.history (λ _. (result ≡ 7) ↔ (length replies.old < length events.now)) }
     ensures untouched { (result ≡ 7) ⊎ (result ≡ 14) → (engine.new.held.history ≡ engine.old.held.history)
         × (replies.new ≡ replies.old) × (count.new ≡ count.old) }
-    ensures answered { result ≢ 7 → IfSome engine.old.held.history (λ h. IfSome engine.new.held.history
+    ensures answered { result ≢ 7 → IfSome engine.old.held.history (λ h. IsSomeAnd engine.new.held.history
         (λ g. AreAnswered h g events.now count.new replies.new)) }
     ensures end { result ≢ 7 → IfSome engine.old.held.history (λ h. IsEnd h events.now stop count.new result) }
 {
@@ -326,6 +327,7 @@ pub extern "C" fn esr_values(
     ensures small { result ≡ 7 → (length values.old < count.new)
         × IfSome engine.old.held.history (λ h. count.new ≡ length h.opening) }
     ensures kept { result ≢ 0 → values.new ≡ values.old }
+    ensures rest { drop count.new values.new ≡ drop count.new values.old }
     ensures untold { result ≢ 0 → result ≢ 7 → count.new ≡ count.old }
 {
     let Some(inner) = take_engine(alloc, engine) else {
@@ -356,6 +358,7 @@ pub extern "C" fn esr_audit(
     ensures small { result ≡ 7 → (length before.old < finding.new.count)
         × IfSome engine.old.held.history (λ h. IsCounted h query finding.new) }
     ensures kept { result ≢ 0 → before.new ≡ before.old }
+    ensures rest { drop finding.new.count before.new ≡ drop finding.new.count before.old }
     ensures untold { result ≢ 0 → result ≢ 7 → finding.new ≡ finding.old }
 {
     let Some(mut inner) = take_engine(alloc, engine) else {
@@ -386,6 +389,7 @@ pub extern "C" fn esr_bundle(
     ensures small { result ≡ 7 → (length bytes.old < count.new)
         × IfSome engine.old.held.history (λ h. IsBundleLong h query count.new) }
     ensures kept { result ≢ 0 → bytes.new ≡ bytes.old }
+    ensures rest { drop count.new bytes.new ≡ drop count.new bytes.old }
     ensures untold { result ≢ 0 → result ≢ 7 → count.new ≡ count.old }
 {
     let Some(mut inner) = take_engine(alloc, engine) else {
@@ -419,6 +423,7 @@ pub extern "C" fn esr_history_script(
     ensures small { result ≡ 7 → (length bytes.old < count.new)
         × IfSome engine.old.held.history (λ h. IsTextLong (IsScriptOf h names.now) count.new) }
     ensures kept { result ≢ 0 → bytes.new ≡ bytes.old }
+    ensures rest { drop count.new bytes.new ≡ drop count.new bytes.old }
     ensures untold { result ≢ 0 → result ≢ 7 → count.new ≡ count.old }
 {
     let Some(inner) = take_engine(alloc, engine) else {
@@ -454,6 +459,7 @@ pub extern "C" fn esr_explain(
     ensures small { result ≡ 7 → (length bytes.old < count.new)
         × IfSome engine.old.held.history (λ h. IsTextLong (IsExplanationOf h query names.now) count.new) }
     ensures kept { result ≢ 0 → bytes.new ≡ bytes.old }
+    ensures rest { drop count.new bytes.new ≡ drop count.new bytes.old }
     ensures untold { result ≢ 0 → result ≢ 7 → count.new ≡ count.old }
 {
     let Some(mut inner) = take_engine(alloc, engine) else {
@@ -483,6 +489,7 @@ pub extern "C" fn esr_picture(
     ensures picture { result ≡ 0 → IsTextIn IsSvg count.new bytes.new }
     ensures small { result ≡ 7 → (length bytes.old < count.new) × IsTextLong IsSvg count.new }
     ensures kept { result ≢ 0 → bytes.new ≡ bytes.old }
+    ensures rest { drop count.new bytes.new ≡ drop count.new bytes.old }
     ensures untold { result ≢ 0 → result ≢ 7 → count.new ≡ count.old }
 {
     let Some(mut inner) = take_engine(alloc, engine) else {
@@ -514,6 +521,7 @@ pub extern "C" fn esr_ledger(
     ensures small { result ≡ 7 → (length bytes.old < count.new)
         × IfSome engine.old.held.history (λ h. IsTextLong (IsLedgerOf h) count.new) }
     ensures kept { result ≢ 0 → bytes.new ≡ bytes.old }
+    ensures rest { drop count.new bytes.new ≡ drop count.new bytes.old }
     ensures untold { result ≢ 0 → result ≢ 7 → count.new ≡ count.old }
 {
     let Some(inner) = take_engine(alloc, engine) else {

@@ -1,6 +1,6 @@
 //! The past of an engine as text: its script and its ledger.
 
-ghost use Rattle.std.specs.Prelude.{◌≡◌, ◌≢◌, ◌⊎◌, ◌<◌, Some, None, length, IfOk, IfErr, IsErrOf};
+ghost use Rattle.std.specs.Prelude.{◌≡◌, ◌≢◌, ◌⊎◌, ◌<◌, Some, None, length, IfOk, IfErr, IsErrOf, drop};
 ghost use Rattle.esr_engine.specs.Room.{begun};
 ghost use Rattle.esr_dump.specs.Naming.{transaction_names};
 ghost use Rattle.esr_c.specs.Answers.{IsValuesStatus, status_number};
@@ -9,13 +9,13 @@ ghost use Rattle.esr_c.specs.Dumps.{IsLedgerOf, IsScriptOf, IsScriptStatus, IsTe
 use crate::audit::hand_out;
 use crate::engine::Status;
 use esr_dump::{item_names, script, transaction_names};
-use esr_engine::Engine;
+use esr_engine::EmbeddedEngine;
 use esr_report::Names;
 use esr_tables::history_ledger;
 use std::alloc::Global;
 
 /// The names of the items of an engine.
-pub(crate) fn items(alloc: Global, engine: &Engine, names: &[u8]) -> Result<Names, Status>
+pub(crate) fn items(alloc: Global, engine: &EmbeddedEngine, names: &[u8]) -> Result<Names, Status>
     ensures ok { IfOk result (λ items. names_of engine.now names.now ≡ Some items) }
     ensures bad { IsErrOf result Status.BadNames → names_of engine.now names.now ≡ None }
     ensures err { IfErr result (λ e. (e ≡ Status.BadNames) ⊎ (e ≡ Status.NoMemory)) }
@@ -29,7 +29,7 @@ pub(crate) fn items(alloc: Global, engine: &Engine, names: &[u8]) -> Result<Name
 
 /// The names of the transactions of an engine: their numbers.
 #[tactic(auto, using(esr_history::proofs::WithinRanges::legal_begins))]
-pub(crate) fn transactions(alloc: Global, engine: &Engine) -> Result<Names, Status>
+pub(crate) fn transactions(alloc: Global, engine: &EmbeddedEngine) -> Result<Names, Status>
     ensures ok { IfOk result (λ transactions. transactions ≡ transaction_names (begun engine.now)) }
     ensures err { IfErr result (λ e. e ≡ Status.NoMemory) }
 {
@@ -42,7 +42,7 @@ pub(crate) fn transactions(alloc: Global, engine: &Engine) -> Result<Names, Stat
 }
 
 /// The script of an engine's history, or why there is none.
-fn script_text(alloc: Global, engine: &Engine, names: &[u8]) -> Result<Vec<u8>, Status>
+fn script_text(alloc: Global, engine: &EmbeddedEngine, names: &[u8]) -> Result<Vec<u8>, Status>
     ensures ok { IfOk result (λ text. IsScriptOf engine.now names.now text.items) }
     ensures bad { IsErrOf result Status.BadNames → names_of engine.now names.now ≡ None }
     ensures err { IfErr result (λ e. (e ≡ Status.BadNames) ⊎ (e ≡ Status.NoMemory)) }
@@ -57,7 +57,7 @@ fn script_text(alloc: Global, engine: &Engine, names: &[u8]) -> Result<Vec<u8>, 
 
 pub(crate) fn show_script(
     alloc: Global,
-    engine: &Engine,
+    engine: &EmbeddedEngine,
     names: &[u8],
     bytes: &mut [u8],
     count: &mut usize,
@@ -69,6 +69,7 @@ pub(crate) fn show_script(
     ensures small { result ≡ Status.TooSmall → (length bytes.old < count.new)
         × IsTextLong (IsScriptOf engine.now names.now) count.new }
     ensures kept { result ≢ Status.Done → bytes.new ≡ bytes.old }
+    ensures rest { drop count.new bytes.new ≡ drop count.new bytes.old }
     ensures untold { result ≢ Status.Done → result ≢ Status.TooSmall → count.new ≡ count.old }
 {
     match script_text(alloc, engine, names) {
@@ -78,7 +79,7 @@ pub(crate) fn show_script(
 }
 
 /// The ledger of an engine's history, or why there is none.
-fn ledger_text(alloc: Global, engine: &Engine) -> Result<Vec<u8>, Status>
+fn ledger_text(alloc: Global, engine: &EmbeddedEngine) -> Result<Vec<u8>, Status>
     ensures ok { IfOk result (λ text. IsLedgerOf engine.now text.items) }
     ensures err { IfErr result (λ e. e ≡ Status.NoMemory) }
 {
@@ -91,7 +92,7 @@ fn ledger_text(alloc: Global, engine: &Engine) -> Result<Vec<u8>, Status>
 
 pub(crate) fn show_ledger(
     alloc: Global,
-    engine: &Engine,
+    engine: &EmbeddedEngine,
     bytes: &mut [u8],
     count: &mut usize,
 ) -> Status
@@ -101,6 +102,7 @@ pub(crate) fn show_ledger(
     ensures small { result ≡ Status.TooSmall → (length bytes.old < count.new)
         × IsTextLong (IsLedgerOf engine.now) count.new }
     ensures kept { result ≢ Status.Done → bytes.new ≡ bytes.old }
+    ensures rest { drop count.new bytes.new ≡ drop count.new bytes.old }
     ensures untold { result ≢ Status.Done → result ≢ Status.TooSmall → count.new ≡ count.old }
 {
     match ledger_text(alloc, engine) {

@@ -2,7 +2,7 @@
 //!
 //! Both tell what an audit found, and are made of the engine's own history, so that nobody has to run the script for them.
 
-ghost use Rattle.std.specs.Prelude.{◌≡◌, ◌≢◌, ◌↔◌, ◌⊎◌, ◌<◌, false, None, length, IfOk, IfErr, IsErrOf};
+ghost use Rattle.std.specs.Prelude.{◌≡◌, ◌≢◌, ◌↔◌, ◌⊎◌, ◌<◌, false, None, length, IfOk, IfErr, IsErrOf, drop};
 ghost use Rattle.esr_items.specs.Weights.{weighted};
 ghost use Rattle.esr_history.specs.Queries.{is_committed_query};
 ghost use Rattle.esr_audit.specs.Findings.{IsFindingOf};
@@ -15,7 +15,7 @@ use crate::audit::{find, hand_out};
 use crate::engine::Status;
 use crate::past::{items, transactions};
 use esr_audit::Finding;
-use esr_engine::Engine;
+use esr_engine::EmbeddedEngine;
 use esr_explain::explanation;
 use esr_history::History;
 use esr_items::Weighted;
@@ -29,7 +29,7 @@ fn explain(
     alloc: Global,
     items: &Names,
     transactions: &Names,
-    engine: &Engine,
+    engine: &EmbeddedEngine,
     finding: &Finding,
     query: u32,
 ) -> Result<Vec<u8>, Status>
@@ -47,7 +47,7 @@ fn explain(
 /// The explanation of a query, or why there is none.
 fn explanation_text(
     alloc: Global,
-    engine: &mut Engine,
+    engine: &mut EmbeddedEngine,
     query: u32,
     names: &[u8],
 ) -> Result<Vec<u8>, Status>
@@ -92,7 +92,7 @@ fn draw<'a>(
 /// The picture of a query, or why there is none.
 fn picture_text(
     alloc: Global,
-    engine: &mut Engine,
+    engine: &mut EmbeddedEngine,
     query: u32,
     names: &[u8],
 ) -> Result<Vec<u8>, Status>
@@ -114,7 +114,7 @@ fn picture_text(
 
 pub(crate) fn show_explanation(
     alloc: Global,
-    engine: &mut Engine,
+    engine: &mut EmbeddedEngine,
     query: u32,
     names: &[u8],
     bytes: &mut [u8],
@@ -130,6 +130,7 @@ pub(crate) fn show_explanation(
     ensures small { result ≡ Status.TooSmall → (length bytes.old < count.new)
         × IsTextLong (IsExplanationOf engine.old query names.now) count.new }
     ensures kept { result ≢ Status.Done → bytes.new ≡ bytes.old }
+    ensures rest { drop count.new bytes.new ≡ drop count.new bytes.old }
     ensures untold { result ≢ Status.Done → result ≢ Status.TooSmall → count.new ≡ count.old }
 {
     match explanation_text(alloc, engine, query, names) {
@@ -140,7 +141,7 @@ pub(crate) fn show_explanation(
 
 pub(crate) fn show_picture(
     alloc: Global,
-    engine: &mut Engine,
+    engine: &mut EmbeddedEngine,
     query: u32,
     names: &[u8],
     bytes: &mut [u8],
@@ -155,6 +156,7 @@ pub(crate) fn show_picture(
     ensures picture { result ≡ Status.Done → IsTextIn IsSvg count.new bytes.new }
     ensures small { result ≡ Status.TooSmall → (length bytes.old < count.new) × IsTextLong IsSvg count.new }
     ensures kept { result ≢ Status.Done → bytes.new ≡ bytes.old }
+    ensures rest { drop count.new bytes.new ≡ drop count.new bytes.old }
     ensures untold { result ≢ Status.Done → result ≢ Status.TooSmall → count.new ≡ count.old }
 {
     match picture_text(alloc, engine, query, names) {

@@ -1,13 +1,13 @@
-//! Problems, certificates of their least costs, and the check of a certificate.
+//! Problems, certificates of their least cost, and the check of a certificate.
 //!
-//! A problem's network has a node for each update, a source and a sink. Its cuts are the closed sets, and their
-//! capacities the costs, so by weak duality a flow is worth at most what a closed set costs. A certificate is a set and
-//! a flow of one worth: it shows that no closed set costs less.
+//! The network of a problem has one node for each update, a source and a sink. Its cuts are the closed sets, and the
+//! capacity of a cut is the cost of its set. By weak duality the value of a flow is at most the cost of any closed set.
+//! A certificate is a closed set and a flow of equal worth, so it proves that no closed set costs less.
 //!
-//! With `esr_base` this is all that a stranger has to trust, and `esr_bundle` where he has a bundle: where a certificate
-//! came from does not matter, and nothing here knows of histories or solvers. Nodes, arcs, flows and cuts are defined
-//! here, since the check speaks of them, and the rows of residual arcs are laid out here once, for the check and the
-//! solver both.
+//! A reviewer has to trust only this crate and `esr_base`, and `esr_bundle` to check a bundle: the origin of a
+//! certificate does not matter, and this crate knows neither histories nor solvers. Nodes, arcs, flows and cuts are
+//! defined here because the check refers to them. The adjacency lists of residual arcs are built here once, for the
+//! check and for the solver.
 #![tactic(auto)]
 
 mod arcs;

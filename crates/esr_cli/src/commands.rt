@@ -9,7 +9,7 @@ ghost use Rattle.clap.specs.Words.{App, app_of, new_app, with_rule, with_subcomm
 ghost use Rattle.clap.specs.declared.builder.command.Command.TheViews.{out-Command};
 ghost use Rattle.esr_cli.specs.Program.{all_rule, as_script_rule, audit, bail_rule, certify, check, drive, esr, explain, explore, file_rule, files_rule, format_rule, ledger, lint, name_rule, no_progress_rule, of_rule, page, program, progress_rule, prose_rule, queries, query_rule, with_file, script_rule, scripts, seeds_rule, steps_rule, tables, verbose_rule, why, with_name, with_script, workers_rule, worst_by_rule, worst_rule};
 
-use crate::help;
+use crate::{VERSION, help};
 use clap::{Arg, ArgAction, Command, value_parser};
 use std::alloc::{AllocError, Global};
 
@@ -45,7 +45,9 @@ fn name<'a>(alloc: Global) -> Arg<'a>
     ensures rule { rule_of result ≡ name_rule }
     ensures local { result.global ≡ false }
 {
-    Arg::new(alloc, "NAME").required(true).help("The query")
+    Arg::new(alloc, "NAME")
+        .required(true)
+        .help("Name of the query")
 }
 
 /// `FILE`
@@ -53,7 +55,7 @@ fn file<'a>(alloc: Global) -> Arg<'a>
     ensures rule { rule_of result ≡ file_rule }
     ensures local { result.global ≡ false }
 {
-    Arg::new(alloc, "FILE").help("What is read; standard input where it is - or none is named")
+    Arg::new(alloc, "FILE").help("Input file; standard input if - or omitted")
 }
 
 /// `FILE..`
@@ -62,7 +64,7 @@ fn files<'a>(alloc: Global) -> Arg<'a>
     ensures local { result.global ≡ false }
 {
     Arg::new(alloc, "FILE").action(ArgAction::Append).help(
-        "What is read, one after another; standard input where it is - or none is named",
+        "Input files, read in order; standard input if - or omitted",
     )
 }
 
@@ -74,7 +76,9 @@ fn bail<'a>(alloc: Global) -> Arg<'a>
     Arg::new(alloc, "bail")
         .long("bail")
         .action(ArgAction::SetTrue)
-        .help("Ends with status 1 where a line is at fault; all but run then write nothing")
+        .help(
+            "Exits with status 1 if a line has an error; all commands except run then print nothing",
+        )
 }
 
 /// `--steps`
@@ -85,7 +89,7 @@ fn steps<'a>(alloc: Global) -> Arg<'a>
     Arg::new(alloc, "steps")
         .long("steps")
         .action(ArgAction::SetTrue)
-        .help("Tells how many augmentations led to the flow")
+        .help("Includes the number of flow augmentations")
 }
 
 /// `--prose`
@@ -96,7 +100,7 @@ fn prose<'a>(alloc: Global) -> Arg<'a>
     Arg::new(alloc, "prose")
         .long("prose")
         .action(ArgAction::SetTrue)
-        .help("Tells it in sentences, also of a query that has not committed")
+        .help("Prints sentences; also accepts a query that has not committed")
 }
 
 /// `--worst N`
@@ -109,7 +113,7 @@ fn worst<'a>(alloc: Global) -> Arg<'a>
         .value_name("N")
         .value_parser(value_parser!(u64).range(1..=64))
         .default_value("10")
-        .help("How many queries are told in full, those farthest off, 1 to 64")
+        .help("Number of queries to show in detail, those with the largest distance (1 to 64)")
 }
 
 /// `--workers W`
@@ -122,7 +126,7 @@ fn workers<'a>(alloc: Global) -> Arg<'a>
         .value_name("W")
         .value_parser(value_parser!(u64).range(1..=64))
         .default_value("4")
-        .help("How many threads audit, 1 to 64")
+        .help("Number of audit threads (1 to 64)")
 }
 
 /// `--as-script`
@@ -133,7 +137,7 @@ fn as_script<'a>(alloc: Global) -> Arg<'a>
     Arg::new(alloc, "as-script")
         .long("as-script")
         .action(ArgAction::SetTrue)
-        .help("Writes what happened as a script, which gives it again")
+        .help("Prints the history as a script that reproduces it")
 }
 
 /// `--seeds N`
@@ -145,7 +149,7 @@ fn seeds<'a>(alloc: Global) -> Arg<'a>
         .long("seeds")
         .value_name("N")
         .value_parser(value_parser!(u64).range(1..=100_000))
-        .help("How many interleavings are drawn, 1 to 100000; 1000 where no number is given")
+        .help("Number of random interleavings (1 to 100000; default 1000)")
 }
 
 /// `--all`
@@ -156,7 +160,7 @@ fn all<'a>(alloc: Global) -> Arg<'a>
     Arg::new(alloc, "all")
         .long("all")
         .action(ArgAction::SetTrue)
-        .help("Tries all interleavings, of which there may be 100000")
+        .help("Runs all interleavings (at most 100000)")
 }
 
 /// `--worst MEASURE`
@@ -167,7 +171,7 @@ fn worst_by<'a>(alloc: Global) -> Arg<'a>
     Arg::new(alloc, "worst")
         .long("worst")
         .value_name("MEASURE")
-        .help("Writes the worst interleaving as a script: by import, distance or blocked")
+        .help("Prints the worst interleaving as a script, by import, distance or blocked")
 }
 
 /// `--progress`
@@ -178,7 +182,7 @@ fn progress<'a>(alloc: Global) -> Arg<'a>
     Arg::new(alloc, "progress")
         .long("progress")
         .action(ArgAction::SetTrue)
-        .help("Shows on standard error how far it is, also where that is no terminal")
+        .help("Shows progress on standard error, even if it is not a terminal")
 }
 
 /// `--no-progress`
@@ -189,7 +193,7 @@ fn no_progress<'a>(alloc: Global) -> Arg<'a>
     Arg::new(alloc, "no-progress")
         .long("no-progress")
         .action(ArgAction::SetTrue)
-        .help("Never shows how far it is")
+        .help("Never shows progress")
 }
 
 /// `--format FORMAT`
@@ -201,7 +205,7 @@ fn format<'a>(alloc: Global) -> Arg<'a>
         .long("format")
         .value_name("FORMAT")
         .default_value("text")
-        .help("How it is written: text, csv, or json with an object a line")
+        .help("Output format: text, csv or json (one object per line)")
 }
 
 /// `--script SCRIPT`
@@ -212,7 +216,7 @@ fn script<'a>(alloc: Global) -> Arg<'a>
     Arg::new(alloc, "script")
         .long("script")
         .value_name("SCRIPT")
-        .help("The script that the bundle is said to be of, with --query")
+        .help("Script that the bundle is claimed to belong to; requires --query")
 }
 
 /// `--query QUERY`
@@ -223,7 +227,7 @@ fn query<'a>(alloc: Global) -> Arg<'a>
     Arg::new(alloc, "query")
         .long("query")
         .value_name("QUERY")
-        .help("The query of that script")
+        .help("Query of the script that the bundle is claimed to belong to; requires --script")
 }
 
 /// `--verbose`
@@ -234,7 +238,7 @@ fn verbose<'a>(alloc: Global) -> Arg<'a>
     Arg::new(alloc, "verbose")
         .long("verbose")
         .action(ArgAction::SetTrue)
-        .help("Says on standard error what was found amiss")
+        .help("Prints details about the fault on standard error")
 }
 
 /// `NAME`, which need not be given
@@ -242,7 +246,7 @@ fn of<'a>(alloc: Global) -> Arg<'a>
     ensures rule { rule_of result ≡ of_rule }
     ensures local { result.global ≡ false }
 {
-    Arg::new(alloc, "NAME").help("The transaction; all where none is named")
+    Arg::new(alloc, "NAME").help("Name of the transaction; all transactions if omitted")
 }
 
 /// A command that reads a file.
@@ -291,7 +295,7 @@ fn run<'a>(alloc: Global) -> Result<Command<'a>, AllocError>
     ensures app { IfOk result (λ c. app_of c ≡ with_script (new_app (codes "run"))) }
     ensures local { IfOk result (λ c. (out-Command c).has_globals ≡ false) }
 {
-    let about = "Runs a script and writes its answers";
+    let about = "Runs a script and prints the replies";
     with_script(alloc, plain(alloc, "run", about, help::SCRIPT))
 }
 
@@ -300,7 +304,7 @@ fn certify<'a>(alloc: Global) -> Result<Command<'a>, AllocError>
     ensures app { IfOk result (λ c. app_of c ≡ certify) }
     ensures local { IfOk result (λ c. (out-Command c).has_globals ≡ false) }
 {
-    let about = "Runs a script and writes the bundle of a query";
+    let about = "Runs a script and prints the audit of a query as a JSON bundle";
     with_argument(
         with_name(alloc, "certify", about, help::CERTIFY),
         steps(alloc),
@@ -312,7 +316,7 @@ fn explain<'a>(alloc: Global) -> Result<Command<'a>, AllocError>
     ensures app { IfOk result (λ c. app_of c ≡ explain) }
     ensures local { IfOk result (λ c. (out-Command c).has_globals ≡ false) }
 {
-    let about = "Runs a script and tells what a query read and was charged";
+    let about = "Runs a script and explains the reads and charges of a query";
     let command = with_name(alloc, "explain", about, help::EXPLAIN);
     with_argument(with_argument(command, prose(alloc)), format(alloc))
 }
@@ -322,7 +326,7 @@ fn page<'a>(alloc: Global) -> Result<Command<'a>, AllocError>
     ensures app { IfOk result (λ c. app_of c ≡ page) }
     ensures local { IfOk result (λ c. (out-Command c).has_globals ≡ false) }
 {
-    let about = "Runs a script and writes an HTML page about its queries";
+    let about = "Runs a script and renders an HTML report of its queries";
     with_argument(
         with_script(alloc, plain(alloc, "page", about, help::PAGE)),
         worst(alloc),
@@ -334,7 +338,7 @@ fn check<'a>(alloc: Global) -> Result<Command<'a>, AllocError>
     ensures app { IfOk result (λ c. app_of c ≡ check) }
     ensures local { IfOk result (λ c. (out-Command c).has_globals ≡ false) }
 {
-    let about = "Judges a bundle: valid, invalid or bad";
+    let about = "Checks a bundle: valid, invalid or bad";
     let command = with_file(alloc, plain(alloc, "check", about, help::CHECK));
     with_argument(
         with_argument(with_argument(command, script(alloc)), query(alloc)),
@@ -347,7 +351,7 @@ fn ledger<'a>(alloc: Global) -> Result<Command<'a>, AllocError>
     ensures app { IfOk result (λ c. app_of c ≡ ledger) }
     ensures local { IfOk result (λ c. (out-Command c).has_globals ≡ false) }
 {
-    let about = "Runs a script and writes a row for each transaction";
+    let about = "Runs a script and prints one row per transaction";
     with_argument(
         with_script(alloc, plain(alloc, "ledger", about, help::LEDGER)),
         format(alloc),
@@ -359,7 +363,7 @@ fn why<'a>(alloc: Global) -> Result<Command<'a>, AllocError>
     ensures app { IfOk result (λ c. app_of c ≡ why) }
     ensures local { IfOk result (λ c. (out-Command c).has_globals ≡ false) }
 {
-    let about = "Runs a script and tells why lines were blocked";
+    let about = "Runs a script and explains why lines were blocked";
     with_argument(
         with_script(alloc, plain(alloc, "why", about, help::WHY)),
         of(alloc),
@@ -371,7 +375,7 @@ fn audit<'a>(alloc: Global) -> Result<Command<'a>, AllocError>
     ensures app { IfOk result (λ c. app_of c ≡ audit) }
     ensures local { IfOk result (λ c. (out-Command c).has_globals ≡ false) }
 {
-    let about = "Runs a script and audits each committed query";
+    let about = "Runs a script and audits every committed query";
     let command = with_script(alloc, plain(alloc, "audit", about, help::AUDIT));
     with_argument(with_argument(command, workers(alloc)), format(alloc))
 }
@@ -381,7 +385,7 @@ fn drive<'a>(alloc: Global) -> Result<Command<'a>, AllocError>
     ensures app { IfOk result (λ c. app_of c ≡ drive) }
     ensures local { IfOk result (λ c. (out-Command c).has_globals ≡ false) }
 {
-    let about = "Runs the sessions of a drive file, each on a thread";
+    let about = "Runs the sessions of a drive file, one thread each";
     let command = with_file(alloc, plain(alloc, "drive", about, help::DRIVE));
     with_argument(with_argument(command, workers(alloc)), as_script(alloc))
 }
@@ -391,7 +395,7 @@ fn explore<'a>(alloc: Global) -> Result<Command<'a>, AllocError>
     ensures app { IfOk result (λ c. app_of c ≡ explore) }
     ensures local { IfOk result (λ c. (out-Command c).has_globals ≡ false) }
 {
-    let about = "Tries interleavings of the sessions of a drive file";
+    let about = "Runs the sessions of a drive file in many interleavings";
     let command = with_file(alloc, plain(alloc, "explore", about, help::EXPLORE));
     with_argument(
         with_argument(with_argument(command, seeds(alloc)), all(alloc)),
@@ -404,7 +408,7 @@ fn lint<'a>(alloc: Global) -> Result<Command<'a>, AllocError>
     ensures app { IfOk result (λ c. app_of c ≡ lint) }
     ensures local { IfOk result (λ c. (out-Command c).has_globals ≡ false) }
 {
-    let about = "Lists what is wrong in a script, line by line";
+    let about = "Lists the errors of a script, line by line";
     with_argument(plain(alloc, "lint", about, help::LINT), files(alloc))
 }
 
@@ -425,9 +429,9 @@ fn shell<'a>(alloc: Global) -> Command<'a>
     ensures { app_of result ≡ esr }
 {
     Command::new(alloc, "esr")
-        .about("Epsilon-serializable transactions over whole-number items")
+        .about("Epsilon-serializable transactions over integers")
         .after_help(help::SCRIPT)
-        .version("0.1.0")
+        .version(VERSION)
         .subcommand_required(true)
 }
 
@@ -444,7 +448,7 @@ fn scripts<'a>(alloc: Global) -> Result<Command<'a>, AllocError>
 fn queries<'a>(alloc: Global) -> Result<Command<'a>, AllocError>
     ensures { IfOk result (λ c. app_of c ≡ queries) }
 {
-    let picture = "Runs a script and writes a picture of a query, an SVG";
+    let picture = "Runs a script and renders a query as an SVG picture";
     let commands = with(scripts(alloc)?, explain(alloc))?;
     let commands = with(
         commands,

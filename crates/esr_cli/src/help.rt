@@ -122,8 +122,8 @@ For example:
 
   $ printf 'item a 1\\nsession\\nbegin q query 0\\nread q a\\ncommit q\\n' | esr explore --all
   interleavings 1 of 1
-  session 0 blocked worst 0 middle 0 gave up 0
-  query q committed 1 import worst 0 middle 0 distance worst 0 middle 0";
+  session 0 blocked max 0 median 0 gave up 0
+  query q committed 1 import max 0 median 0 distance max 0 median 0";
 
 pub const LEDGER: &str =
     "Prints one row per transaction, in the order of the begins: number, name, kind,
@@ -138,8 +138,9 @@ For example:
   $ printf 'item a 1\\nbegin q query 0\\nread q a\\ncommit q\\n' | esr ledger --format csv | tail -n 1
   1,q,query,0,0,0,1,0,0,0,0,committed,0,2,4";
 
-pub const WHY: &str =
-    "Prints, for each blocked line, the request and either the charge, the remaining
+pub const WHY: &str = "The operands are a FILE and a NAME, in either order.
+
+Prints, for each blocked line, the request and either the charge, the remaining
 limit and the limit that would suffice, or the lock that blocked it and when that
 lock was released. A cycle of waiting transactions is reported as a deadlock.
 
@@ -155,7 +156,7 @@ each FILE in turn. The exit status is 1 if anything was listed.
 For example:
 
   $ printf 'item a 1\\nwirte u a 2\\n' | esr lint
-  line 2:1: \"wirte\" is no command; write?";
+  line 2:1: unknown command \"wirte\"; write?";
 
 pub const PAGE: &str =
     "The page is a single self-contained HTML file: totals, a chart and a table of all
@@ -164,4 +165,4 @@ serial order.
 
 For example:
 
-  $ esr page examples/audit.esr > page.html";
+  $ esr page examples/report.esr > page.html";

@@ -1,9 +1,9 @@
-//! The command line of the program `esr`: the job that its words ask for.
+//! The command line of the program `esr`: parses the arguments into a job.
 //!
-//! A job is the work and what any work may be asked for besides: the file that is read, and whether a line at fault is
-//! to show in the status. So a further subcommand is a variant of `Task`, and a further flag a field of `Job`; the
-//! proofs that words of no fault ask for something are said once for each kind of subcommand. A name after `certify`
-//! may be any word that `clap` takes for one; one that begins with `-` needs `--` before it.
+//! A job is a task with the options that all tasks share: the input file, and whether a line with an error changes the
+//! exit status. A new subcommand is a variant of `Task`, and a new common flag is a field of `Job`. For each kind of
+//! subcommand, one proof shows that arguments without an error produce a job. The name after `certify` may be any word
+//! that `clap` accepts; a name that begins with `-` needs `--` before it.
 #![tactic(auto)]
 
 ghost use Rattle.std.specs.Prelude.{◌≡◌, IfOk, MatchResult, Some, codes, option_map};
@@ -20,6 +20,9 @@ mod help;
 use crate::commands::program;
 use clap::{ArgMatches, Error};
 use std::alloc::Global;
+
+/// The version of the program.
+pub const VERSION: &str = "0.3.0";
 
 /// What is done with the input.
 #[derive(Clone, Copy, PartialEq, Eq)]

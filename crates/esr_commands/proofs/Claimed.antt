@@ -12,8 +12,8 @@ use Rattle.esr_bundle.specs.Reading.{IsReadingOf, Means}
 use Rattle.esr_views.specs.Ask.{IsAnswered}
 use Rattle.esr_views.specs.State.{ScriptState, transaction_called}
 use Rattle.esr_views.specs.declared.query.AuditedQuery.{AuditedQuery}
-use Rattle.esr_commands.specs.declared.claim.Claim.{Claim}
-use Rattle.esr_commands.specs.declared.claim.Claim.TheVariants.{Of, Bad}
+use Rattle.esr_commands.specs.declared.claim.BundleClaim.{BundleClaim}
+use Rattle.esr_commands.specs.declared.claim.BundleClaim.TheVariants.{Of, Bad}
 use Rattle.esr_commands.specs.Claims.{IsClaim, IsClaimOf, ShowsDistance}
 
 bad_fault : (asked : Problem) (bytes : List ℕ) (f : BundleFault) → f ≢ NoMemory → IsReadingOf bytes (Err f) → IsClaimOf asked bytes (Bad (bundle_fault_number f))
@@ -22,12 +22,12 @@ bad_fault asked bytes Shape other h = (Err Shape, h, refl)
 bad_fault asked bytes Range other h = (Err Range, h, refl)
 bad_fault asked bytes NoMemory other h = absurd (other refl)
 
-pub claims_bad : (asked : Problem) (bytes : List ℕ) (f : BundleFault) (r : Result Claim AllocError) → IfOk r (λ v. v ≡ Bad (bundle_fault_number f)) → (IsOk r → f ≢ NoMemory) → IsReadingOf bytes (Err f)
+pub claims_bad : (asked : Problem) (bytes : List ℕ) (f : BundleFault) (r : Result BundleClaim AllocError) → IfOk r (λ v. v ≡ Bad (bundle_fault_number f)) → (IsOk r → f ≢ NoMemory) → IsReadingOf bytes (Err f)
     → IfOk r (IsClaimOf asked bytes)
 claims_bad asked bytes f (Ok v) is other h = rw is (bad_fault asked bytes f (other refl) h)
 claims_bad asked bytes f (Err e) is other h = tt
 
-pub shown_by : (s : ScriptState) (name : List ℕ) (a : AuditedQuery) (bytes : List ℕ) (b : Problem × Certificate) (claim : Claim) (worth : ℕ) → IsAnswered s name a → Means bytes (Ok b)
+pub shown_by : (s : ScriptState) (name : List ℕ) (a : AuditedQuery) (bytes : List ℕ) (b : Problem × Certificate) (claim : BundleClaim) (worth : ℕ) → IsAnswered s name a → Means bytes (Ok b)
     → IsClaim a.finding.problem (Ok b) claim → claim ≡ Of worth → ShowsDistance s name bytes worth
 shown_by s name a bytes b claim worth answered means held is =
     let k : IsClaim a.finding.problem (Ok b) (Of worth) = subst (IsClaim a.finding.problem (Ok b)) is held in

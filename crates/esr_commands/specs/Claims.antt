@@ -9,12 +9,12 @@ use Rattle.esr_cert.specs.declared.problem.BundleFault.{BundleFault}
 use Rattle.esr_audit.specs.Problems as problems
 use Rattle.esr_bundle.specs.Reading.{Means}
 use Rattle.esr_views.specs.State.{ScriptState, transaction_called}
-use Rattle.esr_commands.specs.declared.claim.Claim.{Claim}
-use Rattle.esr_commands.specs.declared.claim.Claim.TheVariants.{Of, NotOf, Invalid, Bad}
+use Rattle.esr_commands.specs.declared.claim.BundleClaim.{BundleClaim}
+use Rattle.esr_commands.specs.declared.claim.BundleClaim.TheVariants.{Of, NotOf, Invalid, Bad}
 
 -- The claim of a bundle beside the problem of the query: its certificate has no fault, and its problem is that one, or
 -- nothing is said of it; or its first fault; or that the bytes are no bundle.
-abbrev pub IsClaim : Problem → Result (Problem × Certificate) BundleFault → Claim → Type 0
+abbrev pub IsClaim : Problem → Result (Problem × Certificate) BundleFault → BundleClaim → Type 0
 IsClaim asked (Ok b) (Of worth) = Certifies b.0 b.1 × (worth ≡ b.1.worth) × (b.0 ≡ asked)
 IsClaim asked (Ok b) (NotOf worth) = Certifies b.0 b.1 × (worth ≡ b.1.worth)
 IsClaim asked (Ok b) (Invalid number) = (f : Fault) × (fault b.0 b.1 ≡ Some f) × (number ≡ fault_number f)
@@ -22,7 +22,7 @@ IsClaim asked (Err f) (Bad number) = number ≡ bundle_fault_number f
 IsClaim asked _ _ = ⊥
 
 -- the claim of what the bytes mean
-abbrev pub IsClaimOf : Problem → List ℕ → Claim → Type 0
+abbrev pub IsClaimOf : Problem → List ℕ → BundleClaim → Type 0
 IsClaimOf asked bytes claim = (b : Result (Problem × Certificate) BundleFault) × Means bytes b × IsClaim asked b claim
 
 -- the bytes are a bundle that shows this to be the distance of the query of that name after a script
@@ -32,7 +32,7 @@ ShowsDistance s name bytes worth =
     × problems.StandsFor weighted s.history (transaction_called s name).0 b.0
 
 -- the line of a claim about the query of that name
-abbrev pub claim_line : List ℕ → Claim → List ℕ
+abbrev pub claim_line : List ℕ → BundleClaim → List ℕ
 claim_line name (Of worth) = codes "valid " ++ decimal worth ++ codes " of " ++ name ++ 10 ∷ []
 claim_line name (NotOf worth) = codes "valid " ++ decimal worth ++ codes ", not of " ++ name ++ 10 ∷ []
 claim_line name (Invalid number) = codes "invalid " ++ decimal number ++ 10 ∷ []

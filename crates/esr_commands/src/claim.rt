@@ -21,7 +21,7 @@ use std::alloc::{AllocError, Global};
 
 /// What a bundle shows of a query that a script was asked for.
 #[derive(Clone, Copy)]
-pub enum Claim {
+pub enum BundleClaim {
     /// The certificate shows that this is the query's distance.
     Of(u64),
     /// The certificate shows that this is the least cost of another problem.
@@ -33,37 +33,41 @@ pub enum Claim {
 }
 
 /// The claim of a problem and a certificate beside the problem of the query.
-fn claim_on(asked: &Problem, problem: &Problem, certificate: &Certificate) -> Claim
+fn claim_on(asked: &Problem, problem: &Problem, certificate: &Certificate) -> BundleClaim
     ensures { IsClaim asked.now (Ok (problem.now, certificate_of certificate.now)) result }
 {
     match check(problem, certificate) {
         Ok(()) => {
             if is_same(problem, asked) {
-                Claim::Of(certificate.worth)
+                BundleClaim::Of(certificate.worth)
             } else {
-                Claim::NotOf(certificate.worth)
+                BundleClaim::NotOf(certificate.worth)
             }
         }
-        Err(fault) => Claim::Invalid(fault.number()),
+        Err(fault) => BundleClaim::Invalid(fault.number()),
     }
 }
 
 /// The claim on bytes of such a fault, which out of memory is not.
-fn bad(fault: BundleFault) -> Result<Claim, AllocError>
-    ensures ok { IfOk result (λ v. v ≡ Claim.Bad (bundle_fault_number fault)) }
+fn bad(fault: BundleFault) -> Result<BundleClaim, AllocError>
+    ensures ok { IfOk result (λ v. v ≡ BundleClaim.Bad (bundle_fault_number fault)) }
     ensures memory { IsOk result → fault ≢ BundleFault.NoMemory }
 {
     if let BundleFault::NoMemory = fault {
         return Err(AllocError);
     }
-    Ok(Claim::Bad(fault.number()))
+    Ok(BundleClaim::Bad(fault.number()))
 }
 
 /// The claim of a bundle, given as its bytes, about a query that a script was asked for.
-pub fn claim_of(alloc: Global, asked: &AuditedQuery, bytes: &[u8]) -> Result<Claim, AllocError>
+pub fn claim_of(
+    alloc: Global,
+    asked: &AuditedQuery,
+    bytes: &[u8],
+) -> Result<BundleClaim, AllocError>
     ensures claim { IfOk result (IsClaimOf asked.now.finding.problem bytes.now) }
     ensures shows { (s : ScriptState) (name : List ℕ) → IsAnswered s name asked.now
-        → (worth : ℕ) → result ≡ Ok (Claim.Of worth) → ShowsDistance s name bytes.now worth }
+        → (worth : ℕ) → result ≡ Ok (BundleClaim.Of worth) → ShowsDistance s name bytes.now worth }
 {
     match from_json(alloc, bytes) {
         Ok((problem, certificate)) => {
@@ -73,17 +77,17 @@ pub fn claim_of(alloc: Global, asked: &AuditedQuery, bytes: &[u8]) -> Result<Cla
     }
 }
 
-impl Claim {
+impl BundleClaim {
     /// The line of a claim about the query of that name.
     pub fn line(self, alloc: Global, name: &str) -> Result<Vec<u8>, AllocError>
         ensures { IfOk result (λ v. v.items ≡ claim_line name.now self) }
     {
         let mut digits = itoa::Buffer::new();
         let (word, number, link, about) = match self {
-            Claim::Of(worth) => ("valid ", digits.format(worth), " of ", name),
-            Claim::NotOf(worth) => ("valid ", digits.format(worth), ", not of ", name),
-            Claim::Invalid(fault) => ("invalid ", digits.format(fault), "", ""),
-            Claim::Bad(fault) => ("bad ", digits.format(fault), "", ""),
+            BundleClaim::Of(worth) => ("valid ", digits.format(worth), " of ", name),
+            BundleClaim::NotOf(worth) => ("valid ", digits.format(worth), ", not of ", name),
+            BundleClaim::Invalid(fault) => ("invalid ", digits.format(fault), "", ""),
+            BundleClaim::Bad(fault) => ("bad ", digits.format(fault), "", ""),
         };
         let mut line = Vec::new(alloc);
         line.extend_from_slice(word.as_bytes())?;

@@ -8,16 +8,19 @@
 ghost use Rattle.std.specs.Prelude.{◌≡◌, ◌≤◌, false};
 ghost use Rattle.esr_base.specs.Watch.{failed};
 
-use crate::fail;
-use crate::fault::RunText;
+use crate::console::Console;
+use crate::fault::{RunHelp, fail, report_fault};
 use crate::meter::{LineObserver, Meter};
 use crate::output::Output;
 use esr_cli::{Job, Task};
 use esr_history::Watched;
-use esr_lint::{ErrorReporter, Observer, Source, When};
-use esr_script::{RunFault, audit, certify, certify_steps, render_query, render_script, run};
+use esr_lint::{ErrorReporter, Notes, Observer, Reports, Sought, Source};
+use esr_script::{
+    AuditedScript, RunFault, audit, audit_silently, certify, certify_steps, render_query,
+    render_script, run,
+};
 use esr_views::{QueryView, ScriptView};
-use std::alloc::Global;
+use std::alloc::{AllocError, Global};
 use std::io;
 use std::io::{Read, Write};
 use std::thread::Threads;
@@ -25,6 +28,9 @@ use std::time::Clock;
 
 /// What is done with a script that is read once.
 pub trait Command {
+    /// Returns where lines with errors are noted, if the output shows them.
+    fn notes(&self) -> Option<&Notes>;
+
     /// Does it.
     fn execute<R: Read, W: Write, O: Observer>(
         &self,
@@ -42,6 +48,10 @@ pub trait Command {
 pub struct RunScript;
 
 impl Command for RunScript {
+    fn notes(&self) -> Option<&Notes> {
+        None
+    }
+
     fn execute<R: Read, W: Write, O: Observer>(
         &self,
         alloc: Global,
@@ -61,6 +71,10 @@ pub struct WriteBundle<'a> {
 }
 
 impl Command for WriteBundle<'_> {
+    fn notes(&self) -> Option<&Notes> {
+        None
+    }
+
     fn execute<R: Read, W: Write, O: Observer>(
         &self,
         alloc: Global,
@@ -81,9 +95,15 @@ impl Command for WriteBundle<'_> {
 pub struct RenderQuery<'a, T> {
     pub name: &'a str,
     pub query_view: &'a T,
+    /// Where lines with errors are noted, if the view shows them.
+    pub notes: Option<&'a Notes>,
 }
 
 impl<T: QueryView> Command for RenderQuery<'_, T> {
+    fn notes(&self) -> Option<&Notes> {
+        self.notes
+    }
+
     fn execute<R: Read, W: Write, O: Observer>(
         &self,
         alloc: Global,
@@ -99,9 +119,15 @@ impl<T: QueryView> Command for RenderQuery<'_, T> {
 #[derive(Drop)]
 pub struct RenderScript<'a, S> {
     pub script_view: &'a S,
+    /// Where lines with errors are noted, if the view shows them.
+    pub notes: Option<&'a Notes>,
 }
 
 impl<S: ScriptView> Command for RenderScript<'_, S> {
+    fn notes(&self) -> Option<&Notes> {
+        self.notes
+    }
+
     fn execute<R: Read, W: Write, O: Observer>(
         &self,
         alloc: Global,
@@ -113,10 +139,10 @@ impl<S: ScriptView> Command for RenderScript<'_, S> {
     }
 }
 
-/// Does some work on a script.
+/// Executes a command over a script.
 pub fn execute_command<R: Print + Eprint + AllocGlobal + Clock, I: Read + Drop, W: Command>(
     rt: &R,
-    shows: bool,
+    console: Console,
     job: Job<'_>,
     source: Source<'_>,
     input: I,
@@ -125,18 +151,20 @@ pub fn execute_command<R: Print + Eprint + AllocGlobal + Clock, I: Read + Drop, 
     let alloc = rt.alloc();
     let mut reader = Watched::new(input);
     let mut writer = Watched::new(Output::new(alloc, io::writer(rt), is_buffered(job)));
-    let reporter = ErrorReporter::new(rt, alloc, source, when_of(job.task), query_name(job.task));
-    let meter = Meter::new(rt, shows);
+    let reports = reports_of(console, job.task);
+    let sought = sought_by(job.task);
+    let reporter = ErrorReporter::new(rt, alloc, source, reports, sought, command.notes());
+    let meter = Meter::new(rt, console);
     let mut observer = LineObserver::new(reporter, &meter);
     let ended = command.execute(alloc, &mut reader, &mut writer, &mut observer);
-    finish(rt, job, source, ended, &observer, writer.inner())
+    finish(rt, console, job, source, ended, &observer, writer.inner())
 }
 
-/// Writes the audit of a script. This is no `Command`, since no proof is generated for a method of a trait that hands what it
-/// knows by a bound to threads.
+/// Prints the audit of a script. This is not a `Command`, because no proof is generated for a method of a trait that
+/// passes its bounds to threads.
 pub fn audit_script<R: Print + Eprint + AllocGlobal + Clock + Threads + Sync, I: Read + Drop>(
     rt: &R,
-    shows: bool,
+    console: Console,
     job: Job<'_>,
     source: Source<'_>,
     input: I,
@@ -147,8 +175,9 @@ pub fn audit_script<R: Print + Eprint + AllocGlobal + Clock + Threads + Sync, I:
     let alloc = rt.alloc();
     let mut reader = Watched::new(input);
     let mut writer = Watched::new(Output::new(alloc, io::writer(rt), is_buffered(job)));
-    let reporter = ErrorReporter::new(rt, alloc, source, When::AtOnce, "");
-    let meter = Meter::new(rt, shows);
+    let reports = reports_of(console, job.task);
+    let reporter = ErrorReporter::new(rt, alloc, source, reports, Sought::Nothing, None);
+    let meter = Meter::new(rt, console);
     let mut observer = LineObserver::new(reporter, &meter);
     let ended = audit(
         rt,
@@ -160,10 +189,64 @@ pub fn audit_script<R: Print + Eprint + AllocGlobal + Clock + Threads + Sync, I:
         &mut observer,
     );
     meter.clear();
-    finish(rt, job, source, ended, &observer, writer.inner())
+    finish(rt, console, job, source, ended, &observer, writer.inner())
 }
 
-/// What is told where a survey has nothing to tell, since nobody has the name that was asked for.
+/// A text of the audits of a script.
+pub trait AuditText {
+    /// Returns the text.
+    fn text_of(&self, alloc: Global, audited: &AuditedScript) -> Result<Vec<u8>, AllocError>;
+}
+
+/// Prints a text of the audits of a script.
+pub fn audit_script_as<
+    R: Print + Eprint + AllocGlobal + Clock + Threads + Sync,
+    I: Read + Drop,
+    V: AuditText,
+>(
+    rt: &R,
+    console: Console,
+    job: Job<'_>,
+    source: Source<'_>,
+    input: I,
+    workers: u64,
+    view: &V,
+) -> u8
+    requires { (1 ≤ workers) × (workers ≤ 64) }
+{
+    let alloc = rt.alloc();
+    let mut reader = Watched::new(input);
+    let mut writer = Watched::new(Output::new(alloc, io::writer(rt), is_buffered(job)));
+    let reports = reports_of(console, job.task);
+    let reporter = ErrorReporter::new(rt, alloc, source, reports, Sought::Nothing, None);
+    let meter = Meter::new(rt, console);
+    let mut observer = LineObserver::new(reporter, &meter);
+    let audited = audit_silently(rt, alloc, &mut reader, workers, &meter, &mut observer);
+    meter.clear();
+    let ended = match audited {
+        Ok(audited) => print_audits(alloc, &audited, view, &mut writer),
+        Err(fault) => Err(fault),
+    };
+    finish(rt, console, job, source, ended, &observer, writer.inner())
+}
+
+/// Prints a text of audits.
+fn print_audits<V: AuditText, W: Write>(
+    alloc: Global,
+    audited: &AuditedScript,
+    view: &V,
+    writer: &mut Watched<W>,
+) -> Result<(), RunFault> {
+    let Ok(text) = view.text_of(alloc, audited) else {
+        return Err(RunFault::NoMemory);
+    };
+    match writer.send_all(&text) {
+        Ok(()) => Ok(()),
+        Err(_) => Err(RunFault::Write),
+    }
+}
+
+/// Returns the fault text if a text of the whole script was asked for a name that does not exist.
 fn not_found_text(task: Task<'_>) -> Option<&'static str> {
     match task {
         Task::Why { .. } => Some("not a transaction"),
@@ -172,30 +255,32 @@ fn not_found_text(task: Task<'_>) -> Option<&'static str> {
     }
 }
 
-/// When the lines at fault are told: a run has answered them.
-fn when_of(task: Task<'_>) -> When {
-    match task {
-        Task::Run => When::AtTheEnd,
-        _ => When::AtOnce,
+/// Returns which lines with errors are reported, and when.
+fn reports_of(console: Console, task: Task<'_>) -> Reports {
+    Reports {
+        first_only: matches!(task, Task::Run),
+        held: !console.is_terminal,
     }
 }
 
-/// The committed query that is asked for, if one is.
-fn query_name(task: Task<'_>) -> &str {
+/// Returns the name that a task looks up.
+fn sought_by(task: Task<'_>) -> Sought<'_> {
     match task {
         Task::Certify { name, .. }
         | Task::Explain { name, prose: false }
-        | Task::Picture { name } => name,
-        _ => "",
+        | Task::Picture { name } => Sought::CommittedQuery(name),
+        Task::Explain { name, prose: true } => Sought::Query(name),
+        Task::Why { name: Some(name) } => Sought::Transaction(name),
+        _ => Sought::Nothing,
     }
 }
 
-/// Whether what is written waits until no line was at fault.
+/// Returns whether the output is held back until it is known that no line has an error.
 fn is_buffered(job: Job<'_>) -> bool {
     job.bail && !matches!(job.task, Task::Run)
 }
 
-/// The fault that is told: what is held back is kept in memory, and no device has failed then.
+/// Returns the fault to report. Output that is held back is in memory, so no device has failed.
 fn reported_fault(job: Job<'_>, fault: RunFault) -> RunFault {
     match fault {
         RunFault::Write if is_buffered(job) => RunFault::NoMemory,
@@ -203,37 +288,55 @@ fn reported_fault(job: Job<'_>, fault: RunFault) -> RunFault {
     }
 }
 
-/// Tells how it ended, and writes what was held back.
-fn finish<R: Print + Eprint + Clock, W: Write>(
+/// Reports how a command ended, and writes the output that was held back.
+fn finish<R: Print + Eprint + AllocGlobal + Clock, W: Write>(
     rt: &R,
+    console: Console,
     job: Job<'_>,
     source: Source<'_>,
     ended: Result<(), RunFault>,
     observer: &LineObserver<'_, '_, '_, R, R>,
     output: &Output<W>,
 ) -> u8 {
-    match (ended, not_found_text(job.task)) {
-        (Ok(()), _) if job.bail && observer.faults() > 0 => 1,
-        (Ok(()), _) => flush(rt, output),
-        (Err(RunFault::NotACommittedQuery), Some(words)) => fail(rt, &words, 1),
-        (Err(fault), _) => fail(
-            rt,
-            &RunText {
+    match ended {
+        Ok(()) => {
+            let status = if job.bail && observer.faults() > 0 {
+                1
+            } else {
+                flush(rt, output)
+            };
+            if status == 0 || job.bail {
+                observer.release();
+            }
+            status
+        }
+        Err(RunFault::Write) if output.is_closed() => 1,
+        Err(fault) => {
+            let help = RunHelp {
                 source,
                 fault: reported_fault(job, fault),
                 line: observer.next_line(),
-                query: Some(observer.refusal()),
-            },
-            1,
-        ),
+                not_found: Some(observer.refusal()),
+            };
+            report_run_fault(rt, console, job, help)
+        }
     }
 }
 
-/// Writes what was held back, and is done.
-fn flush<W: Write>(rt: &(impl Print + Eprint), output: &Output<W>) -> u8 {
-    let mut writer = Watched::new(io::writer(rt));
+/// Reports the fault of a script. A text of the whole script names its own fault if it does not know a name.
+fn report_run_fault(rt: &impl Eprint, console: Console, job: Job<'_>, help: RunHelp<'_>) -> u8 {
+    match (help.fault, not_found_text(job.task)) {
+        (RunFault::NotACommittedQuery, Some(text)) => report_fault(rt, console, &text, &help),
+        (fault, _) => report_fault(rt, console, &fault, &help),
+    }
+}
+
+/// Writes the output that was held back. Returns the status.
+fn flush<W: Write>(rt: &(impl Print + Eprint + AllocGlobal), output: &Output<W>) -> u8 {
+    let mut writer = Watched::new(Output::new(rt.alloc(), io::writer(rt), false));
     match writer.send_all(output.bytes()) {
         Ok(()) => 0,
-        Err(_) => fail(rt, &"write failed", 1),
+        Err(_) if writer.inner().is_closed() => 1,
+        Err(_) => fail(rt, &RunFault::Write, 1),
     }
 }

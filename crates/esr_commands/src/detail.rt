@@ -59,12 +59,12 @@ fn flow(certificate: &Certificate) -> u128 {
 fn push_lack(out: &mut String, problem: &Problem, set: &[u32]) -> Result<(), AllocError> {
     for (u, v) in problem.before() {
         if contains(set, *v) && !contains(set, *u) {
-            return write!(out, "the set has {v} and lacks {u}, which is before it");
+            return write!(out, "set contains update {v} but not its predecessor {u}");
         }
     }
     for must in problem.must() {
         if !contains(set, *must) {
-            return write!(out, "the set lacks {must}, which it must have");
+            return write!(out, "set does not contain the required update {must}");
         }
     }
     Ok(())
@@ -86,13 +86,13 @@ fn push_row(out: &mut String, chain: &Chain, row: &[u64]) -> Result<(), AllocErr
     if wanted != given {
         return write!(
             out,
-            "the chain of item {item} has {wanted} arcs and {given} amounts"
+            "chain of item {item} has {wanted} arcs but {given} flow amounts"
         );
     }
     match excess(chain, row) {
         Some((amount, cost)) => write!(
             out,
-            "the chain of item {item} has an amount of {amount} where {cost} may flow"
+            "flow {amount} exceeds capacity {cost} in the chain of item {item}"
         ),
         None => Ok(()),
     }
@@ -106,7 +106,7 @@ fn push_counts(
     given: usize,
 ) -> Result<(), AllocError> {
     if out.is_empty() && wanted != given {
-        write!(out, "there are {wanted} {what} and {given} amounts")?;
+        write!(out, "{wanted} {what} but {given} flow amounts")?;
     }
     Ok(())
 }
@@ -127,7 +127,7 @@ fn push_excess(
     let (before, back) = (problem.before().len(), certificate.back_flow.len());
     push_counts(out, "pairs", before, back)?;
     let (must, flow) = (problem.must().len(), certificate.must_flow.len());
-    push_counts(out, "updates that the set must have", must, flow)
+    push_counts(out, "required updates", must, flow)
 }
 
 /// What flows into an update, and out of it.
@@ -195,7 +195,7 @@ fn push_imbalance(
             let (into, from) = (balance.into, balance.from);
             return write!(
                 out,
-                "{into} flows into update {update}, and {from} out of it"
+                "flow not conserved at update {update}: {into} in, {from} out"
             );
         }
     }
@@ -211,10 +211,10 @@ fn push_worth(
     let worth = certificate.worth;
     let cost = cost(problem.chains(), &certificate.set);
     if cost != u128::from(worth) {
-        return write!(out, "the set costs {cost}, the worth says {worth}");
+        return write!(out, "cost of the set is {cost}, but worth is {worth}");
     }
     let flow = flow(certificate);
-    write!(out, "the flow is worth {flow}, the worth says {worth}")
+    write!(out, "value of the flow is {flow}, but worth is {worth}")
 }
 
 /// What is found of a certificate with this fault.
@@ -227,7 +227,7 @@ fn push_fault(
 ) -> Result<(), AllocError> {
     match fault {
         Fault::SetNotAscending => match descent(&certificate.set) {
-            Some((before, member)) => write!(out, "in the set {member} comes behind {before}"),
+            Some((before, member)) => write!(out, "set not ascending: {member} follows {before}"),
             None => Ok(()),
         },
         Fault::UnknownUpdate => {
@@ -235,7 +235,7 @@ fn push_fault(
             let last = last.unwrap_or(0);
             write!(
                 out,
-                "the set has {last}, and there are {count} updates, from 0"
+                "set contains update {last}, but there are only {count} updates (numbered from 0)"
             )
         }
         Fault::SetNotClosed => push_lack(out, problem, &certificate.set),
@@ -244,7 +244,7 @@ fn push_fault(
         Fault::WorthNotCost => push_worth(out, problem, certificate),
         Fault::TooManyAugmentations => {
             let count = certificate.augmentations.unwrap_or(0);
-            write!(out, "{count} augmentations are more than nodes times arcs")
+            write!(out, "{count} augmentations exceed nodes times arcs")
         }
     }
 }

@@ -4,50 +4,57 @@
 ghost use Rattle.std.specs.Prelude.{◌≡◌, false};
 ghost use Rattle.esr_base.specs.Watch.{failed};
 
-use crate::claim::{Claim, claim_of};
+use crate::claim::{BundleClaim, claim_of};
+use crate::console::Console;
 use crate::detail::detail_of;
-use crate::fail;
-use crate::fault::RunText;
+use crate::fault::{InFile, RunHelp, fail, report_fault};
 use crate::meter::{LineObserver, Meter};
 use crate::open::open_file;
+use crate::output::Output;
 use esr_bundle::{JudgeFault, Verdict, judge};
 use esr_history::Watched;
-use esr_lint::{ErrorReporter, Source, When};
+use esr_lint::{ErrorReporter, Reports, Sought, Source};
 use esr_script::{TeeReader, ask};
 use esr_views::AuditedQuery;
 use std::alloc::{AllocError, Global};
 use std::io;
-use std::io::{Read, Write};
+use std::io::Read;
 use std::rt::Files;
 use std::time::Clock;
 
-/// What is asked of a bundle.
+/// Options of the check of a bundle.
 #[derive(Clone, Copy)]
 pub struct Question<'a> {
     pub script: Option<&'a str>,
     pub query: Option<&'a str>,
-    /// Whether what an invalid bundle lacks is told on standard error.
+    /// Whether details about an invalid bundle are printed on standard error.
     pub verbose: bool,
 }
 
-/// Judges a bundle as it is asked for.
+/// Checks a bundle.
 pub fn check<'a, R: Print + Eprint + Files + AllocGlobal + Clock, I: Read + Drop>(
     rt: &'a R,
-    shows: bool,
+    console: Console,
     source: Source<'_>,
     input: I,
     question: Question<'a>,
 ) -> u8 {
     match (question.script, question.query) {
-        (None, None) => check_alone(rt, source, input, question.verbose),
-        (Some(script), Some(query)) => {
-            check_claim(rt, shows, source, input, script, query, question.verbose)
-        }
-        _ => fail(rt, &"--script and --query go together", 2),
+        (None, None) => check_alone(rt, console, source, input, question.verbose),
+        (Some(script), Some(query)) => check_with_script(
+            rt,
+            console,
+            source,
+            input,
+            script,
+            query,
+            question.verbose,
+        ),
+        _ => fail(rt, &"--script and --query must be used together", 2),
     }
 }
 
-/// Tells what an invalid bundle lacks.
+/// Prints details about an invalid bundle.
 fn report_detail(rt: &impl Eprint, alloc: Global, copy: Option<&[u8]>) {
     if let Some(bytes) = copy
         && let Ok(Some(detail)) = detail_of(alloc, bytes)
@@ -56,136 +63,160 @@ fn report_detail(rt: &impl Eprint, alloc: Global, copy: Option<&[u8]>) {
     }
 }
 
-/// Writes the verdict on a bundle, or tells why there is none.
+/// Prints the verdict on a bundle. Returns whether the bundle is valid, or the status after a fault, which is reported.
 fn write_verdict<I: Read>(
     rt: &(impl Print + Eprint + AllocGlobal),
+    console: Console,
     source: Source<'_>,
     reader: &mut Watched<I>,
-) -> u8
+) -> Result<bool, u8>
     requires { failed reader.old ≡ false }
 {
-    let mut writer = Watched::new(io::writer(rt));
-    match judge(rt.alloc(), reader, &mut writer) {
-        Ok(Verdict::Valid(_)) => 0,
-        Ok(_) => 1,
-        Err(fault) => fail(rt, &format_args!("{source}{fault}"), 1),
+    let alloc = rt.alloc();
+    let mut writer = Watched::new(Output::new(alloc, io::writer(rt), false));
+    match judge(alloc, reader, &mut writer) {
+        Ok(Verdict::Valid(_)) => Ok(true),
+        Ok(_) => Ok(false),
+        Err(JudgeFault::Write) if writer.inner().is_closed() => Err(1),
+        Err(fault) => Err(report_judge_fault(rt, console, source, fault)),
     }
 }
 
-/// Judges a bundle on its own. Only who asks what an invalid one lacks pays for a copy of it.
+/// Returns the status after a verdict.
+fn status_of(verdict: Result<bool, u8>) -> u8 {
+    match verdict {
+        Ok(valid) => u8::from(!valid),
+        Err(status) => status,
+    }
+}
+
+/// Reports the fault of a bundle.
+fn report_judge_fault(
+    rt: &impl Eprint,
+    console: Console,
+    source: Source<'_>,
+    fault: JudgeFault,
+) -> u8 {
+    match fault {
+        JudgeFault::Read | JudgeFault::TooLong => {
+            report_fault(rt, console, &fault, &InFile(source))
+        }
+        JudgeFault::Write | JudgeFault::NoMemory => report_fault(rt, console, &fault, &""),
+    }
+}
+
+/// Checks a bundle by itself. The input is copied only if details may be asked for.
 fn check_alone<I: Read + Drop>(
     rt: &(impl Print + Eprint + AllocGlobal),
+    console: Console,
     source: Source<'_>,
     input: I,
     verbose: bool,
 ) -> u8 {
     if !verbose {
         let mut reader = Watched::new(input);
-        return write_verdict(rt, source, &mut reader);
+        return status_of(write_verdict(rt, console, source, &mut reader));
     }
     let alloc = rt.alloc();
     let mut reader = Watched::new(TeeReader::new(alloc, input));
-    let status = write_verdict(rt, source, &mut reader);
-    if status != 0 {
+    let verdict = write_verdict(rt, console, source, &mut reader);
+    if let Ok(false) = verdict {
         report_detail(rt, alloc, reader.inner().copy());
     }
-    status
+    status_of(verdict)
 }
 
-/// What a script answers of its query, or the status where it has no such answer.
-fn ask_script<'a, R: Print + Eprint + Files + AllocGlobal + Clock>(
+/// Checks a bundle against a query of a script. Lines with errors of the script are reported unless a fault is.
+fn check_with_script<'a, R: Print + Eprint + Files + AllocGlobal + Clock, I: Read + Drop>(
     rt: &'a R,
-    shows: bool,
+    console: Console,
+    source: Source<'_>,
+    input: I,
     path: &'a str,
     query: &'a str,
-) -> Result<AuditedQuery, u8> {
+    verbose: bool,
+) -> u8 {
     let alloc = rt.alloc();
     let file = match open_file(rt, path) {
         Ok(file) => file,
-        Err(why) => return Err(fail(rt, &format_args!("{path}: {why}"), 1)),
+        Err(reason) => return fail(rt, &format_args!("{path}: {reason}"), 1),
     };
-    let source = Source(Some(path));
+    let script = Source(Some(path));
     let mut reader = Watched::new(file);
-    let reporter = ErrorReporter::new(rt, alloc, source, When::AtOnce, query);
-    let meter = Meter::new(rt, shows);
+    let reports = Reports {
+        first_only: false,
+        held: !console.is_terminal,
+    };
+    let sought = Sought::CommittedQuery(query);
+    let reporter = ErrorReporter::new(rt, alloc, script, reports, sought, None);
+    let meter = Meter::new(rt, console);
     let mut observer = LineObserver::new(reporter, &meter);
     match ask(alloc, &mut reader, query, &mut observer) {
-        Ok(asked) => Ok(asked),
+        Ok(asked) => {
+            let verdict = check_claim(rt, console, source, input, &asked, query, verbose);
+            if verdict.is_ok() {
+                observer.release();
+            }
+            status_of(verdict)
+        }
         Err(fault) => {
-            let text = RunText {
-                source,
+            let help = RunHelp {
+                source: script,
                 fault,
                 line: observer.next_line(),
-                query: Some(observer.refusal()),
+                not_found: Some(observer.refusal()),
             };
-            Err(fail(rt, &text, 1))
+            report_fault(rt, console, &fault, &help)
         }
     }
 }
 
-/// Judges a bundle as what a script gives for a query.
-fn check_claim<'a, R: Print + Eprint + Files + AllocGlobal + Clock, I: Read + Drop>(
-    rt: &'a R,
-    shows: bool,
-    source: Source<'_>,
-    input: I,
-    script: &'a str,
-    query: &'a str,
-    verbose: bool,
-) -> u8 {
-    match ask_script(rt, shows, script, query) {
-        Ok(asked) => judge_claim(rt, source, input, &asked, query, verbose),
-        Err(status) => status,
-    }
-}
-
-/// Judges a bundle as one of the query that was asked for.
-fn judge_claim<I: Read + Drop>(
+/// Checks a bundle against a query. Returns whether it is valid and belongs to the query, or the status after a fault.
+fn check_claim<I: Read + Drop>(
     rt: &(impl Print + Eprint + AllocGlobal),
+    console: Console,
     source: Source<'_>,
     input: I,
     asked: &AuditedQuery,
     query: &str,
     verbose: bool,
-) -> u8 {
+) -> Result<bool, u8> {
     let alloc = rt.alloc();
     let mut reader = Watched::new(TeeReader::new(alloc, input));
     let mut verdict = Watched::new(Vec::new(alloc));
     match judge(alloc, &mut reader, &mut verdict) {
         Ok(_) => {}
-        // the verdict is kept in memory, and no device has failed
-        Err(JudgeFault::Write) => return fail(rt, &"out of memory", 1),
-        Err(fault) => return fail(rt, &format_args!("{source}{fault}"), 1),
+        // The verdict is kept in memory, so no device has failed.
+        Err(JudgeFault::Write) => return Err(fail(rt, &JudgeFault::NoMemory, 1)),
+        Err(fault) => return Err(report_judge_fault(rt, console, source, fault)),
     }
     let Some(bytes) = reader.inner().copy() else {
-        return fail(rt, &"out of memory", 1);
+        return Err(fail(rt, &JudgeFault::NoMemory, 1));
     };
-    match write_claim(rt, alloc, asked, bytes, query) {
-        Ok(Some(Claim::Of(_))) => 0,
-        Ok(Some(_)) => {
-            if verbose {
-                report_detail(rt, alloc, Some(bytes));
-            }
-            1
-        }
-        Ok(None) => fail(rt, &"write failed", 1),
-        Err(_) => fail(rt, &"out of memory", 1),
+    let Ok(written) = write_claim(rt, alloc, asked, bytes, query) else {
+        return Err(fail(rt, &JudgeFault::NoMemory, 1));
+    };
+    if verbose && let Ok(false) = written {
+        report_detail(rt, alloc, Some(bytes));
     }
+    written
 }
 
-/// Writes the line of a claim, and gives the claim, if the line was written.
+/// Prints the line of a claim. Returns whether the bundle is valid and belongs to the query, or the status after a
+/// failed write.
 fn write_claim(
-    rt: &impl Print,
+    rt: &(impl Print + Eprint),
     alloc: Global,
     asked: &AuditedQuery,
     bytes: &[u8],
     query: &str,
-) -> Result<Option<Claim>, AllocError> {
+) -> Result<Result<bool, u8>, AllocError> {
     let claim = claim_of(alloc, asked, bytes)?;
     let line = claim.line(alloc, query)?;
-    let mut writer = Watched::new(io::writer(rt));
-    match writer.send_all(&line) {
-        Ok(()) => Ok(Some(claim)),
-        Err(_) => Ok(None),
-    }
+    let mut writer = Watched::new(Output::new(alloc, io::writer(rt), false));
+    Ok(match writer.send_all(&line) {
+        Ok(()) => Ok(matches!(claim, BundleClaim::Of(_))),
+        Err(_) if writer.inner().is_closed() => Err(1),
+        Err(_) => Err(fail(rt, &JudgeFault::Write, 1)),
+    })
 }

@@ -8,6 +8,7 @@
 mod claim;
 mod command;
 mod comparison;
+mod console;
 mod detail;
 mod fault;
 mod judgement;
@@ -16,20 +17,15 @@ mod meter;
 mod open;
 mod output;
 
-pub use claim::{Claim, claim_of};
+pub use claim::{BundleClaim, claim_of};
 pub use command::{
-    Command, RenderQuery, RenderScript, RunScript, WriteBundle, audit_script, execute_command,
+    AuditText, Command, RenderQuery, RenderScript, RunScript, WriteBundle, audit_script,
+    audit_script_as, execute_command,
 };
+pub use console::Console;
 pub use detail::detail_of;
-pub use fault::{DriveText, RunText, line_at_fault};
+pub use fault::{DriveHelp, fail, line_at_fault, report_fault};
 pub use judgement::{Question, check};
 pub use listing::list_faults;
-pub use meter::is_shown;
 pub use open::open_file;
-use std::fmt::Display;
-
-/// One line on standard error, and the status, which stays where standard error takes nothing.
-pub fn fail(rt: &impl Eprint, text: &impl Display, status: u8) -> u8 {
-    let _ = eprintln!(rt; "esr: {text}");
-    status
-}
+pub use output::{Output, is_closed_pipe};

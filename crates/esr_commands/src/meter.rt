@@ -5,11 +5,10 @@
 //! negligible when no progress is shown. Workers report audits through a gate, because an observer belongs to the reading
 //! thread alone. No clause specifies the text, and a failure to write it is not an error of the run.
 
-use esr_cli::Progress;
-use esr_lint::{ErrorReporter, NoQuery, Observer, TxnStatus, is_error};
+use crate::console::Console;
+use esr_lint::{ErrorReporter, NotFound, Observer, TxnSummary, is_error};
 use esr_script::Gate;
 use std::fmt::Display;
-use std::io::IsTerminal;
 use std::sync::atomic::{AtomicU64, Ordering};
 use std::time::{Clock, Instant};
 
@@ -20,15 +19,6 @@ const PAUSE: u64 = 200;
 
 /// The clock is read once in so many lines.
 const LINES: u64 = 1_024;
-
-/// Whether progress is shown.
-pub fn is_shown(progress: Progress, terminal: &impl IsTerminal) -> bool {
-    match progress {
-        Progress::AtATerminal => terminal.is_terminal(),
-        Progress::Always => true,
-        Progress::Never => false,
-    }
-}
 
 /// Shows how far a run is.
 #[derive(Drop)]
@@ -41,8 +31,12 @@ pub struct Meter<'a, R> {
 }
 
 impl<'a, R: Clock + Eprint> Meter<'a, R> {
-    pub fn new(rt: &'a R, shows: bool) -> Meter<'a, R> {
-        let began = if shows { Instant::now(rt).ok() } else { None };
+    pub fn new(rt: &'a R, console: Console) -> Meter<'a, R> {
+        let began = if console.progress {
+            Instant::now(rt).ok()
+        } else {
+            None
+        };
         Meter {
             rt,
             began,
@@ -116,9 +110,14 @@ impl<'a, 'm, 'r, R: Clock + Eprint, E: Eprint> LineObserver<'a, 'm, 'r, R, E> {
         self.lines.saturating_add(1)
     }
 
-    /// Why there is no committed query of the name that was asked for.
-    pub fn refusal(&self) -> NoQuery<'_> {
+    /// Returns why the name that was looked up was not found.
+    pub fn refusal(&self) -> NotFound<'_> {
         self.reporter.refusal()
+    }
+
+    /// Reports the lines that were held, once the run has ended without a fault.
+    pub fn release(&self) {
+        self.reporter.release();
     }
 }
 
@@ -135,7 +134,7 @@ impl<R: Clock + Eprint, E: Eprint> Observer for LineObserver<'_, '_, '_, R, E> {
         }
     }
 
-    fn see_transaction(&mut self, name: &str, status: TxnStatus) {
+    fn see_transaction(&mut self, name: &str, status: TxnSummary) {
         self.reporter.see_transaction(name, status);
     }
 

@@ -18,8 +18,8 @@ use Rattle.esr_plan.specs.DrivePlans.{plan_in, IsSound}
 use Rattle.esr_plan.proofs.Cuts.{IsCut, IsNoneOrCut, all_cut}
 use Rattle.esr_drive.specs.Driven.{IsDriven}
 use Rattle.esr_drive.specs.Drive.{IsDriveText, IsRenderingOf}
-use Rattle.esr_drive.specs.declared.form.Form.{Form}
-use Rattle.esr_drive.specs.declared.form.Form.TheVariants as form
+use Rattle.esr_drive.specs.declared.form.DriveOutput.{DriveOutput}
+use Rattle.esr_drive.specs.declared.form.DriveOutput.TheVariants as form
 use Rattle.esr_dump.specs.RoundTrip.{IsDump}
 use Rattle.esr_plan.specs.Blocks.{Answered}
 use Rattle.esr_plan.specs.Text.{names_of, text_of}
@@ -31,16 +31,16 @@ all_items P (b ∷ bs) all zero x lt = all 0 b (omega arith)
 all_items P (b ∷ bs) all (suc i) x lt = all_items P bs (λ j y below. all (suc j) y (omega (arith, below))) i x (omega (arith, lt))
 
 -- a text of the form that was asked for
-pub text_told : (what : Form) (workers : ℕ) (p : Plan) (h : Schedule) (blocks : List (List Answered)) (r : Result (Vec ℕ Global) AllocError) → what ≡ form.Text workers
+pub text_told : (what : DriveOutput) (workers : ℕ) (p : Plan) (h : Schedule) (blocks : List (List Answered)) (r : Result (Vec ℕ Global) AllocError) → what ≡ form.Text workers
     → IfOk r (λ out. out.items ≡ text_of p h blocks) → IfOk r (λ out. IsRenderingOf what p h blocks out.items)
-text_told what workers p h blocks r is reported = subst (λ (w : Form). IfOk r (λ out. IsRenderingOf w p h blocks out.items)) (sym is) reported
+text_told what workers p h blocks r is reported = subst (λ (w : DriveOutput). IfOk r (λ out. IsRenderingOf w p h blocks out.items)) (sym is) reported
 
-pub history_told : (what : Form) (p : Plan) (h : Schedule) (blocks : List (List Answered)) (r : Result (Vec ℕ Global) AllocError) → what ≡ form.Script
+pub history_told : (what : DriveOutput) (p : Plan) (h : Schedule) (blocks : List (List Answered)) (r : Result (Vec ℕ Global) AllocError) → what ≡ form.Script
     → IfOk r (λ out. IsDump p.names (names_of h blocks) h out.items) → IfOk r (λ out. IsRenderingOf what p h blocks out.items)
-history_told what p h blocks r is reported = subst (λ (w : Form). IfOk r (λ out. IsRenderingOf w p h blocks out.items)) (sym is) reported
+history_told what p h blocks r is reported = subst (λ (w : DriveOutput). IfOk r (λ out. IsRenderingOf w p h blocks out.items)) (sym is) reported
 
 -- the text of what was driven is one of the file
-pub drive_text : (what : Form) (bytes : List ℕ) (s : DrivePlan) (h : Schedule) (replies : List (List Reply)) (out : List ℕ)
+pub drive_text : (what : DriveOutput) (bytes : List ℕ) (s : DrivePlan) (h : Schedule) (replies : List (List Reply)) (out : List ℕ)
     → plan_of bytes ≡ Ok (plan_in s) → IsSound s → IsDriven s.values.items (weights_of s.weights.items) (map (λ b. b.items) s.blocks.items) h replies
     → IsRenderingOf what (plan_in s) h (all_answers (map (λ b. b.items) s.blocks.items) replies) out → IsDriveText what bytes out
 drive_text what bytes s h replies out planned sound d rendering = record {

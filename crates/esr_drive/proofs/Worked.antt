@@ -15,7 +15,7 @@ use Rattle.esr_session.specs.Receipts.{is_blocked, entry_of}
 use Rattle.esr_session.proofs.Good.{good_matches}
 use Rattle.esr_plan.specs.Blocks.{Answered, IsRun, AreRuns, start, more}
 use Rattle.esr_drive.specs.Drive.{IsDriveText}
-use Rattle.esr_drive.specs.declared.form.Form.TheVariants as form
+use Rattle.esr_drive.specs.declared.form.DriveOutput.TheVariants as form
 
 none : (P : Receipt → Type 0) → All P []
 none P k d lt = absurd (omega (arith, lt))

@@ -13,24 +13,24 @@ use Rattle.esr_plan.specs.Plan.{Plan, plan_of, weights_of}
 use Rattle.esr_plan.specs.Blocks.{Answered, AreBlocks, commands_of}
 use Rattle.esr_plan.specs.Text.{names_of, text_of}
 use Rattle.esr_dump.specs.RoundTrip.{IsDump}
-use Rattle.esr_drive.specs.declared.form.Form.{Form}
-use Rattle.esr_drive.specs.declared.form.Form.TheVariants as form
+use Rattle.esr_drive.specs.declared.form.DriveOutput.{DriveOutput}
+use Rattle.esr_drive.specs.declared.form.DriveOutput.TheVariants as form
 use Rattle.esr_drive.specs.Faults.{CanFill}
 
 -- as many workers as may audit, where any do
-abbrev pub HasWorkers : Form → Type 0
+abbrev pub HasWorkers : DriveOutput → Type 0
 HasWorkers (form.Text workers) = (1 ≤ workers) × (workers ≤ MAX_SEATS)
 HasWorkers form.Script = Unit {0}
 
 -- what a text tells of a history and the last replies: these, the findings and the totals; or the history itself, as a
 -- script that gives it again, by the names of the plan
-abbrev pub IsRenderingOf : Form → Plan → Schedule → List (List Answered) → List ℕ → Type 0
+abbrev pub IsRenderingOf : DriveOutput → Plan → Schedule → List (List Answered) → List ℕ → Type 0
 IsRenderingOf (form.Text workers) p h blocks text = text ≡ text_of p h blocks
 IsRenderingOf form.Script p h blocks text = IsDump p.names (names_of h blocks) h text
 
 -- Each command of the plan has a run of receipts, which match one legal history over the plan's items, and the text tells
 -- of this history.
-pub record IsTextOf (what : Form) (p : Plan) (text : List ℕ) : Type 0 where
+pub record IsTextOf (what : DriveOutput) (p : Plan) (text : List ℕ) : Type 0 where
   pub history : Schedule
   pub blocks : List (List Answered)
   pub receipts : List (List Receipt)
@@ -43,13 +43,13 @@ pub record IsTextOf (what : Form) (p : Plan) (text : List ℕ) : Type 0 where
   pub rendering : IsRenderingOf what p history blocks text
 
 -- the text is one of this file
-pub record IsDriveText (what : Form) (bytes : List ℕ) (text : List ℕ) : Type 0 where
+pub record IsDriveText (what : DriveOutput) (bytes : List ℕ) (text : List ℕ) : Type 0 where
   pub plan : Plan
   pub planned : plan_of bytes ≡ Ok plan
   pub is_text : IsTextOf what plan text
 
 -- A drive that was given the input, left these bytes of it and ended so wrote this.
-abbrev pub IsDriveBy : Form → List ℕ → Option (List ℕ) → Result (Unit {0}) DriveFault → List ℕ → Type 0
+abbrev pub IsDriveBy : DriveOutput → List ℕ → Option (List ℕ) → Result (Unit {0}) DriveFault → List ℕ → Type 0
 IsDriveBy what input left (Ok done) written = Consumes (Some input) left input × IsDriveText what input written
 IsDriveBy what input left (Err fault.Read) written = written ≡ []
 IsDriveBy what input left (Err fault.Write) written = (text : List ℕ) × IsDriveText what input text × BeginsWith text written

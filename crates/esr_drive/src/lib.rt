@@ -1,7 +1,6 @@
-//! Drive files: sessions on threads of their own, one for each block, and the text of what came of them.
+//! Runs a drive file: one session on its own thread for each block, and one text of all results.
 //!
-//! It shows what threads do to one engine: which answers come differs from run to run, and they are always those of one
-//! legal history.
+//! A drive demonstrates threads on one engine: the replies differ between runs and always form one legal history.
 #![tactic(auto)]
 
 mod blocks;
@@ -14,5 +13,5 @@ mod threads;
 
 pub use esr_board::{Gate, NoGate};
 pub use esr_plan::DriveFault;
-pub use form::Form;
+pub use form::DriveOutput;
 pub use pipeline::drive;

@@ -18,7 +18,7 @@ ghost use Rattle.esr_plan.specs.Plan.{cut_fault, weights_of};
 
 use crate::blocks::{Driven, drive_blocks};
 use crate::findings::push_findings;
-use crate::form::Form;
+use crate::form::DriveOutput;
 use crate::pieces::push_blocks;
 use esr_board::Gate;
 use esr_dump::named_script;
@@ -44,7 +44,7 @@ pub fn drive<R: Threads + Wait + Sync, I: Read, O: Write, G: Gate + Sync, V: Obs
     alloc: Global,
     reader: &mut Watched<I>,
     writer: &mut Watched<O>,
-    form: Form,
+    form: DriveOutput,
     gate: &G,
     observer: &mut V,
 ) -> Result<(), DriveFault>
@@ -69,7 +69,7 @@ fn text_in<R: Threads + Wait + Sync, G: Gate + Sync, V: Observer>(
     rt: &R,
     alloc: Global,
     bytes: &[u8],
-    form: Form,
+    form: DriveOutput,
     gate: &G,
     observer: &mut V,
 ) -> Result<Vec<u8>, DriveFault>
@@ -139,7 +139,7 @@ fn run_plan<R: Threads + Wait + Sync, G: Gate + Sync>(
 fn text_from<R: Threads + Sync>(
     rt: &R,
     alloc: Global,
-    form: Form,
+    form: DriveOutput,
     drive_plan: &DrivePlan<'_>,
     driven: &Driven,
 ) -> Result<Vec<u8>, AllocError>
@@ -153,8 +153,8 @@ fn text_from<R: Threads + Sync>(
         (all_answers (map (λ b. b.items) drive_plan.now.blocks.items) (map (λ r. r.items) driven.now.replies.items)) out.items) }
 {
     match form {
-        Form::Text { workers } => answers_from(rt, alloc, workers, drive_plan, driven),
-        Form::Script => script_from(alloc, drive_plan, driven),
+        DriveOutput::Text { workers } => answers_from(rt, alloc, workers, drive_plan, driven),
+        DriveOutput::Script => script_from(alloc, drive_plan, driven),
     }
 }
 

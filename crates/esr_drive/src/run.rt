@@ -32,7 +32,7 @@ const MAX_LINES: usize = 1024;
 
 /// A block under way: its calls, the last replies to the first of them, and how often the next one was blocked.
 #[derive(Drop)]
-struct Progress<'a, 't> {
+struct BlockProgress<'a, 't> {
     calls: &'a [Call<'t>],
     replies: Vec<Reply>,
     blocked: u32,
@@ -40,7 +40,7 @@ struct Progress<'a, 't> {
     ghost few: { blocked < 100 },
 }
 
-impl EventSource for Progress<'_, '_> {
+impl EventSource for BlockProgress<'_, '_> {
     ghost use Rattle.std.specs.Prelude.{◌≡◌};
     ghost use Rattle.esr_drive.specs.Runs.{IsUnderWay, next_event};
 
@@ -125,7 +125,7 @@ fn call_all<N: Naming, R: Wait>(
     if session.make_room(alloc, calls.len()).is_err() {
         return Err(StepError::NoMemory);
     }
-    let mut progress = Progress {
+    let mut progress = BlockProgress {
         calls,
         replies,
         blocked: 0,
@@ -134,6 +134,6 @@ fn call_all<N: Naming, R: Wait>(
         let most = lines_of_hold(progress.replies.len());
         session.call_several(rt, &mut progress, most)?;
     }
-    let Progress { replies, .. } = progress;
+    let BlockProgress { replies, .. } = progress;
     Ok(replies)
 }

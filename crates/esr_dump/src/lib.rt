@@ -1,9 +1,9 @@
-//! What a history tells by itself, without the script or the program that it came from: the script that gives it again,
-//! and the explanation and the picture of a committed query.
+//! Texts that need only a history and no script: the script that reproduces it, and the explanation and the picture of
+//! a committed query.
 //!
-//! A history has numbers, and texts have names: those that the caller gives, or the numbers with a letter (`i0`, `t1`).
-//! The script is read off the entries, and not kept beside them, so an engine that never tells its past pays nothing for
-//! it.
+//! A history has numbers, and texts need names. The caller passes the names, or the texts use the numbers with a letter
+//! (`i0`, `t1`). The script is generated from the entries on demand, so an engine that never writes one pays nothing
+//! for it.
 #![tactic(auto)]
 
 mod given_names;

@@ -8,7 +8,7 @@ ghost use Rattle.esr_engine.specs.Accounts.{account_of, charged_to};
 ghost use Rattle.esr_engine.specs.Statuses.{status_at};
 ghost use Rattle.esr_order.specs.Scans.{commit_in};
 
-use crate::engine::Engine;
+use crate::engine::EmbeddedEngine;
 use esr_history::{Entry, Event, Kind, Log, TxnId};
 
 /// Whether a transaction is active, and else how it ended.
@@ -22,7 +22,7 @@ pub enum TxnStatus {
 /// What a query has imported of its limit so far, or an update exported, and how it stands. A report that is active may
 /// be shown so: it is off by at most what it was charged.
 #[derive(Clone, Copy, PartialEq, Eq, Debug)]
-pub struct Account {
+pub struct AccountView {
     pub kind: Kind,
     pub limit: u64,
     pub charged: u64,
@@ -53,7 +53,7 @@ fn status_at(log: &Log, end: Option<u64>) -> TxnStatus
     }
 }
 
-impl Engine {
+impl EmbeddedEngine {
     /// What a query has imported so far, or an update exported.
     fn charge_of(&self, query: bool, t: TxnId) -> u64
         ensures { result ≡ charged_to weighted self.now query t.0 }
@@ -68,13 +68,13 @@ impl Engine {
     /// The account of a transaction, or None where it has not begun. What an active report has read so far is off by at
     /// most what it was charged, from the committed values and from any mixture of these and the current ones.
     #[tactic(auto, using(crate::proofs::Statuses::no_account, crate::proofs::Reports::active_bounded))]
-    pub fn account(&self, t: TxnId) -> Option<Account>
+    pub fn account(&self, t: TxnId) -> Option<AccountView>
         ensures account { result ≡ account_of weighted self.now t.0 }
         ensures bound { ImportBoundsActive weighted self.now }
     {
         let history = self.machine.history();
         match history.facts(t) {
-            Some(facts) => Some(Account {
+            Some(facts) => Some(AccountView {
                 kind: kind_of(facts.query),
                 limit: facts.limit,
                 charged: self.charge_of(facts.query, t),

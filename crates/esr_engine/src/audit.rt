@@ -6,12 +6,12 @@ ghost use Rattle.esr_items.specs.Weights.{weighted};
 ghost use Rattle.esr_history.specs.Queries.{is_committed_query};
 ghost use Rattle.esr_audit.specs.Findings.{IsFindingOf};
 
-use crate::engine::Engine;
+use crate::engine::EmbeddedEngine;
 use esr_audit::{AuditError, Finding, audit_query, audit_query_by_index};
 use esr_history::TxnId;
 use std::alloc::Global;
 
-impl Engine {
+impl EmbeddedEngine {
     /// The audit of a committed query.
     ///
     /// # Errors

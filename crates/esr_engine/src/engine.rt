@@ -48,14 +48,14 @@ pub struct Counts {
 
 /// A machine that is never stuck. Contracts see its history.
 #[derive(Drop)]
-pub struct Engine {
+pub struct EmbeddedEngine {
     pub(crate) machine: Machine<Weighted>,
     pub(crate) weights: Vec<u32>,
     pub(crate) active: usize,
     pub(crate) index: Index,
 }
 
-impl Model for Engine {
+impl Model for EmbeddedEngine {
     ghost Value = { Schedule };
 
     ghost view = { λ e. e.machine };
@@ -65,7 +65,7 @@ impl Model for Engine {
         × (length e.machine.entries + e.active ≤ MAX_ENTRIES) × IsIndexOf e.machine.entries e.index };
 }
 
-impl Engine {
+impl EmbeddedEngine {
     /// How many entries there are, with one for the end of each active transaction.
     pub(crate) fn demand(&self) -> usize
         ensures taken { result ≡ taken self.now }
@@ -228,7 +228,7 @@ impl Engine {
         ensures serializable { IsSerializable self }
         ensures bound { ImportBoundsDistance weighted self }
     {
-        let Engine {
+        let EmbeddedEngine {
             machine,
             weights: _,
             active: _,

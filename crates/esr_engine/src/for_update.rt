@@ -7,11 +7,11 @@
 ghost use Rattle.std.specs.Prelude.{◌≡◌, ◌↔◌, true, IfOk, IfErr, OnOk, IsErrOf};
 ghost use Rattle.esr_engine.specs.ForUpdate.{reply_for_update, after_for_update, has_lock, lock_event, IsHeldValue, IsPartlyDone, no_pair};
 
-use crate::engine::{Engine, Unanswered};
+use crate::engine::{EmbeddedEngine, Unanswered};
 use esr_history::{Event, MAX_ENTRIES, Reply, TxnId};
 use esr_items::ItemId;
 
-impl Engine {
+impl EmbeddedEngine {
     /// Whether a transaction holds the write lock on an item.
     fn has_lock(&self, t: TxnId, x: ItemId) -> bool
         ensures { result ≡ has_lock self.now t.0 x.0 }
@@ -41,17 +41,19 @@ impl Engine {
         }
     }
 
-    /// Takes the write lock on an item for an update, where it does not hold it, and reads the item. The reply is that
-    /// of the read; where the lock is refused it is that of the write, and there is no read.
+    /// Takes the write lock on an item for an update that does not hold it, and reads the item. Returns the reply to the
+    /// read, or the reply to the write if the lock is refused; then the item is not read.
     ///
     /// # Errors
-    /// `Full` exactly where there are not two entries left beside the ends, `NoMemory` if an allocation failed: then
-    /// nothing has changed, but that the lock may have been taken, and the call may be given again.
+    /// `Full` if and only if fewer than two entries are left in addition to the reserved ends; then nothing has changed.
+    /// `NoMemory` if an allocation failed; then nothing has changed, except that the update may hold the lock, and the call
+    /// can be retried.
     pub fn read_for_update(&mut self, t: TxnId, x: ItemId) -> Result<Reply, Unanswered>
         ensures reply { IfOk result (λ reply. reply ≡ reply_for_update self.old t x) }
         ensures added { OnOk result (self.new ≡ after_for_update self.old t x) }
         ensures held { IfOk result (IsHeldValue self.old self.new t x) }
         ensures full { IsErrOf result Unanswered.Full ↔ (no_pair self.old ≡ true) }
+        ensures kept { IsErrOf result Unanswered.Full → self.new ≡ self.old }
         ensures err { IfErr result (λ _. IsPartlyDone self.old self.new t x) }
     {
         if self.demand() + 2 > MAX_ENTRIES {

@@ -1,13 +1,13 @@
-//! An engine to live in: a machine with weights of its items, and what a program that embeds it asks for beside events.
+//! An engine for embedding: a machine with item weights, and the operations that a program needs besides events.
 //!
-//! A machine's history ends at 1,000,000 entries, and one that is full while a transaction is active is lost: its end
-//! would be an entry too. So an engine keeps an entry free for the end of each active transaction. An event for which
-//! there is no room beside these ends is answered `Full` and is no entry, as is a begin where no number is left; the end
-//! of an active transaction always goes through. That is the invariant of the type (`NeverStuck`), and it needs nothing
-//! of the caller. Contracts see an engine as its history.
+//! The history of a machine ends at 1,000,000 entries. A machine that is full while a transaction is active would be
+//! stuck, because the end of the transaction needs an entry too. An engine therefore reserves one entry for the end of
+//! each active transaction. It replies `Full`, without an entry, to an event for which no other entry is left and to a
+//! begin for which no number is left; ending an active transaction always succeeds. This is the invariant of the type
+//! (`NeverStuck`), and it requires nothing of the caller. In contracts an engine is its history.
 //!
-//! Rejected: to keep a fixed reserve (65,535 entries) free, which would be lost to every history; and to undo what is
-//! active without entries, since then a history would not tell how its transactions ended.
+//! Rejected: a fixed reserve of 65,535 entries, which every history would lose; and undoing active transactions without
+//! entries, because a history would no longer show how its transactions ended.
 #![tactic(auto)]
 
 mod account;
@@ -17,7 +17,7 @@ mod for_update;
 mod opening;
 mod renewals;
 
-pub use account::{Account, TxnStatus};
-pub use engine::{Counts, Engine, Unanswered};
+pub use account::{AccountView, TxnStatus};
+pub use engine::{Counts, EmbeddedEngine, Unanswered};
 pub use esr_history::Kind;
 pub use opening::OpenError;

@@ -7,7 +7,7 @@ ghost use Rattle.esr_items.specs.Values.{IsValue};
 ghost use Rattle.esr_items.specs.Weights.{IsWeight};
 ghost use Rattle.esr_history.specs.Machine.{schedule_of};
 
-use crate::engine::Engine;
+use crate::engine::EmbeddedEngine;
 use esr_core::Machine;
 use esr_history::NoMemory;
 use esr_items::{MAX_ITEMS, MAX_VALUE, MAX_WEIGHT, Store, Weighted};
@@ -81,7 +81,11 @@ pub(crate) fn metric_of(alloc: Global, weights: &[u32]) -> Result<Weighted, Allo
 }
 
 /// An engine of these values and weights.
-pub(crate) fn engine_of(alloc: Global, opening: &[i64], weights: &[u32]) -> Result<Engine, NoMemory>
+pub(crate) fn engine_of(
+    alloc: Global,
+    opening: &[i64],
+    weights: &[u32],
+) -> Result<EmbeddedEngine, NoMemory>
     requires few { length opening.now ≤ MAX_ITEMS }
     requires range { All IsValue opening.now }
     requires weights { (length weights.now ≤ MAX_ITEMS) × All IsWeight weights.now }
@@ -90,7 +94,7 @@ pub(crate) fn engine_of(alloc: Global, opening: &[i64], weights: &[u32]) -> Resu
     let items = Store::of_valid(alloc, opening)?;
     let metric = metric_of(alloc, weights)?;
     let weights = weights.to_vec(alloc)?;
-    Ok(Engine {
+    Ok(EmbeddedEngine {
         machine: Machine::new(alloc, items, metric)?,
         weights,
         active: 0,
@@ -98,13 +102,13 @@ pub(crate) fn engine_of(alloc: Global, opening: &[i64], weights: &[u32]) -> Resu
     })
 }
 
-impl Engine {
+impl EmbeddedEngine {
     /// An engine of items with these opening values and weights; an item past the weights has weight 1.
     ///
     /// # Errors
     /// `TooManyItems`, `ValueOutOfRange` and `WeightOutOfRange` exactly where that is so, the first of them; else
     /// `NoMemory` if an allocation failed.
-    pub fn new(alloc: Global, opening: &[i64], weights: &[u32]) -> Result<Engine, OpenError>
+    pub fn new(alloc: Global, opening: &[i64], weights: &[u32]) -> Result<EmbeddedEngine, OpenError>
         ensures ok { IfOk result (λ e. e ≡ schedule_of opening.now weights.now []) }
         ensures many { IsErrOf result OpenError.TooManyItems
             ↔ ((MAX_ITEMS < length opening.now) ⊎ (MAX_ITEMS < length weights.now)) }

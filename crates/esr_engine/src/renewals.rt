@@ -10,14 +10,14 @@ ghost use Rattle.esr_history.specs.Legal.{along};
 ghost use Rattle.esr_history.specs.Machine.{IsLegal};
 ghost use Rattle.esr_core.specs.Renewed.{AreSerializableAsOne, committed_values, has_active, renewed};
 
-use crate::engine::Engine;
+use crate::engine::EmbeddedEngine;
 use crate::opening::{engine_of, metric_of};
 use esr_core::RenewError;
 use esr_history::NoMemory;
 use esr_order::Index;
 use std::alloc::{AllocError, Global};
 
-impl Engine {
+impl EmbeddedEngine {
     /// The committed values of the items, in their order.
     pub fn committed_values(&self, alloc: Global) -> Result<Vec<i64>, AllocError>
         ensures { IfOk result (λ v. v.items ≡ committed_values self.now) }
@@ -82,7 +82,7 @@ impl Engine {
     }
 
     /// A new engine over the committed values.
-    fn successor(&self, alloc: Global) -> Result<Engine, NoMemory>
+    fn successor(&self, alloc: Global) -> Result<EmbeddedEngine, NoMemory>
         ensures { IfOk result (λ e. e ≡ renewed self.now self.now.weights) }
     {
         let opening = self.machine.committed_values(alloc)?;

@@ -1,7 +1,7 @@
-//! Explains a committed query of a script: what it read, what it was charged, and where its audit places it.
+//! Explains a committed query of a script: its reads, its charges, and its placement.
 //!
-//! The lines of the reads come first, since what the report read is what its reader knows, each beside the value of the
-//! nearest placement, so that the amounts by which they are off add up to the distance.
+//! The lines of the reads come first, because the values that it read are what a user knows of the report. Each line
+//! also shows the value at the nearest placement, so the differences add up to the distance.
 #![tactic(auto)]
 
 mod accesses;

@@ -1,5 +1,8 @@
--- Why what came of a run is what its turns make of the blocks, and what is told of it is of that history.
+-- Every interleaving is enumerated and a random one is an interleaving; the outcome of a run follows from its turns, and
+-- its summary describes the history of the run.
 
+pub mod Every
+pub mod Drawn
 pub mod Turning
 pub mod Telling
 pub mod Searching

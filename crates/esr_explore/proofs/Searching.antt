@@ -8,8 +8,8 @@ use Rattle.esr_plan.specs.declared.call.Call.{Call}
 use Rattle.esr_explore.specs.declared.query.Query.{Query}
 use Rattle.esr_explore.specs.declared.run_summary.RunSummary.{RunSummary}
 use Rattle.esr_explore.specs.Summaries.{IsSummary}
-use Rattle.esr_interleavings.specs.Orders.{IsOrder, first_turns}
-use Rattle.esr_interleavings.proofs.Every.{every}
+use Rattle.esr_explore.specs.Orders.{IsOrder, first_turns}
+use Rattle.esr_explore.proofs.Every.{every}
 use Rattle.esr_explore.specs.Searches.{AreDrawn, AreRunSummaries, all_orders, line_counts}
 
 one_more : (opening : List ℤ) (weights : List ℕ) (blocks : List (List Call)) (queries : List Query) (orders : List (List ℕ)) (summaries : List RunSummary) (o : List ℕ) (t : RunSummary)

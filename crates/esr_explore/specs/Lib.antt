@@ -1,4 +1,5 @@
--- What a run of blocks on one thread is, and what is told of it.
+-- Interleavings of blocks, the run of one of them, and the summary of a run.
+pub mod Orders
 pub mod Turns
 pub mod Summaries
 pub mod Searches

@@ -1,7 +1,7 @@
 -- What is told of a search through many orders: of each the tale of its run.
 use Rattle.std.specs.Prelude.{◌≡◌, ℕ, ℤ, List, [], ◌∷◌, Option, Some, None, All, length, map, sum}
 use Rattle.esr_plan.specs.declared.call.Call.{Call}
-use Rattle.esr_interleavings.specs.Orders.{IsOrder, first_turns}
+use Rattle.esr_explore.specs.Orders.{IsOrder, first_turns}
 use Rattle.esr_explore.specs.declared.query.Query.{Query}
 use Rattle.esr_explore.specs.declared.run_summary.RunSummary.{RunSummary}
 use Rattle.esr_explore.specs.declared.ways.Ways.{Ways}

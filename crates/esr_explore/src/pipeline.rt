@@ -6,7 +6,7 @@ ghost use Rattle.esr_base.specs.declared.limits.TheConstants.{MAX_ENTRIES};
 ghost use Rattle.esr_dump.specs.RoundTrip.{IsDump};
 ghost use Rattle.esr_plan.specs.declared.draft.TheConstants.{MAX_BLOCKS};
 ghost use Rattle.esr_plan.specs.Plan.{weights_of};
-ghost use Rattle.esr_interleavings.specs.Orders.{IsOrder, first_turns};
+ghost use Rattle.esr_explore.specs.Orders.{IsOrder, first_turns};
 ghost use Rattle.esr_explore.specs.declared.run_summary.RunSummary.{RunSummary};
 ghost use Rattle.esr_explore.specs.Searches.{AreDrawn, AreRunSummaries, all_orders, drawn_of, line_counts, orders_of};
 ghost use Rattle.esr_explore.specs.Summaries.{IsSummary};
@@ -14,6 +14,8 @@ ghost use Rattle.esr_explore.specs.Turns.{AreDone};
 ghost use Rattle.esr_base.specs.Watch.{failed};
 ghost use Rattle.esr_plan.specs.DrivePlans.{IsSound};
 
+use crate::count::count_orders;
+use crate::draws::draw_order;
 use crate::measure::Measure;
 use crate::query::{Query, queries_of};
 use crate::report::{push_blocks, push_head, push_query};
@@ -24,7 +26,6 @@ use crate::summary::worst_of;
 use crate::ways::{ExploreFault, Ways, all_ways, line_counts};
 use esr_dump::named_script;
 use esr_history::{Reply, Watched};
-use esr_interleavings::{count_orders, draw_order};
 use esr_plan::{DriveFault, DrivePlan, begun_names, drive_plan_of, read_all};
 use std::alloc::{AllocError, Global};
 use std::io::{Read, Write};
@@ -169,7 +170,7 @@ fn all_summaries(
 
 /// What a search finds: the orders that were gone through, and what is told of each run.
 #[derive(Drop)]
-struct Found {
+struct SearchResult {
     ways: Ways,
     summaries: Vec<RunSummary>,
 }
@@ -182,7 +183,7 @@ fn search_orders(
     queries: &[Query<'_>],
     counts: &[u32],
     seeds: Option<u64>,
-) -> Result<Found, ExploreFault>
+) -> Result<SearchResult, ExploreFault>
     requires sound { IsSound drive_plan.now }
     requires counts { counts.now ≡ line_counts (map (λ b. b.items) drive_plan.now.blocks.items) }
     ensures all { seeds ≡ None → IfOk result (λ found. AreRunSummaries drive_plan.now.values.items
@@ -197,7 +198,7 @@ fn search_orders(
 {
     let ways = ways_of(alloc, counts, seeds)?;
     let summaries = all_summaries(alloc, drive_plan, queries, &ways, counts)?;
-    Ok(Found { ways, summaries })
+    Ok(SearchResult { ways, summaries })
 }
 
 /// What is written of the runs that these tales are of.
@@ -256,7 +257,7 @@ fn text_of(
 {
     let counts = line_counts(alloc, drive_plan.blocks.as_slice())?;
     let queries = queries_of(alloc, drive_plan.blocks.as_slice())?;
-    let Found { ways, summaries } = search_orders(
+    let SearchResult { ways, summaries } = search_orders(
         alloc,
         drive_plan,
         &queries,

@@ -1,6 +1,6 @@
 //! The queries that a plan begins, in the order of the file.
 
-use esr_plan::{Call, Kind};
+use esr_plan::{BeginKind, Call};
 use std::alloc::{AllocError, Global};
 
 /// A query of a plan: its name, its block, and the place of its begin there.
@@ -16,7 +16,7 @@ fn query_name<'a>(call: &Call<'a>) -> Option<&'a str> {
     match call {
         Call::Begin {
             name,
-            kind: Kind::Query | Kind::StrictQuery,
+            kind: BeginKind::Query | BeginKind::StrictQuery,
             ..
         } => Some(name),
         _ => None,

@@ -24,8 +24,8 @@ fn push_spread(out: &mut Vec<u8>, word: &str, numbers: Vec<u64>) -> Result<(), A
     };
     let spread = spread_of(numbers)?.unwrap_or(none);
     push_text(out, word)?;
-    push_count(out, " worst ", spread.worst)?;
-    push_count(out, " middle ", spread.middle)
+    push_count(out, " max ", spread.worst)?;
+    push_count(out, " median ", spread.middle)
 }
 
 /// Appends how many orders were gone through, of how many: none where these are more than 10^18.

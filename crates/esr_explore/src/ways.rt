@@ -3,11 +3,13 @@
 ghost use Rattle.std.specs.Prelude.{◌≡◌, ◌≤◌, Some, IfOk, length, map, sum};
 ghost use Rattle.esr_plan.specs.declared.draft.TheConstants.{MAX_BLOCKS};
 ghost use Rattle.esr_plan.specs.declared.fault.DriveFault.TheVariants.{NoMemory};
-ghost use Rattle.esr_interleavings.specs.Orders.{first_turns};
+ghost use Rattle.esr_explore.specs.Orders.{first_turns};
 ghost use Rattle.esr_explore.specs.declared.ways.ExploreFault.TheVariants.{Drive};
 ghost use Rattle.esr_explore.specs.Searches.{orders_of};
 
-use esr_interleavings::{MAX_ORDERS, all_orders, count_orders, draw_order};
+use crate::count::count_orders;
+use crate::draws::draw_order;
+use crate::orders::{MAX_ORDERS, all_orders};
 use esr_plan::{Call, DriveFault};
 use std::alloc::{AllocError, Global};
 use std::fmt;
@@ -48,13 +50,13 @@ impl fmt::Display for ExploreFault {
             ExploreFault::Drive(fault) => write!(f, "{fault}"),
             ExploreFault::TooManyOrders(Some(count)) => write!(
                 f,
-                "{count} interleavings: 100,000 are the most for --all; --seeds draws some"
+                "{count} interleavings (maximum 100,000 for --all); use --seeds to sample"
             ),
             ExploreFault::TooManyOrders(None) => f.write_str(
-                "more than 10^18 interleavings: 100,000 are the most for --all; --seeds draws some",
+                "more than 10^18 interleavings (maximum 100,000 for --all); use --seeds to sample",
             ),
             ExploreFault::TooManyLinesInBlocks => f.write_str(
-                "more than 1,000 lines in blocks: too many for --all; --seeds draws some",
+                "more than 1,000 lines in blocks, too many for --all; use --seeds to sample",
             ),
         }
     }

@@ -1,9 +1,10 @@
-//! Maximum flows, and the problems of queries solved by them.
+//! Maximum flows, and the solution of the problems of queries.
 //!
-//! `solve` is the method that promises everything: shortest augmenting paths from zero (Edmonds and Karp 1972), in
-//! phases (Dinic 1970), with a true count. `find_certificate` is what audits call: a draft of the flow that promises
-//! nothing, a proved test that it is a flow, and the same phases from there; where the draft is no flow, from zero. So
-//! only the test has to be right, and the search may be as clever as it likes.
+//! `solve` computes shortest augmenting paths from the zero flow (Edmonds and Karp 1972), in phases (Dinic 1970), and
+//! returns the exact number of augmentations. Audits call `find_certificate`. It starts from a draft of the flow, which
+//! carries no guarantee, and tests with a proved check that the draft is a flow; the same phases then start from the
+//! draft, or from zero if the test fails. Only the test has to be correct, so the heuristic that produces the draft
+//! needs no proof.
 #![tactic(auto)]
 
 mod entry;

@@ -1,9 +1,8 @@
-//! Lines: how bytes are cut into them, and what one of a script spells.
+//! The grammar of scripts: splitting bytes into lines, and parsing a line into a command.
 //!
-//! It asks for nothing of the engine, so it is proved without any library of ours, and first: a wrong reading of a line
-//! is refused in a small crate, and drives read lines without waiting for scripts. Each command has one spelling:
-//! single blanks, no leading zeros, line feeds alone. What is read back is then what was written, and a contract can
-//! say "exactly where".
+//! The crate depends on no other crate, so it is proved first and alone, and drive files can use it without
+//! `esr_script`. Each command has exactly one spelling: single spaces, no leading zeros, line feeds only. A printed
+//! command therefore parses back to itself, and contracts can say "if and only if".
 #![tactic(auto)]
 
 mod limits;

@@ -1,7 +1,8 @@
-//! Ledgers: what each query has imported and each update exported, against their limits.
+//! Ledgers: the import of each query and the export of each update, with their limits.
 //!
-//! No import or export passes its limit, and as much is imported as exported, by the type: so neither can be lost by a
-//! caller who forgets to look. `quote` tells whose limit a charge would pass, `charge` makes it on both sides at once.
+//! The type's invariant states that no import or export exceeds its limit and that the total import equals the total
+//! export, so a caller cannot violate either. `quote` returns the transaction whose limit a charge would exceed;
+//! `charge` records the charge on both sides in one step.
 #![tactic(auto)]
 
 mod account;

@@ -1,23 +1,23 @@
 //! What is wrong with a line, by what a script answered to it.
 
-use crate::reason::{Finding, Shown, find_reason};
+use crate::reason::{Diagnosis, Shown, find_reason};
 use std::fmt;
 
 /// A line at fault.
 #[derive(Clone, Copy)]
-pub enum Fault<'a> {
+pub enum FaultyLine<'a> {
     /// It spells no command.
-    NoCommand(Finding<'a>),
+    NoCommand(Diagnosis<'a>),
     /// It was answered by an error or a refusal, in these words.
     Answered { line: &'a [u8], answer: &'a [u8] },
 }
 
-impl Fault<'_> {
+impl FaultyLine<'_> {
     /// The column that it is about, from 1.
     pub fn column(&self) -> usize {
         match self {
-            Fault::NoCommand(finding) => finding.column,
-            Fault::Answered { .. } => 1,
+            FaultyLine::NoCommand(finding) => finding.column,
+            FaultyLine::Answered { .. } => 1,
         }
     }
 }
@@ -35,21 +35,21 @@ pub fn is_error(answer: &[u8]) -> bool {
 }
 
 /// The fault of a line that was answered by an error.
-pub fn fault_of<'a>(line: &'a [u8], answer: &'a [u8]) -> Option<Fault<'a>> {
+pub fn fault_of<'a>(line: &'a [u8], answer: &'a [u8]) -> Option<FaultyLine<'a>> {
     if !is_error(answer) {
         return None;
     }
     if answer.starts_with(b"error 1 ") {
-        return Some(Fault::NoCommand(find_reason(line)));
+        return Some(FaultyLine::NoCommand(find_reason(line)));
     }
-    Some(Fault::Answered { line, answer })
+    Some(FaultyLine::Answered { line, answer })
 }
 
 /// The same, or that of a line that was refused whatever else comes: by 1 to 8, which are mistakes, and not by a lock
 /// or a limit, which may let it pass later.
-pub fn mistake_of<'a>(line: &'a [u8], answer: &'a [u8]) -> Option<Fault<'a>> {
+pub fn mistake_of<'a>(line: &'a [u8], answer: &'a [u8]) -> Option<FaultyLine<'a>> {
     if is_numbered(answer, b"refused ") {
-        return Some(Fault::Answered { line, answer });
+        return Some(FaultyLine::Answered { line, answer });
     }
     fault_of(line, answer)
 }
@@ -57,31 +57,31 @@ pub fn mistake_of<'a>(line: &'a [u8], answer: &'a [u8]) -> Option<Fault<'a>> {
 /// What is meant by the number of an error or a refusal, where its words leave something open.
 fn hint_of(answer: &[u8]) -> &'static str {
     if answer.starts_with(b"error 2 ") {
-        ": items stand before all other lines"
+        ": items must be declared before all other lines"
     } else if answer.starts_with(b"error 3 ") {
-        ": each name is bound once"
+        ": names must be unique"
     } else if answer.starts_with(b"error 4 ") || answer.starts_with(b"refused 5 ") {
-        ": 1,000,000,000,000 is the most"
+        ": allowed range is -1,000,000,000,000 to 1,000,000,000,000"
     } else if answer.starts_with(b"error 5 ") {
-        ": 4,096 is the most"
+        ": maximum 4,096"
     } else if answer.starts_with(b"error 7 ") {
-        ": 1 to 1,000"
+        ": allowed range is 1 to 1,000"
     } else if answer.starts_with(b"refused 6 ") {
-        ": 1,000,000,000,000,000,000 is the most"
+        ": maximum 1,000,000,000,000,000,000"
     } else if answer.starts_with(b"refused 7 ") {
-        ": 65,535 is the most"
+        ": maximum 65,535"
     } else if answer.starts_with(b"refused 8 ") {
-        ": 1,000 is the most"
+        ": maximum 1,000"
     } else {
         ""
     }
 }
 
-impl fmt::Display for Fault<'_> {
+impl fmt::Display for FaultyLine<'_> {
     fn fmt<W: fmt::Write>(&self, f: &mut fmt::Formatter<W>) -> fmt::Result {
         match self {
-            Fault::NoCommand(finding) => write!(f, "{}", finding.reason),
-            Fault::Answered { line, answer } => {
+            FaultyLine::NoCommand(finding) => write!(f, "{}", finding.reason),
+            FaultyLine::Answered { line, answer } => {
                 let words = answer.strip_suffix(b"\n").unwrap_or(answer);
                 write!(
                     f,

@@ -16,49 +16,49 @@ pub enum Slot {
 
 /// A command's first word, the words that follow, and how it is written.
 #[derive(Clone, Copy)]
-pub struct Form {
+pub struct CommandSyntax {
     pub word: &'static str,
     pub slots: &'static [Slot],
     pub text: &'static str,
 }
 
-static FORMS: [Form; 8] = [
-    Form {
+static FORMS: [CommandSyntax; 8] = [
+    CommandSyntax {
         word: "item",
         slots: &[Slot::Name, Slot::Value, Slot::Weight, Slot::Limit],
-        text: "item NAME VALUE, with or without weight W behind it",
+        text: "item NAME VALUE [weight W]",
     },
-    Form {
+    CommandSyntax {
         word: "begin",
         slots: &[Slot::Name, Slot::Kind, Slot::Limit, Slot::Strict],
-        text: "begin NAME update LIMIT, or begin NAME query LIMIT, with or without strict behind it",
+        text: "begin NAME update LIMIT, or begin NAME query LIMIT [strict]",
     },
-    Form {
+    CommandSyntax {
         word: "read",
         slots: &[Slot::Name, Slot::Name],
         text: "read TRANSACTION ITEM",
     },
-    Form {
+    CommandSyntax {
         word: "write",
         slots: &[Slot::Name, Slot::Name, Slot::Value],
         text: "write TRANSACTION ITEM VALUE",
     },
-    Form {
+    CommandSyntax {
         word: "commit",
         slots: &[Slot::Name],
         text: "commit TRANSACTION",
     },
-    Form {
+    CommandSyntax {
         word: "abort",
         slots: &[Slot::Name],
         text: "abort TRANSACTION",
     },
-    Form {
+    CommandSyntax {
         word: "audit",
         slots: &[Slot::Name],
         text: "audit QUERY",
     },
-    Form {
+    CommandSyntax {
         word: "totals",
         slots: &[],
         text: "totals",
@@ -70,7 +70,7 @@ static WORDS: [&str; 8] = [
 ];
 
 /// The form of the command that begins with the word.
-pub fn form_of(word: &[u8]) -> Option<Form> {
+pub fn form_of(word: &[u8]) -> Option<CommandSyntax> {
     for form in &FORMS {
         if form.word.as_bytes() == word {
             return Some(*form);

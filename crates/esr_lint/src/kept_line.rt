@@ -1,6 +1,6 @@
 //! Keeps the line that it was shown last.
 
-use crate::observer::{Observer, TxnStatus};
+use crate::observer::{Observer, TxnSummary};
 use std::alloc::Global;
 
 /// Keeps the line that it was shown last, for whom shows one line alone.
@@ -28,7 +28,7 @@ impl Observer for KeptLine {
         let _ = self.line.extend_from_slice(line);
     }
 
-    fn see_transaction(&mut self, _name: &str, _status: TxnStatus) {}
+    fn see_transaction(&mut self, _name: &str, _status: TxnSummary) {}
 
     fn see_end(&mut self) {}
 }

@@ -1,11 +1,12 @@
-//! Nothing is silently wrong: who goes over the lines of a script lets an observer see them, and the observers of the
-//! program tell the lines at fault, with the reason.
+//! Diagnostics for faulty lines. A loop over the lines of a script passes each line to an observer, and the program's
+//! observers report the lines with errors and the reason.
 //!
-//! A script answers a faulty line and goes on, and most subcommands drop the answers; so a misspelled line used to turn
-//! an audit's distance into 0 without a word. What is told is advice: it is proved to end and to be safe, it is tested,
-//! and no clause speaks of it. So an observer promises nothing, what goes over lines rests nothing on it, and what is
-//! written to standard output is proved as if nobody looked. The other way, a list of faults in the results of `run`
-//! and `audit`, would have put guesses into contracts. None of it asks for the engine, so it is proved before scripts.
+//! A script replies to a faulty line and continues, and most subcommands discard the replies. Without a diagnostic, a
+//! misspelled line can turn an audit's distance into 0 unnoticed. Diagnostics are advice: they are proved to be safe
+//! and to terminate, and they are tested, but no clause specifies them. An observer therefore guarantees nothing, the
+//! loop over lines assumes nothing about it, and standard output is proved independently of it. The alternative, a list
+//! of errors in the results of `run` and `audit`, would have put heuristics into contracts. The crate does not depend
+//! on the engine.
 #![tactic(auto)]
 
 mod answer;
@@ -13,15 +14,17 @@ mod forms;
 mod kept_line;
 mod listing;
 mod near;
+mod notes;
 mod observer;
 mod place;
 mod reason;
 mod reporter;
 
-pub use answer::{Fault, fault_of, is_error};
+pub use answer::{FaultyLine, fault_of, is_error};
 pub use kept_line::KeptLine;
 pub use listing::{Listing, Unlisted};
-pub use observer::{End, Observer, TxnStatus, Unobserved};
+pub use notes::Notes;
+pub use observer::{Observer, TxnEnd, TxnSummary, Unobserved};
 pub use place::{Place, Source};
-pub use reason::{Finding, NumberFault, Reason, find_reason};
-pub use reporter::{ErrorReporter, NoQuery, When};
+pub use reason::{Diagnosis, NumberFault, Reason, find_reason};
+pub use reporter::{ErrorReporter, NotFound, Reports, Sought};

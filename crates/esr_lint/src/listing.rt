@@ -1,10 +1,10 @@
 //! Lists all that is wrong in a script, a line for each: `FILE:LINE:COLUMN: REASON`.
 
 use crate::answer::mistake_of;
-use crate::observer::{End, Observer, TxnStatus};
+use crate::observer::{Observer, TxnEnd, TxnSummary};
 use crate::place::Source;
 use std::alloc::Global;
-use std::fmt::Write as _;
+use std::fmt::{Display, Write as _};
 use std::io::Write;
 
 /// How many bytes are written at once.
@@ -44,6 +44,21 @@ impl<'a, W: Write> Listing<'a, W> {
             count: 0,
             failed: None,
         }
+    }
+
+    /// Returns the writer.
+    pub fn writer(&self) -> &W {
+        &self.writer
+    }
+
+    /// Lists the line that ended the run, after the last one that was executed.
+    pub fn list_last(&mut self, column: usize, text: &impl Display) {
+        if self.failed.is_some() {
+            return;
+        }
+        let place = self.source.line(self.next_line());
+        let listed = writeln!(self.text, "{place}:{column}: {text}").is_ok();
+        self.note(listed);
     }
 
     /// How much was listed.
@@ -113,12 +128,16 @@ impl<W: Write> Observer for Listing<'_, W> {
         self.note(listed);
     }
 
-    fn see_transaction(&mut self, name: &str, status: TxnStatus) {
-        if status.end != End::Active || self.failed.is_some() {
+    fn see_transaction(&mut self, name: &str, status: TxnSummary) {
+        if status.end != TxnEnd::Active || self.failed.is_some() {
             return;
         }
         let source = self.source;
-        let listed = writeln!(self.text, "{source}\"{name}\" is still active at the end").is_ok();
+        let listed = writeln!(
+            self.text,
+            "{source}transaction \"{name}\" is still active at the end"
+        )
+        .is_ok();
         self.note(listed);
     }
 

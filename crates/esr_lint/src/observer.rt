@@ -1,8 +1,8 @@
 //! Who looks on while the lines of a script are answered.
 
-/// How a transaction ended, or that it has not.
-#[derive(Clone, Copy)]
-pub enum End {
+/// Whether and how a transaction ended.
+#[derive(Clone, Copy, PartialEq, Eq)]
+pub enum TxnEnd {
     Active,
     Committed,
     Aborted,
@@ -10,9 +10,9 @@ pub enum End {
 
 /// What became of a transaction.
 #[derive(Clone, Copy)]
-pub struct TxnStatus {
+pub struct TxnSummary {
     pub is_query: bool,
-    pub end: End,
+    pub end: TxnEnd,
 }
 
 /// Looks on while the lines of a script are answered. Nothing is promised of it but that it returns.
@@ -20,9 +20,9 @@ pub trait Observer {
     /// A line by its number, from 1, without its line feed, and what is answered: nothing to a line that is skipped.
     fn see_line(&mut self, number: u64, line: &[u8], answer: &[u8]);
 
-    /// A transaction after the last line, in the order of the begins. They are shown where a query that was asked for
-    /// is no committed one, and at the end of a listing.
-    fn see_transaction(&mut self, name: &str, status: TxnStatus);
+    /// Receives a transaction after the last line, in the order of the begins. They are shown before a text of the
+    /// whole script is made, if a query that was asked for is not a committed one, and at the end of a listing.
+    fn see_transaction(&mut self, name: &str, status: TxnSummary);
 
     /// No more lines come. What the script leads to is not written yet.
     fn see_end(&mut self);
@@ -35,7 +35,7 @@ pub struct Unobserved;
 impl Observer for Unobserved {
     fn see_line(&mut self, _number: u64, _line: &[u8], _answer: &[u8]) {}
 
-    fn see_transaction(&mut self, _name: &str, _status: TxnStatus) {}
+    fn see_transaction(&mut self, _name: &str, _status: TxnSummary) {}
 
     fn see_end(&mut self) {}
 }

@@ -5,7 +5,7 @@
 //! reading of lines itself knows no reasons: it has one spelling for each command, and says no more than that a line
 //! has another.
 
-use crate::forms::{Form, Slot, first_words, form_of};
+use crate::forms::{CommandSyntax, Slot, first_words, form_of};
 use crate::near::nearest;
 use std::fmt;
 
@@ -48,16 +48,22 @@ pub enum Reason<'a> {
 
 /// A reason, and the column of the first byte that it is about, from 1.
 #[derive(Clone, Copy)]
-pub struct Finding<'a> {
+pub struct Diagnosis<'a> {
     pub column: usize,
     pub reason: Reason<'a>,
 }
 
-/// What is wrong with the encoding, whatever the words say.
+/// Returns whether at least every second byte is NUL, as in ASCII text that is saved as UTF-16. A single NUL byte is not.
+fn is_wide(line: &[u8]) -> bool {
+    let zeros = line.iter().filter(|byte| **byte == 0).count();
+    line.len() > 1 && zeros.saturating_mul(2) >= line.len().saturating_sub(1)
+}
+
+/// Returns the error of the encoding, whatever the words are.
 fn encoding_fault(line: &[u8]) -> Option<Reason<'_>> {
     if line.starts_with(b"\xEF\xBB\xBF") {
         Some(Reason::ByteOrderMark)
-    } else if line.starts_with(b"\xFF\xFE") || line.starts_with(b"\xFE\xFF") || line.contains(&0) {
+    } else if line.starts_with(b"\xFF\xFE") || line.starts_with(b"\xFE\xFF") || is_wide(line) {
         Some(Reason::Utf16)
     } else {
         None
@@ -65,7 +71,7 @@ fn encoding_fault(line: &[u8]) -> Option<Reason<'_>> {
 }
 
 /// What is wrong with the blanks between words.
-fn blank_fault(line: &[u8]) -> Option<Finding<'_>> {
+fn blank_fault(line: &[u8]) -> Option<Diagnosis<'_>> {
     let mut before = b' ';
     let mut column = 1usize;
     for byte in line {
@@ -75,14 +81,14 @@ fn blank_fault(line: &[u8]) -> Option<Finding<'_>> {
             } else {
                 Reason::TwoBlanks
             };
-            return Some(Finding { column, reason });
+            return Some(Diagnosis { column, reason });
         }
         before = *byte;
         column = column.saturating_add(1);
     }
     if before == b' ' {
         let reason = Reason::BlankBehind;
-        return Some(Finding {
+        return Some(Diagnosis {
             column: line.len(),
             reason,
         });
@@ -91,13 +97,13 @@ fn blank_fault(line: &[u8]) -> Option<Finding<'_>> {
 }
 
 /// What is wrong with the bytes of a line, whatever its words are.
-fn byte_fault(line: &[u8]) -> Option<Finding<'_>> {
+fn byte_fault(line: &[u8]) -> Option<Diagnosis<'_>> {
     if let Some(reason) = encoding_fault(line) {
-        return Some(Finding { column: 1, reason });
+        return Some(Diagnosis { column: 1, reason });
     }
     if line.ends_with(b"\r") {
         let reason = Reason::CarriageReturn;
-        return Some(Finding {
+        return Some(Diagnosis {
             column: line.len(),
             reason,
         });
@@ -106,16 +112,16 @@ fn byte_fault(line: &[u8]) -> Option<Finding<'_>> {
 }
 
 /// The first byte that no command has.
-fn odd_byte(line: &[u8]) -> Option<Finding<'_>> {
+fn odd_byte(line: &[u8]) -> Option<Diagnosis<'_>> {
     let mut column = 1usize;
     for byte in line {
         match *byte {
-            b'\t' => return Some(Finding {
+            b'\t' => return Some(Diagnosis {
                 column,
                 reason: Reason::Tab,
             }),
             b' '..=b'~' => {}
-            other => return Some(Finding {
+            other => return Some(Diagnosis {
                 column,
                 reason: Reason::NotAscii(other),
             }),
@@ -221,19 +227,19 @@ fn slot_fault<'a>(slot: Slot, word: &'a [u8]) -> Option<Reason<'a>> {
 }
 
 /// What is wrong with the words behind the first one.
-fn words_fault<'a>(words: &'a [u8], form: Form) -> Finding<'a> {
+fn words_fault<'a>(words: &'a [u8], form: CommandSyntax) -> Diagnosis<'a> {
     let mut column = form.word.len().saturating_add(2);
     let mut last = column;
     let mut slots = form.slots.iter();
     for word in words.split(|b| *b == b' ') {
         if word.starts_with(b"#") {
-            return Finding {
+            return Diagnosis {
                 column,
                 reason: Reason::Comment,
             };
         }
         let Some(slot) = slots.next() else {
-            return Finding {
+            return Diagnosis {
                 column,
                 reason: Reason::Extra {
                     word,
@@ -242,17 +248,17 @@ fn words_fault<'a>(words: &'a [u8], form: Form) -> Finding<'a> {
             };
         };
         if let Some(reason) = slot_fault(*slot, word) {
-            return Finding { column, reason };
+            return Diagnosis { column, reason };
         }
         last = column;
         column = column.saturating_add(word.len()).saturating_add(1);
     }
     match slots.next() {
-        None | Some(Slot::Weight | Slot::Strict) => Finding {
+        None | Some(Slot::Weight | Slot::Strict) => Diagnosis {
             column: last,
             reason: Reason::StrictUpdate,
         },
-        Some(slot) => Finding {
+        Some(slot) => Diagnosis {
             column,
             reason: Reason::Missing {
                 slot: *slot,
@@ -263,17 +269,17 @@ fn words_fault<'a>(words: &'a [u8], form: Form) -> Finding<'a> {
 }
 
 /// What is wrong with the words of a line.
-fn line_fault(line: &[u8]) -> Finding<'_> {
+fn line_fault(line: &[u8]) -> Diagnosis<'_> {
     let end = line.iter().position(|b| *b == b' ').unwrap_or(line.len());
     let word = line.get(..end).unwrap_or(line);
     if word == b"session".as_slice() {
-        return Finding {
+        return Diagnosis {
             column: 1,
             reason: Reason::Session,
         };
     }
     let Some(form) = form_of(word) else {
-        return Finding {
+        return Diagnosis {
             column: 1,
             reason: Reason::UnknownCommand(word),
         };
@@ -286,12 +292,12 @@ fn line_fault(line: &[u8]) -> Finding<'_> {
                     slot: *slot,
                     text: form.text,
                 };
-                Finding {
+                Diagnosis {
                     column: end.saturating_add(1),
                     reason,
                 }
             }
-            None => Finding {
+            None => Diagnosis {
                 column: 1,
                 reason: Reason::UnknownCommand(word),
             },
@@ -300,7 +306,7 @@ fn line_fault(line: &[u8]) -> Finding<'_> {
 }
 
 /// Why a line that is no command is none.
-pub fn find_reason(line: &[u8]) -> Finding<'_> {
+pub fn find_reason(line: &[u8]) -> Diagnosis<'_> {
     if let Some(finding) = byte_fault(line) {
         return finding;
     }
@@ -335,9 +341,9 @@ impl fmt::Display for Shown<'_> {
 impl fmt::Display for Slot {
     fn fmt<W: fmt::Write>(&self, f: &mut fmt::Formatter<W>) -> fmt::Result {
         let text = match self {
-            Slot::Name => "a name",
-            Slot::Value => "a value",
-            Slot::Limit => "a limit",
+            Slot::Name => "name",
+            Slot::Value => "value",
+            Slot::Limit => "limit",
             Slot::Kind => "update or query",
             Slot::Weight => "weight",
             Slot::Strict => "strict",
@@ -349,16 +355,18 @@ impl fmt::Display for Slot {
 impl fmt::Display for NumberFault {
     fn fmt<W: fmt::Write>(&self, f: &mut fmt::Formatter<W>) -> fmt::Result {
         match self {
-            NumberFault::Plus => f.write_str("has a plus sign; write it without"),
-            NumberFault::Minus => f.write_str("is negative; limits and weights are not"),
-            NumberFault::MinusZero => f.write_str("is written 0"),
-            NumberFault::LeadingZero => f.write_str("has zeros in front; write it without"),
-            NumberFault::Fraction => f.write_str(
-                "has a fraction; numbers are whole (take a smaller unit, as cents)",
+            NumberFault::Plus => f.write_str("has a plus sign; remove it"),
+            NumberFault::Minus => f.write_str(
+                "is negative; limits and weights must not be negative",
             ),
-            NumberFault::Separator => f.write_str("has a separator; write its digits alone"),
-            NumberFault::TooLong(most) => write!(f, "has too many digits; {most} is the most"),
-            NumberFault::NoNumber => f.write_str("is no whole number"),
+            NumberFault::MinusZero => f.write_str("is not allowed; write 0"),
+            NumberFault::LeadingZero => f.write_str("has leading zeros; remove them"),
+            NumberFault::Fraction => f.write_str(
+                "has a fraction; only integers are allowed (use a smaller unit, such as cents)",
+            ),
+            NumberFault::Separator => f.write_str("has a digit separator; write digits only"),
+            NumberFault::TooLong(most) => write!(f, "has too many digits (maximum {most})"),
+            NumberFault::NoNumber => f.write_str("is not an integer"),
         }
     }
 }
@@ -379,39 +387,35 @@ fn push_hint<W: fmt::Write>(
 fn push_word<W: fmt::Write>(f: &mut fmt::Formatter<W>, reason: Reason<'_>) -> fmt::Result {
     match reason {
         Reason::UnknownCommand(word) => {
-            write!(f, "\"{}\" is no command", Shown(word))?;
+            write!(f, "unknown command \"{}\"", Shown(word))?;
             push_hint(f, word, first_words())
         }
         Reason::Keyword { word, slot } => {
-            write!(f, "\"{}\" stands in place of {slot}", Shown(word))?;
+            write!(f, "expected {slot}, found \"{}\"", Shown(word))?;
             push_hint(f, word, keywords(slot))
         }
         Reason::LongName(word) => write!(
             f,
-            "the name \"{}\" has {} letters; 16 is the most",
+            "name \"{}\" is {} characters long (maximum 16)",
             Shown(word),
             word.len()
         ),
         Reason::FirstOfName(word) => write!(
             f,
-            "the name \"{}\" does not begin with a letter",
+            "name \"{}\" does not start with a letter",
             Shown(word)
         ),
         Reason::ByteOfName { word, byte } => {
             write!(
                 f,
-                "the name \"{}\" has a \"{}\"; names are letters, digits and _",
+                "name \"{}\" contains \"{}\"; names may contain only letters, digits and _",
                 Shown(word),
                 Shown(&[byte])
             )
         }
         Reason::Number { word, fault } => write!(f, "\"{}\" {fault}", Shown(word)),
-        Reason::Extra { word, text } => write!(
-            f,
-            "\"{}\" is too much; the form is: {text}",
-            Shown(word)
-        ),
-        _ => f.write_str("no command"),
+        Reason::Extra { word, text } => write!(f, "unexpected \"{}\"; usage: {text}", Shown(word)),
+        _ => f.write_str("not a command"),
     }
 }
 
@@ -419,26 +423,28 @@ impl fmt::Display for Reason<'_> {
     fn fmt<W: fmt::Write>(&self, f: &mut fmt::Formatter<W>) -> fmt::Result {
         match *self {
             Reason::ByteOrderMark => f.write_str(
-                "a byte order mark is in front; save the file as UTF-8 without one",
+                "file starts with a byte order mark; save it as UTF-8 without one",
             ),
-            Reason::Utf16 => f.write_str("this is UTF-16; save the file as UTF-8"),
-            Reason::CarriageReturn => f.write_str(
-                "the line ends with a carriage return (CR LF); lines end with LF alone",
+            Reason::Utf16 => f.write_str("file is UTF-16; save it as UTF-8"),
+            Reason::CarriageReturn => f.write_str("line ends with CR LF; use LF only"),
+            Reason::Tab => f.write_str("tab character; separate words with a single space"),
+            Reason::BlankInFront => f.write_str("leading space"),
+            Reason::BlankBehind => f.write_str("trailing space"),
+            Reason::TwoBlanks => f.write_str(
+                "consecutive spaces; separate words with a single space",
             ),
-            Reason::Tab => f.write_str("a tab; one blank separates words"),
-            Reason::BlankInFront => f.write_str("a blank in front"),
-            Reason::BlankBehind => f.write_str("a blank at the end"),
-            Reason::TwoBlanks => f.write_str("two blanks; one separates words"),
             Reason::NotAscii(byte) => write!(
                 f,
-                "the byte \\x{byte:02x} is no ASCII character; names are letters, digits and _"
+                "byte \\x{byte:02x} is not printable ASCII; names may contain only letters, digits and _"
             ),
-            Reason::Session => f.write_str("\"session\" is of a drive file; esr drive runs one"),
+            Reason::Session => f.write_str(
+                "\"session\" is allowed only in drive files; use esr drive",
+            ),
             Reason::Comment => f.write_str(
-                "a comment behind a command; a comment is a line of its own",
+                "comment after a command; comments must be on their own line",
             ),
-            Reason::Missing { slot, text } => write!(f, "{slot} is missing; the form is: {text}"),
-            Reason::StrictUpdate => f.write_str("only a query can be strict"),
+            Reason::Missing { slot, text } => write!(f, "missing {slot}; usage: {text}"),
+            Reason::StrictUpdate => f.write_str("only queries can be strict"),
             other => push_word(f, other),
         }
     }

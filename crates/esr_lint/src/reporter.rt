@@ -1,26 +1,70 @@
-//! Tells the lines at fault on standard error, and why a query is no committed one.
+//! Reports lines with errors on standard error, and explains why a name was not found.
 //!
-//! Where a script's answers are dropped, a line is told at once, so before anything that the script leads to is written;
-//! where they are written, as by `run`, the first is kept and told at the end. Nothing is allocated before a line is at
-//! fault or a query is sought in vain. That a line cannot be told is no fault of the run.
+//! At a terminal, lines are reported as they are executed, before any output of the script. If standard error is not a
+//! terminal, a fault must be its only line, so reports are held until the run has ended without one (`release`).
+//! Rejected: holding them at a terminal too, because an error would then appear only after a long run. Nothing is
+//! allocated before a line has an error or a name is not found. A failure to report is not an error of the run.
 
 use crate::answer::{fault_of, is_error};
-use crate::observer::{End, Observer, TxnStatus};
+use crate::notes::Notes;
+use crate::observer::{Observer, TxnEnd, TxnSummary};
 use crate::place::Source;
-use std::alloc::Global;
+use std::alloc::{AllocError, Global};
 use std::fmt;
 
-/// The most lines, and the most queries, that are told.
-const MOST: u64 = 20;
+/// The maximum number of lines, and of names, that are listed.
+const MAX_LISTED: u64 = 20;
 
-/// When lines at fault are told.
+/// Which lines with errors are reported, and when.
 #[derive(Clone, Copy)]
-pub enum When {
-    AtOnce,
-    AtTheEnd,
+pub struct Reports {
+    /// Only the first line, at the end of the script: the replies of `run` show every error.
+    pub first_only: bool,
+    /// Nothing before `release`.
+    pub held: bool,
 }
 
-/// A line that is told later, with its answer.
+/// A name that is looked up after the last line.
+#[derive(Clone, Copy)]
+pub enum Sought<'a> {
+    Nothing,
+    CommittedQuery(&'a str),
+    Query(&'a str),
+    Transaction(&'a str),
+}
+
+impl<'a> Sought<'a> {
+    /// Returns the name.
+    fn name(self) -> Option<&'a str> {
+        match self {
+            Sought::Nothing => None,
+            Sought::CommittedQuery(name) | Sought::Query(name) | Sought::Transaction(name) => {
+                Some(name)
+            }
+        }
+    }
+
+    /// Returns whether a transaction with this status is of the kind that is looked up.
+    fn accepts(self, status: TxnSummary) -> bool {
+        match self {
+            Sought::Nothing => false,
+            Sought::CommittedQuery(_) => status.is_query && status.end == TxnEnd::Committed,
+            Sought::Query(_) => status.is_query,
+            Sought::Transaction(_) => true,
+        }
+    }
+
+    /// Returns the kind, singular and plural.
+    fn kind(self) -> (&'static str, &'static str) {
+        match self {
+            Sought::CommittedQuery(_) => ("committed query", "committed queries"),
+            Sought::Query(_) => ("query", "queries"),
+            Sought::Nothing | Sought::Transaction(_) => ("transaction", "transactions"),
+        }
+    }
+}
+
+/// A line that is reported later, with its reply.
 #[derive(Drop)]
 struct Kept {
     number: u64,
@@ -28,67 +72,88 @@ struct Kept {
     answer: Vec<u8>,
 }
 
-/// Tells the lines at fault.
+impl Kept {
+    fn new(alloc: Global, number: u64, line: &[u8], answer: &[u8]) -> Result<Kept, AllocError> {
+        Ok(Kept {
+            number,
+            line: line.to_vec(alloc)?,
+            answer: answer.to_vec(alloc)?,
+        })
+    }
+}
+
+/// Reports lines with errors.
 #[derive(Drop)]
 pub struct ErrorReporter<'a, E> {
     to: &'a E,
     alloc: Global,
     source: Source<'a>,
-    when: When,
-    sought: &'a str,
-    lines: u64,
+    reports: Reports,
+    sought: Sought<'a>,
+    notes: Option<&'a Notes>,
     faults: u64,
-    first: Option<Kept>,
-    found: Option<TxnStatus>,
-    queries: u64,
+    kept: Vec<Kept>,
+    found: Option<TxnSummary>,
+    candidates: u64,
     names: Vec<u8>,
 }
 
 impl<'a, E: Eprint> ErrorReporter<'a, E> {
-    /// Of a source, for one that asks for the query of that name, if for one.
     pub fn new(
         to: &'a E,
         alloc: Global,
         source: Source<'a>,
-        when: When,
-        sought: &'a str,
+        reports: Reports,
+        sought: Sought<'a>,
+        notes: Option<&'a Notes>,
     ) -> ErrorReporter<'a, E> {
         ErrorReporter {
             to,
             alloc,
             source,
-            when,
+            reports,
             sought,
-            lines: 0,
+            notes,
             faults: 0,
-            first: None,
+            kept: Vec::new(alloc),
             found: None,
-            queries: 0,
+            candidates: 0,
             names: Vec::new(alloc),
         }
     }
 
-    /// How many lines were at fault.
+    /// Returns the number of lines with errors.
     pub fn faults(&self) -> u64 {
         self.faults
     }
 
-    /// The line after the last one that was answered: where a line ends the run, that one.
-    pub fn next_line(&self) -> u64 {
-        self.lines.saturating_add(1)
-    }
-
-    /// Why there is no committed query of the name that was asked for.
-    pub fn refusal(&self) -> NoQuery<'_> {
-        NoQuery {
-            name: self.sought,
+    /// Returns why the name that was looked up was not found.
+    pub fn refusal(&self) -> NotFound<'_> {
+        NotFound {
+            sought: self.sought,
             status: self.found,
-            queries: self.queries,
+            candidates: self.candidates,
             names: &self.names,
         }
     }
 
-    /// Tells a line now.
+    /// Reports the lines that were held, once the run has ended without a fault.
+    pub fn release(&self) {
+        if self.reports.held {
+            self.report_all();
+        }
+    }
+
+    /// Returns the maximum number of lines that are reported.
+    fn limit(&self) -> u64 {
+        if self.reports.first_only {
+            1
+        } else {
+            MAX_LISTED
+        }
+    }
+
+    /// Reports a line now.
     fn report(&self, number: u64, line: &[u8], answer: &[u8]) {
         let place = self.source.line(number);
         if let Some(fault) = fault_of(line, answer) {
@@ -96,24 +161,46 @@ impl<'a, E: Eprint> ErrorReporter<'a, E> {
         }
     }
 
-    /// Keeps a line, to tell it later.
-    fn keep(&mut self, number: u64, line: &[u8], answer: &[u8]) {
-        if let (Ok(line), Ok(answer)) = (line.to_vec(self.alloc), answer.to_vec(self.alloc)) {
-            self.first = Some(Kept {
-                number,
-                line,
-                answer,
-            });
+    /// Notes a line for a page or a picture.
+    fn note(&self, number: u64, line: &[u8], answer: &[u8]) {
+        let place = self.source.line(number);
+        if let Some(notes) = self.notes
+            && let Some(fault) = fault_of(line, answer)
+        {
+            notes.add(&format_args!("{place}: {fault}"));
         }
     }
 
-    /// Adds a name to those of the committed queries.
-    fn add_name(&mut self, name: &str) {
-        self.queries = self.queries.saturating_add(1);
-        if self.queries > MOST {
+    /// Keeps a line to report it later.
+    fn keep(&mut self, number: u64, line: &[u8], answer: &[u8]) {
+        if let Ok(kept) = Kept::new(self.alloc, number, line, answer) {
+            let _ = self.kept.push(kept);
+        }
+    }
+
+    /// Reports the lines that were kept, and the number of lines with errors.
+    fn report_all(&self) {
+        if self.faults == 0 {
             return;
         }
-        if self.queries > 1 && self.names.extend_from_slice(b", ").is_err() {
+        for kept in &self.kept {
+            self.report(kept.number, &kept.line, &kept.answer);
+        }
+        let source = self.source;
+        let count = Count {
+            faults: self.faults,
+            limit: self.limit(),
+        };
+        let _ = eprintln!(self.to; "esr: {source}{count}");
+    }
+
+    /// Adds a name to those that exist.
+    fn add_name(&mut self, name: &str) {
+        self.candidates = self.candidates.saturating_add(1);
+        if self.candidates > MAX_LISTED {
+            return;
+        }
+        if self.candidates > 1 && self.names.extend_from_slice(b", ").is_err() {
             return;
         }
         let _ = self.names.extend_from_slice(name.as_bytes());
@@ -122,131 +209,117 @@ impl<'a, E: Eprint> ErrorReporter<'a, E> {
 
 impl<E: Eprint> Observer for ErrorReporter<'_, E> {
     fn see_line(&mut self, number: u64, line: &[u8], answer: &[u8]) {
-        self.lines = number;
         if !is_error(answer) {
             return;
         }
         self.faults = self.faults.saturating_add(1);
-        match self.when {
-            When::AtOnce => {
-                if self.faults <= MOST {
-                    self.report(number, line, answer);
-                }
-            }
-            When::AtTheEnd => {
-                if self.faults == 1 {
-                    self.keep(number, line, answer);
-                }
-            }
+        self.note(number, line, answer);
+        if self.faults > self.limit() {
+            return;
+        }
+        if self.reports.held || self.reports.first_only {
+            self.keep(number, line, answer);
+        } else {
+            self.report(number, line, answer);
         }
     }
 
-    fn see_transaction(&mut self, name: &str, status: TxnStatus) {
-        if name == self.sought {
+    fn see_transaction(&mut self, name: &str, status: TxnSummary) {
+        if self.sought.name().is_some_and(|sought| sought == name) {
             self.found = Some(status);
         }
-        if status.is_query && status.end == End::Committed {
+        if self.sought.accepts(status) {
             self.add_name(name);
         }
     }
 
     fn see_end(&mut self) {
-        if self.faults == 0 {
-            return;
+        if !self.reports.held {
+            self.report_all();
         }
-        if let Some(kept) = &self.first {
-            self.report(kept.number, &kept.line, &kept.answer);
-        }
-        let source = self.source;
-        let reported = match self.when {
-            When::AtOnce => MOST,
-            When::AtTheEnd => 1,
-        };
-        let count = Count {
-            faults: self.faults,
-            reported,
-        };
-        let _ = eprintln!(self.to; "esr: {source}{count}");
     }
 }
 
-/// How many lines are at fault, and how many of them are told.
+/// The number of lines with errors, and how many of them are reported.
 #[derive(Clone, Copy)]
 struct Count {
     faults: u64,
-    reported: u64,
+    limit: u64,
 }
 
 impl fmt::Display for Count {
     fn fmt<W: fmt::Write>(&self, f: &mut fmt::Formatter<W>) -> fmt::Result {
         let faults = self.faults;
-        let reported = self.reported;
+        let limit = self.limit;
         match faults {
-            1 => f.write_str("1 line is at fault"),
-            _ => write!(f, "{faults} lines are at fault"),
+            1 => f.write_str("1 line has an error"),
+            _ => write!(f, "{faults} lines have errors"),
         }?;
-        if faults <= reported {
+        if faults <= limit {
             Ok(())
-        } else if reported == 1 {
-            f.write_str(", of which the first is told; esr lint lists all")
+        } else if limit == 1 {
+            f.write_str("; showing the first (run esr lint to list all)")
         } else {
-            write!(
-                f,
-                ", of which the first {reported} are told; esr lint lists all"
-            )
+            write!(f, "; showing the first {limit} (run esr lint to list all)")
         }
     }
 }
 
-/// Why there is no committed query of a name, and which there are.
+/// Why a name was not found, and the names that exist.
 #[derive(Clone, Copy)]
-pub struct NoQuery<'a> {
-    name: &'a str,
-    status: Option<TxnStatus>,
-    queries: u64,
+pub struct NotFound<'a> {
+    sought: Sought<'a>,
+    status: Option<TxnSummary>,
+    candidates: u64,
     names: &'a [u8],
 }
 
-impl fmt::Display for NoQuery<'_> {
+/// Returns why a transaction with this status is not a committed query.
+fn reason_of(status: Option<TxnSummary>) -> &'static str {
+    match status {
+        None => "does not exist",
+        Some(
+            TxnSummary {
+                is_query: false,
+                ..
+            },
+        ) => "is an update",
+        Some(
+            TxnSummary {
+                end: TxnEnd::Active,
+                ..
+            },
+        ) => "is still active",
+        Some(
+            TxnSummary {
+                end: TxnEnd::Aborted,
+                ..
+            },
+        ) => "was aborted",
+        Some(
+            TxnSummary {
+                end: TxnEnd::Committed,
+                ..
+            },
+        ) => "was committed",
+    }
+}
+
+impl fmt::Display for NotFound<'_> {
     fn fmt<W: fmt::Write>(&self, f: &mut fmt::Formatter<W>) -> fmt::Result {
-        let name = self.name;
-        let why = match self.status {
-            None => "was never begun",
-            Some(
-                TxnStatus {
-                    is_query: false,
-                    ..
-                },
-            ) => "is an update",
-            Some(
-                TxnStatus {
-                    end: End::Active,
-                    ..
-                },
-            ) => "has not ended",
-            Some(
-                TxnStatus {
-                    end: End::Aborted,
-                    ..
-                },
-            ) => "has aborted",
-            Some(
-                TxnStatus {
-                    end: End::Committed,
-                    ..
-                },
-            ) => "has committed",
-        };
-        write!(f, "\"{name}\" {why}")?;
-        if self.queries == 0 {
-            return f.write_str("; the script has no committed query");
+        let name = self.sought.name().unwrap_or("");
+        let reason = reason_of(self.status);
+        let (one, several) = self.sought.kind();
+        write!(f, "\"{name}\" {reason}")?;
+        if self.candidates == 0 {
+            return write!(f, "; the script has no {one}");
         }
-        f.write_str("; committed queries: ")?;
+        write!(f, "; {several}: ")?;
         for byte in self.names {
             write!(f, "{}", *byte as char)?;
         }
-        if self.queries > MOST {
-            write!(f, " and {} more", self.queries - MOST)?;
+        if self.candidates > MAX_LISTED {
+            write!(f, " and {} more", self.candidates - MAX_LISTED)?;
         }
         Ok(())
     }

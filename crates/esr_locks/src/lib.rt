@@ -1,7 +1,8 @@
-//! The lock table: which transactions hold which locks on each item.
+//! The lock table: the locks that each transaction holds on each item.
 //!
-//! Strict two-phase locking among updates: a read shares, a write excludes, and all locks go together at the end.
-//! Queries take locks that exclude nobody: they are there so that a write knows whom to charge.
+//! Updates follow strict two-phase locking: read locks are shared, write locks are exclusive, and a transaction
+//! releases all its locks when it ends. Queries take locks that block no one. The table records them so that a write
+//! can find the queries to charge.
 #![tactic(auto)]
 
 mod lists;

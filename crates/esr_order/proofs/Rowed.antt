@@ -8,7 +8,7 @@ use Rattle.esr_history.specs.Events.{accepted, is_committed}
 use Rattle.esr_history.specs.Machine.{Distance, Schedule, IsLegal}
 use Rattle.esr_order.specs.Scans.{Access, accesses_in}
 use Rattle.esr_order.specs.AccessRows.{IsWithin, row_in, row_at, AreRowsOf}
-use Rattle.esr_order.specs.declared.rows.Span.{Span}
+use Rattle.esr_order.specs.declared.rows.RowSpan.{RowSpan}
 use Rattle.esr_order.proofs.Settled.{settled_next}
 
 length-dropped : {X : Type 0} (n : ℕ) (xs : List X) → n ≤ length xs → n + length (drop n xs) ≡ length xs
@@ -17,13 +17,13 @@ length-dropped (suc n) [] l = absurd (omega arith)
 length-dropped (suc n) (x ∷ xs) l = let rest = length-dropped n xs (omega arith) in omega (arith, rest)
 
 -- a row stays where more is put behind all rows
-row_stays : (list more : List Access) (s : Span) → IsWithin (length list) s → row_in (list ++ more) s ≡ row_in list s
+row_stays : (list more : List Access) (s : RowSpan) → IsWithin (length list) s → row_in (list ++ more) s ≡ row_in list s
 row_stays list more s in_list =
     let rest = length-dropped s.begin list (omega (arith, in_list.ordered, in_list.inside)) in
     ap (take (s.end - s.begin)) (drop-append-le s.begin list more (omega (arith, in_list.ordered, in_list.inside)))
     ∙ take-append-le (s.end - s.begin) (drop s.begin list) more (omega (arith, rest, in_list.ordered, in_list.inside))
 
-rows_stay : (list more : List Access) (spans : List Span) → All (IsWithin (length list)) spans → map (row_in (list ++ more)) spans ≡ map (row_in list) spans
+rows_stay : (list more : List Access) (spans : List RowSpan) → All (IsWithin (length list)) spans → map (row_in (list ++ more)) spans ≡ map (row_in list) spans
 rows_stay list more [] all = refl
 rows_stay list more (s ∷ spans) all =
     ap (λ r. r ∷ map (row_in (list ++ more)) spans) (row_stays list more s (all 0 s (omega arith)))
@@ -34,11 +34,11 @@ row_last : (list more : List Access) (n : ℕ) → n ≡ length (list ++ more) �
 row_last list more n is = ap (take (n - length list)) (drop-append_seam list more) ∙ take_all (n - length list) more (omega (arith, is, length-append list more))
 
 -- a row more, of transaction t
-abbrev pub put : List Span → ℕ → ℕ → ℕ → List Span
+abbrev pub put : List RowSpan → ℕ → ℕ → ℕ → List RowSpan
 put spans t b n = slice_set spans t (record { begin = b; end = n })
 
 -- a list that more was put behind, with rows in what it was
-module _ (list more grown : List Access) (grew : grown ≡ list ++ more) (spans : List Span) (all : All (IsWithin (length list)) spans) (rows : List (List Access)) (seen : map (row_in list) spans ≡ rows) where
+module _ (list more grown : List Access) (grew : grown ≡ list ++ more) (spans : List RowSpan) (all : All (IsWithin (length list)) spans) (rows : List (List Access)) (seen : map (row_in list) spans ≡ rows) where
   rows_in : map (row_in grown) spans ≡ rows
   rows_in = ap (λ l. map (row_in l) spans) grew ∙ (rows_stay list more spans all ∙ seen)
 

@@ -3,15 +3,15 @@ use Rattle.std.specs.Prelude.{◌≡◌, ◌≤◌, ◌⊎◌, ◌-◌, ℕ, IsT
 use Rattle.esr_history.specs.declared.event.Entry.{Entry}
 use Rattle.esr_history.specs.Events.{accepted, is_committed}
 use Rattle.esr_order.specs.Scans.{Access, accesses_in}
-use Rattle.esr_order.specs.declared.rows.Span.{Span}
+use Rattle.esr_order.specs.declared.rows.RowSpan.{RowSpan}
 
 -- where a row lies, in a list of so many
-pub record IsWithin (n : ℕ) (span : Span) : Type 0 where
+pub record IsWithin (n : ℕ) (span : RowSpan) : Type 0 where
   pub ordered : span.begin ≤ span.end
   pub inside : span.end ≤ n
 
 -- what lies there
-abbrev pub row_in : List Access → Span → List Access
+abbrev pub row_in : List Access → RowSpan → List Access
 row_in accesses span = take (span.end - span.begin) (drop span.begin accesses)
 
 -- the row of transaction t, empty where there is none

@@ -1,9 +1,9 @@
-//! The conflict order among the updates that a query could have seen, and the placements of queries.
+//! The conflict order among the updates that can precede a query, and the placements of a query.
 //!
-//! Commit order is a serial order of the updates: locks are held to the end of a transaction, so it needs no search,
-//! and it is the same in every longer history. An update is named by its position in it, so a pair of the conflict
-//! order goes from a lower to a higher position. What comes before a query in a placement is then a closed set of
-//! positions, and the least distance the least cost of one (`laws`).
+//! Commit order is a serial order of the updates, because they hold their locks until they end. It needs no search and
+//! stays the same in every longer history. An update is identified by its position in commit order, so every pair of
+//! the conflict order goes from a lower to a higher position. The set of updates before a query in a placement is then
+//! a closed set of positions, and the least distance of the query is the least cost of a closed set (`laws`).
 #![tactic(auto)]
 
 mod accesses;

@@ -19,7 +19,7 @@ use std::marker::Model;
 
 /// Where a row lies.
 #[derive(Clone, Copy)]
-struct Span {
+struct RowSpan {
     begin: u32,
     end: u32,
 }
@@ -28,7 +28,7 @@ struct Span {
 #[derive(Drop)]
 pub struct AccessRows {
     /// Where each row lies, by the number of the transaction.
-    spans: Vec<Span>,
+    spans: Vec<RowSpan>,
     accesses: Vec<Access>,
 }
 
@@ -88,7 +88,7 @@ impl AccessRows {
         ensures place { OnOk result (last < length self.new) }
     {
         while self.spans.len() <= last {
-            self.spans.push(Span { begin: 0, end: 0 })?;
+            self.spans.push(RowSpan { begin: 0, end: 0 })?;
         }
         Ok(())
     }
@@ -106,7 +106,7 @@ impl AccessRows {
         if end > u32::MAX as usize {
             return Err(AllocError);
         }
-        self.spans[t.0 as usize] = Span {
+        self.spans[t.0 as usize] = RowSpan {
             begin: begin as u32,
             end: end as u32,
         };

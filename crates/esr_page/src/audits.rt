@@ -19,7 +19,7 @@ const MAX_UPDATES: usize = 250_000;
 
 /// How far a committed query was off.
 #[derive(Clone, Copy)]
-pub struct Found {
+pub struct AuditedDistance {
     pub query: TxnId,
     pub distance: u64,
 }
@@ -28,7 +28,7 @@ pub struct Found {
 #[derive(Drop)]
 pub struct Audits {
     pub order: Vec<TxnId>,
-    pub found: Vec<Found>,
+    pub found: Vec<AuditedDistance>,
     /// What was found of the queries that were farthest off, the farthest first.
     farthest: Vec<Finding>,
 }
@@ -106,7 +106,7 @@ impl Audits {
 
     /// Notes how far a query was off.
     fn note(&mut self, finding: &Finding) -> Result<(), AllocError> {
-        self.found.push(Found {
+        self.found.push(AuditedDistance {
             query: finding.query,
             distance: finding.distance,
         })?;

@@ -4,8 +4,8 @@
 //! than all others, the chart ends below them, so that the others are seen; a logarithmic scale was rejected, since a bar
 //! would no longer show its amount by its length.
 
-use crate::audits::Found;
-use crate::rows::{Row, Rows};
+use crate::audits::AuditedDistance;
+use crate::rows::{QueryRow, QueryRows};
 use esr_text::{first, push_count, push_number};
 use std::alloc::{AllocError, Global};
 
@@ -49,7 +49,7 @@ fn push_limit(out: &mut String, limit: u64, top: u64) -> Result<(), AllocError> 
 }
 
 /// What a column says in words.
-fn push_words(out: &mut String, row: &Row<'_>) -> Result<(), AllocError> {
+fn push_words(out: &mut String, row: &QueryRow<'_>) -> Result<(), AllocError> {
     out.push_str(row.name)?;
     out.push_str(": limit ")?;
     push_number(out, row.limit)?;
@@ -61,7 +61,7 @@ fn push_words(out: &mut String, row: &Row<'_>) -> Result<(), AllocError> {
 
 /// A column. Where it goes on above the chart, a gap through all its bars says so: an end that each bar had of its own, as
 /// if torn, crossed that of the bar before it, and could not be seen on narrow bars.
-fn push_column(out: &mut String, row: &Row<'_>, top: u64) -> Result<(), AllocError> {
+fn push_column(out: &mut String, row: &QueryRow<'_>, top: u64) -> Result<(), AllocError> {
     let name = row.name;
     let target = if row.is_told { "q" } else { "r" };
     write!(out, "<li><a href='#{target}-{name}' title='")?;
@@ -77,8 +77,8 @@ fn push_column(out: &mut String, row: &Row<'_>, top: u64) -> Result<(), AllocErr
 /// The columns of these queries.
 fn push_columns(
     out: &mut String,
-    all: &mut Rows<'_>,
-    found: &[Found],
+    all: &mut QueryRows<'_>,
+    found: &[AuditedDistance],
     top: u64,
 ) -> Result<(), AllocError> {
     for found in first(found, MAX_COLUMNS) {
@@ -90,7 +90,7 @@ fn push_columns(
 }
 
 /// What the queries were charged, ascending.
-fn charges_of(alloc: Global, rows: &[Row<'_>]) -> Result<Vec<u64>, AllocError> {
+fn charges_of(alloc: Global, rows: &[QueryRow<'_>]) -> Result<Vec<u64>, AllocError> {
     let mut charges = Vec::new(alloc);
     for row in rows {
         if row.distance().is_some() {
@@ -114,7 +114,7 @@ fn usual_charge(charges: &[u64]) -> u64 {
 
 /// What the height of the chart stands for: the most that a query was charged; where that is more than so many times
 /// what most of them were, so many times that; where none was charged anything, the highest limit.
-fn top_of(rows: &[Row<'_>], charges: &[u64]) -> u64 {
+fn top_of(rows: &[QueryRow<'_>], charges: &[u64]) -> u64 {
     let most = charges.last().copied().unwrap_or(0);
     let end = usual_charge(charges).saturating_mul(FARTHEST);
     if end > 0 && most > end {
@@ -131,7 +131,7 @@ fn push_legend(out: &mut String, top: u64, charges: &[u64]) -> Result<(), AllocE
     let count = charges.len();
     let above = charges.iter().filter(|charge| **charge > top).count();
     out.push_str(
-        "<p class='key'><span><i class='chg'></i> charged</span> <span><i class='dis'></i> off by</span> <span><i class='lim'></i> limit, where it is not above the chart</span></p>\n<p>The top of the chart stands for ",
+        "<p class='key'><span><i class='chg'></i> charged</span> <span><i class='dis'></i> off by</span> <span><i class='lim'></i> limit, unless it is above the chart</span></p>\n<p>The top of the chart stands for ",
     )?;
     push_number(out, top)?;
     out.push('.')?;
@@ -154,8 +154,8 @@ fn push_legend(out: &mut String, top: u64, charges: &[u64]) -> Result<(), AllocE
 pub fn push_chart(
     alloc: Global,
     out: &mut String,
-    all: &mut Rows<'_>,
-    found: &[Found],
+    all: &mut QueryRows<'_>,
+    found: &[AuditedDistance],
 ) -> Result<(), AllocError> {
     if found.is_empty() {
         return out.push_str("<p>No query has committed.</p>\n");
@@ -167,8 +167,8 @@ pub fn push_chart(
 /// The chart of some committed queries, which were charged this.
 fn push_charted(
     out: &mut String,
-    all: &mut Rows<'_>,
-    found: &[Found],
+    all: &mut QueryRows<'_>,
+    found: &[AuditedDistance],
     charges: &[u64],
 ) -> Result<(), AllocError> {
     let top = top_of(&all.rows, charges);

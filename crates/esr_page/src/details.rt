@@ -2,7 +2,7 @@
 
 use crate::audits::{Audits, rank};
 use crate::page::Page;
-use crate::rows::{Row, Rows};
+use crate::rows::{QueryRow, QueryRows};
 use esr_audit::{AuditError, Finding, audit_query};
 use esr_history::TxnId;
 use esr_report::name_of_transaction;
@@ -12,7 +12,7 @@ use esr_views::Recording;
 use std::alloc::{AllocError, Global};
 
 /// The committed queries, those that were farthest off first.
-fn farthest(alloc: Global, rows: &[Row<'_>]) -> Result<Vec<(u64, u64, u32)>, AllocError> {
+fn farthest(alloc: Global, rows: &[QueryRow<'_>]) -> Result<Vec<(u64, u64, u32)>, AllocError> {
     let mut ranks = Vec::new(alloc);
     for row in rows {
         if let Some(distance) = row.distance() {
@@ -26,7 +26,7 @@ fn farthest(alloc: Global, rows: &[Row<'_>]) -> Result<Vec<(u64, u64, u32)>, All
 /// Marks the queries of these ranks, and gives them.
 fn mark(
     alloc: Global,
-    all: &mut Rows<'_>,
+    all: &mut QueryRows<'_>,
     ranks: &[(u64, u64, u32)],
 ) -> Result<Vec<TxnId>, AllocError> {
     let mut told = Vec::new(alloc);
@@ -43,7 +43,7 @@ fn mark(
 /// Marks so many queries that were farthest off, and gives them, the farthest first.
 pub fn tell_farthest(
     alloc: Global,
-    all: &mut Rows<'_>,
+    all: &mut QueryRows<'_>,
     count: usize,
 ) -> Result<Vec<TxnId>, AllocError> {
     let ranks = farthest(alloc, &all.rows)?;
@@ -139,12 +139,12 @@ impl<P: Part, W: Part> Page<'_, P, W> {
 }
 
 /// What queries are told in full, if any are: those that were farthest off, or where none was off, those that were charged most.
-pub fn heading_of(rows: &[Row<'_>], told: &[TxnId]) -> &'static str {
+pub fn heading_of(rows: &[QueryRow<'_>], told: &[TxnId]) -> &'static str {
     if told.is_empty() {
         ""
     } else if rows.iter().any(|row| row.distance().unwrap_or(0) > 0) {
-        "<h2>The farthest off</h2>\n"
+        "<h2>Largest distances</h2>\n"
     } else {
-        "<h2>None was off; these were charged most</h2>\n"
+        "<h2>All exact; the queries with the largest charges</h2>\n"
     }
 }

@@ -1,10 +1,10 @@
-//! One HTML page about all queries of a script: the sums, a chart and a table of all of them, picture and prose of those
-//! that were farthest off, and the serial order.
+//! One HTML page about all queries of a script: the totals, a chart and a table of all queries, the pictures and prose
+//! of the queries with the greatest distances, and the serial order.
 //!
-//! It is one file without any outside resource, so that it can be mailed and kept. Names are lowercase letters, digits
-//! and `_`, as no line binds another, and all else are fixed words and numbers: so nothing has to be escaped, and a
-//! name makes an id. What the page shows is promised by no clause, but that it is one document in which each element is
-//! closed.
+//! The page is one file without external resources, so it can be mailed and archived. Names contain only lowercase
+//! letters, digits and `_`, because no other name can be declared, and all other text is fixed words and numbers.
+//! Nothing has to be escaped, and a name can be used as an id. No clause specifies the content, except that it is one
+//! document in which every element is closed.
 #![tactic(auto)]
 
 mod audits;
@@ -15,4 +15,4 @@ mod rows;
 mod style;
 mod table;
 
-pub use page::Page;
+pub use page::{Origin, Page};

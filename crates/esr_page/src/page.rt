@@ -6,12 +6,13 @@ ghost use Rattle.esr_page.specs.Page.{IsPage};
 use crate::audits::{Audits, audit_all};
 use crate::chart::push_chart;
 use crate::details::{heading_of, tell_farthest};
-use crate::rows::{Row, Rows, rows_of};
+use crate::rows::{QueryRow, QueryRows, rows_of};
 use crate::style::{head, script};
 use crate::table::push_table;
 use esr_history::TxnId;
+use esr_lint::Notes;
 use esr_report::{Names, name_of_transaction};
-use esr_text::{markup_or_nothing, push_count, push_number};
+use esr_text::{markup_or_nothing, push_count, push_number, push_plain};
 use esr_trace::Part;
 use esr_views::{Recording, ScriptView};
 use std::alloc::{AllocError, Global};
@@ -23,11 +24,59 @@ pub struct Page<'a, P, W> {
     pub worst: u64,
     pub picture: &'a P,
     pub words: &'a W,
+    pub origin: Origin<'a>,
+}
+
+/// The origin of a page: its file and date, the version of the program, and the lines with errors of the script.
+#[derive(Clone, Copy)]
+pub struct Origin<'a> {
+    /// The name of the file, or nothing for standard input.
+    pub file: Option<&'a str>,
+    /// The date, or nothing if the clock cannot be read.
+    pub date: Option<&'a str>,
+    pub version: &'a str,
+    pub notes: &'a Notes,
+}
+
+/// Appends the file, the date and the version of the program.
+fn push_origin(out: &mut String, origin: Origin<'_>) -> Result<(), AllocError> {
+    out.push_str("<p class='origin'>")?;
+    push_plain(out, origin.file.unwrap_or("standard input"))?;
+    if let Some(date) = origin.date {
+        out.push_str(", ")?;
+        push_plain(out, date)?;
+    }
+    out.push_str(", esr ")?;
+    push_plain(out, origin.version)?;
+    out.push_str("</p>\n")
+}
+
+/// Appends the lines with errors in a red box, if there are any.
+fn push_errors(alloc: Global, out: &mut String, notes: &Notes) -> Result<(), AllocError> {
+    let count = notes.count();
+    if count == 0 {
+        return Ok(());
+    }
+    out.push_str("<div class='errors' role='alert'><p>")?;
+    push_count(
+        out,
+        count,
+        " line of the script has an error and is left out",
+        " lines of the script have errors and are left out",
+    )?;
+    out.push_str(" here. esr lint lists all errors.</p>\n<ul>\n")?;
+    let text = notes.text(alloc)?;
+    for line in text.lines() {
+        out.push_str("<li>")?;
+        push_plain(out, line)?;
+        out.push_str("</li>\n")?;
+    }
+    out.push_str("</ul></div>\n")
 }
 
 /// What the queries were off and charged together, of those that committed.
 #[derive(Clone, Copy)]
-struct Totals<'a> {
+struct PageTotals<'a> {
     queries: u64,
     exact: u64,
     distance: u64,
@@ -36,8 +85,8 @@ struct Totals<'a> {
 }
 
 /// The sums over the queries that committed.
-fn totals_of<'a>(rows: &[Row<'a>]) -> Totals<'a> {
-    let mut totals = Totals {
+fn totals_of<'a>(rows: &[QueryRow<'a>]) -> PageTotals<'a> {
+    let mut totals = PageTotals {
         queries: 0,
         exact: 0,
         distance: 0,
@@ -60,7 +109,7 @@ fn totals_of<'a>(rows: &[Row<'a>]) -> Totals<'a> {
 }
 
 /// How many queries and updates there were, and how far the farthest was off.
-fn push_sums(out: &mut String, totals: Totals<'_>, updates: u64) -> Result<(), AllocError> {
+fn push_sums(out: &mut String, totals: PageTotals<'_>, updates: u64) -> Result<(), AllocError> {
     out.push_str("<p>")?;
     push_count(
         out,
@@ -74,13 +123,13 @@ fn push_sums(out: &mut String, totals: Totals<'_>, updates: u64) -> Result<(), A
     push_number(out, totals.exact)?;
     out.push_str(" of ")?;
     push_number(out, totals.queries)?;
-    out.push_str("</dd></div>\n<div><dt>Off, all together</dt><dd>")?;
+    out.push_str("</dd></div>\n<div><dt>Total distance</dt><dd>")?;
     push_number(out, totals.distance)?;
-    out.push_str("</dd></div>\n<div><dt>Charged, all together</dt><dd>")?;
+    out.push_str("</dd></div>\n<div><dt>Total charged</dt><dd>")?;
     push_number(out, totals.charged)?;
     out.push_str("</dd></div>\n")?;
     if let Some((name, distance)) = totals.farthest {
-        write!(out, "<div><dt>Farthest off</dt><dd>{name}, by ")?;
+        write!(out, "<div><dt>Largest distance</dt><dd>{name}, ")?;
         push_number(out, distance)?;
         out.push_str("</dd></div>\n")?;
     }
@@ -103,14 +152,17 @@ fn push_order(out: &mut String, names: &Names, order: &[TxnId]) -> Result<(), Al
     out.push_str("</p></details>\n")
 }
 
-/// What stands above the queries that are told in full: the sums, the chart and the table.
+/// Appends the part above the queries in detail: the origin, the lines with errors, the sums, the chart and the table.
 fn push_overview(
     alloc: Global,
     out: &mut String,
-    all: &mut Rows<'_>,
+    origin: Origin<'_>,
+    all: &mut QueryRows<'_>,
     audits: &Audits,
 ) -> Result<(), AllocError> {
     out.push_str(head())?;
+    push_origin(out, origin)?;
+    push_errors(alloc, out, origin.notes)?;
     push_sums(out, totals_of(&all.rows), audits.order.len() as u64)?;
     push_chart(alloc, out, all, &audits.found)?;
     push_table(out, &all.rows)
@@ -134,10 +186,10 @@ impl<P: Part, W: Part> Page<'_, P, W> {
         out: &mut String,
         recording: &Recording<'_>,
         audits: &Audits,
-        all: &mut Rows<'_>,
+        all: &mut QueryRows<'_>,
         told: &[TxnId],
     ) -> Result<(), AllocError> {
-        push_overview(alloc, out, all, audits)?;
+        push_overview(alloc, out, self.origin, all, audits)?;
         out.push_str(heading_of(&all.rows, told))?;
         self.push_details(alloc, out, recording, audits, told)?;
         push_order(out, &recording.transactions, &audits.order)?;

@@ -1,7 +1,7 @@
 //! What is told of each query in the table and in the chart. One pass over the log counts reads and finds who is strict;
 //! what audits find is put beside it.
 
-use crate::audits::Found;
+use crate::audits::AuditedDistance;
 use esr_history::{Entry, Event, History, Reply, TxnId};
 use esr_items::Weighted;
 use esr_report::name_of_transaction;
@@ -10,7 +10,7 @@ use std::alloc::{AllocError, Global};
 
 /// How a query ended.
 #[derive(Clone, Copy)]
-pub enum End {
+pub enum QueryEnd {
     /// It committed, and this far its audit finds it from a serial placement.
     Committed { distance: u64 },
     Aborted,
@@ -19,53 +19,53 @@ pub enum End {
 
 /// What is told of a query.
 #[derive(Clone, Copy)]
-pub struct Row<'a> {
+pub struct QueryRow<'a> {
     pub query: TxnId,
     pub name: &'a str,
     pub is_strict: bool,
     pub limit: u64,
     pub charged: u64,
     pub reads: u64,
-    pub end: End,
+    pub end: QueryEnd,
     /// Whether picture and prose follow.
     pub is_told: bool,
 }
 
-impl Row<'_> {
+impl QueryRow<'_> {
     /// The distance, if it has one.
     pub fn distance(&self) -> Option<u64> {
         match self.end {
-            End::Committed { distance } => Some(distance),
-            End::Aborted | End::Active => None,
+            QueryEnd::Committed { distance } => Some(distance),
+            QueryEnd::Aborted | QueryEnd::Active => None,
         }
     }
 }
 
 /// How a transaction ended, before what its audit finds is known.
-fn end_of(history: &History<Weighted>, end: Option<u64>) -> End {
+fn end_of(history: &History<Weighted>, end: Option<u64>) -> QueryEnd {
     let Some(entry) = end.and_then(|place| history.log().get(place as usize)) else {
-        return End::Active;
+        return QueryEnd::Active;
     };
     match entry.event {
-        Event::Commit { .. } => End::Committed { distance: 0 },
-        _ => End::Aborted,
+        Event::Commit { .. } => QueryEnd::Committed { distance: 0 },
+        _ => QueryEnd::Aborted,
     }
 }
 
 /// The queries of a history, in the order of their numbers, and the place of each transaction among them.
 #[derive(Drop)]
-pub struct Rows<'a> {
-    pub rows: Vec<Row<'a>>,
+pub struct QueryRows<'a> {
+    pub rows: Vec<QueryRow<'a>>,
     place_of: Vec<Option<usize>>,
 }
 
 /// A query, as it began and ended, if it is one.
-fn row_of<'a>(recording: &'a Recording<'_>, query: TxnId) -> Option<Row<'a>> {
+fn row_of<'a>(recording: &'a Recording<'_>, query: TxnId) -> Option<QueryRow<'a>> {
     let facts = recording.history.facts(query)?;
     if !facts.query {
         return None;
     }
-    Some(Row {
+    Some(QueryRow {
         query,
         name: name_of_transaction(&recording.transactions, query),
         is_strict: false,
@@ -78,7 +78,10 @@ fn row_of<'a>(recording: &'a Recording<'_>, query: TxnId) -> Option<Row<'a>> {
 }
 
 /// The queries, as they began and ended.
-fn queries_of<'a>(alloc: Global, recording: &'a Recording<'_>) -> Result<Rows<'a>, AllocError> {
+fn queries_of<'a>(
+    alloc: Global,
+    recording: &'a Recording<'_>,
+) -> Result<QueryRows<'a>, AllocError> {
     let begun = recording.history.begun_count();
     let last = u32::try_from(begun).unwrap_or(u32::MAX);
     let mut rows = Vec::new(alloc);
@@ -89,11 +92,11 @@ fn queries_of<'a>(alloc: Global, recording: &'a Recording<'_>) -> Result<Rows<'a
     }
     let mut place_of = vec![in alloc; None; begun.saturating_add(1)]?;
     put_places(&mut place_of, &rows);
-    Ok(Rows { rows, place_of })
+    Ok(QueryRows { rows, place_of })
 }
 
 /// Puts the place of each row at the number of its query.
-fn put_places(place_of: &mut [Option<usize>], rows: &[Row<'_>]) {
+fn put_places(place_of: &mut [Option<usize>], rows: &[QueryRow<'_>]) {
     let mut next = 0usize;
     for row in rows {
         if let Some(place) = place_of.get_mut(row.query.0 as usize) {
@@ -103,7 +106,7 @@ fn put_places(place_of: &mut [Option<usize>], rows: &[Row<'_>]) {
     }
 }
 
-impl<'a> Rows<'a> {
+impl<'a> QueryRows<'a> {
     /// Notes what an entry tells of a query.
     fn note(&mut self, entry: Entry) {
         let (txn, is_read) = match (entry.event, entry.reply) {
@@ -122,7 +125,7 @@ impl<'a> Rows<'a> {
     }
 
     /// The row of a query.
-    pub fn of(&mut self, query: TxnId) -> Option<&mut Row<'a>> {
+    pub fn of(&mut self, query: TxnId) -> Option<&mut QueryRow<'a>> {
         let place = self.place_of.get(query.0 as usize).copied().flatten()?;
         self.rows.get_mut(place)
     }
@@ -132,8 +135,8 @@ impl<'a> Rows<'a> {
 pub fn rows_of<'a>(
     alloc: Global,
     recording: &'a Recording<'_>,
-    found: &[Found],
-) -> Result<Rows<'a>, AllocError> {
+    found: &[AuditedDistance],
+) -> Result<QueryRows<'a>, AllocError> {
     let mut all = queries_of(alloc, recording)?;
     let log = recording.history.log();
     for place in 0..log.len() {
@@ -143,7 +146,7 @@ pub fn rows_of<'a>(
     }
     for found in found {
         if let Some(row) = all.of(found.query) {
-            row.end = End::Committed {
+            row.end = QueryEnd::Committed {
                 distance: found.distance,
             };
         }

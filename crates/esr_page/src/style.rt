@@ -61,6 +61,8 @@ thead th{position:sticky;top:0;background:var(--paper)}
 th button{font:inherit;color:var(--link);background:none;border:0;padding:0;cursor:pointer;text-decoration:underline}
 tr:target,section:target h3{outline:2px solid var(--link)}
 .order{color:var(--dim);max-width:none}
+.origin{color:var(--dim);margin-top:0}
+.errors{border:2px solid var(--off);border-radius:6px;padding:0 12px;color:var(--off)}
 @media print{th button{display:contents}*{-webkit-print-color-adjust:exact;print-color-adjust:exact}.wide{overflow:visible}.wide svg{max-width:100%;height:auto}.chart li{flex:1 1 0}table{font-size:.7em}th,td{padding:2px 5px}h2,h3{break-after:avoid}section .wide{break-inside:avoid-page}}
 </style>
 </head>

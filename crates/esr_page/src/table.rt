@@ -1,7 +1,7 @@
 //! The table of all queries. It is whole without scripts; where a browser runs the page's own, a press on the head of a
 //! column sorts by it.
 
-use crate::rows::{End, Row};
+use crate::rows::{QueryEnd, QueryRow};
 use esr_text::{first, push_number};
 use std::alloc::AllocError;
 
@@ -19,7 +19,7 @@ fn push_cell(out: &mut String, number: u64) -> Result<(), AllocError> {
 }
 
 /// The name of a query, a link where it is told in full.
-fn push_name(out: &mut String, row: &Row<'_>) -> Result<(), AllocError> {
+fn push_name(out: &mut String, row: &QueryRow<'_>) -> Result<(), AllocError> {
     let name = row.name;
     if row.is_told {
         write!(out, "<th scope='row'><a href='#q-{name}'>{name}</a></th>")
@@ -29,19 +29,19 @@ fn push_name(out: &mut String, row: &Row<'_>) -> Result<(), AllocError> {
 }
 
 /// How a query ended, and its distance.
-fn push_end(out: &mut String, end: End) -> Result<(), AllocError> {
+fn push_end(out: &mut String, end: QueryEnd) -> Result<(), AllocError> {
     match end {
-        End::Committed { distance } => {
+        QueryEnd::Committed { distance } => {
             out.push_str("<td>committed</td>")?;
             push_cell(out, distance)
         }
-        End::Aborted => out.push_str("<td>aborted</td><td class='num'>-</td>"),
-        End::Active => out.push_str("<td>still active</td><td class='num'>-</td>"),
+        QueryEnd::Aborted => out.push_str("<td>aborted</td><td class='num'>-</td>"),
+        QueryEnd::Active => out.push_str("<td>still active</td><td class='num'>-</td>"),
     }
 }
 
 /// A row.
-fn push_row(out: &mut String, row: &Row<'_>) -> Result<(), AllocError> {
+fn push_row(out: &mut String, row: &QueryRow<'_>) -> Result<(), AllocError> {
     let name = row.name;
     write!(out, "<tr id='r-{name}'>")?;
     push_cell(out, u64::from(row.query.0))?;
@@ -60,7 +60,7 @@ fn push_row(out: &mut String, row: &Row<'_>) -> Result<(), AllocError> {
 }
 
 /// The table.
-pub fn push_table(out: &mut String, rows: &[Row<'_>]) -> Result<(), AllocError> {
+pub fn push_table(out: &mut String, rows: &[QueryRow<'_>]) -> Result<(), AllocError> {
     if rows.is_empty() {
         return Ok(());
     }

@@ -9,7 +9,8 @@ ghost use Rattle.esr_text.specs.Markup.{Attributes, IsMarkup};
 ghost use Rattle.esr_picture.specs.Picture.{IsSvg, IsWithin, Lacks};
 
 use crate::scene::scene_of;
-use esr_svg::{Parts, parts_of};
+use esr_lint::Notes;
+use esr_svg::{MAX_ERROR_LETTERS, Parts, parts_of};
 use esr_text::{is_attributes, is_markup};
 use esr_trace::{Audited, Part, QueryTrace, trace_of};
 use esr_views::{AuditedQuery, QueryView};
@@ -63,33 +64,72 @@ fn element(alloc: Global, parts: Parts) -> Result<String, AllocError>
     Ok(text)
 }
 
-/// The picture of the audit of a query of which the history tells this.
+/// Returns the picture of the audit of a query, with the lines with errors of its script in a box at the top.
 fn picture_with<'a>(
     alloc: Global,
     audited: &'a Audited<'a>,
     trace: &'a QueryTrace,
+    errors: Vec<String>,
 ) -> Result<String, AllocError>
     ensures { IfOk result (λ text. IsSvg (string_bytes text)) }
 {
-    let scene = scene_of(alloc, audited, trace)?;
+    let mut scene = scene_of(alloc, audited, trace)?;
+    scene.errors = errors;
     let parts = parts_of(alloc, &scene)?;
     element(alloc, parts)
 }
 
-/// The picture of the audit of a query.
+/// Returns the picture of the audit of a query.
 pub fn picture<'a>(alloc: Global, audited: &'a Audited<'a>) -> Result<String, AllocError>
     ensures { IfOk result (λ text. IsSvg (string_bytes text)) }
 {
     let trace = trace_of(alloc, audited.history, audited.finding.query)?;
-    picture_with(alloc, audited, &trace)
+    picture_with(alloc, audited, &trace, Vec::new(alloc))
 }
 
-/// The bytes of a picture.
-fn draw<'a>(alloc: Global, audited: &'a Audited<'a>) -> Result<Vec<u8>, AllocError>
+/// Returns the bytes of a picture.
+fn draw<'a>(
+    alloc: Global,
+    audited: &'a Audited<'a>,
+    errors: Vec<String>,
+) -> Result<Vec<u8>, AllocError>
     ensures { IfOk result (λ text. IsSvg text.items) }
 {
-    let text = picture(alloc, audited)?;
+    let trace = trace_of(alloc, audited.history, audited.finding.query)?;
+    let text = picture_with(alloc, audited, &trace, errors)?;
     Ok(text.into_bytes())
+}
+
+/// Returns the lines of the box: how many lines have errors, and the first of them.
+fn lines_of(alloc: Global, notes: &Notes) -> Result<Vec<String>, AllocError> {
+    let mut lines = Vec::new(alloc);
+    let count = notes.count();
+    if count == 0 {
+        return Ok(lines);
+    }
+    let heading = match count {
+        1 => format!(in alloc; "1 line of the script has an error and is not drawn:")?,
+        _ => format!(in alloc; "{count} lines of the script have errors and are not drawn:")?,
+    };
+    lines.push(heading)?;
+    for line in notes.text(alloc)?.lines() {
+        let mut text = String::new(alloc);
+        for letter in line.chars().take(MAX_ERROR_LETTERS) {
+            text.push(letter)?;
+        }
+        lines.push(text)?;
+    }
+    Ok(lines)
+}
+
+/// Returns the parts of an answer that a picture shows.
+fn audited_of(audited_query: &AuditedQuery) -> Audited<'_> {
+    Audited {
+        items: &audited_query.items,
+        transactions: &audited_query.transactions,
+        history: &audited_query.history,
+        finding: &audited_query.finding,
+    }
 }
 
 /// A picture of the audit of a query: an SVG, by itself or as a part of a page.
@@ -103,13 +143,26 @@ impl QueryView for Drawing {
         alloc: Global,
         audited_query: &mut AuditedQuery,
     ) -> Result<Vec<u8>, AllocError> {
-        let audited = Audited {
-            items: &audited_query.items,
-            transactions: &audited_query.transactions,
-            history: &audited_query.history,
-            finding: &audited_query.finding,
-        };
-        draw(alloc, &audited)
+        draw(alloc, &audited_of(audited_query), Vec::new(alloc))
+    }
+}
+
+/// A picture with the lines with errors of its script in a box at the top.
+#[derive(Drop)]
+pub struct NotedDrawing<'a> {
+    pub notes: &'a Notes,
+}
+
+impl QueryView for NotedDrawing<'_> {
+    ghost IsTextOf = { λ _ _ _ text. IsSvg text };
+
+    fn text_of(
+        &self,
+        alloc: Global,
+        audited_query: &mut AuditedQuery,
+    ) -> Result<Vec<u8>, AllocError> {
+        let errors = lines_of(alloc, self.notes)?;
+        draw(alloc, &audited_of(audited_query), errors)
     }
 }
 
@@ -122,6 +175,6 @@ impl Part for Drawing {
         _: &[u32],
         trace: &QueryTrace,
     ) -> Result<(), AllocError> {
-        out.push_str(&picture_with(alloc, audited, trace)?)
+        out.push_str(&picture_with(alloc, audited, trace, Vec::new(alloc))?)
     }
 }

@@ -1,11 +1,11 @@
-//! Draws the audit of a committed query as an SVG: what is drawn is chosen and found here, as a scene of plain data, which
-//! `esr_svg` draws.
+//! Draws the audit of a committed query as SVG. This crate selects the content as a scene of plain data, and `esr_svg`
+//! renders it.
 //!
-//! It is a subcommand, written by a proved crate, since a tool beside the program would have to run scripts itself: a
-//! bundle has no values. It draws lanes, and not the network with its cut and flow, which tells nothing to whoever does
-//! not know it: a lane is a chain and a line is a cut, so the picture shows what the audit decides. What it shows is
-//! promised by no clause, but that it is one element in which each other is closed; `checks/pictures` compares it with a
-//! replay of the script.
+//! Drawing is a subcommand because a separate tool would have to run scripts itself: a bundle contains no values. The
+//! picture shows lanes rather than the network with its cut and flow, which mean nothing to a reader who does not know
+//! them. A lane is a chain of the network and the line across the lanes is a cut, so the picture shows the decision of
+//! the audit. No clause specifies the drawing, except that it is one well-formed element; `checks/pictures` compares it
+//! with a replay of the script.
 #![tactic(auto)]
 
 mod choice;
@@ -16,4 +16,4 @@ mod order;
 mod scene;
 mod values;
 
-pub use drawing::{Drawing, picture};
+pub use drawing::{Drawing, NotedDrawing, picture};

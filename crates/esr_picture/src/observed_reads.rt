@@ -5,7 +5,7 @@
 use esr_items::ItemId;
 use esr_report::name_of_transaction;
 use esr_svg::{LaneReads, Stray, Strays};
-use esr_trace::{Audited, End, ObservedRead, QueryTrace};
+use esr_trace::{Audited, ObservedRead, QueryTrace, WriterEnd};
 use std::alloc::{AllocError, Global};
 
 /// Adds a value that is not there yet.
@@ -43,7 +43,7 @@ pub fn count_of(trace: &QueryTrace, item: ItemId, value: i64) -> u64 {
 /// Whether a value that was read is a version of its item.
 fn is_kept(trace: &QueryTrace, observed: &ObservedRead) -> bool {
     match observed.writer {
-        Some(writer) => trace.end(writer) == End::Committed && !observed.overwritten,
+        Some(writer) => trace.end(writer) == WriterEnd::Committed && !observed.overwritten,
         None => true,
     }
 }
@@ -79,11 +79,11 @@ fn fate_of(
         .facts(writer)
         .is_some_and(|facts| facts.end.is_some());
     match trace.end(writer) {
-        End::Aborted => Some("aborted"),
-        End::Later if has_ended => Some("committed only later"),
-        End::Later => Some("never ended"),
-        End::Committed if observed.overwritten => Some("wrote over it"),
-        End::Committed => None,
+        WriterEnd::Aborted => Some("aborted"),
+        WriterEnd::Later if has_ended => Some("committed later"),
+        WriterEnd::Later => Some("never ended"),
+        WriterEnd::Committed if observed.overwritten => Some("overwrote it"),
+        WriterEnd::Committed => None,
     }
 }
 

@@ -11,7 +11,7 @@ use esr_cert::Chain;
 use esr_items::{ItemId, Metric};
 use esr_report::name_of_transaction;
 use esr_svg::{
-    Arrow, Lane, MAX_LANES, MAX_UPDATES, Scene, Strays, Stretch, Update, fitting_updates,
+    Arrow, Lane, LaneSegment, MAX_LANES, MAX_UPDATES, Scene, Strays, Update, fitting_updates,
 };
 use esr_trace::{Audited, QueryTrace, sentences_of};
 use std::alloc::{AllocError, Global};
@@ -40,7 +40,7 @@ fn drawn_in_order(alloc: Global, choice: &Choice) -> Result<Vec<u32>, AllocError
 }
 
 /// The values of the pieces of a lane.
-fn values_of(alloc: Global, stretches: &[Stretch]) -> Result<Vec<i64>, AllocError> {
+fn values_of(alloc: Global, stretches: &[LaneSegment]) -> Result<Vec<i64>, AllocError> {
     let mut values = Vec::new(alloc);
     for stretch in stretches {
         if stretch.versions == 1 {
@@ -115,8 +115,8 @@ impl<'a> SceneParts<'a> {
     }
 
     /// A stretch of one version.
-    fn version(&self, item: ItemId, from: u8, value: i64, seen: u64) -> Stretch {
-        Stretch {
+    fn version(&self, item: ItemId, from: u8, value: i64, seen: u64) -> LaneSegment {
+        LaneSegment {
             from,
             value,
             versions: 1,
@@ -143,7 +143,7 @@ impl<'a> SceneParts<'a> {
         alloc: Global,
         chain: &Chain,
         lane: usize,
-    ) -> Result<Vec<Stretch>, AllocError> {
+    ) -> Result<Vec<LaneSegment>, AllocError> {
         let begun = self.audited_query.history.begun_count();
         let by_writer = seen_by_writer(alloc, self.trace, chain.item, begun)?;
         let at_start = by_writer.first().copied().unwrap_or(0);
@@ -198,7 +198,7 @@ impl<'a> SceneParts<'a> {
         &self,
         alloc: Global,
         item: ItemId,
-        stretches: &[Stretch],
+        stretches: &[LaneSegment],
     ) -> Result<Strays<'a>, AllocError> {
         let values = values_of(alloc, stretches)?;
         Ok(strays_of(self.audited_query, self.trace, item, &values))
@@ -287,6 +287,7 @@ impl<'a> SceneParts<'a> {
         let finding = self.audited_query.finding;
         let (others_off, others_sum) = others_off(&self.choice);
         Scene {
+            errors: Vec::new(*sentences.allocator()),
             query: name_of_transaction(self.audited_query.transactions, finding.query),
             distance: finding.distance,
             import: finding.import,

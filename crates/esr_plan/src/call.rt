@@ -14,7 +14,7 @@ ghost use Rattle.esr_plan.specs.Text.{subject_of};
 
 use esr_history::{Event, Reply, TxnId};
 use esr_items::ItemId;
-use esr_report::Subject;
+use esr_report::ReplyNames;
 
 /// A transaction that a line names.
 #[derive(Clone, Copy)]
@@ -33,7 +33,7 @@ pub struct Operand<'a> {
 
 /// What a transaction begins as.
 #[derive(Clone, Copy)]
-pub enum Kind {
+pub enum BeginKind {
     Update,
     Query,
     StrictQuery,
@@ -44,7 +44,7 @@ pub enum Kind {
 pub enum Call<'a> {
     Begin {
         name: &'a str,
-        kind: Kind,
+        kind: BeginKind,
         limit: u64,
     },
     Read {
@@ -100,31 +100,31 @@ impl<'a> Call<'a> {
     }
 
     /// What the call names.
-    pub fn subject(&self) -> Subject<'a>
+    pub fn subject(&self) -> ReplyNames<'a>
         ensures { named_by result ≡ subject_of (command_of self.now) }
     {
-        let none = Subject {
+        let none = ReplyNames {
             txn: "",
             item: "",
             value: 0,
         };
         match self {
-            Call::Begin { name, .. } => Subject { txn: name, ..none },
-            Call::Read { txn, item } => Subject {
+            Call::Begin { name, .. } => ReplyNames { txn: name, ..none },
+            Call::Read { txn, item } => ReplyNames {
                 txn: txn.name,
                 item: item.name,
                 value: 0,
             },
-            Call::Write { txn, item, value } => Subject {
+            Call::Write { txn, item, value } => ReplyNames {
                 txn: txn.name,
                 item: item.name,
                 value: *value,
             },
-            Call::Commit { txn } => Subject {
+            Call::Commit { txn } => ReplyNames {
                 txn: txn.name,
                 ..none
             },
-            Call::Abort { txn } => Subject {
+            Call::Abort { txn } => ReplyNames {
                 txn: txn.name,
                 ..none
             },
@@ -156,16 +156,16 @@ fn transaction(replies: &[Reply], caller: Caller<'_>) -> TxnId
 }
 
 /// The event that begins a transaction of the kind.
-fn begin_event(kind: Kind, limit: u64) -> Event
+fn begin_event(kind: BeginKind, limit: u64) -> Event
     ensures { result ≡ begin_event kind limit }
 {
     match kind {
-        Kind::Update => Event::BeginUpdate { limit },
-        Kind::Query => Event::BeginQuery {
+        BeginKind::Update => Event::BeginUpdate { limit },
+        BeginKind::Query => Event::BeginQuery {
             limit,
             strict: false,
         },
-        Kind::StrictQuery => Event::BeginQuery {
+        BeginKind::StrictQuery => Event::BeginQuery {
             limit,
             strict: true,
         },

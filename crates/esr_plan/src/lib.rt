@@ -1,5 +1,5 @@
-//! Plans: what a drive file asks for, and the text of what came of it. Neither needs a thread, and both are most of
-//! what a drive has to prove, so they are apart from what runs the blocks.
+//! Plans: the parsed content of a drive file, and the text of its results. They use no threads and account for most of
+//! the proof of a drive, so they are separate from `esr_drive`, which runs the blocks.
 #![tactic(auto)]
 
 mod call;
@@ -11,7 +11,7 @@ mod reader;
 mod table;
 mod text;
 
-pub use call::{Call, Kind, event_of};
+pub use call::{BeginKind, Call, event_of};
 pub use draft::MAX_BLOCKS;
 pub use drive_plan::{DrivePlan, drive_plan_of};
 pub use fault::DriveFault;

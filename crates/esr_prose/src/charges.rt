@@ -5,11 +5,11 @@ use crate::subject::Subject;
 use esr_history::TxnId;
 use esr_items::ItemId;
 use esr_text::{first, push_count, push_number, push_value};
-use esr_trace::{Cause, Charge, MAX_NAMES, QueryTrace, Sum, push_rest};
+use esr_trace::{Cause, ChargeGroup, MAX_NAMES, QueryTrace, Sum, push_rest};
 use std::alloc::{AllocError, Global};
 
 /// The values before and behind an update's change.
-fn push_change(out: &mut String, charge: &Charge) -> Result<(), AllocError> {
+fn push_change(out: &mut String, charge: &ChargeGroup) -> Result<(), AllocError> {
     out.push_str(" from ")?;
     push_value(out, charge.old)?;
     out.push_str(" to ")?;
@@ -17,7 +17,11 @@ fn push_change(out: &mut String, charge: &Charge) -> Result<(), AllocError> {
 }
 
 /// Why a charge was made.
-fn push_cause(out: &mut String, subject: &Subject<'_>, charge: &Charge) -> Result<(), AllocError> {
+fn push_cause(
+    out: &mut String,
+    subject: &Subject<'_>,
+    charge: &ChargeGroup,
+) -> Result<(), AllocError> {
     let query = subject.name(subject.query);
     let update = subject.name(charge.update);
     let item = subject.item(charge.item);
@@ -65,7 +69,11 @@ fn push_weight(out: &mut String, subject: &Subject<'_>, item: ItemId) -> Result<
 }
 
 /// A charge.
-fn push_charge(out: &mut String, subject: &Subject<'_>, charge: &Charge) -> Result<(), AllocError> {
+fn push_charge(
+    out: &mut String,
+    subject: &Subject<'_>,
+    charge: &ChargeGroup,
+) -> Result<(), AllocError> {
     push_number(out, charge.amount)?;
     out.push_str(" in ")?;
     subject.push_line(out, charge.place)?;

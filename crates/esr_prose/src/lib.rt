@@ -1,8 +1,8 @@
-//! What is told of a query in words, for those who know nothing of the theory: what it read and whose that was, what it
-//! was charged, by whom and why, and which moment is the nearest to what it read.
+//! Describes a query in sentences for readers who do not know the theory: its reads and the writers of the values, each
+//! charge with its cause, and the moment that is nearest to the values read.
 //!
-//! Prose is advice: that it is safe and ends is proved, and what it says is promised by no clause. What happened, and
-//! the sentences that a picture says too, are taken from `esr_trace`.
+//! Prose is advice: it is proved safe and terminating, and no clause specifies its text. The trace, and the sentences
+//! that a picture shows too, come from `esr_trace`.
 #![tactic(auto)]
 
 mod charges;

@@ -102,13 +102,13 @@ fn push_there(out: &mut String, subject: &Subject<'_>, there: There) -> Result<(
     if there.off == 0 {
         return out.push_str(", as read");
     }
-    out.push_str(": what was read is off by ")?;
+    out.push_str(": the values read are off by ")?;
     push_number(out, there.off)?;
     let weight = subject.weight(there.item);
     if weight < 2 {
         return Ok(());
     }
-    out.push_str(", as each difference counts ")?;
+    out.push_str(", because differences are weighted by ")?;
     push_number(out, weight)?;
     out.push_str(" times")
 }
@@ -147,13 +147,13 @@ fn push_sums(out: &mut String, items: &[There], read: i64) -> Result<(), AllocEr
     for there in items {
         sum = sum.saturating_add(there.value);
     }
-    out.push_str("Together they were ")?;
+    out.push_str("In total they were ")?;
     push_value(out, sum)?;
     let gap = sum.abs_diff(read);
     if gap == 0 {
-        return out.push_str(" there, which is what the report adds up to.");
+        return out.push_str(" there, the total that the report computes.");
     }
-    out.push_str(" there: the sum of what was read is off by ")?;
+    out.push_str(" there: the sum of the values read is off by ")?;
     push_number(out, gap)?;
     out.push('.')
 }
@@ -167,9 +167,9 @@ fn push_all(
     items: &[There],
 ) -> Result<(), AllocError> {
     add_paragraph(alloc, blocks)?.push_str(if items.len() == 1 {
-        "At the nearest moment the value was:"
+        "In the nearest state, the value was:"
     } else {
-        "At the nearest moment the values were:"
+        "In the nearest state, the values were:"
     })?;
     push_items(alloc, blocks, subject, items)?;
     match sum_of_reads(trace, subject) {

@@ -1,6 +1,6 @@
 //! Prose about one query of a script, however it ended, as lines of a width at which no terminal wraps them.
 
-use crate::prose::{Block, Kind, prose_of};
+use crate::prose::{Block, BlockKind, prose_of};
 use crate::subject::Subject;
 use esr_audit::{AuditError, Finding, audit_query};
 use esr_history::TxnId;
@@ -32,10 +32,10 @@ fn push_lines(
 /// Appends a block, with a blank line before it where it is a paragraph and not the first.
 fn push_block(alloc: Global, out: &mut String, block: &Block) -> Result<(), AllocError> {
     let (first, others) = match block.kind {
-        Kind::Paragraph => ("", ""),
-        Kind::Point => ("  - ", "    "),
+        BlockKind::Paragraph => ("", ""),
+        BlockKind::Point => ("  - ", "    "),
     };
-    if block.kind == Kind::Paragraph && !out.is_empty() {
+    if block.kind == BlockKind::Paragraph && !out.is_empty() {
         out.push('\n')?;
     }
     let mut lines = Vec::new(alloc);

@@ -1,6 +1,6 @@
 //! Prose about an audited query as a part of a page: paragraphs and lists.
 
-use crate::prose::{Block, Kind, prose_of};
+use crate::prose::{Block, BlockKind, prose_of};
 use crate::subject::Subject;
 use esr_trace::{Audited, Part, QueryTrace};
 use std::alloc::{AllocError, Global};
@@ -9,7 +9,7 @@ use std::alloc::{AllocError, Global};
 fn push_blocks(out: &mut String, blocks: &[Block]) -> Result<(), AllocError> {
     let mut is_in_list = false;
     for block in blocks {
-        let is_point = block.kind == Kind::Point;
+        let is_point = block.kind == BlockKind::Point;
         if is_point != is_in_list {
             out.push_str(if is_point { "<ul>\n" } else { "</ul>\n" })?;
             is_in_list = is_point;

@@ -16,7 +16,7 @@ pub const MAX_POINTS: usize = 12;
 
 /// What a block of prose is.
 #[derive(Clone, Copy)]
-pub enum Kind {
+pub enum BlockKind {
     Paragraph,
     /// A point of a list below a paragraph.
     Point,
@@ -25,7 +25,7 @@ pub enum Kind {
 /// A block of prose.
 #[derive(Drop)]
 pub struct Block {
-    pub kind: Kind,
+    pub kind: BlockKind,
     pub words: String,
 }
 
@@ -33,7 +33,7 @@ pub struct Block {
 fn add_block(
     alloc: Global,
     blocks: &mut Vec<Block>,
-    kind: Kind,
+    kind: BlockKind,
 ) -> Result<&mut String, AllocError> {
     let words = String::new(alloc);
     blocks.push(Block { kind, words })?;
@@ -45,12 +45,12 @@ fn add_block(
 
 /// The words of one more paragraph.
 pub fn add_paragraph(alloc: Global, blocks: &mut Vec<Block>) -> Result<&mut String, AllocError> {
-    add_block(alloc, blocks, Kind::Paragraph)
+    add_block(alloc, blocks, BlockKind::Paragraph)
 }
 
 /// The words of one more point.
 pub fn add_point(alloc: Global, blocks: &mut Vec<Block>) -> Result<&mut String, AllocError> {
-    add_block(alloc, blocks, Kind::Point)
+    add_block(alloc, blocks, BlockKind::Point)
 }
 
 /// How many more there are of some things than are listed.
@@ -77,11 +77,11 @@ fn push_unfinished(out: &mut String, subject: &Subject<'_>) -> Result<(), AllocE
     out.push_str(subject.name(subject.query))?;
     if subject.ending(subject.query) == Ending::Aborted {
         return out.push_str(
-            " aborted, so no moment is compared with it. This is what it had read and been charged until then.",
+            " aborted, so it is not compared with any state. These are its reads and charges up to the abort.",
         );
     }
     out.push_str(
-        " has not committed, so no moment is compared with it yet. If it committed now, it would be off by at most the ",
+        " has not committed, so it is not compared with any state yet. If it committed now, its error would be at most the ",
     )?;
     push_number(out, subject.history.import(subject.query))?;
     out.push_str(" that it has been charged.")
@@ -156,17 +156,17 @@ fn push_course(
 
 /// What the charges and the distance have to do with one another.
 fn push_moral(out: &mut String, finding: &Finding) -> Result<(), AllocError> {
-    out.push_str("A charge is made before anybody knows how things end: of the ")?;
+    out.push_str("Charges are made before the outcome is known: of the ")?;
     push_number(out, finding.import)?;
     out.push_str(" that it was charged, ")?;
     if finding.distance == 0 {
-        return out.push_str("nothing was needed in the end.");
+        return out.push_str("none was necessary.");
     }
     if finding.distance == finding.import {
-        return out.push_str("all was needed in the end.");
+        return out.push_str("all were necessary.");
     }
     push_number(out, finding.distance)?;
-    out.push_str(" was needed in the end.")
+    out.push_str(" was necessary.")
 }
 
 /// What only the audit of a query can tell.

@@ -45,9 +45,9 @@ fn push_source(
     }
     out.push_str(", which ")?;
     out.push_str(subject.name(writer))?;
-    out.push_str(" had written and not committed")?;
+    out.push_str(" had written but not committed")?;
     if observed.overwritten {
-        out.push_str(", and wrote over later")?;
+        out.push_str(", and overwrote later")?;
     }
     push_fate(out, subject, writer)
 }
@@ -109,7 +109,7 @@ fn push_nothing(
     if subject.finding.is_some() {
         return Ok(());
     }
-    add_paragraph(alloc, blocks)?.push_str("It read nothing.")
+    add_paragraph(alloc, blocks)?.push_str("It read no item.")
 }
 
 /// How many values were read.
@@ -120,7 +120,7 @@ fn push_intro(out: &mut String, count: usize) -> Result<(), AllocError> {
 
 /// What the reads add up to.
 fn push_sum(out: &mut String, sum: i64) -> Result<(), AllocError> {
-    out.push_str("Together they are ")?;
+    out.push_str("In total they are ")?;
     push_value(out, sum)?;
     out.push('.')
 }

@@ -1,6 +1,6 @@
 -- What an event names, read from the struct that lends it.
-use Rattle.esr_report.specs.declared.lines.Subject.{Subject}
+use Rattle.esr_report.specs.declared.lines.ReplyNames.{ReplyNames}
 use Rattle.esr_report.specs.Lines.{Named}
 
-abbrev pub named_by : Subject → Named
+abbrev pub named_by : ReplyNames → Named
 named_by s = record { txn = s.txn.now; item = s.item.now; value = s.value }

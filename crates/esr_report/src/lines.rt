@@ -26,7 +26,7 @@ pub enum LineError {
 /// What an event names, for the line that answers it: a transaction, an item and
 /// a value to write, as far as it has them.
 #[derive(Clone, Copy)]
-pub struct Subject<'a> {
+pub struct ReplyNames<'a> {
     pub txn: &'a str,
     pub item: &'a str,
     pub value: i64,
@@ -200,7 +200,7 @@ pub fn refusal_line<N: TransactionNames>(
 pub fn reply_line<N: TransactionNames>(
     out: &mut Vec<u8>,
     names: &N,
-    subject: Subject<'_>,
+    subject: ReplyNames<'_>,
     reply: Reply,
 ) -> Result<(), AllocError>
     ensures ok { OnOk result (out.new.items ≡ out.old.items

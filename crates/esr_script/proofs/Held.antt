@@ -9,7 +9,7 @@ use Rattle.esr_grammar.specs.declared.limits.TheConstants.{MAX_LINES, MAX_LINE_B
 use Rattle.esr_script.specs.Text.{ScriptState, Executes, EndsIn, answer, outcome, RunFault}
 use Rattle.esr_script.specs.Run.{IsRunBy}
 use Rattle.esr_grammar.specs.Lines.{line_len, IsNext}
-use Rattle.esr_script.specs.Parts.{TxnStatus, IsAnswer, IsHeldRun, IsUnread, is_read_fault, is_write_fault}
+use Rattle.esr_script.specs.Parts.{InputProgress, IsAnswer, IsHeldRun, IsUnread, is_read_fault, is_write_fault}
 use Rattle.esr_grammar.proofs.Prefix.{line_len-le}
 use Rattle.esr_script.proofs.Steps.{advance, all_read, text_begins, at_memory, at_long, at_many, at_fault_line, at_last, at_fault_last, at_read}
 use Rattle.std.proofs.lemmas.Grind.{common_steps}
@@ -21,17 +21,17 @@ has_bytes next.TooLong bytes h other = omega (arith, h, line_len-le bytes)
 has_bytes next.More bytes h other = absurd (other refl)
 
 -- where all output was sent
-pub all_sent : {input : List ℕ} {left : Option (List ℕ)} {bytes : List ℕ} {n : ℕ} {s : ScriptState} (w : List ℕ) → TxnStatus input left bytes n s w → TxnStatus input left bytes n s (w ++ [])
+pub all_sent : {input : List ℕ} {left : Option (List ℕ)} {bytes : List ℕ} {n : ℕ} {s : ScriptState} (w : List ℕ) → InputProgress input left bytes n s w → InputProgress input left bytes n s (w ++ [])
 all_sent w here = rw append-nil here
 
 -- where the output has grown, and some of it is gone
 pub all_grown : {input : List ℕ} {left : Option (List ℕ)} {bytes : List ℕ} {n : ℕ} {s : ScriptState} (sent out t gone grown : List ℕ) → out ++ t ≡ gone ++ grown
-    → TxnStatus input left bytes n s ((sent ++ out) ++ t) → TxnStatus input left bytes n s ((sent ++ gone) ++ grown)
+    → InputProgress input left bytes n s ((sent ++ out) ++ t) → InputProgress input left bytes n s ((sent ++ gone) ++ grown)
 all_grown sent out t gone grown grew here = rw (append_assoc sent out t ∙ ap (λ w. sent ++ w) grew ∙ sym (append_assoc sent gone grown)) at here
 
 -- where some of the output is gone
 pub some_gone : {input : List ℕ} {left : Option (List ℕ)} {bytes : List ℕ} {n : ℕ} {s : ScriptState} (sent out gone rest : List ℕ) → out ≡ gone ++ rest
-    → TxnStatus input left bytes n s (sent ++ out) → TxnStatus input left bytes n s ((sent ++ gone) ++ rest)
+    → InputProgress input left bytes n s (sent ++ out) → InputProgress input left bytes n s ((sent ++ gone) ++ rest)
 some_gone sent out gone rest is here = rw (ap (λ w. sent ++ w) is ∙ sym (append_assoc sent gone rest)) at here
 
 -- ---- what counts as taken
@@ -70,15 +70,15 @@ nothing_read (Some x) None h = absurd h
 nothing_read (Some x) (Some y) h = sym h
 
 -- where a read gave nothing
-pub unread : (input : List ℕ) (before after : Option (List ℕ)) (bytes same : List ℕ) (n : ℕ) (s : ScriptState) (w : List ℕ) → TxnStatus input before bytes n s w → same ≡ bytes → Keeps before after
-    → TxnStatus input after same n s w
+pub unread : (input : List ℕ) (before after : Option (List ℕ)) (bytes same : List ℕ) (n : ℕ) (s : ScriptState) (w : List ℕ) → InputProgress input before bytes n s w → same ≡ bytes → Keeps before after
+    → InputProgress input after same n s w
 unread input before after bytes same n s w here is kept = advance input n s w before after bytes same [] here (is ∙ sym (append-nil bytes)) (nothing_read before after kept)
 
 pub is_some : (bytes seen : List ℕ) (empty : Bool) → empty ≡ (length seen == 0) → empty ≡ false → seen ≡ bytes → 0 < length bytes
 is_some [] seen empty is not_empty same = grind (arith, eq-eqb)
 is_some (b ∷ bs) seen empty is not_empty same = omega arith
 
-module _ (input : List ℕ) (left : Option (List ℕ)) (bytes : List ℕ) (n : ℕ) (s : ScriptState) (sent out : List ℕ) (here : TxnStatus input left bytes n s (sent ++ out)) where
+module _ (input : List ℕ) (left : Option (List ℕ)) (bytes : List ℕ) (n : ℕ) (s : ScriptState) (sent out : List ℕ) (here : InputProgress input left bytes n s (sent ++ out)) where
   text : BeginsWith (outcome input).text (sent ++ out)
   text = text_begins input left bytes n s (sent ++ out) here
 
@@ -121,7 +121,7 @@ module _ (input : List ℕ) (left : Option (List ℕ)) (bytes : List ℕ) (n : �
 
 -- the last line, by how it was answered
 pub held_last : (taken : Option (List ℕ)) (input : List ℕ) (left : Option (List ℕ)) (bytes : List ℕ) (n : ℕ) (s : ScriptState) (sent out : List ℕ)
-    → TxnStatus input left bytes n s (sent ++ out) → IsAtEnd left → line_len bytes ≡ length bytes → length bytes ≤ MAX_LINE_BYTES → 0 < length bytes → n ≢ MAX_LINES
+    → InputProgress input left bytes n s (sent ++ out) → IsAtEnd left → line_len bytes ≡ length bytes → length bytes ≤ MAX_LINE_BYTES → 0 < length bytes → n ≢ MAX_LINES
     → (r : Result (Unit {0}) RunFault) (s' : ScriptState) (grown : List ℕ) → IsAnswer taken (answer s bytes) s' out grown r
     → (gone : List ℕ) × IsUnread taken gone × IsHeldRun input left grown r (sent ++ gone)
 held_last taken input left bytes n s sent out here end plain short some few (Ok done) s' grown a =

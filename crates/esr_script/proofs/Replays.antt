@@ -16,13 +16,13 @@ use Rattle.esr_script.specs.Certify.{IsBundleLine}
 use Rattle.esr_script.specs.Ends.{EndsBy}
 use Rattle.esr_script.specs.Replays.{IsReplay, IsLineOf}
 use Rattle.esr_grammar.specs.Lines.{line_len, IsNext}
-use Rattle.esr_script.specs.Parts.{TxnStatus, IsAnswer}
+use Rattle.esr_script.specs.Parts.{InputProgress, IsAnswer}
 use Rattle.esr_script.proofs.Steps.{all_read, step_line, at_long, at_many, at_last, at_fault_line, at_fault_last, state_at_last}
 
 abbrev fault_of : Outcome → Option RunFault
 fault_of o = o.fault
 
-module _ (input : List ℕ) (left : Option (List ℕ)) (bytes : List ℕ) (n : ℕ) (s : ScriptState) (w : List ℕ) (here : TxnStatus input left bytes n s w) where
+module _ (input : List ℕ) (left : Option (List ℕ)) (bytes : List ℕ) (n : ℕ) (s : ScriptState) (w : List ℕ) (here : InputProgress input left bytes n s w) where
   pub replay_many : n ≡ MAX_LINES → 0 < length bytes → EndsBy input fault.TooManyLines
   replay_many many some = ap fault_of (at_many input left bytes n s w here many some)
 
@@ -34,7 +34,7 @@ module _ (input : List ℕ) (left : Option (List ℕ)) (bytes : List ℕ) (n : �
       ap fault_of (at_fault_line input left bytes n s w here fault.HistoryFull few (omega (arith, is.0, is.1)) (omega (arith, is.0, is.2)) (ap (λ j. answer s (take j bytes)) (sym is.0) ∙ full))
 
   pub replay_more : (k : ℕ) (s' : ScriptState) (t : List ℕ) → n ≢ MAX_LINES → IsNext (next.Line k) bytes → answer s (take k bytes) ≡ Ok (s', t)
-      → TxnStatus input left (drop (k + 1) bytes) (n + 1) s' (w ++ t)
+      → InputProgress input left (drop (k + 1) bytes) (n + 1) s' (w ++ t)
   replay_more k s' t few is ok = grind (arith, step_line)
 
   pub replay_ended : IsAtEnd left → line_len bytes ≡ length bytes → length bytes ≤ MAX_LINE_BYTES → 0 < length bytes → n ≢ MAX_LINES

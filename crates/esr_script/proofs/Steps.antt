@@ -8,7 +8,7 @@ use Rattle.esr_grammar.specs.declared.limits.TheConstants.{MAX_LINES, MAX_LINE_B
 use Rattle.esr_script.specs.Text.{ScriptState, start, answer, next_state, state_after, final, Outcome, outcome, outcome_from, outcome_of_lines, preceded_by, stopped, RunFault}
 use Rattle.esr_base.specs.Watch.{BeginsWith}
 use Rattle.esr_script.specs.Run.{IsWholeText}
-use Rattle.esr_script.specs.Parts.{Progress, TxnStatus}
+use Rattle.esr_script.specs.Parts.{Progress, InputProgress}
 use Rattle.esr_grammar.proofs.Cutting.{lines-line, whole-line, front, behind_front, plain-front, split-front, lines-last, whole-none, Begins, begins}
 use Rattle.esr_grammar.proofs.Prefix.{line_len-le}
 
@@ -97,7 +97,7 @@ module _ (input : List ℕ) (n : ℕ) (s : ScriptState) (w : List ℕ) where
 
 -- more bytes came ahead
 pub advance : (input : List ℕ) (n : ℕ) (s : ScriptState) (w : List ℕ) (before after : Option (List ℕ)) (bytes grown more : List ℕ)
-    → TxnStatus input before bytes n s w → grown ≡ bytes ++ more → Consumes before after more → TxnStatus input after grown n s w
+    → InputProgress input before bytes n s w → grown ≡ bytes ++ more → Consumes before after more → InputProgress input after grown n s w
 advance input n s w None after bytes grown more here g taken = cc (here.known)
 advance input n s w (Some x) None bytes grown more here g taken = absurd taken
 advance input n s w (Some x) (Some y) bytes grown more here g taken = grind (arith, append_assoc bytes more y)
@@ -111,27 +111,27 @@ consumed None rest taken e split = cc
 consumed (Some x) rest taken e split = let same : x ≡ rest = cc in split ∙ ap (λ r. taken ++ r) (sym same)
 
 module _ (input : List ℕ) (left : Option (List ℕ)) (bytes : List ℕ) (n : ℕ) (s : ScriptState) (w : List ℕ) where
-  pub step_line : TxnStatus input left bytes n s w → (s' : ScriptState) (t : List ℕ) → n ≢ MAX_LINES
+  pub step_line : InputProgress input left bytes n s w → (s' : ScriptState) (t : List ℕ) → n ≢ MAX_LINES
       → line_len bytes < length bytes → line_len bytes ≤ MAX_LINE_BYTES → answer s (front bytes) ≡ Ok (s', t)
-      → TxnStatus input left (behind_front bytes) (n + 1) s' (w ++ t)
+      → InputProgress input left (behind_front bytes) (n + 1) s' (w ++ t)
   step_line here s' t few ended short is = grind (arith, step input n s w bytes here.rest s' t here.progress few ended short is)
 
-  pub text_begins : TxnStatus input left bytes n s w → BeginsWith (outcome input).text w
+  pub text_begins : InputProgress input left bytes n s w → BeginsWith (outcome input).text w
   text_begins here = begins_with input n s w (bytes ++ here.rest) here.progress
 
-  pub at_memory : TxnStatus input left bytes n s w → (count : ℕ) × (count ≤ length (lines input)) × IsWholeText (outcome_of_lines (take count (lines input))) w
+  pub at_memory : InputProgress input left bytes n s w → (count : ℕ) × (count ≤ length (lines input)) × IsWholeText (outcome_of_lines (take count (lines input))) w
   at_memory here = memory input n s w (bytes ++ here.rest) here.progress
 
-  pub at_long : TxnStatus input left bytes n s w → n ≢ MAX_LINES → MAX_LINE_BYTES < line_len bytes → outcome input ≡ record { text = w; fault = Some LineTooLong }
+  pub at_long : InputProgress input left bytes n s w → n ≢ MAX_LINES → MAX_LINE_BYTES < line_len bytes → outcome input ≡ record { text = w; fault = Some LineTooLong }
   at_long here few long =
       let b : Begins bytes here.rest = begins bytes here.rest (omega (arith, long, line_len-le bytes)) in
       whole input n s w (bytes ++ here.rest) (b.line ∷ b.more) here.progress b.is
       ∙ ap (preceded_by w) (outcome-long n s b.line b.more few (omega (arith, long, b.long))) ∙ preceded_by-stopped w LineTooLong
 
-  pub at_many : TxnStatus input left bytes n s w → n ≡ MAX_LINES → 0 < length bytes → outcome input ≡ record { text = w; fault = Some TooManyLines }
+  pub at_many : InputProgress input left bytes n s w → n ≡ MAX_LINES → 0 < length bytes → outcome input ≡ record { text = w; fault = Some TooManyLines }
   at_many here many some = grind (arith, begins bytes here.rest some, whole, outcome-many, preceded_by-stopped w TooManyLines)
 
-  pub at_fault_line : TxnStatus input left bytes n s w → (f : RunFault) → n ≢ MAX_LINES → line_len bytes < length bytes → line_len bytes ≤ MAX_LINE_BYTES
+  pub at_fault_line : InputProgress input left bytes n s w → (f : RunFault) → n ≢ MAX_LINES → line_len bytes < length bytes → line_len bytes ≤ MAX_LINE_BYTES
       → answer s (front bytes) ≡ Err f → outcome input ≡ record { text = w; fault = Some f }
   at_fault_line here f few ended short is =
       let size : length (front bytes) ≤ MAX_LINE_BYTES = omega (arith, length-take (line_len bytes) bytes, line_len-le bytes) in
@@ -141,29 +141,29 @@ module _ (input : List ℕ) (left : Option (List ℕ)) (bytes : List ℕ) (n : �
       ∙ ap (preceded_by w) (outcome-fault n s (front bytes) f (lines (behind_front bytes ++ here.rest)) few size is) ∙ preceded_by-stopped w f
 
   -- at the end of the input
-  pub all_read : TxnStatus input left bytes n s w → IsAtEnd left → Consumes (Some input) left input
+  pub all_read : InputProgress input left bytes n s w → IsAtEnd left → Consumes (Some input) left input
   all_read here end = consumed left here.rest input here.known (sym (append-nil input) ∙ ap (λ r. input ++ r) (sym (at_end left here.rest here.known end)))
 
-  pub state_at_last : TxnStatus input left bytes n s w → IsAtEnd left → line_len bytes ≡ length bytes → 0 < length bytes → (s' : ScriptState) (t : List ℕ) → answer s bytes ≡ Ok (s', t) → final input ≡ s'
+  pub state_at_last : InputProgress input left bytes n s w → IsAtEnd left → line_len bytes ≡ length bytes → 0 < length bytes → (s' : ScriptState) (t : List ℕ) → answer s bytes ≡ Ok (s', t) → final input ≡ s'
   state_at_last here end plain some s' t is =
       let all : bytes ++ here.rest ≡ bytes = ap (λ r. bytes ++ r) (at_end left here.rest here.known end) ∙ append-nil bytes in
       last_state input n s w (bytes ++ here.rest) bytes here.progress (ap lines all ∙ lines-last bytes plain some) s' t is
 
-  last_line : TxnStatus input left bytes n s w → IsAtEnd left → line_len bytes ≡ length bytes → 0 < length bytes → outcome input ≡ preceded_by w (outcome_from n s (bytes ∷ []))
+  last_line : InputProgress input left bytes n s w → IsAtEnd left → line_len bytes ≡ length bytes → 0 < length bytes → outcome input ≡ preceded_by w (outcome_from n s (bytes ∷ []))
   last_line here end plain some =
       grind (arith, at_end left here.rest here.known end, append-nil bytes, whole, lines-last bytes plain some)
 
-  pub at_last : TxnStatus input left bytes n s w → IsAtEnd left → line_len bytes ≡ length bytes → 0 < length bytes → length bytes ≤ MAX_LINE_BYTES → n ≢ MAX_LINES
+  pub at_last : InputProgress input left bytes n s w → IsAtEnd left → line_len bytes ≡ length bytes → 0 < length bytes → length bytes ≤ MAX_LINE_BYTES → n ≢ MAX_LINES
       → (s' : ScriptState) (t : List ℕ) → answer s bytes ≡ Ok (s', t) → outcome input ≡ record { text = w ++ t; fault = None }
   at_last here end plain some short few s' t is =
       last_line here end plain some ∙ ap (preceded_by w) (outcome-line n s s' bytes t [] few short is)
       ∙ preceded_by-preceded_by w t (outcome_from (n + 1) s' []) ∙ preceded_by-done (w ++ t) (n + 1) s'
 
-  pub at_fault_last : TxnStatus input left bytes n s w → IsAtEnd left → line_len bytes ≡ length bytes → 0 < length bytes → length bytes ≤ MAX_LINE_BYTES → n ≢ MAX_LINES
+  pub at_fault_last : InputProgress input left bytes n s w → IsAtEnd left → line_len bytes ≡ length bytes → 0 < length bytes → length bytes ≤ MAX_LINE_BYTES → n ≢ MAX_LINES
       → (f : RunFault) → answer s bytes ≡ Err f → outcome input ≡ record { text = w; fault = Some f }
   at_fault_last here end plain some short few f is =
       last_line here end plain some ∙ ap (preceded_by w) (outcome-fault n s bytes f [] few short is) ∙ preceded_by-stopped w f
 
   -- where a read failed
-  pub at_read : TxnStatus input left bytes n s w → line_len bytes ≡ length bytes → (taken : List ℕ) × Consumes (Some input) left taken × IsWholeText (outcome_of_lines (whole_lines taken)) w
+  pub at_read : InputProgress input left bytes n s w → line_len bytes ≡ length bytes → (taken : List ℕ) × Consumes (Some input) left taken × IsWholeText (outcome_of_lines (whole_lines taken)) w
   at_read here plain = grind (arith, append_assoc, whole-none bytes plain, append-nil, preceded_by-done w n s, consumed)

@@ -2,11 +2,12 @@
 use Rattle.std.specs.Prelude.{◌≡◌, ℕ, List, ◌++◌, Option, Result, map, length, flat_map}
 use Rattle.esr_history.specs.Serial.{committed_updates}
 use Rattle.esr_history.specs.Totals.{all_imports, all_exports}
-use Rattle.esr_audit.specs.Findings.{summary_of, committed_queries}
+use Rattle.esr_audit.specs.Findings.{AreSummaries, summary_of, committed_queries}
 use Rattle.esr_report.specs.Names.{name_of_transaction}
 use Rattle.esr_report.specs.Lines.{audit_line, order_line, totals_line}
 use Rattle.esr_items.specs.Weights.{weighted}
 use Rattle.esr_script.specs.Text.{ScriptState, final, RunFault}
+use Rattle.esr_script.specs.declared.audited_script.AuditedScript.{AuditedScript}
 use Rattle.esr_script.specs.Ends.{IsWrittenBy}
 
 -- the line of what is told of a query, by the names of the transactions: the query, its distance, its import, and the
@@ -27,3 +28,9 @@ audit_output s =
 -- The audit of a script, given the input, left these bytes of it, ended so and wrote this. It asks for no one query.
 abbrev pub IsAuditedBy : List ℕ → Option (List ℕ) → Result (Unit {0}) RunFault → List ℕ → Type 0
 IsAuditedBy input left r written = IsWrittenBy (λ text. text ≡ audit_output (final input)) ⊥ input left r written
+
+-- The names of the transactions, the history, and the summaries of the audits of all its committed queries.
+pub record IsAuditedScript (s : ScriptState) (a : AuditedScript) : Type 0 where
+  pub transactions : a.transactions ≡ s.transactions
+  pub history : a.history.schedule ≡ s.history
+  pub found : AreSummaries weighted s.history a.found

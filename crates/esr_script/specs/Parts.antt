@@ -29,7 +29,7 @@ pub record Progress (input unread : List ℕ) (count : ℕ) (state : ScriptState
       ≡ preceded_by written (outcome_from count state more)
 
 -- the same, where the bytes before it are these ahead and those that the reader has left
-pub record TxnStatus (input : List ℕ) (left : Option (List ℕ)) (bytes : List ℕ) (count : ℕ) (state : ScriptState)
+pub record InputProgress (input : List ℕ) (left : Option (List ℕ)) (bytes : List ℕ) (count : ℕ) (state : ScriptState)
     (written : List ℕ) : Type 0 where
   pub rest : List ℕ
   pub known : left ≡ Some rest

@@ -8,7 +8,7 @@ ghost use Rattle.std.specs.Io.KnownBytes.{IsAtEnd};
 ghost use Rattle.esr_script.specs.Replays.{IsReplay};
 ghost use Rattle.esr_grammar.specs.Lines.{line_len, IsNext};
 ghost use Rattle.esr_script.specs.Text.{answer};
-ghost use Rattle.esr_script.specs.Parts.{TxnStatus, IsAnswer, IsHeldRun, IsUnread, is_read_fault, is_write_fault};
+ghost use Rattle.esr_script.specs.Parts.{InputProgress, IsAnswer, IsHeldRun, IsUnread, is_read_fault, is_write_fault};
 
 use crate::fault::RunFault;
 use crate::input::InputBuffer;
@@ -76,14 +76,14 @@ pub fn answer_next<S: Sink, O: Observer>(
     requires count { count ≤ MAX_LINES }
     ensures few { OnOk result (count ≢ MAX_LINES) }
     ensures text { OnOk result ((text gone : List ℕ) × (out.old.items ++ text ≡ gone ++ out.new.items)
-        × IsUnread (S.contents sink.now) gone × ((input written : List ℕ) (left : Option (List ℕ)) → TxnStatus input left pending.old count script.old written
-        → TxnStatus input left pending.new (count + 1) script.new (written ++ text))) }
+        × IsUnread (S.contents sink.now) gone × ((input written : List ℕ) (left : Option (List ℕ)) → InputProgress input left pending.old count script.old written
+        → InputProgress input left pending.new (count + 1) script.new (written ++ text))) }
     ensures held { IfErr result (λ e. (input sent : List ℕ) (left : Option (List ℕ))
-        → TxnStatus input left pending.old count script.old (sent ++ out.old.items)
+        → InputProgress input left pending.old count script.old (sent ++ out.old.items)
         → (gone : List ℕ) × IsUnread (S.contents sink.now) gone × IsHeldRun input left out.new.items (Err e)
         (sent ++ gone)) }
     ensures replay { IfErr result (λ e. (input written : List ℕ) (left : Option (List ℕ))
-        → TxnStatus input left pending.old count script.old written → IsReplay input left (Err e) script.new) }
+        → InputProgress input left pending.old count script.old written → IsReplay input left (Err e) script.new) }
     ensures read { is_read_fault result ≡ false }
     ensures write { is_write_fault result ≡ false }
 {
@@ -112,11 +112,11 @@ pub fn answer_last<S: Sink, O: Observer>(
     requires short { length pending.now ≤ MAX_LINE_BYTES }
     requires count { count ≤ MAX_LINES }
     ensures held { (input sent : List ℕ) (left : Option (List ℕ))
-        → TxnStatus input left pending.now count script.old (sent ++ out.old.items)
+        → InputProgress input left pending.now count script.old (sent ++ out.old.items)
         → IsAtEnd left → line_len pending.now ≡ length pending.now → (gone : List ℕ)
         × IsUnread (S.contents sink.now) gone × IsHeldRun input left out.new.items result (sent ++ gone) }
     ensures replay { (input written : List ℕ) (left : Option (List ℕ))
-        → TxnStatus input left pending.now count script.old written
+        → InputProgress input left pending.now count script.old written
         → IsAtEnd left → line_len pending.now ≡ length pending.now → IsReplay input left result script.new }
     ensures read { is_read_fault result ≡ false }
     ensures write { is_write_fault result ≡ false }

@@ -4,12 +4,13 @@
 ghost use Rattle.esr_board.specs.declared.board.TheConstants.{MAX_SEATS};
 ghost use Rattle.std.specs.Prelude.{◌≡◌, ◌≤◌, ℕ, List, Some, false};
 ghost use Rattle.esr_base.specs.Watch.{inner, failed};
-ghost use Rattle.esr_script.specs.Audit.{IsAuditedBy, audit_output};
+ghost use Rattle.esr_script.specs.Audit.{IsAuditedBy, IsAuditedScript, audit_output};
 ghost use Rattle.esr_script.specs.Parts.{is_read_fault, is_write_fault};
 ghost use Rattle.esr_script.specs.Ends.{IsReachedBy};
 ghost use Rattle.esr_script.specs.ReaderToWriter.{ReadsAndWrites};
 ghost use Rattle.esr_script.specs.Text.{final};
 
+use crate::audited_script::AuditedScript;
 use crate::fault::RunFault;
 use crate::output::send_all;
 use crate::silent_run::replay;
@@ -39,6 +40,32 @@ fn prepare<T: Threads + Sync, R: Read, G: Gate + Sync, O: Observer>(
 {
     let mut script = replay(alloc, reader, observer)?;
     script.audit_all(rt, workers, gate)
+}
+
+/// Runs a script without printing its replies, and audits its whole history with `workers` threads, 1 to 64. A worker
+/// calls the gate before each audit.
+///
+/// # Errors
+/// `Read` if a read fails; `LineTooLong`, `HistoryFull` and `TooManyLines` if `run` would end so; `NoMemory` if an
+/// allocation fails.
+#[tactic(auto, using(crate::proofs::Handed::handed_on))]
+pub fn audit_silently<T: Threads + Sync, R: Read, G: Gate + Sync, O: Observer>(
+    rt: &T,
+    alloc: Global,
+    reader: &mut Watched<R>,
+    workers: u64,
+    gate: &G,
+    observer: &mut O,
+) -> Result<AuditedScript, RunFault>
+    requires reader { failed reader.old ≡ false }
+    requires workers { (1 ≤ workers) × (workers ≤ MAX_SEATS) }
+    ensures audited { (input : List ℕ) → R.remaining (inner reader.old) ≡ Some input
+        → IsReachedBy (IsAuditedScript (final input)) ⊥ input (R.remaining (inner reader.new)) result }
+    ensures reader { failed reader.new ≡ is_read_fault result }
+    ensures write { is_write_fault result ≡ false }
+{
+    let script = replay(alloc, reader, observer)?;
+    script.into_audited(rt, workers, gate)
 }
 
 /// Runs a script without writing its output, audits its whole history by so many workers, 1 to 64, and writes the

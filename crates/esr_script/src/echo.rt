@@ -7,7 +7,7 @@ ghost use Rattle.esr_report.specs.Subjects.{named_by};
 ghost use Rattle.esr_script.specs.Echoes.{IsEcho};
 
 use esr_history::Reply;
-use esr_report::{Names, Subject, reply_line};
+use esr_report::{Names, ReplyNames, reply_line};
 use std::alloc::AllocError;
 
 /// What an answer may repeat of the line that it answers.
@@ -64,7 +64,7 @@ fn whole(out: &mut Vec<u8>, mark: usize, appended: Result<(), AllocError>) -> Re
 pub fn push_reply(
     out: &mut Vec<u8>,
     names: &Names,
-    subject: Subject<'_>,
+    subject: ReplyNames<'_>,
     echo: Echo<'_>,
     reply: Reply,
 ) -> Result<(), AllocError>

@@ -21,12 +21,12 @@ use std::marker::Model;
 
 /// A machine, and the index of the first entries of its history.
 #[derive(Drop)]
-pub struct Engine {
+pub struct IndexedMachine {
     machine: Machine<Weighted>,
     index: Index,
 }
 
-impl Model for Engine {
+impl Model for IndexedMachine {
     ghost use Rattle.esr_history.specs.Machine.{Schedule};
     ghost use Rattle.esr_order.specs.Index.{IsIndexOf};
 
@@ -37,11 +37,11 @@ impl Model for Engine {
     ghost invariant = { λ e. IsIndexOf e.machine.entries e.index };
 }
 
-impl Engine {
-    pub fn new(alloc: Global, machine: Machine<Weighted>) -> Engine
+impl IndexedMachine {
+    pub fn new(alloc: Global, machine: Machine<Weighted>) -> IndexedMachine
         ensures { result ≡ machine }
     {
-        Engine {
+        IndexedMachine {
             machine,
             index: Index::new(alloc),
         }

@@ -2,7 +2,7 @@
 //! an entry. Before, a copy of the script was kept, of some twenty bytes a line, and cut into lines once more. No clause
 //! says which they are, as none speaks of what an observer sees.
 
-use esr_lint::{Observer, TxnStatus, is_error};
+use esr_lint::{Observer, TxnSummary, is_error};
 use std::alloc::Global;
 
 /// Whether a line made an entry: it gave the machine an event, and was answered by no error.
@@ -53,7 +53,7 @@ impl<O: Observer> Observer for EntryLines<'_, O> {
         self.observer.see_line(number, line, answer);
     }
 
-    fn see_transaction(&mut self, name: &str, status: TxnStatus) {
+    fn see_transaction(&mut self, name: &str, status: TxnSummary) {
         self.observer.see_transaction(name, status);
     }
 

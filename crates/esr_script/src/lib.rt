@@ -1,12 +1,13 @@
-//! Runs a script: bytes to bytes, line by line.
+//! Runs a script line by line, from bytes to bytes.
 //!
-//! What a run writes is a definition over all bytes (`specs/Text`: `outcome`), with one clause for each variant of a
-//! reply and of a refusal and none for "any other", so that no line can be left out unseen. The same loop over lines
-//! serves those whose lines are dropped: audits of whole scripts, and all that is told of one query.
+//! The output of a run is a definition over all bytes (`specs/Text`: `outcome`). It has one clause for each variant of
+//! a reply and of a refusal, and no catch-all, so no line can be omitted unnoticed. The same loop over lines serves the
+//! subcommands that discard the output of the lines: audits of whole scripts, and all texts about one query.
 #![tactic(auto)]
 
 mod answers;
 mod audit_text;
+mod audited_script;
 mod book;
 mod bundles;
 mod copier;
@@ -27,7 +28,8 @@ mod silent_run;
 mod sink;
 mod stage;
 
-pub use audit_text::audit;
+pub use audit_text::{audit, audit_silently};
+pub use audited_script::AuditedScript;
 pub use bundles::{certify, certify_steps};
 pub use copier::TeeReader;
 pub use esr_board::{Gate, NoGate};

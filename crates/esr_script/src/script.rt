@@ -10,7 +10,7 @@ ghost use Rattle.esr_report.specs.Subjects.{named_by};
 ghost use Rattle.esr_script.specs.Text.{Executes, EndsIn, start, closed, transaction_called, item_called, item_error, with_item, begin, ask, execute, answer, ScriptState};
 ghost use Rattle.esr_script.specs.Stages.{IsBegin, is_running, history_of};
 ghost use Rattle.esr_views.specs.Ask.{IsAnswered, IsFoundOf, IsRecorded};
-ghost use Rattle.esr_script.specs.Audit.{audit_output};
+ghost use Rattle.esr_script.specs.Audit.{IsAuditedScript, audit_output};
 ghost use Rattle.esr_history.specs.Queries.{is_committed_query};
 ghost use Rattle.esr_grammar.specs.Command.{view, Spells};
 ghost use Rattle.std.specs.List.{join_with_byte};
@@ -19,6 +19,7 @@ ghost use Rattle.esr_script.specs.Echoes.{IsEcho};
 ghost use Rattle.esr_base.specs.declared.limits.TheConstants.{MAX_ENTRIES, MAX_ITEMS};
 ghost use Rattle.esr_grammar.specs.Command as command;
 
+use crate::audited_script::AuditedScript;
 use crate::book::push_audit;
 use crate::echo::{Echo, push_reply};
 use crate::fault::RunFault;
@@ -29,9 +30,10 @@ use esr_board::Gate;
 use esr_grammar::{Line, Parsed, parse_line};
 use esr_history::{Event, Reply, TxnId};
 use esr_items::{ItemId, MAX_ITEMS, MAX_VALUE, MAX_WEIGHT};
-use esr_lint::{End, Observer, TxnStatus};
+use esr_lint::{Observer, TxnEnd, TxnSummary};
 use esr_report::{
-    LineError, Names, Subject, audit_line, error_line, item_line, totals_line, weighted_item_line,
+    LineError, Names, ReplyNames, audit_line, error_line, item_line, totals_line,
+    weighted_item_line,
 };
 use esr_views::{AuditedQuery, Recording};
 use std::alloc::{AllocError, Global};
@@ -170,7 +172,7 @@ impl Script {
     #[inline(always)]
     fn ask(
         &mut self,
-        subject: Subject<'_>,
+        subject: ReplyNames<'_>,
         echo: Echo<'_>,
         event: Event,
         out: &mut Vec<u8>,
@@ -214,7 +216,7 @@ impl Script {
             txn: self.transaction(txn),
             item: self.item(item),
         };
-        let subject = Subject {
+        let subject = ReplyNames {
             txn,
             item,
             value: 0,
@@ -240,7 +242,7 @@ impl Script {
             item: self.item(item),
             value,
         };
-        let subject = Subject { txn, item, value };
+        let subject = ReplyNames { txn, item, value };
         self.ask(subject, Echo::Write(words), event, out)
     }
 
@@ -323,9 +325,9 @@ impl Script {
         self.stage.ensure_started(self.alloc)?;
         match self.stage.status_of(q) {
             Some(
-                TxnStatus {
+                TxnSummary {
                     is_query: true,
-                    end: End::Committed,
+                    end: TxnEnd::Committed,
                 },
             ) => Ok(()),
             _ => line_or_fault(error_line(out, LineError::NotACommittedQuery)),
@@ -362,7 +364,7 @@ impl Script {
     }
 
     /// The name of a transaction, and what became of it.
-    fn transaction_at(&self, position: usize) -> Option<(&str, TxnStatus)> {
+    fn transaction_at(&self, position: usize) -> Option<(&str, TxnSummary)> {
         let position = u32::try_from(position).ok()?;
         let name = self.transactions.name_of(position)?;
         let status = self.stage.status_of(TxnId(position.checked_add(1)?))?;
@@ -408,6 +410,32 @@ impl Script {
             transactions,
             history: stage.into_history(),
             lines,
+        })
+    }
+
+    /// Ends the run, and audits the whole history with `workers` threads.
+    pub fn into_audited<T: Threads + Sync, G: Gate + Sync>(
+        mut self,
+        rt: &T,
+        workers: u64,
+        gate: &G,
+    ) -> Result<AuditedScript, RunFault>
+        requires { (1 ≤ workers) × (workers ≤ MAX_SEATS) }
+        ensures audited { IfOk result (IsAuditedScript self) }
+        ensures faults { IfErr result (λ e. e ≡ RunFault.NoMemory) }
+    {
+        self.stage.ensure_started(self.alloc)?;
+        let found = self.stage.audit_all(rt, self.alloc, workers, gate)?;
+        let Script {
+            alloc: _,
+            items: _items,
+            transactions,
+            stage,
+        } = self;
+        Ok(AuditedScript {
+            transactions,
+            history: stage.into_history(),
+            found,
         })
     }
 
@@ -497,10 +525,10 @@ impl Script {
 }
 
 /// A transaction alone is named.
-fn alone(txn: &str) -> Subject<'_>
+fn alone(txn: &str) -> ReplyNames<'_>
     ensures { named_by result ≡ record { txn = txn.now; item = []; value = pos 0 } }
 {
-    Subject {
+    ReplyNames {
         txn,
         item: "",
         value: 0,

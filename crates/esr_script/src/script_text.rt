@@ -78,6 +78,7 @@ fn script_view_text<R: Read, S: ScriptView, O: Observer>(
 {
     let mut numbering = EntryLines::new(alloc, observer);
     let script = replay(alloc, reader, &mut numbering)?;
+    script.show_transactions(&mut numbering);
     text_of(alloc, script, numbering.lines(), render_script)
 }
 

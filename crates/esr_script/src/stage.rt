@@ -13,14 +13,14 @@ ghost use Rattle.esr_audit.specs.Findings.{IsShown, AreSummaries};
 ghost use Rattle.esr_order.specs.Near.{AreNear};
 ghost use Rattle.esr_items.specs.Weights.{weighted};
 
-use crate::engine::Engine;
+use crate::engine::IndexedMachine;
 use crate::fault::RunFault;
 use esr_audit::{AuditError, Finding, Summaries};
 use esr_board::{Gate, summarize_parallel};
 use esr_core::{Machine, StepError, Totals};
 use esr_history::{Event, History, Reply, TxnId};
 use esr_items::{Store, Weighted};
-use esr_lint::{End, TxnStatus};
+use esr_lint::{TxnEnd, TxnSummary};
 use std::alloc::Global;
 use std::mem;
 use std::thread::Threads;
@@ -30,7 +30,7 @@ use std::thread::Threads;
 #[derive(Drop)]
 pub enum Stage {
     Open { values: Vec<i64>, weights: Vec<u32> },
-    Running(Box<Engine>),
+    Running(Box<IndexedMachine>),
 }
 
 impl Stage {
@@ -71,7 +71,7 @@ impl Stage {
         let Ok(machine) = Machine::new(alloc, store, metric) else {
             return Err(RunFault::NoMemory);
         };
-        let Ok(engine) = Box::new(alloc, Engine::new(alloc, machine)) else {
+        let Ok(engine) = Box::new(alloc, IndexedMachine::new(alloc, machine)) else {
             return Err(RunFault::NoMemory);
         };
         *self = Stage::Running(engine);
@@ -118,7 +118,7 @@ impl Stage {
     }
 
     /// What became of a transaction, if it has begun.
-    pub fn status_of(&self, t: TxnId) -> Option<TxnStatus> {
+    pub fn status_of(&self, t: TxnId) -> Option<TxnSummary> {
         let Stage::Running(engine) = self else {
             return None;
         };
@@ -128,11 +128,11 @@ impl Stage {
             .end
             .and_then(|place| history.log().get(place as usize));
         let end = match entry.map(|entry| entry.event) {
-            None => End::Active,
-            Some(Event::Abort { .. }) => End::Aborted,
-            Some(_) => End::Committed,
+            None => TxnEnd::Active,
+            Some(Event::Abort { .. }) => TxnEnd::Aborted,
+            Some(_) => TxnEnd::Committed,
         };
-        Some(TxnStatus {
+        Some(TxnSummary {
             is_query: facts.query,
             end,
         })

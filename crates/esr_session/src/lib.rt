@@ -1,8 +1,8 @@
-//! One machine behind a lock, and sessions through which threads call it. Each answered call is one entry of one
-//! history, and leaves a receipt; a close compares all receipts with the history.
+//! One machine protected by a lock, and the sessions through which threads call it. Each call that receives a reply is
+//! one entry of one history and leaves a receipt. Closing compares all receipts with the history.
 //!
-//! A step takes less than a microsecond, so finer locks would cost more than they save, and one hold of one lock is
-//! what makes the steps of all threads one list.
+//! A step takes less than a microsecond, so finer locks would cost more than they save. A single lock makes the steps
+//! of all threads one list.
 #![tactic(auto)]
 
 mod engine;

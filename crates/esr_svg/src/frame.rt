@@ -5,7 +5,7 @@ ghost use Rattle.std.specs.Prelude.{◌≤◌};
 
 use crate::keys::keys_width;
 use crate::scene::{
-    Arrow, Lane, MAX_LANES, MAX_UPDATES, Scene, Strays, Stretch, Update, have_stray,
+    Arrow, Lane, LaneSegment, MAX_LANES, MAX_UPDATES, Scene, Strays, Update, have_stray,
 };
 use esr_text::{letters_of, number_letters};
 
@@ -14,6 +14,14 @@ const WIDEST: u32 = 1100;
 
 /// So many letters there are at most behind the words on a value that did not stay.
 const MAX_ENDING: usize = 22;
+
+/// The maximum number of lines in the box of errors, and of letters in one.
+pub const MAX_ERRORS: usize = 7;
+
+pub const MAX_ERROR_LETTERS: usize = 120;
+
+/// From line to line in the box of errors.
+pub const ERROR_LINE: u32 = 18;
 
 /// From lane to lane, and where a lane tells of a value that did not stay.
 const LANE: u32 = 76;
@@ -48,6 +56,8 @@ pub struct Frame {
     /// The lines of words above, and how wide they are with the legend.
     sentences: u8,
     words: u32,
+    /// The height of the box with the lines with errors, above the picture.
+    above: u32,
     /// The width of the words at the line, and with the weights told.
     off_width: u16,
     factors_width: u16,
@@ -70,8 +80,16 @@ fn label_width(lane: &Lane<'_>) -> u16 {
     width_of(lane.name.len().max(read).max(12))
 }
 
-/// The letters of a piece of a lane: its value, and how often it was read.
-fn piece_letters(stretch: &Stretch) -> usize {
+/// Returns the letters of a piece of a lane: its value and how often it was read, or the number of its versions and reads.
+fn piece_letters(stretch: &LaneSegment) -> usize {
+    if stretch.versions > 1 {
+        let reads = if stretch.seen > 1 {
+            number_letters(stretch.seen).min(9) + 8
+        } else {
+            0
+        };
+        return number_letters(stretch.versions as u64).min(9) + 7 + reads;
+    }
     let times = if stretch.reads > 1 {
         number_letters(stretch.reads).min(7) + 3
     } else {
@@ -168,6 +186,43 @@ fn sentences_width(sentences: &[String]) -> u32
     letters.min(400) as u32 * 8
 }
 
+/// Returns the width of the line on what is not drawn, at 8 pixels for a letter.
+fn others_width(scene: &Scene<'_>) -> u32
+    ensures { result ≤ 2000 }
+{
+    if scene.other_updates == 0 && scene.other_items == 0 {
+        return 0;
+    }
+    let updates = number_letters(scene.other_updates).min(20);
+    let items = number_letters(scene.other_items as u64).min(20);
+    let off = number_letters(scene.others_off as u64).min(20);
+    let sum = number_letters(scene.others_sum).min(30);
+    let words = "Not drawn:  more updates;  more items,  of them off by .".len();
+    (updates + items + off + sum + words).min(250) as u32 * 8
+}
+
+/// Returns the height of the box with the lines with errors, or 0 if there are none.
+fn above(errors: &[String]) -> u32
+    ensures { result ≤ 1000 }
+{
+    if errors.is_empty() {
+        0
+    } else {
+        errors.len().min(MAX_ERRORS) as u32 * ERROR_LINE + 20
+    }
+}
+
+/// Returns the width of the lines with errors.
+fn errors_width(errors: &[String]) -> u32
+    ensures { result ≤ 4000 }
+{
+    let mut letters = 0usize;
+    for error in errors {
+        letters = letters.max(error.len().min(MAX_ERROR_LETTERS));
+    }
+    letters.min(400) as u32 * 8 + 20
+}
+
 /// The widths of what lanes have, of each the widest.
 #[derive(Clone, Copy)]
 struct Widths {
@@ -239,8 +294,11 @@ impl Frame {
             lanes: scene.lanes.len().min(MAX_LANES) as u8,
             lane: lane_height(&scene.lanes),
             sentences: scene.sentences.len().min(9) as u8,
+            above: above(&scene.errors),
             words: sentences_width(&scene.sentences)
+                .max(errors_width(&scene.errors))
                 .max(keys_width(scene))
+                .max(others_width(scene))
                 .max(widths.strays + u32::from(left)),
             off_width: widths.off,
             factors_width: widths.factors,
@@ -333,6 +391,13 @@ impl Frame {
         let lanes = self.end() + 20;
         let words = self.x(line) + u32::from(self.reach(line)) + 30;
         lanes.max(words).max(self.words.min(4000) + 40).max(420)
+    }
+
+    /// Returns the height of the box with the lines with errors, or 0.
+    pub fn above(&self) -> u32
+        ensures { result ≤ 1000 }
+    {
+        self.above.min(1000)
     }
 
     /// The height of the picture.

@@ -3,9 +3,9 @@
 //! is green is also thick, and what is off has a circle and words, for those who do not see colours.
 
 use crate::elements::{open_text, push_text};
-use crate::frame::Frame;
+use crate::frame::{ERROR_LINE, Frame, MAX_ERRORS};
 use crate::scene::{Lane, Scene, Update};
-use esr_text::{first, push_number, push_value};
+use esr_text::{first, push_number, push_plain, push_value};
 use std::alloc::AllocError;
 
 const STYLE: &str = "<style>\n\
@@ -33,11 +33,12 @@ text{font:12px sans-serif;fill:#1f2328}\n\
 .z{stroke-width:17}\n\
 .e{stroke-width:3}\n\
 .c{fill:#fff;stroke:#c4302b;stroke-width:2}\n\
+.x{fill:none;stroke:#c4302b;stroke-width:2}\n\
 @media (prefers-color-scheme:dark){\n\
 text{fill:#e6edf3}.q{fill:#9aa4af}.g{fill:#4cc47c}.r{fill:#ff7b72}.o{stroke:#0d1117}.p{fill:#0d1117}\n\
 .b{fill:#1d3a57;stroke:#6ea8dc}.a{fill:#22272e;stroke:#68737f}.w{stroke:#9aa4af}.k{fill:#9aa4af}\n\
 .d{stroke:#57606a}.t{stroke:#9aa4af}.v{stroke:#56606b}.f{stroke:#2f9e5f}.u{stroke:#2f9e5f}.l{stroke:#e6edf3}\n\
-.c{fill:#0d1117;stroke:#ff7b72}}\n\
+.c{fill:#0d1117;stroke:#ff7b72}.x{stroke:#ff7b72}}\n\
 </style>\n";
 
 /// The attributes of the element, with a blank before each.
@@ -49,12 +50,21 @@ pub fn push_attributes(
     let query = scene.query;
     let width = frame.width(scene.line);
     let height = frame.height();
-    write!(
-        out,
-        " xmlns='http://www.w3.org/2000/svg' viewBox='0 0 {width} {height}'"
-    )?;
-    write!(out, " width='{width}' height='{height}' role='img'")?;
+    let above = frame.above();
+    let whole = height + above;
+    out.push_str(" xmlns='http://www.w3.org/2000/svg' viewBox='0 ")?;
+    push_upward(out, above)?;
+    write!(out, " {width} {whole}'")?;
+    write!(out, " width='{width}' height='{whole}' role='img'")?;
     write!(out, " aria-labelledby='{query}-title {query}-desc'")
+}
+
+/// Appends the coordinate of a point above the origin.
+fn push_upward(out: &mut String, distance: u32) -> Result<(), AllocError> {
+    if distance > 0 {
+        out.push('-')?;
+    }
+    write!(out, "{distance}")
 }
 
 /// The names of the updates before the line, for the description.
@@ -160,10 +170,43 @@ pub fn push_head(out: &mut String, scene: &Scene<'_>, frame: &Frame) -> Result<(
     push_description(out, scene)?;
     out.push_str(STYLE)?;
     push_tip(out, scene.query)?;
+    let above = frame.above();
+    if above == 0 {
+        return write!(
+            out,
+            "<rect class='p' width='{width}' height='{height}' rx='8'/>\n"
+        );
+    }
+    let whole = height + above;
     write!(
         out,
-        "<rect class='p' width='{width}' height='{height}' rx='8'/>\n"
-    )
+        "<rect class='p' y='-{above}' width='{width}' height='{whole}' rx='8'/>\n"
+    )?;
+    push_errors(out, &scene.errors, width, above)
+}
+
+/// Appends the box with the lines with errors, above the picture.
+fn push_errors(
+    out: &mut String,
+    errors: &[String],
+    width: u32,
+    above: u32,
+) -> Result<(), AllocError> {
+    let top = above.saturating_sub(8);
+    let inner = width.saturating_sub(20);
+    let box_height = above.saturating_sub(10);
+    write!(
+        out,
+        "<rect class='x' x='10' y='-{top}' width='{inner}' height='{box_height}' rx='6'/>\n"
+    )?;
+    let mut up = above.saturating_sub(24);
+    for error in first(errors, MAX_ERRORS) {
+        write!(out, "<text class='r' x='20' y='-{up}'>")?;
+        push_plain(out, error)?;
+        out.push_str("</text>\n")?;
+        up = up.saturating_sub(ERROR_LINE);
+    }
+    Ok(())
 }
 
 /// The sentences about what was found.

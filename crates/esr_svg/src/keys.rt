@@ -3,7 +3,7 @@
 ghost use Rattle.std.specs.Prelude.{◌≤◌};
 
 use crate::elements::{push_horizontal, push_straight, push_text, push_vertical};
-use crate::scene::{Lane, Scene, Stretch, have_stray};
+use crate::scene::{Lane, LaneSegment, Scene, have_stray};
 use std::alloc::AllocError;
 
 /// What a picture may have to explain.
@@ -59,7 +59,7 @@ fn words_of(key: Key) -> &'static str {
 }
 
 /// What a stretch shows: one version or several, of which some were read, or none.
-fn key_of(stretch: &Stretch) -> Key {
+fn key_of(stretch: &LaneSegment) -> Key {
     match (stretch.versions, stretch.reads, stretch.seen) {
         (1, 0, _) => Key::Other,
         (1, _, _) => Key::Read,

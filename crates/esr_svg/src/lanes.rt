@@ -7,7 +7,7 @@ use crate::elements::{
     push_vertical,
 };
 use crate::frame::Frame;
-use crate::scene::{Lane, LaneReads, Scene, Strays, Stretch};
+use crate::scene::{Lane, LaneReads, LaneSegment, Scene, Strays};
 use esr_text::{push_count, push_number, push_value};
 use std::alloc::AllocError;
 
@@ -74,12 +74,19 @@ fn push_label(out: &mut String, lane: &Lane<'_>, y: u32) -> Result<(), AllocErro
     push_more(out, &lane.read, y + 28)
 }
 
-/// The value of a stretch and how often it was read, or how many values it has.
-fn push_piece(out: &mut String, stretch: Stretch, x: u32, y: u32) -> Result<(), AllocError> {
+/// Appends the value of a stretch and how often it was read, or for several versions their number and that of their
+/// reads, if there is more than one.
+fn push_piece(out: &mut String, stretch: LaneSegment, x: u32, y: u32) -> Result<(), AllocError> {
     let versions = stretch.versions;
     if versions > 1 {
         open_text(out, "m q", x, y)?;
-        return write!(out, "{versions} values</text>\n");
+        write!(out, "{versions} values")?;
+        if stretch.seen > 1 {
+            out.push_str(", ")?;
+            push_number(out, stretch.seen)?;
+            out.push_str(" reads")?;
+        }
+        return out.push_str("</text>\n");
     }
     open_text(out, "m o", x, y)?;
     push_value(out, stretch.value)?;
@@ -91,7 +98,7 @@ fn push_piece(out: &mut String, stretch: Stretch, x: u32, y: u32) -> Result<(), 
 }
 
 /// How a stretch is drawn.
-fn class_of(stretch: Stretch) -> &'static str {
+fn class_of(stretch: LaneSegment) -> &'static str {
     if stretch.reads > 9 {
         "u z"
     } else if stretch.reads > 1 {
@@ -110,7 +117,7 @@ fn class_of(stretch: Stretch) -> &'static str {
 /// A stretch of a lane, from its slot to that of the next one.
 fn push_stretch(
     out: &mut String,
-    stretch: Stretch,
+    stretch: LaneSegment,
     end: u32,
     y: u32,
     frame: &Frame,
@@ -127,7 +134,7 @@ fn push_stretch(
 }
 
 /// Where the stretch at a place ends.
-fn end_of(stretches: &[Stretch], place: usize, frame: &Frame) -> u32
+fn end_of(stretches: &[LaneSegment], place: usize, frame: &Frame) -> u32
     ensures { result ≤ 20000000 }
 {
     match stretches.get(place.saturating_add(1)) {
@@ -301,6 +308,9 @@ pub fn push_audit(out: &mut String, scene: &Scene<'_>, frame: &Frame) -> Result<
     push_crossings(out, scene, frame)
 }
 
+/// The sentence for items that are not drawn and decide the position of the line.
+const OTHERS_DECIDE: &str = "They keep the line from other positions.";
+
 /// How many items are not drawn, and how many of them are off, and by how much.
 fn push_other_items(out: &mut String, items: u64, off: u64, sum: u64) -> Result<(), AllocError> {
     push_count(out, items, " more item", " more items")?;
@@ -316,7 +326,8 @@ fn push_other_items(out: &mut String, items: u64, off: u64, sum: u64) -> Result<
     push_number(out, sum)
 }
 
-/// How many updates and items are not drawn, where not all are.
+/// Appends how many updates and items are not drawn, unless all are. The sentence on what they decide is a line of its
+/// own, so that it fits into a narrow picture.
 pub fn push_others(out: &mut String, scene: &Scene<'_>, y: u32) -> Result<(), AllocError> {
     let items = scene.other_items as u64;
     if scene.other_updates == 0 && items == 0 {
@@ -333,9 +344,10 @@ pub fn push_others(out: &mut String, scene: &Scene<'_>, y: u32) -> Result<(), Al
     if items > 0 {
         push_other_items(out, items, scene.others_off as u64, scene.others_sum)?;
     }
-    out.push('.')?;
+    out.push_str(".</text>\n")?;
     if scene.others_decide {
-        out.push_str(" What is not drawn keeps the line from other places.")?;
+        push_text(out, "q", 20, y.saturating_add(15), OTHERS_DECIDE)?;
+        out.push_str("\n")?;
     }
-    out.push_str("</text>\n")
+    Ok(())
 }

@@ -1,8 +1,8 @@
-//! Draws a scene, plain data, as the text of an SVG: a lane for each item, cut into the versions of the item; the updates
-//! above, with arrows for the order that every placement keeps; and the nearest placement as a line across the lanes.
+//! Renders a scene as SVG: a lane for each item, divided into the versions of the item; the updates above the lanes,
+//! with arrows for the order that every placement preserves; and the nearest placement as a line across the lanes.
 //!
-//! It knows no history, so it is proved beside what finds out what is to be drawn (`esr_picture`), and not behind it. What
-//! it draws is promised by no clause.
+//! A scene is plain data. The crate does not depend on histories, so it is proved in parallel with `esr_picture`, which
+//! chooses the content of the scene. No clause specifies the drawing.
 #![tactic(auto)]
 
 mod boxes;
@@ -14,8 +14,8 @@ mod lanes;
 mod scene;
 mod svg;
 
-pub use frame::fitting_updates;
+pub use frame::{MAX_ERROR_LETTERS, fitting_updates};
 pub use scene::{
-    Arrow, Lane, LaneReads, MAX_LANES, MAX_UPDATES, Scene, Stray, Strays, Stretch, Update,
+    Arrow, Lane, LaneReads, LaneSegment, MAX_LANES, MAX_UPDATES, Scene, Stray, Strays, Update,
 };
 pub use svg::{Parts, parts_of};

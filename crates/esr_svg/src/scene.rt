@@ -56,7 +56,7 @@ impl<'a> Strays<'a> {
 /// A stretch of a lane, from a slot to the next stretch: one version of the item, or several where updates between
 /// are not drawn.
 #[derive(Clone, Copy)]
-pub struct Stretch {
+pub struct LaneSegment {
     pub from: u8,
     /// The first version's value.
     pub value: i64,
@@ -76,7 +76,7 @@ pub struct Lane<'a> {
     pub read: LaneReads,
     /// What the reads are off from the version at the line.
     pub off: u64,
-    pub stretches: Vec<Stretch>,
+    pub stretches: Vec<LaneSegment>,
     pub strays: Strays<'a>,
 }
 
@@ -97,6 +97,8 @@ pub struct Scene<'a> {
     pub query: &'a str,
     pub distance: u64,
     pub import: u64,
+    /// The lines with errors of the script, in a box at the top.
+    pub errors: Vec<String>,
     /// What is said above the lanes.
     pub sentences: Vec<String>,
     pub updates: Vec<Update<'a>>,

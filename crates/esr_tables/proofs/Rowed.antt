@@ -7,10 +7,10 @@ use Rattle.esr_history.specs.Machine.{Distance, Schedule, charges_in, accepted_i
 use Rattle.esr_history.specs.declared.back_links.Facts.{Facts}
 use Rattle.esr_history.specs.BackLinks.{accepted_end, facts_of, last_place}
 use Rattle.esr_order.proofs.Commits.{commit_at_end, end_some}
-use Rattle.esr_tables.specs.declared.kinds.Kind.{Kind}
-use Rattle.esr_tables.specs.declared.kinds.Kind.TheVariants.{Update}
-use Rattle.esr_tables.specs.declared.rows.End.{End}
-use Rattle.esr_tables.specs.declared.rows.End.TheVariants.{Committed, Aborted, Active}
+use Rattle.esr_tables.specs.declared.kinds.RowKind.{RowKind}
+use Rattle.esr_tables.specs.declared.kinds.RowKind.TheVariants.{Update}
+use Rattle.esr_tables.specs.declared.rows.RowEnd.{RowEnd}
+use Rattle.esr_tables.specs.declared.rows.RowEnd.TheVariants.{Committed, Aborted, Active}
 use Rattle.esr_tables.specs.declared.rows.Row.{Row}
 use Rattle.esr_tables.specs.declared.tallies.Tally.{Tally}
 use Rattle.esr_items.specs.Weights.{weighted}
@@ -18,12 +18,12 @@ use Rattle.esr_tables.specs.Rows.{charged_of, distance_of, end_of, kind_at, kind
 use Rattle.esr_tables.specs.Entries.{end_at}
 
 -- its kind
-pub kind_there : (h : Schedule) (kinds : List Kind) (t : ℕ) → 1 ≤ t → kinds ≡ map kind_of (beginnings (accepted_in h)) → unwrap_or (slice_get kinds (t - 1)) Update ≡ kind_at h t
+pub kind_there : (h : Schedule) (kinds : List RowKind) (t : ℕ) → 1 ≤ t → kinds ≡ map kind_of (beginnings (accepted_in h)) → unwrap_or (slice_get kinds (t - 1)) Update ≡ kind_at h t
 kind_there h kinds zero low is = absurd (omega arith)
 kind_there h kinds (suc k) low is =
     let same : suc k - 1 ≡ k = omega arith in
     ap (λ i. unwrap_or (slice_get kinds i) Update) same
-    ∙ (ap (λ (l : List Kind). unwrap_or (slice_get l k) Update) is
+    ∙ (ap (λ (l : List RowKind). unwrap_or (slice_get l k) Update) is
     ∙ ap (λ o. unwrap_or o Update) (slice_get-map kind_of (beginnings (accepted_in h)) k))
 
 -- how it ended
@@ -38,7 +38,7 @@ pub charged_there : (h : Schedule) (t x : ℕ) → is_query (accepted_in h) t �
 charged_there h t x is same = same ∙ sym (ap (λ (b : Bool). if b then import_in (charges_in weighted h) t else export_in (charges_in weighted h) t) is)
 
 -- the row, by its parts
-pub row_there : (h : Schedule) (t : TxnId) (k : Kind) (l c f : ℕ) (y : Tally) (e : End) (g : Option ℕ) → k ≡ kind_at h t.0 → l ≡ limit_of (accepted_in h) t.0 → c ≡ charged_of weighted h t.0
+pub row_there : (h : Schedule) (t : TxnId) (k : RowKind) (l c f : ℕ) (y : Tally) (e : RowEnd) (g : Option ℕ) → k ≡ kind_at h t.0 → l ≡ limit_of (accepted_in h) t.0 → c ≡ charged_of weighted h t.0
     → f ≡ l - c → y ≡ tally_of h.entries t.0 → e ≡ end_of h t.0 → g ≡ distance_of weighted h t.0
     → ◌≡◌ {A = Row} record { number = t; kind = k; limit = l; charged = c; left = f; tally = y; end = e; distance = g } (row_of weighted h t.0)
 row_there h t k l c f y e g kind limit charged left counts end far =

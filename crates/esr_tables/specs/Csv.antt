@@ -3,10 +3,10 @@ use Rattle.std.specs.Prelude.{ℕ, List, [], ◌∷◌, ◌++◌, codes, decimal
 use Rattle.std.specs.List.{flat_map}
 use Rattle.esr_history.specs.Machine.{Distance, Schedule}
 use Rattle.esr_report.specs.Names.{name_of_transaction}
-use Rattle.esr_tables.specs.declared.kinds.Kind.{Kind}
-use Rattle.esr_tables.specs.declared.kinds.Kind.TheVariants.{Update, Query, Strict}
-use Rattle.esr_tables.specs.declared.rows.End.{End}
-use Rattle.esr_tables.specs.declared.rows.End.TheVariants.{Committed, Aborted, Active}
+use Rattle.esr_tables.specs.declared.kinds.RowKind.{RowKind}
+use Rattle.esr_tables.specs.declared.kinds.RowKind.TheVariants.{Update, Query, Strict}
+use Rattle.esr_tables.specs.declared.rows.RowEnd.{RowEnd}
+use Rattle.esr_tables.specs.declared.rows.RowEnd.TheVariants.{Committed, Aborted, Active}
 use Rattle.esr_tables.specs.declared.rows.Row.{Row}
 use Rattle.esr_tables.specs.Rows.{rows_of}
 
@@ -18,12 +18,12 @@ separated fields = flat_map (λ field. 44 ∷ field) fields
 abbrev pub csv_line : (first : List ℕ) (rest : List (List ℕ)) → List ℕ
 csv_line first rest = first ++ (separated rest ++ 10 ∷ [])
 
-abbrev pub kind_word : Kind → List ℕ
+abbrev pub kind_word : RowKind → List ℕ
 kind_word Update = codes "update"
 kind_word Query = codes "query"
 kind_word Strict = codes "strict"
 
-abbrev pub end_word : End → List ℕ
+abbrev pub end_word : RowEnd → List ℕ
 end_word Committed = codes "committed"
 end_word Aborted = codes "aborted"
 end_word Active = codes "active"

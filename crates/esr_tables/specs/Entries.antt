@@ -10,15 +10,15 @@ use Rattle.esr_history.specs.Machine.{Schedule, accepted_in, charges_in, export_
 use Rattle.esr_history.specs.BackLinks.{begun_count}
 use Rattle.esr_items.specs.Weights.{weighted}
 use Rattle.esr_order.specs.Scans.{is_commit_at}
-use Rattle.esr_tables.specs.declared.kinds.Kind.{Kind}
+use Rattle.esr_tables.specs.declared.kinds.RowKind.{RowKind}
 use Rattle.esr_tables.specs.declared.rows.Columns.{Columns}
-use Rattle.esr_tables.specs.declared.rows.End.{End}
-use Rattle.esr_tables.specs.declared.rows.End.TheVariants.{Committed, Aborted, Active}
+use Rattle.esr_tables.specs.declared.rows.RowEnd.{RowEnd}
+use Rattle.esr_tables.specs.declared.rows.RowEnd.TheVariants.{Committed, Aborted, Active}
 use Rattle.esr_tables.specs.declared.tallies.Tally.{Tally}
 use Rattle.esr_tables.specs.Rows.{distance_of, kind_of, tally_of}
 
 -- the kind of the transaction that an entry begins, if that is accepted
-abbrev pub kind_in : Entry → Option Kind
+abbrev pub kind_in : Entry → Option RowKind
 kind_in e = if is_refusal e.reply then None else option_map kind_of (beginning_of e.event)
 
 -- a tally with one more answer
@@ -43,7 +43,7 @@ abbrev pub AreTallies : List Entry → List Tally → Type 0
 AreTallies es tallies = (t : ℕ) → t < length tallies → (d : Tally) → slice_index_or tallies t d ≡ tally_of es t
 
 -- the end of a transaction whose accepted commit or abort is at this place, if there is one
-abbrev pub end_at : List Entry → Option ℕ → End
+abbrev pub end_at : List Entry → Option ℕ → RowEnd
 end_at es end = if is_commit_at es end then Committed else (if is_some end then Aborted else Active)
 
 -- what is found of all transactions at once

@@ -9,19 +9,19 @@ use Rattle.esr_history.specs.Machine.{Distance, Schedule, accepted_in, charges_i
 use Rattle.esr_history.specs.Queries.{is_committed_query}
 use Rattle.esr_history.specs.BackLinks.{txn_in, is_key, last_place, accepted_end}
 use Rattle.esr_order.specs.Least.{least_cost}
-use Rattle.esr_tables.specs.declared.kinds.Kind.{Kind}
-use Rattle.esr_tables.specs.declared.kinds.Kind.TheVariants.{Update, Query, Strict}
-use Rattle.esr_tables.specs.declared.rows.End.{End}
-use Rattle.esr_tables.specs.declared.rows.End.TheVariants.{Committed, Aborted, Active}
+use Rattle.esr_tables.specs.declared.kinds.RowKind.{RowKind}
+use Rattle.esr_tables.specs.declared.kinds.RowKind.TheVariants.{Update, Query, Strict}
+use Rattle.esr_tables.specs.declared.rows.RowEnd.{RowEnd}
+use Rattle.esr_tables.specs.declared.rows.RowEnd.TheVariants.{Committed, Aborted, Active}
 use Rattle.esr_tables.specs.declared.rows.Row.{Row}
 use Rattle.esr_tables.specs.declared.tallies.Tally.{Tally}
 
 -- ---- its kind
 
-abbrev pub kind_of : Beginning → Kind
+abbrev pub kind_of : Beginning → RowKind
 kind_of b = if b.query then (if b.strict then Strict else Query) else Update
 
-abbrev pub kind_at : Schedule → ℕ → Kind
+abbrev pub kind_at : Schedule → ℕ → RowKind
 kind_at h t = unwrap_or (option_map kind_of (beginning (accepted_in h) t)) Update
 
 -- ---- how often its lines were answered, and how
@@ -64,7 +64,7 @@ tally_of es t = record {
 -- ---- how it ended
 
 -- committed; else aborted, if an accepted commit or abort of it is in the log
-abbrev pub end_of : Schedule → ℕ → End
+abbrev pub end_of : Schedule → ℕ → RowEnd
 end_of h t =
     if is_committed (accepted_in h) t then Committed
     else (if is_some (last_place accepted_end t h.entries) then Aborted else Active)

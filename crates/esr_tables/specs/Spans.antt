@@ -1,9 +1,9 @@
 -- From which line to which a transaction goes, as it was found.
 use Rattle.std.specs.Prelude.{ℕ, slice_index_or}
-use Rattle.esr_tables.specs.declared.spans.Span.{Span}
+use Rattle.esr_tables.specs.declared.spans.LineSpan.{LineSpan}
 use Rattle.esr_tables.specs.declared.spans.Spans.{Spans}
 
-abbrev pub span_of : Spans → ℕ → Span
+abbrev pub span_of : Spans → ℕ → LineSpan
 span_of s t = slice_index_or (s.0).items t (record { first = 0; last = 0 })
 
 abbrev pub first_of : Spans → ℕ → ℕ

@@ -1,46 +1,44 @@
-//! What audits find of the committed queries of a script, for programs: a row for each, in the order of their commits.
-//! Audits are made one after another, and of each no more is kept than its row.
+//! The audits of the committed queries of a script, for programs: a row for each query, in the order of their commits.
+//!
+//! The audits come from the caller, so `esr audit` computes them with the same threads and the same index whatever the
+//! format is. Rejected: a `ScriptView` that audits one query after another.
 
 use crate::format::Data;
 use crate::words::{push_number, push_word};
-use esr_audit::{CommitLists, Finding, audit_query_in, commit_lists};
+use esr_audit::{Summaries, Summary};
+use esr_history::{History, TxnId};
+use esr_items::Weighted;
 use esr_report::{Names, name_of_transaction};
-use esr_views::{Recording, ScriptView};
 use std::alloc::{AllocError, Global};
-
-/// The audits of a script.
-#[derive(Clone, Copy)]
-pub struct AuditTable {
-    pub data: Data,
-}
 
 /// The names of the fields. The updates before are separated by blanks.
 const HEAD: &str = "number,name,limit,import,distance,before\n";
 
-/// What is told of a query.
+/// The audit of a query.
 #[derive(Clone, Copy)]
 struct Audited<'a> {
     name: &'a str,
     limit: u64,
     transactions: &'a Names,
-    finding: &'a Finding,
+    summary: &'a Summary,
+    before: &'a [TxnId],
 }
 
 /// Appends a query's row as CSV.
 fn push_csv(out: &mut String, audited: Audited<'_>) -> Result<(), AllocError> {
-    let finding = audited.finding;
-    push_number(out, u64::from(finding.query.0))?;
+    let summary = audited.summary;
+    push_number(out, u64::from(summary.query.0))?;
     out.push_str(",")?;
     out.push_str(audited.name)?;
-    for amount in [audited.limit, finding.import, finding.distance] {
+    for amount in [audited.limit, summary.import, summary.distance] {
         out.push_str(",")?;
         push_number(out, amount)?;
     }
     let mut between = ",";
-    if finding.before.is_empty() {
+    if audited.before.is_empty() {
         out.push_str(between)?;
     }
-    for update in &finding.before {
+    for update in audited.before {
         out.push_str(between)?;
         out.push_str(name_of_transaction(audited.transactions, *update))?;
         between = " ";
@@ -58,44 +56,46 @@ fn push_field(out: &mut String, field: &str, number: u64) -> Result<(), AllocErr
 
 /// Appends a query's object as JSON.
 fn push_json(out: &mut String, audited: Audited<'_>) -> Result<(), AllocError> {
-    let finding = audited.finding;
+    let summary = audited.summary;
     out.push_str("{")?;
-    push_field(out, "number", u64::from(finding.query.0))?;
+    push_field(out, "number", u64::from(summary.query.0))?;
     out.push_str("\"name\":")?;
     push_word(out, audited.name)?;
     out.push_str(",")?;
     push_field(out, "limit", audited.limit)?;
-    push_field(out, "import", finding.import)?;
-    push_field(out, "distance", finding.distance)?;
+    push_field(out, "import", summary.import)?;
+    push_field(out, "distance", summary.distance)?;
     out.push_str("\"before\":")?;
     let mut before = "[";
-    for update in &finding.before {
+    for update in audited.before {
         out.push_str(before)?;
         push_word(out, name_of_transaction(audited.transactions, *update))?;
         before = ",";
     }
-    out.push_str(if finding.before.is_empty() {
+    out.push_str(if audited.before.is_empty() {
         "[]}\n"
     } else {
         "]}\n"
     })
 }
 
-/// Appends what the audit of a query finds.
-fn push_audit(
+/// Appends the audit of a query.
+fn push_summary(
+    alloc: Global,
     out: &mut String,
-    recording: &Recording<'_>,
-    finding: &Finding,
     data: Data,
+    transactions: &Names,
+    history: &History<Weighted>,
+    summary: &Summary,
 ) -> Result<(), AllocError> {
+    let before = summary.before.to_vec(alloc)?;
+    let facts = history.facts(summary.query);
     let audited = Audited {
-        name: name_of_transaction(&recording.transactions, finding.query),
-        limit: recording
-            .history
-            .facts(finding.query)
-            .map_or(0, |facts| facts.limit),
-        transactions: &recording.transactions,
-        finding,
+        name: name_of_transaction(transactions, summary.query),
+        limit: facts.map_or(0, |facts| facts.limit),
+        transactions,
+        summary,
+        before: &before,
     };
     match data {
         Data::Csv => push_csv(out, audited),
@@ -103,43 +103,20 @@ fn push_audit(
     }
 }
 
-/// The audits of a script in this form.
-fn audits(alloc: Global, recording: &Recording<'_>, data: Data) -> Result<String, AllocError> {
-    let history = &recording.history;
-    let Ok(
-        CommitLists {
-            all,
-            updates: _,
-            queries,
-        },
-    ) = commit_lists(alloc, history)
-    else {
-        return Err(AllocError);
-    };
+/// Returns the audits of a history as a table.
+pub fn audit_table(
+    alloc: Global,
+    data: Data,
+    transactions: &Names,
+    history: &History<Weighted>,
+    found: &Summaries,
+) -> Result<Vec<u8>, AllocError> {
     let mut out = String::new(alloc);
     if data == Data::Csv {
         out.push_str(HEAD)?;
     }
-    for query in &queries {
-        match audit_query_in(alloc, history, &all, *query) {
-            Ok(finding) => push_audit(&mut out, recording, &finding, data)?,
-            Err(_) => return Err(AllocError),
-        }
+    for summary in &found.summaries {
+        push_summary(alloc, &mut out, data, transactions, history, summary)?;
     }
-    Ok(out)
-}
-
-impl ScriptView for AuditTable {
-    ghost IsTextOf = { λ _ _ _. Unit {0} };
-
-    fn text_of(
-        &self,
-        alloc: Global,
-        recording: &Recording<'_>,
-    ) -> Result<Option<Vec<u8>>, AllocError> {
-        match audits(alloc, recording, self.data) {
-            Ok(text) => Ok(Some(text.into_bytes())),
-            Err(error) => Err(error),
-        }
-    }
+    Ok(out.into_bytes())
 }

@@ -2,7 +2,7 @@
 
 use crate::csv::{end_word, kind_word};
 use crate::rows::Row;
-use crate::spans::Span;
+use crate::spans::LineSpan;
 
 /// What a row has of a transaction, in the order of its fields.
 #[derive(Clone, Copy)]
@@ -52,7 +52,7 @@ pub enum Content<'a> {
 }
 
 /// What a row has in a cell.
-pub fn content_of<'a>(cell: Cell, name: &'a str, row: &Row, span: Span) -> Content<'a> {
+pub fn content_of<'a>(cell: Cell, name: &'a str, row: &Row, span: LineSpan) -> Content<'a> {
     match cell {
         Cell::Number => Content::Number(u64::from(row.number.0)),
         Cell::Name => Content::Word(name),

@@ -9,33 +9,33 @@ ghost use Rattle.esr_tables.specs.Entries.{AreColumns};
 ghost use Rattle.esr_tables.specs.Rows.{rows_of};
 ghost use Rattle.esr_tables.specs.Spans.{first_of, last_of};
 
-use crate::kinds::Kind;
-use crate::rows::{Columns, End, Row, row_at};
-use crate::spans::{Span, Spans};
+use crate::kinds::RowKind;
+use crate::rows::{Columns, Row, RowEnd, row_at};
+use crate::spans::{LineSpan, Spans};
 use esr_history::History;
 use esr_items::Weighted;
 use esr_report::{Names, name_of_transaction};
 use std::alloc::AllocError;
 
 /// The word for a kind.
-pub fn kind_word(kind: Kind) -> &'static str
+pub fn kind_word(kind: RowKind) -> &'static str
     ensures { result.now ≡ kind_word kind }
 {
     match kind {
-        Kind::Update => "update",
-        Kind::Query => "query",
-        Kind::Strict => "strict",
+        RowKind::Update => "update",
+        RowKind::Query => "query",
+        RowKind::Strict => "strict",
     }
 }
 
 /// The word for an end.
-pub fn end_word(end: End) -> &'static str
+pub fn end_word(end: RowEnd) -> &'static str
     ensures { result.now ≡ end_word end }
 {
     match end {
-        End::Committed => "committed",
-        End::Aborted => "aborted",
-        End::Active => "active",
+        RowEnd::Committed => "committed",
+        RowEnd::Aborted => "aborted",
+        RowEnd::Active => "active",
     }
 }
 
@@ -111,7 +111,7 @@ fn push_distance(out: &mut Vec<u8>, distance: Option<u64>) -> Result<(), AllocEr
 }
 
 /// Appends the lines that a transaction goes from and to.
-fn push_span(out: &mut Vec<u8>, span: Span) -> Result<(), AllocError>
+fn push_span(out: &mut Vec<u8>, span: LineSpan) -> Result<(), AllocError>
     ensures { OnOk result (out.new.items ≡ out.old.items ++ separated (decimal span.first ∷ decimal span.last ∷ [])) }
 {
     let mut first = itoa::Buffer::new();
@@ -120,7 +120,7 @@ fn push_span(out: &mut Vec<u8>, span: Span) -> Result<(), AllocError>
 }
 
 /// Appends the line of a row, with the name of its transaction and the lines that it goes from and to.
-fn row_line(out: &mut Vec<u8>, name: &str, row: &Row, span: Span) -> Result<(), AllocError>
+fn row_line(out: &mut Vec<u8>, name: &str, row: &Row, span: LineSpan) -> Result<(), AllocError>
     ensures { OnOk result (out.new.items ≡ out.old.items ++ row_line name.now row.now span.first span.last) }
 {
     push_number(out, row.number.0)?;

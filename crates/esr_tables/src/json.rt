@@ -5,7 +5,7 @@ ghost use Rattle.esr_tables.specs.Entries.{AreColumns};
 
 use crate::cells::{CELLS, Content, content_of};
 use crate::rows::{Columns, Row, row_at};
-use crate::spans::{Span, Spans};
+use crate::spans::{LineSpan, Spans};
 use crate::words::{push_number, push_word};
 use esr_history::History;
 use esr_items::Weighted;
@@ -22,7 +22,7 @@ fn push_content(out: &mut String, content: Content<'_>) -> Result<(), AllocError
 }
 
 /// Appends the object of a row, with its name and lines.
-fn push_row(out: &mut String, name: &str, row: &Row, span: Span) -> Result<(), AllocError> {
+fn push_row(out: &mut String, name: &str, row: &Row, span: LineSpan) -> Result<(), AllocError> {
     let mut before = "{";
     for (cell, field, _) in CELLS.iter() {
         out.push_str(before)?;

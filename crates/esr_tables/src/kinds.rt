@@ -14,7 +14,7 @@ use std::alloc::{AllocError, Global};
 
 /// What kind of transaction there is.
 #[derive(Clone, Copy)]
-pub enum Kind {
+pub enum RowKind {
     Update,
     Query,
     /// A strict query.
@@ -22,28 +22,28 @@ pub enum Kind {
 }
 
 /// The kind of the transaction that an entry begins, if that is accepted.
-fn kind_in(entry: Entry) -> Option<Kind>
+fn kind_in(entry: Entry) -> Option<RowKind>
     ensures { result ≡ kind_in entry }
 {
     if entry.is_refused() {
         return None;
     }
     match entry.event {
-        Event::BeginUpdate { limit: _ } => Some(Kind::Update),
+        Event::BeginUpdate { limit: _ } => Some(RowKind::Update),
         Event::BeginQuery {
             limit: _,
             strict: true,
-        } => Some(Kind::Strict),
+        } => Some(RowKind::Strict),
         Event::BeginQuery {
             limit: _,
             strict: false,
-        } => Some(Kind::Query),
+        } => Some(RowKind::Query),
         _ => None,
     }
 }
 
 /// Appends the kind of the transaction that an entry begins, if that is accepted.
-fn push_kind(kinds: &mut Vec<Kind>, entry: Entry) -> Result<(), AllocError>
+fn push_kind(kinds: &mut Vec<RowKind>, entry: Entry) -> Result<(), AllocError>
     ensures { OnOk result (kinds.new.items ≡ kinds.old.items ++ filter_map kind_in (entry ∷ [])) }
 {
     if let Some(kind) = kind_in(entry) {
@@ -53,7 +53,7 @@ fn push_kind(kinds: &mut Vec<Kind>, entry: Entry) -> Result<(), AllocError>
 }
 
 /// The kinds of the transactions, the first that of transaction 1.
-pub fn kinds(alloc: Global, history: &History<Weighted>) -> Result<Vec<Kind>, AllocError>
+pub fn kinds(alloc: Global, history: &History<Weighted>) -> Result<Vec<RowKind>, AllocError>
     ensures { IfOk result (λ v. v.items ≡ map kind_of (beginnings (accepted_in history.now.schedule))) }
 {
     let log = history.log();

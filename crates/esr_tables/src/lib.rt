@@ -1,9 +1,9 @@
-//! What a script did, as tables for people and programs: a ledger with a row for each transaction, and what audits and
-//! explanations say, in CSV and JSON.
+//! Tables of a script for people and programs: a ledger with one row for each transaction, and audits and explanations
+//! as CSV and JSON.
 //!
-//! A ledger's rows are a definition over the history, and its CSV is proved to be the text of just these rows; its other
-//! forms, and those of audits and explanations, are proved safe and tested. The lines that a transaction goes from and
-//! to are beside the proved part: a history knows no lines.
+//! The rows of a ledger are a definition over the history, and its CSV is proved to be the text of exactly these rows.
+//! Its other formats, and those of audits and explanations, are proved safe and are tested. The line numbers of a
+//! transaction's first and last line are outside the proved part, because a history has no line numbers.
 #![tactic(auto)]
 
 mod audits;
@@ -22,7 +22,7 @@ mod tallies;
 mod text;
 mod words;
 
-pub use audits::AuditTable;
+pub use audits::audit_table;
 pub use explanations::ExplanationTable;
 pub use format::{Data, Format};
 pub use ledger::{Ledger, history_ledger};

@@ -14,7 +14,7 @@ ghost use Rattle.esr_tables.specs.Entries.{AreColumns, AreTallies, end_at};
 
 use crate::distances::{distance_at, distances, txn_at};
 use crate::exports::exports;
-use crate::kinds::{Kind, kinds};
+use crate::kinds::{RowKind, kinds};
 use crate::tallies::{Tally, tallies};
 use esr_history::{Entry, Event, History, Log, NoMemory, TxnId};
 use esr_items::Weighted;
@@ -22,7 +22,7 @@ use std::alloc::Global;
 
 /// How a transaction ended.
 #[derive(Clone, Copy)]
-pub enum End {
+pub enum RowEnd {
     Committed,
     Aborted,
     Active,
@@ -32,14 +32,14 @@ pub enum End {
 #[derive(Clone, Copy)]
 pub struct Row {
     pub number: TxnId,
-    pub kind: Kind,
+    pub kind: RowKind,
     pub limit: u64,
     /// What it imported as a query, or exported as an update.
     pub charged: u64,
     /// What is left of the limit.
     pub left: u64,
     pub tally: Tally,
-    pub end: End,
+    pub end: RowEnd,
     /// How far it was from the nearest serial placement, as a committed query.
     pub distance: Option<u64>,
 }
@@ -47,7 +47,7 @@ pub struct Row {
 /// What is found of all transactions at once.
 #[derive(Drop)]
 pub struct Columns {
-    kinds: Vec<Kind>,
+    kinds: Vec<RowKind>,
     tallies: Vec<Tally>,
     exports: Vec<u64>,
     distances: Vec<Option<u64>>,
@@ -80,20 +80,20 @@ fn is_commit(entry: Entry) -> bool
 }
 
 /// How a transaction ended whose accepted commit or abort is at this place, if there is one.
-fn end_at(log: &Log, place: Option<u64>) -> End
+fn end_at(log: &Log, place: Option<u64>) -> RowEnd
     ensures { result ≡ end_at log.now.entries place }
 {
     let Some(place) = place else {
-        return End::Active;
+        return RowEnd::Active;
     };
     match log.get(place as usize) {
-        Some(entry) if is_commit(entry) => End::Committed,
-        _ => End::Aborted,
+        Some(entry) if is_commit(entry) => RowEnd::Committed,
+        _ => RowEnd::Aborted,
     }
 }
 
 /// How a transaction ended.
-fn end_of(history: &History<Weighted>, t: TxnId) -> End
+fn end_of(history: &History<Weighted>, t: TxnId) -> RowEnd
     requires { (1 ≤ t.0) × (t.0 ≤ begun_count history.now.schedule.entries) }
     ensures { result ≡ end_of history.now.schedule t.0 }
 {
@@ -104,13 +104,13 @@ fn end_of(history: &History<Weighted>, t: TxnId) -> End
 }
 
 /// The kind of a transaction.
-fn kind_at(kinds: &[Kind], t: TxnId) -> Kind
+fn kind_at(kinds: &[RowKind], t: TxnId) -> RowKind
     requires { 1 ≤ t.0 }
     ensures { (h : Schedule) → kinds.now ≡ map kind_of (beginnings (accepted_in h)) → result ≡ kind_at h t.0 }
 {
     match kinds.get(t.0 as usize - 1) {
         Some(kind) => *kind,
-        None => Kind::Update,
+        None => RowKind::Update,
     }
 }
 

@@ -12,7 +12,7 @@ use std::alloc::{AllocError, Global};
 
 /// The numbers of two lines of a script, from 1; 0 where there is none.
 #[derive(Clone, Copy)]
-pub struct Span {
+pub struct LineSpan {
     /// The line that begins the transaction.
     pub first: u32,
     /// The last line of the transaction that was accepted or blocked.
@@ -21,9 +21,9 @@ pub struct Span {
 
 /// The spans of transactions, by their numbers.
 #[derive(Drop)]
-pub struct Spans(Vec<Span>);
+pub struct Spans(Vec<LineSpan>);
 
-const NOWHERE: Span = Span { first: 0, last: 0 };
+const NOWHERE: LineSpan = LineSpan { first: 0, last: 0 };
 
 /// Whether a line was refused for another reason than a lock or a limit.
 fn is_mistaken(reply: Reply) -> bool {
@@ -38,7 +38,7 @@ fn is_mistaken(reply: Reply) -> bool {
 
 impl Spans {
     /// The span of a transaction.
-    pub fn of(&self, t: TxnId) -> Span
+    pub fn of(&self, t: TxnId) -> LineSpan
         ensures first { result.first ≡ first_of self.now t.0 }
         ensures last { result.last ≡ last_of self.now t.0 }
     {

@@ -5,7 +5,7 @@ ghost use Rattle.esr_tables.specs.Entries.{AreColumns};
 
 use crate::cells::{CELLS, Cell, Content, content_of};
 use crate::rows::{Columns, Row, row_at};
-use crate::spans::{Span, Spans};
+use crate::spans::{LineSpan, Spans};
 use crate::words::push_number;
 use esr_history::History;
 use esr_items::Weighted;
@@ -47,7 +47,7 @@ impl Widths {
     }
 
     /// Widens the columns to the cells of a row.
-    fn widen(&mut self, name: &str, row: &Row, span: Span) {
+    fn widen(&mut self, name: &str, row: &Row, span: LineSpan) {
         for (width, (cell, _, _)) in self.0.iter_mut().zip(CELLS.iter()) {
             *width = (*width).max(width_of(content_of(*cell, name, row, span)));
         }
@@ -109,7 +109,7 @@ fn push_row(
     widths: &Widths,
     name: &str,
     row: &Row,
-    span: Span,
+    span: LineSpan,
 ) -> Result<(), AllocError> {
     for (width, (cell, _, _)) in widths.0.iter().zip(CELLS.iter()) {
         if *cell != Cell::Number {

@@ -1,6 +1,6 @@
-//! The calls of the libraries, each on its happy path and at its errors: that a call succeeds where there is memory no
-//! contract can say. A file for each library. Tests stand here, above the crates that they try, since a crate that has
-//! tests is proved twice.
+//! Tests of the libraries' calls: each call on its success path and at each of its errors. No contract can state that a
+//! call succeeds if memory is available. There is one file for each library. The tests are in a crate above the
+//! libraries because a crate that has tests is proved twice.
 #![tactic(auto)]
 
 #[cfg(test)]

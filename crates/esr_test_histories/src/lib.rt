@@ -1,5 +1,6 @@
-//! Worked histories, played by the machine, ordered for their queries and audited; and plain programs beside them that
-//! share nothing with the fast forms: all placements listed, scans of the log, all pairs of conflicting updates.
+//! Worked histories that the machine plays, the conflict order of their queries, and their audits, compared with plain
+//! programs that share nothing with the fast implementations: an enumeration of all placements, scans of the log, all
+//! pairs of conflicting updates.
 #![tactic(auto)]
 
 #[cfg(test)]

@@ -1,5 +1,5 @@
-//! What the program writes, byte for byte: of scripts, their audits, certificates, bundles and drive files. The
-//! expected texts are written by hand from the formats, and never by the program.
+//! Tests of the program's output, byte for byte: scripts, their audits, certificates, bundles and drive files. The
+//! expected texts are written by hand from the formats, never by the program.
 #![tactic(auto)]
 
 #[cfg(test)]

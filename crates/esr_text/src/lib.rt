@@ -1,14 +1,16 @@
-//! What texts for people are made of, whatever they tell: numbers in groups, lines of a width, and whether a text is
-//! markup.
+//! Building blocks of text for people: digit grouping, line wrapping, and a test for well-formed markup.
 //!
-//! It stands on no history, so that what writes plain data, as `esr_svg`, is proved beside the engine and not behind it.
+//! The crate does not depend on histories, so crates that write plain data, such as `esr_svg`, are proved in parallel
+//! with the engine.
 #![tactic(auto)]
 
+mod escape;
 mod lines;
 mod lists;
 mod markup;
 mod numbers;
 
+pub use escape::push_plain;
 pub use lines::wrap;
 pub use lists::first;
 pub use markup::{is_attributes, is_markup, markup_or_nothing};

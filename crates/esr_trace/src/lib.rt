@@ -1,9 +1,8 @@
-//! What happened to a query, and what everybody who tells of it shares: its story, which the history has (what it read
-//! and whose that was, what it was charged and by whom), and the few sentences that stand above a picture and open its
-//! prose.
+//! The trace of a query: its reads and the writers of the values, its charges and the transactions charged, and the few
+//! sentences that appear above a picture and at the beginning of its prose.
 //!
-//! Pictures and prose stand on this crate and not on one another, so that neither waits for the other's words.
-//! It is safe and ends; what it says is promised by no clause.
+//! Pictures and prose depend on this crate and not on each other, so they are proved in parallel. The crate is proved
+//! safe and terminating. No clause specifies the text.
 #![tactic(auto)]
 
 mod part;
@@ -16,4 +15,4 @@ pub use part::Part;
 pub use sentences::{push_nearest_moment, push_strict, push_verdict, sentences_of};
 pub use subject::Audited;
 pub use text::{MAX_NAMES, push_names, push_rest};
-pub use trace::{Cause, Charge, End, ObservedRead, QueryTrace, Sum, trace_of};
+pub use trace::{Cause, ChargeGroup, ObservedRead, QueryTrace, Sum, WriterEnd, trace_of};

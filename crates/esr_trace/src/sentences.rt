@@ -47,17 +47,17 @@ pub fn push_verdict(
 ) -> Result<(), AllocError> {
     let query = name(audited, audited.finding.query);
     if trace.observed_reads.is_empty() {
-        return write!(out, "{query} read nothing.");
+        return write!(out, "{query} read no item.");
     }
     write!(out, "What {query}")?;
     if audited.finding.distance > 0 {
         return out.push_str(if has_to_be_behind(audited) {
-            " read was true at no moment that a strict report may have."
+            " read was not a state that a strict report may be placed at."
         } else {
-            " read was never true at one moment."
+            " read was never a consistent state."
         });
     }
-    out.push_str(" read was true at one moment, ")?;
+    out.push_str(" read was a consistent state, ")?;
     push_moment(out, audited, trace)?;
     out.push('.')
 }
@@ -71,7 +71,7 @@ pub fn push_nearest_moment(
     out.push_str(if has_to_be_behind(audited) {
         "The nearest of these, "
     } else {
-        "The nearest moment, "
+        "The nearest state, "
     })?;
     push_moment(out, audited, trace)?;
     out.push_str(", differs by ")?;
@@ -160,9 +160,9 @@ fn push_predecessors(
     audited: &Audited<'_>,
     seen: &[TxnId],
 ) -> Result<(), AllocError> {
-    out.push_str("It is strict, and had to be behind ")?;
+    out.push_str("It is strict, so it must be placed after ")?;
     push_names(out, audited.transactions, seen)?;
-    out.push_str(", which had committed when it began.")
+    out.push_str(", which had committed before it began.")
 }
 
 /// A sentence above the lanes.

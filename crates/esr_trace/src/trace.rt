@@ -17,7 +17,7 @@ const MAX_CHARGES: usize = 12;
 
 /// How a transaction ended, as the query could know it at its end.
 #[derive(Clone, Copy)]
-pub enum End {
+pub enum WriterEnd {
     /// It committed before the query did.
     Committed,
     Aborted,
@@ -52,7 +52,7 @@ pub enum Cause {
 
 /// A charge to the query, or several one after another of reads that were alike.
 #[derive(Clone, Copy)]
-pub struct Charge {
+pub struct ChargeGroup {
     pub update: TxnId,
     pub item: ItemId,
     /// How much was charged, all together.
@@ -67,9 +67,9 @@ pub struct Charge {
     pub place: usize,
 }
 
-impl Charge {
+impl ChargeGroup {
     /// Whether another one is of a read that was like those of this one.
-    fn is_like(&self, other: &Charge) -> bool {
+    fn is_like(&self, other: &ChargeGroup) -> bool {
         self.cause == Cause::Read
             && other.cause == Cause::Read
             && self.update == other.update
@@ -79,7 +79,7 @@ impl Charge {
     }
 
     /// Takes another one in.
-    fn take_in(&mut self, other: &Charge) {
+    fn take_in(&mut self, other: &ChargeGroup) {
         self.amount = self.amount.saturating_add(other.amount);
         self.count = self.count.saturating_add(other.count);
     }
@@ -107,21 +107,21 @@ struct ItemState {
 
 impl ItemState {
     /// Keeps or puts back what the writer wrote, where it has ended.
-    fn settle(&mut self, ends: &[End]) {
+    fn settle(&mut self, ends: &[WriterEnd]) {
         let Some(writer) = self.writer else {
             return;
         };
         match end_in(ends, writer) {
-            End::Committed => {
+            WriterEnd::Committed => {
                 self.committed = self.current;
                 self.keeper = self.writer;
                 self.writer = None;
             }
-            End::Aborted => {
+            WriterEnd::Aborted => {
                 self.current = self.committed;
                 self.writer = None;
             }
-            End::Later => {}
+            WriterEnd::Later => {}
         }
     }
 }
@@ -133,8 +133,10 @@ fn gap(metric: &Weighted, item: ItemId, a: i64, b: i64) -> u64 {
 }
 
 /// How a transaction ended.
-fn end_in(ends: &[End], txn: TxnId) -> End {
-    ends.get(txn.0 as usize).copied().unwrap_or(End::Later)
+fn end_in(ends: &[WriterEnd], txn: TxnId) -> WriterEnd {
+    ends.get(txn.0 as usize)
+        .copied()
+        .unwrap_or(WriterEnd::Later)
 }
 
 /// Adds to the sum of that number.
@@ -168,14 +170,14 @@ fn ranking(alloc: Global, sums: &[u64]) -> Result<Vec<Sum>, AllocError> {
 pub struct QueryTrace {
     query: TxnId,
     items: Vec<ItemState>,
-    ends: Vec<End>,
+    ends: Vec<WriterEnd>,
     /// What the query was charged, by the number of the update and by that of the item.
     by_update: Vec<u64>,
     by_item: Vec<u64>,
     /// Each value that the query read of an item, once.
     pub observed_reads: Vec<ObservedRead>,
     /// The first charges, and how many there are of all.
-    pub charges: Vec<Charge>,
+    pub charges: Vec<ChargeGroup>,
     pub charge_count: u64,
     /// Whether charges came that are not kept.
     is_cut: bool,
@@ -212,7 +214,7 @@ impl QueryTrace {
         Ok(QueryTrace {
             query,
             items: openings(alloc, history)?,
-            ends: vec![in alloc; End::Later; MAX_NUMBERS]?,
+            ends: vec![in alloc; WriterEnd::Later; MAX_NUMBERS]?,
             by_update: vec![in alloc; 0u64; MAX_NUMBERS]?,
             by_item: vec![in alloc; 0u64; history.items() as usize]?,
             observed_reads: Vec::new(alloc),
@@ -227,12 +229,12 @@ impl QueryTrace {
     }
 
     /// How a transaction ended.
-    pub fn end(&self, txn: TxnId) -> End {
+    pub fn end(&self, txn: TxnId) -> WriterEnd {
         end_in(&self.ends, txn)
     }
 
     /// Notes a charge, where it is above 0.
-    fn charge(&mut self, charge: Charge) -> Result<(), AllocError> {
+    fn charge(&mut self, charge: ChargeGroup) -> Result<(), AllocError> {
         if charge.amount == 0 {
             return Ok(());
         }
@@ -243,7 +245,7 @@ impl QueryTrace {
     }
 
     /// Keeps a charge, if there is room.
-    fn keep(&mut self, charge: Charge) -> Result<(), AllocError> {
+    fn keep(&mut self, charge: ChargeGroup) -> Result<(), AllocError> {
         let is_cut = self.is_cut;
         if let Some(last) = self.charges.last_mut() {
             if !is_cut && last.is_like(&charge) {
@@ -300,7 +302,7 @@ impl QueryTrace {
         state.reads = state.reads.saturating_add(1);
         let now = *state;
         if let Some(update) = now.writer {
-            self.charge(Charge {
+            self.charge(ChargeGroup {
                 update,
                 item,
                 amount: gap(metric, item, now.current, now.committed),
@@ -348,7 +350,7 @@ impl QueryTrace {
             return Ok(());
         }
         let each = gap(metric, item, value, before.current);
-        self.charge(Charge {
+        self.charge(ChargeGroup {
             update,
             item,
             amount: each.saturating_mul(before.reads),
@@ -369,7 +371,7 @@ impl QueryTrace {
         }
         if !is_query && !self.has_ended {
             self.committed = self.committed.saturating_add(1);
-            self.note_end(txn, End::Committed);
+            self.note_end(txn, WriterEnd::Committed);
         }
     }
 
@@ -378,10 +380,10 @@ impl QueryTrace {
         if txn == self.query {
             self.has_ended = true;
         }
-        self.note_end(txn, End::Aborted);
+        self.note_end(txn, WriterEnd::Aborted);
     }
 
-    fn note_end(&mut self, txn: TxnId, end: End) {
+    fn note_end(&mut self, txn: TxnId, end: WriterEnd) {
         if let Some(place) = self.ends.get_mut(txn.0 as usize) {
             *place = end;
         }

@@ -1,6 +1,7 @@
-//! What a script answers to one who asks for one of its queries, and what is told of it then: a text, of which each
-//! telling says which it may be; and what a whole script leads to, with the texts of that. Scripts are not run here, so
-//! no telling waits for the proof of what runs them.
+//! Interfaces between the crate that runs scripts and the crates that describe them: the view of an audited query and
+//! the view of a whole script, each with the texts that may be written about it.
+//!
+//! Scripts are not run here, so a crate that writes such a text does not wait for the proof of `esr_script`.
 #![tactic(auto)]
 
 mod query;

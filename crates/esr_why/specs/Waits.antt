@@ -19,6 +19,10 @@ abbrev pub turned : List TxnId → List TxnId
 turned [] = []
 turned (t ∷ ts) = ts ++ t ∷ []
 
+-- a list of waits that begins with this one
+abbrev pub BeginsWith : Wait → List Wait → Type 0
+BeginsWith first ws = (rest : List Wait) × (ws ≡ first ∷ rest)
+
 -- each waits for the next, and the last for the first
 pub record IsCycle (es : List Entry) (ws : List Wait) : Type 0 where
   pub waiting : All (IsWaiting es) ws

@@ -1,11 +1,11 @@
-//! Why lines of a script were blocked: by whose lock, or how much was asked of a limit and how much was left of it; and
-//! the rings of transactions that wait for one another.
+//! Explains blocked lines of a script: the lock holder, or the amount requested from a limit and the amount that was
+//! left; and the cycles of transactions that wait for one another.
 //!
-//! A history keeps of a refusal only whom it names. So the history is made again by a machine, and beside it stand the
-//! locks, for the queries that a write would charge. What is told of limits is by the definition of the charges that were
-//! due (`Shortfall`), and a ring is told only where each of it waits for the next (`LastEntries::cycle`); how that is worded is
-//! promised by no clause. That each entry were found by a scan of those before it was rejected: a script of a million lines
-//! may be blocked at half of them.
+//! A history records only the transaction that a refusal names. This crate therefore replays the history on a machine,
+//! whose look-ups return the lock holders and the queries that a write would charge. Amounts follow the definition of
+//! the charges due (`Shortfall`), and a cycle is reported only if each member waits for the next
+//! (`LastEntries::cycle`). No clause specifies the wording. Scanning the earlier entries for each blocked line was
+//! rejected: half the lines of a script of a million lines may be blocked.
 #![tactic(auto)]
 
 mod reasons;

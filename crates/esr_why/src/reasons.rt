@@ -10,7 +10,7 @@ ghost use Rattle.esr_why.specs.Replays.{until};
 ghost use Rattle.esr_why.specs.Waits.{AreLastEntries};
 
 use crate::replay::{Lock, Replay};
-use crate::sentences::Script;
+use crate::sentences::NumberedScript;
 use crate::waits::{LastEntries, Wait, transaction_of};
 use esr_history::{Entry, Event, History, NoMemory, Refusal, Reply, TxnId};
 use esr_items::Weighted;
@@ -66,7 +66,7 @@ fn lock_of(replay: &Replay<'_>, event: Event, holder: TxnId) -> Lock
 #[derive(Drop)]
 struct Reporter<'a> {
     alloc: Global,
-    script: Script<'a>,
+    script: NumberedScript<'a>,
     sought: Sought,
     replay: Replay<'a>,
     last_entries: LastEntries,
@@ -190,7 +190,7 @@ fn text_about(
     let history = &recording.history;
     let mut reporter = Reporter {
         alloc,
-        script: Script::new(recording),
+        script: NumberedScript::new(recording),
         sought,
         replay: Replay::new(alloc, history)?,
         last_entries: LastEntries::new(alloc, history.begun_count())?,
@@ -203,8 +203,8 @@ fn text_about(
 /// The one line where there is nothing to tell.
 fn push_nothing(out: &mut String, name: Option<&str>) -> Result<(), AllocError> {
     match name {
-        Some(name) => writeln!(out, "nothing of {name} was blocked"),
-        None => out.push_str("nothing was blocked\n"),
+        Some(name) => writeln!(out, "no line of {name} was blocked"),
+        None => out.push_str("no line was blocked\n"),
     }
 }
 

@@ -11,7 +11,7 @@ use std::alloc::AllocError;
 
 /// A script with the line of each entry.
 #[derive(Clone, Copy)]
-pub struct Script<'a> {
+pub struct NumberedScript<'a> {
     pub items: &'a Names,
     pub transactions: &'a Names,
     pub history: &'a History<Weighted>,
@@ -19,10 +19,10 @@ pub struct Script<'a> {
     pub lines: &'a [u32],
 }
 
-impl<'a> Script<'a> {
+impl<'a> NumberedScript<'a> {
     /// What a script leads to, with the line of each entry.
-    pub fn new(recording: &'a Recording<'_>) -> Script<'a> {
-        Script {
+    pub fn new(recording: &'a Recording<'_>) -> NumberedScript<'a> {
+        NumberedScript {
             items: &recording.items,
             transactions: &recording.transactions,
             history: &recording.history,
@@ -106,20 +106,25 @@ impl<'a> Script<'a> {
         let (due, left, limit) = (shortfall.due, shortfall.rest(), shortfall.limit);
         write!(
             out,
-            "the {side} limit of {name}: {due} would be charged, {left} of {limit} is left"
+            "the {side} limit of {name}: charge {due}, remaining {left} of {limit}"
         )
     }
 
-    /// Which limits would have let an event pass that lacked this.
+    /// Appends the limits with which an event with these shortfalls would have been accepted.
     fn push_remedy(&self, out: &mut String, shortfalls: &[Shortfall]) -> Result<(), AllocError> {
         if shortfalls.iter().any(|s| s.enough > u128::from(MAX_LIMIT)) {
-            return out.push_str("; no limit would let it pass");
+            return out.push_str("; no limit would suffice");
         }
+        let start = if shortfalls.len() == 1 {
+            "; a limit of "
+        } else {
+            "; limits of "
+        };
         for (place, shortfall) in shortfalls.iter().enumerate() {
-            out.push_str(if place == 0 { "; " } else { " and " })?;
+            out.push_str(if place == 0 { start } else { " and " })?;
             self.push_enough(out, *shortfall, shortfalls.len())?;
         }
-        out.push_str(" would let it pass")
+        out.push_str(" would suffice")
     }
 
     /// A limit that would do, with whose it is where there are several.

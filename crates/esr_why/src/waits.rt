@@ -7,7 +7,7 @@
 ghost use Rattle.std.specs.Prelude.{◌≡◌, ◌++◌, ◌∷◌, [], List, Some, All, IsTrue, IfOk, IfSome, length, map, option_map};
 ghost use Rattle.esr_history.specs.BackLinks.{last_place, txn_in};
 ghost use Rattle.esr_history.specs.declared.event.Entry.{Entry};
-ghost use Rattle.esr_why.specs.Waits.{AreLastEntries, IsCycle, IsWaiting, turned};
+ghost use Rattle.esr_why.specs.Waits.{AreLastEntries, BeginsWith, IsCycle, IsWaiting, turned};
 
 use esr_history::{Entry, Event, Log, Refusal, Reply, TxnId};
 use std::alloc::{AllocError, Global};
@@ -109,9 +109,10 @@ impl LastEntries {
         }
     }
 
-    /// The wait of a transaction, if it waits.
+    /// Returns the wait of a transaction, if its last event was blocked by a lock.
     pub fn wait(&self, log: &Log, txn: TxnId) -> Option<Wait>
-        ensures { AreLastEntries log.now.entries self.now.places.items → IfSome result (IsWaiting log.now.entries) }
+        ensures wait { AreLastEntries log.now.entries self.now.places.items → IfSome result (IsWaiting log.now.entries) }
+        ensures txn { IfSome result (λ w. w.txn ≡ txn) }
     {
         let place = self.place(txn)?;
         let entry = log.get(place)?;
@@ -133,11 +134,12 @@ impl LastEntries {
         true
     }
 
-    /// Those who wait for one another, from one on, as far as a walk goes.
+    /// Returns the waits from the first on, each for the next, until a transaction does not wait or was met before.
     fn walk(&mut self, alloc: Global, log: &Log, first: Wait) -> Result<Vec<Wait>, AllocError>
         requires last_entries { AreLastEntries log.now.entries self.old.places.items }
         requires first { IsWaiting log.now.entries first }
         ensures waiting { IfOk result (λ v. All (IsWaiting log.now.entries) v.items) }
+        ensures first { IfOk result (λ v. BeginsWith first v.items) }
         ensures places { self.new.places ≡ self.old.places }
     {
         let mut waits = Vec::new(alloc);
@@ -156,7 +158,7 @@ impl LastEntries {
         Ok(waits)
     }
 
-    /// The ring that one closes who waits, if one does.
+    /// Returns the cycle of waits that begins with the given one, if it closes a cycle.
     pub fn cycle(
         &mut self,
         alloc: Global,
@@ -166,6 +168,7 @@ impl LastEntries {
         requires last_entries { AreLastEntries log.now.entries self.old.places.items }
         requires first { IsWaiting log.now.entries first }
         ensures cycle { IfOk result (λ found. IfSome found (λ v. IsCycle log.now.entries v.items)) }
+        ensures first { IfOk result (λ found. IfSome found (λ v. BeginsWith first v.items)) }
         ensures places { self.new.places ≡ self.old.places }
     {
         let waits = self.walk(alloc, log, first)?;

@@ -1,7 +1,7 @@
 //! Blocks of a drive run at the same time.
 
 use crate::tests::meeting::Meeting;
-use esr_drive::{Form, drive};
+use esr_drive::{DriveOutput, drive};
 use esr_history::Watched;
 use esr_lint::Unobserved;
 
@@ -17,7 +17,7 @@ fn two_blocks_are_in_the_gate_at_once(rt: HostRuntime) {
         rt.alloc(),
         &mut reader,
         &mut writer,
-        Form::Text { workers: 1 },
+        DriveOutput::Text { workers: 1 },
         &gate,
         &mut Unobserved,
     );

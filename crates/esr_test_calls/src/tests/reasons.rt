@@ -7,146 +7,142 @@ use std::process::Abort;
 type Row = (&'static [u8], usize, &'static str);
 
 /// Lines that are no command, the column of what is wrong, and the reason.
-static ROWS: [Row; 32] = [
+static ROWS: [Row; 34] = [
     // The ways to misspell one line, each with its own reason: a blank at its end,
-    (b"item a 1 ", 9, "a blank at the end"),
+    (b"item a 1 ", 9, "trailing space"),
     // a blank in front,
-    (b" item a 1", 1, "a blank in front"),
+    (b" item a 1", 1, "leading space"),
     // two blanks,
-    (b"item  a 1", 6, "two blanks; one separates words"),
-    // a tab,
-    (b"item\ta 1", 5, "a tab; one blank separates words"),
-    // the line end of another system,
     (
-        b"item a 1\r",
-        9,
-        "the line ends with a carriage return (CR LF); lines end with LF alone",
+        b"item  a 1",
+        6,
+        "consecutive spaces; separate words with a single space",
     ),
+    // a tab,
+    (
+        b"item\ta 1",
+        5,
+        "tab character; separate words with a single space",
+    ),
+    // the line end of another system,
+    (b"item a 1\r", 9, "line ends with CR LF; use LF only"),
     // the mark of another editor,
     (
         b"\xEF\xBB\xBFitem a 1",
         1,
-        "a byte order mark is in front; save the file as UTF-8 without one",
+        "file starts with a byte order mark; save it as UTF-8 without one",
     ),
     // another encoding,
+    (b"\xFF\xFEi\0t\0", 1, "file is UTF-16; save it as UTF-8"),
+    // the same encoding without a mark,
+    (b"\0i\0t", 1, "file is UTF-16; save it as UTF-8"),
+    // one NUL byte in a line of ASCII,
     (
-        b"\xFF\xFEi\0t\0",
-        1,
-        "this is UTF-16; save the file as UTF-8",
+        b"item a\0 1",
+        7,
+        "byte \\x00 is not printable ASCII; names may contain only letters, digits and _",
     ),
     // a letter of another alphabet,
     (
         b"item caf\xC3\xA9 1",
         9,
-        "the byte \\xc3 is no ASCII character; names are letters, digits and _",
+        "byte \\xc3 is not printable ASCII; names may contain only letters, digits and _",
     ),
     // a capital,
-    (b"Item a 1", 1, "\"Item\" is no command; item?"),
+    (b"Item a 1", 1, "unknown command \"Item\"; item?"),
     // letters that changed places,
-    (b"itme a 1", 1, "\"itme\" is no command; item?"),
+    (b"itme a 1", 1, "unknown command \"itme\"; item?"),
     // a name that begins with a digit,
-    (
-        b"item 1a 1",
-        6,
-        "the name \"1a\" does not begin with a letter",
-    ),
+    (b"item 1a 1", 6, "name \"1a\" does not start with a letter"),
     // a name with another byte,
     (
         b"item a-b 1",
         6,
-        "the name \"a-b\" has a \"-\"; names are letters, digits and _",
+        "name \"a-b\" contains \"-\"; names may contain only letters, digits and _",
     ),
     // a name that is too long,
     (
         b"item abcdefghijklmnopq 1",
         6,
-        "the name \"abcdefghijklmnopq\" has 17 letters; 16 is the most",
+        "name \"abcdefghijklmnopq\" is 17 characters long (maximum 16)",
     ),
     // a plus sign,
-    (b"item a +1", 8, "\"+1\" has a plus sign; write it without"),
+    (b"item a +1", 8, "\"+1\" has a plus sign; remove it"),
     // a fraction,
     (
         b"item a 1.5",
         8,
-        "\"1.5\" has a fraction; numbers are whole (take a smaller unit, as cents)",
+        "\"1.5\" has a fraction; only integers are allowed (use a smaller unit, such as cents)",
     ),
     // a separator,
     (
         b"item a 1,000",
         8,
-        "\"1,000\" has a separator; write its digits alone",
+        "\"1,000\" has a digit separator; write digits only",
     ),
     // zeros in front,
-    (
-        b"item a 007",
-        8,
-        "\"007\" has zeros in front; write it without",
-    ),
+    (b"item a 007", 8, "\"007\" has leading zeros; remove them"),
     // a zero with a sign,
-    (b"item a -0", 8, "\"-0\" is written 0"),
+    (b"item a -0", 8, "\"-0\" is not allowed; write 0"),
     // a digit too many,
     (
         b"item a 1234567890123456789",
         8,
-        "\"1234567890123456789\" has too many digits; 18 is the most",
+        "\"1234567890123456789\" has too many digits (maximum 18)",
     ),
     // a word for a number,
-    (b"item a one", 8, "\"one\" is no whole number"),
+    (b"item a one", 8, "\"one\" is not an integer"),
     // no value,
     (
         b"item a",
         8,
-        "a value is missing; the form is: item NAME VALUE, with or without weight W behind it",
+        "missing value; usage: item NAME VALUE [weight W]",
     ),
     // a comment behind it.
     (
         b"item a 1 # one",
         10,
-        "a comment behind a command; a comment is a line of its own",
+        "comment after a command; comments must be on their own line",
     ),
     // A word that is near none has no hint.
-    (b"hello", 1, "\"hello\" is no command"),
+    (b"hello", 1, "unknown command \"hello\""),
     // A letter is missing.
-    (b"comit q", 1, "\"comit\" is no command; commit?"),
+    (b"comit q", 1, "unknown command \"comit\"; commit?"),
     // The word of the other kind of transaction.
     (
         b"begin q qurey 5",
         9,
-        "\"qurey\" stands in place of update or query; query?",
+        "expected update or query, found \"qurey\"; query?",
     ),
     // A limit has no sign.
     (
         b"begin q query -5",
         15,
-        "\"-5\" is negative; limits and weights are not",
+        "\"-5\" is negative; limits and weights must not be negative",
     ),
     // Only a report is placed behind what had committed.
-    (b"begin u update 5 strict", 18, "only a query can be strict"),
+    (b"begin u update 5 strict", 18, "only queries can be strict"),
     // A misspelled last word.
     (
         b"begin q query 5 strickt",
         17,
-        "\"strickt\" stands in place of strict; strict?",
+        "expected strict, found \"strickt\"; strict?",
     ),
     // A word too many.
     (
         b"read q a b",
         10,
-        "\"b\" is too much; the form is: read TRANSACTION ITEM",
+        "unexpected \"b\"; usage: read TRANSACTION ITEM",
     ),
     // The first word alone.
-    (
-        b"commit",
-        7,
-        "a name is missing; the form is: commit TRANSACTION",
-    ),
+    (b"commit", 7, "missing name; usage: commit TRANSACTION"),
     // What `totals` is asked with.
-    (b"totals q", 8, "\"q\" is too much; the form is: totals"),
+    (b"totals q", 8, "unexpected \"q\"; usage: totals"),
     // A line of another kind of file.
     (
         b"session",
         1,
-        "\"session\" is of a drive file; esr drive runs one",
+        "\"session\" is allowed only in drive files; use esr drive",
     ),
 ];
 

@@ -86,7 +86,7 @@ fn what_a_fault_is_is_told(rt: HostRuntime) {
     let detail = detail_of(rt.alloc(), CHANGED.as_bytes());
     match &detail {
         Ok(Some(text)) => {
-            assert!(&rt; text.as_str() == "the set costs 1, the worth says 0");
+            assert!(&rt; text.as_str() == "cost of the set is 1, but worth is 0");
         }
         _ => panic!(&rt; "a detail"),
     }

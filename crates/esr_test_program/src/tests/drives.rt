@@ -7,7 +7,7 @@ ghost use Rattle.esr_base.specs.Watch.{failed};
 mod failing;
 
 use crate::tests::devices::check_written;
-use esr_drive::{DriveFault, Form, NoGate, drive};
+use esr_drive::{DriveFault, DriveOutput, NoGate, drive};
 use esr_history::Watched;
 use esr_lint::Unobserved;
 use std::alloc::Global;
@@ -272,7 +272,7 @@ fn drive_by<T: Threads + Wait + Sync, R: Read, W: Write>(
     requires writer { failed writer.old ≡ false }
     requires workers { (1 ≤ workers) × (workers ≤ 64) }
 {
-    let form = Form::Text { workers };
+    let form = DriveOutput::Text { workers };
     drive(rt, alloc, reader, writer, form, &NoGate, &mut Unobserved)
 }
 

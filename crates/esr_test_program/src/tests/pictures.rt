@@ -5,8 +5,8 @@ ghost use Rattle.esr_base.specs.Watch.{failed};
 
 use crate::tests::devices::{Way, check_cut, cut_after, narrow_until};
 use esr_history::Watched;
-use esr_lint::Unobserved;
-use esr_picture::Drawing;
+use esr_lint::{Notes, Unobserved};
+use esr_picture::{Drawing, NotedDrawing};
 use esr_script::{RunFault, render_query};
 use std::alloc::{AllocError, Global};
 use std::io::{Read, Write};
@@ -30,8 +30,8 @@ static BANK_DRAWN: [&str; 20] = [
     "<title id='report-title'>Audit of report</title>\n",
     "<desc id='report-desc'>Distance 100, import 100. In order: [report], transfer. checking: read 500, as at its place. savings: read 1,600, off by 100 from its place.</desc>\n",
     "<text class='h' x='20' y='28'>report: distance 100, import 100</text>\n",
-    "<text class='q' x='20' y='50'>What report read was never true at one moment.</text>\n",
-    "<text class='q' x='20' y='70'>The nearest moment, before all updates, differs by 100.</text>\n",
+    "<text class='q' x='20' y='50'>What report read was never a consistent state.</text>\n",
+    "<text class='q' x='20' y='70'>The nearest state, before all updates, differs by 100.</text>\n",
     "<text class='q' x='20' y='90'>Charged 100 of its limit of 200: transfer 100.</text>\n",
     "<path class='d' d='M352 142V268'/>\n",
     "<rect class='a' x='310' y='114' width='84' height='28' rx='6'/><text class='m' x='352' y='133' text-anchor='middle'>transfer</text>\n",
@@ -98,7 +98,7 @@ fn a_report_of_the_bank_is_drawn(rt: HostRuntime) {
 /// Any text from `<svg ` to `</svg>` keeps the contract: it could lack an item's second read, or say nothing at all.
 #[test]
 fn little_is_drawn(rt: HostRuntime) {
-    let texts = ["q read nothing.</text>", "Not drawn: 1 more update.</text>"];
+    let texts = ["q read no item.</text>", "Not drawn: 1 more update.</text>"];
     has(&rt, rt.alloc(), NOTHING_READ, "q", &texts);
     let texts = [
         "q: distance 6, import 6</text>",
@@ -109,13 +109,48 @@ fn little_is_drawn(rt: HostRuntime) {
     has(&rt, rt.alloc(), TWICE, "q", &texts);
 }
 
+/// Lines with errors are in a box above the picture, which is drawn as without them.
+#[test]
+fn lines_with_errors_are_drawn(rt: HostRuntime) {
+    let alloc = rt.alloc();
+    let notes = Notes::new(alloc);
+    for number in 2..8 {
+        notes.add(&format_args!("line {number}: \"a<b\""));
+    }
+    let mut reader = Watched::new(BANK.as_bytes());
+    let mut writer = Watched::new(Vec::new(alloc));
+    let view = NotedDrawing { notes: &notes };
+    let ended = render_query(
+        alloc,
+        &mut reader,
+        &mut writer,
+        "report",
+        &view,
+        &mut Unobserved,
+    );
+    assert!(&rt; ended == Ok(()));
+    let written = from_utf8(writer.inner().as_slice()).unwrap_or("");
+    for text in [
+        " viewBox='0 -128 ",
+        "<rect class='x' x='10' y='-120' ",
+        "<text class='r' x='20' y='-104'>6 lines of the script have errors and are not drawn:</text>",
+        "<text class='r' x='20' y='-86'>line 2: \"a\u{ff1c}b\"</text>",
+        "<text class='r' x='20' y='-14'>line 6: ",
+    ] {
+        assert!(&rt; written.contains(text), "the picture has {}", text);
+    }
+    for text in BANK_DRAWN {
+        assert!(&rt; written.contains(text), "the picture has {}", text);
+    }
+}
+
 /// A value that was read and given up, one that was read twice, one that its writer wrote over, and one that was given up
 /// and is the item's own all the same.
 #[test]
 fn values_that_did_not_stay_are_told(rt: HostRuntime) {
     let texts = [
         ">read 9 of u, which aborted</text>",
-        ">read 6 of v, which wrote over it</text>",
+        ">read 6 of v, which overwrote it</text>",
         ">3 x 2</text>",
         ">read 8 of w, which aborted; it is above as well</text>",
     ];

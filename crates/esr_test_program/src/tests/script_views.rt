@@ -2,8 +2,8 @@
 
 use crate::tests::pictures::BANK;
 use esr_history::Watched;
-use esr_lint::Unobserved;
-use esr_page::Page;
+use esr_lint::{Notes, Unobserved};
+use esr_page::{Origin, Page};
 use esr_picture::Drawing;
 use esr_prose::{Passage, Prose};
 use esr_script::{RunFault, render_script};
@@ -14,7 +14,7 @@ use std::str::from_utf8;
 
 /// The whole prose about the report of the bank.
 static BANK_TOLD: &str = "\
-What report read was never true at one moment. The nearest moment, before all
+What report read was never a consistent state. The nearest state, before all
 updates, differs by 100.
 
 report is a query that began in line 3 and committed in line 10.
@@ -23,20 +23,20 @@ It read 2 values:
   - checking 500, in line 4, as at the start
   - savings 1,600, in line 9, as transfer had left it
 
-Together they are 2,100.
+In total they are 2,100.
 
 It was charged 100 of its limit of 200:
   - 100 in line 6: transfer changed checking from 500 to 400, and report had
     read it
 
-At the nearest moment the values were:
-  - savings 1,500: what was read is off by 100
+In the nearest state, the values were:
+  - savings 1,500: the values read are off by 100
   - checking 500, as read
 
-Together they were 2,000 there: the sum of what was read is off by 100.
+In total they were 2,000 there: the sum of the values read is off by 100.
 
-A charge is made before anybody knows how things end: of the 100 that it was
-charged, all was needed in the end.
+Charges are made before the outcome is known: of the 100 that it was charged,
+all were necessary.
 ";
 
 /// Lines that make no entry, a value that was given up, an item with a weight, a strict query, one that aborted and one
@@ -104,20 +104,20 @@ fn a_report_of_the_bank_is_told(rt: HostRuntime) {
 fn what_became_of_values_and_queries_is_told(rt: HostRuntime) {
     let alloc = rt.alloc();
     let report = [
-        "What report read was true at no moment that a strict report may have.",
-        "It is strict, and had to be\nbehind morning, which had committed when it began.",
+        "What report read was not a state that a strict report may be placed at.",
+        "It is strict, so it must be placed after morning, which had committed before it began.",
         "report is a strict query that began in line 8 and committed in line 21.",
-        "  - till 90, in line 13, which evening had written and not committed; it aborted\n    later, in line 19\n",
+        "  - till 90, in line 13, which evening had written but not committed; it aborted\n    later, in line 19\n",
         "; a difference of gold counts 3 times",
         "By item: till 410, gold 6. By update: evening 416.",
     ];
     has(&rt, alloc, DAY, &Prose { name: "report" }, &report);
     let other = [
-        "other aborted, so no moment is compared with it.",
+        "other aborted, so it is not compared with any state.",
         "aborted in line 20.",
     ];
     has(&rt, alloc, DAY, &Prose { name: "other" }, &other);
-    let active = ["it would be off by at most the 410 that it has been charged."];
+    let active = ["its error would be at most the 410 that it has been charged."];
     has(&rt, alloc, DAY, &Prose { name: "active" }, &active);
 }
 
@@ -131,12 +131,18 @@ fn what_is_no_query_is_not_told(rt: HostRuntime) {
     }
 }
 
-/// A page that tells of so many queries.
-fn page(worst: u64) -> Page<'static, Drawing, Passage> {
+/// Returns a page with the details of `worst` queries.
+fn page<'a>(worst: u64, notes: &'a Notes) -> Page<'a, Drawing, Passage> {
     Page {
         worst,
         picture: &Drawing,
         words: &Passage,
+        origin: Origin {
+            file: Some("<bank>"),
+            date: Some("27 Nov 2026"),
+            version: "1.2.3",
+            notes,
+        },
     }
 }
 
@@ -145,7 +151,7 @@ fn page(worst: u64) -> Page<'static, Drawing, Passage> {
 fn a_page_has_each_part(rt: HostRuntime) {
     let texts = [
         "<p>1 committed query among 1 committed update.</p>",
-        "<dd>report, by 100</dd>",
+        "<dd>report, 100</dd>",
         "<li><a href='#q-report' title='report: limit 200, charged 100, off by 100'>",
         "<tr id='r-report'><td class='num'>1</td><th scope='row'><a href='#q-report'>report</a></th><td>query</td><td class='num'>200</td><td class='num'>100</td><td class='num'>100</td><td class='num'>2</td><td>committed</td><td class='num'>100</td></tr>",
         "<section id='q-report'><h3>report: off by 100</h3>",
@@ -153,11 +159,28 @@ fn a_page_has_each_part(rt: HostRuntime) {
         "<li>savings 1,600, in line 9, as transfer had left it</li>",
         "<p class='order'>transfer</p>",
     ];
-    has(&rt, rt.alloc(), BANK, &page(10), &texts);
+    let alloc = rt.alloc();
+    let notes = Notes::new(alloc);
+    has(&rt, alloc, BANK, &page(10, &notes), &texts);
     let texts = [
         "<td>aborted</td><td class='num'>-</td>",
         "<td>still active</td><td class='num'>-</td>",
         "<h2 id='all'>All queries</h2>",
     ];
-    has(&rt, rt.alloc(), DAY, &page(0), &texts);
+    has(&rt, alloc, DAY, &page(0, &notes), &texts);
+}
+
+/// The name of a file may contain any letter, and a line with an error any printable one.
+#[test]
+fn a_page_names_its_origin_and_the_lines_with_errors(rt: HostRuntime) {
+    let alloc = rt.alloc();
+    let notes = Notes::new(alloc);
+    let origin = ["<p class='origin'>\u{ff1c}bank>, 27 Nov 2026, esr 1.2.3</p>\n<p>1 committed"];
+    has(&rt, alloc, BANK, &page(10, &notes), &origin);
+    notes.add(&"line 3: unknown command \"a&b\"");
+    let errors = [
+        "<div class='errors' role='alert'><p>1 line of the script has an error and is left out here.",
+        "<li>line 3: unknown command \"a\u{ff06}b\"</li>\n</ul></div>\n",
+    ];
+    has(&rt, alloc, BANK, &page(10, &notes), &errors);
 }

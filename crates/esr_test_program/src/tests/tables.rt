@@ -4,11 +4,12 @@
 use crate::tests::script_views::script_views;
 use esr_history::Watched;
 use esr_lint::Unobserved;
-use esr_script::render_query;
-use esr_tables::{AuditTable, Data, ExplanationTable, Format, Ledger};
+use esr_script::{AuditedScript, NoGate, audit_silently, render_query};
+use esr_tables::{Data, ExplanationTable, Format, Ledger, audit_table};
 use esr_views::{QueryView, ScriptView};
 use std::alloc::Global;
 use std::process::Abort;
+use std::thread::Threads;
 
 /// Each kind, each end, and each way to be blocked; a line that is refused, behind the last line of its transaction.
 const DAY: &str = "# One day of a shop\n\
@@ -131,15 +132,37 @@ fn an_empty_ledger_has_its_heads(rt: HostRuntime) {
     writes(&rt, alloc, "item a 1\n", &json, "");
 }
 
+/// Asserts that this is the table of the audits of the bank, with each number of threads.
+fn audits_are<R: Abort + Threads + Sync>(rt: &R, alloc: Global, data: Data, text: &str) {
+    for workers in [1, 3] {
+        let mut reader = Watched::new(BANK.as_bytes());
+        let audited = audit_silently(rt, alloc, &mut reader, workers, &NoGate, &mut Unobserved);
+        let Ok(
+            AuditedScript {
+                transactions,
+                history,
+                found,
+            },
+        ) = audited
+        else {
+            panic!(rt; "a script is not audited")
+        };
+        let Ok(table) = audit_table(alloc, data, &transactions, &history, &found) else {
+            panic!(rt; "no table is made")
+        };
+        assert!(rt; table.as_slice() == text.as_bytes());
+    }
+}
+
 /// A query with an update before its nearest placement, one without, and one of the limit.
 #[test]
 fn audits_have_a_row_for_each_committed_query(rt: HostRuntime) {
     let alloc = rt.alloc();
     let csv = "number,name,limit,import,distance,before\n3,report,200,200,100,early\n";
-    writes(&rt, alloc, BANK, &AuditTable { data: Data::Csv }, csv);
+    audits_are(&rt, alloc, Data::Csv, csv);
     let json =
         "{\"number\":3,\"name\":\"report\",\"limit\":200,\"import\":200,\"distance\":100,\"before\":[\"early\"]}\n";
-    writes(&rt, alloc, BANK, &AuditTable { data: Data::Json }, json);
+    audits_are(&rt, alloc, Data::Json, json);
 }
 
 /// Both kinds of charges, and an update on each side of the nearest placement.

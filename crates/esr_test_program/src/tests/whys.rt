@@ -27,7 +27,7 @@ const CLOSING_TOLD: &str = "\
 line 10: write transfer checking 400: blocked by the read lock of other; other ended at line 12
 line 11: write other savings 1: blocked by the write lock of transfer; transfer ended at line 15
 deadlock: transfer waits for other at line 10, other waits for transfer at line 11
-line 13: write transfer savings 1700: blocked by the import limit of closer: 100 would be charged, 0 of 100 is left; 200 would let it pass; closer ended at line 14
+line 13: write transfer savings 1700: blocked by the import limit of closer: charge 100, remaining 0 of 100; a limit of 200 would suffice; closer ended at line 14
 ";
 
 /// Lines that make no entry; a write that is too much for one query of two and for its update; a read that is too much
@@ -57,8 +57,8 @@ const NIGHT: &str = "# a night\n\
         read third a\n";
 
 const NIGHT_TOLD: &str = "\
-line 11: write up a 10: blocked by the import limit of poor: 40 would be charged, 5 of 5 is left; then by the export limit of up: 60 would be charged, 10 of 10 is left; 40 for poor and 60 for up would let it pass; poor is still active; up is still active
-line 14: read poor b: blocked by the import limit of poor: 20 would be charged, 5 of 5 is left; then by the export limit of up: 20 would be charged, 10 of 10 is left; 20 for poor and 20 for up would let it pass; poor is still active; up is still active
+line 11: write up a 10: blocked by the import limit of poor: charge 40, remaining 5 of 5; then by the export limit of up: charge 60, remaining 10 of 10; limits of 40 for poor and 60 for up would suffice; poor is still active; up is still active
+line 14: read poor b: blocked by the import limit of poor: charge 20, remaining 5 of 5; then by the export limit of up: charge 20, remaining 10 of 10; limits of 20 for poor and 20 for up would suffice; poor is still active; up is still active
 line 18: read third b: blocked by the write lock of up; up is still active
 line 19: read third a: blocked by the write lock of second; second is still active
 line 20: read second b: blocked by the write lock of up; up is still active
@@ -84,7 +84,7 @@ fn blocked_lines_and_rings_are_told(rt: HostRuntime) {
         alloc,
         "item a 0\nread b a\n",
         None,
-        "nothing was blocked\n",
+        "no line was blocked\n",
     );
 }
 
@@ -97,7 +97,7 @@ line 11: write other savings 1: blocked by the write lock of transfer; transfer 
 deadlock: transfer waits for other at line 10, other waits for transfer at line 11
 ";
     tells(&rt, alloc, CLOSING, Some("other"), other);
-    let closer = "nothing of closer was blocked\n";
+    let closer = "no line of closer was blocked\n";
     tells(&rt, alloc, CLOSING, Some("closer"), closer);
 }
 

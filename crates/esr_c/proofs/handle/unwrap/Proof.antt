@@ -19,7 +19,7 @@ use denote.Memory.{lone}
 use denote.RattleType.{owns}
 use denote.Signature.{types_at, plain}
 use denote.RawPtr.{Ptr, block_ptr, null_ptr, ptr_val, in_a_block}
-use denote.Steps.{null_handle, heard}
+use denote.Steps.{nothing, heard}
 use denote.Triple.Walked.{Stays, stay_dropped, walk_of}
 use Rattle.core.proofs.alloc.Calls.{Goes-blank}
 use Rattle.std.proofs.raw_atomic.Walks.{proved_at, leaves}
@@ -56,5 +56,5 @@ unwrap_spec 𝓤 𝓛 𝓜 𝓡 wired =
     sets ! (agg ! (and_then ! (get ! refl) (no_more !))) refl (tt, (tt, tt)) $
     returns ! (look_at ! 0 refl) $ free_all ! refl $ keep ! (0 ∷ []) $
     use0 𝓛 (raw (fact 𝓤 (d.history ≡ Some m))) (fact_i 𝓤 (d.history ≡ Some m) (emp 𝓤) same) $ move ! (1 ∷ []) $
-    raw_in engine_row ! (record { at = block_ptr b o; value = m }) $ null_handle ! $ null_handle ! $ fjoin ! $ null_handle ! $
+    raw_in engine_row ! (record { at = block_ptr b o; value = m }) $ nothing ! $ nothing ! $ fjoin ! $ nothing ! $
     by ! (leaves 𝓛 ended hs c z (alone (vptr b o)) (record { at = block_ptr b o; value = m }) (tt, tt) (tt, tt)))))))

@@ -18,7 +18,7 @@ use denote.RattleType.{RattleType, owns}
 use denote.Signature.{types_at, plain}
 use denote.Memory.{lone}
 use denote.RawPtr.{Ptr, block_ptr, null_ptr, ptr_val, in_a_block}
-use denote.Steps.{null_handle}
+use denote.Steps.{nothing}
 use denote.Triple.Walked.{Stays, stay_dropped, walk_of}
 use Rattle.core.proofs.alloc.Calls.{Goes-blank}
 use Rattle.std.proofs.raw_atomic.Walks.{proved_at, leaves}
@@ -53,5 +53,5 @@ wrap_spec 𝓤 𝓛 𝓜 𝓡 wired =
     sets ! (agg ! (and_then ! (get ! refl) (no_more !))) refl (tt, (tt, tt)) $
     returns ! (look_at ! 0 refl) $ free_all ! refl $ keep ! (0 ∷ []) $
     use0 𝓛 (raw (fact 𝓤 (d.history ≡ Some v.value))) (fact_i 𝓤 (d.history ≡ Some v.value) (emp 𝓤) refl) $ move ! (1 ∷ []) $
-    held_in ! d $ null_handle ! $ null_handle ! $ fjoin ! $ null_handle ! $
+    held_in ! d $ nothing ! $ nothing ! $ fjoin ! $ nothing ! $
     by ! (leaves 𝓛 ended hs c z (alone (vptr b o)) d (tt, tt) (tt, tt))))))

@@ -27,7 +27,7 @@ use denote.Triple.Clauses.{Lasts, lasts}
 use denote.Triple.Spec.{triple_of}
 use denote.Triple.Call.{calls_at_last}
 use denote.Triple.Walked.{Stays, stay_dropped, walk_of}
-use Rattle.core.proofs.alloc.Calls.{Fits, Goes-blank, handle_reports}
+use Rattle.core.proofs.alloc.Calls.{Fits, Goes-blank, handle_tells}
 use Rattle.core.proofs.alloc.Shapes.{after}
 use Rattle.core.proofs.atomic.Steps.{fm}
 use Rattle.std_alloc.specs.Box.Ownership.{box_owns}
@@ -58,7 +58,7 @@ box_from_raw_spec {M} 𝓤 𝓛 𝓜 𝓡 wired T L =
     let Run : List Val → SProp 𝓤 = λ ws. WpFn 𝓤 H 𝓣.C 𝓣.Λ fn ws Post in
     qed 𝓛 (((‵ (flft κ q) ⊛ ‵ ftrue) ⊛ ‵ (owns (types_at En.signature.params z.0.0) z.0.3 z.0.4)) ∷ (raw (fact 𝓤 (κ ⊑ T.lives)) ⊛ ‵ ftrue) ∷ []) ∵
     move ! (1 ∷ []) $ split ! $ heard ! (κ ⊑ T.lives) (λ lives. drop ! $ split ! $ split ! $ move ! (2 ∷ []) $ fsplit ! $
-    handle_reports one_handle ! a z.0.4.0 (λ h ea fits. move ! (1 ∷ []) $ fsplit ! $
+    handle_tells one_handle ! a z.0.4.0 (λ h ea fits. move ! (1 ∷ []) $ fsplit ! $
     raw_out (param 0 T) ! d z.0.4.1.0 (λ ws.
     in_a_block ! d.at (λ p. box_owns (Heap.ghosts.dealloc_token _) (param 0 T) p d.value) (fst∗ 𝓤 (never 𝓤) (sem 𝓛 (Heap.ghosts.dealloc_token _ (bare (layout T)) null_ptr))) (λ b o e.
     let w : Val = alone (vptr b o) in let ws' : z.0.4.1.0 ≡ w ∷ [] = subst (λ (p : Ptr). z.0.4.1.0 ≡ alone (ptr_val p) ∷ []) e ws in
@@ -82,7 +82,7 @@ box_from_raw_spec {M} 𝓤 𝓛 𝓜 𝓡 wired T L =
     use1 𝓛 (later (some (λ (r : (Boxed T).Denot). (toks ⊛ ‵ ((Boxed T).own_val r (u ∷ []))) ⊛ some (λ (ls : Lasts Lst y.0.0 y.0.3).
     ‵ (lasts Lst y.0.0 y.0.3 ls) ⊛ (raw (fact 𝓤 (r.value ≡ d.value)) ⊛ raw (fact 𝓤 (r.alloc ≡ a))))))) (id⊢ 𝓤 (k.post y u)) $
     await ! tt $ pick ! (λ r. split ! $ split ! $ split ! $ move ! (3 ∷ []) $ pick ! (λ ls. split3 ! $ drop ! $ move ! (4 ∷ []) $
-    handle_reports (one_box T L) ! r (u ∷ []) (λ v us fits'. rewrite ! 0 (λ (xs : List Val). ‵ ((Boxed T).own_val r xs)) (sym us) refl $
+    handle_tells (one_box T L) ! r (u ∷ []) (λ v us fits'. rewrite ! 0 (λ (xs : List Val). ‵ ((Boxed T).own_val r xs)) (sym us) refl $
     let good : Fits (one_box T L) u = subst (Fits (one_box T L)) (sym (ap only us)) fits' in
     lands_last ! refl good $ exec ! 𝓣.C 𝓣.Λ (env fn.locals l) (after 2 fn.body) (at_ret (env fn.locals l) Post) $
     sets ! (of_opd ! (get ! refl)) refl good $ returns ! (look_at ! 0 refl) $ free_all ! refl $

@@ -1,7 +1,7 @@
 -- Why `claim_of` keeps its contract: the goals that are left to a proof of ours.
 use Rattle.std.proofs.Common.{◌≡◌, Ok}
 use Rattle.esr_cert.specs.Views.{certificate_of}
-use Rattle.esr_commands.specs.declared.claim.Claim.TheVariants.{Of}
+use Rattle.esr_commands.specs.declared.claim.BundleClaim.TheVariants.{Of}
 use Rattle.esr_commands.proofs.Claimed.{claims_bad, shown_by}
 use Rattle.esr_commands.proofs.claim.claim_of.Goals as goal
 

@@ -2,7 +2,7 @@
 use Rattle.std.proofs.Common.{◌≡◌, ℕ, ◌+◌, ◌-◌, ◌*◌, ◌≤◌, List, ◌++◌, Some, false, length}
 use Rattle.std.specs.Io.KnownBytes.{Appends}
 use Rattle.esr_base.specs.Watch.{inner, failed}
-use Rattle.esr_script.specs.Parts.{TxnStatus}
+use Rattle.esr_script.specs.Parts.{InputProgress}
 use Rattle.esr_script.proofs.lines.answer_lines.Given as goal
 
 abbrev pub invariant-lines : goal.invariant-lines
@@ -12,7 +12,7 @@ invariant-lines g l = record {
   sink : g.S.Sink.has_failed l.sink ≡ false;
   text : (input : List ℕ) → g.R.Read.remaining (inner l.initial.reader) ≡ Some input → (sent : List ℕ)
       × Appends (g.S.Sink.contents l.initial.sink) (g.S.Sink.contents l.sink) sent
-      × TxnStatus input (g.R.Read.remaining (inner l.reader)) l.pending l.count l.script (sent ++ l.out.items);
+      × InputProgress input (g.R.Read.remaining (inner l.reader)) l.pending l.count l.script (sent ++ l.out.items);
 }
 
 -- a line more takes at most 201 bytes, and a read adds one at least

@@ -8,12 +8,12 @@ use denote.RawPtr.{Ptr}
 use denote.Param.Send.{IsSend, owning_send, sendable}
 use Rattle.std_alloc.proofs.SendSync.{lies}
 use Rattle.std.below.std_heap.proofs.GlobalAllocator.TheSendSync.{the_frees}
-use Rattle.esr_engine.proofs.engine.Engine.TheSendSync as Engine
+use Rattle.esr_engine.proofs.engine.EmbeddedEngine.TheSendSync as EmbeddedEngine
 use Rattle.esr_c.specs.Owned.{engine_row, owned}
 use Rattle.esr_c.specs.contracts.handle.EngineHandle.{the_row, the_type}
 
 engine_sends : IsSend engine_row
-engine_sends = Engine.the_send
+engine_sends = EmbeddedEngine.the_send
 
 keyless : (p : Ptr) (x : Option Schedule) → Keyless (owned p x)
 unfolding owned

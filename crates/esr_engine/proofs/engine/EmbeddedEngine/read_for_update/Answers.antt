@@ -1,0 +1,83 @@
+-- Why `EmbeddedEngine::read_for_update` keeps its contract: the goals that are left to a proof of ours.
+use Rattle.std.proofs.Common.{◌≡◌, ◌≤◌, ◌+◌, ◌∙◌, ℕ, ap, sym, subst, arith, false, true≢false, nat_lt, IfOk}
+use Rattle.std.proofs.lemmas.Bool.Decides.{nat_tests}
+use Rattle.esr_items.specs.Weights.{weighted}
+use Rattle.esr_history.specs.declared.event.Event.{Event}
+use Rattle.esr_history.specs.declared.event.Event.TheVariants.{Read}
+use Rattle.esr_history.specs.declared.event.Reply.TheVariants.{Wrote}
+use Rattle.esr_history.specs.Machine.{IsLegal, Schedule, extended, reply_to}
+use Rattle.esr_history.proofs.Lawful.{legal_orderly}
+use Rattle.esr_engine.specs.ForUpdate.{lock_event, no_pair}
+use Rattle.esr_engine.specs.Room.{is_full, taken}
+use Rattle.esr_engine.proofs.Active.{pair_room}
+use Rattle.esr_engine.proofs.Locking.{Finished, finish, held_steps, taken_steps}
+use Rattle.esr_engine.proofs.engine.EmbeddedEngine.read_for_update.Goals as goal
+use Rattle.esr_engine.proofs.engine.EmbeddedEngine.read_for_update.Goals.{After-step, After-step-in-Ok-Wrote}
+
+held : (c : After-step) → Finished c.args.self.now c.args.t c.args.x c.step.result c.step.new.self
+held c =
+    let h = c.args.self.now in
+    let steps = held_steps h c.args.t c.args.x (sym c.has_lock.ensures ∙ c.if-has_lock.true) in
+    finish h (legal_orderly weighted h (subst (IsLegal weighted) c.self.view_is c.log-legal.ensures.legal)) c.args.t c.args.x c.step.result c.step.new.self h c.step.ensures.reply c.step.ensures.added steps.0 steps.1
+
+pub returns-then-has_lock-clause-reply : goal.returns-then-has_lock-clause-reply
+returns-then-has_lock-clause-reply c = (held (goal.at.returns-then-has_lock-clause-reply c).After-step).reply
+
+pub returns-then-has_lock-clause-added : goal.returns-then-has_lock-clause-added
+returns-then-has_lock-clause-added c = (held (goal.at.returns-then-has_lock-clause-added c).After-step).added
+
+pub returns-then-has_lock-clause-held : goal.returns-then-has_lock-clause-held
+returns-then-has_lock-clause-held c = (held (goal.at.returns-then-has_lock-clause-held c).After-step).held
+
+-- the write was accepted, and what it left
+wrote : (c : After-step-in-Ok-Wrote) → reply_to weighted c.args.self.now (lock_event c.args.self.now c.args.t c.args.x) ≡ Wrote
+wrote c = ap (reply_to weighted c.args.self.now) (sym c.lock_event-lock.ensures) ∙ (sym c.in-Ok-Wrote.ensures.reply ∙ c.in-Ok-Wrote.field-0-is)
+
+left : (c : After-step-in-Ok-Wrote) → c.step-2.new.self ≡ extended c.args.self.now (lock_event c.args.self.now c.args.t c.args.x) Wrote
+left c =
+    c.in-Ok-Wrote.ensures.added
+    ∙ (ap (λ (e : Event). extended c.args.self.now e c.in-Ok-Wrote.field-0) c.lock_event-lock.ensures
+    ∙ ap (extended c.args.self.now (lock_event c.args.self.now c.args.t c.args.x)) c.in-Ok-Wrote.field-0-is)
+
+locks : (c : After-step-in-Ok-Wrote) → Finished c.args.self.now c.args.t c.args.x c.step-in-Ok-Wrote.result c.step-in-Ok-Wrote.new.self
+locks c =
+    let h = c.args.self.now in
+    let t = c.args.t in
+    let x = c.args.x in
+    let steps = taken_steps h t x (sym c.has_lock.ensures ∙ c.if-has_lock.false) (wrote c) in
+    finish h (legal_orderly weighted h (subst (IsLegal weighted) c.self.view_is c.log-legal.ensures.legal)) t x c.step-in-Ok-Wrote.result c.step-in-Ok-Wrote.new.self (extended h (lock_event h t x) Wrote)
+    (subst (λ (g : Schedule). IfOk c.step-in-Ok-Wrote.result (λ a. a ≡ reply_to weighted g (Read t x))) (left c) c.step-in-Ok-Wrote.ensures.reply)
+    (subst (λ (g : Schedule). IfOk c.step-in-Ok-Wrote.result (λ a. c.step-in-Ok-Wrote.new.self ≡ extended g (Read t x) a)) (left c) c.step-in-Ok-Wrote.ensures.added)
+    steps.1 steps.2
+
+-- neither the pair nor the read was refused for room
+roomy : (c : After-step-in-Ok-Wrote) → (no_pair c.args.self.now ≡ false) × (is_full c.step-2.new.self (Read c.args.t c.args.x) ≡ false)
+roomy c =
+    let h = c.args.self.now in
+    let most : taken h + 2 ≤ 1000000 = omega (arith, c.demand.ensures.taken, c.if-demand-gt-MAX_ENTRIES.false) in (
+      not_lt (taken h + 2) most,
+      subst (λ (g : Schedule). is_full g (Read c.args.t c.args.x) ≡ false) (sym (left c))
+          (pair_room weighted h (legal_orderly weighted h (subst (IsLegal weighted) c.self.view_is c.log-legal.ensures.legal)) c.args.t c.args.x _ most (wrote c)),
+    )
+  where
+    not_lt : (n : ℕ) → n ≤ 1000000 → nat_lt 1000000 n ≡ false
+    not_lt n l = grind (arith, nat_tests)
+
+pub returns-in-Ok-Wrote-clause-reply : goal.returns-in-Ok-Wrote-clause-reply
+returns-in-Ok-Wrote-clause-reply c = (locks (goal.at.returns-in-Ok-Wrote-clause-reply c).After-step-in-Ok-Wrote).reply
+
+pub returns-in-Ok-Wrote-clause-added : goal.returns-in-Ok-Wrote-clause-added
+returns-in-Ok-Wrote-clause-added c = (locks (goal.at.returns-in-Ok-Wrote-clause-added c).After-step-in-Ok-Wrote).added
+
+pub returns-in-Ok-Wrote-clause-held : goal.returns-in-Ok-Wrote-clause-held
+returns-in-Ok-Wrote-clause-held c = (locks (goal.at.returns-in-Ok-Wrote-clause-held c).After-step-in-Ok-Wrote).held
+
+pub returns-in-Ok-Wrote-clause-full : goal.returns-in-Ok-Wrote-clause-full
+returns-in-Ok-Wrote-clause-full c =
+    let room = roomy (goal.at.returns-in-Ok-Wrote-clause-full c).After-step-in-Ok-Wrote in
+    (λ e. absurd (true≢false (sym (c.step-in-Ok-Wrote.ensures.full.0 e) ∙ room.1)), λ p. absurd (true≢false (sym p ∙ room.0)))
+
+pub returns-in-Ok-Wrote-clause-kept : goal.returns-in-Ok-Wrote-clause-kept
+returns-in-Ok-Wrote-clause-kept c =
+    let room = roomy (goal.at.returns-in-Ok-Wrote-clause-kept c).After-step-in-Ok-Wrote in
+    λ e. absurd (true≢false (sym (c.step-in-Ok-Wrote.ensures.full.0 e) ∙ room.1))

@@ -1,7 +1,0 @@
--- What holds at each turn of the loop in `block_of`.
-use Rattle.std.proofs.Common.{◌≡◌, ◌+◌, sum, take}
-use Rattle.esr_interleavings.proofs.draws.block_of.Given as goal
-
--- the lines of the blocks so far have been counted off
-abbrev pub invariant-loop-block : goal.invariant-loop-block
-invariant-loop-block l = l.line + sum (take l.block l.left) ≡ l.fn.line

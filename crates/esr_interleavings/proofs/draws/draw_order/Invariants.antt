@@ -1,6 +1,0 @@
--- What holds at each turn of the loop in `draw_order`.
-use Rattle.esr_interleavings.proofs.Drawn.{IsDrawn}
-use Rattle.esr_interleavings.proofs.draws.draw_order.Given as goal
-
-abbrev pub invariant-loop-turn : goal.invariant-loop-turn
-invariant-loop-turn l = IsDrawn l.counts l.left.items l.order.items l.turn

@@ -1,0 +1,3 @@
+-- Which events the machine blocks, and when it stops blocking them.
+pub mod Liveness
+pub mod Worked
