@@ -30,7 +30,7 @@ use std::{
 /// The number of polls before a thread sleeps.
 const POLLS: u32 = if cfg!(test) { 1 } else { 100 };
 /// The number of polls for which a thread lets urgent ones go first. They may have been preempted.
-const POLITE_POLLS: u32 = POLLS / 2;
+const POLITE_POLLS: u32 = if cfg!(test) { 1 } else { 50 };
 /// A sleeper that has waited longer is woken although other threads poll.
 const OVERDUE: Duration = Duration::from_micros(100);
 /// A sleeper tries by itself after this time. It is woken before, so this only limits the damage of a kernel that is late.
@@ -279,11 +279,16 @@ mod tests {
     fn the_lock_excludes_and_wakes() {
         let body: fn(&Lock<u64>) = |lock| {
             for _ in 0..2 {
-                *lock.lock() += 1;
+                let mut value = lock.lock();
+                // scheduling points of a long hold
+                for _ in 0..2 {
+                    lock.gate.state.load(Ordering::SeqCst);
+                }
+                *value += 1;
             }
         };
         let test = || (Arc::new(Lock::new(0)), vec![body; 2]);
-        let runs = explore(Depth::fine(2), test, |lock, now| {
+        let runs = explore(Depth::coarse(4), test, |lock, now| {
             assert_eq!(*lock.value.lock().unwrap(), 4);
             assert!(now < NAP, "a wake-up was lost");
         });
@@ -293,13 +298,11 @@ mod tests {
         let fickle: fn(&Lock<u64>) = |lock| {
             if let Some(mut value) = lock.lock_while(None, || false) {
                 *value += 1;
-            } else {
-                *lock.lock() += 1;
             }
         };
         let test = || (Arc::new(Lock::new(0)), vec![once, once, fickle]);
         let runs = explore(Depth::coarse(3), test, |lock, now| {
-            assert_eq!(*lock.value.lock().unwrap(), 3);
+            assert!((2..=3).contains(&*lock.value.lock().unwrap()));
             assert!(now < NAP, "a wake-up was lost");
         });
         println!("{runs} schedules of three threads");
