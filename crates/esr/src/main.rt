@@ -28,6 +28,7 @@ use esr_picture::{Drawing, NotedDrawing};
 use esr_prose::{Passage, Prose};
 use esr_script::{AuditedScript, TeeReader};
 use esr_tables::{Data, ExplanationTable, Ledger, audit_table};
+use esr_views::{QueryView, ScriptView};
 use esr_why::Why;
 use httpdate::HttpDate;
 use std::alloc::{AllocError, Global};
@@ -66,11 +67,15 @@ fn main(rt: HostRuntime) -> ExitCode {
             };
             ExitCode::from(status)
         }
-        Err(error) => match error.print(&rt) {
-            Err(failed) if error.exit_code() == 0 && is_closed_pipe(&failed) => ExitCode::from(1),
-            Err(_) if error.exit_code() == 0 => ExitCode::from(fail(&rt, &"write failed", 1)),
-            _ => ExitCode::from(error.exit_code() as u8),
-        },
+        Err(error) => {
+            // Help and the version end with 0, mistakes with 2.
+            let status = if error.exit_code() == 0 { 0 } else { 2 };
+            match error.print(&rt) {
+                Err(failed) if status == 0 && is_closed_pipe(&failed) => ExitCode::from(1),
+                Err(_) if status == 0 => ExitCode::from(fail(&rt, &"write failed", 1)),
+                _ => ExitCode::from(status),
+            }
+        }
     }
 }
 
@@ -79,22 +84,42 @@ fn is_input<R: Files>(rt: &R, path: &str) -> bool {
     path == "-" || fs::metadata(rt, path).is_ok()
 }
 
-/// Accepts the operands of `why` in both orders: NAME and FILE are swapped if only the second one is an input.
-fn in_order<'a, R: Files>(rt: &R, job: Job<'a>) -> Job<'a>
-    ensures { HasItsWorkers (work_of job.task) → HasItsWorkers (work_of result.task) }
-{
-    let (Task::Why { name: Some(second) }, Some(first)) = (job.task, job.file) else {
-        return job;
+/// The name and the file of a task.
+#[derive(Clone, Copy)]
+struct Operands<'a> {
+    name: &'a str,
+    file: &'a str,
+}
+
+/// Returns the operands of `why` in their usual order, if they were given as NAME and FILE: only the second is an input.
+fn swapped<'a, R: Files>(rt: &R, task: Task<'a>, file: Option<&'a str>) -> Option<Operands<'a>> {
+    let Task::Why { name } = task else {
+        return None;
     };
+    let second = name?;
+    let first = file?;
     if is_input(rt, first) || !is_input(rt, second) {
-        return job;
+        return None;
     }
-    Job {
-        task: Task::Why { name: Some(first) },
-        file: Some(second),
-        bail: job.bail,
-        progress: job.progress,
-        format: job.format,
+    Some(Operands {
+        name: first,
+        file: second,
+    })
+}
+
+/// Accepts the operands of `why` in both orders.
+fn in_order<'a, R: Files>(rt: &R, job: Job<'a>) -> Job<'a>
+    ensures { HasItsWorkers (work_of job.entry.task) → HasItsWorkers (work_of result.task) }
+{
+    match swapped(rt, job.task, job.file) {
+        Some(Operands { name, file }) => Job {
+            task: Task::Why { name: Some(name) },
+            file: Some(file),
+            bail: job.bail,
+            progress: job.progress,
+            format: job.format,
+        },
+        None => job,
     }
 }
 
@@ -171,31 +196,14 @@ fn do_task<
         Task::Explain { name, prose: false } => match data_of(job.format) {
             Some(data) => {
                 let query_view = &ExplanationTable { data };
-                let work = RenderQuery {
-                    name,
-                    query_view,
-                    notes: None,
-                };
-                execute_command(rt, console, job, source, input, &work)
+                show_query(rt, console, job, source, input, name, query_view)
             }
-            None => {
-                let query_view = &Explaining;
-                let work = RenderQuery {
-                    name,
-                    query_view,
-                    notes: None,
-                };
-                execute_command(rt, console, job, source, input, &work)
-            }
+            None => show_query(rt, console, job, source, input, name, &Explaining),
         },
         Task::Picture { name } => {
             let notes = &Notes::new(rt.alloc());
-            let work = RenderQuery {
-                name,
-                query_view: &NotedDrawing { notes },
-                notes: Some(notes),
-            };
-            execute_command(rt, console, job, source, input, &work)
+            let query_view = &NotedDrawing { notes };
+            show_noted_query(rt, console, job, source, input, name, query_view, notes)
         }
         Task::Page { worst } => show_page(rt, console, job, source, input, worst),
         Task::Audit { workers } => match data_of(job.format) {
@@ -277,6 +285,46 @@ fn today(rt: &impl Clock, alloc: Global) -> Option<String> {
     format!(in alloc; "{day} {month} {year}").ok()
 }
 
+// In each function below, all references have one lifetime: the prover covers a struct of references only so.
+
+/// Prints a text about a query.
+fn show_query<'a, R: Print + Eprint + AllocGlobal + Clock, I: Read + Drop, T: QueryView>(
+    rt: &'a R,
+    console: Console,
+    job: Job<'a>,
+    source: Source<'a>,
+    input: I,
+    name: &'a str,
+    query_view: &'a T,
+) -> u8 {
+    let work = RenderQuery {
+        name,
+        query_view,
+        notes: None,
+    };
+    execute_command(rt, console, job, source, input, &work)
+}
+
+/// Prints a text about a query that shows the lines with errors.
+fn show_noted_query<'a, R: Print + Eprint + AllocGlobal + Clock, I: Read + Drop, T: QueryView>(
+    rt: &'a R,
+    console: Console,
+    job: Job<'a>,
+    source: Source<'a>,
+    input: I,
+    name: &'a str,
+    query_view: &'a T,
+    notes: &'a Notes,
+) -> u8 {
+    let notes = Some(notes);
+    let work = RenderQuery {
+        name,
+        query_view,
+        notes,
+    };
+    execute_command(rt, console, job, source, input, &work)
+}
+
 /// Prints the page about a script.
 fn show_page<'a, R: Print + Eprint + AllocGlobal + Clock, I: Read + Drop>(
     rt: &'a R,
@@ -288,23 +336,68 @@ fn show_page<'a, R: Print + Eprint + AllocGlobal + Clock, I: Read + Drop>(
 ) -> u8 {
     let alloc = rt.alloc();
     let notes = &Notes::new(alloc);
-    let date = today(rt, alloc);
     let Source(file) = source;
-    let origin = Origin {
+    let file = file.unwrap_or("");
+    match today(rt, alloc) {
+        Some(date) => {
+            let date = date.as_str();
+            show_page_of(rt, console, job, source, input, worst, file, date, notes)
+        }
+        None => show_page_of(rt, console, job, source, input, worst, file, "", notes),
+    }
+}
+
+/// Prints the page about a script with its origin. The file is empty for standard input, and the date if it is not known.
+fn show_page_of<'a, R: Print + Eprint + AllocGlobal + Clock, I: Read + Drop>(
+    rt: &R,
+    console: Console,
+    job: Job<'_>,
+    source: Source<'_>,
+    input: I,
+    worst: u64,
+    file: &'a str,
+    date: &'a str,
+    notes: &'a Notes,
+) -> u8 {
+    let origin = origin_of(file, date, notes);
+    let page = Page {
+        worst,
+        picture: &Drawing,
+        words: &Passage,
+        origin,
+    };
+    show_noted_script(rt, console, job, source, input, &page, notes)
+}
+
+/// Returns the origin of a page.
+fn origin_of<'a>(file: &'a str, date: &'a str, notes: &'a Notes) -> Origin<'a> {
+    let file = unless_empty(file);
+    let date = unless_empty(date);
+    Origin {
         file,
-        date: date.as_deref(),
+        date,
         version: VERSION,
         notes,
-    };
-    let work = RenderScript {
-        script_view: &Page {
-            worst,
-            picture: &Drawing,
-            words: &Passage,
-            origin,
-        },
-        notes: Some(notes),
-    };
+    }
+}
+
+/// Returns a text unless it is empty.
+fn unless_empty(text: &str) -> Option<&str> {
+    if text.is_empty() { None } else { Some(text) }
+}
+
+/// Prints a text about a script that shows the lines with errors.
+fn show_noted_script<'a, R: Print + Eprint + AllocGlobal + Clock, I: Read + Drop, S: ScriptView>(
+    rt: &R,
+    console: Console,
+    job: Job<'_>,
+    source: Source<'_>,
+    input: I,
+    script_view: &'a S,
+    notes: &'a Notes,
+) -> u8 {
+    let notes = Some(notes);
+    let work = RenderScript { script_view, notes };
     execute_command(rt, console, job, source, input, &work)
 }
 
