@@ -36,7 +36,14 @@
  *
  * Texts. Items and transactions have numbers, and texts have names: `t1` for transaction 1, and for the items the names
  * passed by the caller, one on each line ("checking\nsavings", without a line feed at the end), or `i0`, `i1` if the list
- * is empty. A name is a letter followed by up to 15 letters, digits or underscores. Texts are not terminated by a 0.
+ * is empty. A name is a letter followed by up to 15 letters, digits or underscores. Texts are not terminated by a 0. To learn
+ * the length of a text, call with a capacity of 0 and any buffer except NULL: the call stores the count and returns
+ * ESR_TOO_SMALL.
+ *
+ *     uint8_t none[1], *ledger;
+ *     size_t length;
+ *     if (esr_ledger(&engine, none, 0, &length) == ESR_TOO_SMALL && (ledger = malloc(length)) != NULL)
+ *         esr_ledger(&engine, ledger, length, &length);
  */
 #ifndef ESR_H
 #define ESR_H
