@@ -75,7 +75,7 @@ static bool holds(esr_bank_txn *t, void *barrier) {
 }
 
 static void *holder(void *barrier) {
-    WANT(esr_bank_transact(&bank, 0, holds, barrier), ESR_BANK_ABORTED);
+    WANT(esr_bank_transact(&bank, 3, holds, barrier), ESR_BANK_ABORTED);
     return NULL;
 }
 
@@ -99,24 +99,25 @@ static void texts_of(uint32_t report) {
     WANT(memcmp(text, "read i0 400 nearest 400 off 0\n", 30), 0);
 }
 
-/* With a weight of 3, a change of 100 is charged 300: a limit of 299 is too small. */
-static bool sold_while_counted(esr_bank_txn *t, void *limit) {
-    int64_t value;
-    return esr_bank_write(t, 0, 400)
-        && esr_bank_report(t->bank, *(uint64_t *)limit, false, first_of, &value, NULL) == ESR_BANK_DONE;
-}
-
-static void weights(void) {
+/* With a weight of 3, the read of a change of 1 is charged 3: a limit of 2 is too small. */
+static void weights(pthread_barrier_t *barrier) {
     const int64_t opening[1] = {500};
     const uint32_t weight[1] = {3}, bad[1] = {1001};
-    uint64_t limit = 299;
-    esr_bank weighted;
-    WANT(esr_bank_open_weighted(&weighted, opening, 1, bad, 1, 0.1), ESR_WEIGHT_OUT_OF_RANGE);
-    WANT(esr_bank_open_weighted(&weighted, opening, 1, weight, 1, 0.1), ESR_DONE);
-    WANT(esr_bank_transact(&weighted, 1000, sold_while_counted, &limit), ESR_BANK_ABORTED);
-    limit = 300;
-    WANT(esr_bank_transact(&weighted, 1000, sold_while_counted, &limit), ESR_BANK_DONE);
-    esr_bank_close(&weighted);
+    int64_t value = 0;
+    esr_finding finding = {0, 0, 0};
+    pthread_t thread;
+    WANT(esr_bank_open_weighted(&bank, opening, 1, bad, 1, 0.1), ESR_WEIGHT_OUT_OF_RANGE);
+    WANT(esr_bank_open_weighted(&bank, opening, 1, weight, 1, 0.1), ESR_DONE);
+    WANT(pthread_create(&thread, NULL, holder, barrier), 0);
+    pthread_barrier_wait(barrier);
+    WANT(esr_bank_report(&bank, 2, false, first_of, &value, &finding), ESR_BANK_TIMED_OUT);
+    WANT(esr_bank_report(&bank, 3, false, first_of, &value, &finding), ESR_BANK_DONE);
+    pthread_barrier_wait(barrier);
+    WANT(pthread_join(thread, NULL), 0);
+    WANT(value, 501);
+    WANT(finding.import, 3);
+    WANT(finding.distance, 3);
+    esr_bank_close(&bank);
 }
 
 static void result_texts(void) {
@@ -189,9 +190,9 @@ int main(void) {
     WANT(esr_bank_transact(&bank, 200, transfer, &amount), ESR_BANK_DONE);
     values_are(300, 1700, 2);
 
-    pthread_barrier_destroy(&barrier);
     esr_bank_close(&bank);
-    weights();
+    weights(&barrier);
+    pthread_barrier_destroy(&barrier);
     result_texts();
     printf("esr_bank: all calls as wanted\n");
     return 0;

@@ -214,7 +214,8 @@ esr_status esr_counts_of(const esr_engine *engine, esr_counts *counts);
 esr_status esr_account_of(const esr_engine *engine, uint32_t txn, esr_account *account);
 /* Stores the committed values of the items, in their order. */
 esr_status esr_values(const esr_engine *engine, int64_t *values, size_t capacity, size_t *count);
-/* Audits a committed query. Stores the updates before the nearest placement in `before`, in commit order. */
+/* Audits a committed query. Stores the updates before the nearest placement in `before`, in commit order. If these exceed
+ * `capacity`, the status is ESR_TOO_SMALL and the finding is stored nonetheless: for the distance alone, pass a capacity of 0. */
 esr_status esr_audit(const esr_engine *engine, uint32_t query, uint32_t *before, size_t capacity, esr_finding *finding);
 /* Stores the audit as one JSON object, without a terminating 0. `esr check` verifies it without this engine. */
 esr_status esr_bundle(const esr_engine *engine, uint32_t query, uint8_t *bytes, size_t capacity, size_t *count);
