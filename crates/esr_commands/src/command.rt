@@ -162,11 +162,11 @@ pub fn execute_command<R: Print + Eprint + AllocGlobal + Clock, I: Read + Drop, 
 
 /// Prints the audit of a script. This is not a `Command`, because no proof is generated for a method of a trait that
 /// passes its bounds to threads.
-pub fn audit_script<R: Print + Eprint + AllocGlobal + Clock + Threads + Sync, I: Read + Drop>(
-    rt: &R,
+pub fn audit_script<'a, R: Print + Eprint + AllocGlobal + Clock + Threads + Sync, I: Read + Drop>(
+    rt: &'a R,
     console: Console,
     job: Job<'_>,
-    source: Source<'_>,
+    source: Source<'a>,
     input: I,
     workers: u64,
 ) -> u8
@@ -200,14 +200,15 @@ pub trait AuditText {
 
 /// Prints a text of the audits of a script.
 pub fn audit_script_as<
+    'a,
     R: Print + Eprint + AllocGlobal + Clock + Threads + Sync,
     I: Read + Drop,
     V: AuditText,
 >(
-    rt: &R,
+    rt: &'a R,
     console: Console,
     job: Job<'_>,
-    source: Source<'_>,
+    source: Source<'a>,
     input: I,
     workers: u64,
     view: &V,

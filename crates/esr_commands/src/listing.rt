@@ -10,7 +10,7 @@ use esr_history::Watched;
 use esr_lint::{Listing, Source, Unlisted};
 use esr_script::{RunFault, lint};
 use std::io;
-use std::io::Read;
+use std::io::{Read, Write};
 
 /// Lists the errors of a script. A line that ends the run is listed as well.
 pub fn list_faults<I: Read + Drop>(
@@ -23,23 +23,60 @@ pub fn list_faults<I: Read + Drop>(
     let mut reader = Watched::new(input);
     let output = Output::new(alloc, io::writer(rt), false);
     let mut listing = Listing::new(alloc, output, source);
-    let ended = lint(alloc, &mut reader, &mut listing);
-    if let Err(fault) = ended
-        && let Some(last) = LastLine::of(fault)
-    {
+    if let Err(fault) = lint(alloc, &mut reader, &mut listing) {
+        list_last_line(&mut listing, fault);
+        let finished = listing.finish();
+        return if is_unread(finished, listing.writer()) {
+            1
+        } else {
+            report(rt, console, source, fault, listing.next_line())
+        };
+    }
+    let finished = listing.finish();
+    if is_unread(finished, listing.writer()) {
+        return 1;
+    }
+    match finished {
+        Ok(()) => u8::from(listing.count() > 0),
+        Err(why) => report(rt, console, source, fault_of(why), listing.next_line()),
+    }
+}
+
+/// Lists the line that ended a run, if the fault is one of a line.
+fn list_last_line<W: Write>(listing: &mut Listing<'_, W>, fault: RunFault) {
+    if let Some(last) = LastLine::of(fault) {
         listing.list_last(last.column(), &last);
     }
-    let fault = match (ended, listing.finish()) {
-        (_, Err(Unlisted::Write)) if listing.writer().is_closed() => return 1,
-        (Err(fault), _) => fault,
-        (Ok(()), Err(Unlisted::NoMemory)) => RunFault::NoMemory,
-        (Ok(()), Err(Unlisted::Write)) => RunFault::Write,
-        (Ok(()), Ok(())) => return u8::from(listing.count() > 0),
-    };
+}
+
+/// Returns whether the list was not written because its reader had closed the pipe.
+fn is_unread<W>(finished: Result<(), Unlisted>, output: &Output<W>) -> bool {
+    match finished {
+        Err(Unlisted::Write) => output.is_closed(),
+        _ => false,
+    }
+}
+
+/// Returns the fault of a list that was not written.
+fn fault_of(why: Unlisted) -> RunFault {
+    match why {
+        Unlisted::NoMemory => RunFault::NoMemory,
+        Unlisted::Write => RunFault::Write,
+    }
+}
+
+/// Reports a fault, and returns the exit status.
+fn report(
+    rt: &impl Eprint,
+    console: Console,
+    source: Source<'_>,
+    fault: RunFault,
+    line: u64,
+) -> u8 {
     let help = RunHelp {
         source,
         fault,
-        line: listing.next_line(),
+        line,
         not_found: None,
     };
     report_fault(rt, console, &fault, &help)
