@@ -36,7 +36,14 @@
  *
  * Texts. Items and transactions have numbers, and texts have names: `t1` for transaction 1, and for the items the names
  * passed by the caller, one on each line ("checking\nsavings", without a line feed at the end), or `i0`, `i1` if the list
- * is empty. A name is a letter followed by up to 15 letters, digits or underscores. Texts are not terminated by a 0.
+ * is empty. A name is a letter followed by up to 15 letters, digits or underscores. Texts are not terminated by a 0. To learn
+ * the length of a text, call with a capacity of 0 and any buffer except NULL: the call stores the count and returns
+ * ESR_TOO_SMALL.
+ *
+ *     uint8_t none[1], *ledger;
+ *     size_t length;
+ *     if (esr_ledger(&engine, none, 0, &length) == ESR_TOO_SMALL && (ledger = malloc(length)) != NULL)
+ *         esr_ledger(&engine, ledger, length, &length);
  */
 #ifndef ESR_H
 #define ESR_H
@@ -207,7 +214,8 @@ esr_status esr_counts_of(const esr_engine *engine, esr_counts *counts);
 esr_status esr_account_of(const esr_engine *engine, uint32_t txn, esr_account *account);
 /* Stores the committed values of the items, in their order. */
 esr_status esr_values(const esr_engine *engine, int64_t *values, size_t capacity, size_t *count);
-/* Audits a committed query. Stores the updates before the nearest placement in `before`, in commit order. */
+/* Audits a committed query. Stores the updates before the nearest placement in `before`, in commit order. If these exceed
+ * `capacity`, the status is ESR_TOO_SMALL and the finding is stored nonetheless: for the distance alone, pass a capacity of 0. */
 esr_status esr_audit(const esr_engine *engine, uint32_t query, uint32_t *before, size_t capacity, esr_finding *finding);
 /* Stores the audit as one JSON object, without a terminating 0. `esr check` verifies it without this engine. */
 esr_status esr_bundle(const esr_engine *engine, uint32_t query, uint8_t *bytes, size_t capacity, size_t *count);

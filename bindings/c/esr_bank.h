@@ -22,6 +22,9 @@
  * yield to one another. A transaction that has waited for longer than the bank's patience gives up. When the history is full,
  * begins wait until the active transactions have ended, and then the engine is renewed: see esr_bank_before_renewal.
  *
+ * The calls of esr.h that are not events, such as esr_ledger and esr_explain, work on bank.engine under bank.lock. They need
+ * the number of a transaction: esr_bank_run has it, and a body finds it in t->txn. It is valid until the next renewal.
+ *
  * The header needs -pthread and POSIX.1-2008 (define _POSIX_C_SOURCE as 200809L before the first header). It is plain C over
  * the proved engine: nothing in it is proved. Rejected: one lock for a whole transaction, under which a report would block
  * every update; detecting cycles, which needs the waits-for graph, while a time limit also covers waits for limits.
@@ -34,6 +37,11 @@
 #include <stdlib.h>
 #include <time.h>
 
+#if defined(__STRICT_ANSI__) && !defined(_GNU_SOURCE) && !defined(_DEFAULT_SOURCE) && !defined(_XOPEN_SOURCE) \
+    && (!defined(_POSIX_C_SOURCE) || _POSIX_C_SOURCE < 200809L)
+#error "esr_bank.h needs POSIX.1-2008: define _POSIX_C_SOURCE as 200809L before the first #include"
+#endif
+
 #ifdef __cplusplus
 extern "C" {
 #endif
@@ -42,10 +50,23 @@ typedef enum esr_bank_result {
     ESR_BANK_DONE = 0,     /* committed */
     ESR_BANK_ABORTED = 1,  /* the body returned false of its own accord */
     ESR_BANK_TIMED_OUT = 2, /* blocked for longer than the patience */
-    ESR_BANK_REFUSED = 3,  /* a mistake of the caller: see esr_bank_txn.refusal, an ESR_NO_SUCH_ITEM for example */
+    ESR_BANK_REFUSED = 3,  /* a mistake of the caller: the refusal, ESR_NO_SUCH_ITEM for example, is in esr_bank_txn */
     ESR_BANK_FULL = 4,     /* the history is full, and could not be renewed within the patience */
-    ESR_BANK_FAILED = 5    /* the engine returned another status, such as ESR_NO_MEMORY: see esr_bank_txn.status */
+    ESR_BANK_FAILED = 5    /* the engine returned another status, such as ESR_NO_MEMORY: it is in esr_bank_txn */
 } esr_bank_result;
+
+/* Returns the text of a result. */
+static inline const char *esr_bank_result_text(esr_bank_result result) {
+    switch (result) {
+    case ESR_BANK_DONE: return "committed";
+    case ESR_BANK_ABORTED: return "aborted by its body";
+    case ESR_BANK_TIMED_OUT: return "blocked for longer than the patience";
+    case ESR_BANK_REFUSED: return "refused";
+    case ESR_BANK_FULL: return "the history is full";
+    case ESR_BANK_FAILED: return "the engine failed";
+    default: return "no such result";
+    }
+}
 
 typedef struct esr_bank {
     esr_engine engine;     /* use it only while holding the lock, for calls other than events and renewals */
@@ -61,7 +82,7 @@ typedef struct esr_bank {
 /* A running transaction. */
 typedef struct esr_bank_txn {
     esr_bank *bank;
-    uint32_t txn;
+    uint32_t txn;          /* its number, for esr_explain, esr_picture and esr_bundle */
     uint32_t refusal;      /* the refusal that ended it, if the result is ESR_BANK_REFUSED */
     esr_status status;     /* the status that ended it, if the result is ESR_BANK_FAILED */
     double turn, waited;   /* seconds: the turn of an event, and the time waited so far */
@@ -87,13 +108,14 @@ static inline double esr_bank_wait(esr_bank *bank, double seconds) {
     return esr_bank_now() - begun;
 }
 
-/* Opens a bank over opening values. `patience` is in seconds. Returns the status of esr_open; the bank must be closed only
- * after ESR_DONE. */
-static inline esr_status esr_bank_open(esr_bank *bank, const int64_t *opening, size_t items, double patience) {
+/* Opens a bank over opening values, with weights as in esr_open_weighted. `patience` is in seconds. Returns the status of
+ * esr_open_weighted; the bank must be closed only after ESR_DONE. */
+static inline esr_status esr_bank_open_weighted(esr_bank *bank, const int64_t *opening, size_t items, const uint32_t *weights,
+                                                size_t weighted, double patience) {
     const esr_bank closed = {ESR_CLOSED, PTHREAD_MUTEX_INITIALIZER, PTHREAD_COND_INITIALIZER, 0, false, 0, 0, 0, 0, NULL, NULL};
     *bank = closed;
     bank->patience = patience;
-    esr_status status = esr_open(&bank->engine, opening, items);
+    esr_status status = esr_open_weighted(&bank->engine, opening, items, weights, weighted);
     if (status != ESR_DONE) return status;
     pthread_condattr_t monotonic;
     if (pthread_mutex_init(&bank->lock, NULL) || pthread_condattr_init(&monotonic)
@@ -103,6 +125,12 @@ static inline esr_status esr_bank_open(esr_bank *bank, const int64_t *opening, s
     }
     pthread_condattr_destroy(&monotonic);
     return ESR_DONE;
+}
+
+/* Opens a bank without weights. */
+static inline esr_status esr_bank_open(esr_bank *bank, const int64_t *opening, size_t items, double patience) {
+    const uint32_t none[1] = {1};
+    return esr_bank_open_weighted(bank, opening, items, none, 0, patience);
 }
 
 /* Sets a function that the bank calls, holding the lock, before it discards a full history: it may call esr_audit,
@@ -265,7 +293,8 @@ static inline void esr_bank_pause(esr_bank_txn *t, double seconds) {
     t->waited += pause;
 }
 
-/* Runs a body as a transaction until it commits or fails. */
+/* Runs a body as a transaction until it commits or fails. Stores the transaction in `t`, with its number, refusal and status.
+ * A query is audited if `finding` is not NULL. esr_bank_transact and esr_bank_report are the usual calls. */
 static inline esr_bank_result esr_bank_run(esr_bank *bank, bool query, bool strict, uint64_t limit, esr_bank_body body,
                                            void *context, esr_finding *finding, esr_bank_txn *t) {
     const esr_bank_txn fresh = {bank, 0, 0, ESR_DONE, 0.05, 0, (unsigned)(uintptr_t)t ^ (unsigned)time(NULL), false, false};

@@ -80,6 +80,9 @@ class Bank(Mapping[str, int]):
     """Items with names and integer values, and transactions over them. A bank is a mapping of the names to the committed
     values. The difference of an item's values is multiplied by its weight, 1 to 1,000, which is 1 by default.
 
+    A name is any text. Scripts and explanations contain names of a letter and up to 15 letters, digits or underscores, and
+    call another item `i` and its number.
+
     `patience` is how many seconds a transaction waits for others in total, before it is `Blocked`.
 
     `optimistic` is whether `transact` runs a function before the engine sees its update, on the committed values of one
@@ -292,7 +295,11 @@ class Bank(Mapping[str, int]):
 
     def transact(self, limit: int, body: Callable[[Update], T], *, name: Optional[str] = None) -> T:
         """Runs `body` in an update and returns its result. It runs again in another update if the first was overtaken, or was
-        given up because of a deadlock or a long wait. The last exception is raised when patience ends.
+        given up because of a deadlock or a long wait. The last exception is raised when patience ends. An exception of `body`
+        aborts the update and is raised.
+
+        A transaction that needs an item which an active transaction of the same thread has locked waits in vain: pass that
+        transaction on instead of beginning another one.
 
         >>> bank = Bank({"checking": 500})
         >>> bank.transact(200, lambda update: update.add("checking", -100))

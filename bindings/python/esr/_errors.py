@@ -10,7 +10,7 @@ REASONS = {
     5: "value out of range",
     6: "limit out of range",
     7: "too many transactions",
-    8: "too many reads, at most 1,000 in a report",
+    8: "too many reads, at most 1,000 in a report (`snapshot` returns all items)",
     9: "a lock",
     10: "the import limit",
     11: "the export limit",
@@ -126,7 +126,7 @@ class Refused(EsrError):
     ...     for _ in range(1001):
     ...         value = report.read("checking")
     Traceback (most recent call last):
-    esr._errors.Refused: refused 8: too many reads, at most 1,000 in a report, at item 'checking'
+    esr._errors.Refused: refused 8: too many reads, at most 1,000 in a report (`snapshot` returns all items), at item 'checking'
     """
 
     def __init__(

@@ -78,7 +78,10 @@ def _path() -> str:
 
 def _load() -> types.SimpleNamespace:
     path = _path()
-    library, quick, calls = ctypes.CDLL(path), ctypes.PyDLL(path), types.SimpleNamespace()
+    try:
+        library, quick, calls = ctypes.CDLL(path), ctypes.PyDLL(path), types.SimpleNamespace()
+    except OSError as why:
+        raise ImportError(f"{why}; ESR_LIBRARY must be the path of libesr.so.0") from why
     engine, text = POINTER(Engine), (POINTER(c_uint8), c_size_t, POINTER(c_size_t))
     declared = {
         "esr_open_weighted": [engine, POINTER(c_int64), c_size_t, POINTER(c_uint32), c_size_t],

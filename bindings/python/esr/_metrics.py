@@ -33,7 +33,9 @@ class Active:
 
 @dataclass(frozen=True)
 class Metrics:
-    """Counters since the bank was opened, never reset by a renewal: see `Bank.metrics`.
+    """Counters since the bank was opened, never reset by a renewal: see `Bank.metrics`. Times are in seconds.
+
+    `to_prometheus` describes the counters. Of the updates, `whole` ran optimistically, that is, by `Bank.transact`.
 
     >>> from esr import Bank
     >>> Bank({"checking": 500}).metrics().updates

@@ -20,12 +20,14 @@ if TYPE_CHECKING:
     from ._store import Ticket
 
 NEW, ACTIVE, ENDED = "not begun", "active", "ended"
-NOT_COMMITTED = "only a report that has committed is audited"
+SHOWN_UPDATES = 8
+"""The maximum number of updates in the text of a finding."""
 
 
-@dataclass(frozen=True)
+@dataclass(frozen=True, repr=False)
 class Finding:
-    """The result of a report's audit. A notebook shows it as a picture, as long as the report's history exists.
+    """The result of a report's audit. A notebook shows it as a picture, as long as the report's history exists. Its text
+    abbreviates a long `before`.
 
     >>> from esr import Bank
     >>> bank = Bank({"checking": 500})
@@ -44,7 +46,14 @@ class Finding:
     """What the report was charged: at least the distance."""
     before: Tuple[int, ...]
     """The updates before that placement, in commit order."""
-    _query: "Query" = field(repr=False, compare=False)
+    _query: "Query" = field(compare=False)
+
+    def __repr__(self) -> str:
+        before = repr(self.before)
+        if len(self.before) > SHOWN_UPDATES:
+            first = ", ".join(map(str, self.before[: SHOWN_UPDATES - 2]))
+            before = f"({first}, ..., {self.before[-1]}: {len(self.before)} updates)"
+        return f"Finding(distance={self.distance}, charged={self.charged}, before={before})"
 
     def explain(self) -> str:
         """Returns the explanation of the report: see `Query.explain`."""
@@ -170,7 +179,7 @@ class Transaction:
 
 
 class Update(Transaction):
-    """An update: see `Bank.update`.
+    """An update: see `Bank.update`. Its `number` and `name` are those of its row in `Bank.ledger`.
 
     >>> from esr import Bank
     >>> bank = Bank({"checking": 500})
@@ -369,7 +378,7 @@ class Draft(Update):
 
 
 class Query(Transaction):
-    """A report: see `Bank.report`.
+    """A report: see `Bank.report`. Its `number` and `name` are those of its row in `Bank.ledger`.
 
     >>> from esr import Bank
     >>> bank = Bank({"checking": 500})
@@ -423,9 +432,13 @@ class Query(Transaction):
             self._finding = self._audited
         return self._finding
 
-    def _audit(self) -> Finding:
+    def _require_committed(self) -> None:
         if not self._has_committed:
-            raise EsrError(NOT_COMMITTED)
+            state = "has aborted" if self._state == ENDED else "is active until the end of its `with` statement"
+            raise EsrError(f"{self._shown()} {state}; only a report that has committed is audited")
+
+    def _audit(self) -> Finding:
+        self._require_committed()
         # The buffer is large enough for every update, so the audit is made once.
         found, capacity = c.Finding(), max(1, self._bank._counts().transactions)
         before = (ctypes.c_uint32 * capacity)()
@@ -484,8 +497,7 @@ class Query(Transaction):
         bank = self._bank
         with bank._lock:
             self._require_history()
-            if not self._has_committed:
-                raise EsrError(NOT_COMMITTED)
+            self._require_committed()
             text = bank._text(call, self.number, *arguments)
         bank._wait_for_store()
         return text

@@ -4,6 +4,10 @@ import decimal
 import fractions
 import inspect
 import math
+import os
+import pathlib
+import subprocess
+import sys
 import unittest
 
 import esr
@@ -237,6 +241,16 @@ class Arguments(unittest.TestCase):
                 call()
         with self.assertRaisesRegex(OutOfRange, "synchronous is 'OFF', and must be"):
             SQLiteStore("unused", synchronous="OFF")
+
+    def test_a_library_that_cannot_be_loaded(self):
+        """The message names the variable, for a path without a file and for a file that is not a library."""
+        package = str(pathlib.Path(esr.__file__).parent.parent)
+        for path in ("/nowhere/libesr.so.0", __file__):
+            environment = {**os.environ, "ESR_LIBRARY": path, "PYTHONPATH": package}
+            ran = subprocess.run([sys.executable, "-c", "import esr"], env=environment, capture_output=True, text=True)
+            self.assertEqual(ran.returncode, 1)
+            self.assertIn(path, ran.stderr)
+            self.assertIn("ESR_LIBRARY must be the path of libesr.so.0", ran.stderr.splitlines()[-1])
 
 
 if __name__ == "__main__":

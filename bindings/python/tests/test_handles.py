@@ -9,7 +9,7 @@ import unittest
 from unittest import mock
 
 import esr
-from esr import Bank, BankClosed, Blocked, EsrError, HandleExpired, Misuse, RenewalFailed
+from esr import Bank, BankClosed, Blocked, EsrError, HandleExpired, Misuse, Refused, RenewalFailed
 
 UPDATE_CALLS = {
     "read": lambda update: update.read("a"),
@@ -199,6 +199,26 @@ class Handles(unittest.TestCase):
                 for name in ("finding", "bundle", "explain", "picture"):
                     with self.assertRaisesRegex(EsrError, "only a report that has committed"):
                         AUDIT_CALLS[name](report)
+            with self.assertRaisesRegex(EsrError, "report 2 is active until the end of its `with` statement"):
+                active.finding
+            with self.assertRaisesRegex(EsrError, "report 1 has aborted"):
+                aborted.finding
+
+    def test_the_text_of_a_finding_abbreviates_a_long_list_of_updates(self):
+        bank = Bank({"a": 0})
+        for updates, text in ((8, "(1, 2, 3, 4, 5, 6, 7, 8)"), (10, "(1, 2, 3, 4, 5, 6, ..., 11: 10 updates)")):
+            while bank["a"] < updates:
+                bank.transact(0, lambda update: update.add("a", 1))
+            with bank.report(0, strict=True) as report:
+                report.read("a")
+            self.assertEqual(repr(report.finding), f"Finding(distance=0, charged=0, before={text})")
+            self.assertEqual(len(report.finding.before), updates)
+
+    def test_a_report_with_too_many_reads_refers_to_snapshot(self):
+        bank = Bank({f"article_{n}": n for n in range(1001)})
+        with self.assertRaisesRegex(Refused, "at most 1,000 in a report .`snapshot` returns all items., at item 'article_1000'"):
+            with bank.report(0) as report:
+                report.read_all(bank)
 
 
 class Renewals(unittest.TestCase):
