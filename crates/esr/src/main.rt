@@ -271,18 +271,49 @@ fn do_task<
     }
 }
 
-/// Returns the text of today's date, as in `27 Nov 2026`, unless the clock cannot be read.
-fn today(rt: &impl Clock, alloc: Global) -> Option<String> {
+/// The parts of a date.
+#[derive(Clone, Copy)]
+struct Date<'a> {
+    day: &'a str,
+    month: &'a str,
+    year: &'a str,
+}
+
+/// Returns the parts of the date of a header, which begins with the day of the week and ends with the time.
+fn date_in(text: &str) -> Option<Date<'_>> {
+    let mut words = text.split(' ');
+    let _ = words.next()?;
+    let day = words.next()?;
+    let month = words.next()?;
+    let year = words.next()?;
+    Some(Date { day, month, year })
+}
+
+/// Returns the seconds since 1970, unless the clock cannot be read.
+fn seconds_now(rt: &impl Clock) -> Option<u64> {
     let since = SystemTime::now(rt)
         .ok()?
         .duration_since(SystemTime::UNIX_EPOCH)
         .ok()?;
-    let date = HttpDate::from_unix_secs(since.as_secs()).ok()?;
-    let text = format!(in alloc; "{date}").ok()?;
-    // A date of a header begins with the day of the week and ends with the time.
-    let mut words = text.split(' ');
-    let (_, day, month, year) = (words.next()?, words.next()?, words.next()?, words.next()?);
-    format!(in alloc; "{day} {month} {year}").ok()
+    Some(since.as_secs())
+}
+
+/// Returns the text of today's date, as in `27 Nov 2026`, unless the clock cannot be read.
+///
+/// # Errors
+/// An allocation failed.
+fn today(rt: &impl Clock, alloc: Global) -> Result<Option<String>, AllocError> {
+    let Some(seconds) = seconds_now(rt) else {
+        return Ok(None);
+    };
+    let Ok(date) = HttpDate::from_unix_secs(seconds) else {
+        return Ok(None);
+    };
+    let text = format!(in alloc; "{date}")?;
+    match date_in(text.as_str()) {
+        Some(Date { day, month, year }) => Ok(Some(format!(in alloc; "{day} {month} {year}")?)),
+        None => Ok(None),
+    }
 }
 
 // In each function below, all references have one lifetime: the prover covers a struct of references only so.
@@ -339,11 +370,12 @@ fn show_page<'a, R: Print + Eprint + AllocGlobal + Clock, I: Read + Drop>(
     let Source(file) = source;
     let file = file.unwrap_or("");
     match today(rt, alloc) {
-        Some(date) => {
+        Ok(Some(date)) => {
             let date = date.as_str();
             show_page_of(rt, console, job, source, input, worst, file, date, notes)
         }
-        None => show_page_of(rt, console, job, source, input, worst, file, "", notes),
+        Ok(None) => show_page_of(rt, console, job, source, input, worst, file, "", notes),
+        Err(_) => fail(rt, &"out of memory", 1),
     }
 }
 
