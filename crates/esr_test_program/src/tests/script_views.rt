@@ -104,8 +104,8 @@ fn a_report_of_the_bank_is_told(rt: HostRuntime) {
 fn what_became_of_values_and_queries_is_told(rt: HostRuntime) {
     let alloc = rt.alloc();
     let report = [
-        "What report read was not a state that a strict report may be placed at.",
-        "It is strict, so it must be placed after morning, which had committed before it began.",
+        "What report read was not a state that a strict report may be placed at. The\nnearest",
+        "It is strict, so it must be\nplaced after morning, which had committed before it began.",
         "report is a strict query that began in line 8 and committed in line 21.",
         "  - till 90, in line 13, which evening had written but not committed; it aborted\n    later, in line 19\n",
         "; a difference of gold counts 3 times",
