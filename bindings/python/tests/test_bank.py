@@ -378,7 +378,7 @@ class Banks(unittest.TestCase):
             thread.join()
 
     def test_audits_and_texts_are_made_once(self):
-        """There is room for them from the start."""
+        """Their capacity is reserved from the start."""
         bank, calls = two_accounts(), []
         for _ in range(200):
             with bank.update(0) as update:

@@ -1,5 +1,5 @@
-//! Updates whose bodies run beside the engine: what they see is of one moment, nothing is lost, and what is in their way
-//! they wait for as others do. Audits beside the bank find what it finds itself.
+//! Updates whose bodies run outside the engine's lock: each sees one state, no change is lost, and they wait for locks
+//! as other transactions do. Audits in the background find what the bank itself finds.
 
 use esr::{Bank, BankBuilder, Error, MAX_TRANSACTIONS, Patience, Refusal};
 use std::{
@@ -69,7 +69,7 @@ fn the_history_has_first_reads_and_last_writes() {
     assert_eq!(bank.snapshot_in_order(), Ok(vec![400, 1600]));
 }
 
-/// What is refused is refused as ever, and a body may go on behind it.
+/// A call that fails returns the usual error, and the body may continue after it.
 #[test]
 fn refusals_are_the_same() {
     for is_optimistic in [false, true] {
@@ -134,7 +134,7 @@ fn errors_and_panics_leave_nothing() {
     assert_eq!(metrics.aborts, 2);
 }
 
-/// A body that others have overtaken never sees values that were not together, and runs anew.
+/// A body that conflicts with another commit never sees values of different states, and is retried.
 #[test]
 fn an_overtaken_body_runs_anew() {
     let bank = two_accounts();
@@ -184,8 +184,8 @@ fn a_lock_is_waited_for() {
     assert_eq!((metrics.updates, metrics.optimistic_updates), (2, 1));
 }
 
-/// Where nobody ends what is in the way, the caller is told why once patience has ended; also where it is the update
-/// itself, which begins another in its body.
+/// If no transaction releases the lock, the call returns the reason after its timeout; also if the update itself holds
+/// it and begins another in its body.
 #[test]
 fn patience_ends() {
     let short = Patience::of(Duration::from_millis(100));
@@ -264,7 +264,7 @@ fn reports_are_charged_and_waited_for() {
     assert!(metrics.waits > 0 && !metrics.waited.is_zero());
 }
 
-/// Reads in one hold: their values are in the order of the names, and where one is blocked the rest is read behind it.
+/// Reads in one hold: their values are in the order of the names, and if one is blocked the rest is read after it.
 #[test]
 fn reads_in_one_hold() {
     let (bank, met) = (two_accounts(), Barrier::new(2));
@@ -284,7 +284,7 @@ fn reads_in_one_hold() {
             bank.transact_stepwise(0, |slow| {
                 slow.write("savings", 1400)?;
                 met.wait();
-                thread::sleep(Duration::from_millis(30)); // behind its own limit it waits for nobody who is known
+                thread::sleep(Duration::from_millis(30)); // blocked by its own limit, it waits for no transaction
                 Ok::<_, Error>(())
             })
         });
@@ -293,7 +293,7 @@ fn reads_in_one_hold() {
     });
 }
 
-/// Who is active, and for whom it waits.
+/// Lists the active transactions, and the transaction that each waits for.
 #[test]
 fn active_ones_are_told() {
     let bank = two_accounts();
@@ -333,8 +333,8 @@ fn active_ones_are_told() {
     });
 }
 
-/// Work before a renewal that fails puts it off; the bank goes on while there is room, says why then, and is renewed once
-/// the work is done.
+/// Work before a renewal that fails postpones it; the bank continues while it has capacity, then returns the
+/// reason, and is renewed once the work is done.
 #[test]
 fn a_renewal_may_be_put_off() {
     static FAILS: AtomicBool = AtomicBool::new(true);
@@ -367,7 +367,8 @@ fn a_renewal_may_be_put_off() {
     }
 }
 
-/// An update goes on through renewals: its locks, its writes that nobody else sees, and what is left of its limit.
+/// An update continues through renewals: its locks, its writes that no other transaction sees, and the rest of its
+/// limit.
 #[test]
 fn a_slow_update_does_not_hold_a_renewal_off() {
     for background_audits in [false, true] {
@@ -484,8 +485,8 @@ fn a_report_holds_a_renewal_off() {
     assert_eq!((bank.renewals(), bank.metrics().carried), (1, 0));
 }
 
-/// Threads change items whose sum stays, whole and step by step, through renewals, beside reports with limits and
-/// snapshots: no body and no snapshot sees another sum, each report is off by no more than it is told, and nothing is lost.
+/// Threads change items whose sum stays, whole and step by step, through renewals, with reports that have limits and
+/// snapshots: no body and no snapshot sees another sum, each report is off by at most its import, and nothing is lost.
 #[test]
 fn a_soak_loses_nothing() {
     const ITEMS: usize = 12;
@@ -553,7 +554,7 @@ fn a_soak_loses_nothing() {
                 thread::sleep(begun.elapsed());
             }
         };
-        // updates that take as long as some histories, at items of their own and at one that all read
+        // updates that take as long as some histories, at separate items and at one that all read
         let slow = |mine: &str| {
             let mut all = 0;
             while Instant::now() < end {
@@ -609,7 +610,7 @@ fn a_soak_loses_nothing() {
     }
 }
 
-/// What the twin finds of reports beside work in progress is what the bank's own engine explains of them.
+/// The twin explains reports that run with active updates as the bank's own engine does.
 #[test]
 fn background_audits_find_the_same() {
     const ITEMS: usize = 5;

@@ -28,7 +28,7 @@ by P true t commit abort = commit
 by P false t commit abort = abort
 
 module _ (d : ℕ → ℤ → ℤ → ℕ) (opening : List ℤ) (events : List Event) (items : List Versions) (table : List Transaction) (locks : List ItemLocks) (accounts : List Account) (rep : Represents d opening events items table locks accounts) where
-  -- an event that writes nothing and ends nobody leaves the values
+  -- an event that writes nothing and ends no transaction leaves the values
   current-same : (e : Event) → ((x : ℕ) (k : ℕ → Bool) → written k x e ≡ None) → ((u : ℕ) → aborts u e ≡ false) → (x : ℕ) → x < length opening → current_at items x ≡ current_value opening (events ++ e ∷ []) x
   current-same e isnt ends x l = rep.current x l ∙ sym (current-kept opening events x e (isnt x) ends)
 
@@ -107,13 +107,13 @@ module _ (d : ℕ → ℤ → ℤ → ℕ) (opening : List ℤ) (events : List E
   holds : (t x : ℕ) → x < length opening → is_writer (locks_at locks x) t ≡ true → holds_write events t x ≡ true
   holds t x l is = (and_parts (is_update events t) (holds_write events t x) (sym (writes_here t x l) ∙ is)).1
 
-  -- who holds no write lock, though active, wrote nothing there
+  -- an active transaction without a write lock at an item wrote nothing there
   wrote_nothing : (t x : ℕ) → x < length opening → is_active events t ≡ true → is_writer (locks_at locks x) t ≡ false → list_any (writes t x) events ≡ false
   wrote_nothing t x l act none = false_from_ne_true (list_any (writes t x) events) (λ did.
       let u : is_update events t ≡ true = rep.orderly.writers t x did in
       false≢true (sym none ∙ (writes_here t x l ∙ and_from (is_update events t) (holds_write events t x) u (and_from (is_active events t) (list_any (writes t x) events) act did))))
 
-  -- beside the last writer, who is active, all who wrote an item have ended once
+  -- apart from the last writer, which is active, each transaction that wrote an item has ended once
   others_ended : (t x : ℕ) → x < length opening → is_writer (locks_at locks x) t ≡ true → (u : ℕ) → list_any (writes u x) events ≡ true → (t ≡ u → ⊥) → stays events u ≡ is_committed events u
   others_ended t x l has u did other =
       ended (is_committed events u) (is_aborted events u) (rep.orderly.once u)

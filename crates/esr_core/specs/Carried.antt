@@ -1,4 +1,4 @@
--- Going on from the committed values of a history with what is active in it.
+-- Continuing from the committed values of a history with the transactions that are active in it.
 use Rattle.std.specs.Prelude.{◌≡◌, ◌+◌, ◌-◌, ◌≤◌, ◌==◌, ℕ, ℤ, true, not, ◌&&◌, IsTrue, List, ◌∷◌, ◌++◌, Option, None, Some, filter, filter_map, flat_map, length, map, count_by, nat_lt, if◌then◌else◌}
 use Rattle.esr_core.specs.Words.{ItemId, TxnId, Event, Read, Write, Reply, Begun, Value, Entry}
 use Rattle.esr_core.specs.States.{begin_event}
@@ -52,7 +52,7 @@ update_again h reply (Write t x v) =
     then Some (record { event = Write (new_number h t.0) x v; reply = reply }) else None
 update_again h reply _ = None
 
--- Then each read of an active query, which answers the current value now, and not what it was told.
+-- Then each read of an active query, which answers the current value now, and not the value that it got.
 abbrev pub read_again : Schedule → Event → Option Entry
 read_again h (Read t x) =
     if is_active_query h t.0
@@ -79,8 +79,8 @@ pub record IsCarriedAs (d : Distance) (h : Schedule) (t : ℕ) (k : Schedule) (u
   pub limit : part + limit_of (accepted_in k) u ≡ limit_of (accepted_in h) t
   pub charge : part + charged_in k (charges_in d k) u ≡ charged_in h (charges_in d h) t
 
--- Nothing of what is active is lost: each item has its two values, each active transaction its reads, its locks, and
--- what was left of its limit.
+-- No part of an active transaction is lost: each item has its two values, each active transaction its reads, its locks, and
+-- the rest of its limit.
 pub record IsCarriedOver (d : Distance) (h k : Schedule) : Type 0 where
   pub opens : k.opening ≡ committed_values h
   pub weights : k.weights ≡ h.weights
@@ -89,7 +89,7 @@ pub record IsCarriedOver (d : Distance) (h k : Schedule) : Type 0 where
   pub current : (x : ℕ) → current_value k.opening (accepted_in k) x ≡ current_value h.opening (accepted_in h) x
   pub each : (t : ℕ) → is_active (accepted_in h) t ≡ true → IsCarriedAs d h t k (new_number h t).0 (settled d h t)
 
--- A query over any number of histories, from a limit on: what it was told, and what was settled before this history.
+-- A query over any number of histories, from a limit on: the values that it read, and those settled before this history.
 pub data IsReport (d : Distance) (limit : ℕ) : Schedule → ℕ → List Operation → ℕ → Type 0 where
   reads : (h : Schedule) (q : ℕ) → IsLegal d h → IsTrue (is_active_query h q) → limit_of (accepted_in h) q ≡ limit
       → IsReport d limit h q (reads_by h q) 0
@@ -100,7 +100,7 @@ pub data IsReport (d : Distance) (limit : ℕ) : Schedule → ℕ → List Opera
       → (k : Schedule) → IsCarriedOver d h k
       → IsReport d limit k (new_number h q).0 told (part + settled d h q)
 
--- Whatever history a report is in by now: while it is active, what it was told is no farther from any mixture of committed
+-- Whatever history a report is in by now: while it is active, its reads are no farther from any mixture of committed
 -- and current values than what it has imported in all its histories together, and that is within the limit that it began
 -- with.
 abbrev pub ReportsAreBounded : Distance → Type 0
@@ -127,7 +127,7 @@ LawOfActiveQueries =
 abbrev pub LawOfReports : Type 0
 LawOfReports = (d : Distance) → AreDistances d → ReportsAreBounded d × ReportsAreBoundedAtCommit d
 
--- A carry needs no room: it has at most as many entries as there were.
+-- A carry needs no more capacity: it has at most as many entries as there were.
 abbrev pub LawOfRoom : Type 0
 LawOfRoom = (d : Distance) (h : Schedule) → length (carried d h).entries ≤ length h.entries
 

@@ -30,7 +30,7 @@ are_settled = refl
 numbered_anew : map (λ t. (new_number two_active t).0) (1 ∷ 3 ∷ []) ≡ 1 ∷ 2 ∷ []
 numbered_anew = refl
 
--- What is carried is what the machine answers: the report begins with 9 of its 12, and is charged the 7 again.
+-- The carried schedule has the replies of the machine: the report begins with 9 of its 12, and is charged the 7 again.
 is_answered : carried plain two_active
     ≡ played (started_from (pos 103 ∷ pos 50 ∷ [])) (
     BeginQuery 9 false ∷ BeginUpdate 9 ∷ Read (txn 2) (item 1) ∷ Write (txn 2) (item 1) (pos 57)

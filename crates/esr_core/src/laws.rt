@@ -1,5 +1,5 @@
 //! Laws of active reports, and of those that a renewal carries over. A law is the contract of a function with an empty
-//! body, since what stands in `specs/` alone is not proved.
+//! body, since a statement that is only in `specs/` is not proved.
 
 ghost use Rattle.esr_core.specs.Carried.{LawOfActiveQueries, LawOfActiveUpdates, LawOfCurrentValues, LawOfReports, LawOfRoom};
 
@@ -9,7 +9,7 @@ pub fn active_reports_are_bounded()
     ensures { LawOfActiveQueries }
 {}
 
-/// Over any number of renewals that carry it, what a report was told is within what it imported in all its histories
+/// Over any number of renewals that carry it, the distance of a report's reads is within what it imported in all its histories
 /// together, and that is within the limit that it began with.
 pub fn carried_reports_are_bounded()
     ensures { LawOfReports }
@@ -20,7 +20,7 @@ pub fn carried_histories_fit()
     ensures { LawOfRoom }
 {}
 
-/// What an active update has read still holds, whatever committed since: so its reads can be made again, with the
+/// What an active update has read still holds, whatever committed since: so its reads can be replayed, with the
 /// replies that they had.
 pub fn active_updates_read_on()
     ensures { LawOfActiveUpdates }

@@ -65,7 +65,7 @@ impl EmbeddedEngine {
         }
     }
 
-    /// The account of a transaction, or None where it has not begun. What an active report has read so far is off by at
+    /// Returns the account of a transaction, or None if it has not begun. What an active report has read so far is off by at
     /// most what it was charged, from the committed values and from any mixture of these and the current ones.
     #[tactic(auto, using(crate::proofs::Statuses::no_account, crate::proofs::Reports::active_bounded))]
     pub fn account(&self, t: TxnId) -> Option<AccountView>

@@ -1,4 +1,4 @@
--- What is told of a run.
+-- The summary of a run.
 use Rattle.std.specs.Prelude.{◌≡◌, ℕ, ℤ, false, List, [], ◌∷◌, Option, Some, None, map, option_and_then, slice_get, slice_index_or, unwrap_or}
 use Rattle.esr_items.specs.Weights.{weighted}
 use Rattle.esr_history.specs.Machine.{Schedule, IsLegal}
@@ -27,7 +27,7 @@ AreOutcomes h runners [] [] = Unit {0}
 AreOutcomes h runners (q ∷ queries) (outcomes ∷ more) = IsOutcome h (number_of runners q.block q.place) outcomes × AreOutcomes h runners queries more
 AreOutcomes h runners _ _ = ⊥
 
--- what is told of a run that ended so
+-- the summary of a run that ended so
 pub record IsSummaryOf (end : Stage) (queries : List Query) (run_summary : RunSummary) : Type 0 where
   pub outcomes : AreOutcomes end.history end.blocks queries run_summary.outcomes.items
   pub blocked : run_summary.blocked.items ≡ map (λ r. r.blocked) end.blocks
