@@ -1,7 +1,7 @@
 //! The lines that scripts have most of, read in one pass: the class of each byte is asked once.
 //!
-//! What is given here is spelled by the line. Where nothing is given, the words of the line decide (`parse`), so nothing
-//! that a line may spell has to be found here.
+//! A command that is returned here is spelled by the line. If none is, the words of the line decide (`parse`), so
+//! nothing that a line may spell has to be found here.
 
 ghost use Rattle.std.specs.Prelude.{◌≡◌, ◌∷◌, ◌++◌, IfSome, codes, not};
 ghost use Rattle.std.specs.List.{position};
@@ -42,7 +42,7 @@ fn front_name(bytes: &[u8]) -> Option<(&str, &[u8])>
     Some((name, &bytes[place + 1..]))
 }
 
-/// `write NAME NAME INT`, behind its first word.
+/// `write NAME NAME INT`, after its first word.
 #[inline(always)]
 fn write(words: &[u8]) -> Option<Line<'_>>
     ensures { IfSome result (λ line. Spells (codes "write " ++ words.now) (view line)) }
@@ -53,7 +53,7 @@ fn write(words: &[u8]) -> Option<Line<'_>>
     Some(Line::Write { txn, item, value })
 }
 
-/// `read NAME NAME`, behind its first word.
+/// `read NAME NAME`, after its first word.
 #[inline(always)]
 fn read(words: &[u8]) -> Option<Line<'_>>
     ensures { IfSome result (λ line. Spells (codes "read " ++ words.now) (view line)) }
@@ -63,7 +63,7 @@ fn read(words: &[u8]) -> Option<Line<'_>>
     Some(Line::Read { txn, item })
 }
 
-/// `commit NAME`, behind its first word.
+/// `commit NAME`, after its first word.
 #[inline(always)]
 fn commit(words: &[u8]) -> Option<Line<'_>>
     ensures { IfSome result (λ line. Spells (codes "commit " ++ words.now) (view line)) }
@@ -114,7 +114,7 @@ fn behind_query(bytes: &[u8]) -> Option<&[u8]>
     }
 }
 
-/// The begin, by its name and what follows the blank behind it.
+/// The begin, by its name and the text that follows the blank after it.
 #[inline(always)]
 fn begin_kind<'a>(name: &'a str, more: &[u8]) -> Option<Line<'a>>
     requires { IsName name.now }
@@ -126,7 +126,7 @@ fn begin_kind<'a>(name: &'a str, more: &[u8]) -> Option<Line<'a>>
     }
 }
 
-/// `begin NAME update LIMIT` and `begin NAME query LIMIT`, behind the first word.
+/// `begin NAME update LIMIT` and `begin NAME query LIMIT`, after the first word.
 #[inline(always)]
 fn begin(words: &[u8]) -> Option<Line<'_>>
     ensures { IfSome result (λ line. Spells (codes "begin " ++ words.now) (view line)) }

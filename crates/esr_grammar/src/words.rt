@@ -73,7 +73,7 @@ pub fn is_letter(byte: u8) -> bool
     matches!(byte, b'a'..=b'z' | b'A'..=b'Z')
 }
 
-/// Whether a name may have the byte, for each byte: a line asks it of most of its own.
+/// Whether a name may have the byte, for each byte: a line looks up most of its bytes.
 static NAME_BYTES: [bool; 256] = [
     false, false, false, false, false, false, false, false, false, false, false, false, false,
     false, false, false, false, false, false, false, false, false, false, false, false, false,

@@ -1,4 +1,4 @@
--- What an active query was told stays within its bound of every mixture, as long as each charge is added to the bound.
+-- The reads of an active query stay within its bound of every mixture, as long as each charge is added to the bound.
 use Rattle.std.proofs.Common.{◌≡◌, ℕ, ◌+◌, ◌*◌, ◌≤◌, ℤ, Bool, true, false, cond, not, ◌&&◌, ◌⊎◌, List, [], ◌∷◌, ◌++◌, refl, sym, ◌∙◌, ap, subst, inl, inr, ⊎_elim, arith, filter, eqb, Option, Some, None, count_by, sum_by, is_some, append_assoc}
 use Rattle.std.specs.List.{before_first}
 use Rattle.std.proofs.Math.Path.{fun_ext}
@@ -14,11 +14,11 @@ use Rattle.esr_history.proofs.Versions.{writers, settled, item_parts, current_af
 use Rattle.esr_history.proofs.Covered.{read_by, IsMixture}
 use Rattle.esr_history.proofs.Bounded.{before_first-kept, before_first-all, In-before_first, updates_of_in, listed_committed}
 
--- the distance of what was told from the values w
+-- the distance of the values read from the values w
 abbrev pub told_in : (ℕ → ℤ → ℤ → ℕ) → List Operation → (ℕ → ℤ) → ℕ
 told_in d refusal_info w = sum_by (λ o. d o.item o.value (w o.item)) refusal_info
 
--- what q was told is of items that it has read as often, and within the bound of every mixture
+-- the reads of q are of items that it has read as often, and within the bound of every mixture
 pub record IsToldIn (s : Setting) (t : Trace) (q : ℕ) (refusal_info : List Operation) (b : ℕ) : Type 0 where
   pub held : (x : ℕ) → count_by (λ o. eqb o.item x) refusal_info ≤ read_count_in t x q
   pub within : (w : ℕ → ℤ) → IsMixture s.opening t w → told_in s.distance refusal_info w ≤ b
@@ -76,7 +76,7 @@ module _ {s : Setting} (d : IsMetric s.distance) (t : Trace) (q : ℕ) (refusal_
           let k : cond (eqb x y) 1 0 ≤ cond (reads_item y r && eqb q q) 1 0 = both y in
           rw (count_push (λ o. eqb o.item y) refusal_info r, count_push (λ o. reads_item y o && eqb o.txn q) t.operations r) (omega (arith, h, k))
 
-  -- a write is charged for each read of the item, and so for each time that q was told of it
+  -- a write is charged for each read of the item, and so once per value of it that q got
   written : (u x : ℕ) (v : ℤ) (c : ℕ) → ended_in t u ≡ false
       → read_count_in t x q * s.distance x v (current_in s.opening t x) ≤ c
       → IsToldIn s (with_operation t (write_of u x v)) q refusal_info (b + c)
@@ -159,9 +159,9 @@ module _ {s : Setting} (d : IsMetric s.distance) (t : Trace) (q : ℕ) (refusal_
     within = λ w mix. was.within w (λ x. ⊎_elim (λ e. inl e) (λ e. ⊎_elim (λ f. inl (e ∙ f)) (λ f. inr (e ∙ f)) (current_after_abort r s.opening u x a)) (mix x));
   }
 
--- From a trace on in which q had read `before` and imported an amount: what it reads later is told, what it imports later
--- is added to the bound, until it has ended; and where it has committed, the bound is that of the values which the updates
--- before it left.
+-- From a trace on in which q had read `before` and imported an amount: each later read is added to its reads, each
+-- later import to the bound, until it has ended; and if it has committed, the bound is that of the values which the
+-- updates before it left.
 pub record IsOnward (s : Setting) (q : ℕ) (before : List Operation) (imported : ℕ) (refusal_info : List Operation) (b : ℕ) (t : Trace) (m : ℕ → ℕ) : Type 0 where
   pub reached : Reached s t m
   pub query : query_in t q ≡ true

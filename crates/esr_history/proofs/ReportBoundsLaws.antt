@@ -1,4 +1,4 @@
--- The laws of active queries: what they read, and what they were told over several histories.
+-- The laws of active queries: what they read in one history, and over several.
 use Rattle.std.proofs.Common.{◌≡◌, ℕ, ◌+◌, ◌≤◌, ℤ, Bool, true, false, not, ◌&&◌, ◌==◌, IsTrue, List, [], ◌++◌, refl, sym, ◌∙◌, ap, subst, inl, inr, ⊎_elim, arith, filter, append-nil, add-zero, ◌∷◌, cond, eqb, count_by, sum_by, Option, None, Some, is_some}
 use Rattle.std.proofs.lemmas.Bool.{and_parts, or_parts, true≢false}
 use Rattle.std.proofs.lemmas.List.Sums.{sum_by-cons}
@@ -143,7 +143,7 @@ module _ (d : Distance) (metric : (w : List ℕ) → IsMetric (d w)) where
       (fun_ext (λ x. ap (λ v. distance_in d h x v (committed_in (value_at h.opening) (trace h) x)) (sym (current_trace h x)) ∙ ap (distance_in d h x (current_value h.opening (accepted_in h) x)) (sym (committed_trace h x))))
       (open_within (metric h.weights) (legal_reached d h legal) q (active_trace h q p.1).open_ended (query_not_update (accepted_in h) q p.0))
 
-  -- an active query was told what it has read, within its import
+  -- the values that an active query got are its reads, within its import
   pub reads_told : (h : Schedule) → IsLegal d h → (q : ℕ) → IsTrue (is_active_query h q) → IsTold d h q (reads_by h q) (import_in (charges_in d h) q)
   reads_told h legal q is = record {
     active = is;

@@ -1,4 +1,5 @@
--- What an active query was told, over any number of histories, and how far that may be from what the items are now.
+-- The reads of an active query, over any number of histories, and their distance from the values that the items have
+-- now.
 use Rattle.std.specs.Prelude.{◌≡◌, ℕ, ℤ, ◌+◌, ◌≤◌, ◌⊎◌, Bool, not, ◌&&◌, ◌==◌, IsTrue, List, ◌++◌, filter, count_by, sum_by}
 use Rattle.esr_history.specs.Events.{is_query, is_active, reads_of, committed_value, current_value, Entry}
 use Rattle.esr_history.specs.Machine.{Distance, Schedule, accepted_in, distance_in, charges_in, import_in, IsLegal}
@@ -27,12 +28,12 @@ ImportBoundsActive d h =
     (q : ℕ) → IsTrue (is_active_query h q) → (w : ℕ → ℤ) → IsMixture h w
     → distance_from d h q w ≤ import_in (charges_in d h) q
 
--- the distance of what was told, items with their values, from the values w of the items
+-- the distance of the reads, items with the values read, from the values w of the items
 abbrev pub told_distance : Distance → Schedule → List Operation → (ℕ → ℤ) → ℕ
 told_distance d h refusal_info w = sum_by (λ o. distance_in d h o.item o.value (w o.item)) refusal_info
 
--- q is active, it has read each item at least as often as it was told of it, and what it was told is within the bound
--- of every mixture. What it was told may be of earlier histories: the reads say only of which items, and how often.
+-- q is active, it has read each item at least as often as these reads contain it, and they are within the bound
+-- of every mixture. They may be of earlier histories: those of this one say only which items, and how often.
 pub record IsTold (d : Distance) (h : Schedule) (q : ℕ) (refusal_info : List Operation) (bound : ℕ) : Type 0 where
   pub active : IsTrue (is_active_query h q)
   pub held : (x : ℕ) → count_by (λ o. o.item == x) refusal_info ≤ reads_of (accepted_in h) q x
@@ -42,7 +43,7 @@ pub record IsTold (d : Distance) (h : Schedule) (q : ℕ) (refusal_info : List O
 abbrev pub reads_in : List Entry → ℕ → List Operation
 reads_in entries q = filter (λ o. not o.writes && (o.txn == q)) (operations_in entries)
 
--- As its history goes on, the bound of an active query grows by what it imports, and by no more.
+-- As its history continues, the bound of an active query grows by what it imports, and by no more.
 abbrev pub BoundGrowsByImport : Distance → Schedule → Type 0
 BoundGrowsByImport d h =
     (q : ℕ) (refusal_info : List Operation) (bound : ℕ) → IsTold d h q refusal_info bound
@@ -58,7 +59,7 @@ BoundHoldsAtCommit d h =
     → (more : ℕ) → import_in (charges_in d h) q + more ≡ import_in (charges_in d (along h later)) q
     → told_distance d h (refusal_info ++ reads_in later q) (state (along h later) (updates_of (along h later) q)) ≤ bound + more
 
--- what the reads of q would be charged if each were made again now: the charges that are open
+-- what the reads of q would be charged if each were repeated now: the charges that are open
 abbrev pub open_import : Distance → Schedule → ℕ → ℕ
 open_import d h q =
     sum_by (λ o. distance_in d h o.item (current_value h.opening (accepted_in h) o.item)

@@ -37,7 +37,7 @@ no_lock false update active read wrote ended = refl
 no_lock true false active read wrote ended = refl
 no_lock true true active read wrote ended = rw (ended refl) refl
 
--- a read lock of a query that is another transaction and not active, or is no query
+-- a read lock of a query that is another transaction and not active, or is not a query
 no_charge : {X : Type 0} (query active read : Bool) (c : Option X) → (active ≡ true → query ≡ false)
     → (if query && (active && read) then c else None) ≡ None
 no_charge false active read c lone = refl

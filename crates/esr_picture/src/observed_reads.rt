@@ -1,6 +1,6 @@
-//! What was read in a lane: the values that it was read with, and those that did not stay, since their writer aborted,
+//! The reads of a lane: the values that it was read with, and those that did not stay, since their writer aborted,
 //! came later, or wrote over them. A lane may have the value of one all the same, of another update: its piece is green
-//! then, since audits compare values and nothing else, and whose the value was is told as well.
+//! then, since audits compare values and nothing else, and the writer of the value is kept as well.
 
 use esr_items::ItemId;
 use esr_report::name_of_transaction;

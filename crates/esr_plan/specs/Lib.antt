@@ -1,4 +1,4 @@
--- What a drive file asks for, and the text of what came of it, by its plan and its history. `Drafts`, `DrivePlans`,
+-- The work of a drive file, and the text of its result, by its plan and its history. `Drafts`, `DrivePlans`,
 -- `Tables` and `Readings` are what contracts see of the values on the way.
 
 pub mod Plan

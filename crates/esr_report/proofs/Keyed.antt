@@ -1,4 +1,4 @@
--- Where a name is in its table, seen through what it is looked up by.
+-- The place of a name in its table, seen through what it is looked up by.
 use Rattle.std.proofs.Common.{◌≡◌, ℕ, suc, ◌+◌, ◌<◌, ◌≤◌, List, [], ◌∷◌, ◌++◌, inl, inr, Bool, true, false, ◌&&◌, not, cond, nat_lt, map, length, All, refl, sym, ◌∙◌, ap, arith, rules, Some, None, nat_eq, bytes_eq, eqb-true, eq-eqb}
 use Rattle.std.specs.List.{position, position_or_len, list_any}
 use Rattle.std.proofs.lemmas.Bool.{cases_Bool, and_parts}

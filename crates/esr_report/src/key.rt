@@ -12,7 +12,7 @@ pub struct Key {
     length: usize,
 }
 
-/// The byte at a place, or 0 behind the end.
+/// The byte at a place, or 0 after the end.
 #[inline(always)]
 fn byte_at(bytes: &[u8], place: usize) -> u64
     ensures value { result ≡ slice_index_or bytes.now place 0 }

@@ -1,8 +1,8 @@
 //! A table of names, in the order in which they were bound; none is bound twice.
 //!
-//! A name is looked up by three numbers (`key`), so that none is copied or compared byte by byte to be found; its text, of
-//! at most 16 bytes, lies beside them, 48 bytes in all. A longer name, which no line spells, has no room and is refused as
-//! where memory is.
+//! A name is looked up by three numbers (`key`), so that none is copied or compared byte by byte to be found; its text,
+//! of at most 16 bytes, is next to them, 48 bytes in all. A longer name, which no line spells, does not fit and fails
+//! as an allocation does.
 
 ghost use Rattle.std.specs.Prelude.{◌≡◌, ℕ, ◌+◌, ◌<◌, ◌≤◌, ◌^◌, List, [], ◌∷◌, ◌++◌, map, length, All, IfOk, OnOk, OnErr, slice_get, option_map, Option, None, true};
 ghost use Rattle.esr_report.specs.Names.{position_of, all_distinct};

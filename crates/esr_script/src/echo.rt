@@ -1,4 +1,4 @@
-//! Answers that repeat the words of their line: these are copied from it in one piece, and no number is made anew.
+//! Answers that repeat the words of their line: these are copied from it in one piece, and no number is formatted.
 
 ghost use Rattle.std.specs.Prelude.{◌≡◌, ◌≤◌, ◌∷◌, ◌++◌, [], OnOk, OnErr, codes, length, take};
 ghost use Rattle.esr_base.specs.Watch.{BeginsWith};
@@ -45,7 +45,7 @@ fn append_value(out: &mut Vec<u8>, words: &[u8], value: &[u8]) -> Result<(), All
     Ok(())
 }
 
-/// Takes away what was appended behind the mark, where memory was refused.
+/// Removes the text that was appended after the mark, when an allocation fails.
 #[inline(always)]
 fn whole(out: &mut Vec<u8>, mark: usize, appended: Result<(), AllocError>) -> Result<(), AllocError>
     requires { mark ≤ length out.old.items }

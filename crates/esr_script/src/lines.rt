@@ -2,8 +2,8 @@
 //!
 //! Bytes that were read and not used yet are in `input`, text that the sink has not taken yet in `out`. Between two
 //! steps the lines so far, answered one after another, have led to the script's state and to the text that was taken
-//! with that in `out` behind it (`InputProgress`). The text is taken before the input is waited for, so that whoever types
-//! lines sees each answered, and where much of it has come together.
+//! with that in `out` after it (`InputProgress`). The text is taken before the input is waited for, so that whoever
+//! types lines sees each answered, and where much of it has come together.
 
 ghost use Rattle.esr_grammar.specs.declared.limits.TheConstants.{MAX_LINE_BYTES};
 ghost use Rattle.std.specs.Prelude.{◌≡◌, ℕ, List, [], ◌++◌, Some, IsErrOf, IfErr, IfOk, false, ◌≤◌, ◌⊎◌, length};
