@@ -8,7 +8,7 @@
 
 ghost use Rattle.std.specs.Prelude.{◌≡◌, ◌≤◌, false};
 ghost use Rattle.esr_base.specs.Watch.{failed};
-ghost use Rattle.esr_cli.specs.Job.{work_of, HasWorkers as HasItsWorkers};
+ghost use Rattle.esr_cli.specs.Job.{requested_task, HasWorkers as HasItsWorkers};
 ghost use Rattle.esr_drive.specs.Drive.{HasWorkers};
 
 use either::{Left, Right};
@@ -109,7 +109,7 @@ fn swapped<'a, R: Files>(rt: &R, task: Task<'a>, file: Option<&'a str>) -> Optio
 
 /// Accepts the operands of `why` in both orders.
 fn in_order<'a, R: Files>(rt: &R, job: Job<'a>) -> Job<'a>
-    ensures { HasItsWorkers (work_of job.entry.task) → HasItsWorkers (work_of result.task) }
+    ensures { HasItsWorkers (requested_task job.entry.task) → HasItsWorkers (requested_task result.task) }
 {
     match swapped(rt, job.task, job.file) {
         Some(Operands { name, file }) => Job {
@@ -140,7 +140,7 @@ fn do_job<'a, R: Input + Print + Eprint + Files + AllocGlobal + Clock + Threads 
     console: Console,
     job: Job<'a>,
 ) -> u8
-    requires { HasItsWorkers (work_of job.task) }
+    requires { HasItsWorkers (requested_task job.task) }
 {
     if job.format.is_none() {
         return fail(rt, &"--format must be text, csv or json", 2);
@@ -171,7 +171,7 @@ fn do_task<
     R: Print + Eprint + Files + AllocGlobal + Clock + Threads + Wait + Sync,
     I: Read + Drop,
 >(rt: &'a R, console: Console, job: Job<'a>, source: Source<'a>, input: I) -> u8
-    requires { HasItsWorkers (work_of job.task) }
+    requires { HasItsWorkers (requested_task job.task) }
 {
     match job.task {
         Task::Run => execute_command(rt, console, job, source, input, &RunScript),

@@ -14,7 +14,7 @@ use Rattle.esr_history.specs.Orderly.{names}
 use Rattle.esr_history.specs.Queries.{is_committed_query}
 use Rattle.esr_history.specs.Serial.{committed_updates}
 use Rattle.esr_history.proofs.Membership.{In, Pairs, Pairs-filter, In-of_filter, each_in, each_at, any-from_In, In-any, any-from_number, filter_agree_in}
-use Rattle.esr_history.proofs.Lawful.{legal_orderly, begun_number}
+use Rattle.esr_history.proofs.Lawful.{legal_orderly, begun_in_range}
 use Rattle.esr_history.proofs.Locking.{commits_once}
 use Rattle.esr_history.proofs.Reaches.{legal_reached}
 use Rattle.esr_history.proofs.WithinRanges.{legal_begins}
@@ -90,7 +90,7 @@ few_queries d h legal =
     shorter qs (length (beginnings (accepted_in h))) all begins
   where
     numbered : (q : ℕ) → In q (committed_queries h) → (1 ≤ q) × (q < 1 + length (beginnings (accepted_in h)))
-    numbered q i = begun_number (accepted_in h) q (query_begun h q (In-of_filter (is_query (accepted_in h)) (commit_order (accepted_in h)) q i).1)
+    numbered q i = begun_in_range (accepted_in h) q (query_begun h q (In-of_filter (is_query (accepted_in h)) (commit_order (accepted_in h)) q i).1)
 
     low : (v : ℕ) → 0 ≡ v → v < 1 + length (beginnings (accepted_in h))
     low v e = omega (arith, e)

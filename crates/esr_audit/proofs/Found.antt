@@ -18,10 +18,10 @@ use Rattle.esr_cert.specs.Certificate.{Certificate, Certifies}
 use Rattle.esr_cert.proofs.Sound.{IsProblem, facts, shape_facts}
 use Rattle.esr_cert.proofs.Certified.{IsFaultless, faultless, cost_is}
 use Rattle.esr_flow.proofs.SolveLaws.{smallest_same, same_cost}
-use Rattle.esr_audit.specs.Problems.{passes_at, StandsFor}
+use Rattle.esr_audit.specs.Problems.{passes_at, IsProblemOf}
 use Rattle.esr_audit.specs.Findings.{IsAnswer}
-use Rattle.esr_audit.proofs.Costs.{cost_stands}
-use Rattle.esr_audit.proofs.Smallest.{known_at, smallest_stands}
+use Rattle.esr_audit.proofs.Costs.{cost_is_distance}
+use Rattle.esr_audit.proofs.Smallest.{known_at, smallest_is_least}
 use Rattle.esr_audit.proofs.Positions.{passes_as_set, before_members}
 
 -- the items that a query read are among those of the history
@@ -30,7 +30,7 @@ reads_inside d h q opened legal =
     Each-filter (λ (o : Operation). o.item < length h.opening) (λ (o : Operation). not o.writes && eqb o.txn q) (operations h) (recursion_from_All (λ (o : Operation). o.item < length h.opening) (operations h) (legal_within_ranges d h opened legal).items)
 
 module _ (d : Distance) (h : Schedule) (q : ℕ) (opened : All IsValue h.opening) (legal : IsLegal d h) (bound : ImportBoundsDistance d h) (committed : IsTrue (is_committed_query h q)) where
-  pub answer_from : (p : Problem) (c : Certificate) → StandsFor d h q p → is_sound p ≡ true → Certifies p c → IsSmallestLeast p (in_set c.set)
+  pub answer_from : (p : Problem) (c : Certificate) → IsProblemOf d h q p → is_sound p ≡ true → Certifies p c → IsSmallestLeast p (in_set c.set)
       → IsAnswer d h q c.worth (import_in (charges_in d h) q) (filter_map (slice_get p.updates) c.set)
   answer_from p c stands sound certified s =
       let ok : IsProblem p = facts p sound in
@@ -40,9 +40,9 @@ module _ (d : Distance) (h : Schedule) (q : ℕ) (opened : All IsValue h.opening
       let inside : AllByRecursion (λ (o : Operation). o.item < length h.opening) (reads_by h q) = reads_inside d h q opened legal in
       let same : (u : ℕ) → u < size p → in_set c.set u ≡ passes_at p.updates (is_among before) u = λ u l. sym (passes_as_set p.updates dist c.set f.ascending f.known u l) in
       let smallest : IsSmallestLeastSet d h q (is_among before) =
-      smallest_stands d h q p stands ok inside (is_among before) (known_at p.updates c.set) (smallest_same p ok (in_set c.set) (passes_at p.updates (is_among before)) same s) in
+      smallest_is_least d h q p stands ok inside (is_among before) (known_at p.updates c.set) (smallest_same p ok (in_set c.set) (passes_at p.updates (is_among before)) same s) in
       let costs : c.worth ≡ cost d h q (is_among before) =
-      cost_is p c f ∙ same_cost p ok (in_set c.set) (passes_at p.updates (is_among before)) same ∙ cost_stands d h q p stands inside (is_among before) in
+      cost_is p c f ∙ same_cost p ok (in_set c.set) (passes_at p.updates (is_among before)) same ∙ cost_is_distance d h q p stands inside (is_among before) in
       let all_closed : IsClosed h q (λ u. true) = record { downward = λ u v cu cv b t. refl; holds_must = λ u m. refl } in
       let parts : ClosedSetsAreParts d h q = law_of_placements d h q legal in
       record {

@@ -1,4 +1,4 @@
--- Why the problem that is gathered stands for its query (`Standing`, `Posed`), and its answer is the audit's, also
+-- Why the problem that is gathered stands for its query (`ProblemOf`, `BuiltProblem`), and its answer is the audit's, also
 -- in longer histories (`Found`, `Stays`).
 
 pub mod Values
@@ -10,11 +10,11 @@ pub mod Found
 pub mod Stays
 pub mod Gathered
 pub mod Versions
-pub mod Standing
+pub mod ProblemOf
 pub mod Shape
 pub mod Within
 pub mod ItemReads
-pub mod Posed
+pub mod BuiltProblem
 pub mod Committed
 pub mod SummaryLaws
 pub mod SameSet

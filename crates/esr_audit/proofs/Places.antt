@@ -32,21 +32,21 @@ length_alike T S (x ∷ xs) [] a = absurd a
 length_alike T S (x ∷ xs) (y ∷ ys) a = omega (arith, length_alike T S xs ys a.1)
 
 -- the places from a on of a list that goes on with rest there
-abbrev GoesOn : List ℕ → ℕ → List ℕ → Type 0
-GoesOn us a rest = (k : ℕ) → slice_get us (a + k) ≡ slice_get rest k
+abbrev Continues : List ℕ → ℕ → List ℕ → Type 0
+Continues us a rest = (k : ℕ) → slice_get us (a + k) ≡ slice_get rest k
 
-goes_on : (us : List ℕ) (a u : ℕ) (rest : List ℕ) → GoesOn us a (u ∷ rest) → GoesOn us (a + 1) rest
-goes_on us a u rest g k = let e : (a + 1) + k ≡ a + suc k = omega arith in ap (slice_get us) e ∙ g (suc k)
+continues : (us : List ℕ) (a u : ℕ) (rest : List ℕ) → Continues us a (u ∷ rest) → Continues us (a + 1) rest
+continues us a u rest g k = let e : (a + 1) + k ≡ a + suc k = omega arith in ap (slice_get us) e ∙ g (suc k)
 
-passes_here : (us : List ℕ) (a u : ℕ) (rest : List ℕ) (S : ℕ → Bool) → GoesOn us a (u ∷ rest) → passes_at us S a ≡ S u
+passes_here : (us : List ℕ) (a u : ℕ) (rest : List ℕ) (S : ℕ → Bool) → Continues us a (u ∷ rest) → passes_at us S a ≡ S u
 passes_here us a u rest S g =
     let e : a + 0 ≡ a = omega arith in
     ap (λ (o : Option ℕ). elim o [ Some t ↦ S t | None ↦ false ]) (ap (slice_get us) (sym e) ∙ g 0)
 
-alike_from : (us : List ℕ) (S W : ℕ → Bool) (rest : List ℕ) (a : ℕ) → GoesOn us a rest → Alike (passes_at us S) S (filter (passes_at us W) (range_with_len a (length rest))) (filter W rest)
+alike_from : (us : List ℕ) (S W : ℕ → Bool) (rest : List ℕ) (a : ℕ) → Continues us a rest → Alike (passes_at us S) S (filter (passes_at us W) (range_with_len a (length rest))) (filter W rest)
 alike_from us S W [] a g = tt
 alike_from us S W (u ∷ rest) a g =
-    at (passes_at us W a) refl (W u) refl (alike_from us S W rest (a + 1) (goes_on us a u rest g))
+    at (passes_at us W a) refl (W u) refl (alike_from us S W rest (a + 1) (continues us a u rest g))
   where
     at : (b : Bool) → passes_at us W a ≡ b → (c : Bool) → W u ≡ c → Alike (passes_at us S) S (filter (passes_at us W) (range_with_len (a + 1) (length rest))) (filter W rest)
         → Alike (passes_at us S) S (cond b (a ∷ filter (passes_at us W) (range_with_len (a + 1) (length rest))) (filter (passes_at us W) (range_with_len (a + 1) (length rest)))) (cond c (u ∷ filter W rest) (filter W rest))

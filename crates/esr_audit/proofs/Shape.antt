@@ -9,7 +9,7 @@ use Rattle.esr_base.specs.declared.numbers.TxnId.{TxnId}
 use Rattle.esr_history.specs.Machine.{Distance, Schedule, IsLegal}
 use Rattle.esr_history.specs.Serial.{is_before}
 use Rattle.esr_history.proofs.Membership.{In, Pairs, Pairs-from_all, any-from_In, Contains-In}
-use Rattle.esr_order.specs.Listing.{IsBelow}
+use Rattle.esr_order.specs.ConflictPairs.{IsLexLess}
 use Rattle.esr_order.specs.Chains as orders
 use Rattle.esr_order.specs.Chains.{nth, chain_from, if_written, last_among}
 use Rattle.esr_order.specs.Orders.{Ordered, IsOrderAmong}
@@ -19,7 +19,7 @@ use Rattle.esr_cert.proofs.Sound.{all_from}
 use Rattle.esr_audit.specs.Problems.{places, items_read, writers_of, passes_at, version_cost, chain_for}
 use Rattle.esr_audit.proofs.Places.{length-places}
 use Rattle.esr_audit.proofs.Versions.{chain_writers}
-use Rattle.esr_audit.proofs.Standing.{problem_from, stands, must_ascends, all_writers}
+use Rattle.esr_audit.proofs.ProblemOf.{problem_from, stands, must_ascends, all_writers}
 
 distinct_from : (us : List ℕ) → Pairs (λ u v. u ≢ v) us → is_distinct us ≡ true
 distinct_from [] p = refl
@@ -29,10 +29,10 @@ distinct_from (u ∷ us) p = and_from (not (in_set us u)) (is_distinct us) (ap n
     absent [] a = refl
     absent (v ∷ vs) a = ap (λ b. b || in_set vs u) (ne_eqb v u (λ (e : v ≡ u). a.0 (sym e))) ∙ absent vs a.1
 
-pairs_ascend : (ps : List (ℕ × ℕ)) → Pairs IsBelow ps → are_pairs_ascending ps ≡ true
+pairs_ascend : (ps : List (ℕ × ℕ)) → Pairs IsLexLess ps → are_pairs_ascending ps ≡ true
 pairs_ascend (p ∷ r ∷ rest) a = and_from (pair_lt p r) (are_pairs_ascending (r ∷ rest)) (below (a.0).0) (pairs_ascend (r ∷ rest) a.1)
   where
-    below : IsBelow p r → pair_lt p r ≡ true
+    below : IsLexLess p r → pair_lt p r ≡ true
     below (inl l) = or_left (nat_lt p.0 r.0) ((eqb p.0 r.0) && nat_lt p.1 r.1) (lt-ltb p.0 r.0 l)
     below (inr (e, l)) = or_right (nat_lt p.0 r.0) ((eqb p.0 r.0) && nat_lt p.1 r.1) (and_from (eqb p.0 r.0) (nat_lt p.1 r.1) (eq-eqb p.0 r.0 e) (lt-ltb p.1 r.1 l))
 pairs_ascend _ a = refl
@@ -118,4 +118,4 @@ module _ (d : Distance) (h : Schedule) (q : ℕ) (legal : IsLegal d h) (us : Lis
 
   pub shaped : has_shape (problem_from d h q o) ≡ true
   shaped =
-      and_from _ _ (and_from _ _ (and_from _ _ (and_from _ _ (and_from _ _ distinct (pairs_ascend o.before (Pairs-from_all IsBelow o.before good.ascending))) forward) items) chains) (must_ascends d h q legal us near o good)
+      and_from _ _ (and_from _ _ (and_from _ _ (and_from _ _ (and_from _ _ distinct (pairs_ascend o.before (Pairs-from_all IsLexLess o.before good.ascending))) forward) items) chains) (must_ascends d h q legal us near o good)

@@ -15,8 +15,8 @@ use Rattle.esr_cert.specs.Problem as problems
 use Rattle.esr_cert.specs.Problem.{Problem, size, is_closed, IsSmallestLeast}
 use Rattle.esr_cert.proofs.Sound as sound
 use Rattle.esr_cert.proofs.Sound.{IsProblem}
-use Rattle.esr_audit.specs.Problems.{passes_at, StandsFor}
-use Rattle.esr_audit.proofs.Costs.{cost_stands}
+use Rattle.esr_audit.specs.Problems.{passes_at, IsProblemOf}
+use Rattle.esr_audit.proofs.Costs.{cost_is_distance}
 
 -- a member has a place
 pub place_of : (us : List ℕ) (u : ℕ) → is_among us u ≡ true → (i : ℕ) × (i < length us) × (slice_get us i ≡ Some u)
@@ -36,7 +36,7 @@ element [] i l = absurd (omega arith)
 element (u ∷ us) zero l = (u, refl)
 element (u ∷ us) (suc i) l = element us i (omega arith)
 
-module _ (d : Distance) (h : Schedule) (q : ℕ) (p : Problem) (stands : StandsFor d h q p) (ok : IsProblem p) (inside : AllByRecursion (λ (o : Operation). o.item < length h.opening) (reads_by h q)) where
+module _ (d : Distance) (h : Schedule) (q : ℕ) (p : Problem) (stands : IsProblemOf d h q p) (ok : IsProblem p) (inside : AllByRecursion (λ (o : Operation). o.item < length h.opening) (reads_by h q)) where
   whole_passes : (i : ℕ) → i < size p → passes_at p.updates (λ u. true) i ≡ true
   whole_passes i l = let e = element p.updates i l in passes_here p.updates (λ u. true) i e.0 e.1
 
@@ -67,8 +67,8 @@ module _ (d : Distance) (h : Schedule) (q : ℕ) (p : Problem) (stands : StandsF
       at false true k = refl
       at false false k = refl
 
-  pub smallest_stands : (S : ℕ → Bool) → ((u : ℕ) → S u ≡ true → is_among p.updates u ≡ true) → IsSmallestLeast p (passes_at p.updates S) → IsSmallestLeastSet d h q S
-  smallest_stands S known s = record {
+  pub smallest_is_least : (S : ℕ → Bool) → ((u : ℕ) → S u ≡ true → is_among p.updates u ≡ true) → IsSmallestLeast p (passes_at p.updates S) → IsSmallestLeastSet d h q S
+  smallest_is_least S known s = record {
     least = record { closed = closed; none_less = λ T c. none_less T c };
     smallest = λ T t. All-from_recursion (λ u. IsTrue (S u) → IsTrue (T u)) (updates_of h q) (each_in (λ u. IsTrue (S u) → IsTrue (T u)) (updates_of h q) (λ u i su. contained T t u su));
   }
@@ -79,13 +79,13 @@ module _ (d : Distance) (h : Schedule) (q : ℕ) (p : Problem) (stands : StandsF
       none_less : (T : ℕ → Bool) → IsClosed h q T → cost d h q S ≤ cost d h q T
       none_less T c =
           let l = s.least (passes_at p.updates T) ((stands.closed T).1 (part_closed T c)) in
-          omega (arith, l, cost_stands d h q p stands inside S, cost_stands d h q p stands inside T)
+          omega (arith, l, cost_is_distance d h q p stands inside S, cost_is_distance d h q p stands inside T)
 
       contained : (T : ℕ → Bool) → IsLeastSet d h q T → (u : ℕ) → S u ≡ true → T u ≡ true
       contained T t u su =
           let at : (i : ℕ) × (i < length p.updates) × (slice_get p.updates i ≡ Some u) = place_of p.updates u (known u su) in
           let cheap : cost d h q T ≤ cost d h q S = t.none_less S closed in
-          let dear : problems.cost p (passes_at p.updates T) ≤ problems.cost p (passes_at p.updates S) = omega (arith, cheap, cost_stands d h q p stands inside S, cost_stands d h q p stands inside T) in
+          let dear : problems.cost p (passes_at p.updates T) ≤ problems.cost p (passes_at p.updates S) = omega (arith, cheap, cost_is_distance d h q p stands inside S, cost_is_distance d h q p stands inside T) in
           sym (passes_here p.updates T at.0 u at.2) ∙ s.smallest (passes_at p.updates T) ((stands.closed T).1 (part_closed T t.closed)) dear at.0 at.1 (passes_here p.updates S at.0 u at.2 ∙ su)
 
 -- ---- the transactions at a list of positions

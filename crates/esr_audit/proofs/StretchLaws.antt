@@ -24,9 +24,9 @@ pub one_more : (ss : List TxnRange) (s : TxnRange) → flat_map numbers_in (ss +
 one_more ss s = flat_map-append numbers_in ss (s ∷ []) ∙ ap (λ l. flat_map numbers_in ss ++ l) (append-nil (numbers_in s))
 
 -- the last stretch goes on
-pub goes_on : (ss : List TxnRange) (s : TxnRange) (n end : ℕ) → s.first ≤ s.end → s.end ≡ n → end ≡ n + 1
+pub continues : (ss : List TxnRange) (s : TxnRange) (n end : ℕ) → s.first ≤ s.end → s.end ≡ n → end ≡ n + 1
     → flat_map numbers_in ss ++ range_with_len s.first (end - s.first) ≡ flat_map numbers_in ss ++ numbers_in s ++ n ∷ []
-goes_on ss s n end le is next =
+continues ss s n end le is next =
     ap (λ k. flat_map numbers_in ss ++ range_with_len s.first (k - s.first)) (next ∙ ap (λ k. k + 1) (sym is))
     ∙ ap (λ l. flat_map numbers_in ss ++ l) (longer s.first s.end le)
     ∙ sym (append_assoc (flat_map numbers_in ss) (numbers_in s) (s.end ∷ []))

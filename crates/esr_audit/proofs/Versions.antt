@@ -16,7 +16,7 @@ use Rattle.esr_order.specs.Orders.{Ordered, chain_at}
 use Rattle.esr_cert.specs.Problem as problems
 use Rattle.esr_order.specs.Near.{has_written}
 use Rattle.esr_audit.specs.Problems.{passes_at, places, writers_of, version_cost, chain_for}
-use Rattle.esr_audit.specs.Reads.{values_of, distance_sum, values_in, gathered, item_read_of, ItemRead}
+use Rattle.esr_audit.specs.Reads.{values_of, distance_sum, values_in, audit_chain, item_read_of, ItemRead}
 use Rattle.esr_audit.proofs.Values.{values_none, values_some, writers_leave}
 use Rattle.esr_audit.proofs.Places.{length-places}
 
@@ -166,9 +166,9 @@ versions_are h us o x is =
     ap values_in is ∙ written_values c equal ∙ chain_values h us x
 
 -- the chain that is gathered of an item is that of the problem that stands for the query, where all its writers are listed
-pub gathered_stands : (d : Distance) (h : Schedule) (q : ℕ) (us : List ℕ) (o : Ordered) (x : ℕ) → chain_at o x ≡ chain_among h us x → filter (has_written h x) us ≡ writers_of h q x
-    → gathered (distance_in d h) h.opening o (map item_read_of (reads_by h q)) x ≡ chain_for d h q us x
-gathered_stands d h q us o x is all =
+pub gathered_is_chain : (d : Distance) (h : Schedule) (q : ℕ) (us : List ℕ) (o : Ordered) (x : ℕ) → chain_at o x ≡ chain_among h us x → filter (has_written h x) us ≡ writers_of h q x
+    → audit_chain (distance_in d h) h.opening o (map item_read_of (reads_by h q)) x ≡ chain_for d h q us x
+gathered_is_chain d h q us o x is all =
     let c : Chain = chain_from (last_among h us x) (length us) in
     let writers : writers_in (chain_at o x) ≡ places us (has_written h x) = ap writers_in is ∙ written_writers c ∙ chain_writers h us x in
     let values : values_in (chain_at o x) ≡ map (λ j. state h (take (suc j) (writers_of h q x)) x) (range_with_len 0 (length (writers_of h q x))) =

@@ -30,7 +30,7 @@ use Rattle.esr_cert.specs.Problem.{Chain, Problem, size, greatest, chain_is_in_r
 use Rattle.esr_cert.proofs.Sound.{all_from}
 use Rattle.esr_audit.specs.Problems.{passes_at, places, items_read, writers_of, version_cost, chain_for}
 use Rattle.esr_audit.proofs.Costs.{by_item, sum_mapped}
-use Rattle.esr_audit.proofs.Standing.{problem_from}
+use Rattle.esr_audit.proofs.ProblemOf.{problem_from}
 use Rattle.esr_audit.proofs.Shape as shape
 
 -- a query's accepted reads are as many as its reads

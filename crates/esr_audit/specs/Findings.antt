@@ -21,7 +21,7 @@ use Rattle.esr_audit.specs.declared.finding.Book.{Book}
 use Rattle.esr_audit.specs.declared.finding.Summaries.{Summaries}
 pub use Rattle.esr_audit.specs.declared.finding.AuditError.{AuditError}
 use Rattle.esr_audit.specs.declared.finding.AuditError.TheVariants as refusals
-use Rattle.esr_audit.specs.Problems.{StandsFor}
+use Rattle.esr_audit.specs.Problems.{IsProblemOf}
 use Rattle.esr_audit.specs.Stretches.{listed}
 
 -- why an audit gives no answer, where there is no order
@@ -47,12 +47,12 @@ IsCounted p c = (n : ℕ) × (c.augmentations ≡ Some n) × Takes (network p) n
 -- of those of least cost.
 pub record IsShown (d : Distance) (h : Schedule) (q distance : ℕ) (before : List ℕ) (problem : Problem)
     (certificate : Certificate) : Type 0 where
-  pub stands : StandsFor d h q problem
+  pub stands : IsProblemOf d h q problem
   pub certified : Certifies problem certificate
   pub set_is : before ≡ filter_map (slice_get problem.updates) certificate.set
   pub worth_is : certificate.worth ≡ distance
   pub smallest : IsSmallestLeast problem (in_set certificate.set)
-  pub untold : certificate.augmentations ≡ None
+  pub without_count : certificate.augmentations ≡ None
 
 -- what is found of query q
 pub record IsFindingOf (d : Distance) (h : Schedule) (q : ℕ) (f : Finding) : Type 0 where

@@ -41,7 +41,7 @@ chain_for d h q us x = record {
 
 -- The problem stands for query q: its updates are some of the query's, in commit order, with all writers of the items
 -- that q read; its chains are those of these items; and it has the same closed sets among its updates.
-pub record StandsFor (d : Distance) (h : Schedule) (q : ℕ) (p : Problem) : Type 0 where
+pub record IsProblemOf (d : Distance) (h : Schedule) (q : ℕ) (p : Problem) : Type 0 where
   pub updates : p.updates ≡ filter (is_among p.updates) (updates_of h q)
   pub writers : All (λ x. filter (has_written h x) p.updates ≡ writers_of h q x) (items_read h q)
   pub must : p.must ≡ places p.updates (is_among (must h q))

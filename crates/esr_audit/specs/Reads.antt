@@ -36,20 +36,20 @@ values_in None = []
 values_in (Some c) = c.values
 
 -- the chain of item x, from those who wrote it with the values that they left, and the values that were read of it
-abbrev pub gathered_by : (ℕ → ℤ → ℤ → ℕ) → List ℤ → Option orders.Chain → List ℤ → ℕ → Chain
-gathered_by d opening chain values x = record {
+abbrev pub audit_chain_by : (ℕ → ℤ → ℤ → ℕ) → List ℤ → Option orders.Chain → List ℤ → ℕ → Chain
+audit_chain_by d opening chain values x = record {
   item = x;
   writers = writers_in chain;
   costs = map (distance_sum d x values) (value_at opening x ∷ values_in chain);
 }
 
 -- the same from all that was read
-abbrev pub gathered_from : (ℕ → ℤ → ℤ → ℕ) → List ℤ → Option orders.Chain → List ItemRead → ℕ → Chain
-gathered_from d opening chain reads x = gathered_by d opening chain (values_of reads x) x
+abbrev pub audit_chain_from : (ℕ → ℤ → ℤ → ℕ) → List ℤ → Option orders.Chain → List ItemRead → ℕ → Chain
+audit_chain_from d opening chain reads x = audit_chain_by d opening chain (values_of reads x) x
 
 -- the same of an order
-abbrev pub gathered : (ℕ → ℤ → ℤ → ℕ) → List ℤ → Ordered → List ItemRead → ℕ → Chain
-gathered d opening order reads x = gathered_from d opening (chain_at order x) reads x
+abbrev pub audit_chain : (ℕ → ℤ → ℤ → ℕ) → List ℤ → Ordered → List ItemRead → ℕ → Chain
+audit_chain d opening order reads x = audit_chain_from d opening (chain_at order x) reads x
 
 -- the items below n that were read
 abbrev pub items_in : List ItemRead → ℕ → List ℕ

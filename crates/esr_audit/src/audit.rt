@@ -49,7 +49,7 @@ fn updates_at(alloc: Global, updates: &[TxnId], set: &[u32]) -> Result<Vec<TxnId
 fn certify(alloc: Global, problem: &Problem) -> Result<Certificate, NoMemory>
     ensures certifies { IfOk result (λ c. Certifies problem.now (certificate_of c)) }
     ensures least { IfOk result (λ c. IsSmallestLeast problem.now (in_set c.set.items)) }
-    ensures untold { IfOk result (λ c. c.augmentations ≡ None) }
+    ensures without_count { IfOk result (λ c. c.augmentations ≡ None) }
 {
     let network = Network::build(alloc, problem)?;
     let certificate = find_certificate(alloc, &network)?;

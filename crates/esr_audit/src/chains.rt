@@ -10,7 +10,7 @@ ghost use Rattle.esr_order.specs.Chains as orders;
 ghost use Rattle.esr_order.specs.Orders.{chain_at};
 ghost use Rattle.esr_cert.specs.Views.{chain_of as chain_view};
 ghost use Rattle.esr_order.specs.Chains.{seen_links, writers_in};
-ghost use Rattle.esr_audit.specs.Reads.{values_of, list_at, distance_sum, values_in, gathered, gathered_by, items_in};
+ghost use Rattle.esr_audit.specs.Reads.{values_of, list_at, distance_sum, values_in, audit_chain, audit_chain_by, items_in};
 
 use crate::reads::ItemRead;
 use esr_cert::Chain;
@@ -128,7 +128,7 @@ fn chain_of<M: Metric>(
     requires few { length values.now ≤ MAX_READS }
     requires values { All IsValue values.now }
     requires versions { All IsValue (values_in (option_map seen_links links)) }
-    ensures { IfOk result (λ c. chain_view c ≡ gathered_by (M.distance_by history.now.schedule.weights)
+    ensures { IfOk result (λ c. chain_view c ≡ audit_chain_by (M.distance_by history.now.schedule.weights)
         history.now.schedule.opening (option_map seen_links links) values.now x.0) }
 {
     let (writers, versions) = writers_and_values(alloc, links);
@@ -159,7 +159,7 @@ pub fn chains_of<M: Metric>(
     requires versions { (x : ℕ) → All IsValue (values_in (chain_at order.old x)) }
     ensures chains { IfOk result (λ v. map chain_view v.items
         ≡ map
-        (gathered (M.distance_by history.now.schedule.weights) history.now.schedule.opening order.old reads.now)
+        (audit_chain (M.distance_by history.now.schedule.weights) history.now.schedule.opening order.old reads.now)
         (items_in reads.now (length history.now.schedule.opening))) }
     ensures commits { order.new.commits ≡ order.old.commits }
     ensures before { order.new.before ≡ order.old.before }

@@ -2,7 +2,7 @@
 //!
 //! An audit needs only a history. It builds the query's problem, restricted to the near updates, solves it, and returns a
 //! finding. A certificate is meaningless without its problem. That the problem is the query's is a promise of this crate
-//! (`StandsFor`), not of the checker.
+//! (`IsProblemOf`), not of the checker.
 #![tactic(auto)]
 
 mod audit;

@@ -5,7 +5,7 @@ ghost use Rattle.esr_history.specs.Events.{is_query};
 ghost use Rattle.esr_history.specs.Machine.{accepted_in};
 ghost use Rattle.esr_order.specs.Orders.{IsOrderAmong};
 ghost use Rattle.esr_order.specs.Near.{AreNear};
-ghost use Rattle.esr_audit.specs.Problems.{StandsFor};
+ghost use Rattle.esr_audit.specs.Problems.{IsProblemOf};
 
 use crate::chains::chains_of;
 use crate::reads::item_reads;
@@ -25,7 +25,7 @@ pub fn problem_of<M: Metric>(
     requires order { IsOrderAmong history.now.schedule q.0 (map (λ t. t.0) order.commits) order }
     requires near { AreNear history.now.schedule q.0 (map (λ t. t.0) order.commits) }
     requires query { IsTrue (is_query (accepted_in history.now.schedule) q.0) }
-    ensures stands { IfOk result (λ p. StandsFor M.distance_by history.now.schedule q.0 p) }
+    ensures stands { IfOk result (λ p. IsProblemOf M.distance_by history.now.schedule q.0 p) }
     ensures near { IfOk result (λ p. AreNear history.now.schedule q.0 p.updates) }
 {
     let _legal = history.log(); // brings the invariant into the proof

@@ -34,7 +34,7 @@ fn follows(stretch: TxnRange, t: TxnId) -> bool
 
 /// The last stretch after one more transaction: it is longer, or is put to those before it, and the transaction begins
 /// one. None where memory was refused, or the number has no next.
-#[tactic(auto, using(crate::proofs::StretchLaws::goes_on, crate::proofs::StretchLaws::begins))]
+#[tactic(auto, using(crate::proofs::StretchLaws::continues, crate::proofs::StretchLaws::begins))]
 fn stretch_with(stretches: &mut Vec<TxnRange>, last: TxnRange, t: TxnId) -> Option<TxnRange>
     ensures { IfSome result (λ s. flat_map numbers_in stretches.new.items ++ numbers_in s
         ≡ flat_map numbers_in stretches.old.items ++ numbers_in last ++ t.0 ∷ []) }

@@ -144,7 +144,7 @@ fn solve_network(
 ) -> Result<()> {
     let built = start.elapsed(rt)?.as_millis();
     match solve(alloc, network) {
-        Ok(solved) => tell_solved(rt, &solved, start, built),
+        Ok(solved) => print_solved(rt, &solved, start, built),
         Err(_) => Err(anyhow!("out of memory")),
     }
 }
@@ -166,7 +166,7 @@ fn audit_once(rt: &(impl Print + Eprint + Clock), alloc: Global, problem: &Probl
     Ok(())
 }
 
-fn tell_solved(
+fn print_solved(
     rt: &(impl Print + Eprint + Clock),
     solved: &Solved,
     start: Instant,

@@ -33,17 +33,17 @@ pub fn measure<R: Threads + Wait + Clock + Print + Eprint + Sync>(
         return Err(anyhow!("at most 60000 transactions"));
     }
     let time = measure_machine(rt, alloc, transactions)?;
-    tell(rt, "machine", transactions, time)?;
+    print(rt, "machine", transactions, time)?;
     for sessions in [1, 2, 4] {
         let (entries, time) = measure_sessions(rt, alloc, sessions, transactions)?;
         println!(rt; "sessions {sessions} entries {entries}")?;
-        tell(rt, "sessions", transactions, time)?;
+        print(rt, "sessions", transactions, time)?;
     }
     Ok(())
 }
 
 /// How many calls a second.
-fn tell(rt: &impl Eprint, what: &str, transactions: u32, time: Duration) -> Result<()> {
+fn print(rt: &impl Eprint, what: &str, transactions: u32, time: Duration) -> Result<()> {
     let micros = time.as_micros().max(1);
     let rate = u128::from(transactions) * CALLS * 1_000_000 / micros;
     eprintln!(rt; "{what}: {rate} calls a second")?;

@@ -28,9 +28,9 @@ worked_is keeps d h queries jobs old new (Err WorkersOutOfRange) none_yet len co
 worked_is keeps d h queries jobs old new (Err NotACommittedQuery) none_yet len committed has_claimed found ended err other =
     grind (arith, any_holds, true≢false)
 
-module _ {T : Type 0} (keeps : Finding → T → Type 0) (d : Distance) (h : Schedule) (queries : List TxnId) (slots after : List (Option T)) (job : ℕ) (x : T) (is : after ≡ set slots job (Some x)) (room : job < length slots) where
+module _ {T : Type 0} (keeps : Finding → T → Type 0) (d : Distance) (h : Schedule) (queries : List TxnId) (slots after : List (Option T)) (job : ℕ) (x : T) (is : after ≡ set slots job (Some x)) (fits : job < length slots) where
   same_here : get_or (set slots job (Some x)) job None ≡ Some x
-  same_here = get_or-set_same slots job (Some x) None room
+  same_here = get_or-set_same slots job (Some x) None fits
 
   as_set : (P : List (Option T) → Type 0) → P (set slots job (Some x)) → P after
   as_set P p = subst P (sym is) p

@@ -10,7 +10,7 @@ use Rattle.esr_cert.specs.Views.{certificate_of}
 use Rattle.esr_cert.specs.declared.certificate.Certificate as rust
 use Rattle.esr_cert.specs.declared.problem.BundleFault.{BundleFault}
 use Rattle.esr_cert.specs.declared.problem.BundleFault.TheVariants.{Json, Shape, Range, NoMemory}
-use Rattle.esr_bundle.specs.Bundle.{is_position, judged, judged_with, judged_parts, parts_of, stands_for}
+use Rattle.esr_bundle.specs.Bundle.{is_position, judged, judged_with, judged_parts, parts_of, problem_in}
 use Rattle.esr_bundle.specs.Reading.{IsTree, IsReadingOf}
 
 pub judged_ok : (p : Problem) (c : Certificate) → problem_fault p ≡ None → list_all is_position c.set ≡ true → judged (p, c) ≡ Ok (p, c)
@@ -33,7 +33,7 @@ tests_not_json true true b h = last_not_json (list_all is_position b.1.set) b h
 not_json : (b : Problem × Certificate) → judged b ≡ Err Json → ⊥
 not_json b h = tests_not_json (has_shape b.0) (is_in_range b.0) b h
 
-stands : (d : Data) (b : Problem × Certificate) → parts_of d ≡ Some b → stands_for d ≡ judged b
+stands : (d : Data) (b : Problem × Certificate) → parts_of d ≡ Some b → problem_in d ≡ judged b
 stands d b h = ap judged_parts h
 
 pub reading_from : (bytes : List ℕ) (d : Data) → IsTree bytes d → (b : Problem × Certificate) → parts_of d ≡ Some b

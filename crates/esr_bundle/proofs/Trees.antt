@@ -7,8 +7,8 @@ use Rattle.serde_json.specs.Written.{has_float, items_have_float, members_have_f
 use Rattle.esr_cert.specs.Problem.{Chain, Problem}
 use Rattle.esr_cert.specs.Certificate.{Certificate}
 use Rattle.esr_cert.specs.Faults.{problem_fault}
-use Rattle.esr_bundle.specs.Fields.{natural_in, each, naturals_in, pair_of}
-use Rattle.esr_bundle.specs.Bundle.{number_data, numbers_data, pair_data, rows_data, chain_data, list_member, number_member, problem_data, certificate_data, bundle_data, chain_of, problem_of, certificate_of, parts_of, stands_for, judged_parts, is_position}
+use Rattle.esr_bundle.specs.Fields.{as_natural, each, as_naturals, pair_of}
+use Rattle.esr_bundle.specs.Bundle.{number_data, numbers_data, pair_data, rows_data, chain_data, list_member, number_member, problem_data, certificate_data, bundle_data, chain_of, problem_of, certificate_of, parts_of, problem_in, judged_parts, is_position}
 use Rattle.esr_bundle.proofs.Judged.{judged_ok}
 
 -- ---- it stands for what it was made of
@@ -17,8 +17,8 @@ each_of : {A : Type 0} (f : Data → Option A) (g : A → Data) → ((a : A) →
 each_of f g h [] = refl
 each_of f g h (x ∷ xs) = rw (h x, each_of f g h xs) refl
 
-numbers_back : (ns : List ℕ) → naturals_in (numbers_data ns) ≡ Some ns
-numbers_back ns = each_of natural_in number_data (λ n. refl) ns
+numbers_back : (ns : List ℕ) → as_naturals (numbers_data ns) ≡ Some ns
+numbers_back ns = each_of as_natural number_data (λ n. refl) ns
 
 chain_back : (chain : Chain) → chain_of (chain_data chain) ≡ Some chain
 chain_back chain = rw (numbers_back chain.costs, numbers_back chain.writers) refl
@@ -33,8 +33,8 @@ problem_back p = go p.must
 certificate_back : (c : Certificate) → certificate_of (certificate_data c) ≡ Some c
 certificate_back c = go c.augmentations c.must_flow
   where
-    rows : each naturals_in (items_of (map numbers_data c.chain_flow)) ≡ Some c.chain_flow
-    rows = each_of naturals_in numbers_data numbers_back c.chain_flow
+    rows : each as_naturals (items_of (map numbers_data c.chain_flow)) ≡ Some c.chain_flow
+    rows = each_of as_naturals numbers_data numbers_back c.chain_flow
 
     go : (a : Option ℕ) (m : List ℕ) → certificate_of (certificate_data (record c { augmentations = a; must_flow = m })) ≡ Some (record c { augmentations = a; must_flow = m })
     go None [] = rw (numbers_back c.back_flow, rows, numbers_back c.set) refl
@@ -45,8 +45,8 @@ certificate_back c = go c.augmentations c.must_flow
 parts_back : (p : Problem) (c : Certificate) → parts_of (bundle_data p c) ≡ Some (p, c)
 parts_back p c = rw (certificate_back c, problem_back p) refl
 
-pub stands_back : (p : Problem) (c : Certificate) → problem_fault p ≡ None → list_all is_position c.set ≡ true → stands_for (bundle_data p c) ≡ Ok (p, c)
-stands_back p c sound set = ap judged_parts (parts_back p c) ∙ judged_ok p c sound set
+pub problem_round_trip : (p : Problem) (c : Certificate) → problem_fault p ≡ None → list_all is_position c.set ≡ true → problem_in (bundle_data p c) ≡ Ok (p, c)
+problem_round_trip p c sound set = ap judged_parts (parts_back p c) ∙ judged_ok p c sound set
 
 -- ---- it has no float
 

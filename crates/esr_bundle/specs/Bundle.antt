@@ -10,7 +10,7 @@ use Rattle.esr_cert.specs.Certificate.{Certificate}
 use Rattle.esr_cert.specs.Faults.{problem_fault}
 use Rattle.esr_cert.specs.declared.problem.BundleFault.{BundleFault}
 use Rattle.esr_cert.specs.declared.problem.BundleFault.TheVariants.{Shape, Range}
-use Rattle.esr_bundle.specs.Fields.{natural_in, naturals_in, pairs_of, rows_of, list_of, has_keys, one_if, field, numbers_if, number_if}
+use Rattle.esr_bundle.specs.Fields.{as_natural, as_naturals, pairs_of, rows_of, list_of, has_key_count, key_count, field, optional_numbers, optional_number}
 
 -- ---- the tree that is written
 
@@ -85,29 +85,29 @@ abbrev pub ◌>>=◌ : {A B : Type 0} → Option A → (A → Option B) → Opti
 o >>= f = option_and_then f o
 
 abbrev pub chain_of : Data → Option Chain
-chain_of d = if has_keys 3 d then (do
-  costs ← field naturals_in (codes "costs") d
-  item ← field natural_in (codes "item") d
-  writers ← field naturals_in (codes "writers") d
+chain_of d = if has_key_count 3 d then (do
+  costs ← field as_naturals (codes "costs") d
+  item ← field as_natural (codes "item") d
+  writers ← field as_naturals (codes "writers") d
   Some (record { item = item; writers = writers; costs = costs })) else None
 
 abbrev pub problem_of : Data → Option Problem
-problem_of d = if has_keys (3 + one_if (get (codes "must") d)) d then (do
+problem_of d = if has_key_count (3 + key_count (get (codes "must") d)) d then (do
   before ← field pairs_of (codes "before") d
   chains ← field (list_of chain_of) (codes "chains") d
-  must ← numbers_if (get (codes "must") d)
-  updates ← field naturals_in (codes "updates") d
+  must ← optional_numbers (get (codes "must") d)
+  updates ← field as_naturals (codes "updates") d
   Some (record { updates = updates; before = before; chains = chains; must = must })) else None
 
 abbrev pub certificate_of : Data → Option Certificate
 certificate_of d =
-    if has_keys (4 + one_if (get (codes "augmentations") d) + one_if (get (codes "must_flow") d)) d then (do
-      augmentations ← number_if (get (codes "augmentations") d)
-      back_flow ← field naturals_in (codes "back_flow") d
+    if has_key_count (4 + key_count (get (codes "augmentations") d) + key_count (get (codes "must_flow") d)) d then (do
+      augmentations ← optional_number (get (codes "augmentations") d)
+      back_flow ← field as_naturals (codes "back_flow") d
       chain_flow ← field rows_of (codes "chain_flow") d
-      must_flow ← numbers_if (get (codes "must_flow") d)
-      set ← field naturals_in (codes "set") d
-      worth ← field natural_in (codes "worth") d
+      must_flow ← optional_numbers (get (codes "must_flow") d)
+      set ← field as_naturals (codes "set") d
+      worth ← field as_natural (codes "worth") d
       Some (record {
         set = set;
         chain_flow = chain_flow;
@@ -119,7 +119,7 @@ certificate_of d =
 
 -- the numbers of a bundle that has all its keys, no others, and values of the right kinds
 abbrev pub parts_of : Data → Option (Problem × Certificate)
-parts_of d = if has_keys 2 d then (do
+parts_of d = if has_key_count 2 d then (do
   c ← field certificate_of (codes "certificate") d
   p ← field problem_of (codes "problem") d
   Some (p, c)) else None
@@ -147,5 +147,5 @@ judged_parts None = Err Shape
 judged_parts (Some b) = judged b
 
 -- what a tree stands for
-abbrev pub stands_for : Data → Result (Problem × Certificate) BundleFault
-stands_for d = judged_parts (parts_of d)
+abbrev pub problem_in : Data → Result (Problem × Certificate) BundleFault
+problem_in d = judged_parts (parts_of d)

@@ -6,8 +6,8 @@ use Rattle.serde_json.specs.Events.{members_len}
 use Rattle.serde_json.specs.Find.{as_array, as_number, as_u64, as_object, get}
 
 -- a whole number that fits 64 bits
-abbrev pub natural_in : Data → Option ℕ
-natural_in d = option_and_then as_u64 (as_number d)
+abbrev pub as_natural : Data → Option ℕ
+as_natural d = option_and_then as_u64 (as_number d)
 
 -- the items, each read by f, if f reads all of them
 abbrev pub each : {A : Type 0} → (Data → Option A) → Items → Option (List A)
@@ -17,12 +17,12 @@ each f (item d ds) = option_and_then (λ a. option_map (λ rest. a ∷ rest) (ea
 abbrev pub list_of : {A : Type 0} → (Data → Option A) → Data → Option (List A)
 list_of f d = option_and_then (each f) (as_array d)
 
-abbrev pub naturals_in : Data → Option (List ℕ)
-naturals_in = list_of natural_in
+abbrev pub as_naturals : Data → Option (List ℕ)
+as_naturals = list_of as_natural
 
 -- exactly two numbers
 abbrev pub two_of : Items → Option (ℕ × ℕ)
-two_of (item a (item b no_items)) = option_and_then (λ x. option_map (λ y. (x, y)) (natural_in b)) (natural_in a)
+two_of (item a (item b no_items)) = option_and_then (λ x. option_map (λ y. (x, y)) (as_natural b)) (as_natural a)
 two_of _ = None
 
 abbrev pub pair_of : Data → Option (ℕ × ℕ)
@@ -32,28 +32,28 @@ abbrev pub pairs_of : Data → Option (List (ℕ × ℕ))
 pairs_of = list_of pair_of
 
 abbrev pub rows_of : Data → Option (List (List ℕ))
-rows_of = list_of naturals_in
+rows_of = list_of as_naturals
 
 -- ---- objects, which have each key once
 
 -- an object with so many keys
-abbrev pub has_keys : ℕ → Data → Bool
-has_keys n d = option_map_or (λ ms. members_len ms == n) (as_object d) false
+abbrev pub has_key_count : ℕ → Data → Bool
+has_key_count n d = option_map_or (λ ms. members_len ms == n) (as_object d) false
 
-abbrev pub one_if : Option Data → ℕ
-one_if None = 0
-one_if (Some d) = 1
+abbrev pub key_count : Option Data → ℕ
+key_count None = 0
+key_count (Some d) = 1
 
 -- the value at a key, read by f
 abbrev pub field : {A : Type 0} → (Data → Option A) → List ℕ → Data → Option A
 field f key d = option_and_then f (get key d)
 
 -- a list that is empty where it is missing
-abbrev pub numbers_if : Option Data → Option (List ℕ)
-numbers_if None = Some []
-numbers_if (Some d) = naturals_in d
+abbrev pub optional_numbers : Option Data → Option (List ℕ)
+optional_numbers None = Some []
+optional_numbers (Some d) = as_naturals d
 
 -- a number that may be missing
-abbrev pub number_if : Option Data → Option (Option ℕ)
-number_if None = Some None
-number_if (Some d) = option_map (λ n. Some n) (natural_in d)
+abbrev pub optional_number : Option Data → Option (Option ℕ)
+optional_number None = Some None
+optional_number (Some d) = option_map (λ n. Some n) (as_natural d)

@@ -4,7 +4,7 @@ use Rattle.serde_json.specs.Data.{object, no_members, array, no_items}
 use Rattle.esr_cert.specs.Problem.{Problem}
 use Rattle.esr_cert.specs.Certificate.{Certificate}
 use Rattle.esr_cert.specs.declared.problem.BundleFault.TheVariants.{Shape, Range}
-use Rattle.esr_bundle.specs.Bundle.{bundle_data, stands_for}
+use Rattle.esr_bundle.specs.Bundle.{bundle_data, problem_in}
 
 abbrev two_updates : Problem
 two_updates =
@@ -47,28 +47,28 @@ held =
       augmentations = Some 12;
     }
 
-a_bundle : stands_for (bundle_data two_updates after_both) ≡ Ok (two_updates, after_both)
+a_bundle : problem_in (bundle_data two_updates after_both) ≡ Ok (two_updates, after_both)
 a_bundle = refl
 
-optional_keys : stands_for (bundle_data strict held) ≡ Ok (strict, held)
+optional_keys : problem_in (bundle_data strict held) ≡ Ok (strict, held)
 optional_keys = refl
 
-no_keys : stands_for (object no_members) ≡ Err Shape
+no_keys : problem_in (object no_members) ≡ Err Shape
 no_keys = refl
 
-no_object : stands_for (array no_items) ≡ Err Shape
+no_object : problem_in (array no_items) ≡ Err Shape
 no_object = refl
 
 -- neighbours of a chain that are no pair
-no_pair : stands_for (bundle_data (record two_updates { before = [] }) after_both) ≡ Err Shape
+no_pair : problem_in (bundle_data (record two_updates { before = [] }) after_both) ≡ Err Shape
 no_pair = refl
 
-no_transaction : stands_for (bundle_data (record two_updates { updates = 2 ∷ 0 ∷ [] }) after_both) ≡ Err Range
+no_transaction : problem_in (bundle_data (record two_updates { updates = 2 ∷ 0 ∷ [] }) after_both) ≡ Err Range
 no_transaction = refl
 
 -- the shape comes first
-both_broken : stands_for (bundle_data (record two_updates { before = []; updates = 2 ∷ 0 ∷ [] }) after_both) ≡ Err Shape
+both_broken : problem_in (bundle_data (record two_updates { before = []; updates = 2 ∷ 0 ∷ [] }) after_both) ≡ Err Shape
 both_broken = refl
 
-large_position : stands_for (bundle_data two_updates (record after_both { set = 4294967296 ∷ [] })) ≡ Err Range
+large_position : problem_in (bundle_data two_updates (record after_both { set = 4294967296 ∷ [] })) ≡ Err Range
 large_position = refl

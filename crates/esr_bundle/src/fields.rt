@@ -6,14 +6,14 @@ ghost use Rattle.std.specs.Prelude.{◌≡◌, ◌≢◌, ◌≤◌, ℕ, List, 
 ghost use Rattle.serde_json.specs.Data.{Data};
 ghost use Rattle.serde_json.specs.Find.{get};
 ghost use Rattle.serde_json.specs.View.{view};
-ghost use Rattle.esr_bundle.specs.Fields.{natural_in, naturals_in, pair_of, pairs_of, list_of, has_keys, one_if, field, numbers_if, number_if};
+ghost use Rattle.esr_bundle.specs.Fields.{as_natural, as_naturals, pair_of, pairs_of, list_of, has_key_count, key_count, field, optional_numbers, optional_number};
 
 use esr_cert::BundleFault;
 use serde_json::Value;
 use std::alloc::Global;
 
 /// What is read from a tree.
-pub trait Part: Drop + Sized {
+pub trait FromJson: Drop + Sized {
     ghost Kind: { Type 0 };
 
     ghost shown: { Self → Kind };
@@ -36,19 +36,19 @@ fn pair(value: &Value) -> Option<(u64, u64)>
     Some((first.as_u64()?, second.as_u64()?))
 }
 
-impl Part for u64 {
+impl FromJson for u64 {
     ghost Kind = { ℕ };
 
     ghost shown = { λ n. n };
 
-    ghost part_of = { natural_in };
+    ghost part_of = { as_natural };
 
     fn read(_alloc: Global, value: &Value) -> Result<u64, BundleFault> {
         value.as_u64().ok_or(BundleFault::Shape)
     }
 }
 
-impl Part for (u64, u64) {
+impl FromJson for (u64, u64) {
     ghost Kind = { ℕ × ℕ };
 
     ghost shown = { λ e. e };
@@ -60,12 +60,12 @@ impl Part for (u64, u64) {
     }
 }
 
-impl Part for Vec<u64> {
+impl FromJson for Vec<u64> {
     ghost Kind = { List ℕ };
 
     ghost shown = { λ row. row.items };
 
-    ghost part_of = { naturals_in };
+    ghost part_of = { as_naturals };
 
     fn read(alloc: Global, value: &Value) -> Result<Vec<u64>, BundleFault> {
         numbers(alloc, value)
@@ -73,7 +73,7 @@ impl Part for Vec<u64> {
 }
 
 /// A list of such parts.
-pub fn list<T: Part>(alloc: Global, value: &Value) -> Result<Vec<T>, BundleFault>
+pub fn list<T: FromJson>(alloc: Global, value: &Value) -> Result<Vec<T>, BundleFault>
     ensures ok { IfOk result (λ v. list_of T.part_of (view value.now) ≡ Some (map T.shown v.items)) }
     ensures err { IfErr result (λ e. e ≢ BundleFault.NoMemory → (e ≡ BundleFault.Shape)
         × (list_of T.part_of (view value.now) ≡ None)) }
@@ -93,9 +93,9 @@ pub fn list<T: Part>(alloc: Global, value: &Value) -> Result<Vec<T>, BundleFault
 
 /// A list of numbers.
 pub fn numbers(alloc: Global, value: &Value) -> Result<Vec<u64>, BundleFault>
-    ensures ok { IfOk result (λ v. naturals_in (view value.now) ≡ Some v.items) }
+    ensures ok { IfOk result (λ v. as_naturals (view value.now) ≡ Some v.items) }
     ensures err { IfErr result (λ e. e ≢ BundleFault.NoMemory → (e ≡ BundleFault.Shape)
-        × (naturals_in (view value.now) ≡ None)) }
+        × (as_naturals (view value.now) ≡ None)) }
 {
     list(alloc, value)
 }
@@ -110,8 +110,8 @@ pub fn pairs(alloc: Global, value: &Value) -> Result<Vec<(u64, u64)>, BundleFaul
 }
 
 /// Whether it is an object with so many keys.
-pub fn has_keys(value: &Value, count: usize) -> bool
-    ensures { result ≡ has_keys count (view value.now) }
+pub fn has_key_count(value: &Value, count: usize) -> bool
+    ensures { result ≡ has_key_count count (view value.now) }
 {
     match value.as_object() {
         Some(members) => members.len() == count,
@@ -120,8 +120,8 @@ pub fn has_keys(value: &Value, count: usize) -> bool
 }
 
 /// One where an object has the key.
-pub fn one_if(value: &Value, key: &str) -> usize
-    ensures value { result ≡ one_if (get key.now (view value.now)) }
+pub fn key_count(value: &Value, key: &str) -> usize
+    ensures value { result ≡ key_count (get key.now (view value.now)) }
     ensures small { result ≤ 1 }
 {
     match value.get(key) {
@@ -142,7 +142,7 @@ pub fn at<'a>(value: &'a Value, key: &str) -> Result<&'a Value, BundleFault>
 }
 
 /// What is read from the value at a key.
-pub fn part_at<T: Part>(alloc: Global, value: &Value, key: &str) -> Result<T, BundleFault>
+pub fn decode_member<T: FromJson>(alloc: Global, value: &Value, key: &str) -> Result<T, BundleFault>
     ensures ok { IfOk result (λ v. field T.part_of key.now (view value.now) ≡ Some (T.shown v)) }
     ensures err { IfErr result (λ e. e ≢ BundleFault.NoMemory → (e ≡ BundleFault.Shape)
         × (field T.part_of key.now (view value.now) ≡ None)) }
@@ -151,10 +151,10 @@ pub fn part_at<T: Part>(alloc: Global, value: &Value, key: &str) -> Result<T, Bu
 }
 
 /// The list of numbers at a key, and no numbers where there is no such key.
-pub fn numbers_if(alloc: Global, value: &Value, key: &str) -> Result<Vec<u64>, BundleFault>
-    ensures ok { IfOk result (λ v. numbers_if (get key.now (view value.now)) ≡ Some v.items) }
+pub fn optional_numbers(alloc: Global, value: &Value, key: &str) -> Result<Vec<u64>, BundleFault>
+    ensures ok { IfOk result (λ v. optional_numbers (get key.now (view value.now)) ≡ Some v.items) }
     ensures err { IfErr result (λ e. e ≢ BundleFault.NoMemory → (e ≡ BundleFault.Shape)
-        × (numbers_if (get key.now (view value.now)) ≡ None)) }
+        × (optional_numbers (get key.now (view value.now)) ≡ None)) }
 {
     match value.get(key) {
         Some(found) => numbers(alloc, found),
@@ -163,9 +163,9 @@ pub fn numbers_if(alloc: Global, value: &Value, key: &str) -> Result<Vec<u64>, B
 }
 
 /// The number at a key, where there is such a key.
-pub fn number_if(value: &Value, key: &str) -> Result<Option<u64>, BundleFault>
-    ensures ok { IfOk result (λ n. number_if (get key.now (view value.now)) ≡ Some n) }
-    ensures err { IfErr result (λ e. (e ≡ BundleFault.Shape) × (number_if (get key.now (view value.now)) ≡ None)) }
+pub fn optional_number(value: &Value, key: &str) -> Result<Option<u64>, BundleFault>
+    ensures ok { IfOk result (λ n. optional_number (get key.now (view value.now)) ≡ Some n) }
+    ensures err { IfErr result (λ e. (e ≡ BundleFault.Shape) × (optional_number (get key.now (view value.now)) ≡ None)) }
 {
     let Some(found) = value.get(key) else {
         return Ok(None);

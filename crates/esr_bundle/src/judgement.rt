@@ -47,7 +47,7 @@ const MAX_BYTES: usize = 64_000_000;
 const ROOM: usize = 65536;
 
 /// Room for the bytes of one read.
-fn room(alloc: Global) -> Result<Vec<u8>, AllocError>
+fn chunk_buffer(alloc: Global) -> Result<Vec<u8>, AllocError>
     ensures { IfOk result (λ v. 0 < length v.items) }
 {
     vec![in alloc; 0u8; ROOM]
@@ -59,14 +59,14 @@ fn read_some<R: Read>(
     chunk: &mut [u8],
     bytes: &mut Vec<u8>,
 ) -> Result<usize, JudgeFault>
-    requires room { 0 < length chunk.old }
+    requires chunk_buffer { 0 < length chunk.old }
     requires reader { failed reader.old ≡ false }
     ensures ok { IfOk result (λ n. (more : List ℕ) × (length more ≡ n) × (bytes.new.items ≡ bytes.old.items ++ more)
         × Consumes (R.remaining (inner reader.old)) (R.remaining (inner reader.new)) more
         × (n ≡ 0 → IsAtEnd (R.remaining (inner reader.new)))) }
     ensures faults { IfErr result (λ e. (e ≡ JudgeFault.Read) ⊎ (e ≡ JudgeFault.NoMemory)) }
     ensures failed { IsTrue (failed reader.new) ↔ IsErrOf result JudgeFault.Read }
-    ensures room { length chunk.new ≡ length chunk.old }
+    ensures chunk_buffer { length chunk.new ≡ length chunk.old }
 {
     match reader.read(chunk) {
         Ok(count) => match bytes.extend_from_slice(&chunk[..count]) {
@@ -89,7 +89,7 @@ fn read_all<R: Read>(alloc: Global, reader: &mut Watched<R>) -> Result<Vec<u8>, 
     ensures failed { IsTrue (failed reader.new) ↔ IsErrOf result JudgeFault.Read }
     ensures write { ¬ IsErrOf result JudgeFault.Write }
 {
-    let Ok(mut chunk) = room(alloc) else {
+    let Ok(mut chunk) = chunk_buffer(alloc) else {
         return Err(JudgeFault::NoMemory);
     };
     let mut bytes = Vec::new(alloc);

@@ -10,13 +10,16 @@ ghost use Rattle.esr_bundle.specs.Drafts.{drafted_certificate};
 ghost use Rattle.esr_bundle.specs.Reading.{IsTree, HasNoTree, IsReadingOf};
 
 use crate::draft::CertificateDraft;
-use crate::fields::{Part, at, has_keys, list, number_if, numbers_if, one_if, pairs, part_at};
+use crate::fields::{
+    FromJson, at, decode_member, has_key_count, key_count, list, optional_number, optional_numbers,
+    pairs,
+};
 use crate::sound::finish;
 use esr_cert::{BundleFault, Certificate, ChainDraft, Problem, ProblemDraft};
 use serde_json::Value;
 use std::alloc::Global;
 
-impl Part for ChainDraft {
+impl FromJson for ChainDraft {
     ghost Kind = { Chain };
 
     ghost shown = { drafted_chain };
@@ -24,12 +27,12 @@ impl Part for ChainDraft {
     ghost part_of = { chain_of };
 
     fn read(alloc: Global, value: &Value) -> Result<ChainDraft, BundleFault> {
-        if !has_keys(value, 3) {
+        if !has_key_count(value, 3) {
             return Err(BundleFault::Shape);
         }
-        let costs = part_at(alloc, value, "costs")?;
-        let item = part_at(alloc, value, "item")?;
-        let writers = part_at(alloc, value, "writers")?;
+        let costs = decode_member(alloc, value, "costs")?;
+        let item = decode_member(alloc, value, "item")?;
+        let writers = decode_member(alloc, value, "writers")?;
         Ok(ChainDraft {
             item,
             writers,
@@ -38,7 +41,7 @@ impl Part for ChainDraft {
     }
 }
 
-impl Part for ProblemDraft {
+impl FromJson for ProblemDraft {
     ghost Kind = { Problem };
 
     ghost shown = { drafted_problem };
@@ -46,13 +49,13 @@ impl Part for ProblemDraft {
     ghost part_of = { problem_of };
 
     fn read(alloc: Global, value: &Value) -> Result<ProblemDraft, BundleFault> {
-        if !has_keys(value, 3 + one_if(value, "must")) {
+        if !has_key_count(value, 3 + key_count(value, "must")) {
             return Err(BundleFault::Shape);
         }
         let before = pairs(alloc, at(value, "before")?)?;
         let chains = list(alloc, at(value, "chains")?)?;
-        let must = numbers_if(alloc, value, "must")?;
-        let updates = part_at(alloc, value, "updates")?;
+        let must = optional_numbers(alloc, value, "must")?;
+        let updates = decode_member(alloc, value, "updates")?;
         Ok(ProblemDraft {
             updates,
             before,
@@ -62,7 +65,7 @@ impl Part for ProblemDraft {
     }
 }
 
-impl Part for CertificateDraft {
+impl FromJson for CertificateDraft {
     ghost Kind = { Certificate };
 
     ghost shown = { drafted_certificate };
@@ -70,18 +73,18 @@ impl Part for CertificateDraft {
     ghost part_of = { certificate_of };
 
     fn read(alloc: Global, value: &Value) -> Result<CertificateDraft, BundleFault> {
-        if !has_keys(
+        if !has_key_count(
             value,
-            4 + one_if(value, "augmentations") + one_if(value, "must_flow"),
+            4 + key_count(value, "augmentations") + key_count(value, "must_flow"),
         ) {
             return Err(BundleFault::Shape);
         }
-        let augmentations = number_if(value, "augmentations")?;
-        let back_flow = part_at(alloc, value, "back_flow")?;
+        let augmentations = optional_number(value, "augmentations")?;
+        let back_flow = decode_member(alloc, value, "back_flow")?;
         let chain_flow = list(alloc, at(value, "chain_flow")?)?;
-        let must_flow = numbers_if(alloc, value, "must_flow")?;
-        let set = part_at(alloc, value, "set")?;
-        let worth = part_at(alloc, value, "worth")?;
+        let must_flow = optional_numbers(alloc, value, "must_flow")?;
+        let set = decode_member(alloc, value, "set")?;
+        let worth = decode_member(alloc, value, "worth")?;
         Ok(CertificateDraft {
             set,
             chain_flow,
@@ -99,11 +102,11 @@ fn parts(alloc: Global, value: &Value) -> Result<(ProblemDraft, CertificateDraft
     ensures err { IfErr result (λ e. e ≢ BundleFault.NoMemory → (e ≡ BundleFault.Shape)
         × (parts_of (view value.now) ≡ None)) }
 {
-    if !has_keys(value, 2) {
+    if !has_key_count(value, 2) {
         return Err(BundleFault::Shape);
     }
-    let certificate = part_at(alloc, value, "certificate")?;
-    let problem = part_at(alloc, value, "problem")?;
+    let certificate = decode_member(alloc, value, "certificate")?;
+    let problem = decode_member(alloc, value, "problem")?;
     Ok((problem, certificate))
 }
 

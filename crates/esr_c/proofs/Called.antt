@@ -4,7 +4,7 @@ use Rattle.esr_items.specs.Weights.{weighted}
 use Rattle.esr_history.specs.declared.event.Event.{Event}
 use Rattle.esr_history.specs.declared.event.Reply.{Reply}
 use Rattle.esr_history.specs.Machine.{Schedule, extended, reply_to}
-use Rattle.esr_engine.specs.Room.{is_full}
+use Rattle.esr_engine.specs.Capacity.{is_full}
 use Rattle.esr_engine.specs.declared.engine.Unanswered.{Unanswered}
 use Rattle.esr_engine.specs.declared.engine.Unanswered.TheVariants as unanswered
 use Rattle.esr_c.specs.declared.engine.Status.{Status}
@@ -14,10 +14,10 @@ use Rattle.esr_c.specs.Answers.{IsEventCall, reply_fields, status_number}
 
 module _ (event : Event) (h g : Schedule) (before after : EsrReply) where
   call_done : (r : Reply) → r ≡ reply_to weighted h event → g ≡ extended h event r → after ≡ reply_fields r → ¬ (is_full h event ≡ true) → IsEventCall event (Some h) (Some g) before after 0
-  call_done r is added reported roomy = record {
+  call_done r is added reported has_capacity = record {
     known = inl refl;
     closed = (λ e. absurd (omega arith), λ e. absurd (cc));
-    full = (λ e. absurd (omega arith), λ p. absurd (roomy p));
+    full = (λ e. absurd (omega arith), λ p. absurd (has_capacity p));
     reply = λ _. (ap (λ k. Some k) (added ∙ ap (extended h event) is), reported ∙ ap reply_fields is);
     err = λ ne. absurd (ne refl);
   }
@@ -32,10 +32,10 @@ module _ (event : Event) (h g : Schedule) (before after : EsrReply) where
   }
 
   call_refused : ¬ (is_full h event ≡ true) → g ≡ h → after ≡ before → IsEventCall event (Some h) (Some g) before after 13
-  call_refused roomy same kept = record {
+  call_refused has_capacity same kept = record {
     known = inr (inr (inl refl));
     closed = (λ e. absurd (omega arith), λ e. absurd (cc));
-    full = (λ e. absurd (omega arith), λ p. absurd (roomy p));
+    full = (λ e. absurd (omega arith), λ p. absurd (has_capacity p));
     reply = λ e. absurd (omega arith);
     err = λ _. (ap (λ k. Some k) same, kept);
   }
@@ -51,5 +51,5 @@ module _ (event : Event) (h g : Schedule) (before after : EsrReply) where
       by_status : (s ≡ Full) ⊎ (s ≡ NoMemory) → IsEventCall event (Some h) (Some g) before after (status_number s)
       by_status (inl is) = subst (λ (k : Status). IsEventCall event (Some h) (Some g) before after (status_number k)) (sym is) (call_full (full.0 (reported.0 is)) same err.1)
       by_status (inr is) =
-          let roomy : ¬ (is_full h event ≡ true) = λ p. let bad : s ≡ Full = reported.1 (full.1 p) in absurd (cc) in
-          subst (λ (k : Status). IsEventCall event (Some h) (Some g) before after (status_number k)) (sym is) (call_refused roomy same err.1)
+          let has_capacity : ¬ (is_full h event ≡ true) = λ p. let bad : s ≡ Full = reported.1 (full.1 p) in absurd (cc) in
+          subst (λ (k : Status). IsEventCall event (Some h) (Some g) before after (status_number k)) (sym is) (call_refused has_capacity same err.1)

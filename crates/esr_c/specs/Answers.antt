@@ -21,7 +21,7 @@ use Rattle.esr_history.specs.Totals.{IsWithinLimits, all_imports}
 use Rattle.esr_core.specs.Renewed.{committed_values, renewed, AreSerializableAsOne}
 use Rattle.esr_engine.specs.Accounts.{account_of}
 use Rattle.esr_engine.specs.ForUpdate.{after_for_update, no_pair, reply_for_update, IsPartlyDone}
-use Rattle.esr_engine.specs.Room.{is_full}
+use Rattle.esr_engine.specs.Capacity.{is_full}
 use Rattle.esr_engine.specs.declared.account.AccountView.{AccountView}
 use Rattle.esr_engine.specs.declared.account.TxnStatus.{TxnStatus}
 use Rattle.esr_engine.specs.declared.account.TxnStatus.TheVariants as txn_status
@@ -81,25 +81,25 @@ IsFinding h q f before = IsAnswer weighted h q f.distance f.import before × (f.
 
 -- the same, where they are at the head of a room
 abbrev pub IsFound : Schedule → ℕ → EsrFinding → List ℕ → Type 0
-IsFound h q f room = IsFinding h q f (take f.count room)
+IsFound h q f capacity = IsFinding h q f (take f.count capacity)
 
 -- the same, where there is no room for them
 abbrev pub IsCounted : Schedule → ℕ → EsrFinding → Type 0
 IsCounted h q f = (before : List ℕ) × IsFinding h q f before
 
 -- a certificate that does not tell how many augmentations lead to its flow
-abbrev pub untold : Certificate → Certificate
-untold c = record c { augmentations = None }
+abbrev pub unreported : Certificate → Certificate
+unreported c = record c { augmentations = None }
 
 -- the bytes are the bundle of what the audit of a query finds
 pub record IsBundleOf (h : Schedule) (q : ℕ) (bytes : List ℕ) : Type 0 where
   pub finding : Finding
   pub found : IsFindingOf weighted h q finding
-  pub text : bytes ≡ bundle finding.problem (untold (certificate_of finding.certificate))
+  pub text : bytes ≡ bundle finding.problem (unreported (certificate_of finding.certificate))
 
 -- such bytes are at the head of a room
 abbrev pub IsBundleIn : Schedule → ℕ → ℕ → List ℕ → Type 0
-IsBundleIn h q count room = IsBundleOf h q (take count room) × (count ≡ length (take count room))
+IsBundleIn h q count capacity = IsBundleOf h q (take count capacity) × (count ≡ length (take count capacity))
 
 -- such bytes are this many
 abbrev pub IsBundleLong : Schedule → ℕ → ℕ → Type 0
@@ -107,7 +107,7 @@ IsBundleLong h q count = (bytes : List ℕ) × IsBundleOf h q bytes × (count �
 
 -- the committed values are at the head of a room
 abbrev pub AreValuesIn : Schedule → ℕ → List ℤ → Type 0
-AreValuesIn h count room = (take count room ≡ committed_values h) × (count ≡ length h.opening)
+AreValuesIn h count capacity = (take count capacity ≡ committed_values h) × (count ≡ length h.opening)
 
 -- whatever the history of a renewed engine comes to be, it and the one before it are serializable as one
 pub record IsRenewed (h : Schedule) : Type 0 where

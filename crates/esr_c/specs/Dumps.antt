@@ -2,7 +2,7 @@
 use Rattle.std.specs.Prelude.{◌≡◌, ◌⊎◌, ℕ, List, Option, Some, length, take}
 use Rattle.esr_items.specs.Weights.{weighted}
 use Rattle.esr_history.specs.Machine.{Schedule}
-use Rattle.esr_engine.specs.Room.{begun}
+use Rattle.esr_engine.specs.Capacity.{transaction_count}
 use Rattle.esr_dump.specs.Naming.{item_names, transaction_names}
 use Rattle.esr_dump.specs.Lines.{script}
 use Rattle.esr_explain.specs.Explain.{explanation}
@@ -17,31 +17,31 @@ abbrev pub AreNamed : Schedule → List ℕ → Type 0
 AreNamed h names = (items : List (List ℕ)) × (names_of h names ≡ Some items)
 
 -- such a text is at the head of a room, or has so many bytes
-abbrev pub IsTextIn : (List ℕ → Type 0) → ℕ → List ℕ → Type 0
-IsTextIn P count room = P (take count room) × (count ≡ length (take count room))
+abbrev pub IsTextInBuffer : (List ℕ → Type 0) → ℕ → List ℕ → Type 0
+IsTextInBuffer P count capacity = P (take count capacity) × (count ≡ length (take count capacity))
 
-abbrev pub IsTextLong : (List ℕ → Type 0) → ℕ → Type 0
-IsTextLong P count = (text : List ℕ) × P text × (count ≡ length text)
+abbrev pub IsTextLength : (List ℕ → Type 0) → ℕ → Type 0
+IsTextLength P count = (text : List ℕ) × P text × (count ≡ length text)
 
 -- the script of a history, in which items have the names of a text
 abbrev pub IsScriptOf : Schedule → List ℕ → List ℕ → Type 0
 IsScriptOf h names text =
     (items : List (List ℕ)) × (names_of h names ≡ Some items)
-    × (text ≡ script items (transaction_names (begun h)) h)
+    × (text ≡ script items (transaction_names (transaction_count h)) h)
 
 -- the explanation of a query of a history, in which items have the names of a text
 pub record IsExplanationOf (h : Schedule) (q : ℕ) (names text : List ℕ) : Type 0 where
   pub items : List (List ℕ)
   pub named : names_of h names ≡ Some items
-  pub text_is : text ≡ explanation weighted h items (transaction_names (begun h)) q
+  pub text_is : text ≡ explanation weighted h items (transaction_names (transaction_count h)) q
 
 -- the ledger of a history
 abbrev pub IsLedgerOf : Schedule → List ℕ → Type 0
-IsLedgerOf h text = sheet.IsLedgerOf h (transaction_names (begun h)) text
+IsLedgerOf h text = sheet.IsLedgerOf h (transaction_names (transaction_count h)) text
 
 -- the statuses of a script, and of what is told of a query
 abbrev pub IsScriptStatus : ℕ → Type 0
 IsScriptStatus n = (n ≡ 0) ⊎ ((n ≡ 5) ⊎ ((n ≡ 7) ⊎ ((n ≡ 13) ⊎ (n ≡ 14))))
 
-abbrev pub IsTellingStatus : ℕ → Type 0
-IsTellingStatus n = IsScriptStatus n ⊎ (n ≡ 6)
+abbrev pub IsExplainStatus : ℕ → Type 0
+IsExplainStatus n = IsScriptStatus n ⊎ (n ≡ 6)

@@ -48,32 +48,32 @@ pub(crate) fn totals_of(engine: &EmbeddedEngine) -> EsrTotals
 }
 
 /// Copies a list to the beginning of a buffer if it fits, and leaves the rest of the buffer unchanged.
-fn fill<T: Copy>(room: &mut [T], list: &[T]) -> bool
-    ensures fits { IsTrue result ↔ length list.now ≤ length room.old }
-    ensures filled { IsTrue result → take (length list.now) room.new ≡ list.now }
-    ensures rest { drop (length list.now) room.new ≡ drop (length list.now) room.old }
-    ensures kept { result ≡ false → room.new ≡ room.old }
+fn fill<T: Copy>(capacity: &mut [T], list: &[T]) -> bool
+    ensures fits { IsTrue result ↔ length list.now ≤ length capacity.old }
+    ensures filled { IsTrue result → take (length list.now) capacity.new ≡ list.now }
+    ensures rest { drop (length list.now) capacity.new ≡ drop (length list.now) capacity.old }
+    ensures kept { result ≡ false → capacity.new ≡ capacity.old }
 {
-    if room.len() < list.len() {
+    if capacity.len() < list.len() {
         return false;
     }
-    let (head, _) = room.split_at_mut(list.len());
+    let (head, _) = capacity.split_at_mut(list.len());
     head.copy_from_slice(list);
     true
 }
 
 /// Stores the length of a list, and copies the list to the beginning of a buffer if it fits. The rest of the buffer is
 /// unchanged.
-pub(crate) fn hand_out<T: Copy>(room: &mut [T], count: &mut usize, list: &[T]) -> Status
+pub(crate) fn hand_out<T: Copy>(capacity: &mut [T], count: &mut usize, list: &[T]) -> Status
     ensures known { (result ≡ Status.Done) ⊎ (result ≡ Status.TooSmall) }
     ensures count { count.new ≡ length list.now }
-    ensures filled { result ≡ Status.Done → take count.new room.new ≡ list.now }
-    ensures rest { drop count.new room.new ≡ drop count.new room.old }
-    ensures small { result ≡ Status.TooSmall ↔ length room.old < length list.now }
-    ensures kept { result ≢ Status.Done → room.new ≡ room.old }
+    ensures filled { result ≡ Status.Done → take count.new capacity.new ≡ list.now }
+    ensures rest { drop count.new capacity.new ≡ drop count.new capacity.old }
+    ensures small { result ≡ Status.TooSmall ↔ length capacity.old < length list.now }
+    ensures kept { result ≢ Status.Done → capacity.new ≡ capacity.old }
 {
     *count = list.len();
-    if fill(room, list) {
+    if fill(capacity, list) {
         Status::Done
     } else {
         Status::TooSmall
@@ -93,7 +93,7 @@ pub(crate) fn show_values(
         × (count.new ≡ length engine.now.opening) }
     ensures kept { result ≢ Status.Done → values.new ≡ values.old }
     ensures rest { drop count.new values.new ≡ drop count.new values.old }
-    ensures untold { result ≢ Status.Done → result ≢ Status.TooSmall → count.new ≡ count.old }
+    ensures unreported { result ≢ Status.Done → result ≢ Status.TooSmall → count.new ≡ count.old }
 {
     match engine.committed_values(alloc) {
         Ok(list) => hand_out(values, count, &list),
@@ -142,7 +142,7 @@ pub(crate) fn show_finding(
         × IsCounted engine.old query finding.new }
     ensures kept { result ≢ Status.Done → before.new ≡ before.old }
     ensures rest { drop finding.new.count before.new ≡ drop finding.new.count before.old }
-    ensures untold { result ≢ Status.Done → result ≢ Status.TooSmall → finding.new ≡ finding.old }
+    ensures unreported { result ≢ Status.Done → result ≢ Status.TooSmall → finding.new ≡ finding.old }
 {
     let found = match find(alloc, engine, query) {
         Ok(found) => found,
@@ -187,7 +187,7 @@ pub(crate) fn show_bundle(
         × IsBundleLong engine.old query count.new }
     ensures kept { result ≢ Status.Done → bytes.new ≡ bytes.old }
     ensures rest { drop count.new bytes.new ≡ drop count.new bytes.old }
-    ensures untold { result ≢ Status.Done → result ≢ Status.TooSmall → count.new ≡ count.old }
+    ensures unreported { result ≢ Status.Done → result ≢ Status.TooSmall → count.new ≡ count.old }
 {
     match bundle(alloc, engine, query) {
         Ok(text) => hand_out(bytes, count, &text),

@@ -18,10 +18,10 @@ ghost use Rattle.esr_history.specs.Machine.{accepted_in};
 ghost use Rattle.esr_history.specs.Queries.{is_committed_query};
 ghost use Rattle.esr_history.specs.Totals.{IsWithinLimits};
 ghost use Rattle.esr_core.specs.Renewed.{has_active, renewed};
-ghost use Rattle.esr_engine.specs.Room.{NeverStuck, counts_of};
+ghost use Rattle.esr_engine.specs.Capacity.{NeverStuck, counts_of};
 ghost use Rattle.esr_c.specs.Many.{AreAnswered, IsAnsweredStatus, IsEnd};
 ghost use Rattle.esr_picture.specs.Picture.{IsSvg};
-ghost use Rattle.esr_c.specs.Dumps.{AreNamed, IsExplanationOf, IsLedgerOf, IsScriptOf, IsScriptStatus, IsTellingStatus, IsTextIn, IsTextLong, names_of};
+ghost use Rattle.esr_c.specs.Dumps.{AreNamed, IsExplanationOf, IsLedgerOf, IsScriptOf, IsScriptStatus, IsExplainStatus, IsTextInBuffer, IsTextLength, names_of};
 ghost use Rattle.esr_c.specs.Answers.{opened, IsEventCall, IsForUpdateCall, IsTotal, IsAccount, IsFound, IsCounted, IsBundleIn, IsBundleLong, AreValuesIn, IsRenewed, IsSound, IsOpenStatus, IsWeightedOpenStatus, IsRenewStatus, IsValuesStatus, IsAuditStatus, IsVerdictIn};
 
 mod account;
@@ -328,7 +328,7 @@ pub extern "C" fn esr_values(
         × IfSome engine.old.held.history (λ h. count.new ≡ length h.opening) }
     ensures kept { result ≢ 0 → values.new ≡ values.old }
     ensures rest { drop count.new values.new ≡ drop count.new values.old }
-    ensures untold { result ≢ 0 → result ≢ 7 → count.new ≡ count.old }
+    ensures unreported { result ≢ 0 → result ≢ 7 → count.new ≡ count.old }
 {
     let Some(inner) = take_engine(alloc, engine) else {
         return Status::Closed.number();
@@ -359,7 +359,7 @@ pub extern "C" fn esr_audit(
         × IfSome engine.old.held.history (λ h. IsCounted h query finding.new) }
     ensures kept { result ≢ 0 → before.new ≡ before.old }
     ensures rest { drop finding.new.count before.new ≡ drop finding.new.count before.old }
-    ensures untold { result ≢ 0 → result ≢ 7 → finding.new ≡ finding.old }
+    ensures unreported { result ≢ 0 → result ≢ 7 → finding.new ≡ finding.old }
 {
     let Some(mut inner) = take_engine(alloc, engine) else {
         return Status::Closed.number();
@@ -390,7 +390,7 @@ pub extern "C" fn esr_bundle(
         × IfSome engine.old.held.history (λ h. IsBundleLong h query count.new) }
     ensures kept { result ≢ 0 → bytes.new ≡ bytes.old }
     ensures rest { drop count.new bytes.new ≡ drop count.new bytes.old }
-    ensures untold { result ≢ 0 → result ≢ 7 → count.new ≡ count.old }
+    ensures unreported { result ≢ 0 → result ≢ 7 → count.new ≡ count.old }
 {
     let Some(mut inner) = take_engine(alloc, engine) else {
         return Status::Closed.number();
@@ -419,12 +419,12 @@ pub extern "C" fn esr_history_script(
     ensures same { engine.new.held.history ≡ engine.old.held.history }
     ensures bad { result ≡ 5 → IfSome engine.old.held.history (λ h. names_of h names.now ≡ None) }
     ensures script { result ≡ 0 → IfSome engine.old.held.history
-        (λ h. IsTextIn (IsScriptOf h names.now) count.new bytes.new) }
+        (λ h. IsTextInBuffer (IsScriptOf h names.now) count.new bytes.new) }
     ensures small { result ≡ 7 → (length bytes.old < count.new)
-        × IfSome engine.old.held.history (λ h. IsTextLong (IsScriptOf h names.now) count.new) }
+        × IfSome engine.old.held.history (λ h. IsTextLength (IsScriptOf h names.now) count.new) }
     ensures kept { result ≢ 0 → bytes.new ≡ bytes.old }
     ensures rest { drop count.new bytes.new ≡ drop count.new bytes.old }
-    ensures untold { result ≢ 0 → result ≢ 7 → count.new ≡ count.old }
+    ensures unreported { result ≢ 0 → result ≢ 7 → count.new ≡ count.old }
 {
     let Some(inner) = take_engine(alloc, engine) else {
         return Status::Closed.number();
@@ -449,18 +449,18 @@ pub extern "C" fn esr_explain(
     bytes: &mut [u8],
     count: &mut usize,
 ) -> u32
-    ensures status { IsTellingStatus result }
+    ensures status { IsExplainStatus result }
     ensures closed { result ≡ 14 ↔ (engine.old.held.history ≡ None) }
     ensures refused { IfSome engine.old.held.history (λ h. (result ≡ 6) ↔ (is_committed_query h query ≡ false)) }
     ensures same { engine.new.held.history ≡ engine.old.held.history }
     ensures bad { result ≡ 5 → IfSome engine.old.held.history (λ h. names_of h names.now ≡ None) }
     ensures explanation { result ≡ 0 → IfSome engine.old.held.history
-        (λ h. IsTextIn (IsExplanationOf h query names.now) count.new bytes.new) }
+        (λ h. IsTextInBuffer (IsExplanationOf h query names.now) count.new bytes.new) }
     ensures small { result ≡ 7 → (length bytes.old < count.new)
-        × IfSome engine.old.held.history (λ h. IsTextLong (IsExplanationOf h query names.now) count.new) }
+        × IfSome engine.old.held.history (λ h. IsTextLength (IsExplanationOf h query names.now) count.new) }
     ensures kept { result ≢ 0 → bytes.new ≡ bytes.old }
     ensures rest { drop count.new bytes.new ≡ drop count.new bytes.old }
-    ensures untold { result ≢ 0 → result ≢ 7 → count.new ≡ count.old }
+    ensures unreported { result ≢ 0 → result ≢ 7 → count.new ≡ count.old }
 {
     let Some(mut inner) = take_engine(alloc, engine) else {
         return Status::Closed.number();
@@ -480,17 +480,17 @@ pub extern "C" fn esr_picture(
     bytes: &mut [u8],
     count: &mut usize,
 ) -> u32
-    ensures status { IsTellingStatus result }
+    ensures status { IsExplainStatus result }
     ensures closed { result ≡ 14 ↔ (engine.old.held.history ≡ None) }
     ensures refused { IfSome engine.old.held.history (λ h. (result ≡ 6) ↔ (is_committed_query h query ≡ false)) }
     ensures same { engine.new.held.history ≡ engine.old.held.history }
     ensures bad { result ≡ 5 → IfSome engine.old.held.history (λ h. names_of h names.now ≡ None) }
     ensures named { (result ≡ 0) ⊎ (result ≡ 7) → IfSome engine.old.held.history (λ h. AreNamed h names.now) }
-    ensures picture { result ≡ 0 → IsTextIn IsSvg count.new bytes.new }
-    ensures small { result ≡ 7 → (length bytes.old < count.new) × IsTextLong IsSvg count.new }
+    ensures picture { result ≡ 0 → IsTextInBuffer IsSvg count.new bytes.new }
+    ensures small { result ≡ 7 → (length bytes.old < count.new) × IsTextLength IsSvg count.new }
     ensures kept { result ≢ 0 → bytes.new ≡ bytes.old }
     ensures rest { drop count.new bytes.new ≡ drop count.new bytes.old }
-    ensures untold { result ≢ 0 → result ≢ 7 → count.new ≡ count.old }
+    ensures unreported { result ≢ 0 → result ≢ 7 → count.new ≡ count.old }
 {
     let Some(mut inner) = take_engine(alloc, engine) else {
         return Status::Closed.number();
@@ -517,12 +517,12 @@ pub extern "C" fn esr_ledger(
     ensures closed { result ≡ 14 ↔ (engine.old.held.history ≡ None) }
     ensures same { engine.new.held.history ≡ engine.old.held.history }
     ensures ledger { result ≡ 0 → IfSome engine.old.held.history
-        (λ h. IsTextIn (IsLedgerOf h) count.new bytes.new) }
+        (λ h. IsTextInBuffer (IsLedgerOf h) count.new bytes.new) }
     ensures small { result ≡ 7 → (length bytes.old < count.new)
-        × IfSome engine.old.held.history (λ h. IsTextLong (IsLedgerOf h) count.new) }
+        × IfSome engine.old.held.history (λ h. IsTextLength (IsLedgerOf h) count.new) }
     ensures kept { result ≢ 0 → bytes.new ≡ bytes.old }
     ensures rest { drop count.new bytes.new ≡ drop count.new bytes.old }
-    ensures untold { result ≢ 0 → result ≢ 7 → count.new ≡ count.old }
+    ensures unreported { result ≢ 0 → result ≢ 7 → count.new ≡ count.old }
 {
     let Some(inner) = take_engine(alloc, engine) else {
         return Status::Closed.number();

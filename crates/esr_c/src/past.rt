@@ -1,10 +1,10 @@
 //! The past of an engine as text: its script and its ledger.
 
 ghost use Rattle.std.specs.Prelude.{◌≡◌, ◌≢◌, ◌⊎◌, ◌<◌, Some, None, length, IfOk, IfErr, IsErrOf, drop};
-ghost use Rattle.esr_engine.specs.Room.{begun};
+ghost use Rattle.esr_engine.specs.Capacity.{transaction_count};
 ghost use Rattle.esr_dump.specs.Naming.{transaction_names};
 ghost use Rattle.esr_c.specs.Answers.{IsValuesStatus, status_number};
-ghost use Rattle.esr_c.specs.Dumps.{IsLedgerOf, IsScriptOf, IsScriptStatus, IsTextIn, IsTextLong, names_of};
+ghost use Rattle.esr_c.specs.Dumps.{IsLedgerOf, IsScriptOf, IsScriptStatus, IsTextInBuffer, IsTextLength, names_of};
 
 use crate::audit::hand_out;
 use crate::engine::Status;
@@ -30,12 +30,12 @@ pub(crate) fn items(alloc: Global, engine: &EmbeddedEngine, names: &[u8]) -> Res
 /// The names of the transactions of an engine: their numbers.
 #[tactic(auto, using(esr_history::proofs::WithinRanges::legal_begins))]
 pub(crate) fn transactions(alloc: Global, engine: &EmbeddedEngine) -> Result<Names, Status>
-    ensures ok { IfOk result (λ transactions. transactions ≡ transaction_names (begun engine.now)) }
+    ensures ok { IfOk result (λ transactions. transactions ≡ transaction_names (transaction_count engine.now)) }
     ensures err { IfErr result (λ e. e ≡ Status.NoMemory) }
 {
     let _legal = engine.history(); // brings the invariant into the proof
-    let begun = engine.counts().transactions as u32;
-    match transaction_names(alloc, begun) {
+    let transaction_count = engine.counts().transactions as u32;
+    match transaction_names(alloc, transaction_count) {
         Ok(names) => Ok(names),
         Err(_) => Err(Status::NoMemory),
     }
@@ -65,12 +65,12 @@ pub(crate) fn show_script(
     ensures known { IsScriptStatus (status_number result) }
     ensures open { result ≢ Status.Closed }
     ensures bad { result ≡ Status.BadNames → names_of engine.now names.now ≡ None }
-    ensures script { result ≡ Status.Done → IsTextIn (IsScriptOf engine.now names.now) count.new bytes.new }
+    ensures script { result ≡ Status.Done → IsTextInBuffer (IsScriptOf engine.now names.now) count.new bytes.new }
     ensures small { result ≡ Status.TooSmall → (length bytes.old < count.new)
-        × IsTextLong (IsScriptOf engine.now names.now) count.new }
+        × IsTextLength (IsScriptOf engine.now names.now) count.new }
     ensures kept { result ≢ Status.Done → bytes.new ≡ bytes.old }
     ensures rest { drop count.new bytes.new ≡ drop count.new bytes.old }
-    ensures untold { result ≢ Status.Done → result ≢ Status.TooSmall → count.new ≡ count.old }
+    ensures unreported { result ≢ Status.Done → result ≢ Status.TooSmall → count.new ≡ count.old }
 {
     match script_text(alloc, engine, names) {
         Ok(text) => hand_out(bytes, count, &text),
@@ -98,12 +98,12 @@ pub(crate) fn show_ledger(
 ) -> Status
     ensures known { IsValuesStatus (status_number result) }
     ensures open { result ≢ Status.Closed }
-    ensures ledger { result ≡ Status.Done → IsTextIn (IsLedgerOf engine.now) count.new bytes.new }
+    ensures ledger { result ≡ Status.Done → IsTextInBuffer (IsLedgerOf engine.now) count.new bytes.new }
     ensures small { result ≡ Status.TooSmall → (length bytes.old < count.new)
-        × IsTextLong (IsLedgerOf engine.now) count.new }
+        × IsTextLength (IsLedgerOf engine.now) count.new }
     ensures kept { result ≢ Status.Done → bytes.new ≡ bytes.old }
     ensures rest { drop count.new bytes.new ≡ drop count.new bytes.old }
-    ensures untold { result ≢ Status.Done → result ≢ Status.TooSmall → count.new ≡ count.old }
+    ensures unreported { result ≢ Status.Done → result ≢ Status.TooSmall → count.new ≡ count.old }
 {
     match ledger_text(alloc, engine) {
         Ok(text) => hand_out(bytes, count, &text),

@@ -9,7 +9,7 @@ ghost use Rattle.esr_audit.specs.Findings.{IsFindingOf};
 ghost use Rattle.esr_explain.specs.Explain.{explanation};
 ghost use Rattle.esr_picture.specs.Picture.{IsSvg};
 ghost use Rattle.esr_c.specs.Answers.{status_number};
-ghost use Rattle.esr_c.specs.Dumps.{AreNamed, IsExplanationOf, IsTellingStatus, IsTextIn, IsTextLong, names_of};
+ghost use Rattle.esr_c.specs.Dumps.{AreNamed, IsExplanationOf, IsExplainStatus, IsTextInBuffer, IsTextLength, names_of};
 
 use crate::audit::{find, hand_out};
 use crate::engine::Status;
@@ -121,17 +121,17 @@ pub(crate) fn show_explanation(
     count: &mut usize,
 ) -> Status
     ensures same { engine.new ≡ engine.old }
-    ensures known { IsTellingStatus (status_number result) }
+    ensures known { IsExplainStatus (status_number result) }
     ensures open { result ≢ Status.Closed }
     ensures refused { (result ≡ Status.NotACommittedQuery) ↔ (is_committed_query engine.old query ≡ false) }
     ensures bad { result ≡ Status.BadNames → names_of engine.old names.now ≡ None }
     ensures explanation { result ≡ Status.Done
-        → IsTextIn (IsExplanationOf engine.old query names.now) count.new bytes.new }
+        → IsTextInBuffer (IsExplanationOf engine.old query names.now) count.new bytes.new }
     ensures small { result ≡ Status.TooSmall → (length bytes.old < count.new)
-        × IsTextLong (IsExplanationOf engine.old query names.now) count.new }
+        × IsTextLength (IsExplanationOf engine.old query names.now) count.new }
     ensures kept { result ≢ Status.Done → bytes.new ≡ bytes.old }
     ensures rest { drop count.new bytes.new ≡ drop count.new bytes.old }
-    ensures untold { result ≢ Status.Done → result ≢ Status.TooSmall → count.new ≡ count.old }
+    ensures unreported { result ≢ Status.Done → result ≢ Status.TooSmall → count.new ≡ count.old }
 {
     match explanation_text(alloc, engine, query, names) {
         Ok(text) => hand_out(bytes, count, &text),
@@ -148,16 +148,16 @@ pub(crate) fn show_picture(
     count: &mut usize,
 ) -> Status
     ensures same { engine.new ≡ engine.old }
-    ensures known { IsTellingStatus (status_number result) }
+    ensures known { IsExplainStatus (status_number result) }
     ensures open { result ≢ Status.Closed }
     ensures refused { (result ≡ Status.NotACommittedQuery) ↔ (is_committed_query engine.old query ≡ false) }
     ensures bad { result ≡ Status.BadNames → names_of engine.old names.now ≡ None }
     ensures named { (result ≡ Status.Done) ⊎ (result ≡ Status.TooSmall) → AreNamed engine.old names.now }
-    ensures picture { result ≡ Status.Done → IsTextIn IsSvg count.new bytes.new }
-    ensures small { result ≡ Status.TooSmall → (length bytes.old < count.new) × IsTextLong IsSvg count.new }
+    ensures picture { result ≡ Status.Done → IsTextInBuffer IsSvg count.new bytes.new }
+    ensures small { result ≡ Status.TooSmall → (length bytes.old < count.new) × IsTextLength IsSvg count.new }
     ensures kept { result ≢ Status.Done → bytes.new ≡ bytes.old }
     ensures rest { drop count.new bytes.new ≡ drop count.new bytes.old }
-    ensures untold { result ≢ Status.Done → result ≢ Status.TooSmall → count.new ≡ count.old }
+    ensures unreported { result ≢ Status.Done → result ≢ Status.TooSmall → count.new ≡ count.old }
 {
     match picture_text(alloc, engine, query, names) {
         Ok(text) => hand_out(bytes, count, &text),

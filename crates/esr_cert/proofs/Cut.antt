@@ -3,7 +3,7 @@ use Rattle.std.proofs.Common.{◌≡◌, ℕ, zero, suc, ◌+◌, ◌<◌, ◌�
 use Rattle.std.proofs.lemmas.Bool.{cases_eq}
 use Rattle.esr_cert.specs.Network.{Arc, arc_at, Network, IsNetwork}
 use Rattle.esr_cert.specs.Flow.{within, amount_at, carried, inflow, outflow, IsFlow, worth}
-use Rattle.esr_cert.specs.Cut.{crosses, comes_back, capacity_or_zero, across, IsLimited, AreLimited}
+use Rattle.esr_cert.specs.Cut.{crosses, returns_from, capacity_or_zero, across, IsLimited, AreLimited}
 
 abbrev pub pick : Bool → ℕ → ℕ
 pick b x = cond b x 0
@@ -70,7 +70,7 @@ node_sum_carried has end n (a ∷ arcs) (x ∷ flow) l =
       node_sum_carried has end n arcs flow (λ i k. l (suc i) (omega arith)),
     )
 
-carried_split : (has : ℕ → Bool) (arcs : List Arc) (flow : List ℕ) → carried (λ arc. has arc.from) arcs flow + carried (comes_back has) arcs flow ≡ carried (λ arc. has arc.to) arcs flow + carried (crosses has) arcs flow
+carried_split : (has : ℕ → Bool) (arcs : List Arc) (flow : List ℕ) → carried (λ arc. has arc.from) arcs flow + carried (returns_from has) arcs flow ≡ carried (λ arc. has arc.to) arcs flow + carried (crosses has) arcs flow
 carried_split has [] flow = refl
 carried_split has (a ∷ arcs) [] = refl
 carried_split has (a ∷ arcs) (x ∷ flow) = omega (arith, one (has a.from) (has a.to), carried_split has arcs flow)
@@ -82,7 +82,7 @@ carried_split has (a ∷ arcs) (x ∷ flow) = omega (arith, one (has a.from) (ha
     one false false = refl
 
 -- the worth, and what comes back, is what crosses
-pub cut : (net : Network) → IsNetwork net → (flow : List ℕ) → IsFlow net flow → (has : ℕ → Bool) → has net.source ≡ true → has net.sink ≡ false → worth net flow + carried (comes_back has) net.arcs flow ≡ carried (crosses has) net.arcs flow
+pub cut : (net : Network) → IsNetwork net → (flow : List ℕ) → IsFlow net flow → (has : ℕ → Bool) → has net.source ≡ true → has net.sink ≡ false → worth net flow + carried (returns_from has) net.arcs flow ≡ carried (crosses has) net.arcs flow
 cut net ok flow f has at_source at_sink =
     let out_sum : node_sum has (λ v. outflow net.arcs flow v) net.nodes ≡ carried (λ arc. has arc.from) net.arcs flow = node_sum_carried has (λ arc. arc.from) net.nodes net.arcs flow (λ i l. (ok.ends i l).0) in
     let in_sum : node_sum has (λ v. inflow net.arcs flow v) net.nodes ≡ carried (λ arc. has arc.to) net.arcs flow = node_sum_carried has (λ arc. arc.to) net.nodes net.arcs flow (λ i l. (ok.ends i l).1) in
@@ -149,17 +149,17 @@ full_from has (a ∷ arcs) (x ∷ flow) e w l g (suc i) k c =
     i (omega arith) c
 
 -- nothing comes back where nothing is carried back
-pub nothing_back : (has : ℕ → Bool) (arcs : List Arc) (flow : List ℕ) → ((i : ℕ) → i < length arcs → comes_back has (arc_at arcs i) ≡ true → amount_at flow i ≡ 0) → carried (comes_back has) arcs flow ≡ 0
+pub nothing_back : (has : ℕ → Bool) (arcs : List Arc) (flow : List ℕ) → ((i : ℕ) → i < length arcs → returns_from has (arc_at arcs i) ≡ true → amount_at flow i ≡ 0) → carried (returns_from has) arcs flow ≡ 0
 nothing_back has [] flow h = refl
 nothing_back has (a ∷ arcs) [] h = refl
 nothing_back has (a ∷ arcs) (x ∷ flow) h =
-    omega (arith, none (comes_back has a) x (h 0 (omega arith)), nothing_back has arcs flow (λ i k. h (suc i) (omega arith)))
+    omega (arith, none (returns_from has a) x (h 0 (omega arith)), nothing_back has arcs flow (λ i k. h (suc i) (omega arith)))
   where
     none : (b : Bool) (x : ℕ) → (b ≡ true → x ≡ 0) → pick b x ≡ 0
     none true x k = k refl
     none false x k = refl
 
-pub nothing_from : (has : ℕ → Bool) (arcs : List Arc) (flow : List ℕ) → length flow ≡ length arcs → carried (comes_back has) arcs flow ≡ 0 → (i : ℕ) → i < length arcs → comes_back has (arc_at arcs i) ≡ true → amount_at flow i ≡ 0
+pub nothing_from : (has : ℕ → Bool) (arcs : List Arc) (flow : List ℕ) → length flow ≡ length arcs → carried (returns_from has) arcs flow ≡ 0 → (i : ℕ) → i < length arcs → returns_from has (arc_at arcs i) ≡ true → amount_at flow i ≡ 0
 nothing_from has [] flow e z i k c = absurd (omega arith)
 nothing_from has (a ∷ arcs) [] e z i k c = absurd (omega arith)
 nothing_from has (a ∷ arcs) (x ∷ flow) e z zero k c = omega (arith, ap (λ b. pick b x) c)

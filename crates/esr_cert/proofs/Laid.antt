@@ -8,7 +8,7 @@ use Rattle.esr_cert.specs.Network.{arc_at, HaveEnds, Arc}
 use Rattle.esr_cert.specs.Steps.{arc_of, order_of, start, step_at, AreOnce, ResidualArc, Forward, Backward}
 use Rattle.esr_cert.specs.Rows.{span_at, row_in, first_steps, steps_from, row_of, AreRows, AreSteps, Filled, Laid, lengthen, Span}
 use Rattle.esr_cert.proofs.StepsLaws.{first_next, has_steps}
-use Rattle.esr_cert.proofs.RowsLaws.{row_length, at_row, filled_more, place_within, room_along, room_against, filled_all, step_with}
+use Rattle.esr_cert.proofs.RowsLaws.{row_length, at_row, filled_more, place_within, capacity_along, capacity_against, filled_all, step_with}
 
 pub laid_long : {arcs : List Arc} {nodes i : ℕ} {spans : List Span} {steps : List ResidualArc} → Laid arcs nodes i spans steps → length steps ≡ 2 * length arcs
 laid_long h = h.filled.total ∙ h.are.both
@@ -27,29 +27,29 @@ module _ {arcs : List Arc} {nodes i : ℕ} {spans : List Span} {steps : List Res
   known_to : to < length h.degrees
   known_to = omega (arith, (ends i l).1, h.are.count)
 
-  room_from : length (steps_from arcs from (first_steps i)) < get_or h.degrees from 0
-  room_from = room_along arcs nodes h.degrees i from h.are l (ends i l).0 refl
+  capacity_from : length (steps_from arcs from (first_steps i)) < get_or h.degrees from 0
+  capacity_from = capacity_along arcs nodes h.degrees i from h.are l (ends i l).0 refl
 
-  room_to : length (steps_from arcs to (first_steps i ++ Forward i ∷ [])) < get_or h.degrees to 0
-  room_to = room_against arcs nodes h.degrees i to h.are l (ends i l).1 refl
+  capacity_to : length (steps_from arcs to (first_steps i ++ Forward i ∷ [])) < get_or h.degrees to 0
+  capacity_to = capacity_against arcs nodes h.degrees i to h.are l (ends i l).1 refl
 
   pub within_along : (span_at spans from).end < length steps
-  within_along = place_within arcs h.degrees (first_steps i) spans steps (Forward i) from refl known_from room_from h.filled
+  within_along = place_within arcs h.degrees (first_steps i) spans steps (Forward i) from refl known_from capacity_from h.filled
 
   module _ (spans_along : List Span) (steps_along : List ResidualArc) (e : spans_along ≡ lengthen spans from) (q : steps_along ≡ set steps (span_at spans from).end (Forward i)) where
     filled_along : Filled arcs h.degrees (first_steps i ++ Forward i ∷ []) spans_along steps_along
     filled_along =
         subst (λ list. Filled arcs h.degrees (first_steps i ++ Forward i ∷ []) list steps_along) (sym e)
         (subst (Filled arcs h.degrees (first_steps i ++ Forward i ∷ []) (lengthen spans from)) (sym q)
-        (filled_more arcs h.degrees (first_steps i) spans steps (Forward i) from refl known_from room_from h.filled))
+        (filled_more arcs h.degrees (first_steps i) spans steps (Forward i) from refl known_from capacity_from h.filled))
 
     pub within_against : (span_at spans_along to).end < length steps_along
-    within_against = place_within arcs h.degrees (first_steps i ++ Forward i ∷ []) spans_along steps_along (Backward i) to refl known_to room_to filled_along
+    within_against = place_within arcs h.degrees (first_steps i ++ Forward i ∷ []) spans_along steps_along (Backward i) to refl known_to capacity_to filled_along
 
     filled_against : Filled arcs h.degrees (first_steps (i + 1)) (lengthen spans_along to) (set steps_along (span_at spans_along to).end (Backward i))
     filled_against =
         subst (λ done. Filled arcs h.degrees done (lengthen spans_along to) (set steps_along (span_at spans_along to).end (Backward i))) (first_next i)
-        (filled_more arcs h.degrees (first_steps i ++ Forward i ∷ []) spans_along steps_along (Backward i) to refl known_to room_to filled_along)
+        (filled_more arcs h.degrees (first_steps i ++ Forward i ∷ []) spans_along steps_along (Backward i) to refl known_to capacity_to filled_along)
 
     pub laid_more : (spans_against : List Span) (steps_against : List ResidualArc) → spans_against ≡ lengthen spans_along to → steps_against ≡ set steps_along (span_at spans_along to).end (Backward i) → Laid arcs nodes (i + 1) spans_against steps_against
     laid_more spans_against steps_against u v = record {

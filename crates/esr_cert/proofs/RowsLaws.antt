@@ -84,7 +84,7 @@ row_with (n ∷ lengths) k l =
           (suc found.0, omega (arith, found.1), omega (arith, more, found.2), omega (arith, more, found.3))
     ]
 
-module _ (arcs : List Arc) (lengths : List ℕ) (done : List ResidualArc) (spans : List Span) (steps : List ResidualArc) (s : ResidualArc) (u : ℕ) (e : start arcs s ≡ u) (l : u < length lengths) (room : length (steps_from arcs u done) < get_or lengths u 0) (h : Filled arcs lengths done spans steps) where
+module _ (arcs : List Arc) (lengths : List ℕ) (done : List ResidualArc) (spans : List Span) (steps : List ResidualArc) (s : ResidualArc) (u : ℕ) (e : start arcs s ≡ u) (l : u < length lengths) (in_bounds : length (steps_from arcs u done) < get_or lengths u 0) (h : Filled arcs lengths done spans steps) where
   pub place_within : (span_at spans u).end < length steps
   place_within = omega (arith, h.end u l, h.total, sum_by_more_le (λ x. x) lengths u 0 l)
 
@@ -144,7 +144,7 @@ module _ (arcs : List Arc) (lengths : List ℕ) (done : List ResidualArc) (spans
       | inr ne ↦ omega (arith, ap (λ (span : Span). span.end) (span_other v ne), h.end v m, ap length (not_at v ne))
     ];
     fits = λ v m. elim (cases_eq v u) [
-      | inl q ↦ subst (λ w. length (steps_from arcs w (done ++ s ∷ [])) ≤ get_or lengths w 0) (sym q) (omega (arith, one_more, room))
+      | inl q ↦ subst (λ w. length (steps_from arcs w (done ++ s ∷ [])) ≤ get_or lengths w 0) (sym q) (omega (arith, one_more, in_bounds))
       | inr ne ↦ omega (arith, ap length (not_at v ne), h.fits v m)
     ];
     step = λ v k m i. elim (cases_eq v u) [
@@ -156,13 +156,13 @@ module _ (arcs : List Arc) (lengths : List ℕ) (done : List ResidualArc) (spans
   }
 
 -- there is room for the steps of an arc that is not laid yet
-pub room_along : (arcs : List Arc) (nodes : ℕ) (degrees : List ℕ) (i u : ℕ) → AreDegrees arcs nodes degrees → i < length arcs → u < nodes → start arcs (Forward i) ≡ u → length (steps_from arcs u (first_steps i)) < get_or degrees u 0
-room_along arcs nodes degrees i u are l m e =
+pub capacity_along : (arcs : List Arc) (nodes : ℕ) (degrees : List ℕ) (i u : ℕ) → AreDegrees arcs nodes degrees → i < length arcs → u < nodes → start arcs (Forward i) ≡ u → length (steps_from arcs u (first_steps i)) < get_or degrees u 0
+capacity_along arcs nodes degrees i u are l m e =
     let here : length (steps_from arcs u (first_steps i)) < length (steps_from arcs u (first_steps (suc i))) = room_for arcs u (first_steps i) (Backward i ∷ []) (Forward i) e in
     omega (arith, here, first_within arcs u (suc i) (length arcs) (omega arith), are.degree u m)
 
-pub room_against : (arcs : List Arc) (nodes : ℕ) (degrees : List ℕ) (i u : ℕ) → AreDegrees arcs nodes degrees → i < length arcs → u < nodes → start arcs (Backward i) ≡ u → length (steps_from arcs u (first_steps i ++ Forward i ∷ [])) < get_or degrees u 0
-room_against arcs nodes degrees i u are l m e =
+pub capacity_against : (arcs : List Arc) (nodes : ℕ) (degrees : List ℕ) (i u : ℕ) → AreDegrees arcs nodes degrees → i < length arcs → u < nodes → start arcs (Backward i) ≡ u → length (steps_from arcs u (first_steps i ++ Forward i ∷ [])) < get_or degrees u 0
+capacity_against arcs nodes degrees i u are l m e =
     let here : length (steps_from arcs u (first_steps i ++ Forward i ∷ [])) < length (steps_from arcs u ((first_steps i ++ Forward i ∷ []) ++ Backward i ∷ [])) = room_for arcs u (first_steps i ++ Forward i ∷ []) [] (Backward i) e in
     omega (arith, here, ap (λ list. length (steps_from arcs u list)) (first_more i), first_within arcs u (suc i) (length arcs) (omega arith), are.degree u m)
 

@@ -136,8 +136,8 @@ too_many_augmentations : fault smaller_of_two (record before_all { augmentations
 too_many_augmentations = refl
 
 -- the count is looked at last
-worth_comes_first : fault smaller_of_two (record before_all { worth = 3; augmentations = Some 21 }) ≡ Some WorthNotCost
-worth_comes_first = refl
+worth_is_first : fault smaller_of_two (record before_all { worth = 3; augmentations = Some 21 }) ≡ Some WorthNotCost
+worth_is_first = refl
 
 abbrev nothing : Problem
 nothing = record { updates = []; before = []; chains = []; must = [] }

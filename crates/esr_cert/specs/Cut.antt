@@ -7,8 +7,8 @@ abbrev pub crosses : (ℕ → Bool) → Arc → Bool
 crosses has arc = has arc.from && not (has arc.to)
 
 -- an arc enters the set
-abbrev pub comes_back : (ℕ → Bool) → Arc → Bool
-comes_back has arc = not (has arc.from) && has arc.to
+abbrev pub returns_from : (ℕ → Bool) → Arc → Bool
+returns_from has arc = not (has arc.from) && has arc.to
 
 abbrev pub capacity_or_zero : Option ℕ → ℕ
 capacity_or_zero None = 0

@@ -141,7 +141,7 @@ impl Rows {
     fn add_step(&mut self, node: usize, step: ResidualArc)
         requires node { node < length self.old.spans.items }
         requires arc { arc_of step < 2147483648 }
-        requires room { (span_at self.old.spans.items node).end < length self.old.steps.items }
+        requires in_bounds { (span_at self.old.spans.items node).end < length self.old.steps.items }
         requires few { length self.old.steps.items < 4294967296 }
         ensures spans { self.new.spans.items ≡ lengthen self.old.spans.items node }
         ensures steps { self.new.steps.items ≡ set self.old.steps.items (span_at self.old.spans.items node).end step }

@@ -10,7 +10,7 @@ use Rattle.clap.proofs.FaultLemmas.{stopped_fault}
 use Rattle.clap.proofs.WalkLemmas.{walk_stopped}
 use Rattle.clap.proofs.OnLiterals.{clap_on_literals}
 use Rattle.clap.specs.Words.{new_app}
-use Rattle.esr_cli.proofs.Leads.{own_fault}
+use Rattle.esr_cli.proofs.WalksTo.{own_fault}
 use Rattle.esr_cli.specs.Program as spec
 use Rattle.esr_cli.specs.Program.{program}
 
@@ -34,14 +34,14 @@ or_nothing : (a : Kinds) → or_else a [] ≡ a
 or_nothing [] = refl
 or_nothing (k ∷ ks) = refl
 
-walk_behind : (word : Text) (s : Shape) (rest : List Text) → IsNameOf word s → walk shell.top.rules (names_of shell) nothing_held (word ∷ rest) ≡ left_to word rest
-walk_behind word s rest is =
+walk_of_rest : (word : Text) (s : Shape) (rest : List Text) → IsNameOf word s → walk shell.top.rules (names_of shell) nothing_held (word ∷ rest) ≡ left_to word rest
+walk_of_rest word s rest is =
     ap (λ (w : Walk). fold (walked shell.top.rules (names_of shell)) w rest) is.met
     ∙ sym (walk_stopped shell.top.rules (names_of shell) start word [] rest)
 
-turns_behind : (word : Text) (s : Shape) (rest : List Text) → IsNameOf word s → walk_fault shell.top (names_of shell) start (word ∷ rest) ≡ []
+turns_of_rest : (word : Text) (s : Shape) (rest : List Text) → IsNameOf word s → walk_fault shell.top (names_of shell) start (word ∷ rest) ≡ []
 unfolding walk_fault
-turns_behind word s rest is =
+turns_of_rest word s rest is =
     ap₂ (λ (k : Kinds) (w : Walk). or_else k (walk_fault shell.top (names_of shell) w rest)) is.fine is.met
     ∙ stopped_fault shell.top (names_of shell) start (word, []) rest
 
@@ -63,15 +63,15 @@ nothing_more : (s : Shape) (rest : List Text) → found_of_subcommand rest (Some
 unfolding clap_on_literals
 nothing_more s rest = or_nothing (own_fault s rest)
 
-pub fault_behind : (name word : Text) (s : Shape) (rest : List Text) → IsNameOf word s → fault_of program (name ∷ word ∷ rest) ≡ own_fault s rest
-fault_behind name word s rest is =
-    ap₂ found_of_walk (walk_behind word s rest is) (turns_behind word s rest is)
+pub fault_of_rest : (name word : Text) (s : Shape) (rest : List Text) → IsNameOf word s → fault_of program (name ∷ word ∷ rest) ≡ own_fault s rest
+fault_of_rest name word s rest is =
+    ap₂ found_of_walk (walk_of_rest word s rest is) (turns_of_rest word s rest is)
     ∙ ap (found_of_subcommand rest) is.found
     ∙ nothing_more s rest
 
-pub rows_behind : (name word : Text) (s : Shape) (rest : List Text) → IsNameOf word s → subcommand_of program (name ∷ word ∷ rest) ≡ Some (rows_at s rest)
-rows_behind name word s rest is =
-    ap (λ (w : Walk). entered shell w.stopped) (walk_behind word s rest is)
+pub rows_of_rest : (name word : Text) (s : Shape) (rest : List Text) → IsNameOf word s → subcommand_of program (name ∷ word ∷ rest) ≡ Some (rows_at s rest)
+rows_of_rest name word s rest is =
+    ap (λ (w : Walk). entered shell w.stopped) (walk_of_rest word s rest is)
     ∙ ap (λ (o : Option Shape). option_map (λ s. rows_at s rest) o) is.found
 
 abbrev pub run_shape : Shape

@@ -15,7 +15,7 @@ use Rattle.clap.specs.Faults.{check_fault, defaults_fault, entered_fault, fault_
 use Rattle.clap.proofs.OnLiterals.{clap_on_literals}
 use Rattle.esr_cli.specs.Job as asked
 use Rattle.esr_cli.specs.Program.{as_script_rule, bail_rule, file_rule, format_rule, name_rule, no_progress_rule, program, progress_rule, with_name, workers_rule, worst_rule}
-use Rattle.esr_cli.specs.Job.{HasWorkers, Request, Work, flag_in, number_in, request_in, request_of, requested, count_in, work_in, work_of}
+use Rattle.esr_cli.specs.Job.{HasWorkers, Request, RequestedTask, flag_in, number_in, request_in, request_of, requested, count_in, task_in, requested_task}
 use Rattle.esr_cli.specs.declared.Job.{Job}
 use Rattle.esr_cli.proofs.Entered.{audit_shape, certify_shape, drive_shape, explain_shape, page_shape}
 use Rattle.esr_cli.proofs.Rows.{HasFirst, IsFit, default_there, first_passes, given_there, has_text, level_good}
@@ -140,12 +140,12 @@ name_is_given : (name : Text) (rows : List Row) → check_fault (named_shape nam
 name_is_given name rows none = must_be_given (is_given (codes "NAME") rows) none
 
 -- a name that is found, of which work is made
-one_named : (ask : Text → Work) (rows : List Row) (name : Text) → ((t : Text) → HasWorkers (ask t)) → first_of (codes "NAME") rows ≡ Some name
+one_named : (ask : Text → RequestedTask) (rows : List Row) (name : Text) → ((t : Text) → HasWorkers (ask t)) → first_of (codes "NAME") rows ≡ Some name
     → IsSomeAnd (option_map (requested rows) (option_map ask (first_of (codes "NAME") rows))) HasItsWorkers
 one_named ask rows name within found = rw found (within name)
 
-named_served : (name : Text) → (ask : Text → Work) → ((t : Text) → HasWorkers (ask t))
-    → ((rows : List Row) → work_in name rows ≡ option_map ask (first_of (codes "NAME") rows)) → IsServed (named_shape name)
+named_served : (name : Text) → (ask : Text → RequestedTask) → ((t : Text) → HasWorkers (ask t))
+    → ((rows : List Row) → task_in name rows ≡ option_map ask (first_of (codes "NAME") rows)) → IsServed (named_shape name)
 named_served name ask within asks words none =
     let s = named_shape name in
     let rows = rows_after s.rules [] words in
@@ -182,7 +182,7 @@ number text passes =
     let wide : is_unsigned_in 0 18446744073709551615 text ≡ true = Accepts-accepts false (Unsigned 0 18446744073709551615) text (fits.0, fits.1, omega arith, omega arith) in
     (rw wide refl, fits.2, fits.3)
 
-count_served : (option : Text) (ask : ℕ → Work) (rows : List Row) (text : Text) → ((n : ℕ) → 1 ≤ n → n ≤ 64 → HasWorkers (ask n)) → one_of option rows ≡ Some text → is_unsigned_in 1 64 text ≡ true
+count_served : (option : Text) (ask : ℕ → RequestedTask) (rows : List Row) (text : Text) → ((n : ℕ) → 1 ≤ n → n ≤ 64 → HasWorkers (ask n)) → one_of option rows ≡ Some text → is_unsigned_in 1 64 text ≡ true
     → IsSomeAnd (option_map (requested rows) (option_map ask (count_in option rows))) HasItsWorkers
 count_served option ask rows text within one passes =
     let read = number text passes in
@@ -285,14 +285,14 @@ picked p other (s ∷ rest) serves there none = go (answers_to p.0 (label_of s))
     go true answers any passed more = ⊎_elim (λ is_help. absurd (no_help p.0 other (subst (λ label. answers_to p.0 label ≡ true) is_help answers))) (λ serve. serve p.1 passed) serves.0
     go false answers any passed more = more any passed
 
-entered_asks : (stop : Option (Text × List Text)) → StopsElsewhere stop → is_some (entered shell stop) ≡ true → entered_fault shell stop ≡ []
+entered_requests : (stop : Option (Text × List Text)) → StopsElsewhere stop → is_some (entered shell stop) ≡ true → entered_fault shell stop ≡ []
     → IsSomeAnd (request_in (entered shell stop)) HasItsWorkers
-entered_asks None elsewhere there none = absurd (true≢false (sym there))
-entered_asks (Some p) elsewhere there none = picked p elsewhere shell.subs served there none
+entered_requests None elsewhere there none = absurd (true≢false (sym there))
+entered_requests (Some p) elsewhere there none = picked p elsewhere shell.subs served there none
 
 -- words with no fault ask for something
-pub faultless_asks : (words : List Text) → fault_of program words ≡ [] → IsSomeAnd (request_in (subcommand_of program words)) HasItsWorkers
-faultless_asks words none =
+pub faultless_requests : (words : List Text) → fault_of program words ≡ [] → IsSomeAnd (request_in (subcommand_of program words)) HasItsWorkers
+faultless_requests words none =
     let given = argument_words program words in
     let end = walk shell.top.rules (names_of shell) nothing_held given in
     let first = walk_fault shell.top (names_of shell) (walk_from nothing_held) given in
@@ -300,7 +300,7 @@ faultless_asks words none =
     let after = then_none first _ none in
     let settle = settle_fault shell.top.rules shell.top.args_override_self end.held in
     let last = then_none (defaults_fault (settled shell.top.rules end.held).rows shell.top.rules) _ (then_none settle _ (then_none below _ after)) in
-    entered_asks end.stopped (walk_elsewhere shell.top (names_of shell) (walk_from nothing_held) given refl tt (first_none first _ none))
+    entered_requests end.stopped (walk_elsewhere shell.top (names_of shell) (walk_from nothing_held) given refl tt (first_none first _ none))
     (needs_one (finished shell.top.rules end.held) _ last) (first_none below _ after)
 
 -- what clap says of the faults of a command that is the program
@@ -313,10 +313,10 @@ found_by_program app words m is has = (has (ap is_simple is ∙ known)).1 ∙ ap
 
 -- so a job is found in them, and it has workers
 pub job_found : (o : Option Job) (words : List Text) (m : ArgMatches) → option_map request_of o ≡ request_in (subcommand_rows_of m) → subcommand_rows_of m ≡ subcommand_of program words
-    → fault_of program words ≡ [] → IsSomeAnd o (λ job. (request_in (subcommand_of program words) ≡ Some (request_of job)) × HasWorkers (work_of job.task))
-job_found o words m is found none = go o (is ∙ ap request_in found) (faultless_asks words none)
+    → fault_of program words ≡ [] → IsSomeAnd o (λ job. (request_in (subcommand_of program words) ≡ Some (request_of job)) × HasWorkers (requested_task job.task))
+job_found o words m is found none = go o (is ∙ ap request_in found) (faultless_requests words none)
   where
     go : (o : Option Job) → option_map request_of o ≡ request_in (subcommand_of program words) → IsSomeAnd (request_in (subcommand_of program words)) HasItsWorkers
-        → IsSomeAnd o (λ job. (request_in (subcommand_of program words) ≡ Some (request_of job)) × HasWorkers (work_of job.task))
+        → IsSomeAnd o (λ job. (request_in (subcommand_of program words) ≡ Some (request_of job)) × HasWorkers (requested_task job.task))
     go None same some = absurd (subst (λ r. IsSomeAnd r HasItsWorkers) (sym same) some)
     go (Some job) same some = (sym same, subst (λ r. IsSomeAnd r HasItsWorkers) (sym same) some)

@@ -17,16 +17,16 @@ use Rattle.clap.specs.declared.error.Error.{Error}
 use Rattle.clap.specs.declared.error.kind.ErrorKind.TheVariants as kind
 use Rattle.esr_cli.specs.Job as asked
 use Rattle.esr_cli.specs.Program.{program}
-use Rattle.esr_cli.specs.Job.{SpellsWork, IsCall, IsCount, IsFile, IsPlainWord, Request, Spells, Work, file_words, flag_words, number_in, request_in, request_of}
+use Rattle.esr_cli.specs.Job.{IsSyntaxOfTask, IsCall, IsCount, IsFile, IsPlainWord, Request, IsSyntaxOf, RequestedTask, file_words, flag_words, number_in, request_in, request_of}
 use Rattle.esr_cli.specs.declared.Job.{Job}
 use Rattle.esr_cli.specs.declared.Format.TheVariants.{Text as Plain}
 use Rattle.esr_cli.specs.declared.Progress.TheVariants.{AtATerminal}
-use Rattle.esr_cli.proofs.Entered.{IsNameOf, audit_is, audit_shape, certify_is, certify_shape, check_is, check_shape, drive_is, drive_shape, explain_is, explain_shape, explore_is, explore_shape, fault_behind, ledger_is, ledger_shape, lint_is, lint_shape, page_is, page_shape, picture_is, picture_shape, rows_behind, run_is, run_shape, why_is, why_shape}
-use Rattle.esr_cli.proofs.Leads.{IsOperand, Leads, at_end, behind_operand, fault_at, finished_well, own_fault_is, rows_are, then_operand, then_word}
+use Rattle.esr_cli.proofs.Entered.{IsNameOf, audit_is, audit_shape, certify_is, certify_shape, check_is, check_shape, drive_is, drive_shape, explain_is, explain_shape, explore_is, explore_shape, fault_of_rest, ledger_is, ledger_shape, lint_is, lint_shape, page_is, page_shape, picture_is, picture_shape, rows_of_rest, run_is, run_shape, why_is, why_shape}
+use Rattle.esr_cli.proofs.WalksTo.{IsOperand, WalksTo, at_end, after_operand, fault_at, finished_well, own_fault_is, rows_are, then_operand, then_word}
 use Rattle.esr_cli.proofs.Faultless.{number}
 
 -- what is asked for without the other options
-abbrev plainly : Work → Option Text → Bool → Request
+abbrev plainly : RequestedTask → Option Text → Bool → Request
 plainly work file bail =
     record { work = work; file = file; bail = bail; progress = AtATerminal; format = Some Plain }
 
@@ -57,15 +57,15 @@ file_operand file (inr plain) = plain_operand file plain
 
 -- where the words behind the name of a subcommand lead to this walk, have no fault and ask for this, so do the words with
 -- the name
-behind : (word : Text) (s : Shape) → IsNameOf word s → (rest : List Text) (to : Walk) (wanted : Request) → Leads s (walk_from nothing_held) rest to
+remainder : (word : Text) (s : Shape) → IsNameOf word s → (rest : List Text) (to : Walk) (wanted : Request) → WalksTo s (walk_from nothing_held) rest to
     → fault_at s to ≡ [] → request_in (Some (s.name, finished s.rules to.held)) ≡ Some wanted → AreTaken (word ∷ rest) wanted
-behind word s is rest to wanted leads none asks name = (
-  fault_behind name word s rest is ∙ own_fault_is s rest to leads ∙ none,
-  ap request_in (rows_behind name word s rest is ∙ ap (λ (p : Text × List Row). Some p) (rows_are s rest to leads)) ∙ asks,
+remainder word s is rest to wanted leads none asks name = (
+  fault_of_rest name word s rest is ∙ own_fault_is s rest to leads ∙ none,
+  ap request_in (rows_of_rest name word s rest is ∙ ap (λ (p : Text × List Row). Some p) (rows_are s rest to leads)) ∙ asks,
 )
 
 -- work of a number that is read as it stands
-counted : (ask : ℕ → Work) (text : Text) (file : Option Text) (bail : Bool) → is_unsigned_in 1 64 text ≡ true
+counted : (ask : ℕ → RequestedTask) (text : Text) (file : Option Text) (bail : Bool) → is_unsigned_in 1 64 text ≡ true
     → option_map {U = Request} (λ work. plainly work file bail) (option_map ask (number_in text))
     ≡ Some (plainly (ask (digits_value 10 (without_leading_plus text))) file bail)
 counted ask text file bail passes = rw (number text passes).0 refl
@@ -102,156 +102,156 @@ with_script text = record {
 run : (bail : Bool) (file : Option Text) → IsFile file → AreTaken (codes "run" ∷ (flag_words bail (codes "--bail") ++ file_words file)) (plainly asked.run file bail)
 unfolding clap_on_literals
 run false None plain =
-    behind (codes "run") run_shape run_is ([]) _ (plainly asked.run None false) (at_end run_shape _) refl refl
+    remainder (codes "run") run_shape run_is ([]) _ (plainly asked.run None false) (at_end run_shape _) refl refl
 run false (Some file) plain =
-    behind (codes "run") run_shape run_is (file ∷ []) _ (plainly asked.run (Some file) false) (then_operand run_shape _ _ _ _ (file_operand file plain) refl refl refl (at_end run_shape _)) refl refl
+    remainder (codes "run") run_shape run_is (file ∷ []) _ (plainly asked.run (Some file) false) (then_operand run_shape _ _ _ _ (file_operand file plain) refl refl refl (at_end run_shape _)) refl refl
 run true None plain =
-    behind (codes "run") run_shape run_is (codes "--bail" ∷ []) _ (plainly asked.run None true) (then_word run_shape _ _ _ _ _ refl refl (at_end run_shape _)) refl refl
+    remainder (codes "run") run_shape run_is (codes "--bail" ∷ []) _ (plainly asked.run None true) (then_word run_shape _ _ _ _ _ refl refl (at_end run_shape _)) refl refl
 run true (Some file) plain =
-    behind (codes "run") run_shape run_is (codes "--bail" ∷ file ∷ []) _ (plainly asked.run (Some file) true) (then_word run_shape _ _ _ _ _ refl refl (then_operand run_shape _ _ _ _ (file_operand file plain) refl refl refl (at_end run_shape _))) refl refl
+    remainder (codes "run") run_shape run_is (codes "--bail" ∷ file ∷ []) _ (plainly asked.run (Some file) true) (then_word run_shape _ _ _ _ _ refl refl (then_operand run_shape _ _ _ _ (file_operand file plain) refl refl refl (at_end run_shape _))) refl refl
 
 certify : (query : Text) (bail : Bool) (file : Option Text) → IsOperand query → IsFile file → AreTaken (codes "certify" ∷ (flag_words bail (codes "--bail") ++ (query ∷ [] ++ file_words file))) (plainly (asked.certify query false) file bail)
 unfolding clap_on_literals
 certify query false None is plain =
-    behind (codes "certify") certify_shape certify_is (query ∷ []) _ (plainly (asked.certify query false) None false) (then_operand certify_shape _ _ _ _ is refl refl refl (at_end certify_shape _)) refl refl
+    remainder (codes "certify") certify_shape certify_is (query ∷ []) _ (plainly (asked.certify query false) None false) (then_operand certify_shape _ _ _ _ is refl refl refl (at_end certify_shape _)) refl refl
 certify query false (Some file) is plain =
-    behind (codes "certify") certify_shape certify_is (query ∷ file ∷ []) _ (plainly (asked.certify query false) (Some file) false) (then_operand certify_shape _ _ _ _ is refl refl refl (then_operand certify_shape _ _ _ _ (file_operand file plain) refl refl refl (at_end certify_shape _))) refl refl
+    remainder (codes "certify") certify_shape certify_is (query ∷ file ∷ []) _ (plainly (asked.certify query false) (Some file) false) (then_operand certify_shape _ _ _ _ is refl refl refl (then_operand certify_shape _ _ _ _ (file_operand file plain) refl refl refl (at_end certify_shape _))) refl refl
 certify query true None is plain =
-    behind (codes "certify") certify_shape certify_is (codes "--bail" ∷ query ∷ []) _ (plainly (asked.certify query false) None true) (then_word certify_shape _ _ _ _ _ refl refl (then_operand certify_shape _ _ _ _ is refl refl refl (at_end certify_shape _))) refl refl
+    remainder (codes "certify") certify_shape certify_is (codes "--bail" ∷ query ∷ []) _ (plainly (asked.certify query false) None true) (then_word certify_shape _ _ _ _ _ refl refl (then_operand certify_shape _ _ _ _ is refl refl refl (at_end certify_shape _))) refl refl
 certify query true (Some file) is plain =
-    behind (codes "certify") certify_shape certify_is (codes "--bail" ∷ query ∷ file ∷ []) _ (plainly (asked.certify query false) (Some file) true) (then_word certify_shape _ _ _ _ _ refl refl (then_operand certify_shape _ _ _ _ is refl refl refl (then_operand certify_shape _ _ _ _ (file_operand file plain) refl refl refl (at_end certify_shape _)))) refl refl
+    remainder (codes "certify") certify_shape certify_is (codes "--bail" ∷ query ∷ file ∷ []) _ (plainly (asked.certify query false) (Some file) true) (then_word certify_shape _ _ _ _ _ refl refl (then_operand certify_shape _ _ _ _ is refl refl refl (then_operand certify_shape _ _ _ _ (file_operand file plain) refl refl refl (at_end certify_shape _)))) refl refl
 
 certify_steps : (query : Text) (bail : Bool) (file : Option Text) → IsOperand query → IsFile file → AreTaken (codes "certify" ∷ codes "--steps" ∷ (flag_words bail (codes "--bail") ++ (query ∷ [] ++ file_words file))) (plainly (asked.certify query true) file bail)
 unfolding clap_on_literals
 certify_steps query false None is plain =
-    behind (codes "certify") certify_shape certify_is (codes "--steps" ∷ query ∷ []) _ (plainly (asked.certify query true) None false) (then_word certify_shape _ _ _ _ _ refl refl (then_operand certify_shape _ _ _ _ is refl refl refl (at_end certify_shape _))) refl refl
+    remainder (codes "certify") certify_shape certify_is (codes "--steps" ∷ query ∷ []) _ (plainly (asked.certify query true) None false) (then_word certify_shape _ _ _ _ _ refl refl (then_operand certify_shape _ _ _ _ is refl refl refl (at_end certify_shape _))) refl refl
 certify_steps query false (Some file) is plain =
-    behind (codes "certify") certify_shape certify_is (codes "--steps" ∷ query ∷ file ∷ []) _ (plainly (asked.certify query true) (Some file) false) (then_word certify_shape _ _ _ _ _ refl refl (then_operand certify_shape _ _ _ _ is refl refl refl (then_operand certify_shape _ _ _ _ (file_operand file plain) refl refl refl (at_end certify_shape _)))) refl refl
+    remainder (codes "certify") certify_shape certify_is (codes "--steps" ∷ query ∷ file ∷ []) _ (plainly (asked.certify query true) (Some file) false) (then_word certify_shape _ _ _ _ _ refl refl (then_operand certify_shape _ _ _ _ is refl refl refl (then_operand certify_shape _ _ _ _ (file_operand file plain) refl refl refl (at_end certify_shape _)))) refl refl
 certify_steps query true None is plain =
-    behind (codes "certify") certify_shape certify_is (codes "--steps" ∷ codes "--bail" ∷ query ∷ []) _ (plainly (asked.certify query true) None true) (then_word certify_shape _ _ _ _ _ refl refl (then_word certify_shape _ _ _ _ _ refl refl (then_operand certify_shape _ _ _ _ is refl refl refl (at_end certify_shape _)))) refl refl
+    remainder (codes "certify") certify_shape certify_is (codes "--steps" ∷ codes "--bail" ∷ query ∷ []) _ (plainly (asked.certify query true) None true) (then_word certify_shape _ _ _ _ _ refl refl (then_word certify_shape _ _ _ _ _ refl refl (then_operand certify_shape _ _ _ _ is refl refl refl (at_end certify_shape _)))) refl refl
 certify_steps query true (Some file) is plain =
-    behind (codes "certify") certify_shape certify_is (codes "--steps" ∷ codes "--bail" ∷ query ∷ file ∷ []) _ (plainly (asked.certify query true) (Some file) true) (then_word certify_shape _ _ _ _ _ refl refl (then_word certify_shape _ _ _ _ _ refl refl (then_operand certify_shape _ _ _ _ is refl refl refl (then_operand certify_shape _ _ _ _ (file_operand file plain) refl refl refl (at_end certify_shape _))))) refl refl
+    remainder (codes "certify") certify_shape certify_is (codes "--steps" ∷ codes "--bail" ∷ query ∷ file ∷ []) _ (plainly (asked.certify query true) (Some file) true) (then_word certify_shape _ _ _ _ _ refl refl (then_word certify_shape _ _ _ _ _ refl refl (then_operand certify_shape _ _ _ _ is refl refl refl (then_operand certify_shape _ _ _ _ (file_operand file plain) refl refl refl (at_end certify_shape _))))) refl refl
 
 check : (file : Option Text) → IsFile file → AreTaken (codes "check" ∷ file_words file) (plainly (asked.check None None false) file false)
 unfolding clap_on_literals
 check None plain =
-    behind (codes "check") check_shape check_is ([]) _ (plainly (asked.check None None false) None false) (at_end check_shape _) refl refl
+    remainder (codes "check") check_shape check_is ([]) _ (plainly (asked.check None None false) None false) (at_end check_shape _) refl refl
 check (Some file) plain =
-    behind (codes "check") check_shape check_is (file ∷ []) _ (plainly (asked.check None None false) (Some file) false) (then_operand check_shape _ _ _ _ (file_operand file plain) refl refl refl (at_end check_shape _)) refl refl
+    remainder (codes "check") check_shape check_is (file ∷ []) _ (plainly (asked.check None None false) (Some file) false) (then_operand check_shape _ _ _ _ (file_operand file plain) refl refl refl (at_end check_shape _)) refl refl
 
 explain : (query : Text) (bail : Bool) (file : Option Text) → IsOperand query → IsFile file → AreTaken (codes "explain" ∷ (flag_words bail (codes "--bail") ++ (query ∷ [] ++ file_words file))) (plainly (asked.explain query false) file bail)
 unfolding clap_on_literals
 explain query false None is plain =
-    behind (codes "explain") explain_shape explain_is (query ∷ []) _ (plainly (asked.explain query false) None false) (then_operand explain_shape _ _ _ _ is refl refl refl (at_end explain_shape _)) refl refl
+    remainder (codes "explain") explain_shape explain_is (query ∷ []) _ (plainly (asked.explain query false) None false) (then_operand explain_shape _ _ _ _ is refl refl refl (at_end explain_shape _)) refl refl
 explain query false (Some file) is plain =
-    behind (codes "explain") explain_shape explain_is (query ∷ file ∷ []) _ (plainly (asked.explain query false) (Some file) false) (then_operand explain_shape _ _ _ _ is refl refl refl (then_operand explain_shape _ _ _ _ (file_operand file plain) refl refl refl (at_end explain_shape _))) refl refl
+    remainder (codes "explain") explain_shape explain_is (query ∷ file ∷ []) _ (plainly (asked.explain query false) (Some file) false) (then_operand explain_shape _ _ _ _ is refl refl refl (then_operand explain_shape _ _ _ _ (file_operand file plain) refl refl refl (at_end explain_shape _))) refl refl
 explain query true None is plain =
-    behind (codes "explain") explain_shape explain_is (codes "--bail" ∷ query ∷ []) _ (plainly (asked.explain query false) None true) (then_word explain_shape _ _ _ _ _ refl refl (then_operand explain_shape _ _ _ _ is refl refl refl (at_end explain_shape _))) refl refl
+    remainder (codes "explain") explain_shape explain_is (codes "--bail" ∷ query ∷ []) _ (plainly (asked.explain query false) None true) (then_word explain_shape _ _ _ _ _ refl refl (then_operand explain_shape _ _ _ _ is refl refl refl (at_end explain_shape _))) refl refl
 explain query true (Some file) is plain =
-    behind (codes "explain") explain_shape explain_is (codes "--bail" ∷ query ∷ file ∷ []) _ (plainly (asked.explain query false) (Some file) true) (then_word explain_shape _ _ _ _ _ refl refl (then_operand explain_shape _ _ _ _ is refl refl refl (then_operand explain_shape _ _ _ _ (file_operand file plain) refl refl refl (at_end explain_shape _)))) refl refl
+    remainder (codes "explain") explain_shape explain_is (codes "--bail" ∷ query ∷ file ∷ []) _ (plainly (asked.explain query false) (Some file) true) (then_word explain_shape _ _ _ _ _ refl refl (then_operand explain_shape _ _ _ _ is refl refl refl (then_operand explain_shape _ _ _ _ (file_operand file plain) refl refl refl (at_end explain_shape _)))) refl refl
 
 explain_prose : (query : Text) (bail : Bool) (file : Option Text) → IsOperand query → IsFile file → AreTaken (codes "explain" ∷ codes "--prose" ∷ (flag_words bail (codes "--bail") ++ (query ∷ [] ++ file_words file))) (plainly (asked.explain query true) file bail)
 unfolding clap_on_literals
 explain_prose query false None is plain =
-    behind (codes "explain") explain_shape explain_is (codes "--prose" ∷ query ∷ []) _ (plainly (asked.explain query true) None false) (then_word explain_shape _ _ _ _ _ refl refl (then_operand explain_shape _ _ _ _ is refl refl refl (at_end explain_shape _))) refl refl
+    remainder (codes "explain") explain_shape explain_is (codes "--prose" ∷ query ∷ []) _ (plainly (asked.explain query true) None false) (then_word explain_shape _ _ _ _ _ refl refl (then_operand explain_shape _ _ _ _ is refl refl refl (at_end explain_shape _))) refl refl
 explain_prose query false (Some file) is plain =
-    behind (codes "explain") explain_shape explain_is (codes "--prose" ∷ query ∷ file ∷ []) _ (plainly (asked.explain query true) (Some file) false) (then_word explain_shape _ _ _ _ _ refl refl (then_operand explain_shape _ _ _ _ is refl refl refl (then_operand explain_shape _ _ _ _ (file_operand file plain) refl refl refl (at_end explain_shape _)))) refl refl
+    remainder (codes "explain") explain_shape explain_is (codes "--prose" ∷ query ∷ file ∷ []) _ (plainly (asked.explain query true) (Some file) false) (then_word explain_shape _ _ _ _ _ refl refl (then_operand explain_shape _ _ _ _ is refl refl refl (then_operand explain_shape _ _ _ _ (file_operand file plain) refl refl refl (at_end explain_shape _)))) refl refl
 explain_prose query true None is plain =
-    behind (codes "explain") explain_shape explain_is (codes "--prose" ∷ codes "--bail" ∷ query ∷ []) _ (plainly (asked.explain query true) None true) (then_word explain_shape _ _ _ _ _ refl refl (then_word explain_shape _ _ _ _ _ refl refl (then_operand explain_shape _ _ _ _ is refl refl refl (at_end explain_shape _)))) refl refl
+    remainder (codes "explain") explain_shape explain_is (codes "--prose" ∷ codes "--bail" ∷ query ∷ []) _ (plainly (asked.explain query true) None true) (then_word explain_shape _ _ _ _ _ refl refl (then_word explain_shape _ _ _ _ _ refl refl (then_operand explain_shape _ _ _ _ is refl refl refl (at_end explain_shape _)))) refl refl
 explain_prose query true (Some file) is plain =
-    behind (codes "explain") explain_shape explain_is (codes "--prose" ∷ codes "--bail" ∷ query ∷ file ∷ []) _ (plainly (asked.explain query true) (Some file) true) (then_word explain_shape _ _ _ _ _ refl refl (then_word explain_shape _ _ _ _ _ refl refl (then_operand explain_shape _ _ _ _ is refl refl refl (then_operand explain_shape _ _ _ _ (file_operand file plain) refl refl refl (at_end explain_shape _))))) refl refl
+    remainder (codes "explain") explain_shape explain_is (codes "--prose" ∷ codes "--bail" ∷ query ∷ file ∷ []) _ (plainly (asked.explain query true) (Some file) true) (then_word explain_shape _ _ _ _ _ refl refl (then_word explain_shape _ _ _ _ _ refl refl (then_operand explain_shape _ _ _ _ is refl refl refl (then_operand explain_shape _ _ _ _ (file_operand file plain) refl refl refl (at_end explain_shape _))))) refl refl
 
 picture : (query : Text) (bail : Bool) (file : Option Text) → IsOperand query → IsFile file → AreTaken (codes "picture" ∷ (flag_words bail (codes "--bail") ++ (query ∷ [] ++ file_words file))) (plainly (asked.picture query) file bail)
 unfolding clap_on_literals
 picture query false None is plain =
-    behind (codes "picture") picture_shape picture_is (query ∷ []) _ (plainly (asked.picture query) None false) (then_operand picture_shape _ _ _ _ is refl refl refl (at_end picture_shape _)) refl refl
+    remainder (codes "picture") picture_shape picture_is (query ∷ []) _ (plainly (asked.picture query) None false) (then_operand picture_shape _ _ _ _ is refl refl refl (at_end picture_shape _)) refl refl
 picture query false (Some file) is plain =
-    behind (codes "picture") picture_shape picture_is (query ∷ file ∷ []) _ (plainly (asked.picture query) (Some file) false) (then_operand picture_shape _ _ _ _ is refl refl refl (then_operand picture_shape _ _ _ _ (file_operand file plain) refl refl refl (at_end picture_shape _))) refl refl
+    remainder (codes "picture") picture_shape picture_is (query ∷ file ∷ []) _ (plainly (asked.picture query) (Some file) false) (then_operand picture_shape _ _ _ _ is refl refl refl (then_operand picture_shape _ _ _ _ (file_operand file plain) refl refl refl (at_end picture_shape _))) refl refl
 picture query true None is plain =
-    behind (codes "picture") picture_shape picture_is (codes "--bail" ∷ query ∷ []) _ (plainly (asked.picture query) None true) (then_word picture_shape _ _ _ _ _ refl refl (then_operand picture_shape _ _ _ _ is refl refl refl (at_end picture_shape _))) refl refl
+    remainder (codes "picture") picture_shape picture_is (codes "--bail" ∷ query ∷ []) _ (plainly (asked.picture query) None true) (then_word picture_shape _ _ _ _ _ refl refl (then_operand picture_shape _ _ _ _ is refl refl refl (at_end picture_shape _))) refl refl
 picture query true (Some file) is plain =
-    behind (codes "picture") picture_shape picture_is (codes "--bail" ∷ query ∷ file ∷ []) _ (plainly (asked.picture query) (Some file) true) (then_word picture_shape _ _ _ _ _ refl refl (then_operand picture_shape _ _ _ _ is refl refl refl (then_operand picture_shape _ _ _ _ (file_operand file plain) refl refl refl (at_end picture_shape _)))) refl refl
+    remainder (codes "picture") picture_shape picture_is (codes "--bail" ∷ query ∷ file ∷ []) _ (plainly (asked.picture query) (Some file) true) (then_word picture_shape _ _ _ _ _ refl refl (then_operand picture_shape _ _ _ _ is refl refl refl (then_operand picture_shape _ _ _ _ (file_operand file plain) refl refl refl (at_end picture_shape _)))) refl refl
 
 page : (bail : Bool) (file : Option Text) → IsFile file → AreTaken (codes "page" ∷ (flag_words bail (codes "--bail") ++ file_words file)) (plainly (asked.page 10) file bail)
 unfolding clap_on_literals
 page false None plain =
-    behind (codes "page") page_shape page_is ([]) _ (plainly (asked.page 10) None false) (at_end page_shape _) refl refl
+    remainder (codes "page") page_shape page_is ([]) _ (plainly (asked.page 10) None false) (at_end page_shape _) refl refl
 page false (Some file) plain =
-    behind (codes "page") page_shape page_is (file ∷ []) _ (plainly (asked.page 10) (Some file) false) (then_operand page_shape _ _ _ _ (file_operand file plain) refl refl refl (at_end page_shape _)) refl refl
+    remainder (codes "page") page_shape page_is (file ∷ []) _ (plainly (asked.page 10) (Some file) false) (then_operand page_shape _ _ _ _ (file_operand file plain) refl refl refl (at_end page_shape _)) refl refl
 page true None plain =
-    behind (codes "page") page_shape page_is (codes "--bail" ∷ []) _ (plainly (asked.page 10) None true) (then_word page_shape _ _ _ _ _ refl refl (at_end page_shape _)) refl refl
+    remainder (codes "page") page_shape page_is (codes "--bail" ∷ []) _ (plainly (asked.page 10) None true) (then_word page_shape _ _ _ _ _ refl refl (at_end page_shape _)) refl refl
 page true (Some file) plain =
-    behind (codes "page") page_shape page_is (codes "--bail" ∷ file ∷ []) _ (plainly (asked.page 10) (Some file) true) (then_word page_shape _ _ _ _ _ refl refl (then_operand page_shape _ _ _ _ (file_operand file plain) refl refl refl (at_end page_shape _))) refl refl
+    remainder (codes "page") page_shape page_is (codes "--bail" ∷ file ∷ []) _ (plainly (asked.page 10) (Some file) true) (then_word page_shape _ _ _ _ _ refl refl (then_operand page_shape _ _ _ _ (file_operand file plain) refl refl refl (at_end page_shape _))) refl refl
 
 page_counted : (text : Text) (bail : Bool) (file : Option Text) → IsOperand text → is_unsigned_in 1 64 text ≡ true → IsFile file → AreTaken (codes "page" ∷ codes "--worst" ∷ text ∷ (flag_words bail (codes "--bail") ++ file_words file)) (plainly (asked.page (digits_value 10 (without_leading_plus text))) file bail)
 unfolding clap_on_literals
 page_counted text false None is passes plain =
-    behind (codes "page") page_shape page_is (codes "--worst" ∷ text ∷ []) (behind_operand page_shape.rules (walked page_shape.rules [] (walk_from nothing_held) (codes "--worst")) text) (plainly (asked.page (digits_value 10 (without_leading_plus text))) None false) (then_word page_shape _ _ _ _ _ refl refl (then_operand page_shape _ _ _ _ is refl refl refl (at_end page_shape _))) (finished_well page_shape (behind_operand page_shape.rules (walked page_shape.rules [] (walk_from nothing_held) (codes "--worst")) text) (rw passes refl) refl) (counted asked.page text None false passes)
+    remainder (codes "page") page_shape page_is (codes "--worst" ∷ text ∷ []) (after_operand page_shape.rules (walked page_shape.rules [] (walk_from nothing_held) (codes "--worst")) text) (plainly (asked.page (digits_value 10 (without_leading_plus text))) None false) (then_word page_shape _ _ _ _ _ refl refl (then_operand page_shape _ _ _ _ is refl refl refl (at_end page_shape _))) (finished_well page_shape (after_operand page_shape.rules (walked page_shape.rules [] (walk_from nothing_held) (codes "--worst")) text) (rw passes refl) refl) (counted asked.page text None false passes)
 page_counted text false (Some file) is passes plain =
-    behind (codes "page") page_shape page_is (codes "--worst" ∷ text ∷ file ∷ []) (behind_operand page_shape.rules (behind_operand page_shape.rules (walked page_shape.rules [] (walk_from nothing_held) (codes "--worst")) text) file) (plainly (asked.page (digits_value 10 (without_leading_plus text))) (Some file) false) (then_word page_shape _ _ _ _ _ refl refl (then_operand page_shape _ _ _ _ is refl refl refl (then_operand page_shape _ _ _ _ (file_operand file plain) refl refl (rw passes refl) (at_end page_shape _)))) refl (counted asked.page text (Some file) false passes)
+    remainder (codes "page") page_shape page_is (codes "--worst" ∷ text ∷ file ∷ []) (after_operand page_shape.rules (after_operand page_shape.rules (walked page_shape.rules [] (walk_from nothing_held) (codes "--worst")) text) file) (plainly (asked.page (digits_value 10 (without_leading_plus text))) (Some file) false) (then_word page_shape _ _ _ _ _ refl refl (then_operand page_shape _ _ _ _ is refl refl refl (then_operand page_shape _ _ _ _ (file_operand file plain) refl refl (rw passes refl) (at_end page_shape _)))) refl (counted asked.page text (Some file) false passes)
 page_counted text true None is passes plain =
-    behind (codes "page") page_shape page_is (codes "--worst" ∷ text ∷ codes "--bail" ∷ []) (walked page_shape.rules [] (behind_operand page_shape.rules (walked page_shape.rules [] (walk_from nothing_held) (codes "--worst")) text) (codes "--bail")) (plainly (asked.page (digits_value 10 (without_leading_plus text))) None true) (then_word page_shape _ _ _ _ _ refl refl (then_operand page_shape _ _ _ _ is refl refl refl (then_word page_shape _ _ _ _ _ refl (rw passes refl) (at_end page_shape _)))) refl (counted asked.page text None true passes)
+    remainder (codes "page") page_shape page_is (codes "--worst" ∷ text ∷ codes "--bail" ∷ []) (walked page_shape.rules [] (after_operand page_shape.rules (walked page_shape.rules [] (walk_from nothing_held) (codes "--worst")) text) (codes "--bail")) (plainly (asked.page (digits_value 10 (without_leading_plus text))) None true) (then_word page_shape _ _ _ _ _ refl refl (then_operand page_shape _ _ _ _ is refl refl refl (then_word page_shape _ _ _ _ _ refl (rw passes refl) (at_end page_shape _)))) refl (counted asked.page text None true passes)
 page_counted text true (Some file) is passes plain =
-    behind (codes "page") page_shape page_is (codes "--worst" ∷ text ∷ codes "--bail" ∷ file ∷ []) (behind_operand page_shape.rules (with_bail page_shape (codes "worst") text) file) (plainly (asked.page (digits_value 10 (without_leading_plus text))) (Some file) true)
-    (then_word page_shape _ _ (behind_operand page_shape.rules (with_bail page_shape (codes "worst") text) file) _ _ refl refl (then_operand page_shape _ (behind_operand page_shape.rules (with_bail page_shape (codes "worst") text) file) _ _ is refl refl refl
-    (then_word page_shape (with_number (codes "worst") text) (with_bail page_shape (codes "worst") text) (behind_operand page_shape.rules (with_bail page_shape (codes "worst") text) file) _ _ refl (rw passes refl) (then_operand page_shape (with_bail page_shape (codes "worst") text) (behind_operand page_shape.rules (with_bail page_shape (codes "worst") text) file) _ _ (file_operand file plain) refl refl refl (at_end page_shape (behind_operand page_shape.rules (with_bail page_shape (codes "worst") text) file)))))) refl (counted asked.page text (Some file) true passes)
+    remainder (codes "page") page_shape page_is (codes "--worst" ∷ text ∷ codes "--bail" ∷ file ∷ []) (after_operand page_shape.rules (with_bail page_shape (codes "worst") text) file) (plainly (asked.page (digits_value 10 (without_leading_plus text))) (Some file) true)
+    (then_word page_shape _ _ (after_operand page_shape.rules (with_bail page_shape (codes "worst") text) file) _ _ refl refl (then_operand page_shape _ (after_operand page_shape.rules (with_bail page_shape (codes "worst") text) file) _ _ is refl refl refl
+    (then_word page_shape (with_number (codes "worst") text) (with_bail page_shape (codes "worst") text) (after_operand page_shape.rules (with_bail page_shape (codes "worst") text) file) _ _ refl (rw passes refl) (then_operand page_shape (with_bail page_shape (codes "worst") text) (after_operand page_shape.rules (with_bail page_shape (codes "worst") text) file) _ _ (file_operand file plain) refl refl refl (at_end page_shape (after_operand page_shape.rules (with_bail page_shape (codes "worst") text) file)))))) refl (counted asked.page text (Some file) true passes)
 
 ledger : (bail : Bool) (file : Option Text) → IsFile file → AreTaken (codes "ledger" ∷ (flag_words bail (codes "--bail") ++ file_words file)) (plainly asked.ledger file bail)
 unfolding clap_on_literals
 ledger false None plain =
-    behind (codes "ledger") ledger_shape ledger_is ([]) _ (plainly asked.ledger None false) (at_end ledger_shape _) refl refl
+    remainder (codes "ledger") ledger_shape ledger_is ([]) _ (plainly asked.ledger None false) (at_end ledger_shape _) refl refl
 ledger false (Some file) plain =
-    behind (codes "ledger") ledger_shape ledger_is (file ∷ []) _ (plainly asked.ledger (Some file) false) (then_operand ledger_shape _ _ _ _ (file_operand file plain) refl refl refl (at_end ledger_shape _)) refl refl
+    remainder (codes "ledger") ledger_shape ledger_is (file ∷ []) _ (plainly asked.ledger (Some file) false) (then_operand ledger_shape _ _ _ _ (file_operand file plain) refl refl refl (at_end ledger_shape _)) refl refl
 ledger true None plain =
-    behind (codes "ledger") ledger_shape ledger_is (codes "--bail" ∷ []) _ (plainly asked.ledger None true) (then_word ledger_shape _ _ _ _ _ refl refl (at_end ledger_shape _)) refl refl
+    remainder (codes "ledger") ledger_shape ledger_is (codes "--bail" ∷ []) _ (plainly asked.ledger None true) (then_word ledger_shape _ _ _ _ _ refl refl (at_end ledger_shape _)) refl refl
 ledger true (Some file) plain =
-    behind (codes "ledger") ledger_shape ledger_is (codes "--bail" ∷ file ∷ []) _ (plainly asked.ledger (Some file) true) (then_word ledger_shape _ _ _ _ _ refl refl (then_operand ledger_shape _ _ _ _ (file_operand file plain) refl refl refl (at_end ledger_shape _))) refl refl
+    remainder (codes "ledger") ledger_shape ledger_is (codes "--bail" ∷ file ∷ []) _ (plainly asked.ledger (Some file) true) (then_word ledger_shape _ _ _ _ _ refl refl (then_operand ledger_shape _ _ _ _ (file_operand file plain) refl refl refl (at_end ledger_shape _))) refl refl
 
 why : (bail : Bool) (file : Option Text) → IsFile file → AreTaken (codes "why" ∷ (flag_words bail (codes "--bail") ++ file_words file)) (plainly (asked.why None) file bail)
 unfolding clap_on_literals
 why false None plain =
-    behind (codes "why") why_shape why_is ([]) _ (plainly (asked.why None) None false) (at_end why_shape _) refl refl
+    remainder (codes "why") why_shape why_is ([]) _ (plainly (asked.why None) None false) (at_end why_shape _) refl refl
 why false (Some file) plain =
-    behind (codes "why") why_shape why_is (file ∷ []) _ (plainly (asked.why None) (Some file) false) (then_operand why_shape _ _ _ _ (file_operand file plain) refl refl refl (at_end why_shape _)) refl refl
+    remainder (codes "why") why_shape why_is (file ∷ []) _ (plainly (asked.why None) (Some file) false) (then_operand why_shape _ _ _ _ (file_operand file plain) refl refl refl (at_end why_shape _)) refl refl
 why true None plain =
-    behind (codes "why") why_shape why_is (codes "--bail" ∷ []) _ (plainly (asked.why None) None true) (then_word why_shape _ _ _ _ _ refl refl (at_end why_shape _)) refl refl
+    remainder (codes "why") why_shape why_is (codes "--bail" ∷ []) _ (plainly (asked.why None) None true) (then_word why_shape _ _ _ _ _ refl refl (at_end why_shape _)) refl refl
 why true (Some file) plain =
-    behind (codes "why") why_shape why_is (codes "--bail" ∷ file ∷ []) _ (plainly (asked.why None) (Some file) true) (then_word why_shape _ _ _ _ _ refl refl (then_operand why_shape _ _ _ _ (file_operand file plain) refl refl refl (at_end why_shape _))) refl refl
+    remainder (codes "why") why_shape why_is (codes "--bail" ∷ file ∷ []) _ (plainly (asked.why None) (Some file) true) (then_word why_shape _ _ _ _ _ refl refl (then_operand why_shape _ _ _ _ (file_operand file plain) refl refl refl (at_end why_shape _))) refl refl
 
 audit : (bail : Bool) (file : Option Text) → IsFile file → AreTaken (codes "audit" ∷ (flag_words bail (codes "--bail") ++ file_words file)) (plainly (asked.audit 4) file bail)
 unfolding clap_on_literals
 audit false None plain =
-    behind (codes "audit") audit_shape audit_is ([]) _ (plainly (asked.audit 4) None false) (at_end audit_shape _) refl refl
+    remainder (codes "audit") audit_shape audit_is ([]) _ (plainly (asked.audit 4) None false) (at_end audit_shape _) refl refl
 audit false (Some file) plain =
-    behind (codes "audit") audit_shape audit_is (file ∷ []) _ (plainly (asked.audit 4) (Some file) false) (then_operand audit_shape _ _ _ _ (file_operand file plain) refl refl refl (at_end audit_shape _)) refl refl
+    remainder (codes "audit") audit_shape audit_is (file ∷ []) _ (plainly (asked.audit 4) (Some file) false) (then_operand audit_shape _ _ _ _ (file_operand file plain) refl refl refl (at_end audit_shape _)) refl refl
 audit true None plain =
-    behind (codes "audit") audit_shape audit_is (codes "--bail" ∷ []) _ (plainly (asked.audit 4) None true) (then_word audit_shape _ _ _ _ _ refl refl (at_end audit_shape _)) refl refl
+    remainder (codes "audit") audit_shape audit_is (codes "--bail" ∷ []) _ (plainly (asked.audit 4) None true) (then_word audit_shape _ _ _ _ _ refl refl (at_end audit_shape _)) refl refl
 audit true (Some file) plain =
-    behind (codes "audit") audit_shape audit_is (codes "--bail" ∷ file ∷ []) _ (plainly (asked.audit 4) (Some file) true) (then_word audit_shape _ _ _ _ _ refl refl (then_operand audit_shape _ _ _ _ (file_operand file plain) refl refl refl (at_end audit_shape _))) refl refl
+    remainder (codes "audit") audit_shape audit_is (codes "--bail" ∷ file ∷ []) _ (plainly (asked.audit 4) (Some file) true) (then_word audit_shape _ _ _ _ _ refl refl (then_operand audit_shape _ _ _ _ (file_operand file plain) refl refl refl (at_end audit_shape _))) refl refl
 
 audit_counted : (text : Text) (bail : Bool) (file : Option Text) → IsOperand text → is_unsigned_in 1 64 text ≡ true → IsFile file → AreTaken (codes "audit" ∷ codes "--workers" ∷ text ∷ (flag_words bail (codes "--bail") ++ file_words file)) (plainly (asked.audit (digits_value 10 (without_leading_plus text))) file bail)
 unfolding clap_on_literals
 audit_counted text false None is passes plain =
-    behind (codes "audit") audit_shape audit_is (codes "--workers" ∷ text ∷ []) (behind_operand audit_shape.rules (walked audit_shape.rules [] (walk_from nothing_held) (codes "--workers")) text) (plainly (asked.audit (digits_value 10 (without_leading_plus text))) None false) (then_word audit_shape _ _ _ _ _ refl refl (then_operand audit_shape _ _ _ _ is refl refl refl (at_end audit_shape _))) (finished_well audit_shape (behind_operand audit_shape.rules (walked audit_shape.rules [] (walk_from nothing_held) (codes "--workers")) text) (rw passes refl) refl) (counted asked.audit text None false passes)
+    remainder (codes "audit") audit_shape audit_is (codes "--workers" ∷ text ∷ []) (after_operand audit_shape.rules (walked audit_shape.rules [] (walk_from nothing_held) (codes "--workers")) text) (plainly (asked.audit (digits_value 10 (without_leading_plus text))) None false) (then_word audit_shape _ _ _ _ _ refl refl (then_operand audit_shape _ _ _ _ is refl refl refl (at_end audit_shape _))) (finished_well audit_shape (after_operand audit_shape.rules (walked audit_shape.rules [] (walk_from nothing_held) (codes "--workers")) text) (rw passes refl) refl) (counted asked.audit text None false passes)
 audit_counted text false (Some file) is passes plain =
-    behind (codes "audit") audit_shape audit_is (codes "--workers" ∷ text ∷ file ∷ []) (behind_operand audit_shape.rules (behind_operand audit_shape.rules (walked audit_shape.rules [] (walk_from nothing_held) (codes "--workers")) text) file) (plainly (asked.audit (digits_value 10 (without_leading_plus text))) (Some file) false) (then_word audit_shape _ _ _ _ _ refl refl (then_operand audit_shape _ _ _ _ is refl refl refl (then_operand audit_shape _ _ _ _ (file_operand file plain) refl refl (rw passes refl) (at_end audit_shape _)))) refl (counted asked.audit text (Some file) false passes)
+    remainder (codes "audit") audit_shape audit_is (codes "--workers" ∷ text ∷ file ∷ []) (after_operand audit_shape.rules (after_operand audit_shape.rules (walked audit_shape.rules [] (walk_from nothing_held) (codes "--workers")) text) file) (plainly (asked.audit (digits_value 10 (without_leading_plus text))) (Some file) false) (then_word audit_shape _ _ _ _ _ refl refl (then_operand audit_shape _ _ _ _ is refl refl refl (then_operand audit_shape _ _ _ _ (file_operand file plain) refl refl (rw passes refl) (at_end audit_shape _)))) refl (counted asked.audit text (Some file) false passes)
 audit_counted text true None is passes plain =
-    behind (codes "audit") audit_shape audit_is (codes "--workers" ∷ text ∷ codes "--bail" ∷ []) (walked audit_shape.rules [] (behind_operand audit_shape.rules (walked audit_shape.rules [] (walk_from nothing_held) (codes "--workers")) text) (codes "--bail")) (plainly (asked.audit (digits_value 10 (without_leading_plus text))) None true) (then_word audit_shape _ _ _ _ _ refl refl (then_operand audit_shape _ _ _ _ is refl refl refl (then_word audit_shape _ _ _ _ _ refl (rw passes refl) (at_end audit_shape _)))) refl (counted asked.audit text None true passes)
+    remainder (codes "audit") audit_shape audit_is (codes "--workers" ∷ text ∷ codes "--bail" ∷ []) (walked audit_shape.rules [] (after_operand audit_shape.rules (walked audit_shape.rules [] (walk_from nothing_held) (codes "--workers")) text) (codes "--bail")) (plainly (asked.audit (digits_value 10 (without_leading_plus text))) None true) (then_word audit_shape _ _ _ _ _ refl refl (then_operand audit_shape _ _ _ _ is refl refl refl (then_word audit_shape _ _ _ _ _ refl (rw passes refl) (at_end audit_shape _)))) refl (counted asked.audit text None true passes)
 audit_counted text true (Some file) is passes plain =
-    behind (codes "audit") audit_shape audit_is (codes "--workers" ∷ text ∷ codes "--bail" ∷ file ∷ []) (behind_operand audit_shape.rules (with_bail audit_shape (codes "workers") text) file) (plainly (asked.audit (digits_value 10 (without_leading_plus text))) (Some file) true)
-    (then_word audit_shape _ _ (behind_operand audit_shape.rules (with_bail audit_shape (codes "workers") text) file) _ _ refl refl (then_operand audit_shape _ (behind_operand audit_shape.rules (with_bail audit_shape (codes "workers") text) file) _ _ is refl refl refl
-    (then_word audit_shape (with_number (codes "workers") text) (with_bail audit_shape (codes "workers") text) (behind_operand audit_shape.rules (with_bail audit_shape (codes "workers") text) file) _ _ refl (rw passes refl) (then_operand audit_shape (with_bail audit_shape (codes "workers") text) (behind_operand audit_shape.rules (with_bail audit_shape (codes "workers") text) file) _ _ (file_operand file plain) refl refl refl (at_end audit_shape (behind_operand audit_shape.rules (with_bail audit_shape (codes "workers") text) file)))))) refl (counted asked.audit text (Some file) true passes)
+    remainder (codes "audit") audit_shape audit_is (codes "--workers" ∷ text ∷ codes "--bail" ∷ file ∷ []) (after_operand audit_shape.rules (with_bail audit_shape (codes "workers") text) file) (plainly (asked.audit (digits_value 10 (without_leading_plus text))) (Some file) true)
+    (then_word audit_shape _ _ (after_operand audit_shape.rules (with_bail audit_shape (codes "workers") text) file) _ _ refl refl (then_operand audit_shape _ (after_operand audit_shape.rules (with_bail audit_shape (codes "workers") text) file) _ _ is refl refl refl
+    (then_word audit_shape (with_number (codes "workers") text) (with_bail audit_shape (codes "workers") text) (after_operand audit_shape.rules (with_bail audit_shape (codes "workers") text) file) _ _ refl (rw passes refl) (then_operand audit_shape (with_bail audit_shape (codes "workers") text) (after_operand audit_shape.rules (with_bail audit_shape (codes "workers") text) file) _ _ (file_operand file plain) refl refl refl (at_end audit_shape (after_operand audit_shape.rules (with_bail audit_shape (codes "workers") text) file)))))) refl (counted asked.audit text (Some file) true passes)
 
 drive : (script : Bool) (file : Option Text) → IsFile file → AreTaken (codes "drive" ∷ (flag_words script (codes "--as-script") ++ file_words file)) (plainly (asked.drive 4 script) file false)
 unfolding clap_on_literals
 drive false None plain =
-    behind (codes "drive") drive_shape drive_is ([]) _ (plainly (asked.drive 4 false) None false) (at_end drive_shape _) refl refl
+    remainder (codes "drive") drive_shape drive_is ([]) _ (plainly (asked.drive 4 false) None false) (at_end drive_shape _) refl refl
 drive false (Some file) plain =
-    behind (codes "drive") drive_shape drive_is (file ∷ []) _ (plainly (asked.drive 4 false) (Some file) false) (then_operand drive_shape _ _ _ _ (file_operand file plain) refl refl refl (at_end drive_shape _)) refl refl
+    remainder (codes "drive") drive_shape drive_is (file ∷ []) _ (plainly (asked.drive 4 false) (Some file) false) (then_operand drive_shape _ _ _ _ (file_operand file plain) refl refl refl (at_end drive_shape _)) refl refl
 drive true None plain =
-    behind (codes "drive") drive_shape drive_is (codes "--as-script" ∷ []) _ (plainly (asked.drive 4 true) None false) (then_word drive_shape _ _ _ _ _ refl refl (at_end drive_shape _)) refl refl
+    remainder (codes "drive") drive_shape drive_is (codes "--as-script" ∷ []) _ (plainly (asked.drive 4 true) None false) (then_word drive_shape _ _ _ _ _ refl refl (at_end drive_shape _)) refl refl
 drive true (Some file) plain =
-    behind (codes "drive") drive_shape drive_is (codes "--as-script" ∷ file ∷ []) _ (plainly (asked.drive 4 true) (Some file) false) (then_word drive_shape _ _ _ _ _ refl refl (then_operand drive_shape _ _ _ _ (file_operand file plain) refl refl refl (at_end drive_shape _))) refl refl
+    remainder (codes "drive") drive_shape drive_is (codes "--as-script" ∷ file ∷ []) _ (plainly (asked.drive 4 true) (Some file) false) (then_word drive_shape _ _ _ _ _ refl refl (then_operand drive_shape _ _ _ _ (file_operand file plain) refl refl refl (at_end drive_shape _))) refl refl
 
 -- work of a number of workers, written as a script or not
 counted_drive : (script : Bool) (text : Text) (file : Option Text) → is_unsigned_in 1 64 text ≡ true
@@ -262,31 +262,31 @@ counted_drive script text file passes = rw (number text passes).0 refl
 drive_counted : (script : Bool) (text : Text) (file : Option Text) → IsOperand text → is_unsigned_in 1 64 text ≡ true → IsFile file → AreTaken (codes "drive" ∷ codes "--workers" ∷ text ∷ (flag_words script (codes "--as-script") ++ file_words file)) (plainly (asked.drive (digits_value 10 (without_leading_plus text)) script) file false)
 unfolding clap_on_literals
 drive_counted false text None is passes plain =
-    behind (codes "drive") drive_shape drive_is (codes "--workers" ∷ text ∷ []) (behind_operand drive_shape.rules (walked drive_shape.rules [] (walk_from nothing_held) (codes "--workers")) text) (plainly (asked.drive (digits_value 10 (without_leading_plus text)) false) None false) (then_word drive_shape _ _ _ _ _ refl refl (then_operand drive_shape _ _ _ _ is refl refl refl (at_end drive_shape _))) (finished_well drive_shape (behind_operand drive_shape.rules (walked drive_shape.rules [] (walk_from nothing_held) (codes "--workers")) text) (rw passes refl) refl) (counted_drive false text None passes)
+    remainder (codes "drive") drive_shape drive_is (codes "--workers" ∷ text ∷ []) (after_operand drive_shape.rules (walked drive_shape.rules [] (walk_from nothing_held) (codes "--workers")) text) (plainly (asked.drive (digits_value 10 (without_leading_plus text)) false) None false) (then_word drive_shape _ _ _ _ _ refl refl (then_operand drive_shape _ _ _ _ is refl refl refl (at_end drive_shape _))) (finished_well drive_shape (after_operand drive_shape.rules (walked drive_shape.rules [] (walk_from nothing_held) (codes "--workers")) text) (rw passes refl) refl) (counted_drive false text None passes)
 drive_counted false text (Some file) is passes plain =
-    behind (codes "drive") drive_shape drive_is (codes "--workers" ∷ text ∷ file ∷ []) (behind_operand drive_shape.rules (behind_operand drive_shape.rules (walked drive_shape.rules [] (walk_from nothing_held) (codes "--workers")) text) file) (plainly (asked.drive (digits_value 10 (without_leading_plus text)) false) (Some file) false) (then_word drive_shape _ _ _ _ _ refl refl (then_operand drive_shape _ _ _ _ is refl refl refl (then_operand drive_shape _ _ _ _ (file_operand file plain) refl refl (rw passes refl) (at_end drive_shape _)))) refl (counted_drive false text (Some file) passes)
+    remainder (codes "drive") drive_shape drive_is (codes "--workers" ∷ text ∷ file ∷ []) (after_operand drive_shape.rules (after_operand drive_shape.rules (walked drive_shape.rules [] (walk_from nothing_held) (codes "--workers")) text) file) (plainly (asked.drive (digits_value 10 (without_leading_plus text)) false) (Some file) false) (then_word drive_shape _ _ _ _ _ refl refl (then_operand drive_shape _ _ _ _ is refl refl refl (then_operand drive_shape _ _ _ _ (file_operand file plain) refl refl (rw passes refl) (at_end drive_shape _)))) refl (counted_drive false text (Some file) passes)
 drive_counted true text None is passes plain =
-    behind (codes "drive") drive_shape drive_is (codes "--workers" ∷ text ∷ codes "--as-script" ∷ []) (with_script text) (plainly (asked.drive (digits_value 10 (without_leading_plus text)) true) None false) (then_word drive_shape _ _ _ _ _ refl refl (then_operand drive_shape _ _ _ _ is refl refl refl (then_word drive_shape _ (with_script text) _ _ _ refl (rw passes refl) (at_end drive_shape _)))) refl (counted_drive true text None passes)
+    remainder (codes "drive") drive_shape drive_is (codes "--workers" ∷ text ∷ codes "--as-script" ∷ []) (with_script text) (plainly (asked.drive (digits_value 10 (without_leading_plus text)) true) None false) (then_word drive_shape _ _ _ _ _ refl refl (then_operand drive_shape _ _ _ _ is refl refl refl (then_word drive_shape _ (with_script text) _ _ _ refl (rw passes refl) (at_end drive_shape _)))) refl (counted_drive true text None passes)
 drive_counted true text (Some file) is passes plain =
-    behind (codes "drive") drive_shape drive_is (codes "--workers" ∷ text ∷ codes "--as-script" ∷ file ∷ []) (behind_operand drive_shape.rules (with_script text) file) (plainly (asked.drive (digits_value 10 (without_leading_plus text)) true) (Some file) false) (then_word drive_shape _ _ _ _ _ refl refl (then_operand drive_shape _ _ _ _ is refl refl refl (then_word drive_shape _ (with_script text) _ _ _ refl (rw passes refl) (then_operand drive_shape _ _ _ _ (file_operand file plain) refl refl refl (at_end drive_shape _))))) refl (counted_drive true text (Some file) passes)
+    remainder (codes "drive") drive_shape drive_is (codes "--workers" ∷ text ∷ codes "--as-script" ∷ file ∷ []) (after_operand drive_shape.rules (with_script text) file) (plainly (asked.drive (digits_value 10 (without_leading_plus text)) true) (Some file) false) (then_word drive_shape _ _ _ _ _ refl refl (then_operand drive_shape _ _ _ _ is refl refl refl (then_word drive_shape _ (with_script text) _ _ _ refl (rw passes refl) (then_operand drive_shape _ _ _ _ (file_operand file plain) refl refl refl (at_end drive_shape _))))) refl (counted_drive true text (Some file) passes)
 
 explore : (all : Bool) (file : Option Text) → IsFile file → AreTaken (codes "explore" ∷ (flag_words all (codes "--all") ++ file_words file)) (plainly (asked.explore None all None) file false)
 unfolding clap_on_literals
 explore false None plain =
-    behind (codes "explore") explore_shape explore_is ([]) _ (plainly (asked.explore None false None) None false) (at_end explore_shape _) refl refl
+    remainder (codes "explore") explore_shape explore_is ([]) _ (plainly (asked.explore None false None) None false) (at_end explore_shape _) refl refl
 explore false (Some file) plain =
-    behind (codes "explore") explore_shape explore_is (file ∷ []) _ (plainly (asked.explore None false None) (Some file) false) (then_operand explore_shape _ _ _ _ (file_operand file plain) refl refl refl (at_end explore_shape _)) refl refl
+    remainder (codes "explore") explore_shape explore_is (file ∷ []) _ (plainly (asked.explore None false None) (Some file) false) (then_operand explore_shape _ _ _ _ (file_operand file plain) refl refl refl (at_end explore_shape _)) refl refl
 explore true None plain =
-    behind (codes "explore") explore_shape explore_is (codes "--all" ∷ []) _ (plainly (asked.explore None true None) None false) (then_word explore_shape _ _ _ _ _ refl refl (at_end explore_shape _)) refl refl
+    remainder (codes "explore") explore_shape explore_is (codes "--all" ∷ []) _ (plainly (asked.explore None true None) None false) (then_word explore_shape _ _ _ _ _ refl refl (at_end explore_shape _)) refl refl
 explore true (Some file) plain =
-    behind (codes "explore") explore_shape explore_is (codes "--all" ∷ file ∷ []) _ (plainly (asked.explore None true None) (Some file) false) (then_word explore_shape _ _ _ _ _ refl refl (then_operand explore_shape _ _ _ _ (file_operand file plain) refl refl refl (at_end explore_shape _))) refl refl
+    remainder (codes "explore") explore_shape explore_is (codes "--all" ∷ file ∷ []) _ (plainly (asked.explore None true None) (Some file) false) (then_word explore_shape _ _ _ _ _ refl refl (then_operand explore_shape _ _ _ _ (file_operand file plain) refl refl refl (at_end explore_shape _))) refl refl
 
 lint : (file : Option Text) → IsFile file → AreTaken (codes "lint" ∷ file_words file) (plainly asked.lint file false)
 unfolding clap_on_literals
 lint None plain =
-    behind (codes "lint") lint_shape lint_is ([]) _ (plainly asked.lint None false) (at_end lint_shape _) refl refl
+    remainder (codes "lint") lint_shape lint_is ([]) _ (plainly asked.lint None false) (at_end lint_shape _) refl refl
 lint (Some file) plain =
-    behind (codes "lint") lint_shape lint_is (file ∷ []) _ (plainly asked.lint (Some file) false) (then_operand lint_shape _ _ _ _ (file_operand file plain) refl refl refl (at_end lint_shape _)) refl refl
+    remainder (codes "lint") lint_shape lint_is (file ∷ []) _ (plainly asked.lint (Some file) false) (then_operand lint_shape _ _ _ _ (file_operand file plain) refl refl refl (at_end lint_shape _)) refl refl
 
 -- a number does not begin with `-`
 no_minus : (xs : List ℕ) → is_unsigned_in 1 64 (45 ∷ xs) ≡ true → ⊥
@@ -309,7 +309,7 @@ with_count : (option : Text) (usual n : ℕ) (own : List Text) (Taken : List Tex
 with_count option usual n own Taken (inl (is, none)) plain counted = rw (is, none) plain
 with_count option usual n own Taken (inr (text, passes, is, words)) plain counted = rw (is, words) (counted text passes)
 
-taken : (words : List Text) (work : Work) (file : Option Text) (bail : Bool) → SpellsWork work (plainly work file bail) words
+taken : (words : List Text) (work : RequestedTask) (file : Option Text) (bail : Bool) → IsSyntaxOfTask work (plainly work file bail) words
     → IsTaken words (plainly work file bail)
 taken words asked.run file bail (named, call) = called words _ _ call (run bail file named)
 taken words (asked.certify query false) file bail (plain, (named, call)) =
@@ -343,7 +343,7 @@ taken words (asked.why None) file bail (named, call) = called words _ _ call (wh
 taken words (asked.why (Some name)) file bail spells = absurd spells
 taken words asked.lint file bail (named, none, call) = rw none (called words _ _ call (lint file named))
 
-taken_as : (words : List Text) (wanted : Request) → Spells words wanted → IsTaken words wanted
+taken_as : (words : List Text) (wanted : Request) → IsSyntaxOf words wanted → IsTaken words wanted
 taken_as words wanted (progress, format, is) =
     let same : plainly wanted.work wanted.file wanted.bail ≡ wanted = λ i. record {
       work = wanted.work;
@@ -352,10 +352,10 @@ taken_as words wanted (progress, format, is) =
       progress = sym progress i;
       format = sym format i;
     } in
-    subst (IsTaken words) same (taken words wanted.work wanted.file wanted.bail (subst (λ r. SpellsWork wanted.work r words) (sym same) is))
+    subst (IsTaken words) same (taken words wanted.work wanted.file wanted.bail (subst (λ r. IsSyntaxOfTask wanted.work r words) (sym same) is))
 
 -- words that spell a job fail only if allocation fails
-pub spelled : (r : Result Job Error) (words : List Text) (wanted : Request) → Spells words wanted → FailsBy (fault_of program words) r
+pub spelled : (r : Result Job Error) (words : List Text) (wanted : Request) → IsSyntaxOf words wanted → FailsBy (fault_of program words) r
     → IfOk r (λ job. request_in (subcommand_of program words) ≡ Some (request_of job)) → MatchResult r (λ job. request_of job ≡ wanted) (λ e. kind_of e ≡ kind.OutOfMemory)
 spelled (Ok job) words wanted spells fails is = let same : Some (request_of job) ≡ Some wanted = sym is ∙ (taken_as words wanted spells).1 in cc
 spelled (Err e) words wanted spells fails is = ⊎_elim (λ memory. memory) (λ among. absurd (subst (IsAmong (kind_of e)) (taken_as words wanted spells).0 among)) fails

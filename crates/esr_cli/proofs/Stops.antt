@@ -14,9 +14,9 @@ help = codes "help"
 abbrev pub StopsElsewhere : Option (Text × List Text) → Type 0
 StopsElsewhere stop = IfSome stop (λ p. bytes_eq p.0 help ≡ false)
 
-abbrev GoesOn : Step → Type 0
-GoesOn (subcommand name) = ⊥
-GoesOn _ = Unit {0}
+abbrev Continues : Step → Type 0
+Continues (subcommand name) = ⊥
+Continues _ = Unit {0}
 
 pub first_none : (a b : Kinds) → or_else a b ≡ [] → a ≡ []
 first_none [] b none = refl
@@ -26,38 +26,38 @@ pub then_none : (a b : Kinds) → or_else a b ≡ [] → b ≡ []
 then_none [] b none = none
 then_none (k ∷ ks) b none = absurd (cc)
 
-plain_goes : (c : List Rule) (waiting : Waiting) (word : Text) (h : Held) → GoesOn (plain_word c waiting word h).1
-plain_goes c idle word h = tt
-plain_goes c _ word h = tt
+plain_continues : (c : List Rule) (waiting : Waiting) (word : Text) (h : Held) → Continues (plain_word c waiting word h).1
+plain_continues c idle word h = tt
+plain_continues c _ word h = tt
 
-flag_goes : (c : List Rule) (waiting : Waiting) (word : Text) (h : Held) (o : Outcome) → GoesOn (after_flag c waiting word h o).1
-flag_goes c waiting word h plain = plain_goes c waiting word h
-flag_goes c waiting word h refused = plain_goes c waiting word h
-flag_goes c waiting word h _ = tt
+flag_continues : (c : List Rule) (waiting : Waiting) (word : Text) (h : Held) (o : Outcome) → Continues (after_flag c waiting word h o).1
+flag_continues c waiting word h plain = plain_continues c waiting word h
+flag_continues c waiting word h refused = plain_continues c waiting word h
+flag_continues c waiting word h _ = tt
 
-short_goes : (c : List Rule) (waiting : Waiting) (word : Text) (flags : Option Text) (h : Held) → GoesOn (short_or_plain c waiting word flags h).1
-short_goes c waiting word (Some flags) h = flag_goes c waiting word (bundle c flags h).0 (bundle c flags h).1
-short_goes c waiting word None h = plain_goes c waiting word h
+short_continues : (c : List Rule) (waiting : Waiting) (word : Text) (flags : Option Text) (h : Held) → Continues (short_or_plain c waiting word flags h).1
+short_continues c waiting word (Some flags) h = flag_continues c waiting word (bundle c flags h).0 (bundle c flags h).1
+short_continues c waiting word None h = plain_continues c waiting word h
 
-long_goes : (c : List Rule) (waiting : Waiting) (word : Text) (long : Option (Text × Option Text)) (h : Held) → GoesOn (long_or_other c waiting word long h).1
-long_goes c waiting word (Some p) h = flag_goes c waiting word (long_met c (arg_by_long c p.0) p.1 h).0 (long_met c (arg_by_long c p.0) p.1 h).1
-long_goes c waiting word None h = short_goes c waiting word (short_of word) h
+long_continues : (c : List Rule) (waiting : Waiting) (word : Text) (long : Option (Text × Option Text)) (h : Held) → Continues (long_or_other c waiting word long h).1
+long_continues c waiting word (Some p) h = flag_continues c waiting word (long_met c (arg_by_long c p.0) p.1 h).0 (long_met c (arg_by_long c p.0) p.1 h).1
+long_continues c waiting word None h = short_continues c waiting word (short_of word) h
 
-other_goes : (c : List Rule) (waiting : Waiting) (position : ℕ) (word : Text) (h : Held) → GoesOn (subcommand_or_other c None waiting position word h).1
-other_goes c waiting position word h = go (bytes_eq word (45 ∷ 45 ∷ []))
+other_continues : (c : List Rule) (waiting : Waiting) (position : ℕ) (word : Text) (h : Held) → Continues (subcommand_or_other c None waiting position word h).1
+other_continues c waiting position word h = go (bytes_eq word (45 ∷ 45 ∷ []))
   where
-    go : (b : Bool) → GoesOn (cond b (h, trailing position) (long_or_other c waiting word (long_of word) h)).1
+    go : (b : Bool) → Continues (cond b (h, trailing position) (long_or_other c waiting word (long_of word) h)).1
     go true = tt
-    go false = long_goes c waiting word (long_of word) h
+    go false = long_continues c waiting word (long_of word) h
 
-to_positional_goes : (c : List Rule) (a : Option Rule) (word : Text) (w : Walk) (h : Held) → w.stopped ≡ None → (to_positional c a word w h).stopped ≡ None
-to_positional_goes c None word w h on = on
-to_positional_goes c (Some a) word w h on = refl
+to_positional_continues : (c : List Rule) (a : Option Rule) (word : Text) (w : Walk) (h : Held) → w.stopped ≡ None → (to_positional c a word w h).stopped ≡ None
+to_positional_continues c None word w h on = on
+to_positional_continues c (Some a) word w h on = refl
 
-step_goes : (c : List Rule) (word : Text) (w : Walk) (h : Held) (step : Step) → w.stopped ≡ None → GoesOn step → (after_step c word w h step).stopped ≡ None
-step_goes c word w h (subcommand name) on goes = absurd goes
-step_goes c word w h value on goes = to_positional_goes c (arg_by_index c w.position) word w h on
-step_goes c word w h _ on goes = on
+step_continues : (c : List Rule) (word : Text) (w : Walk) (h : Held) (step : Step) → w.stopped ≡ None → Continues step → (after_step c word w h step).stopped ≡ None
+step_continues c word w h (subcommand name) on continues = absurd continues
+step_continues c word w h value on continues = to_positional_continues c (arg_by_index c w.position) word w h on
+step_continues c word w h _ on continues = on
 
 elsewhere : (stop : Option (Text × List Text)) → stop ≡ None → StopsElsewhere stop
 elsewhere stop on = subst StopsElsewhere (sym on) tt
@@ -72,12 +72,12 @@ met_elsewhere s (Some name) waiting word w on enabled none = go (bytes_eq name h
     go false is = sym is
     go true is = let calls : other_fault s (Some name) word w.held ≡ kind.DisplayHelp ∷ kind.InvalidSubcommand ∷ [] = rw (← is, enabled) refl in absurd (cc)
 met_elsewhere s None waiting word w on enabled none =
-    elsewhere _ (step_goes s.rules word w _ _ on (other_goes s.rules waiting w.position word w.held))
+    elsewhere _ (step_continues s.rules word w _ _ on (other_continues s.rules waiting w.position word w.held))
 
 turn_elsewhere : (s : Shape) (names : Names) (trails : Bool) (word : Text) (w : Walk) → w.stopped ≡ None → s.disable_help_subcommand ≡ false
     → word_fault s names trails w.waiting word w.held ≡ []
     → StopsElsewhere (after_step s.rules word w (word_met s.rules names trails w.waiting w.position word w.held).0 (word_met s.rules names trails w.waiting w.position word w.held).1).stopped
-turn_elsewhere s names true word w on enabled none = elsewhere _ (step_goes s.rules word w w.held value on tt)
+turn_elsewhere s names true word w on enabled none = elsewhere _ (step_continues s.rules word w w.held value on tt)
 turn_elsewhere s names false word w on enabled none = met_elsewhere s (subcommand_met names w.waiting word) w.waiting word w on enabled none
 
 not_stopped : (b : Bool) (kinds : Kinds) → b ≡ false → cond b [] kinds ≡ [] → kinds ≡ []

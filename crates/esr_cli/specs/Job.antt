@@ -14,47 +14,47 @@ use Rattle.esr_cli.specs.declared.Progress.{Progress}
 use Rattle.esr_cli.specs.declared.Progress.TheVariants.{AtATerminal, Always, Never}
 
 -- what is done with the input
-pub data Work : Type 0 where
-  run : Work
-  certify : Text → Bool → Work
-  check : (script query : Option Text) → (verbose : Bool) → Work
-  explain : Text → Bool → Work
-  picture : Text → Work
-  page : ℕ → Work
-  audit : ℕ → Work
-  drive : ℕ → (script : Bool) → Work
-  explore : (seeds : Option ℕ) → (all : Bool) → (worst : Option Text) → Work
-  ledger : Work
-  why : Option Text → Work
-  lint : Work
+pub data RequestedTask : Type 0 where
+  run : RequestedTask
+  certify : Text → Bool → RequestedTask
+  check : (script query : Option Text) → (verbose : Bool) → RequestedTask
+  explain : Text → Bool → RequestedTask
+  picture : Text → RequestedTask
+  page : ℕ → RequestedTask
+  audit : ℕ → RequestedTask
+  drive : ℕ → (script : Bool) → RequestedTask
+  explore : (seeds : Option ℕ) → (all : Bool) → (worst : Option Text) → RequestedTask
+  ledger : RequestedTask
+  why : Option Text → RequestedTask
+  lint : RequestedTask
 
 -- what the program is asked for: the work, the file that is read, if one is named, whether a line at fault is to show in
 -- the status, when progress is shown, and how what is told is written, if the word for it is a format
 pub record Request : Type 0 where
-  pub work : Work
+  pub work : RequestedTask
   pub file : Option Text
   pub bail : Bool
   pub progress : Progress
   pub format : Option Format
 
-abbrev pub work_of : Task → Work
-work_of task.Run = run
-work_of (task.Certify name steps) = certify name.now steps
-work_of (task.Check script query verbose) =
+abbrev pub requested_task : Task → RequestedTask
+requested_task task.Run = run
+requested_task (task.Certify name steps) = certify name.now steps
+requested_task (task.Check script query verbose) =
     check (option_map (λ file. file.now) script) (option_map (λ name. name.now) query) verbose
-work_of (task.Explain name prose) = explain name.now prose
-work_of (task.Picture name) = picture name.now
-work_of (task.Page worst) = page worst
-work_of (task.Audit workers) = audit workers
-work_of (task.Drive workers script) = drive workers script
-work_of (task.Explore seeds all worst) = explore seeds all (option_map (λ by. by.now) worst)
-work_of task.Ledger = ledger
-work_of (task.Why name) = why (option_map (λ n. n.now) name)
-work_of task.Lint = lint
+requested_task (task.Explain name prose) = explain name.now prose
+requested_task (task.Picture name) = picture name.now
+requested_task (task.Page worst) = page worst
+requested_task (task.Audit workers) = audit workers
+requested_task (task.Drive workers script) = drive workers script
+requested_task (task.Explore seeds all worst) = explore seeds all (option_map (λ by. by.now) worst)
+requested_task task.Ledger = ledger
+requested_task (task.Why name) = why (option_map (λ n. n.now) name)
+requested_task task.Lint = lint
 
 abbrev pub request_of : Job → Request
 request_of job = record {
-  work = work_of job.task;
+  work = requested_task job.task;
   file = option_map (λ name. name.now) job.file;
   bail = job.bail;
   progress = job.progress;
@@ -62,7 +62,7 @@ request_of job = record {
 }
 
 -- 1 to 64 workers, where any work
-abbrev pub HasWorkers : Work → Type 0
+abbrev pub HasWorkers : RequestedTask → Type 0
 HasWorkers (audit workers) = (1 ≤ workers) × (workers ≤ 64)
 HasWorkers (drive workers script) = (1 ≤ workers) × (workers ≤ 64)
 HasWorkers _ = ⊤
@@ -81,14 +81,14 @@ number_in text = if is_unsigned_in 0 18446744073709551615 text
 abbrev pub flag_in : Text → List Row → Bool
 flag_in flag rows = unwrap_or (option_and_then bool_of (one_of flag rows)) false
 
-abbrev pub certify_in : List Row → Option Work
+abbrev pub certify_in : List Row → Option RequestedTask
 certify_in rows = option_map (λ name. certify name (flag_in (codes "steps") rows)) (first_of (codes "NAME") rows)
 
-abbrev pub explain_in : List Row → Option Work
+abbrev pub explain_in : List Row → Option RequestedTask
 explain_in rows = option_map (λ name. explain name (flag_in (codes "prose") rows)) (first_of (codes "NAME") rows)
 
 -- what a bundle is judged by
-abbrev pub check_in : List Row → Work
+abbrev pub check_in : List Row → RequestedTask
 check_in rows = check (first_of (codes "script") rows) (first_of (codes "query") rows) (flag_in (codes "verbose") rows)
 
 -- when progress is shown; not to show it goes first
@@ -112,16 +112,16 @@ count_in option rows = option_and_then number_in (one_of option rows)
 abbrev pub workers_in : List Row → Option ℕ
 workers_in = count_in (codes "workers")
 
-abbrev pub drive_in : List Row → Option Work
+abbrev pub drive_in : List Row → Option RequestedTask
 drive_in rows = option_map (λ workers. drive workers (flag_in (codes "as-script") rows)) (workers_in rows)
 
 -- which interleavings are tried, and which is written
-abbrev pub explore_in : List Row → Work
+abbrev pub explore_in : List Row → RequestedTask
 explore_in rows = explore (count_in (codes "seeds") rows) (flag_in (codes "all") rows) (first_of (codes "worst") rows)
 
 -- what a subcommand and its matches ask for
-abbrev pub work_in : Text → List Row → Option Work
-work_in name rows =
+abbrev pub task_in : Text → List Row → Option RequestedTask
+task_in name rows =
     if bytes_eq name (codes "run") then Some run
     else (if bytes_eq name (codes "certify") then certify_in rows
     else (if bytes_eq name (codes "check") then Some (check_in rows)
@@ -137,7 +137,7 @@ work_in name rows =
     else None)))))))))))
 
 -- the work, with what else is asked for
-abbrev pub requested : List Row → Work → Request
+abbrev pub requested : List Row → RequestedTask → Request
 requested rows work = record {
   work = work;
   file = first_of (codes "FILE") rows;
@@ -147,7 +147,7 @@ requested rows work = record {
 }
 
 abbrev pub request_in_one : Text → List Row → Option Request
-request_in_one name rows = option_map (requested rows) (work_in name rows)
+request_in_one name rows = option_map (requested rows) (task_in name rows)
 
 abbrev pub request_in : Option (Text × List Row) → Option Request
 request_in None = None
@@ -179,13 +179,13 @@ IsFile None = ⊤
 IsFile (Some file) = (file ≡ codes "-") ⊎ IsPlainWord file
 
 -- a subcommand that takes a file, with its own options
-abbrev pub SpellsReader : Text → List Text → Request → List Text → Type 0
-SpellsReader name options r words =
+abbrev pub IsSyntaxOfReaderTask : Text → List Text → Request → List Text → Type 0
+IsSyntaxOfReaderTask name options r words =
     IsFile r.file × (r.bail ≡ false) × IsCall words (name ∷ (options ++ file_words r.file))
 
 -- one that takes `--bail` too, and operands before the file
-abbrev pub SpellsScript : Text → List Text → List Text → Request → List Text → Type 0
-SpellsScript name options operands r words =
+abbrev pub IsSyntaxOfScriptTask : Text → List Text → List Text → Request → List Text → Type 0
+IsSyntaxOfScriptTask name options operands r words =
     IsFile r.file
     × IsCall words (name ∷ (options ++ (flag_words r.bail (codes "--bail") ++ (operands ++ file_words r.file))))
 
@@ -200,29 +200,29 @@ abbrev pub IsWorkers : ℕ → List Text → Type 0
 IsWorkers = IsCount (codes "--workers") 4
 
 -- a program's name, and then just the words for the request
-abbrev pub SpellsWork : Work → Request → List Text → Type 0
-SpellsWork run r words = SpellsScript (codes "run") [] [] r words
-SpellsWork (certify name steps) r words =
-    IsPlainWord name × SpellsScript (codes "certify") (flag_words steps (codes "--steps")) (name ∷ []) r words
-SpellsWork (check None None false) r words = SpellsReader (codes "check") [] r words
-SpellsWork (explain name prose) r words =
-    IsPlainWord name × SpellsScript (codes "explain") (flag_words prose (codes "--prose")) (name ∷ []) r words
-SpellsWork (picture name) r words = IsPlainWord name × SpellsScript (codes "picture") [] (name ∷ []) r words
-SpellsWork (page worst) r words =
+abbrev pub IsSyntaxOfTask : RequestedTask → Request → List Text → Type 0
+IsSyntaxOfTask run r words = IsSyntaxOfScriptTask (codes "run") [] [] r words
+IsSyntaxOfTask (certify name steps) r words =
+    IsPlainWord name × IsSyntaxOfScriptTask (codes "certify") (flag_words steps (codes "--steps")) (name ∷ []) r words
+IsSyntaxOfTask (check None None false) r words = IsSyntaxOfReaderTask (codes "check") [] r words
+IsSyntaxOfTask (explain name prose) r words =
+    IsPlainWord name × IsSyntaxOfScriptTask (codes "explain") (flag_words prose (codes "--prose")) (name ∷ []) r words
+IsSyntaxOfTask (picture name) r words = IsPlainWord name × IsSyntaxOfScriptTask (codes "picture") [] (name ∷ []) r words
+IsSyntaxOfTask (page worst) r words =
     (options : List Text) × IsCount (codes "--worst") 10 worst options
-    × SpellsScript (codes "page") options [] r words
-SpellsWork (audit workers) r words =
-    (options : List Text) × IsWorkers workers options × SpellsScript (codes "audit") options [] r words
-SpellsWork (drive workers script) r words =
+    × IsSyntaxOfScriptTask (codes "page") options [] r words
+IsSyntaxOfTask (audit workers) r words =
+    (options : List Text) × IsWorkers workers options × IsSyntaxOfScriptTask (codes "audit") options [] r words
+IsSyntaxOfTask (drive workers script) r words =
     (options : List Text) × IsWorkers workers options
-    × SpellsReader (codes "drive") (options ++ flag_words script (codes "--as-script")) r words
-SpellsWork (explore None all None) r words =
-    SpellsReader (codes "explore") (flag_words all (codes "--all")) r words
-SpellsWork ledger r words = SpellsScript (codes "ledger") [] [] r words
-SpellsWork (why None) r words = SpellsScript (codes "why") [] [] r words
-SpellsWork lint r words = SpellsReader (codes "lint") [] r words
-SpellsWork _ r words = ⊥
+    × IsSyntaxOfReaderTask (codes "drive") (options ++ flag_words script (codes "--as-script")) r words
+IsSyntaxOfTask (explore None all None) r words =
+    IsSyntaxOfReaderTask (codes "explore") (flag_words all (codes "--all")) r words
+IsSyntaxOfTask ledger r words = IsSyntaxOfScriptTask (codes "ledger") [] [] r words
+IsSyntaxOfTask (why None) r words = IsSyntaxOfScriptTask (codes "why") [] [] r words
+IsSyntaxOfTask lint r words = IsSyntaxOfReaderTask (codes "lint") [] r words
+IsSyntaxOfTask _ r words = ⊥
 
 -- of what is asked for by the words that have no other option
-abbrev pub Spells : List Text → Request → Type 0
-Spells words r = (r.progress ≡ AtATerminal) × (r.format ≡ Some Plain) × SpellsWork r.work r words
+abbrev pub IsSyntaxOf : List Text → Request → Type 0
+IsSyntaxOf words r = (r.progress ≡ AtATerminal) × (r.format ≡ Some Plain) × IsSyntaxOfTask r.work r words

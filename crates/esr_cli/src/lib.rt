@@ -12,7 +12,7 @@ ghost use Rattle.clap.specs.Words.{subcommand_of, subcommand_rows_of, FailsBy};
 ghost use Rattle.clap.specs.Walk.{texts};
 ghost use Rattle.clap.specs.declared.error.kind.ErrorKind.TheVariants.{OutOfMemory};
 ghost use Rattle.esr_cli.specs.Program.{program};
-ghost use Rattle.esr_cli.specs.Job.{certify_in, check_in, count_in, drive_in, explain_in, explore_in, flag_in, format_in, format_of_name, progress_in, request_in, request_of, work_in, work_of, HasWorkers, Spells};
+ghost use Rattle.esr_cli.specs.Job.{certify_in, check_in, count_in, drive_in, explain_in, explore_in, flag_in, format_in, format_of_name, progress_in, request_in, request_of, task_in, requested_task, HasWorkers, IsSyntaxOf};
 
 mod commands;
 mod help;
@@ -179,7 +179,7 @@ fn asked_progress(given: &ArgMatches<'_>) -> Progress
 }
 
 fn certify_task<'a>(given: &ArgMatches<'a>) -> Option<Task<'a>>
-    ensures { option_map work_of result ≡ certify_in (rows_of (found_of given.now)) }
+    ensures { option_map requested_task result ≡ certify_in (rows_of (found_of given.now)) }
 {
     let name = text(given, "NAME")?;
     Some(Task::Certify {
@@ -189,7 +189,7 @@ fn certify_task<'a>(given: &ArgMatches<'a>) -> Option<Task<'a>>
 }
 
 fn explain_task<'a>(given: &ArgMatches<'a>) -> Option<Task<'a>>
-    ensures { option_map work_of result ≡ explain_in (rows_of (found_of given.now)) }
+    ensures { option_map requested_task result ≡ explain_in (rows_of (found_of given.now)) }
 {
     let name = text(given, "NAME")?;
     Some(Task::Explain {
@@ -199,7 +199,7 @@ fn explain_task<'a>(given: &ArgMatches<'a>) -> Option<Task<'a>>
 }
 
 fn check_task<'a>(given: &ArgMatches<'a>) -> Task<'a>
-    ensures { work_of result ≡ check_in (rows_of (found_of given.now)) }
+    ensures { requested_task result ≡ check_in (rows_of (found_of given.now)) }
 {
     Task::Check {
         script: text(given, "script"),
@@ -209,7 +209,7 @@ fn check_task<'a>(given: &ArgMatches<'a>) -> Task<'a>
 }
 
 fn drive_task<'a>(given: &ArgMatches<'a>) -> Option<Task<'a>>
-    ensures { option_map work_of result ≡ drive_in (rows_of (found_of given.now)) }
+    ensures { option_map requested_task result ≡ drive_in (rows_of (found_of given.now)) }
 {
     let workers = count(given, "workers")?;
     Some(Task::Drive {
@@ -219,7 +219,7 @@ fn drive_task<'a>(given: &ArgMatches<'a>) -> Option<Task<'a>>
 }
 
 fn explore_task<'a>(given: &ArgMatches<'a>) -> Task<'a>
-    ensures { work_of result ≡ explore_in (rows_of (found_of given.now)) }
+    ensures { requested_task result ≡ explore_in (rows_of (found_of given.now)) }
 {
     Task::Explore {
         seeds: count(given, "seeds"),
@@ -229,7 +229,7 @@ fn explore_task<'a>(given: &ArgMatches<'a>) -> Task<'a>
 }
 
 fn task_of<'a>(name: &str, given: &ArgMatches<'a>) -> Option<Task<'a>>
-    ensures { option_map work_of result ≡ work_in name.now (rows_of (found_of given.now)) }
+    ensures { option_map requested_task result ≡ task_in name.now (rows_of (found_of given.now)) }
 {
     match name {
         "run" => Some(Task::Run),
@@ -278,9 +278,9 @@ fn job_of<'a>(matches: &ArgMatches<'a>) -> Option<Job<'a>>
 pub fn command<'a>(alloc: Global, words: &'a [&'a str]) -> Result<Job<'a>, Error>
     ensures job { IfOk result (λ job.
         request_in (subcommand_of program (texts words.entry.now)) ≡ Some (request_of job)) }
-    ensures workers { IfOk result (λ job. HasWorkers (work_of job.task)) }
+    ensures workers { IfOk result (λ job. HasWorkers (requested_task job.task)) }
     ensures errors { FailsBy (fault_of program (texts words.entry.now)) result }
-    ensures asked { (request : _) → Spells (texts words.entry.now) request
+    ensures asked { (request : _) → IsSyntaxOf (texts words.entry.now) request
         → MatchResult result (λ job. request_of job ≡ request) (λ e. kind_of e ≡ OutOfMemory) }
 {
     let matches = program(alloc)?.try_get_matches_from(words)?;

@@ -29,7 +29,7 @@ IsClaimOf asked bytes claim = (b : Result (Problem × Certificate) BundleFault) 
 abbrev pub ShowsDistance : ScriptState → List ℕ → List ℕ → ℕ → Type 0
 ShowsDistance s name bytes worth =
     (b : Problem × Certificate) × Means bytes (Ok b) × Certifies b.0 b.1 × (worth ≡ b.1.worth)
-    × problems.StandsFor weighted s.history (transaction_called s name).0 b.0
+    × problems.IsProblemOf weighted s.history (transaction_called s name).0 b.0
 
 -- the line of a claim about the query of that name
 abbrev pub claim_line : List ℕ → BundleClaim → List ℕ

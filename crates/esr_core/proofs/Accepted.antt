@@ -19,7 +19,7 @@ use Rattle.esr_ledgers.specs.Books.{quote_of, charged}
 use Rattle.esr_locks.specs.Tables.{locks_at}
 use Rattle.esr_core.specs.Represented.{Represents, books_of, Transaction}
 use Rattle.esr_core.specs.States.{reason_of, read_charge, charged_once}
-use Rattle.esr_core.proofs.Locks.{locks_here}
+use Rattle.esr_core.proofs.Locks.{locks_at_item}
 use Rattle.esr_core.proofs.Accounts.{books-kept}
 use Rattle.esr_core.proofs.Charges.{charges_by, quote_reason, books-charged}
 use Rattle.esr_core.proofs.Reasons.{due_some, due_none}
@@ -71,7 +71,7 @@ module _ (d : Distance) (h : Schedule) (items : List Versions) (table : List Tra
   -- how often each query has read the item
   pub few_here : (t x : ℕ) → x < length items → all_reads_of (accepted_in h) t < 1000 → All (λ (r : ℕ × ℕ). r.0 ≡ t → r.1 < 1000) (locks_at locks x).queries
   few_here t x l few =
-      subst (λ (g : ItemLocks). All (λ (r : ℕ × ℕ). r.0 ≡ t → r.1 < 1000) g.queries) (sym (ap (λ (ls : List ItemLocks). locks_at ls x) rep.locked ∙ locks_here (accepted_in h) (length h.opening) x (rw (← rep.count) l)))
+      subst (λ (g : ItemLocks). All (λ (r : ℕ × ℕ). r.0 ≡ t → r.1 < 1000) g.queries) (sym (ap (λ (ls : List ItemLocks). locks_at ls x) rep.locked ∙ locks_at_item (accepted_in h) (length h.opening) x (rw (← rep.count) l)))
       (All-from_recursion (λ (r : ℕ × ℕ). r.0 ≡ t → r.1 < 1000) (filter_map (query_reads (accepted_in h) x) (numbers (accepted_in h))) (each (numbers (accepted_in h))))
     where
       each : (us : List ℕ) → AllByRecursion (λ (r : ℕ × ℕ). r.0 ≡ t → r.1 < 1000) (filter_map (query_reads (accepted_in h) x) us)

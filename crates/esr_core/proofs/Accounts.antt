@@ -8,7 +8,7 @@ use Rattle.esr_history.specs.Events.{Beginning, kind_of, is_query_kind, beginnin
 use Rattle.esr_history.specs.Machine.{Charge, due, charges, import_in, export_in}
 use Rattle.esr_history.proofs.KindLaws.{query_kind}
 use Rattle.esr_history.proofs.Charges.{import-push, export-push}
-use Rattle.esr_history.proofs.Lawful.{begun_number}
+use Rattle.esr_history.proofs.Lawful.{begun_in_range}
 use Rattle.esr_history.proofs.Ranges.{map_same, find_in_range, none_in_range, placed_end}
 use Rattle.esr_history.proofs.Sides.{charges_kinds, no_import, no_export}
 use Rattle.esr_history.proofs.Sums.{query_begun}
@@ -30,7 +30,7 @@ module _ (d : ℕ → ℤ → ℤ → ℕ) (opening : List ℤ) (events : List E
   -- the account of a transaction that has begun
   pub account_begun : (t : ℕ) → is_begun events t ≡ true → account_of (books_of d opening events) t ≡ Some (account_after d opening events t)
   account_begun t is =
-      let n : (1 ≤ t) × (t < 1 + length (beginnings events)) = begun_number events t is in
+      let n : (1 ≤ t) × (t < 1 + length (beginnings events)) = begun_in_range events t is in
       find_in_range number (account_after d opening events) (λ u. refl) t 1 (length (beginnings events)) n.0 n.1
 
   pub open_query_is : (t : ℕ) → is_query events t ≡ true → is_open_query (books_of d opening events) t ≡ true

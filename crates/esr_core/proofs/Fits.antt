@@ -5,7 +5,7 @@ use Rattle.std.proofs.lemmas.Bool.{and_parts, true≢false}
 use Rattle.std.proofs.lemmas.List.{length-map}
 use Rattle.std.proofs.lemmas.List.FromFn.{length-map-range_with_len}
 use Rattle.esr_core.specs.Words.{Event, BeginUpdate, BeginQuery, Read, Write, Commit, Abort, Value, Entry}
-use Rattle.esr_core.specs.Carried.{active_numbers, new_number, begin_again, update_again, read_again, LawOfRoom}
+use Rattle.esr_core.specs.Carried.{active_numbers, new_number, carried_begin, carried_operation, carried_read, LawOfCarriedLength}
 use Rattle.esr_history.specs.Events.{is_refusal, beginning_of, beginnings, numbers, is_active, is_query, is_update, current_value}
 use Rattle.esr_history.specs.Machine.{Distance, Schedule, accepted_in}
 use Rattle.esr_history.specs.ReportBounds.{is_active_query}
@@ -44,38 +44,38 @@ module _ (d : Distance) (h : Schedule) where
   -- each accepted entry is carried at most once
   fewer : (es : List Entry) →
       length (filter_map beginning_of (map (λ e. e.event) es))
-      + (length (filter_map (λ e. update_again h e.reply e.event) es) + length (filter_map (read_again h) (map (λ e. e.event) es))) ≤ length es
+      + (length (filter_map (λ e. carried_operation h e.reply e.event) es) + length (filter_map (carried_read h) (map (λ e. e.event) es))) ≤ length es
   fewer [] = omega arith
   fewer (e ∷ es) = at e.event (fewer es)
     where
       at : (v : Event) → length (filter_map beginning_of (map (λ e. e.event) es))
-          + (length (filter_map (λ e. update_again h e.reply e.event) es) + length (filter_map (read_again h) (map (λ e. e.event) es))) ≤ length es
+          + (length (filter_map (λ e. carried_operation h e.reply e.event) es) + length (filter_map (carried_read h) (map (λ e. e.event) es))) ≤ length es
           → length (cons_option (beginning_of v) (filter_map beginning_of (map (λ e. e.event) es)))
-          + (length (cons_option (update_again h e.reply v) (filter_map (λ e. update_again h e.reply e.event) es)) + length (cons_option (read_again h v) (filter_map (read_again h) (map (λ e. e.event) es)))) ≤ suc (length es)
+          + (length (cons_option (carried_operation h e.reply v) (filter_map (λ e. carried_operation h e.reply e.event) es)) + length (cons_option (carried_read h v) (filter_map (carried_read h) (map (λ e. e.event) es)))) ≤ suc (length es)
       at (BeginUpdate limit) rest = omega (arith, rest)
       at (BeginQuery limit strict) rest = omega (arith, rest)
       at (Read t x) rest =
           let one = apart t.0 in
-          let u = count_if (is_update (accepted_in h) t.0 && is_active (accepted_in h) t.0) (record { event = Read (new_number h t.0) x; reply = e.reply }) (filter_map (λ e. update_again h e.reply e.event) es) in
-          let q = count_if (is_active_query h t.0) (record { event = Read (new_number h t.0) x; reply = Value (current_value h.opening (accepted_in h) x.0) }) (filter_map (read_again h) (map (λ e. e.event) es)) in
+          let u = count_if (is_update (accepted_in h) t.0 && is_active (accepted_in h) t.0) (record { event = Read (new_number h t.0) x; reply = e.reply }) (filter_map (λ e. carried_operation h e.reply e.event) es) in
+          let q = count_if (is_active_query h t.0) (record { event = Read (new_number h t.0) x; reply = Value (current_value h.opening (accepted_in h) x.0) }) (filter_map (carried_read h) (map (λ e. e.event) es)) in
           rw (u, q) (omega (arith, rest, one))
       at (Write t x v) rest =
           let one = most_one (is_update (accepted_in h) t.0 && is_active (accepted_in h) t.0) in
-          let u = count_if (is_update (accepted_in h) t.0 && is_active (accepted_in h) t.0) (record { event = Write (new_number h t.0) x v; reply = e.reply }) (filter_map (λ e. update_again h e.reply e.event) es) in
+          let u = count_if (is_update (accepted_in h) t.0 && is_active (accepted_in h) t.0) (record { event = Write (new_number h t.0) x v; reply = e.reply }) (filter_map (λ e. carried_operation h e.reply e.event) es) in
           rw u (omega (arith, rest, one))
       at (Commit t) rest = omega (arith, rest)
       at (Abort t) rest = omega (arith, rest)
 
-pub law_of_room : LawOfRoom
-law_of_room d h =
+pub law_of_carried_length : LawOfCarriedLength
+law_of_carried_length d h =
     let es : List Entry = filter (λ e. not (is_refusal e.reply)) h.entries in
-    let begins : length (map (begin_again d h) (active_numbers h)) ≡ length (active_numbers h) = length-map (active_numbers h) (begin_again d h) in
+    let begins : length (map (carried_begin d h) (active_numbers h)) ≡ length (active_numbers h) = length-map (active_numbers h) (carried_begin d h) in
     let active : length (active_numbers h) ≤ length (numbers (accepted_in h)) = kept_few (is_active (accepted_in h)) (numbers (accepted_in h)) in
     let all : length (numbers (accepted_in h)) ≡ length (beginnings (accepted_in h)) = range_length 1 (length (beginnings (accepted_in h))) in
-    let few : length (beginnings (accepted_in h)) + (length (filter_map (λ e. update_again h e.reply e.event) es) + length (filter_map (read_again h) (accepted_in h))) ≤ length es = fewer d h es in
+    let few : length (beginnings (accepted_in h)) + (length (filter_map (λ e. carried_operation h e.reply e.event) es) + length (filter_map (carried_read h) (accepted_in h))) ≤ length es = fewer d h es in
     let kept : length es ≤ length h.entries = kept_few (λ e. not (is_refusal e.reply)) h.entries in
     rw (
-      length-append (map (begin_again d h) (active_numbers h)) (filter_map (λ e. update_again h e.reply e.event) es ++ filter_map (read_again h) (accepted_in h)),
-      length-append (filter_map (λ e. update_again h e.reply e.event) es) (filter_map (read_again h) (accepted_in h)),
+      length-append (map (carried_begin d h) (active_numbers h)) (filter_map (λ e. carried_operation h e.reply e.event) es ++ filter_map (carried_read h) (accepted_in h)),
+      length-append (filter_map (λ e. carried_operation h e.reply e.event) es) (filter_map (carried_read h) (accepted_in h)),
     )
     (omega (arith, begins, active, all, few, kept))

@@ -5,9 +5,9 @@ use Rattle.std.proofs.lemmas.Bool.{cases_Bool, false≢true, and_parts, and_righ
 use Rattle.esr_core.specs.Words.{TxnId, Event, BeginUpdate, BeginQuery, Read, Write, Commit, Abort}
 use Rattle.esr_history.specs.Events.{Beginning, beginning_of, beginnings, beginning, numbers, limit_of, commits, aborts, reads, reads_any, writes, is_committed, is_aborted, is_active, is_begun, is_query, is_update}
 use Rattle.esr_history.proofs.Lists.{any_push, any_push_no, filter_map_push_none, filter_map_push_some, slice_get_push_last}
-use Rattle.esr_history.specs.Orderly.{IsOrderly, names}
+use Rattle.esr_history.specs.Orderly.{IsWellFormed, names}
 use Rattle.esr_history.proofs.Orderly.{beginning-kept, beginning-push, is_begun-push}
-use Rattle.esr_history.proofs.Lawful.{begun_number}
+use Rattle.esr_history.proofs.Lawful.{begun_in_range}
 
 -- an event that begins and ends nothing leaves who is active
 pub active-kept : (events : List Event) (e : Event) → beginning_of e ≡ None → ((t : ℕ) → commits t e ≡ false) → ((t : ℕ) → aborts t e ≡ false) → (t : ℕ) → is_active (events ++ e ∷ []) t ≡ is_active events t
@@ -52,7 +52,7 @@ pub active-same : (events : List Event) (e : Event) (u : ℕ) → ((t : ℕ) →
 active-same events e u c a begun = rw (is_begun-push events e u begun, begun, any_push_no (commits u) events e (c u), any_push_no (aborts u) events e (a u)) refl
 
 -- a begin leaves the locks
-pub held-begin : (events : List Event) (o : IsOrderly events) (e : Event) (p : Event → Bool) (u : ℕ) → ((t : ℕ) → commits t e ≡ false) → ((t : ℕ) → aborts t e ≡ false) → p e ≡ false → ((g : Event) → p g ≡ true → names u g ≡ true)
+pub held-begin : (events : List Event) (o : IsWellFormed events) (e : Event) (p : Event → Bool) (u : ℕ) → ((t : ℕ) → commits t e ≡ false) → ((t : ℕ) → aborts t e ≡ false) → p e ≡ false → ((g : Event) → p g ≡ true → names u g ≡ true)
     → (is_active (events ++ e ∷ []) u && list_any p (events ++ e ∷ [])) ≡ (is_active events u && list_any p events)
 held-begin events o e p u c a fails names_it =
     ap (λ b. is_active (events ++ e ∷ []) u && b) (any_push_no p events e fails)
@@ -113,8 +113,8 @@ pub beginning-new : (events : List Event) (e : Event) (b : Beginning) → IsBegi
 beginning-new events e b is = ap (λ (bs : List Beginning). slice_get bs (length (beginnings events))) (beginnings-begin events e b is) ∙ slice_get_push_last (beginnings events) b
 
 -- nobody has named the next transaction
-pub not_named : (events : List Event) → IsOrderly events → (p : Event → Bool) → ((e : Event) → p e ≡ true → names (suc (length (beginnings events))) e ≡ true) → list_any p events ≡ false
+pub not_named : (events : List Event) → IsWellFormed events → (p : Event → Bool) → ((e : Event) → p e ≡ true → names (suc (length (beginnings events))) e ≡ true) → list_any p events ≡ false
 not_named events o p names_it =
     false_from_ne_true (list_any p events) (λ did.
-    let n : (1 ≤ suc (length (beginnings events))) × (suc (length (beginnings events)) < 1 + length (beginnings events)) = begun_number events (suc (length (beginnings events))) (o.begun (suc (length (beginnings events))) (any_implies p (names (suc (length (beginnings events)))) names_it events did)) in
+    let n : (1 ≤ suc (length (beginnings events))) × (suc (length (beginnings events)) < 1 + length (beginnings events)) = begun_in_range events (suc (length (beginnings events))) (o.begun (suc (length (beginnings events))) (any_implies p (names (suc (length (beginnings events)))) names_it events did)) in
     omega arith)

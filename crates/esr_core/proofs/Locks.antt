@@ -12,109 +12,109 @@ use Rattle.esr_core.specs.Words.{ItemId, TxnId, Event, Read, Write}
 use Rattle.esr_history.specs.Events.{Beginning, beginning_of, beginnings, beginning, numbers, commits, aborts, reads, writes, is_active, is_begun, is_query, is_update, holds_read, holds_write, reads_of}
 use Rattle.esr_history.specs.Machine.{writer}
 use Rattle.esr_history.specs.ItemLocks.{ItemLocks, query_reads, item_locks, locks_of}
-use Rattle.esr_history.specs.Orderly.{IsOrderly}
-use Rattle.esr_history.specs.Ascending.{placed, IsSmallest}
+use Rattle.esr_history.specs.Orderly.{IsWellFormed}
+use Rattle.esr_history.specs.Ascending.{upserted, IsSmallest}
 use Rattle.esr_history.proofs.Lists.{any_push, any_push_no, find_least, filter_map_push_none, find_some, or_false}
 use Rattle.esr_history.proofs.Charges.{range-push}
 use Rattle.esr_history.proofs.Orderly.{active_parts, update_begun}
-use Rattle.esr_history.proofs.Lawful.{begun_number}
+use Rattle.esr_history.proofs.Lawful.{begun_in_range}
 use Rattle.esr_history.proofs.Ranges.{map_same, set_range, filter_map_placed, filter_map_dropped, filter-filter_map, kept_if, kept_if_own, find_same, any_in_filter, filter_in_any}
 use Rattle.esr_history.proofs.Reaches.{count_none}
 use Rattle.esr_history.proofs.Words.{query_not_update}
-use Rattle.esr_locks.specs.Tables.{locks_at, no_locks, is_writer, is_reader, with_reader, with_writer, with_query_read, released, keeps_from_reading, keeps_from_writing}
+use Rattle.esr_locks.specs.Tables.{locks_at, no_locks, is_writer, is_reader, with_reader, with_writer, with_query_read, released, blocks_read, blocks_write}
 use Rattle.esr_locks.proofs.Least.{IsSmallest-same}
 use Rattle.esr_core.proofs.Held.{active-kept, held-begin, IsBegin, numbers-kept, query-kept, update-kept, beginnings-begin, beginning-begin, not_named, reads_name, writes_name, update_or_query}
 use Rattle.std.proofs.lemmas.Grind.{common_steps}
 
 -- who passes as a writer of an item, as a reader of it
-abbrev wrote : List Event → ℕ → ℕ → Bool
-wrote events x u = is_update events u && holds_write events u x
+abbrev update_holds_write : List Event → ℕ → ℕ → Bool
+update_holds_write events x u = is_update events u && holds_write events u x
 
-abbrev read_it : List Event → ℕ → ℕ → Bool
-read_it events x u = is_update events u && holds_read events u x
+abbrev update_holds_read : List Event → ℕ → ℕ → Bool
+update_holds_read events x u = is_update events u && holds_read events u x
 
 pub locks_len : (events : List Event) (n : ℕ) → length (locks_of events n) ≡ n
 locks_len events n = length-map-range_with_len (item_locks events) 0 n
 
-pub locks_here : (events : List Event) (n x : ℕ) → x < n → locks_at (locks_of events n) x ≡ item_locks events x
-locks_here events n x l = get_or-map-range_with_len (item_locks events) 0 n x x no_locks l (omega arith)
+pub locks_at_item : (events : List Event) (n x : ℕ) → x < n → locks_at (locks_of events n) x ≡ item_locks events x
+locks_at_item events n x l = get_or-map-range_with_len (item_locks events) 0 n x x no_locks l (omega arith)
 
 -- who holds a lock has a number
-holder_number : (events : List Event) (u : ℕ) (p : Bool) → (is_active events u && p) ≡ true → (1 ≤ u) × (u < 1 + length (beginnings events))
-holder_number events u p is = begun_number events u (active_parts events u (and_parts (is_active events u) p is).0).0
+holder_in_range : (events : List Event) (u : ℕ) (p : Bool) → (is_active events u && p) ≡ true → (1 ≤ u) × (u < 1 + length (beginnings events))
+holder_in_range events u p is = begun_in_range events u (active_parts events u (and_parts (is_active events u) p is).0).0
 
 filter_map_agree : {X : Type 0} (f g : ℕ → Option X) → ((u : ℕ) → f u ≡ g u) → (us : List ℕ) → filter_map f us ≡ filter_map g us
 filter_map_agree f g same [] = refl
 filter_map_agree f g same (u ∷ us) = rw (same u, filter_map_agree f g same us) refl
 
-module _ (events : List Event) (o : IsOrderly events) where
+module _ (events : List Event) (o : IsWellFormed events) where
   -- at most one update holds the write lock on an item
-  pub one_writer : (x u v : ℕ) → wrote events x u ≡ true → wrote events x v ≡ true → u ≡ v
+  pub one_writer : (x u v : ℕ) → update_holds_write events x u ≡ true → update_holds_write events x v ≡ true → u ≡ v
   one_writer x u v is_u is_v =
       same_Some u v (sym (o.exclusive u x (and_parts (is_update events u) (holds_write events u x) is_u).1) ∙ o.exclusive v x (and_parts (is_update events v) (holds_write events v x) is_v).1)
 
-  wrote_number : (x u : ℕ) → wrote events x u ≡ true → (1 ≤ u) × (u < 1 + length (beginnings events))
-  wrote_number x u is = holder_number events u (list_any (writes u x) events) (and_parts (is_update events u) (holds_write events u x) is).1
+  writer_in_range : (x u : ℕ) → update_holds_write events x u ≡ true → (1 ≤ u) × (u < 1 + length (beginnings events))
+  writer_in_range x u is = holder_in_range events u (list_any (writes u x) events) (and_parts (is_update events u) (holds_write events u x) is).1
 
   -- the holder of the write lock is found
-  pub writer_found : (x u : ℕ) → wrote events x u ≡ true → writer events x ≡ Some u
+  pub writer_found : (x u : ℕ) → update_holds_write events x u ≡ true → writer events x ≡ Some u
   writer_found x u is =
-      find_least (wrote events x) (length (beginnings events)) (Some u)
-      (is, λ v l. false_from_ne_true (wrote events x v) (λ is_v. let e : v ≡ u = one_writer x v u is_v is in omega arith))
-      (wrote_number x)
+      find_least (update_holds_write events x) (length (beginnings events)) (Some u)
+      (is, λ v l. false_from_ne_true (update_holds_write events x v) (λ is_v. let e : v ≡ u = one_writer x v u is_v is in omega arith))
+      (writer_in_range x)
 
   -- the writer of the locks on an item is who holds the write lock
-  pub writer_is : (x u : ℕ) → is_writer (item_locks events x) u ≡ wrote events x u
+  pub writer_is : (x u : ℕ) → is_writer (item_locks events x) u ≡ update_holds_write events x u
   writer_is x u =
-      elim (cases_Bool (wrote events x u)) [
+      elim (cases_Bool (update_holds_write events x u)) [
         | inl is ↦ rw (writer_found x u is) (eq-eqb u u refl ∙ sym is)
         | inr isnt ↦ false_from_ne_true (is_writer (item_locks events x) u) (λ it. false≢true (sym isnt ∙ found (writer events x) refl it)) ∙ sym isnt
       ]
     where
-      found : (w : Option ℕ) → writer events x ≡ w → unwrap_or (option_map (λ v. v == u) w) false ≡ true → wrote events x u ≡ true
+      found : (w : Option ℕ) → writer events x ≡ w → unwrap_or (option_map (λ v. v == u) w) false ≡ true → update_holds_write events x u ≡ true
       found None is it = absurd (false≢true it)
-      found (Some v) is it = ap (wrote events x) (sym (eqb-true v u it)) ∙ find_some (wrote events x) (numbers events) v is
+      found (Some v) is it = ap (update_holds_write events x) (sym (eqb-true v u it)) ∙ find_some (update_holds_write events x) (numbers events) v is
 
-  pub reader_is : (x u : ℕ) → is_reader (item_locks events x) u ≡ read_it events x u
+  pub reader_is : (x u : ℕ) → is_reader (item_locks events x) u ≡ update_holds_read events x u
   reader_is x u =
-      elim (cases_Bool (read_it events x u)) [
+      elim (cases_Bool (update_holds_read events x u)) [
         | inl is ↦
-            let n : (1 ≤ u) × (u < 1 + length (beginnings events)) = holder_number events u (list_any (reads u x) events) (and_parts (is_update events u) (holds_read events u x) is).1 in
-            filter_in_any (read_it events x) u 1 (length (beginnings events)) is n.0 n.1 ∙ sym is
-        | inr isnt ↦ false_from_ne_true (is_reader (item_locks events x) u) (λ it. false≢true (sym isnt ∙ any_in_filter (read_it events x) u (numbers events) it)) ∙ sym isnt
+            let n : (1 ≤ u) × (u < 1 + length (beginnings events)) = holder_in_range events u (list_any (reads u x) events) (and_parts (is_update events u) (holds_read events u x) is).1 in
+            filter_in_any (update_holds_read events x) u 1 (length (beginnings events)) is n.0 n.1 ∙ sym is
+        | inr isnt ↦ false_from_ne_true (is_reader (item_locks events x) u) (λ it. false≢true (sym isnt ∙ any_in_filter (update_holds_read events x) u (numbers events) it)) ∙ sym isnt
       ]
 
   -- the update that keeps another from reading, and the smallest that keeps it from writing
-  pub least_writer : (t x : ℕ) (r : Option ℕ) → IsSmallest (keeps_from_reading (item_locks events x) t) r → find (λ u. not (u == t) && wrote events x u) (numbers events) ≡ r
-  least_writer t x r least =
-      find_least (λ u. not (u == t) && wrote events x u) (length (beginnings events)) r
-      (IsSmallest-same (keeps_from_reading (item_locks events x) t) (λ u. not (u == t) && wrote events x u) r (λ u. ap (λ b. not (u == t) && b) (writer_is x u)) least)
-      (λ u is. wrote_number x u (and_parts (not (u == t)) (wrote events x u) is).1)
+  pub find_read_blocker : (t x : ℕ) (r : Option ℕ) → IsSmallest (blocks_read (item_locks events x) t) r → find (λ u. not (u == t) && update_holds_write events x u) (numbers events) ≡ r
+  find_read_blocker t x r least =
+      find_least (λ u. not (u == t) && update_holds_write events x u) (length (beginnings events)) r
+      (IsSmallest-same (blocks_read (item_locks events x) t) (λ u. not (u == t) && update_holds_write events x u) r (λ u. ap (λ b. not (u == t) && b) (writer_is x u)) least)
+      (λ u is. writer_in_range x u (and_parts (not (u == t)) (update_holds_write events x u) is).1)
 
-  either_update : (u x : ℕ) → (read_it events x u || wrote events x u) ≡ (is_update events u && (holds_read events u x || holds_write events u x))
-  either_update u x = grind (arith, common_steps)
+  and_or_distributes : (u x : ℕ) → (update_holds_read events x u || update_holds_write events x u) ≡ (is_update events u && (holds_read events u x || holds_write events u x))
+  and_or_distributes u x = grind (arith, common_steps)
 
-  pub least_holder : (t x : ℕ) (r : Option ℕ) → IsSmallest (keeps_from_writing (item_locks events x) t) r → find (λ u. not (u == t) && (is_update events u && (holds_read events u x || holds_write events u x))) (numbers events) ≡ r
-  least_holder t x r least =
+  pub find_write_blocker : (t x : ℕ) (r : Option ℕ) → IsSmallest (blocks_write (item_locks events x) t) r → find (λ u. not (u == t) && (is_update events u && (holds_read events u x || holds_write events u x))) (numbers events) ≡ r
+  find_write_blocker t x r least =
       find_least (λ u. not (u == t) && (is_update events u && (holds_read events u x || holds_write events u x))) (length (beginnings events)) r
-      (IsSmallest-same (keeps_from_writing (item_locks events x) t) (λ u. not (u == t) && (is_update events u && (holds_read events u x || holds_write events u x))) r
-      (λ u. ap (λ b. not (u == t) && b) (ap (λ b. b || is_writer (item_locks events x) u) (reader_is x u) ∙ (ap (λ b. read_it events x u || b) (writer_is x u) ∙ either_update u x))) least)
+      (IsSmallest-same (blocks_write (item_locks events x) t) (λ u. not (u == t) && (is_update events u && (holds_read events u x || holds_write events u x))) r
+      (λ u. ap (λ b. not (u == t) && b) (ap (λ b. b || is_writer (item_locks events x) u) (reader_is x u) ∙ (ap (λ b. update_holds_read events x u || b) (writer_is x u) ∙ and_or_distributes u x))) least)
       number
     where
       number : (u : ℕ) → (not (u == t) && (is_update events u && (holds_read events u x || holds_write events u x))) ≡ true → (1 ≤ u) × (u < 1 + length (beginnings events))
-      number u is = begun_number events u (update_begun events u (and_parts (is_update events u) (holds_read events u x || holds_write events u x) (and_parts (not (u == t)) (is_update events u && (holds_read events u x || holds_write events u x)) is).1).0)
+      number u is = begun_in_range events u (update_begun events u (and_parts (is_update events u) (holds_read events u x || holds_write events u x) (and_parts (not (u == t)) (is_update events u && (holds_read events u x || holds_write events u x)) is).1).0)
 
-locks_same : (w v : Option ℕ) (r s : List ℕ) (q p : List (ℕ × ℕ)) → w ≡ v → r ≡ s → q ≡ p → ◌≡◌ {A = ItemLocks} (record { writer = w; readers = r; queries = q }) (record { writer = v; readers = s; queries = p })
-locks_same w v r s q p e f g = grind (arith, common_steps)
+locks_congruent : (w v : Option ℕ) (r s : List ℕ) (q p : List (ℕ × ℕ)) → w ≡ v → r ≡ s → q ≡ p → ◌≡◌ {A = ItemLocks} (record { writer = w; readers = r; queries = q }) (record { writer = v; readers = s; queries = p })
+locks_congruent w v r s q p e f g = grind (arith, common_steps)
 
 -- two sets of accepted events with the same numbers and the same locks on an item
-locks_agree : (old new : List Event) (x : ℕ) → numbers new ≡ numbers old → ((u : ℕ) → wrote new x u ≡ wrote old x u) → ((u : ℕ) → read_it new x u ≡ read_it old x u) → ((u : ℕ) → query_reads new x u ≡ query_reads old x u)
+locks_extensional : (old new : List Event) (x : ℕ) → numbers new ≡ numbers old → ((u : ℕ) → update_holds_write new x u ≡ update_holds_write old x u) → ((u : ℕ) → update_holds_read new x u ≡ update_holds_read old x u) → ((u : ℕ) → query_reads new x u ≡ query_reads old x u)
     → item_locks new x ≡ item_locks old x
-locks_agree old new x n w r q =
-    let writers : writer new x ≡ writer old x = ap (find (wrote new x)) n ∙ find_same (wrote new x) (wrote old x) w (numbers old) in
-    let readers : filter (read_it new x) (numbers new) ≡ filter (read_it old x) (numbers old) = ap (filter (read_it new x)) n ∙ filter_agree (read_it new x) (read_it old x) r (numbers old) in
+locks_extensional old new x n w r q =
+    let writers : writer new x ≡ writer old x = ap (find (update_holds_write new x)) n ∙ find_same (update_holds_write new x) (update_holds_write old x) w (numbers old) in
+    let readers : filter (update_holds_read new x) (numbers new) ≡ filter (update_holds_read old x) (numbers old) = ap (filter (update_holds_read new x)) n ∙ filter_agree (update_holds_read new x) (update_holds_read old x) r (numbers old) in
     let queries : filter_map (query_reads new x) (numbers new) ≡ filter_map (query_reads old x) (numbers old) = ap (filter_map (query_reads new x)) n ∙ filter_map_agree (query_reads new x) (query_reads old x) q (numbers old) in
-    locks_same (writer new x) (writer old x) (filter (read_it new x) (numbers new)) (filter (read_it old x) (numbers old)) (filter_map (query_reads new x) (numbers new)) (filter_map (query_reads old x) (numbers old)) writers readers queries
+    locks_congruent (writer new x) (writer old x) (filter (update_holds_read new x) (numbers new)) (filter (update_holds_read old x) (numbers old)) (filter_map (query_reads new x) (numbers new)) (filter_map (query_reads old x) (numbers old)) writers readers queries
 
 query_reads_own : (events : List Event) (x u : ℕ) (y : ℕ × ℕ) → query_reads events x u ≡ Some y → y.0 ≡ u
 query_reads_own events x u y is = at (is_query events u && holds_read events u x) is
@@ -125,10 +125,10 @@ query_reads_own events x u y is = at (is_query events u && holds_read events u x
 
 -- An event that begins and ends nothing.
 module _ (events : List Event) (e : Event) (none : beginning_of e ≡ None) (c : (t : ℕ) → commits t e ≡ false) (a : (t : ℕ) → aborts t e ≡ false) (x : ℕ) where
-  wrote-step : (u : ℕ) → wrote (events ++ e ∷ []) x u ≡ (is_update events u && (is_active events u && (list_any (writes u x) events || writes u x e)))
-  wrote-step u = rw (update-kept events e none u, active-kept events e none c a u, any_push (writes u x) events e) refl
+  update_holds_write-step : (u : ℕ) → update_holds_write (events ++ e ∷ []) x u ≡ (is_update events u && (is_active events u && (list_any (writes u x) events || writes u x e)))
+  update_holds_write-step u = rw (update-kept events e none u, active-kept events e none c a u, any_push (writes u x) events e) refl
 
-  read-step : (u : ℕ) → read_it (events ++ e ∷ []) x u ≡ (is_update events u && (is_active events u && (list_any (reads u x) events || reads u x e)))
+  read-step : (u : ℕ) → update_holds_read (events ++ e ∷ []) x u ≡ (is_update events u && (is_active events u && (list_any (reads u x) events || reads u x e)))
   read-step u = rw (update-kept events e none u, active-kept events e none c a u, any_push (reads u x) events e) refl
 
   count-step : (u : ℕ) → reads_of (events ++ e ∷ []) u x ≡ reads_of events u x + (if reads u x e then 1 else 0)
@@ -137,10 +137,10 @@ module _ (events : List Event) (e : Event) (none : beginning_of e ≡ None) (c :
   query-step : (u : ℕ) → query_reads (events ++ e ∷ []) x u ≡ (if is_query events u && (is_active events u && (list_any (reads u x) events || reads u x e)) then Some (u, reads_of events u x + (if reads u x e then 1 else 0)) else None)
   query-step u = rw (query-kept events e none u, active-kept events e none c a u, any_push (reads u x) events e, count-step u) refl
 
-  wrote-same : (u : ℕ) → writes u x e ≡ false → wrote (events ++ e ∷ []) x u ≡ wrote events x u
-  wrote-same u fails = wrote-step u ∙ ap (λ b. is_update events u && (is_active events u && b)) (ap (λ b. list_any (writes u x) events || b) fails ∙ or_false (list_any (writes u x) events))
+  update_holds_write-same : (u : ℕ) → writes u x e ≡ false → update_holds_write (events ++ e ∷ []) x u ≡ update_holds_write events x u
+  update_holds_write-same u fails = update_holds_write-step u ∙ ap (λ b. is_update events u && (is_active events u && b)) (ap (λ b. list_any (writes u x) events || b) fails ∙ or_false (list_any (writes u x) events))
 
-  read-same : (u : ℕ) → reads u x e ≡ false → read_it (events ++ e ∷ []) x u ≡ read_it events x u
+  read-same : (u : ℕ) → reads u x e ≡ false → update_holds_read (events ++ e ∷ []) x u ≡ update_holds_read events x u
   read-same u fails = read-step u ∙ ap (λ b. is_update events u && (is_active events u && b)) (ap (λ b. list_any (reads u x) events || b) fails ∙ or_false (list_any (reads u x) events))
 
   query-same : (u : ℕ) → reads u x e ≡ false → query_reads (events ++ e ∷ []) x u ≡ query_reads events x u
@@ -148,7 +148,7 @@ module _ (events : List Event) (e : Event) (none : beginning_of e ≡ None) (c :
 
   -- an event on another item
   locks-other : ((u : ℕ) → writes u x e ≡ false) → ((u : ℕ) → reads u x e ≡ false) → item_locks (events ++ e ∷ []) x ≡ item_locks events x
-  locks-other w r = locks_agree events (events ++ e ∷ []) x (numbers-kept events e none) (λ u. wrote-same u (w u)) (λ u. read-same u (r u)) (λ u. query-same u (r u))
+  locks-other w r = locks_extensional events (events ++ e ∷ []) x (numbers-kept events e none) (λ u. update_holds_write-same u (w u)) (λ u. read-same u (r u)) (λ u. query-same u (r u))
 
 -- a read by an update
 module _ (events : List Event) (t : TxnId) (x : ItemId) where
@@ -159,27 +159,27 @@ module _ (events : List Event) (t : TxnId) (x : ItemId) where
   no_other_reads u ne = and_left (t.0 == u) (x.0 == x.0) (ne_eqb t.0 u (λ (f : t.0 ≡ u). ne (sym f)))
 
   writer-read : writer (events ++ Read t x ∷ []) x.0 ≡ writer events x.0
-  writer-read = ap (find (wrote (events ++ Read t x ∷ []) x.0)) (numbers-kept events (Read t x) refl) ∙ find_same (wrote (events ++ Read t x ∷ []) x.0) (wrote events x.0) (λ u. wrote-same events (Read t x) refl (λ v. refl) (λ v. refl) x.0 u refl) (numbers events)
+  writer-read = ap (find (update_holds_write (events ++ Read t x ∷ []) x.0)) (numbers-kept events (Read t x) refl) ∙ find_same (update_holds_write (events ++ Read t x ∷ []) x.0) (update_holds_write events x.0) (λ u. update_holds_write-same events (Read t x) refl (λ v. refl) (λ v. refl) x.0 u refl) (numbers events)
 
   locks-read : is_update events t.0 ≡ true → is_active events t.0 ≡ true → item_locks (events ++ Read t x ∷ []) x.0 ≡ with_reader t.0 (item_locks events x.0)
   locks-read update act =
-      let r : filter (read_it (events ++ Read t x ∷ []) x.0) (numbers (events ++ Read t x ∷ [])) ≡ placed (λ u. u) t.0 t.0 (λ u. u) (filter (read_it events x.0) (numbers events)) =
-      ap (filter (read_it (events ++ Read t x ∷ []) x.0)) (numbers-kept events (Read t x) refl)
-      ∙ (filter-filter_map (read_it (events ++ Read t x ∷ []) x.0) (numbers events)
-      ∙ (filter_map_placed (λ u. u) (kept_if (read_it events x.0)) (kept_if_own (read_it events x.0)) (kept_if (read_it (events ++ Read t x ∷ []) x.0)) t.0 t.0 (λ u. u)
+      let r : filter (update_holds_read (events ++ Read t x ∷ []) x.0) (numbers (events ++ Read t x ∷ [])) ≡ upserted (λ u. u) t.0 t.0 (λ u. u) (filter (update_holds_read events x.0) (numbers events)) =
+      ap (filter (update_holds_read (events ++ Read t x ∷ []) x.0)) (numbers-kept events (Read t x) refl)
+      ∙ (filter-filter_map (update_holds_read (events ++ Read t x ∷ []) x.0) (numbers events)
+      ∙ (filter_map_placed (λ u. u) (kept_if (update_holds_read events x.0)) (kept_if_own (update_holds_read events x.0)) (kept_if (update_holds_read (events ++ Read t x ∷ []) x.0)) t.0 t.0 (λ u. u)
       (λ u ne. ap (λ b. if b then Some u else None) (read-same events (Read t x) refl (λ v. refl) (λ v. refl) x.0 u (no_other_reads u ne)))
-      (ap (λ b. if b then Some t.0 else None) reads_now ∙ was (read_it events x.0 t.0))
+      (ap (λ b. if b then Some t.0 else None) reads_now ∙ was (update_holds_read events x.0 t.0))
       1 (length (beginnings events)) number.0 number.1
-      ∙ ap (placed (λ u. u) t.0 t.0 (λ u. u)) (sym (filter-filter_map (read_it events x.0) (numbers events))))) in
+      ∙ ap (upserted (λ u. u) t.0 t.0 (λ u. u)) (sym (filter-filter_map (update_holds_read events x.0) (numbers events))))) in
       let q : filter_map (query_reads (events ++ Read t x ∷ []) x.0) (numbers (events ++ Read t x ∷ [])) ≡ filter_map (query_reads events x.0) (numbers events) =
       ap (filter_map (query_reads (events ++ Read t x ∷ []) x.0)) (numbers-kept events (Read t x) refl) ∙ filter_map_agree (query_reads (events ++ Read t x ∷ []) x.0) (query_reads events x.0) queries (numbers events) in
-      locks_same (writer (events ++ Read t x ∷ []) x.0) (writer events x.0) (filter (read_it (events ++ Read t x ∷ []) x.0) (numbers (events ++ Read t x ∷ []))) (placed (λ u. u) t.0 t.0 (λ u. u) (filter (read_it events x.0) (numbers events)))
+      locks_congruent (writer (events ++ Read t x ∷ []) x.0) (writer events x.0) (filter (update_holds_read (events ++ Read t x ∷ []) x.0) (numbers (events ++ Read t x ∷ []))) (upserted (λ u. u) t.0 t.0 (λ u. u) (filter (update_holds_read events x.0) (numbers events)))
       (filter_map (query_reads (events ++ Read t x ∷ []) x.0) (numbers (events ++ Read t x ∷ []))) (filter_map (query_reads events x.0) (numbers events)) writer-read r q
     where
       number : (1 ≤ t.0) × (t.0 < 1 + length (beginnings events))
-      number = begun_number events t.0 (update_begun events t.0 update)
+      number = begun_in_range events t.0 (update_begun events t.0 update)
 
-      reads_now : read_it (events ++ Read t x ∷ []) x.0 t.0 ≡ true
+      reads_now : update_holds_read (events ++ Read t x ∷ []) x.0 t.0 ≡ true
       reads_now =
           read-step events (Read t x) refl (λ v. refl) (λ v. refl) x.0 t.0
           ∙ (ap (λ b. b && (is_active events t.0 && (list_any (reads t.0 x.0) events || reads t.0 x.0 (Read t x)))) update
@@ -196,21 +196,21 @@ module _ (events : List Event) (t : TxnId) (x : ItemId) where
   -- a read by a query
   locks-query : is_query events t.0 ≡ true → is_active events t.0 ≡ true → item_locks (events ++ Read t x ∷ []) x.0 ≡ with_query_read t.0 (item_locks events x.0)
   locks-query query act =
-      let r : filter (read_it (events ++ Read t x ∷ []) x.0) (numbers (events ++ Read t x ∷ [])) ≡ filter (read_it events x.0) (numbers events) =
-      ap (filter (read_it (events ++ Read t x ∷ []) x.0)) (numbers-kept events (Read t x) refl) ∙ filter_agree (read_it (events ++ Read t x ∷ []) x.0) (read_it events x.0) readers (numbers events) in
-      let q : filter_map (query_reads (events ++ Read t x ∷ []) x.0) (numbers (events ++ Read t x ∷ [])) ≡ placed (λ (p : ℕ × ℕ). p.0) t.0 (t.0, 1) (λ (p : ℕ × ℕ). (p.0, p.1 + 1)) (filter_map (query_reads events x.0) (numbers events)) =
+      let r : filter (update_holds_read (events ++ Read t x ∷ []) x.0) (numbers (events ++ Read t x ∷ [])) ≡ filter (update_holds_read events x.0) (numbers events) =
+      ap (filter (update_holds_read (events ++ Read t x ∷ []) x.0)) (numbers-kept events (Read t x) refl) ∙ filter_agree (update_holds_read (events ++ Read t x ∷ []) x.0) (update_holds_read events x.0) readers (numbers events) in
+      let q : filter_map (query_reads (events ++ Read t x ∷ []) x.0) (numbers (events ++ Read t x ∷ [])) ≡ upserted (λ (p : ℕ × ℕ). p.0) t.0 (t.0, 1) (λ (p : ℕ × ℕ). (p.0, p.1 + 1)) (filter_map (query_reads events x.0) (numbers events)) =
       ap (filter_map (query_reads (events ++ Read t x ∷ []) x.0)) (numbers-kept events (Read t x) refl)
       ∙ filter_map_placed (λ (p : ℕ × ℕ). p.0) (query_reads events x.0) (query_reads_own events x.0) (query_reads (events ++ Read t x ∷ []) x.0) t.0 (t.0, 1) (λ (p : ℕ × ℕ). (p.0, p.1 + 1))
       (λ u ne. query-same events (Read t x) refl (λ v. refl) (λ v. refl) x.0 u (no_other_reads u ne))
       (reads_now ∙ was (list_any (reads t.0 x.0) events) refl)
       1 (length (beginnings events)) number.0 number.1 in
-      locks_same (writer (events ++ Read t x ∷ []) x.0) (writer events x.0) (filter (read_it (events ++ Read t x ∷ []) x.0) (numbers (events ++ Read t x ∷ []))) (filter (read_it events x.0) (numbers events))
-      (filter_map (query_reads (events ++ Read t x ∷ []) x.0) (numbers (events ++ Read t x ∷ []))) (placed (λ (p : ℕ × ℕ). p.0) t.0 (t.0, 1) (λ (p : ℕ × ℕ). (p.0, p.1 + 1)) (filter_map (query_reads events x.0) (numbers events))) writer-read r q
+      locks_congruent (writer (events ++ Read t x ∷ []) x.0) (writer events x.0) (filter (update_holds_read (events ++ Read t x ∷ []) x.0) (numbers (events ++ Read t x ∷ []))) (filter (update_holds_read events x.0) (numbers events))
+      (filter_map (query_reads (events ++ Read t x ∷ []) x.0) (numbers (events ++ Read t x ∷ []))) (upserted (λ (p : ℕ × ℕ). p.0) t.0 (t.0, 1) (λ (p : ℕ × ℕ). (p.0, p.1 + 1)) (filter_map (query_reads events x.0) (numbers events))) writer-read r q
     where
       number : (1 ≤ t.0) × (t.0 < 1 + length (beginnings events))
-      number = begun_number events t.0 (active_parts events t.0 act).0
+      number = begun_in_range events t.0 (active_parts events t.0 act).0
 
-      readers : (u : ℕ) → read_it (events ++ Read t x ∷ []) x.0 u ≡ read_it events x.0 u
+      readers : (u : ℕ) → update_holds_read (events ++ Read t x ∷ []) x.0 u ≡ update_holds_read events x.0 u
       readers u = grind (arith, cases_eq u t.0, read-step events (Read t x) refl (λ v. refl) (λ v. refl) x.0 u, read-same events (Read t x) refl (λ v. refl) (λ v. refl) x.0 u, no_other_reads u, query_not_update events t.0 query)
 
       reads_now : query_reads (events ++ Read t x ∷ []) x.0 t.0 ≡ Some (t.0, reads_of events t.0 x.0 + 1)
@@ -228,38 +228,38 @@ module _ (events : List Event) (t : TxnId) (x : ItemId) where
 
 -- a write, where nobody else holds a lock on the item
 module _ (events : List Event) (t : TxnId) (x : ItemId) (v : ℤ) where
-  pub locks-write : IsOrderly (events ++ Write t x v ∷ []) → is_update events t.0 ≡ true → is_active events t.0 ≡ true → item_locks (events ++ Write t x v ∷ []) x.0 ≡ with_writer t.0 (item_locks events x.0)
+  pub locks-write : IsWellFormed (events ++ Write t x v ∷ []) → is_update events t.0 ≡ true → is_active events t.0 ≡ true → item_locks (events ++ Write t x v ∷ []) x.0 ≡ with_writer t.0 (item_locks events x.0)
   locks-write o update act =
       let w : writer (events ++ Write t x v ∷ []) x.0 ≡ Some t.0 = writer_found (events ++ Write t x v ∷ []) o x.0 t.0 writes_now in
-      let r : filter (read_it (events ++ Write t x v ∷ []) x.0) (numbers (events ++ Write t x v ∷ [])) ≡ filter (read_it events x.0) (numbers events) =
-      ap (filter (read_it (events ++ Write t x v ∷ []) x.0)) (numbers-kept events (Write t x v) refl) ∙ filter_agree (read_it (events ++ Write t x v ∷ []) x.0) (read_it events x.0) (λ u. read-same events (Write t x v) refl (λ w. refl) (λ w. refl) x.0 u refl) (numbers events) in
+      let r : filter (update_holds_read (events ++ Write t x v ∷ []) x.0) (numbers (events ++ Write t x v ∷ [])) ≡ filter (update_holds_read events x.0) (numbers events) =
+      ap (filter (update_holds_read (events ++ Write t x v ∷ []) x.0)) (numbers-kept events (Write t x v) refl) ∙ filter_agree (update_holds_read (events ++ Write t x v ∷ []) x.0) (update_holds_read events x.0) (λ u. read-same events (Write t x v) refl (λ w. refl) (λ w. refl) x.0 u refl) (numbers events) in
       let q : filter_map (query_reads (events ++ Write t x v ∷ []) x.0) (numbers (events ++ Write t x v ∷ [])) ≡ filter_map (query_reads events x.0) (numbers events) =
       ap (filter_map (query_reads (events ++ Write t x v ∷ []) x.0)) (numbers-kept events (Write t x v) refl) ∙ filter_map_agree (query_reads (events ++ Write t x v ∷ []) x.0) (query_reads events x.0) (λ u. query-same events (Write t x v) refl (λ w. refl) (λ w. refl) x.0 u refl) (numbers events) in
-      locks_same (writer (events ++ Write t x v ∷ []) x.0) (Some t.0) (filter (read_it (events ++ Write t x v ∷ []) x.0) (numbers (events ++ Write t x v ∷ []))) (filter (read_it events x.0) (numbers events))
+      locks_congruent (writer (events ++ Write t x v ∷ []) x.0) (Some t.0) (filter (update_holds_read (events ++ Write t x v ∷ []) x.0) (numbers (events ++ Write t x v ∷ []))) (filter (update_holds_read events x.0) (numbers events))
       (filter_map (query_reads (events ++ Write t x v ∷ []) x.0) (numbers (events ++ Write t x v ∷ []))) (filter_map (query_reads events x.0) (numbers events)) w r q
     where
-      writes_now : wrote (events ++ Write t x v ∷ []) x.0 t.0 ≡ true
+      writes_now : update_holds_write (events ++ Write t x v ∷ []) x.0 t.0 ≡ true
       writes_now =
-          wrote-step events (Write t x v) refl (λ w. refl) (λ w. refl) x.0 t.0
+          update_holds_write-step events (Write t x v) refl (λ w. refl) (λ w. refl) x.0 t.0
           ∙ (ap (λ b. b && (is_active events t.0 && (list_any (writes t.0 x.0) events || writes t.0 x.0 (Write t x v)))) update
           ∙ (ap (λ b. b && (list_any (writes t.0 x.0) events || writes t.0 x.0 (Write t x v))) act
           ∙ or_right (list_any (writes t.0 x.0) events) (writes t.0 x.0 (Write t x v)) (and_from (t.0 == t.0) (x.0 == x.0) (eq-eqb t.0 t.0 refl) (eq-eqb x.0 x.0 refl))))
 
 -- the end of a transaction
-module _ (events : List Event) (o : IsOrderly events) (e : Event) (none : beginning_of e ≡ None) (t : ℕ) (ends : (u : ℕ) → is_active (events ++ e ∷ []) u ≡ (is_active events u && not (t == u)))
+module _ (events : List Event) (o : IsWellFormed events) (e : Event) (none : beginning_of e ≡ None) (t : ℕ) (ends : (u : ℕ) → is_active (events ++ e ∷ []) u ≡ (is_active events u && not (t == u)))
     (no_reads : (u x : ℕ) → reads u x e ≡ false) (no_writes : (u x : ℕ) → writes u x e ≡ false) (x : ℕ) where
-  drops : (a b e' c : Bool) → (a && ((b && not e') && c)) ≡ ((a && (b && c)) && not e')
-  drops true true true c = sym (and_right c false refl)
-  drops true true false true = refl
-  drops true true false false = refl
-  drops true false e' c = refl
-  drops false b e' c = refl
+  and_not_swap : (a b e' c : Bool) → (a && ((b && not e') && c)) ≡ ((a && (b && c)) && not e')
+  and_not_swap true true true c = sym (and_right c false refl)
+  and_not_swap true true false true = refl
+  and_not_swap true true false false = refl
+  and_not_swap true false e' c = refl
+  and_not_swap false b e' c = refl
 
-  wrote-end : (u : ℕ) → wrote (events ++ e ∷ []) x u ≡ (wrote events x u && not (t == u))
-  wrote-end u = rw (update-kept events e none u, ends u, any_push_no (writes u x) events e (no_writes u x)) (drops (is_update events u) (is_active events u) (t == u) (list_any (writes u x) events))
+  update_holds_write-end : (u : ℕ) → update_holds_write (events ++ e ∷ []) x u ≡ (update_holds_write events x u && not (t == u))
+  update_holds_write-end u = rw (update-kept events e none u, ends u, any_push_no (writes u x) events e (no_writes u x)) (and_not_swap (is_update events u) (is_active events u) (t == u) (list_any (writes u x) events))
 
-  read-end : (u : ℕ) → read_it (events ++ e ∷ []) x u ≡ (read_it events x u && not (t == u))
-  read-end u = rw (update-kept events e none u, ends u, any_push_no (reads u x) events e (no_reads u x)) (drops (is_update events u) (is_active events u) (t == u) (list_any (reads u x) events))
+  read-end : (u : ℕ) → update_holds_read (events ++ e ∷ []) x u ≡ (update_holds_read events x u && not (t == u))
+  read-end u = rw (update-kept events e none u, ends u, any_push_no (reads u x) events e (no_reads u x)) (and_not_swap (is_update events u) (is_active events u) (t == u) (list_any (reads u x) events))
 
   count-end : (u : ℕ) → reads_of (events ++ e ∷ []) u x ≡ reads_of events u x
   count-end u = sum_by_push (λ f. if reads u x f then 1 else 0) events e ∙ (ap (λ b. reads_of events u x + (if b then 1 else 0)) (no_reads u x) ∙ add-zero (reads_of events u x))
@@ -267,60 +267,60 @@ module _ (events : List Event) (o : IsOrderly events) (e : Event) (none : beginn
   query-end : (u : ℕ) → query_reads (events ++ e ∷ []) x u ≡ (if (is_query events u && holds_read events u x) && not (t == u) then Some (u, reads_of events u x) else None)
   query-end u =
       ap (λ n. if is_query (events ++ e ∷ []) u && holds_read (events ++ e ∷ []) u x then Some (u, n) else None) (count-end u)
-      ∙ ap (λ b. if b then Some (u, reads_of events u x) else None) (rw (query-kept events e none u, ends u, any_push_no (reads u x) events e (no_reads u x)) (drops (is_query events u) (is_active events u) (t == u) (list_any (reads u x) events)))
+      ∙ ap (λ b. if b then Some (u, reads_of events u x) else None) (rw (query-kept events e none u, ends u, any_push_no (reads u x) events e (no_reads u x)) (and_not_swap (is_query events u) (is_active events u) (t == u) (list_any (reads u x) events)))
 
-  stays_true : (b : Bool) (u : ℕ) → (u ≡ t → ⊥) → (b && not (t == u)) ≡ b
-  stays_true b u ne = ap (λ c. b && not c) (ne_eqb t u (λ (f : t ≡ u). ne (sym f))) ∙ and-true b
+  and_not_other : (b : Bool) (u : ℕ) → (u ≡ t → ⊥) → (b && not (t == u)) ≡ b
+  and_not_other b u ne = ap (λ c. b && not c) (ne_eqb t u (λ (f : t ≡ u). ne (sym f))) ∙ and-true b
 
-  gone : (b : Bool) → (b && not (t == t)) ≡ false
-  gone b = ap (λ c. b && not c) (eq-eqb t t refl) ∙ and_right b false refl
+  and_not_self : (b : Bool) → (b && not (t == t)) ≡ false
+  and_not_self b = ap (λ c. b && not c) (eq-eqb t t refl) ∙ and_right b false refl
 
   pub locks-end : item_locks (events ++ e ∷ []) x ≡ released t (item_locks events x)
   locks-end =
-      let r : filter (read_it (events ++ e ∷ []) x) (numbers (events ++ e ∷ [])) ≡ filter (λ u. not (u == t)) (filter (read_it events x) (numbers events)) =
-      ap (filter (read_it (events ++ e ∷ []) x)) (numbers-kept events e none)
-      ∙ (filter-filter_map (read_it (events ++ e ∷ []) x) (numbers events)
-      ∙ (filter_map_dropped (λ u. u) (kept_if (read_it events x)) (kept_if_own (read_it events x)) (kept_if (read_it (events ++ e ∷ []) x)) t
-      (λ u ne. ap (λ b. if b then Some u else None) (read-end u ∙ stays_true (read_it events x u) u ne))
-      (ap (λ b. if b then Some t else None) (read-end t ∙ gone (read_it events x t))) (numbers events)
-      ∙ ap (filter (λ u. not (u == t))) (sym (filter-filter_map (read_it events x) (numbers events))))) in
+      let r : filter (update_holds_read (events ++ e ∷ []) x) (numbers (events ++ e ∷ [])) ≡ filter (λ u. not (u == t)) (filter (update_holds_read events x) (numbers events)) =
+      ap (filter (update_holds_read (events ++ e ∷ []) x)) (numbers-kept events e none)
+      ∙ (filter-filter_map (update_holds_read (events ++ e ∷ []) x) (numbers events)
+      ∙ (filter_map_dropped (λ u. u) (kept_if (update_holds_read events x)) (kept_if_own (update_holds_read events x)) (kept_if (update_holds_read (events ++ e ∷ []) x)) t
+      (λ u ne. ap (λ b. if b then Some u else None) (read-end u ∙ and_not_other (update_holds_read events x u) u ne))
+      (ap (λ b. if b then Some t else None) (read-end t ∙ and_not_self (update_holds_read events x t))) (numbers events)
+      ∙ ap (filter (λ u. not (u == t))) (sym (filter-filter_map (update_holds_read events x) (numbers events))))) in
       let q : filter_map (query_reads (events ++ e ∷ []) x) (numbers (events ++ e ∷ [])) ≡ filter (λ (p : ℕ × ℕ). not (p.0 == t)) (filter_map (query_reads events x) (numbers events)) =
       ap (filter_map (query_reads (events ++ e ∷ []) x)) (numbers-kept events e none)
       ∙ filter_map_dropped (λ (p : ℕ × ℕ). p.0) (query_reads events x) (query_reads_own events x) (query_reads (events ++ e ∷ []) x) t
-      (λ u ne. query-end u ∙ ap (λ b. if b then Some (u, reads_of events u x) else None) (stays_true (is_query events u && holds_read events u x) u ne))
-      (query-end t ∙ ap (λ b. if b then Some (t, reads_of events t x) else None) (gone (is_query events t && holds_read events t x))) (numbers events) in
-      locks_same (writer (events ++ e ∷ []) x) (if is_writer (item_locks events x) t then None else writer events x) (filter (read_it (events ++ e ∷ []) x) (numbers (events ++ e ∷ []))) (filter (λ u. not (u == t)) (filter (read_it events x) (numbers events)))
+      (λ u ne. query-end u ∙ ap (λ b. if b then Some (u, reads_of events u x) else None) (and_not_other (is_query events u && holds_read events u x) u ne))
+      (query-end t ∙ ap (λ b. if b then Some (t, reads_of events t x) else None) (and_not_self (is_query events t && holds_read events t x))) (numbers events) in
+      locks_congruent (writer (events ++ e ∷ []) x) (if is_writer (item_locks events x) t then None else writer events x) (filter (update_holds_read (events ++ e ∷ []) x) (numbers (events ++ e ∷ []))) (filter (λ u. not (u == t)) (filter (update_holds_read events x) (numbers events)))
       (filter_map (query_reads (events ++ e ∷ []) x) (numbers (events ++ e ∷ []))) (filter (λ (p : ℕ × ℕ). not (p.0 == t)) (filter_map (query_reads events x) (numbers events)))
-      (ap (find (wrote (events ++ e ∷ []) x)) (numbers-kept events e none) ∙ writers (wrote events x t) refl) r q
+      (ap (find (update_holds_write (events ++ e ∷ []) x)) (numbers-kept events e none) ∙ writers (update_holds_write events x t) refl) r q
     where
-      writers : (b : Bool) → wrote events x t ≡ b → find (wrote (events ++ e ∷ []) x) (numbers events) ≡ (if is_writer (item_locks events x) t then None else writer events x)
+      writers : (b : Bool) → update_holds_write events x t ≡ b → find (update_holds_write (events ++ e ∷ []) x) (numbers events) ≡ (if is_writer (item_locks events x) t then None else writer events x)
       writers true is =
-          nobody (numbers events) ∙ ap (λ b. if b then None else writer events x) (sym (writer_is events o x t ∙ is))
+          no_one (numbers events) ∙ ap (λ b. if b then None else writer events x) (sym (writer_is events o x t ∙ is))
         where
-          fails : (u : ℕ) → wrote (events ++ e ∷ []) x u ≡ false
+          fails : (u : ℕ) → update_holds_write (events ++ e ∷ []) x u ≡ false
           fails u =
               elim (cases_eq u t) [
-                | inl same ↦ ap (wrote (events ++ e ∷ []) x) same ∙ (wrote-end t ∙ gone (wrote events x t))
-                | inr ne ↦ wrote-end u ∙ (stays_true (wrote events x u) u ne ∙ false_from_ne_true (wrote events x u) (λ it. ne (one_writer events o x u t it is)))
+                | inl same ↦ ap (update_holds_write (events ++ e ∷ []) x) same ∙ (update_holds_write-end t ∙ and_not_self (update_holds_write events x t))
+                | inr ne ↦ update_holds_write-end u ∙ (and_not_other (update_holds_write events x u) u ne ∙ false_from_ne_true (update_holds_write events x u) (λ it. ne (one_writer events o x u t it is)))
               ]
 
-          nobody : (us : List ℕ) → find (wrote (events ++ e ∷ []) x) us ≡ None
-          nobody [] = refl
-          nobody (u ∷ us) = rw (fails u) (nobody us)
+          no_one : (us : List ℕ) → find (update_holds_write (events ++ e ∷ []) x) us ≡ None
+          no_one [] = refl
+          no_one (u ∷ us) = rw (fails u) (no_one us)
       writers false isnt =
-          find_same (wrote (events ++ e ∷ []) x) (wrote events x) same (numbers events)
+          find_same (update_holds_write (events ++ e ∷ []) x) (update_holds_write events x) same (numbers events)
           ∙ ap (λ b. if b then None else writer events x) (sym (writer_is events o x t ∙ isnt))
         where
-          same : (u : ℕ) → wrote (events ++ e ∷ []) x u ≡ wrote events x u
+          same : (u : ℕ) → update_holds_write (events ++ e ∷ []) x u ≡ update_holds_write events x u
           same u =
               elim (cases_eq u t) [
-                | inl is ↦ ap (wrote (events ++ e ∷ []) x) is ∙ (wrote-end t ∙ (gone (wrote events x t) ∙ (sym isnt ∙ ap (wrote events x) (sym is))))
-                | inr ne ↦ wrote-end u ∙ stays_true (wrote events x u) u ne
+                | inl is ↦ ap (update_holds_write (events ++ e ∷ []) x) is ∙ (update_holds_write-end t ∙ (and_not_self (update_holds_write events x t) ∙ (sym isnt ∙ ap (update_holds_write events x) (sym is))))
+                | inr ne ↦ update_holds_write-end u ∙ and_not_other (update_holds_write events x u) u ne
               ]
 
 -- a begin
-find_longer : (p : ℕ → Bool) (a n : ℕ) → p (a + n) ≡ false → find p (range_with_len a (n + 1)) ≡ find p (range_with_len a n)
-find_longer p a n fails = ap (find p) (range-push a n) ∙ at (range_with_len a n)
+find_range_push : (p : ℕ → Bool) (a n : ℕ) → p (a + n) ≡ false → find p (range_with_len a (n + 1)) ≡ find p (range_with_len a n)
+find_range_push p a n fails = ap (find p) (range-push a n) ∙ at (range_with_len a n)
   where
     at : (us : List ℕ) → find p (us ++ (a + n) ∷ []) ≡ find p us
     at [] = rw fails refl
@@ -330,7 +330,7 @@ find_longer p a n fails = ap (find p) (range-push a n) ∙ at (range_with_len a 
           | inr isnt ↦ rw isnt (at us)
         ]
 
-module _ (events : List Event) (o : IsOrderly events) (e : Event) (b : Beginning) (is : IsBegin e b) (x : ℕ) where
+module _ (events : List Event) (o : IsWellFormed events) (e : Event) (b : Beginning) (is : IsBegin e b) (x : ℕ) where
   longer : numbers (events ++ e ∷ []) ≡ range_with_len 1 (length (beginnings events) + 1)
   longer = ap (λ (bs : List Beginning). range_with_len 1 (length bs)) (beginnings-begin events e b is) ∙ ap (range_with_len 1) (length-append (beginnings events) (b ∷ []))
 
@@ -348,10 +348,10 @@ module _ (events : List Event) (o : IsOrderly events) (e : Event) (b : Beginning
   begun_holder : (u : ℕ) (p : Bool) → (is_active events u && p) ≡ true → is_begun events u ≡ true
   begun_holder u p held = (active_parts events u (and_parts (is_active events u) p held).0).0
 
-  wrote-begin : (u : ℕ) → wrote (events ++ e ∷ []) x u ≡ wrote events x u
-  wrote-begin u = ap (λ p. is_update (events ++ e ∷ []) u && p) (holds-write u) ∙ kind-same (λ w. unwrap_or (option_map (λ c. not c.query) w) false) u (holds_write events u x) (begun_holder u (list_any (writes u x) events))
+  update_holds_write-begin : (u : ℕ) → update_holds_write (events ++ e ∷ []) x u ≡ update_holds_write events x u
+  update_holds_write-begin u = ap (λ p. is_update (events ++ e ∷ []) u && p) (holds-write u) ∙ kind-same (λ w. unwrap_or (option_map (λ c. not c.query) w) false) u (holds_write events u x) (begun_holder u (list_any (writes u x) events))
 
-  read-begin : (u : ℕ) → read_it (events ++ e ∷ []) x u ≡ read_it events x u
+  read-begin : (u : ℕ) → update_holds_read (events ++ e ∷ []) x u ≡ update_holds_read events x u
   read-begin u = ap (λ p. is_update (events ++ e ∷ []) u && p) (holds-read u) ∙ kind-same (λ w. unwrap_or (option_map (λ c. not c.query) w) false) u (holds_read events u x) (begun_holder u (list_any (reads u x) events))
 
   query-begin : (u : ℕ) → query_reads (events ++ e ∷ []) x u ≡ query_reads events x u
@@ -366,48 +366,48 @@ module _ (events : List Event) (o : IsOrderly events) (e : Event) (b : Beginning
       let no_write : holds_write events (1 + n) x ≡ false = ap (λ k. holds_write events k x) number ∙ and_right (is_active events (suc n)) (list_any (writes (suc n) x) events) (not_named events o (writes (suc n) x) (writes_name (suc n) x)) in
       let no_read : holds_read events (1 + n) x ≡ false = ap (λ k. holds_read events k x) number ∙ and_right (is_active events (suc n)) (list_any (reads (suc n) x) events) (not_named events o (reads (suc n) x) (reads_name (suc n) x)) in
       let w : writer (events ++ e ∷ []) x ≡ writer events x =
-      ap (find (wrote (events ++ e ∷ []) x)) longer
-      ∙ (find_same (wrote (events ++ e ∷ []) x) (wrote events x) wrote-begin (range_with_len 1 (n + 1))
-      ∙ find_longer (wrote events x) 1 n (and_right (is_update events (1 + n)) (holds_write events (1 + n) x) no_write)) in
-      let r : filter (read_it (events ++ e ∷ []) x) (numbers (events ++ e ∷ [])) ≡ filter (read_it events x) (numbers events) =
-      ap (filter (read_it (events ++ e ∷ []) x)) longer
-      ∙ (filter_agree (read_it (events ++ e ∷ []) x) (read_it events x) read-begin (range_with_len 1 (n + 1))
-      ∙ (ap (filter (read_it events x)) (range-push 1 n)
-      ∙ (filter-append (read_it events x) (numbers events) ((1 + n) ∷ [])
-      ∙ (ap (λ c. filter (read_it events x) (numbers events) ++ (if c then (1 + n) ∷ [] else [])) (and_right (is_update events (1 + n)) (holds_read events (1 + n) x) no_read)
-      ∙ append-nil (filter (read_it events x) (numbers events)))))) in
+      ap (find (update_holds_write (events ++ e ∷ []) x)) longer
+      ∙ (find_same (update_holds_write (events ++ e ∷ []) x) (update_holds_write events x) update_holds_write-begin (range_with_len 1 (n + 1))
+      ∙ find_range_push (update_holds_write events x) 1 n (and_right (is_update events (1 + n)) (holds_write events (1 + n) x) no_write)) in
+      let r : filter (update_holds_read (events ++ e ∷ []) x) (numbers (events ++ e ∷ [])) ≡ filter (update_holds_read events x) (numbers events) =
+      ap (filter (update_holds_read (events ++ e ∷ []) x)) longer
+      ∙ (filter_agree (update_holds_read (events ++ e ∷ []) x) (update_holds_read events x) read-begin (range_with_len 1 (n + 1))
+      ∙ (ap (filter (update_holds_read events x)) (range-push 1 n)
+      ∙ (filter-append (update_holds_read events x) (numbers events) ((1 + n) ∷ [])
+      ∙ (ap (λ c. filter (update_holds_read events x) (numbers events) ++ (if c then (1 + n) ∷ [] else [])) (and_right (is_update events (1 + n)) (holds_read events (1 + n) x) no_read)
+      ∙ append-nil (filter (update_holds_read events x) (numbers events)))))) in
       let q : filter_map (query_reads (events ++ e ∷ []) x) (numbers (events ++ e ∷ [])) ≡ filter_map (query_reads events x) (numbers events) =
       ap (filter_map (query_reads (events ++ e ∷ []) x)) longer
       ∙ (filter_map_agree (query_reads (events ++ e ∷ []) x) (query_reads events x) query-begin (range_with_len 1 (n + 1))
       ∙ (ap (filter_map (query_reads events x)) (range-push 1 n)
       ∙ filter_map_push_none (query_reads events x) (numbers events) (1 + n) (ap (λ c. if c then Some (1 + n, reads_of events (1 + n) x) else None) (and_right (is_query events (1 + n)) (holds_read events (1 + n) x) no_read)))) in
-      locks_same (writer (events ++ e ∷ []) x) (writer events x) (filter (read_it (events ++ e ∷ []) x) (numbers (events ++ e ∷ []))) (filter (read_it events x) (numbers events)) (filter_map (query_reads (events ++ e ∷ []) x) (numbers (events ++ e ∷ []))) (filter_map (query_reads events x) (numbers events)) w r q
+      locks_congruent (writer (events ++ e ∷ []) x) (writer events x) (filter (update_holds_read (events ++ e ∷ []) x) (numbers (events ++ e ∷ []))) (filter (update_holds_read events x) (numbers events)) (filter_map (query_reads (events ++ e ∷ []) x) (numbers (events ++ e ∷ []))) (filter_map (query_reads events x) (numbers events)) w r q
 
 -- The locks on all items, after each event.
 
-pub all-begin : (events : List Event) → IsOrderly events → (e : Event) (b : Beginning) → IsBegin e b → (n : ℕ) → locks_of (events ++ e ∷ []) n ≡ locks_of events n
+pub all-begin : (events : List Event) → IsWellFormed events → (e : Event) (b : Beginning) → IsBegin e b → (n : ℕ) → locks_of (events ++ e ∷ []) n ≡ locks_of events n
 all-begin events o e b is n = map_same (item_locks (events ++ e ∷ [])) (item_locks events) 0 n (λ x low high. locks-begin events o e b is x)
 
-one_item : (events : List Event) (e : Event) (n x : ℕ) (f : ItemLocks → ItemLocks) → x < n → item_locks (events ++ e ∷ []) x ≡ f (item_locks events x) → ((y : ℕ) → (y ≡ x → ⊥) → item_locks (events ++ e ∷ []) y ≡ item_locks events y)
+item_locks_set : (events : List Event) (e : Event) (n x : ℕ) (f : ItemLocks → ItemLocks) → x < n → item_locks (events ++ e ∷ []) x ≡ f (item_locks events x) → ((y : ℕ) → (y ≡ x → ⊥) → item_locks (events ++ e ∷ []) y ≡ item_locks events y)
     → set (locks_of events n) x (f (locks_at (locks_of events n) x)) ≡ locks_of (events ++ e ∷ []) n
-one_item events e n x f l here other = grind (arith, set_range, locks_here)
+item_locks_set events e n x f l here other = grind (arith, set_range, locks_at_item)
 
 pub all-read : (events : List Event) (t : TxnId) (x : ItemId) (n : ℕ) → x.0 < n → is_update events t.0 ≡ true → is_active events t.0 ≡ true → set (locks_of events n) x.0 (with_reader t.0 (locks_at (locks_of events n) x.0)) ≡ locks_of (events ++ Read t x ∷ []) n
 all-read events t x n l update act =
-    one_item events (Read t x) n x.0 (with_reader t.0) l (locks-read events t x update act)
+    item_locks_set events (Read t x) n x.0 (with_reader t.0) l (locks-read events t x update act)
     (λ y ne. locks-other events (Read t x) refl (λ w. refl) (λ w. refl) y (λ u. refl) (λ u. and_right (t.0 == u) (x.0 == y) (ne_eqb x.0 y (λ (f : x.0 ≡ y). ne (sym f)))))
 
 pub all-query : (events : List Event) (t : TxnId) (x : ItemId) (n : ℕ) → x.0 < n → is_query events t.0 ≡ true → is_active events t.0 ≡ true → set (locks_of events n) x.0 (with_query_read t.0 (locks_at (locks_of events n) x.0)) ≡ locks_of (events ++ Read t x ∷ []) n
 all-query events t x n l query act =
-    one_item events (Read t x) n x.0 (with_query_read t.0) l (locks-query events t x query act)
+    item_locks_set events (Read t x) n x.0 (with_query_read t.0) l (locks-query events t x query act)
     (λ y ne. locks-other events (Read t x) refl (λ w. refl) (λ w. refl) y (λ u. refl) (λ u. and_right (t.0 == u) (x.0 == y) (ne_eqb x.0 y (λ (f : x.0 ≡ y). ne (sym f)))))
 
-pub all-write : (events : List Event) (t : TxnId) (x : ItemId) (v : ℤ) (n : ℕ) → x.0 < n → IsOrderly (events ++ Write t x v ∷ []) → is_update events t.0 ≡ true → is_active events t.0 ≡ true → set (locks_of events n) x.0 (with_writer t.0 (locks_at (locks_of events n) x.0)) ≡ locks_of (events ++ Write t x v ∷ []) n
+pub all-write : (events : List Event) (t : TxnId) (x : ItemId) (v : ℤ) (n : ℕ) → x.0 < n → IsWellFormed (events ++ Write t x v ∷ []) → is_update events t.0 ≡ true → is_active events t.0 ≡ true → set (locks_of events n) x.0 (with_writer t.0 (locks_at (locks_of events n) x.0)) ≡ locks_of (events ++ Write t x v ∷ []) n
 all-write events t x v n l o update act =
-    one_item events (Write t x v) n x.0 (with_writer t.0) l (locks-write events t x v o update act)
+    item_locks_set events (Write t x v) n x.0 (with_writer t.0) l (locks-write events t x v o update act)
     (λ y ne. locks-other events (Write t x v) refl (λ w. refl) (λ w. refl) y (λ u. and_right (t.0 == u) (x.0 == y) (ne_eqb x.0 y (λ (f : x.0 ≡ y). ne (sym f)))) (λ u. refl))
 
-pub all-end : (events : List Event) → IsOrderly events → (e : Event) → beginning_of e ≡ None → (t : ℕ) → ((u : ℕ) → is_active (events ++ e ∷ []) u ≡ (is_active events u && not (t == u)))
+pub all-end : (events : List Event) → IsWellFormed events → (e : Event) → beginning_of e ≡ None → (t : ℕ) → ((u : ℕ) → is_active (events ++ e ∷ []) u ≡ (is_active events u && not (t == u)))
     → ((u x : ℕ) → reads u x e ≡ false) → ((u x : ℕ) → writes u x e ≡ false) → (n : ℕ) → map (released t) (locks_of events n) ≡ locks_of (events ++ e ∷ []) n
 all-end events o e none t ends r w n =
     map-map (released t) (item_locks events) (range_with_len 0 n) ∙ map_same (λ x. released t (item_locks events x)) (item_locks (events ++ e ∷ [])) 0 n (λ x low high. sym (locks-end events o e none t ends r w x))

@@ -14,11 +14,11 @@ use Rattle.esr_history.proofs.Lists.{find_some}
 use Rattle.esr_ledgers.specs.declared.account.Account.{Account}
 use Rattle.esr_ledgers.specs.Books.{quote_of, AreCharges, is_open_query}
 use Rattle.esr_history.specs.Ascending.{IsSmallest}
-use Rattle.esr_locks.specs.Tables.{locks_at, keeps_from_reading, keeps_from_writing}
+use Rattle.esr_locks.specs.Tables.{locks_at, blocks_read, blocks_write}
 use Rattle.esr_core.specs.Represented.{Represents, books_of, transaction_after, Transaction}
 use Rattle.esr_core.specs.States.{reason_of, read_charge}
 use Rattle.esr_core.proofs.Rows.{row_is}
-use Rattle.esr_core.proofs.Locks.{locks_len, locks_here, least_writer, least_holder}
+use Rattle.esr_core.proofs.Locks.{locks_len, locks_at_item, find_read_blocker, find_write_blocker}
 use Rattle.esr_core.proofs.Accounts.{open_query_is, open_update_is}
 use Rattle.esr_core.proofs.Charges.{charges_by, charge_to, quote_reason}
 
@@ -60,7 +60,7 @@ module _ (d : Distance) (h : Schedule) (items : List Versions) (table : List Tra
   inside x l = rw (← rep.count) l
 
   writer_at : (x : ℕ) → x < length items → writer (accepted_in h) x ≡ (locks_at locks x).writer
-  writer_at x l = sym (ap (λ (ls : List ItemLocks). (locks_at ls x).writer) rep.locked ∙ ap (λ (g : ItemLocks). g.writer) (locks_here (accepted_in h) (length h.opening) x (inside x l)))
+  writer_at x l = sym (ap (λ (ls : List ItemLocks). (locks_at ls x).writer) rep.locked ∙ ap (λ (g : ItemLocks). g.writer) (locks_at_item (accepted_in h) (length h.opening) x (inside x l)))
 
   -- the charge of a read by a query
   pub due_some : (t : TxnId) (x : ItemId) (c : TxnId × ℕ) → is_query (accepted_in h) t.0 ≡ true → x.0 < length items → read_charge (d h.weights x.0) (versions_at items x.0) (locks_at locks x.0).writer ≡ Some c
@@ -108,21 +108,21 @@ module _ (d : Distance) (h : Schedule) (items : List Versions) (table : List Tra
       → first_reason (many_reads h t.0 ∷ import_full d h (due_in d h (Read t x)) ∷ export_full d h (due_in d h (Read t x)) ∷ []) ≡ refusal d h (Read t x)
   read_query t x query active item = grind (arith, skip, without)
 
-  pub read_update : (t : TxnId) (x : ItemId) (r : Option ℕ) → x.0 < length items → IsSmallest (keeps_from_reading (locks_at locks x.0) t.0) r → is_query (accepted_in h) t.0 ≡ false → None ≡ first_reason (not_begun h t.0 ∷ ended h t.0 ∷ []) → None ≡ no_item h x.0
+  pub read_update : (t : TxnId) (x : ItemId) (r : Option ℕ) → x.0 < length items → IsSmallest (blocks_read (locks_at locks x.0) t.0) r → is_query (accepted_in h) t.0 ≡ false → None ≡ first_reason (not_begun h t.0 ∷ ended h t.0 ∷ []) → None ≡ no_item h x.0
       → blocked_by r ≡ refusal d h (Read t x)
   read_update t x r l least no_query active item =
-      let here : locks_at locks x.0 ≡ item_locks (accepted_in h) x.0 = ap (λ (ls : List ItemLocks). locks_at ls x.0) rep.locked ∙ locks_here (accepted_in h) (length h.opening) x.0 (inside x.0 l) in
-      let found : other_writer (accepted_in h) t.0 x.0 ≡ r = least_writer (accepted_in h) rep.orderly t.0 x.0 r (subst (λ (g : ItemLocks). IsSmallest (keeps_from_reading g t.0) r) here least) in
+      let here : locks_at locks x.0 ≡ item_locks (accepted_in h) x.0 = ap (λ (ls : List ItemLocks). locks_at ls x.0) rep.locked ∙ locks_at_item (accepted_in h) (length h.opening) x.0 (inside x.0 l) in
+      let found : other_writer (accepted_in h) t.0 x.0 ≡ r = find_read_blocker (accepted_in h) rep.orderly t.0 x.0 r (subst (λ (g : ItemLocks). IsSmallest (blocks_read g t.0) r) here least) in
       sym (skip (not_begun h t.0) (ended h t.0) (no_item h x.0) (many_reads h t.0 ∷ read_blocked h t.0 x.0 ∷ import_full d h (due_in d h (Read t x)) ∷ export_full d h (due_in d h (Read t x)) ∷ []) active item
       ∙ (ap (λ (b : Bool). first_reason (when (b && nat_le 1000 (all_reads_of (accepted_in h) t.0)) TooManyReads ∷ (if b then None else blocked_by (other_writer (accepted_in h) t.0 x.0)) ∷ import_full d h (if b then charge_of_read (d h.weights) h.opening (accepted_in h) t.0 x.0 (writer (accepted_in h) x.0) else []) ∷ export_full d h (if b then charge_of_read (d h.weights) h.opening (accepted_in h) t.0 x.0 (writer (accepted_in h) x.0) else []) ∷ [])) no_query
       ∙ (alone (blocked_by (other_writer (accepted_in h) t.0 x.0)) ∙ ap blocked_by found)))
 
   -- why a write is refused before its charges
-  pub write_barred : (t : TxnId) (x : ItemId) (v : ℤ) (r : Option ℕ) → x.0 < length items → IsSmallest (keeps_from_writing (locks_at locks x.0) t.0) r → is_query (accepted_in h) t.0 ≡ false → None ≡ first_reason (not_begun h t.0 ∷ ended h t.0 ∷ []) → None ≡ no_item h x.0 → None ≡ out_of_range v
+  pub write_barred : (t : TxnId) (x : ItemId) (v : ℤ) (r : Option ℕ) → x.0 < length items → IsSmallest (blocks_write (locks_at locks x.0) t.0) r → is_query (accepted_in h) t.0 ≡ false → None ≡ first_reason (not_begun h t.0 ∷ ended h t.0 ∷ []) → None ≡ no_item h x.0 → None ≡ out_of_range v
       → blocked_by r ≡ first_reason (not_begun h t.0 ∷ ended h t.0 ∷ no_item h x.0 ∷ query_writes h t.0 ∷ out_of_range v ∷ write_blocked h t.0 x.0 ∷ [])
   write_barred t x v r l least no_query active item range =
-      let here : locks_at locks x.0 ≡ item_locks (accepted_in h) x.0 = ap (λ (ls : List ItemLocks). locks_at ls x.0) rep.locked ∙ locks_here (accepted_in h) (length h.opening) x.0 (inside x.0 l) in
-      let found : other_holder (accepted_in h) t.0 x.0 ≡ r = least_holder (accepted_in h) rep.orderly t.0 x.0 r (subst (λ (g : ItemLocks). IsSmallest (keeps_from_writing g t.0) r) here least) in
+      let here : locks_at locks x.0 ≡ item_locks (accepted_in h) x.0 = ap (λ (ls : List ItemLocks). locks_at ls x.0) rep.locked ∙ locks_at_item (accepted_in h) (length h.opening) x.0 (inside x.0 l) in
+      let found : other_holder (accepted_in h) t.0 x.0 ≡ r = find_write_blocker (accepted_in h) rep.orderly t.0 x.0 r (subst (λ (g : ItemLocks). IsSmallest (blocks_write g t.0) r) here least) in
       sym (skip (not_begun h t.0) (ended h t.0) (no_item h x.0) (query_writes h t.0 ∷ out_of_range v ∷ write_blocked h t.0 x.0 ∷ []) active item
       ∙ (ap (λ (b : Bool). first_reason (when b QueryMayNotWrite ∷ out_of_range v ∷ write_blocked h t.0 x.0 ∷ [])) no_query
       ∙ (ap (λ (o : Option Refusal). first_reason (o ∷ write_blocked h t.0 x.0 ∷ [])) (sym range)

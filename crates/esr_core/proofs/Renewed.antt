@@ -38,8 +38,8 @@ module _ (d : Distance) (h k : Schedule) (first : IsLegal d h) (second : IsLegal
   starts : (x : ℕ) → x < length h.opening → value_at k.opening x ≡ state h (committed_updates h) x
   starts x l = grind (arith, get_or-map-range_with_len, pos 0, legal_serializable d h first)
 
-  goes_on : (vs : List ℕ) (x : ℕ) → x < length h.opening → state k vs x ≡ state_over h (committed_updates h) k vs x
-  goes_on vs x l = ap (λ v. last_value v (flat_map (values_by k x) vs)) (starts x l)
+  continues : (vs : List ℕ) (x : ℕ) → x < length h.opening → state k vs x ≡ state_over h (committed_updates h) k vs x
+  continues vs x l = ap (λ v. last_value v (flat_map (values_by k x) vs)) (starts x l)
 
   pub as_one : AreSerializableAsOne h k
-  as_one = grind (arith, legal_serializable d k second, legal_serializable d h first, goes_on)
+  as_one = grind (arith, legal_serializable d k second, legal_serializable d h first, continues)

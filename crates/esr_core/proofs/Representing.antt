@@ -9,9 +9,9 @@ use Rattle.esr_core.specs.Words.{Versions, ItemId, TxnId, Event, Read, Write, Co
 use Rattle.esr_history.specs.Events.{Beginning, kind_of, beginning_of, beginnings, commits, aborts, reads, reads_any, writes, written, is_begun, is_committed, is_aborted, is_active, is_query, is_update, holds_write, committed_value, current_value}
 use Rattle.esr_history.specs.Machine.{due}
 use Rattle.esr_history.specs.ItemLocks.{ItemLocks}
-use Rattle.esr_history.specs.Orderly.{IsOrderly}
+use Rattle.esr_history.specs.Orderly.{IsWellFormed}
 use Rattle.esr_history.proofs.Values.{current-kept, committed-kept, current-write, current-write_other, committed-write, committed-commit, committed-commit_other, current-abort, current-abort_other, stays}
-use Rattle.esr_history.proofs.Orderly.{MayFollow, IsOrderly-push, active_parts, update_begun}
+use Rattle.esr_history.proofs.Orderly.{MayFollow, IsWellFormed-push, active_parts, update_begun}
 use Rattle.esr_ledgers.specs.declared.account.Account.{Account}
 use Rattle.esr_ledgers.specs.Books.{new_account, with_account}
 use Rattle.esr_locks.specs.Tables.{locks_at, is_writer, with_reader, with_writer, with_query_read, released}
@@ -19,7 +19,7 @@ use Rattle.esr_core.specs.States.{end_event}
 use Rattle.esr_core.specs.Represented.{Represents, books_of, Transaction}
 use Rattle.esr_core.proofs.Held.{IsBegin, active-commit, active-abort, update_or_query}
 use Rattle.esr_core.proofs.Rows.{rows-begin, rows-kept, rows-read, rows-end}
-use Rattle.esr_core.proofs.Locks.{locks_here, writer_is, all-begin, all-read, all-query, all-write, all-end}
+use Rattle.esr_core.proofs.Locks.{locks_at_item, writer_is, all-begin, all-read, all-query, all-write, all-end}
 use Rattle.esr_core.proofs.Accounts.{books-kept, books-begin}
 
 -- what holds of a commit and of an abort holds of an end
@@ -44,7 +44,7 @@ module _ (d : ℕ → ℤ → ℤ → ℕ) (opening : List ℤ) (events : List E
     rows = rows-begin events rep.orderly e b is table rep.rows;
     locked = rep.locked ∙ sym (all-begin events rep.orderly e b is (length opening));
     books = ap (λ (as' : List Account). with_account as' (new_account (kind_of b.query) (record { 0 = suc (length (beginnings events)) }) b.limit)) rep.books ∙ books-begin d opening events e b is nothing;
-    orderly = IsOrderly-push events e rep.orderly (record { active = λ t f. absurd (false≢true (sym (is.names_none t) ∙ f)); updates = λ t x f. absurd (false≢true (sym (is.writes_none t x) ∙ f)); alone = λ t x f. absurd (false≢true (sym (is.writes_none t x) ∙ f)) });
+    orderly = IsWellFormed-push events e rep.orderly (record { active = λ t f. absurd (false≢true (sym (is.names_none t) ∙ f)); updates = λ t x f. absurd (false≢true (sym (is.writes_none t x) ∙ f)); alone = λ t x f. absurd (false≢true (sym (is.writes_none t x) ∙ f)) });
   }
 
   pub represents-read : (t : TxnId) (x : ItemId) → is_update events t.0 ≡ true → is_active events t.0 ≡ true → MayFollow events (Read t x) → x.0 < length opening
@@ -58,7 +58,7 @@ module _ (d : ℕ → ℤ → ℤ → ℕ) (opening : List ℤ) (events : List E
         rows = rows-kept events (Read t x) refl (λ u. refl) (λ u. refl) (λ u is. ne_eqb t.0 u (λ (f : t.0 ≡ u). false≢true (sym no_query ∙ (ap (is_query events) f ∙ is)))) table rep.rows;
         locked = ap (λ (ls : List ItemLocks). set ls x.0 (with_reader t.0 (locks_at ls x.0))) rep.locked ∙ all-read events t x (length opening) inside update act;
         books = rep.books ∙ books-kept d opening events (Read t x) refl (rw no_query refl);
-        orderly = IsOrderly-push events (Read t x) rep.orderly may;
+        orderly = IsWellFormed-push events (Read t x) rep.orderly may;
       }
 
   pub represents-query : (t : TxnId) (x : ItemId) (k : ℕ) (row : Transaction) (accounts_new : List Account) → is_query events t.0 ≡ true → is_active events t.0 ≡ true → MayFollow events (Read t x) → x.0 < length opening
@@ -71,7 +71,7 @@ module _ (d : ℕ → ℤ → ℤ → ℕ) (opening : List ℤ) (events : List E
     rows = rows-read events (Read t x) refl k row (λ u. refl) (λ u. refl) (ap (is_query events) (sym number) ∙ query) (λ u. ap (λ n. n == u) number) table rep.rows in_table at;
     locked = ap (λ (ls : List ItemLocks). set ls x.0 (with_query_read t.0 (locks_at ls x.0))) rep.locked ∙ all-query events t x (length opening) inside query act;
     books = books;
-    orderly = IsOrderly-push events (Read t x) rep.orderly may;
+    orderly = IsWellFormed-push events (Read t x) rep.orderly may;
   }
 
   pub represents-write : (t : TxnId) (x : ItemId) (v : ℤ) (accounts_new : List Account) → is_update events t.0 ≡ true → is_active events t.0 ≡ true → MayFollow events (Write t x v) → x.0 < length opening
@@ -79,7 +79,7 @@ module _ (d : ℕ → ℤ → ℤ → ℕ) (opening : List ℤ) (events : List E
       → Represents d opening (events ++ Write t x v ∷ []) (current_set items x.0 v) table (set locks x.0 (with_writer t.0 (locks_at locks x.0))) accounts_new
   represents-write t x v accounts_new update act may inside books =
       let parts = active_parts events t.0 act in
-      let orderly_then : IsOrderly (events ++ Write t x v ∷ []) = IsOrderly-push events (Write t x v) rep.orderly may in
+      let orderly_then : IsWellFormed (events ++ Write t x v ∷ []) = IsWellFormed-push events (Write t x v) rep.orderly may in
       record {
         count = length-set items x.0 (record { committed = committed_at items x.0; current = v }) ∙ rep.count;
         current = λ y l. elim (cases_eq x.0 y) [
@@ -102,7 +102,7 @@ module _ (d : ℕ → ℤ → ℤ → ℕ) (opening : List ℤ) (events : List E
 
   -- who has written an item, as the locks have it
   pub writes_here : (t x : ℕ) → x < length opening → is_writer (locks_at locks x) t ≡ (is_update events t && holds_write events t x)
-  writes_here t x l = ap (λ (ls : List ItemLocks). is_writer (locks_at ls x) t) rep.locked ∙ (ap (λ (g : ItemLocks). is_writer g t) (locks_here events (length opening) x l) ∙ writer_is events rep.orderly x t)
+  writes_here t x l = ap (λ (ls : List ItemLocks). is_writer (locks_at ls x) t) rep.locked ∙ (ap (λ (g : ItemLocks). is_writer g t) (locks_at_item events (length opening) x l) ∙ writer_is events rep.orderly x t)
 
   holds : (t x : ℕ) → x < length opening → is_writer (locks_at locks x) t ≡ true → holds_write events t x ≡ true
   holds t x l is = (and_parts (is_update events t) (holds_write events t x) (sym (writes_here t x l) ∙ is)).1
@@ -139,7 +139,7 @@ module _ (d : ℕ → ℤ → ℤ → ℕ) (opening : List ℤ) (events : List E
     rows = rows-end events (end_event commits t) begins k row (λ u. rw (sym number) (ends u)) (λ u. by (λ e. reads_any u e ≡ false) commits t refl refl) table rep.rows in_table at;
     locked = ap (map (released t.0)) rep.locked ∙ all-end events rep.orderly (end_event commits t) begins t.0 ends (λ u x. by (λ e. reads u x e ≡ false) commits t refl refl) (λ u x. by (λ e. writes u x e ≡ false) commits t refl refl) (length opening);
     books = rep.books ∙ books-kept d opening events (end_event commits t) begins (by (λ e. due d opening events e ≡ []) commits t refl refl);
-    orderly = IsOrderly-push events (end_event commits t) rep.orderly may;
+    orderly = IsWellFormed-push events (end_event commits t) rep.orderly may;
   }
     where
       begins : beginning_of (end_event commits t) ≡ None

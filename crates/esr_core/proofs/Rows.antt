@@ -9,7 +9,7 @@ use Rattle.std.proofs.lemmas.List.{length_push}
 use Rattle.esr_core.specs.Words.{Event, Read, AlreadyEnded, NoSuchTransaction}
 use Rattle.esr_history.specs.Events.{Beginning, kind_of, beginning_of, beginnings, numbers, commits, aborts, reads_any, is_active, is_begun, is_query, all_reads_of}
 use Rattle.esr_history.specs.Machine.{Schedule, accepted_in, when, first_reason, not_begun, ended}
-use Rattle.esr_history.specs.Orderly.{IsOrderly, names}
+use Rattle.esr_history.specs.Orderly.{IsWellFormed, names}
 use Rattle.esr_history.proofs.Lists.{any_push_no}
 use Rattle.esr_history.proofs.Ranges.{map_same, set_range}
 use Rattle.esr_history.proofs.Reaches.{count_none}
@@ -59,7 +59,7 @@ reads_any_name t (Read u y) is = is
 reads_any_name t _ is = absurd (false≢true is)
 
 -- the table after a begin
-pub rows-begin : (accepted_in : List Event) → IsOrderly accepted_in → (e : Event) (b : Beginning) → IsBegin e b → (table : List Transaction) → table ≡ transactions_after accepted_in
+pub rows-begin : (accepted_in : List Event) → IsWellFormed accepted_in → (e : Event) (b : Beginning) → IsBegin e b → (table : List Transaction) → table ≡ transactions_after accepted_in
     → table ++ record { kind = kind_of b.query; active = true; reads = 0 } ∷ [] ≡ transactions_after (accepted_in ++ e ∷ [])
 rows-begin accepted_in o e b is table was =
     ap (λ (rs : List Transaction). rs ++ record { kind = kind_of b.query; active = true; reads = 0 } ∷ []) was

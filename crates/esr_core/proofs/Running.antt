@@ -36,8 +36,8 @@ module _ (d : Distance) (h : Schedule) (legal : IsLegal d h) (t : TxnId) (update
   answers : Committed ≡ reply_to d h e
   answers = rw (parts.0, parts.1, parts.2) refl
 
-  goes_on : IsLegal d longer
-  goes_on = IsLegal-extended d h e Committed legal answers
+  continues : IsLegal d longer
+  continues = IsLegal-extended d h e Committed legal answers
 
   events : accepted_in longer ≡ accepted_in h ++ e ∷ []
   events = done-accepted h e Committed refl
@@ -80,7 +80,7 @@ module _ (d : Distance) (h : Schedule) (legal : IsLegal d h) (t : TxnId) (update
   reads_on before after x v split =
       let more : longer.entries ≡ before ++ record { event = Read t x; reply = Value v } ∷ (after ++ record { event = e; reply = Committed } ∷ []) =
       ap (λ es. es ++ record { event = e; reply = Committed } ∷ []) split ∙ append_assoc before (record { event = Read t x; reply = Value v } ∷ after) (record { event = e; reply = Committed } ∷ []) in
-      let read = (legal_serializable d longer goes_on).reads before (after ++ record { event = e; reply = Committed } ∷ []) t x v more
+      let read = (legal_serializable d longer continues).reads before (after ++ record { event = e; reply = Committed } ∷ []) t x v more
       (and_from (is_update (accepted_in longer) t.0) (is_committed (accepted_in longer) t.0) (ap (λ p. p t.0) same_updates ∙ update) over) in
       read
       ∙ ap (λ w. last_value w (filter_map (written (λ u. u == t.0) x.0) (accepted before)))

@@ -15,7 +15,7 @@ use Rattle.esr_ledgers.specs.Books.{AreCharges, charged}
 use Rattle.esr_locks.specs.Tables.{locks_at}
 use Rattle.esr_core.specs.Represented.{Represents, books_of, Transaction}
 use Rattle.esr_core.specs.States.{charges_to, reason_for}
-use Rattle.esr_core.proofs.Locks.{locks_here}
+use Rattle.esr_core.proofs.Locks.{locks_at_item}
 use Rattle.esr_core.proofs.Charges.{charges_by, quote_reason, due-write, are_charges-write, books-charged}
 use Rattle.esr_core.proofs.Reasons.{write_split, write_first}
 
@@ -50,7 +50,7 @@ module _ (d : Distance) (h : Schedule) (items : List Versions) (table : List Tra
   owed = charges_to (d h.weights x.0 v (current_at items x.0)) (locks_at locks x.0).queries
 
   owed_is : owed ≡ charges_to (d h.weights x.0 v (current_value h.opening (accepted_in h) x.0)) (filter_map (query_reads (accepted_in h) x.0) (numbers (accepted_in h)))
-  owed_is = grind (arith, locks_here (accepted_in h) (length h.opening) x.0 (rw (← rep.count) l))
+  owed_is = grind (arith, locks_at_item (accepted_in h) (length h.opening) x.0 (rw (← rep.count) l))
 
   pub are_charges : is_update (accepted_in h) t.0 ≡ true → AreCharges accounts t owed
   are_charges update =

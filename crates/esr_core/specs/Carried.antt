@@ -9,7 +9,7 @@ use Rattle.esr_history.specs.Legal.{along}
 use Rattle.esr_history.specs.Operations.{Operation}
 use Rattle.esr_history.specs.Serial.{state}
 use Rattle.esr_history.specs.Queries.{is_strict, is_committed_query, updates_of, reads_by}
-use Rattle.esr_history.specs.ReportBounds.{AreDistances, is_active_query, IsMixture, ImportBoundsActive, OpenIsImported, told_distance, reads_in}
+use Rattle.esr_history.specs.ReportBounds.{AreDistances, is_active_query, IsMixture, ImportBoundsActive, OpenIsImported, distance_of_reads, reads_in}
 
 -- the active transactions, ascending, and the number that each has then: its place among them, from 1
 abbrev pub active_numbers : Schedule → List ℕ
@@ -20,12 +20,12 @@ new_number h t = record { 0 = count_by (λ u. nat_lt u t) (active_numbers h) + 1
 
 -- What a transaction was charged goes by conflicts. A conflict is open while both are active: then it would be charged
 -- again, by the distance of the current and the committed value, if the query made its read again now.
-abbrev pub charges_again : Distance → Schedule → ℕ → List Charge
-charges_again d h q =
+abbrev pub open_charges_of : Distance → Schedule → ℕ → List Charge
+open_charges_of d h q =
     flat_map (λ o. charge_of_read (distance_in d h) h.opening (accepted_in h) q o.item (writer (accepted_in h) o.item)) (reads_by h q)
 
 abbrev pub open_charges : Distance → Schedule → List Charge
-open_charges d h = flat_map (charges_again d h) (filter (is_query (accepted_in h)) (active_numbers h))
+open_charges d h = flat_map (open_charges_of d h) (filter (is_query (accepted_in h)) (active_numbers h))
 
 -- an import of a query, or an export of an update
 abbrev pub charged_in : Schedule → List Charge → ℕ → ℕ
@@ -36,38 +36,38 @@ abbrev pub settled : Distance → Schedule → ℕ → ℕ
 settled d h t = charged_in h (charges_in d h) t - charged_in h (open_charges d h) t
 
 -- Each active transaction begins again, with its limit less what is settled.
-abbrev pub begin_again : Distance → Schedule → ℕ → Entry
-begin_again d h t = record {
+abbrev pub carried_begin : Distance → Schedule → ℕ → Entry
+carried_begin d h t = record {
   event = begin_event (is_query (accepted_in h) t) (limit_of (accepted_in h) t - settled d h t) (is_strict (accepted_in h) t);
   reply = Begun (new_number h t);
 }
 
 -- Then each accepted read and write of an active update, with the reply that it had.
-abbrev pub update_again : Schedule → Reply → Event → Option Entry
-update_again h reply (Read t x) =
+abbrev pub carried_operation : Schedule → Reply → Event → Option Entry
+carried_operation h reply (Read t x) =
     if is_update (accepted_in h) t.0 && is_active (accepted_in h) t.0
     then Some (record { event = Read (new_number h t.0) x; reply = reply }) else None
-update_again h reply (Write t x v) =
+carried_operation h reply (Write t x v) =
     if is_update (accepted_in h) t.0 && is_active (accepted_in h) t.0
     then Some (record { event = Write (new_number h t.0) x v; reply = reply }) else None
-update_again h reply _ = None
+carried_operation h reply _ = None
 
 -- Then each read of an active query, which answers the current value now, and not the value that it got.
-abbrev pub read_again : Schedule → Event → Option Entry
-read_again h (Read t x) =
+abbrev pub carried_read : Schedule → Event → Option Entry
+carried_read h (Read t x) =
     if is_active_query h t.0
     then Some (record { event = Read (new_number h t.0) x; reply = Value (current_value h.opening (accepted_in h) x.0) }) else None
-read_again h _ = None
+carried_read h _ = None
 
-abbrev pub entries_again : Distance → Schedule → List Entry
-entries_again d h =
-    map (begin_again d h) (active_numbers h)
-    ++ (filter_map (λ e. update_again h e.reply e.event) (filter (λ e. not (is_refusal e.reply)) h.entries)
-    ++ filter_map (read_again h) (accepted_in h))
+abbrev pub carried_entries : Distance → Schedule → List Entry
+carried_entries d h =
+    map (carried_begin d h) (active_numbers h)
+    ++ (filter_map (λ e. carried_operation h e.reply e.event) (filter (λ e. not (is_refusal e.reply)) h.entries)
+    ++ filter_map (carried_read h) (accepted_in h))
 
 -- the history with which a renewal that carries goes on
 abbrev pub carried : Distance → Schedule → Schedule
-carried d h = record (renewed h h.weights) { entries = entries_again d h }
+carried d h = record (renewed h h.weights) { entries = carried_entries d h }
 
 -- what the account of t is in two histories: `part` of its limit and of its charge are in the first alone
 pub record IsCarriedAs (d : Distance) (h : Schedule) (t : ℕ) (k : Schedule) (u : ℕ) (part : ℕ) : Type 0 where
@@ -93,29 +93,29 @@ pub record IsCarriedOver (d : Distance) (h k : Schedule) : Type 0 where
 pub data IsReport (d : Distance) (limit : ℕ) : Schedule → ℕ → List Operation → ℕ → Type 0 where
   reads : (h : Schedule) (q : ℕ) → IsLegal d h → IsTrue (is_active_query h q) → limit_of (accepted_in h) q ≡ limit
       → IsReport d limit h q (reads_by h q) 0
-  goes_on : {h : Schedule} {q : ℕ} {told : List Operation} {part : ℕ} → IsReport d limit h q told part
+  continues : {h : Schedule} {q : ℕ} {read_before : List Operation} {part : ℕ} → IsReport d limit h q read_before part
       → (later : List Entry) → IsLegal d (along h later) → IsTrue (is_active_query (along h later) q)
-      → IsReport d limit (along h later) q (told ++ reads_in later q) part
-  is_carried : {h : Schedule} {q : ℕ} {told : List Operation} {part : ℕ} → IsReport d limit h q told part
+      → IsReport d limit (along h later) q (read_before ++ reads_in later q) part
+  is_carried : {h : Schedule} {q : ℕ} {read_before : List Operation} {part : ℕ} → IsReport d limit h q read_before part
       → (k : Schedule) → IsCarriedOver d h k
-      → IsReport d limit k (new_number h q).0 told (part + settled d h q)
+      → IsReport d limit k (new_number h q).0 read_before (part + settled d h q)
 
 -- Whatever history a report is in by now: while it is active, its reads are no farther from any mixture of committed
 -- and current values than what it has imported in all its histories together, and that is within the limit that it began
 -- with.
 abbrev pub ReportsAreBounded : Distance → Type 0
 ReportsAreBounded d =
-    (limit : ℕ) (h : Schedule) (q : ℕ) (told : List Operation) (part : ℕ) → IsReport d limit h q told part
-    → ((w : ℕ → ℤ) → IsMixture h w → told_distance d h told w ≤ part + import_in (charges_in d h) q)
+    (limit : ℕ) (h : Schedule) (q : ℕ) (read_before : List Operation) (part : ℕ) → IsReport d limit h q read_before part
+    → ((w : ℕ → ℤ) → IsMixture h w → distance_of_reads d h read_before w ≤ part + import_in (charges_in d h) q)
     × (part + import_in (charges_in d h) q ≤ limit)
 
 -- Once it has committed, the same holds of the values that the updates left which committed before it, in the history in
 -- which it ends, run one after another from that history's opening values.
 abbrev pub ReportsAreBoundedAtCommit : Distance → Type 0
 ReportsAreBoundedAtCommit d =
-    (limit : ℕ) (h : Schedule) (q : ℕ) (told : List Operation) (part : ℕ) → IsReport d limit h q told part
+    (limit : ℕ) (h : Schedule) (q : ℕ) (read_before : List Operation) (part : ℕ) → IsReport d limit h q read_before part
     → (later : List Entry) → IsLegal d (along h later) → IsTrue (is_committed_query (along h later) q)
-    → (told_distance d h (told ++ reads_in later q) (state (along h later) (updates_of (along h later) q))
+    → (distance_of_reads d h (read_before ++ reads_in later q) (state (along h later) (updates_of (along h later) q))
     ≤ part + import_in (charges_in d (along h later)) q)
     × (part + import_in (charges_in d (along h later)) q ≤ limit)
 
@@ -128,8 +128,8 @@ abbrev pub LawOfReports : Type 0
 LawOfReports = (d : Distance) → AreDistances d → ReportsAreBounded d × ReportsAreBoundedAtCommit d
 
 -- A carry needs no more capacity: it has at most as many entries as there were.
-abbrev pub LawOfRoom : Type 0
-LawOfRoom = (d : Distance) (h : Schedule) → length (carried d h).entries ≤ length h.entries
+abbrev pub LawOfCarriedLength : Type 0
+LawOfCarriedLength = (d : Distance) (h : Schedule) → length (carried d h).entries ≤ length h.entries
 
 -- What an active update has read still holds: its own last write before, or else the committed value as it is now.
 abbrev pub LawOfActiveUpdates : Type 0

@@ -5,7 +5,7 @@ use Rattle.esr_core.specs.Words.{Versions, Event}
 use Rattle.esr_history.specs.Events.{kind_of, numbers, limit_of, is_active, is_query, all_reads_of, committed_value, current_value}
 use Rattle.esr_history.specs.Machine.{charges, import_in, export_in}
 use Rattle.esr_history.specs.ItemLocks.{ItemLocks, locks_of}
-use Rattle.esr_history.specs.Orderly.{IsOrderly}
+use Rattle.esr_history.specs.Orderly.{IsWellFormed}
 use Rattle.esr_ledgers.specs.declared.account.Account.{Account}
 pub use Rattle.esr_core.specs.declared.state.Transaction.{Transaction}
 
@@ -41,4 +41,4 @@ pub record Represents (d : ℕ → ℤ → ℤ → ℕ) (opening : List ℤ) (ev
   pub rows : table ≡ transactions_after events
   pub locked : locks ≡ locks_of events (length opening)
   pub books : accounts ≡ books_of d opening events
-  pub orderly : IsOrderly events
+  pub orderly : IsWellFormed events

@@ -27,8 +27,8 @@ is_open = refl
 are_settled : map (settled plain two_active) (1 ∷ 3 ∷ []) ≡ 3 ∷ 0 ∷ []
 are_settled = refl
 
-numbered_anew : map (λ t. (new_number two_active t).0) (1 ∷ 3 ∷ []) ≡ 1 ∷ 2 ∷ []
-numbered_anew = refl
+renumbered : map (λ t. (new_number two_active t).0) (1 ∷ 3 ∷ []) ≡ 1 ∷ 2 ∷ []
+renumbered = refl
 
 -- The carried schedule has the replies of the machine: the report begins with 9 of its 12, and is charged the 7 again.
 is_answered : carried plain two_active
@@ -41,8 +41,8 @@ its_replies : replies (carried plain two_active)
     ≡ Begun (txn 1) ∷ Begun (txn 2) ∷ Value (pos 50) ∷ Wrote ∷ Value (pos 103) ∷ Value (pos 57) ∷ []
 its_replies = refl
 
-charged_again : import_in (charges_in plain (carried plain two_active)) 1 ≡ 7
-charged_again = refl
+charged_after_carry : import_in (charges_in plain (carried plain two_active)) 1 ≡ 7
+charged_after_carry = refl
 
 -- With what was left of its limit alone, 2, it could not be carried: the 7 would be charged twice.
 left_alone : replies (played (started_from (pos 103 ∷ pos 50 ∷ [])) (

@@ -1,7 +1,7 @@
 //! Laws of active reports, and of those that a renewal carries over. A law is the contract of a function with an empty
 //! body, since a statement that is only in `specs/` is not proved.
 
-ghost use Rattle.esr_core.specs.Carried.{LawOfActiveQueries, LawOfActiveUpdates, LawOfCurrentValues, LawOfReports, LawOfRoom};
+ghost use Rattle.esr_core.specs.Carried.{LawOfActiveQueries, LawOfActiveUpdates, LawOfCurrentValues, LawOfReports, LawOfCarriedLength};
 
 /// What an active query has read is no farther from the committed values, or from any mixture of committed and current
 /// ones, than its import so far; and no more of that is open than was charged.
@@ -17,7 +17,7 @@ pub fn carried_reports_are_bounded()
 
 /// A history that carries another has at most as many entries.
 pub fn carried_histories_fit()
-    ensures { LawOfRoom }
+    ensures { LawOfCarriedLength }
 {}
 
 /// What an active update has read still holds, whatever committed since: so its reads can be replayed, with the

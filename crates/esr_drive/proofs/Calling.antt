@@ -137,9 +137,9 @@ begun calls = record {
 }
 
 -- the next call was blocked once more
-pub blocked_again : (calls : List Call) (replies : List Reply) (blocked : ℕ) (receipts : List Receipt) (r : Receipt)
+pub still_blocked : (calls : List Call) (replies : List Reply) (blocked : ℕ) (receipts : List Receipt) (r : Receipt)
     → IsUnderWay calls replies blocked receipts → next_event calls replies ≡ Some r.event → is_blocked r.reply ≡ true → IsUnderWay calls replies (blocked + 1) (receipts ++ r ∷ [])
-blocked_again calls replies blocked receipts r way next is = record {
+still_blocked calls replies blocked receipts r way next is = record {
   few = way.few;
   done = way.done;
   again = way.again ++ r ∷ [];
@@ -183,10 +183,10 @@ answered calls replies blocked receipts r way next few patient =
     }
 
 -- where all calls were answered nothing was given again since
-none_again : (calls : List Call) (replies : List Reply) (again : List Receipt) → length calls ≤ length replies
+none_resumed : (calls : List Call) (replies : List Reply) (again : List Receipt) → length calls ≤ length replies
     → All (λ r. (next_event calls replies ≡ Some r.event) × (is_blocked r.reply ≡ true)) again → again ≡ []
-none_again calls replies [] le all = refl
-none_again calls replies (r ∷ again) le all =
+none_resumed calls replies [] le all = refl
+none_resumed calls replies (r ∷ again) le all =
     let none : next_event calls replies ≡ None = ap (option_map (event_by replies)) (slice_get_past calls (length replies) le) in
     absurd (none-some _ (sym none ∙ (all 0 r (omega arith)).0))
 
@@ -197,7 +197,7 @@ few_calls calls replies blocked receipts way few =
     let split : (length calls ≤ length replies) ⊎ (length replies < length calls) = grind arith in
     elim split [
       | inl le ↦
-          let none = ap length (none_again calls replies way.again le way.were_blocked) in
+          let none = ap length (none_resumed calls replies way.again le way.were_blocked) in
           omega (arith, len, none, way.most, way.few)
       | inr lt ↦ omega (arith, len, way.times, few, way.most, lt)
     ]
@@ -206,7 +206,7 @@ few_calls calls replies blocked receipts way few =
 pub block_run : (calls : List Call) (replies : List Reply) (blocked : ℕ) (receipts : List Receipt) → IsUnderWay calls replies blocked receipts → length calls ≤ length replies
     → IsBlockRun calls replies receipts
 block_run calls replies blocked receipts way le =
-    let all : receipts ≡ way.done = way.parts ∙ ap (λ (rs : List Receipt). way.done ++ rs) (none_again calls replies way.again le way.were_blocked) ∙ append-nil way.done in
+    let all : receipts ≡ way.done = way.parts ∙ ap (λ (rs : List Receipt). way.done ++ rs) (none_resumed calls replies way.again le way.were_blocked) ∙ append-nil way.done in
     record {
       every = omega (arith, le, way.few);
       runs = λ names resolved.

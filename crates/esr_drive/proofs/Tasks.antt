@@ -44,15 +44,15 @@ tasks_more f tasks all j blocks i b is so_far lt at calls =
     ∙ (sym (map-append (λ (b : Vec Call Global). b.items) (take i blocks) (get_or blocks i b ∷ [])) ∙ ap (map (λ (b : Vec Call Global). b.items)) (sym (take_more blocks i b lt))))))
 
 -- where the blocks leave as many receipts as a history has entries, their lines can fill one
-receipts_most : {J R : Type 0} (calls : J → List Call) (session : R → List Receipt) (tasks : List J) (rans : List R) → length rans ≡ length tasks
+receipts_at_most : {J R : Type 0} (calls : J → List Call) (session : R → List Receipt) (tasks : List J) (rans : List R) → length rans ≡ length tasks
     → ((i : ℕ) (j : J) (r : R) → i < length tasks → length (session (get_or rans i r)) ≤ 100 * length (calls (get_or tasks i j)))
     → sum_by length (map session rans) ≤ 100 * sum_by length (map calls tasks)
-receipts_most calls session [] [] len most = omega arith
-receipts_most calls session [] (r ∷ rans) len most = absurd (omega (arith, len))
-receipts_most calls session (j ∷ tasks) [] len most = absurd (omega (arith, len))
-receipts_most calls session (j ∷ tasks) (r ∷ rans) len most =
+receipts_at_most calls session [] [] len most = omega arith
+receipts_at_most calls session [] (r ∷ rans) len most = absurd (omega (arith, len))
+receipts_at_most calls session (j ∷ tasks) [] len most = absurd (omega (arith, len))
+receipts_at_most calls session (j ∷ tasks) (r ∷ rans) len most =
     let here = most 0 j r (omega arith) in
-    let rest = receipts_most calls session tasks rans (omega (arith, len)) (λ i x y lt. most (suc i) x y (omega (arith, lt))) in
+    let rest = receipts_at_most calls session tasks rans (omega (arith, len)) (λ i x y lt. most (suc i) x y (omega (arith, lt))) in
     omega (arith, here, rest, sum_by-cons length (session r) (map session rans), sum_by-cons length (calls j) (map calls tasks))
 
 pub fault_reported : {J R : Type 0} (calls : J → List Call) (session : R → List Receipt) (tasks : List J) (rans : List R) (e : DriveFault) → length rans ≡ length tasks
@@ -60,7 +60,7 @@ pub fault_reported : {J R : Type 0} (calls : J → List Call) (session : R → L
     → is_engine_fault e ≡ true → (e ≡ fault.HistoryFull → count_in (map session rans) ≡ MAX_ENTRIES) → IsEngineFault (map calls tasks) e
 fault_reported calls session tasks rans fault.NoMemory len most is full = tt
 fault_reported calls session tasks rans fault.HistoryFull len most is full =
-    omega (arith, full refl, receipts_most calls session tasks rans len most)
+    omega (arith, full refl, receipts_at_most calls session tasks rans len most)
 fault_reported calls session tasks rans fault.Close len most is full = tt
 fault_reported calls session tasks rans _ len most is full = cc
 

@@ -31,13 +31,13 @@ all_items P (b ∷ bs) all zero x lt = all 0 b (omega arith)
 all_items P (b ∷ bs) all (suc i) x lt = all_items P bs (λ j y below. all (suc j) y (omega (arith, below))) i x (omega (arith, lt))
 
 -- a text of the form that was asked for
-pub text_told : (what : DriveOutput) (workers : ℕ) (p : Plan) (h : Schedule) (blocks : List (List Answered)) (r : Result (Vec ℕ Global) AllocError) → what ≡ form.Text workers
+pub text_written : (what : DriveOutput) (workers : ℕ) (p : Plan) (h : Schedule) (blocks : List (List Answered)) (r : Result (Vec ℕ Global) AllocError) → what ≡ form.Text workers
     → IfOk r (λ out. out.items ≡ text_of p h blocks) → IfOk r (λ out. IsRenderingOf what p h blocks out.items)
-text_told what workers p h blocks r is reported = subst (λ (w : DriveOutput). IfOk r (λ out. IsRenderingOf w p h blocks out.items)) (sym is) reported
+text_written what workers p h blocks r is reported = subst (λ (w : DriveOutput). IfOk r (λ out. IsRenderingOf w p h blocks out.items)) (sym is) reported
 
-pub history_told : (what : DriveOutput) (p : Plan) (h : Schedule) (blocks : List (List Answered)) (r : Result (Vec ℕ Global) AllocError) → what ≡ form.Script
+pub history_written : (what : DriveOutput) (p : Plan) (h : Schedule) (blocks : List (List Answered)) (r : Result (Vec ℕ Global) AllocError) → what ≡ form.Script
     → IfOk r (λ out. IsDump p.names (names_of h blocks) h out.items) → IfOk r (λ out. IsRenderingOf what p h blocks out.items)
-history_told what p h blocks r is reported = subst (λ (w : DriveOutput). IfOk r (λ out. IsRenderingOf w p h blocks out.items)) (sym is) reported
+history_written what p h blocks r is reported = subst (λ (w : DriveOutput). IfOk r (λ out. IsRenderingOf w p h blocks out.items)) (sym is) reported
 
 -- the text of what was driven is one of the file
 pub drive_text : (what : DriveOutput) (bytes : List ℕ) (s : DrivePlan) (h : Schedule) (replies : List (List Reply)) (out : List ℕ)

@@ -36,7 +36,7 @@ struct BlockProgress<'a, 't> {
     calls: &'a [Call<'t>],
     replies: Vec<Reply>,
     blocked: u32,
-    ghost room: { length calls.now ≤ vec_capacity replies },
+    ghost fits: { length calls.now ≤ vec_capacity replies },
     ghost few: { blocked < 100 },
 }
 
@@ -99,13 +99,13 @@ fn lines_of_hold(answered: usize) -> usize
 }
 
 /// Room for so many replies, that has been written to.
-fn touched_room(alloc: Global, replies: usize) -> Result<Vec<Reply>, AllocError>
-    ensures items { IfOk result (λ room. room.items ≡ []) }
-    ensures room { IfOk result (λ room. replies ≤ vec_capacity room) }
+fn touched_capacity(alloc: Global, replies: usize) -> Result<Vec<Reply>, AllocError>
+    ensures items { IfOk result (λ fits. fits.items ≡ []) }
+    ensures fits { IfOk result (λ fits. replies ≤ vec_capacity fits) }
 {
-    let mut room = Vec::from_elem(alloc, Reply::Wrote, replies)?;
-    room.clear();
-    Ok(room)
+    let mut fits = Vec::from_elem(alloc, Reply::Wrote, replies)?;
+    fits.clear();
+    Ok(fits)
 }
 
 /// The last replies to the calls.
@@ -119,10 +119,10 @@ fn call_all<N: Naming, R: Wait>(
     ensures run { IfOk result (λ replies. IsBlockRun calls.now replies.items session.new) }
     ensures most { length session.new ≤ 100 * length calls.now }
 {
-    let Ok(replies) = touched_room(alloc, calls.len()) else {
+    let Ok(replies) = touched_capacity(alloc, calls.len()) else {
         return Err(StepError::NoMemory);
     };
-    if session.make_room(alloc, calls.len()).is_err() {
+    if session.reserve(alloc, calls.len()).is_err() {
         return Err(StepError::NoMemory);
     }
     let mut progress = BlockProgress {

@@ -20,7 +20,7 @@ use Rattle.esr_history.specs.declared.event.Refusal.TheVariants.{NoSuchTransacti
 use Rattle.esr_history.specs.declared.event.Entry.{Entry}
 use Rattle.esr_history.specs.Events.{is_refusal, beginning_of, beginnings, accepted, is_active, is_begun, is_query}
 use Rattle.esr_history.specs.Machine.{Distance, Schedule, empty_schedule, accepted_in, extended, when, first_reason, answered, reply_to, IsLegal, IsLegalAfter}
-use Rattle.esr_history.proofs.Lawful.{begun_number, done-accepted, done-refused}
+use Rattle.esr_history.proofs.Lawful.{begun_in_range, done-accepted, done-refused}
 use Rattle.esr_grammar.specs.Command.{Command, IsName, IsCommand, IsInt}
 use Rattle.esr_report.specs.Names.{position_of, all_distinct, name_of_transaction}
 use Rattle.esr_dump.specs.Lines.{command_of, declaration, entry_text, is_kept, item_text, items_text, line_of, name_of_item, script}
@@ -95,8 +95,8 @@ declaration_declares name v w = elim (cases_Bool (eqb w 1)) [
   | inr more ↦ rw more refl
 ]
 
-declaration_asks : (items transactions : List (List ℕ)) (name : List ℕ) (v : ℤ) (w : ℕ) → event_of items transactions (declaration name v w) ≡ None
-declaration_asks items transactions name v w = elim (cases_Bool (eqb w 1)) [
+declaration_requests : (items transactions : List (List ℕ)) (name : List ℕ) (v : ℤ) (w : ℕ) → event_of items transactions (declaration name v w) ≡ None
+declaration_requests items transactions name v w = elim (cases_Bool (eqb w 1)) [
   | inl one ↦ rw one refl
   | inr more ↦ rw more refl
 ]
@@ -152,15 +152,15 @@ module _ (items transactions : List (List ℕ)) (h : Schedule) (names : AreNames
     begun_fact : (t : TxnId) → not (is_begun (accepted_in before) t.0) ≡ false
         → IsName (name_of_transaction transactions t.0) × (transaction_called transactions (name_of_transaction transactions t.0) ≡ Some t)
     begun_fact t begun =
-        let n = begun_number (accepted_in before) t.0 (not-false (is_begun (accepted_in before) t.0) begun) in
+        let n = begun_in_range (accepted_in before) t.0 (not-false (is_begun (accepted_in before) t.0) begun) in
         transaction_fact t n.0 (omega (arith, n.1, some))
 
     there : (x : ItemId) → nat_le (length before.opening) x.0 ≡ false → IsName (name_of_item items x.0) × (item_called items (name_of_item items x.0) ≡ Some x)
     there x is = item_fact x (omega (arith, leb-false (length before.opening) x.0 is, ap length opens))
 
     -- the command of an event that is kept can be spelled, and asks for it
-    abbrev Asks : Event → Reply → Type 0
-    Asks e r = IsCommand (command_of items transactions r e) × (event_of items transactions (command_of items transactions r e) ≡ Some e)
+    abbrev Requests : Event → Reply → Type 0
+    Requests e r = IsCommand (command_of items transactions r e) × (event_of items transactions (command_of items transactions r e) ≡ Some e)
 
     new_name : (e : Event) (r : Reply) (n : ℕ) → r ≡ Begun (record { 0 = n + 1 }) → n ≡ length (beginnings (accepted_in before)) → length (beginnings (accepted_in before ++ e ∷ [])) ≡ n + 1
         → length (beginnings (accepted_in (extended before e r))) ≤ length (beginnings (accepted_in h))
@@ -182,13 +182,13 @@ module _ (items transactions : List (List ℕ)) (h : Schedule) (names : AreNames
         → (r ≡ Begun (record { 0 = length (beginnings (accepted_in before)) + 1 })) × (IsName (name_of_transaction transactions (length (beginnings (accepted_in before)) + 1)) × (limit < 10 ^ 19))
     begun_kept e b limit r begins_so is stays few =
         let low = passed (nat_lt 1000000000000000000 limit) LimitOutOfRange _ _ refl (ap is_kept (sym is) ∙ stays) in
-        let room = passed (nat_le 65535 (length (beginnings (accepted_in before)))) TooManyTransactions _ _ refl low.1 in
-        let begun = is ∙ none_left _ _ LimitOutOfRange TooManyTransactions _ low.0 room.0 in
+        let below_max = passed (nat_le 65535 (length (beginnings (accepted_in before)))) TooManyTransactions _ _ refl low.1 in
+        let begun = is ∙ none_left _ _ LimitOutOfRange TooManyTransactions _ low.0 below_max.0 in
         let name = new_name e r (length (beginnings (accepted_in before))) begun refl (begins e b begins_so) few in
         (begun, (name, omega (arith, ltb-false 1000000000000000000 limit low.0)))
 
     asks : (e : Event) (r : Reply) → r ≡ reply_to weighted before e → is_kept r ≡ true
-        → length (beginnings (accepted_in (extended before e r))) ≤ length (beginnings (accepted_in h)) → Asks e r
+        → length (beginnings (accepted_in (extended before e r))) ≤ length (beginnings (accepted_in h)) → Requests e r
     asks (BeginUpdate limit) r is stays few =
         let kept = begun_kept (BeginUpdate limit) _ limit r refl is stays few in rw kept.0 (kept.1, refl)
     asks (BeginQuery limit true) r is stays few =
@@ -286,17 +286,17 @@ module _ (items transactions : List (List ℕ)) (h : Schedule) (names : AreNames
   pub round_trips : All IsValue h.opening → IsLegal weighted h → RoundTrips items transactions h (script items transactions h)
   round_trips valued legal =
       let n = length h.opening in
-      let behind = flat_map (entry_text items transactions) h.entries in
+      let remainder = flat_map (entry_text items transactions) h.entries in
       let kept_entries = filter (λ (e : Entry). is_kept e.reply) h.entries in
       record {
         items_declared =
-            items_found declared_by (λ x. Some (declared items h x)) valued (λ x. declaration_declares (name_of_item items x) (value_at h.opening x) (weight_of h.weights x)) behind 0 n (omega arith)
+            items_found declared_by (λ x. Some (declared items h x)) valued (λ x. declaration_declares (name_of_item items x) (value_at h.opening x) (weight_of h.weights x)) remainder 0 n (omega arith)
             ∙ (ap₂ (λ (xs ys : List (List ℕ × ℤ × ℕ)). xs ++ ys) (some_map (declared items h) (range_with_len 0 n))
             (entries_found declared_by (λ e. None) (λ b e is stays opens few after. declares_none e.reply e.event) (empty_schedule h) h.entries legal refl (omega arith) ∙ none_map Entry (List ℕ × ℤ × ℕ) kept_entries)
             ∙ append-nil (map (declared items h) (range_with_len 0 n)));
         events_asked =
-            items_found (event_of items transactions) (λ x. None) valued (λ x. declaration_asks items transactions (name_of_item items x) (value_at h.opening x) (weight_of h.weights x)) behind 0 n (omega arith)
-            ∙ (ap (λ l. l ++ found_in (event_of items transactions) behind) (none_map ℕ Event (range_with_len 0 n))
+            items_found (event_of items transactions) (λ x. None) valued (λ x. declaration_requests items transactions (name_of_item items x) (value_at h.opening x) (weight_of h.weights x)) remainder 0 n (omega arith)
+            ∙ (ap (λ l. l ++ found_in (event_of items transactions) remainder) (none_map ℕ Event (range_with_len 0 n))
             ∙ (entries_found (event_of items transactions) (λ e. Some e.event) (λ b e is stays opens few after. (asks b opens few e.event e.reply is stays after).1) (empty_schedule h) h.entries legal refl (omega arith)
             ∙ some_map (λ (e : Entry). e.event) kept_entries));
         same_answers = kept_legal weighted (empty_schedule h) (empty_schedule h) h.entries legal refl refl refl;

@@ -36,8 +36,8 @@ no_name words i d within is =
     none_named words (list_all is_name words) (all_distinct words) (ap (λ v. v && all_distinct words) (list_all_at is_name words i d within is))
 
 -- a word that stands before already
-pub comes_twice : (words : List (List ℕ)) (i k : ℕ) (d : List ℕ) → i < length words → position_of (take i words) (get_or words i d) ≡ Some k → named words ≡ None
-comes_twice words i k d within is =
+pub occurs_twice : (words : List (List ℕ)) (i k : ℕ) (d : List ℕ) → i < length words → position_of (take i words) (get_or words i d) ≡ Some k → named words ≡ None
+occurs_twice words i k d within is =
     let at = position-Some (bytes_eq (get_or words i d)) (take i words) k d is in
     let before : k < i = omega (arith, length-take {A = List ℕ} i words) in
     let same = ap (bytes_eq (get_or words i d)) (sym (get_or-take i words k d before)) ∙ at.1 in
@@ -47,13 +47,13 @@ comes_twice words i k d within is =
 -- a name that was found is the word
 found_name : (text name : List ℕ) → Some name ≡ name_of text → (name ≡ text) × (is_name text ≡ true)
 found_name text name is = elim (cases_Bool (is_name text)) [
-  | inl named_so ↦ let same : Some name ≡ Some text = rw named_so at is in (cc, named_so)
+  | inl is_named ↦ let same : Some name ≡ Some text = rw is_named at is in (cc, is_named)
   | inr apart ↦ let none : Some name ≡ None = rw apart at is in absurd (cc)
 ]
 
 no_name_found : (text : List ℕ) → None ≡ name_of text → is_name text ≡ false
 no_name_found text is = elim (cases_Bool (is_name text)) [
-  | inl named_so ↦ let none : None ≡ Some text = rw named_so at is in absurd (cc)
+  | inl is_named ↦ let none : None ≡ Some text = rw is_named at is in absurd (cc)
   | inr apart ↦ apart
 ]
 
@@ -85,7 +85,7 @@ module _ (words : List (Bor (List ℕ))) (k : ℕ) (d : Bor (List ℕ)) (within 
       let before : names ≡ take k (map text_of words) = are ∙ sym (take-map text_of k words) in
       let word : name ≡ get_or (map text_of words) k d.now = (found_name (get_or words k d).now name is).0 ∙ sym at in
       let stands : position_of (take k (map text_of words)) (get_or (map text_of words) k d.now) ≡ Some n.0 = rw (← before, ← word) (sym found ∙ n.1) in
-      comes_twice (map text_of words) k n.0 d.now long stands
+      occurs_twice (map text_of words) k n.0 d.now long stands
 
   pub pushed : (names : List (List ℕ)) (name : List ℕ) (new : List (List ℕ)) → names ≡ map text_of (take k words) → list_all is_name names ≡ true
       → Some name ≡ name_of (get_or words k d).now → new ≡ names ++ name ∷ []

@@ -5,7 +5,7 @@ ghost use Rattle.std.specs.Prelude.{◌≤◌, IfOk, length};
 ghost use Rattle.esr_base.specs.declared.limits.TheConstants.{MAX_ENTRIES};
 ghost use Rattle.esr_dump.specs.RoundTrip.{IsDump};
 
-use crate::name_tables::spelled_names;
+use crate::name_tables::text_of_names;
 use crate::spelling::script;
 use esr_history::History;
 use esr_items::Weighted;
@@ -24,9 +24,9 @@ pub fn named_script<I: TransactionNames, T: TransactionNames>(
     requires few { length history.now.schedule.entries ≤ MAX_ENTRIES }
     ensures { IfOk result (λ text. IsDump (I.names items.now) (T.names transactions.now) history.now.schedule text.items) }
 {
-    let item_table = spelled_names(alloc, items, history.items(), "i", 0)?;
+    let item_table = text_of_names(alloc, items, history.items(), "i", 0)?;
     let begun = history.begun_count() as u32;
-    let transaction_table = spelled_names(alloc, transactions, begun, "t", 1)?;
+    let transaction_table = text_of_names(alloc, transactions, begun, "t", 1)?;
     let text = script(alloc, &item_table, &transaction_table, history)?;
     Ok(text)
 }

@@ -22,7 +22,7 @@ fn name_of_number(alloc: Global, word: &str, number: u32) -> Result<String, Allo
 /// The names of so many numbers from a first one on: each is the word with the number behind it.
 #[tactic(auto, using(crate::proofs::Numbers::unbound))]
 fn names_by_number(alloc: Global, word: &str, first: u32, count: u32) -> Result<Names, AllocError>
-    requires room { first + count < 2 ^ 32 }
+    requires fits { first + count < 2 ^ 32 }
     ensures { IfOk result (λ names. names ≡ all_numbered word.now first count) }
 {
     let mut names = Names::new(alloc);
@@ -35,7 +35,7 @@ fn names_by_number(alloc: Global, word: &str, first: u32, count: u32) -> Result<
 
 /// The names of so many transactions: `t1`, `t2`.
 pub fn transaction_names(alloc: Global, count: u32) -> Result<Names, AllocError>
-    requires room { count + 1 < 2 ^ 32 }
+    requires fits { count + 1 < 2 ^ 32 }
     ensures { IfOk result (λ names. names ≡ transaction_names count) }
 {
     names_by_number(alloc, "t", 1, count)
@@ -122,7 +122,7 @@ fn names_for_lines(
     word: &str,
     first: u32,
 ) -> Result<Names, AllocError>
-    requires room { first + length words.now < 2 ^ 32 }
+    requires fits { first + length words.now < 2 ^ 32 }
     ensures { IfOk result (λ names. names ≡ spelled word.now first (map (λ word. word.now) words.now)) }
 {
     let found = table(alloc, words)?;
@@ -136,14 +136,14 @@ fn names_for_lines(
 }
 
 /// A table of the names that so many have, as lines can spell them.
-pub fn spelled_names<N: TransactionNames>(
+pub fn text_of_names<N: TransactionNames>(
     alloc: Global,
     names: &N,
     count: u32,
     word: &str,
     first: u32,
 ) -> Result<Names, AllocError>
-    requires room { first + count < 2 ^ 32 }
+    requires fits { first + count < 2 ^ 32 }
     ensures { IfOk result (λ table. table ≡ spelled word.now first (first_names count (N.names names.now))) }
 {
     let words = first_names(alloc, names, count)?;

@@ -16,15 +16,15 @@ use Rattle.esr_history.specs.declared.event.Event.TheVariants.{BeginUpdate, Begi
 use Rattle.esr_history.specs.declared.event.Reply.TheVariants.{Begun, Wrote, Committed, Aborted, Refused}
 use Rattle.esr_history.specs.Events.{Beginning, kind_of, beginning_of, beginnings, numbers, commits, aborts, reads_any, is_active, is_begun, is_refusal}
 use Rattle.esr_history.specs.Machine.{Distance, Schedule, accepted_in, extended, reply_to, refusal, acceptance, first_reason, not_begun, ended, when}
-use Rattle.esr_history.specs.Orderly.{IsOrderly}
+use Rattle.esr_history.specs.Orderly.{IsWellFormed}
 use Rattle.esr_history.proofs.Allowed.{none_applies, end_allowed}
-use Rattle.esr_history.proofs.Lawful.{done-refused, done-accepted, not_ended, begun_number}
+use Rattle.esr_history.proofs.Lawful.{done-refused, done-accepted, not_ended, begun_in_range}
 use Rattle.esr_history.proofs.Orderly.{active_parts}
 use Rattle.esr_core.specs.declared.state.Transaction.{Transaction}
 use Rattle.esr_core.specs.Represented.{transaction_after, transactions_after}
 use Rattle.esr_core.proofs.Held.{IsBegin, begin_update, begin_query, active-kept, active-commit, active-abort, numbers-kept}
 use Rattle.esr_core.proofs.Rows.{rows-begin, rows-end}
-use Rattle.esr_engine.specs.Room.{active_count, active_after, begun, is_end, is_full, no_begin, taken}
+use Rattle.esr_engine.specs.Capacity.{active_count, active_after, transaction_count, is_end, is_full, no_begin, taken}
 
 -- the rows of active transactions are as many
 rows_in : (events : List Event) (ts : List ℕ) → count_by (λ (r : Transaction). r.active) (map (transaction_after events) ts) ≡ count_by (is_active events) ts
@@ -38,7 +38,7 @@ rows_count : (events : List Event) → count_by (λ (r : Transaction). r.active)
 rows_count events = rows_in events (numbers events)
 
 -- a begin is one more
-count-begin : (events : List Event) → IsOrderly events → (e : Event) (b : Beginning) → IsBegin e b → active_count (events ++ e ∷ []) ≡ active_count events + 1
+count-begin : (events : List Event) → IsWellFormed events → (e : Event) (b : Beginning) → IsBegin e b → active_count (events ++ e ∷ []) ≡ active_count events + 1
 count-begin events o e b is =
     let row : Transaction = record { kind = kind_of b.query; active = true; reads = 0 } in
     sym (rows_count (events ++ e ∷ []))
@@ -56,13 +56,13 @@ count-kept events e none c a =
 count-end : (events : List Event) (e : Event) (t : ℕ) → beginning_of e ≡ None → ((u : ℕ) → is_active (events ++ e ∷ []) u ≡ (is_active events u && not (t == u))) → ((u : ℕ) → reads_any u e ≡ false)
     → is_active events t ≡ true → active_count (events ++ e ∷ []) + 1 ≡ active_count events
 count-end events e zero none ends by act =
-    let n : (1 ≤ 0) × (0 < 1 + length (beginnings events)) = begun_number events 0 (active_parts events 0 act).0 in
+    let n : (1 ≤ 0) × (0 < 1 + length (beginnings events)) = begun_in_range events 0 (active_parts events 0 act).0 in
     absurd (omega arith)
 count-end events e (suc k) none ends by act =
     let f : Transaction → ℕ = λ r. cond r.active 1 0 in
     let table : List Transaction = transactions_after events in
     let r : Transaction = transaction_after events (suc k) in
-    let n : (1 ≤ suc k) × (suc k < 1 + length (beginnings events)) = begun_number events (suc k) (active_parts events (suc k) act).0 in
+    let n : (1 ≤ suc k) × (suc k < 1 + length (beginnings events)) = begun_in_range events (suc k) (active_parts events (suc k) act).0 in
     let long : length table ≡ length (beginnings events) = length-map-range_with_len (transaction_after events) 1 (length (beginnings events)) in
     let inside : k < length table = omega arith in
     let at : get_or table k r ≡ r = get_or-map-range_with_len (transaction_after events) 1 (length (beginnings events)) k (suc k) r (omega arith) (omega arith) in
@@ -94,31 +94,31 @@ counted_same h e r none c a accepted same no_end = record {
 }
 
 below : (n : ℕ) → nat_le 1000000 n ≡ false → n + 1 ≤ 1000000
-below n room = grind (arith, nat_tests)
+below n capacity = grind (arith, nat_tests)
 
 above : (n : ℕ) → n + 1 ≤ 1000000 → nat_le 1000000 n ≡ false
-above n room = grind (arith, nat_tests)
+above n capacity = grind (arith, nat_tests)
 
 pair_of : (n m : ℕ) → (nat_lt 1000000 (n + 2) || nat_le 65535 m) ≡ false → n + 2 ≤ 1000000
-pair_of n m room = grind (arith, nat_tests, or_parts)
+pair_of n m capacity = grind (arith, nat_tests, or_parts)
 
 begin_pair : (h : Schedule) → no_begin h ≡ false → taken h + 2 ≤ 1000000
-begin_pair h room = pair_of (taken h) (begun h) room
+begin_pair h capacity = pair_of (taken h) (transaction_count h) capacity
 
-begin_room : (h : Schedule) → no_begin h ≡ false → taken h + 1 ≤ 1000000
-begin_room h room = let more : taken h + 2 ≤ 1000000 = begin_pair h room in omega (arith, more)
+begin_capacity : (h : Schedule) → no_begin h ≡ false → taken h + 1 ≤ 1000000
+begin_capacity h capacity = let more : taken h + 2 ≤ 1000000 = begin_pair h capacity in omega (arith, more)
 
 -- where an end is refused, its transaction is not active
-idle : (begun active full : Bool) (why : Refusal) → (active ≡ true → begun ≡ true) → first_reason (when (not begun) NoSuchTransaction ∷ when (not active) AlreadyEnded ∷ []) ≡ Some why → (not active && full) ≡ false → full ≡ false
-idle true true full why is some room = absurd (cc)
-idle true false full why is some room = room
-idle false true full why is some room = absurd (false≢true (is refl))
-idle false false full why is some room = room
+idle : (transaction_count active full : Bool) (why : Refusal) → (active ≡ true → transaction_count ≡ true) → first_reason (when (not transaction_count) NoSuchTransaction ∷ when (not active) AlreadyEnded ∷ []) ≡ Some why → (not active && full) ≡ false → full ≡ false
+idle true true full why is some capacity = absurd (cc)
+idle true false full why is some capacity = capacity
+idle false true full why is some capacity = absurd (false≢true (is refl))
+idle false false full why is some capacity = capacity
 
-idle_room : (h : Schedule) (t : TxnId) (why : Refusal) → first_reason (not_begun h t.0 ∷ ended h t.0 ∷ []) ≡ Some why → (not (is_active (accepted_in h) t.0) && nat_le 1000000 (taken h)) ≡ false → nat_le 1000000 (taken h) ≡ false
-idle_room h t why some room = idle (is_begun (accepted_in h) t.0) (is_active (accepted_in h) t.0) (nat_le 1000000 (taken h)) why (λ act. (active_parts (accepted_in h) t.0 act).0) some room
+idle_capacity : (h : Schedule) (t : TxnId) (why : Refusal) → first_reason (not_begun h t.0 ∷ ended h t.0 ∷ []) ≡ Some why → (not (is_active (accepted_in h) t.0) && nat_le 1000000 (taken h)) ≡ false → nat_le 1000000 (taken h) ≡ false
+idle_capacity h t why some capacity = idle (is_begun (accepted_in h) t.0) (is_active (accepted_in h) t.0) (nat_le 1000000 (taken h)) why (λ act. (active_parts (accepted_in h) t.0 act).0) some capacity
 
-module _ (d : Distance) (h : Schedule) (o : IsOrderly (accepted_in h)) where
+module _ (d : Distance) (h : Schedule) (o : IsWellFormed (accepted_in h)) where
   pub end_active : (t : TxnId) → first_reason (not_begun h t.0 ∷ ended h t.0 ∷ []) ≡ None → is_active (accepted_in h) t.0 ≡ true
   end_active t none = not_ended h t.0 (end_allowed h t (none_applies (not_begun h t.0 ∷ ended h t.0 ∷ []) none)).active
 
@@ -151,34 +151,34 @@ module _ (d : Distance) (h : Schedule) (o : IsOrderly (accepted_in h)) where
       at (Some why) some = counted_refused h e (reply_to d h e) why (rw some refl)
 
   -- where there is room for the event, there is room for the ends afterwards
-  room_refused : (e : Event) (why : Refusal) → refusal d h e ≡ Some why → is_full h e ≡ false → taken h ≤ 1000000 → taken h + 1 ≤ 1000000
-  room_refused (BeginUpdate l) why some room most = begin_room h room
-  room_refused (BeginQuery l s) why some room most = begin_room h room
-  room_refused (Read t x) why some room most = below (taken h) room
-  room_refused (Write t x v) why some room most = below (taken h) room
-  room_refused (Commit t) why some room most = below (taken h) (idle_room h t why some room)
-  room_refused (Abort t) why some room most = below (taken h) (idle_room h t why some room)
+  capacity_refused : (e : Event) (why : Refusal) → refusal d h e ≡ Some why → is_full h e ≡ false → taken h ≤ 1000000 → taken h + 1 ≤ 1000000
+  capacity_refused (BeginUpdate l) why some capacity most = begin_capacity h capacity
+  capacity_refused (BeginQuery l s) why some capacity most = begin_capacity h capacity
+  capacity_refused (Read t x) why some capacity most = below (taken h) capacity
+  capacity_refused (Write t x v) why some capacity most = below (taken h) capacity
+  capacity_refused (Commit t) why some capacity most = below (taken h) (idle_capacity h t why some capacity)
+  capacity_refused (Abort t) why some capacity most = below (taken h) (idle_capacity h t why some capacity)
 
-  pub room_after : (e : Event) → is_full h e ≡ false → taken h ≤ 1000000 → length (extended h e (reply_to d h e)).entries + active_after (active_count (accepted_in h)) (reply_to d h e) ≤ 1000000
-  room_after e room most = at (refusal d h e) refl
+  pub capacity_after : (e : Event) → is_full h e ≡ false → taken h ≤ 1000000 → length (extended h e (reply_to d h e)).entries + active_after (active_count (accepted_in h)) (reply_to d h e) ≤ 1000000
+  capacity_after e capacity most = at (refusal d h e) refl
     where
       at : (why : Option Refusal) → refusal d h e ≡ why → length (extended h e (reply_to d h e)).entries + active_after (active_count (accepted_in h)) (reply_to d h e) ≤ 1000000
       at (Some why) some =
-          let more : taken h + 1 ≤ 1000000 = room_refused e why some room most in
+          let more : taken h + 1 ≤ 1000000 = capacity_refused e why some capacity most in
           let reply : reply_to d h e ≡ Refused why = rw some refl in
           let long : length (extended h e (Refused why)).entries ≡ length h.entries + 1 = length_push h.entries (record { event = e; reply = Refused why }) in
           subst (λ (r : Reply). length (extended h e r).entries + active_after (active_count (accepted_in h)) r ≤ 1000000) (sym reply) (omega (arith, long, more))
       at None none =
           let reply : reply_to d h e ≡ acceptance h e = rw none refl in
-          subst (λ (r : Reply). length (extended h e r).entries + active_after (active_count (accepted_in h)) r ≤ 1000000) (sym reply) (accepted e none room)
+          subst (λ (r : Reply). length (extended h e r).entries + active_after (active_count (accepted_in h)) r ≤ 1000000) (sym reply) (accepted e none capacity)
         where
           accepted : (e : Event) → refusal d h e ≡ None → is_full h e ≡ false → length (extended h e (acceptance h e)).entries + active_after (active_count (accepted_in h)) (acceptance h e) ≤ 1000000
-          accepted (BeginUpdate l) none room = let more : taken h + 2 ≤ 1000000 = begin_pair h room in omega (arith, length_push h.entries (record { event = BeginUpdate l; reply = Begun (record { 0 = length (beginnings (accepted_in h)) + 1 }) }), more)
-          accepted (BeginQuery l s) none room = let more : taken h + 2 ≤ 1000000 = begin_pair h room in omega (arith, length_push h.entries (record { event = BeginQuery l s; reply = Begun (record { 0 = length (beginnings (accepted_in h)) + 1 }) }), more)
-          accepted (Read t x) none room = let more : taken h + 1 ≤ 1000000 = below (taken h) room in omega (arith, length_push h.entries (record { event = Read t x; reply = acceptance h (Read t x) }), more)
-          accepted (Write t x v) none room = let more : taken h + 1 ≤ 1000000 = below (taken h) room in omega (arith, length_push h.entries (record { event = Write t x v; reply = Wrote }), more)
-          accepted (Commit t) none room = let some : 0 < active_count (accepted_in h) = (accepted_counts (Commit t) none).some refl in omega (arith, length_push h.entries (record { event = Commit t; reply = Committed }), some)
-          accepted (Abort t) none room = let some : 0 < active_count (accepted_in h) = (accepted_counts (Abort t) none).some refl in omega (arith, length_push h.entries (record { event = Abort t; reply = Aborted }), some)
+          accepted (BeginUpdate l) none capacity = let more : taken h + 2 ≤ 1000000 = begin_pair h capacity in omega (arith, length_push h.entries (record { event = BeginUpdate l; reply = Begun (record { 0 = length (beginnings (accepted_in h)) + 1 }) }), more)
+          accepted (BeginQuery l s) none capacity = let more : taken h + 2 ≤ 1000000 = begin_pair h capacity in omega (arith, length_push h.entries (record { event = BeginQuery l s; reply = Begun (record { 0 = length (beginnings (accepted_in h)) + 1 }) }), more)
+          accepted (Read t x) none capacity = let more : taken h + 1 ≤ 1000000 = below (taken h) capacity in omega (arith, length_push h.entries (record { event = Read t x; reply = acceptance h (Read t x) }), more)
+          accepted (Write t x v) none capacity = let more : taken h + 1 ≤ 1000000 = below (taken h) capacity in omega (arith, length_push h.entries (record { event = Write t x v; reply = Wrote }), more)
+          accepted (Commit t) none capacity = let some : 0 < active_count (accepted_in h) = (accepted_counts (Commit t) none).some refl in omega (arith, length_push h.entries (record { event = Commit t; reply = Committed }), some)
+          accepted (Abort t) none capacity = let some : 0 < active_count (accepted_in h) = (accepted_counts (Abort t) none).some refl in omega (arith, length_push h.entries (record { event = Abort t; reply = Aborted }), some)
 
   -- an accepted write takes one entry
   pub taken_by_write : (t : TxnId) (x : ItemId) (v : ℤ) → reply_to d h (Write t x v) ≡ Wrote → taken (extended h (Write t x v) Wrote) ≡ taken h + 1
@@ -186,5 +186,5 @@ module _ (d : Distance) (h : Schedule) (o : IsOrderly (accepted_in h)) where
       let count : active_count (accepted_in (extended h (Write t x v) Wrote)) ≡ active_count (accepted_in h) = (subst (Counted h (Write t x v)) wrote (counted (Write t x v))).count in
       omega (arith, length_push h.entries (record { event = Write t x v; reply = Wrote }), count)
 
-  pub pair_room : (t : TxnId) (x : ItemId) (v : ℤ) → taken h + 2 ≤ 1000000 → reply_to d h (Write t x v) ≡ Wrote → is_full (extended h (Write t x v) Wrote) (Read t x) ≡ false
-  pair_room t x v room wrote = let n : taken (extended h (Write t x v) Wrote) ≡ taken h + 1 = taken_by_write t x v wrote in above (taken (extended h (Write t x v) Wrote)) (omega arith)
+  pub pair_capacity : (t : TxnId) (x : ItemId) (v : ℤ) → taken h + 2 ≤ 1000000 → reply_to d h (Write t x v) ≡ Wrote → is_full (extended h (Write t x v) Wrote) (Read t x) ≡ false
+  pair_capacity t x v capacity wrote = let n : taken (extended h (Write t x v) Wrote) ≡ taken h + 1 = taken_by_write t x v wrote in above (taken (extended h (Write t x v) Wrote)) (omega arith)

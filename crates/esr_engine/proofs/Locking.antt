@@ -16,7 +16,7 @@ use Rattle.esr_history.specs.declared.event.Reply.TheVariants.{Value, Wrote}
 use Rattle.esr_history.specs.declared.event.Refusal.TheVariants.{NoSuchItem}
 use Rattle.esr_history.specs.Events.{writes, is_active, is_begun, is_committed, is_aborted, is_update, is_refusal, holds_write, committed_value, current_value}
 use Rattle.esr_history.specs.Machine.{Schedule, accepted_in, extended, reply_to, refusal, reasons, writer}
-use Rattle.esr_history.specs.Orderly.{IsOrderly}
+use Rattle.esr_history.specs.Orderly.{IsWellFormed}
 use Rattle.esr_history.proofs.Allowed.{none_applies, write_allowed, read_allowed}
 use Rattle.esr_history.proofs.Lawful.{done-accepted, follows, not_ended, when_none}
 use Rattle.esr_history.proofs.Lists.{any_push, any_push_no}
@@ -34,11 +34,11 @@ settles true false true b none once = refl
 settles true false false b none once = absurd (false≢true (sym none))
 settles false committed aborted b none once = absurd (false≢true b)
 
-module _ (h : Schedule) (o : IsOrderly (accepted_in h)) (x : ItemId) where
+module _ (h : Schedule) (o : IsWellFormed (accepted_in h)) (x : ItemId) where
   -- where nobody who is active has written an item, its values are one
   committed_is_current : ((u : ℕ) → holds_write (accepted_in h) u x.0 ≡ false) → committed_value h.opening (accepted_in h) x.0 ≡ current_value h.opening (accepted_in h) x.0
-  committed_is_current nobody = last_written_agree (is_committed (accepted_in h)) (stays (accepted_in h)) (value_at h.opening x.0) x.0 (accepted_in h) (λ u wrote.
-      let idle : (is_active (accepted_in h) u && true) ≡ false = rw wrote at (nobody u) in
+  committed_is_current no_one = last_written_agree (is_committed (accepted_in h)) (stays (accepted_in h)) (value_at h.opening x.0) x.0 (accepted_in h) (λ u wrote.
+      let idle : (is_active (accepted_in h) u && true) ≡ false = rw wrote at (no_one u) in
       settles (is_begun (accepted_in h) u) (is_committed (accepted_in h) u) (is_aborted (accepted_in h) u) (update_begun (accepted_in h) u (o.writers u x.0 wrote)) (unless (is_active (accepted_in h) u) idle) (o.once u))
     where
       unless : (b : Bool) → (b && true) ≡ false → b ≡ false
@@ -127,7 +127,7 @@ pub record Finished (h : Schedule) (t : TxnId) (x : ItemId) (r : Result Reply Un
   pub added : OnOk r (new ≡ after_for_update h t x)
   pub held : IfOk r (IsHeldValue h new t x)
 
-pub finish : (h : Schedule) → IsOrderly (accepted_in h) → (t : TxnId) (x : ItemId) (r : Result Reply Unanswered) (new g : Schedule) → IfOk r (λ a. a ≡ reply_to weighted g (Read t x)) → IfOk r (λ a. new ≡ extended g (Read t x) a)
+pub finish : (h : Schedule) → IsWellFormed (accepted_in h) → (t : TxnId) (x : ItemId) (r : Result Reply Unanswered) (new g : Schedule) → IfOk r (λ a. a ≡ reply_to weighted g (Read t x)) → IfOk r (λ a. new ≡ extended g (Read t x) a)
     → reply_for_update h t x ≡ reply_to weighted g (Read t x) → after_for_update h t x ≡ after g (Read t x) → Finished h t x r new
 finish h o t x (Err e) new g replied grew reply added = record { reply = tt; added = tt; held = tt }
 finish h o t x (Ok a) new g replied grew reply added =

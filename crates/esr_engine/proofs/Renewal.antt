@@ -7,7 +7,7 @@ use Rattle.esr_history.specs.Events.{numbers, is_active}
 use Rattle.esr_history.specs.Machine.{Schedule, accepted_in}
 use Rattle.esr_history.proofs.Reaches.{count_none}
 use Rattle.esr_core.specs.Renewed.{has_active}
-use Rattle.esr_engine.specs.Room.{active_count}
+use Rattle.esr_engine.specs.Capacity.{active_count}
 
 -- a test that some element passes counts one at least
 count_more : (b : Bool) (n m : ℕ) → m ≡ cond b 1 0 + n → (b ≡ false → 0 < n) → 0 < m

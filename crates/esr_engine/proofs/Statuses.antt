@@ -36,11 +36,11 @@ module _ (d : Distance) (h : Schedule) (legal : IsLegal d h) (t : ℕ) where
       at None begun g = absurd (cc)
       at (Some b) begun g =
           let same : f ≡ record { query = b.query; limit = b.limit; end = last_place accepted_end t h.entries } = cc in
-          let stood : s ≡ status_of (accepted_in h) t = stands ∙ (ap (λ (x : Facts). status_at h.entries x.end) same ∙ status_is (ap is_some begun)) in
+          let before_it : s ≡ status_of (accepted_in h) t = stands ∙ (ap (λ (x : Facts). status_at h.entries x.end) same ∙ status_is (ap is_some begun)) in
           let paid : charged ≡ charged_to d h b.query t = amount ∙ ap (λ (x : Facts). charged_to d h x.query t) same in
           ap (λ (x : Facts). Some (record { kind = kind_of x.query; limit = x.limit; charged = charged; txn_status = s })) same
           ∙ (ap (λ n. Some (record { kind = kind_of b.query; limit = b.limit; charged = n; txn_status = s })) paid
-          ∙ (ap (λ (w : TxnStatus). Some (record { kind = kind_of b.query; limit = b.limit; charged = charged_to d h b.query t; txn_status = w })) stood
+          ∙ (ap (λ (w : TxnStatus). Some (record { kind = kind_of b.query; limit = b.limit; charged = charged_to d h b.query t; txn_status = w })) before_it
           ∙ sym (ap (option_map (account_from d h t)) begun)))
 
 pub no_account : (d : Distance) (h : Schedule) (t : ℕ) → None ≡ facts_of h.entries t → None ≡ account_of d h t

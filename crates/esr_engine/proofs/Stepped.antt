@@ -7,8 +7,8 @@ use Rattle.esr_history.specs.declared.event.Reply.{Reply}
 use Rattle.esr_history.specs.Machine.{IsLegal, Schedule, accepted_in, extended, reply_to}
 use Rattle.esr_history.proofs.Lawful.{legal_orderly}
 use Rattle.esr_order.specs.Index.{Indexed, IsIndexOf}
-use Rattle.esr_engine.specs.Room.{active_after, active_count, is_end, is_full, taken}
-use Rattle.esr_engine.proofs.Active.{Counted, counted, room_after}
+use Rattle.esr_engine.specs.Capacity.{active_after, active_count, is_end, is_full, taken}
+use Rattle.esr_engine.proofs.Active.{Counted, counted, capacity_after}
 use Rattle.esr_engine.proofs.Ends.{index_later}
 
 module _ (h : Schedule) (legal : IsLegal weighted h) (e : Event) (r : Reply) (is : r ≡ reply_to weighted h e) (active : ℕ) (count : active ≡ active_count (accepted_in h)) where
@@ -24,12 +24,12 @@ module _ (h : Schedule) (legal : IsLegal weighted h) (e : Event) (r : Reply) (is
   count_after g added after by_reply =
       by_reply ∙ (ap (λ n. active_after n r) count ∙ (sym count_of.count ∙ sym (ap (λ (k : Schedule). active_count (accepted_in k)) added)))
 
-  pub room_kept : length h.entries + active ≤ MAX_ENTRIES → is_full h e ≡ false → (g : Schedule) → g ≡ extended h e r → (after : ℕ) → after ≡ active_after active r
+  pub capacity_kept : length h.entries + active ≤ MAX_ENTRIES → is_full h e ≡ false → (g : Schedule) → g ≡ extended h e r → (after : ℕ) → after ≡ active_after active r
       → length g.entries + after ≤ MAX_ENTRIES
-  room_kept fits free g added after by_reply =
+  capacity_kept fits free g added after by_reply =
       let most : taken h ≤ 1000000 = omega (arith, count, fits) in
       let left : length (extended h e r).entries + active_after (active_count (accepted_in h)) r ≤ 1000000 =
-      subst (λ (reply : Reply). length (extended h e reply).entries + active_after (active_count (accepted_in h)) reply ≤ 1000000) (sym is) (room_after weighted h (legal_orderly weighted h legal) e free most) in
+      subst (λ (reply : Reply). length (extended h e reply).entries + active_after (active_count (accepted_in h)) reply ≤ 1000000) (sym is) (capacity_after weighted h (legal_orderly weighted h legal) e free most) in
       let grown : length g.entries ≡ length (extended h e r).entries = ap (λ (k : Schedule). length k.entries) added in
       let same : after ≡ active_after (active_count (accepted_in h)) r = by_reply ∙ ap (λ n. active_after n r) count in
       omega (arith, left, grown, same)
@@ -48,6 +48,6 @@ stepped h legal e r is free weights active index engine g added after by_reply =
   engine.1,
   engine.2,
   count_after h legal e r is active engine.3 g added after by_reply,
-  room_kept h legal e r is active engine.3 engine.4 free g added after by_reply,
+  capacity_kept h legal e r is active engine.3 engine.4 free g added after by_reply,
   subst (λ (k : Schedule). IsIndexOf k.entries index) (sym added) (index_later h.entries _ index engine.5),
 )

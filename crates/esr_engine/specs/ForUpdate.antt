@@ -11,7 +11,7 @@ use Rattle.esr_history.specs.declared.event.Event.TheVariants.{Read, Write}
 use Rattle.esr_history.specs.declared.event.Reply.TheVariants.{Value}
 use Rattle.esr_history.specs.Events.{is_refusal, holds_write, committed_value, current_value}
 use Rattle.esr_history.specs.Machine.{Schedule, accepted_in, extended, reply_to, writer}
-use Rattle.esr_engine.specs.Room.{taken}
+use Rattle.esr_engine.specs.Capacity.{taken}
 
 -- the history after an event and the machine's reply
 abbrev pub after : Schedule → Event → Schedule

@@ -1,6 +1,6 @@
 -- What an engine to embed promises: that it is never stuck, and what it says of each transaction.
 
-pub mod Room
+pub mod Capacity
 pub mod Accounts
 pub mod Statuses
 pub mod ForUpdate

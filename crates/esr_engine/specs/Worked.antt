@@ -3,7 +3,7 @@ use Rattle.std.specs.Prelude.{◌≡◌, refl, false, [], ◌∷◌, pos}
 use Rattle.esr_history.specs.declared.event.Event.TheVariants.{BeginUpdate, Write, Commit}
 use Rattle.esr_history.specs.declared.event.Reply.TheVariants.{Begun, Wrote}
 use Rattle.esr_history.specs.Machine.{Schedule}
-use Rattle.esr_engine.specs.Room.{taken, begun, is_full}
+use Rattle.esr_engine.specs.Capacity.{taken, transaction_count, is_full}
 
 -- an update has begun and written: three places are taken, one of them by its end
 abbrev pub one_active : Schedule
@@ -18,7 +18,7 @@ one_active = record {
 pub three_taken : taken one_active ≡ 3
 three_taken = refl
 
-pub one_begun : begun one_active ≡ 1
+pub one_begun : transaction_count one_active ≡ 1
 one_begun = refl
 
 pub not_full : is_full one_active (BeginUpdate 0) ≡ false

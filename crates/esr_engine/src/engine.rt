@@ -15,7 +15,7 @@ ghost use Rattle.esr_history.specs.Queries.{ImportBoundsDistance};
 ghost use Rattle.esr_history.specs.Serial.{IsSerializable};
 ghost use Rattle.esr_history.specs.Totals.{IsWithinLimits, all_imports, all_exports};
 ghost use Rattle.esr_order.specs.Index.{IsIndexOf};
-ghost use Rattle.esr_engine.specs.Room.{active_after, active_count, taken, begun, is_end, is_full, NeverStuck, counts_of};
+ghost use Rattle.esr_engine.specs.Capacity.{active_after, active_count, taken, transaction_count, is_end, is_full, NeverStuck, counts_of};
 
 use esr_core::{Machine, StepError, Totals};
 use esr_history::{Event, History, MAX_ENTRIES, MAX_TRANSACTIONS, Reply, TxnId};
@@ -76,7 +76,7 @@ impl EmbeddedEngine {
 
     /// How many transactions have begun.
     fn count_begun(&self) -> usize
-        ensures { result ≡ begun self.now }
+        ensures { result ≡ transaction_count self.now }
     {
         self.machine.history().begun_count()
     }
@@ -199,13 +199,13 @@ impl EmbeddedEngine {
         ensures counts { result ≡ counts_of self.now }
         ensures never_stuck { NeverStuck weighted self.now }
     {
-        let begun = self.count_begun();
+        let transaction_count = self.count_begun();
         Counts {
             entries: self.machine.log().len() as u64,
-            transactions: begun as u64,
+            transactions: transaction_count as u64,
             active: self.active as u64,
             entries_left: (MAX_ENTRIES - self.demand()) as u64,
-            transactions_left: MAX_TRANSACTIONS.saturating_sub(begun) as u64,
+            transactions_left: MAX_TRANSACTIONS.saturating_sub(transaction_count) as u64,
         }
     }
 

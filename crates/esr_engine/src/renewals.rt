@@ -66,11 +66,11 @@ impl EmbeddedEngine {
                 Err(_) => Err(NoMemory),
             };
         }
-        self.start_anew(alloc)
+        self.restart(alloc)
     }
 
     /// Puts a new engine over the committed values in the place of this one.
-    fn start_anew(&mut self, alloc: Global) -> Result<(), NoMemory>
+    fn restart(&mut self, alloc: Global) -> Result<(), NoMemory>
         ensures ok { OnOk result (self.new ≡ renewed self.old self.old.weights) }
         ensures serializable { OnOk result ((later : List Entry) → IsLegal weighted (along self.new later)
             → AreSerializableAsOne self.old (along self.new later)) }

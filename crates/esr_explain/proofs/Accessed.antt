@@ -128,8 +128,8 @@ reads_of : (q : ℕ) (f : ℕ → ℤ → List ℕ) (os : List Operation)
 reads_of q f [] = refl
 reads_of q f (o ∷ os) = grind (arith, eqb, reads_of q f os, filter, flat_map, map, cond, filter (by q) os)
 
-pub reads_told : (h : Schedule) (q : ℕ) (f : ℕ → ℤ → List ℕ) → flat_map (λ (a : Access). if a.writes then [] else f a.item.0 a.value) (accesses_in h.entries q) ≡ flat_map (λ (o : Operation). f o.item o.value) (reads_by h q)
-reads_told h q f = reads_of q f (operations h)
+pub reads_are_within : (h : Schedule) (q : ℕ) (f : ℕ → ℤ → List ℕ) → flat_map (λ (a : Access). if a.writes then [] else f a.item.0 a.value) (accesses_in h.entries q) ≡ flat_map (λ (o : Operation). f o.item o.value) (reads_by h q)
+reads_are_within h q f = reads_of q f (operations h)
 
 -- the lines of one access more
 pub lines_more : (f : Access → List ℕ) (xs : List Access) (k : ℕ) (d : Access) → k < length xs → flat_map f (take (k + 1) xs) ≡ flat_map f (take k xs) ++ f (get_or xs k d)

@@ -19,13 +19,13 @@ joined r c b a s after_r after_c after_b after_a after_s is_r is_c is_b is_a is_
 query_is : (s : ScriptState) (name : List ℕ) (a : AuditedQuery) → IsAnswered s name a → a.finding.query.0 ≡ (transaction_called s name).0
 query_is s name a h = ap (λ (t : ℕ × ℕ × ℕ × List ℕ). t.0) h.finding.told
 
-pub told_so : (s : ScriptState) (name : List ℕ) (a : AuditedQuery) → IsAnswered s name a → summary a.finding ≡ summary_of weighted a.history.schedule a.finding.query.0
-told_so s name a h = grind (arith, query_is s name a h)
+pub audited_summary : (s : ScriptState) (name : List ℕ) (a : AuditedQuery) → IsAnswered s name a → summary a.finding ≡ summary_of weighted a.history.schedule a.finding.query.0
+audited_summary s name a h = grind (arith, query_is s name a h)
 
 -- the explanation of what was asked for
-pub explained_told : (s : ScriptState) (name : List ℕ) (a : AuditedQuery) → IsAnswered s name a → (text : List ℕ)
+pub explained_summary : (s : ScriptState) (name : List ℕ) (a : AuditedQuery) → IsAnswered s name a → (text : List ℕ)
     → text ≡ explanation weighted a.history.schedule a.items a.transactions a.finding.query.0 → text ≡ explained s name
-explained_told s name a h text is =
+explained_summary s name a h text is =
     is
     ∙ (ap (λ (k : Schedule). explanation weighted k a.items a.transactions a.finding.query.0) h.history
     ∙ (ap (λ names. explanation weighted s.history names a.transactions a.finding.query.0) h.items

@@ -26,15 +26,15 @@ done_answered (b ∷ blocks) (r ∷ rs) (same, done) =
     (done 0 (omega arith), done_answered blocks rs (omega (arith, same), λ k lt. done (suc k) (omega (arith, lt))))
 
 -- the same of what is lent of the blocks and of their replies
-pub lent_answered : (blocks seen : List (List Call)) (rs : List RunnerView) (replies : List (List Reply))
+pub borrowed_result : (blocks seen : List (List Call)) (rs : List RunnerView) (replies : List (List Reply))
     → seen ≡ blocks → replies ≡ map (λ r. r.replies) rs → AreDone blocks rs → AreAnswered seen replies
-lent_answered blocks seen rs replies seen_is replies_is done =
+borrowed_result blocks seen rs replies seen_is replies_is done =
     subst (λ (bs : List (List Call)). AreAnswered bs replies) (sym seen_is) (subst (AreAnswered blocks) (sym replies_is) (done_answered blocks rs done))
 
 -- one more block that has given no line
-pub one_fresh : (n : ℕ) (rs new : List RunnerView) (r : RunnerView)
+pub one_new_runner : (n : ℕ) (rs new : List RunnerView) (r : RunnerView)
     → rs ≡ map (λ _. fresh) (range_with_len 0 n) → r ≡ fresh → new ≡ rs ++ r ∷ [] → new ≡ map (λ _. fresh) (range_with_len 0 (n + 1))
-one_fresh n rs new r rs_is r_is new_is =
+one_new_runner n rs new r rs_is r_is new_is =
     new_is ∙ (ap₂ (λ (l : List RunnerView) (one : RunnerView). l ++ one ∷ []) rs_is r_is ∙ sym (map-range_with_len_more (λ _. fresh) 0 n n (omega arith)))
 
 -- how a run begins

@@ -30,5 +30,5 @@ first_turns counts zero = [] ∷ []
 first_turns counts (suc turns) = flat_map (longer counts) (first_turns counts turns)
 
 -- after some of so many turns there are more ways to have begun than a bound
-abbrev pub AreMany : List ℕ → ℕ → ℕ → Type 0
-AreMany counts turns most = (k : ℕ) × (k ≤ turns) × (most < length (first_turns counts k))
+abbrev pub AreMoreThan : List ℕ → ℕ → ℕ → Type 0
+AreMoreThan counts turns most = (k : ℕ) × (k ≤ turns) × (most < length (first_turns counts k))

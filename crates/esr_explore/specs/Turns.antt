@@ -29,14 +29,14 @@ abbrev pub capped : ℕ → ℕ
 capped n = min n (2 ^ 64 - 1)
 
 -- whether the line is given again: it was blocked, and given fewer than 100 times
-abbrev pub is_again : Reply → RunnerView → Bool
-is_again reply s = is_blocked reply && nat_lt (s.tries + 1) 100
+abbrev pub is_retried : Reply → RunnerView → Bool
+is_retried reply s = is_blocked reply && nat_lt (s.tries + 1) 100
 
 -- the block after a reply to its next line
 abbrev pub noted : Reply → RunnerView → RunnerView
 noted reply s = record {
-  replies = cond (is_again reply s) s.replies (s.replies ++ reply ∷ []);
-  tries = cond (is_again reply s) (s.tries + 1) 0;
+  replies = cond (is_retried reply s) s.replies (s.replies ++ reply ∷ []);
+  tries = cond (is_retried reply s) (s.tries + 1) 0;
   blocked = cond (is_blocked reply) (capped (s.blocked + 1)) s.blocked;
 }
 

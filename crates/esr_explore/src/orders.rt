@@ -2,7 +2,7 @@
 
 ghost use Rattle.std.specs.Prelude.{◌≡◌, ℕ, List, ◌+◌, ◌<◌, ◌≤◌, ◌^◌, ◌==◌, ◌∷◌, [], ◌++◌, IfOk, IfNone, IfSome, OnOk, count_by, length, map, flat_map};
 ghost use Rattle.std.specs.List.{Contains};
-ghost use Rattle.esr_explore.specs.Orders.{AreMany, IsOrder, first_turns, longer, longer_by, turns_of};
+ghost use Rattle.esr_explore.specs.Orders.{AreMoreThan, IsOrder, first_turns, longer, longer_by, turns_of};
 
 use std::alloc::{AllocError, Global};
 
@@ -102,7 +102,7 @@ pub fn all_orders(
         map (λ o. o.items) orders.items ≡ first_turns counts.now turns)) }
     ensures every { IfOk result (λ found. IfSome found (λ orders. (order : List ℕ) → IsOrder counts.now turns order
         → Contains (map (λ o. o.items) orders.items) order)) }
-    ensures many { IfOk result (λ found. IfNone found (AreMany counts.now turns MAX_ORDERS)) }
+    ensures many { IfOk result (λ found. IfNone found (AreMoreThan counts.now turns MAX_ORDERS)) }
 {
     let mut orders = no_turns(alloc)?;
     for _turn in 0..turns {

@@ -97,7 +97,7 @@ fn take_turns(
 }
 
 /// Blocks that have given no line.
-fn fresh_runners(alloc: Global, count: usize) -> Result<Vec<Runner>, AllocError>
+fn new_runners(alloc: Global, count: usize) -> Result<Vec<Runner>, AllocError>
     ensures { IfOk result (λ runners. runners.items ≡ map (λ _. fresh) (range_with_len 0 count)) }
 {
     let mut runners = Vec::new(alloc);
@@ -186,7 +186,7 @@ pub fn run_order(alloc: Global, drive_plan: &DrivePlan<'_>, order: &[u8]) -> Res
 {
     let blocks = drive_plan.blocks.as_slice();
     let mut machine = machine_of(alloc, drive_plan)?;
-    let mut runners = fresh_runners(alloc, blocks.len())?;
+    let mut runners = new_runners(alloc, blocks.len())?;
     if let Err(error) = take_turns(&mut machine, blocks, &mut runners, order) {
         return Err(fault_of(error));
     }

@@ -85,8 +85,8 @@ same_entry arcs flow i x (Backward j) ne =
 abbrev entry : ℕ → Bool → Bool → AdjacencyEntry
 entry n ahead back = record { to = n; ahead = ahead; back = back }
 
-same_rooms : (n : ℕ) {a b c d : Bool} → a ≡ b → c ≡ d → entry n a c ≡ entry n b d
-same_rooms n {a} {b} {c} {d} p q = ap (λ x. entry n x c) p ∙ ap (entry n b) q
+same_capacities : (n : ℕ) {a b c d : Bool} → a ≡ b → c ≡ d → entry n a c ≡ entry n b d
+same_capacities n {a} {b} {c} {d} p q = ap (λ x. entry n x c) p ∙ ap (entry n b) q
 
 map_same : {S E : Type 0} (f h : S → E) → ((s : S) → f s ≡ h s) → (steps : List S) → map f steps ≡ map h steps
 map_same f h e [] = refl
@@ -149,5 +149,5 @@ module _ (g : Graph) where
       back = same_back ∙ ap (λ n. within 1 (Some n)) now
 
       here : (s : ResidualArc) → arc_of s ≡ i → adjacency_entry (arcs_of g) flow s ≡ adjacency_entry (arcs_of g) (set flow i x) s
-      here (Forward j) e = subst (λ n. adjacency_entry (arcs_of g) flow (Forward n) ≡ adjacency_entry (arcs_of g) (set flow i x) (Forward n)) (sym e) (same_rooms (arc_at (arcs_of g) i).to ahead back)
-      here (Backward j) e = subst (λ n. adjacency_entry (arcs_of g) flow (Backward n) ≡ adjacency_entry (arcs_of g) (set flow i x) (Backward n)) (sym e) (same_rooms (arc_at (arcs_of g) i).from back ahead)
+      here (Forward j) e = subst (λ n. adjacency_entry (arcs_of g) flow (Forward n) ≡ adjacency_entry (arcs_of g) (set flow i x) (Forward n)) (sym e) (same_capacities (arc_at (arcs_of g) i).to ahead back)
+      here (Backward j) e = subst (λ n. adjacency_entry (arcs_of g) flow (Backward n) ≡ adjacency_entry (arcs_of g) (set flow i x) (Backward n)) (sym e) (same_capacities (arc_at (arcs_of g) i).from back ahead)

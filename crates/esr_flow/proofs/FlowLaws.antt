@@ -10,9 +10,9 @@ use Rattle.esr_cert.specs.Network.{arc_at, Network, IsNetwork}
 use Rattle.esr_cert.proofs.Cut.{pick, pick_add, pick_zero, nothing_into_source}
 use Rattle.esr_flow.specs.Augmentation.{Augments, TakesFrom}
 use Rattle.esr_flow.specs.Maximum.{IsStart}
-use Rattle.esr_flow.proofs.Labels.{Levels, Rooms, rooms_kept, above_step, untouched, shift_other, length-shift, levels_from}
+use Rattle.esr_flow.proofs.Labels.{Levels, ResidualCapacities, capacities_kept, above_step, untouched, shift_other, length-shift, levels_from}
 use Rattle.esr_flow.proofs.Distance.{distance, distance_sink, distance_falls, distance_limit}
-use Rattle.esr_flow.proofs.Phases.{rooms_from, bottle_from, amount_pos, length-raise}
+use Rattle.esr_flow.proofs.Phases.{capacities_from, bottle_from, amount_pos, length-raise}
 
 carried_set : (p : Arc → Bool) (arcs : List Arc) (flow : List ℕ) (i y : ℕ) → length flow ≡ length arcs → i < length arcs → carried p arcs (set flow i y) + pick (p (arc_at arcs i)) (amount_at flow i) ≡ carried p arcs flow + pick (p (arc_at arcs i)) y
 carried_set p [] flow i y e l = absurd (omega arith)
@@ -42,11 +42,11 @@ Linked arcs a [] b = a ≡ b
 Linked arcs a (s ∷ path) b = (start arcs s ≡ a) × Linked arcs (finish arcs s) path b
 
 -- along a path from a to b, x more leaves a and comes to b
-path_balance : (d : ℕ → ℕ) (arcs : List Arc) (flow : List ℕ) (x : ℕ) (path : List ResidualArc) (k a b v : ℕ) → length flow ≡ length arcs → Levels d arcs k path → Rooms arcs flow x path → Linked arcs a path b → outflow arcs (raise flow x path) v + inflow arcs flow v + pick (eqb b v) x ≡ outflow arcs flow v + inflow arcs (raise flow x path) v + pick (eqb a v) x
+path_balance : (d : ℕ → ℕ) (arcs : List Arc) (flow : List ℕ) (x : ℕ) (path : List ResidualArc) (k a b v : ℕ) → length flow ≡ length arcs → Levels d arcs k path → ResidualCapacities arcs flow x path → Linked arcs a path b → outflow arcs (raise flow x path) v + inflow arcs flow v + pick (eqb b v) x ≡ outflow arcs flow v + inflow arcs (raise flow x path) v + pick (eqb a v) x
 path_balance d arcs flow x [] k a b v e h r c = omega (arith, ap (λ n. pick (eqb n v) x) c)
 path_balance d arcs flow x (s ∷ path) k a b v e h r c =
     let rest : outflow arcs (raise (shift flow x s) x path) v + inflow arcs (shift flow x s) v + pick (eqb b v) x ≡ outflow arcs (shift flow x s) v + inflow arcs (raise (shift flow x s) x path) v + pick (eqb (finish arcs s) v) x =
-    path_balance d arcs (shift flow x s) x path (d (finish arcs s)) (finish arcs s) b v (length-shift flow x s ∙ e) h.3 (rooms_kept d arcs flow x x s (d (finish arcs s)) path h.3 (above_step d arcs s h.1) r.1) c.1 in
+    path_balance d arcs (shift flow x s) x path (d (finish arcs s)) (finish arcs s) b v (length-shift flow x s ∙ e) h.3 (capacities_kept d arcs flow x x s (d (finish arcs s)) path h.3 (above_step d arcs s h.1) r.1) c.1 in
     let here : outflow arcs (shift flow x s) v + inflow arcs flow v + pick (eqb (finish arcs s) v) x ≡ outflow arcs flow v + inflow arcs (shift flow x s) v + pick (eqb (start arcs s) v) x = step_balance arcs flow x s v e h.2 r.0 in
     omega (arith, ap (λ n. pick (eqb n v) x) c.0)
 
@@ -79,10 +79,10 @@ shift_capped arcs flow x (Backward j) e l w c i m =
       | inr ne ↦ subst (λ n. within n (arc_at arcs i).capacity ≡ true) (sym (shift_other flow x (Backward j) i ne)) (c i m)
     ]
 
-raise_capped : (d : ℕ → ℕ) (arcs : List Arc) (flow : List ℕ) (x : ℕ) (path : List ResidualArc) (k : ℕ) → length flow ≡ length arcs → Levels d arcs k path → Rooms arcs flow x path → Capped arcs flow → Capped arcs (raise flow x path)
+raise_capped : (d : ℕ → ℕ) (arcs : List Arc) (flow : List ℕ) (x : ℕ) (path : List ResidualArc) (k : ℕ) → length flow ≡ length arcs → Levels d arcs k path → ResidualCapacities arcs flow x path → Capped arcs flow → Capped arcs (raise flow x path)
 raise_capped d arcs flow x [] k e h r c = c
 raise_capped d arcs flow x (s ∷ path) k e h r c =
-    raise_capped d arcs (shift flow x s) x path (d (finish arcs s)) (length-shift flow x s ∙ e) h.3 (rooms_kept d arcs flow x x s (d (finish arcs s)) path h.3 (above_step d arcs s h.1) r.1) (shift_capped arcs flow x s e h.2 r.0 c)
+    raise_capped d arcs (shift flow x s) x path (d (finish arcs s)) (length-shift flow x s ∙ e) h.3 (capacities_kept d arcs flow x x s (d (finish arcs s)) path h.3 (above_step d arcs s h.1) r.1) (shift_capped arcs flow x s e h.2 r.0 c)
 
 set_at_most : (flow : List ℕ) (j y z : ℕ) → y ≤ z → amount_at flow j ≤ z → amount_at (set flow j y) j ≤ z
 set_at_most [] j y z a b = b
@@ -127,7 +127,7 @@ path_labels net flow after a =
 pub augmented : (net : Network) → IsNetwork net → (flow after : List ℕ) → IsFlow net flow → (a : Augments net flow after) → After net flow after a.amount
 augmented net ok flow after f a =
     let p : (d : ℕ → ℕ) × (Falls net.arcs flow d) × (d net.sink ≡ 0) × (d net.source ≡ length a.path) × Levels d net.arcs (d net.source) a.path = path_labels net flow after a in
-    let r : Rooms net.arcs flow a.amount a.path = rooms_from net.arcs flow a.amount a.path a.is_least in
+    let r : ResidualCapacities net.arcs flow a.amount a.path = capacities_from net.arcs flow a.amount a.path a.is_least in
     let balance : (v : ℕ) → outflow net.arcs (raise flow a.amount a.path) v + inflow net.arcs flow v + pick (eqb net.sink v) a.amount ≡ outflow net.arcs flow v + inflow net.arcs (raise flow a.amount a.path) v + pick (eqb net.source v) a.amount =
     λ v. path_balance p.0 net.arcs flow a.amount a.path (p.0 net.source) net.source net.sink v f.same_length p.4 r (linked_from net.arcs flow a.path net.source net.sink a.is_path) in
     let here : eqb net.source net.source ≡ true = eq-eqb _ _ refl in

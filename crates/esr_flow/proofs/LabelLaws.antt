@@ -4,7 +4,7 @@ use Rattle.std.proofs.lemmas.Bool.{cases_eq, cases_lt}
 use Rattle.esr_cert.specs.Steps.{start}
 use Rattle.esr_flow.specs.Residual.{finish, Falls}
 use Rattle.esr_cert.specs.Network.{Network}
-use Rattle.esr_flow.specs.Search.{visit_at, label_at, Leads, FoundSink, Guides, Visit}
+use Rattle.esr_flow.specs.Search.{visit_at, label_at, EndsVisited, FoundSink, Guides, Visit}
 
 -- the first k visits have given their labels
 pub record Labelled (visits : List Visit) (nodes last : ℕ) (labels : List ℕ) (k : ℕ) : Type 0 where
@@ -60,7 +60,7 @@ module _ (net : Network) (flow : List ℕ) (visits : List Visit) (f : FoundSink 
     | inl z ↦ omega arith
     | inr (i, l, e, q) ↦ elim (cases_lt i f.head) [
       | inl before ↦
-          let leads : Leads net.arcs visits (visit_at visits i).level s = f.searched.done i before s res (sym e) in
+          let leads : EndsVisited net.arcs visits (visit_at visits i).level s = f.searched.done i before s res (sym e) in
           let least : (visit_at visits (length visits - 1)).level - (visit_at visits leads.0).level ≤ label_at labels (finish net.arcs s) = subst (λ n. (visit_at visits (length visits - 1)).level - (visit_at visits leads.0).level ≤ label_at labels n) leads.2 (h.at_least leads.0 (omega (arith, leads.1))) in
           omega (arith, leads.3)
       | inr after ↦

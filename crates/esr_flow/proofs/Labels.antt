@@ -20,9 +20,9 @@ Levels d arcs k (s ∷ path) =
     (d (start arcs s) ≤ k) × (d (start arcs s) ≡ suc (d (finish arcs s))) × (arc_of s < length arcs) × Levels d arcs (d (finish arcs s)) path
 
 -- each step has residual capacity for x
-abbrev pub Rooms : List Arc → List ℕ → ℕ → List ResidualArc → Type 0
-Rooms arcs flow x [] = Unit {0}
-Rooms arcs flow x (s ∷ path) = (within x (residual_capacity arcs flow s) ≡ true) × Rooms arcs flow x path
+abbrev pub ResidualCapacities : List Arc → List ℕ → ℕ → List ResidualArc → Type 0
+ResidualCapacities arcs flow x [] = Unit {0}
+ResidualCapacities arcs flow x (s ∷ path) = (within x (residual_capacity arcs flow s) ≡ true) × ResidualCapacities arcs flow x path
 
 -- a step that has residual capacity for x and no more
 abbrev pub Bottle : List Arc → List ℕ → ℕ → List ResidualArc → Type 0
@@ -91,9 +91,9 @@ pub length-shift : (flow : List ℕ) (x : ℕ) (s : ResidualArc) → length (shi
 length-shift flow x (Forward j) = length-set flow j _
 length-shift flow x (Backward j) = length-set flow j _
 
-room_at : (arcs : List Arc) (s : ResidualArc) (flow flow' : List ℕ) → amount_at flow' (arc_of s) ≡ amount_at flow (arc_of s) → residual_capacity arcs flow' s ≡ residual_capacity arcs flow s
-room_at arcs (Forward i) flow flow' e = ap (left_of (arc_at arcs i).capacity) e
-room_at arcs (Backward i) flow flow' e = ap (λ n. Some n) e
+capacity_at : (arcs : List Arc) (s : ResidualArc) (flow flow' : List ℕ) → amount_at flow' (arc_of s) ≡ amount_at flow (arc_of s) → residual_capacity arcs flow' s ≡ residual_capacity arcs flow s
+capacity_at arcs (Forward i) flow flow' e = ap (left_of (arc_at arcs i).capacity) e
+capacity_at arcs (Backward i) flow flow' e = ap (λ n. Some n) e
 
 pub untouched : (d : ℕ → ℕ) (arcs : List Arc) (flow : List ℕ) (x : ℕ) (path : List ResidualArc) (k i : ℕ) → Levels d arcs k path → Above d arcs k i → amount_at (raise flow x path) i ≡ amount_at flow i
 untouched d arcs flow x [] k i h a = refl
@@ -102,31 +102,31 @@ untouched d arcs flow x (s ∷ path) k i h a =
     ∙ shift_other flow x s i (above_other d arcs s k i h.0 h.1 a)
 
 -- the steps below k have the residual capacity that they had
-pub room_kept : (d : ℕ → ℕ) (arcs : List Arc) (flow : List ℕ) (x : ℕ) (t : ResidualArc) (k : ℕ) (s : ResidualArc) → d (start arcs s) ≤ k → d (start arcs s) ≡ suc (d (finish arcs s)) → Above d arcs k (arc_of t) → residual_capacity arcs (shift flow x t) s ≡ residual_capacity arcs flow s
-room_kept d arcs flow x t k s l e a =
-    room_at arcs s flow (shift flow x t) (shift_other flow x t (arc_of s) (λ same. above_other d arcs s k (arc_of t) l e a (sym same)))
+pub capacity_kept : (d : ℕ → ℕ) (arcs : List Arc) (flow : List ℕ) (x : ℕ) (t : ResidualArc) (k : ℕ) (s : ResidualArc) → d (start arcs s) ≤ k → d (start arcs s) ≡ suc (d (finish arcs s)) → Above d arcs k (arc_of t) → residual_capacity arcs (shift flow x t) s ≡ residual_capacity arcs flow s
+capacity_kept d arcs flow x t k s l e a =
+    capacity_at arcs s flow (shift flow x t) (shift_other flow x t (arc_of s) (λ same. above_other d arcs s k (arc_of t) l e a (sym same)))
 
-pub rooms_kept : (d : ℕ → ℕ) (arcs : List Arc) (flow : List ℕ) (x y : ℕ) (t : ResidualArc) (k : ℕ) (path : List ResidualArc) → Levels d arcs k path → Above d arcs k (arc_of t) → Rooms arcs flow x path → Rooms arcs (shift flow y t) x path
-rooms_kept d arcs flow x y t k [] h a r = tt
-rooms_kept d arcs flow x y t k (s ∷ path) h a r = (
-  subst (λ o. within x o ≡ true) (sym (room_kept d arcs flow y t k s h.0 h.1 a)) r.0,
-  rooms_kept d arcs flow x y t (d (finish arcs s)) path h.3 (above_less d arcs k (d (finish arcs s)) (arc_of t) (omega arith) a) r.1,
+pub capacities_kept : (d : ℕ → ℕ) (arcs : List Arc) (flow : List ℕ) (x y : ℕ) (t : ResidualArc) (k : ℕ) (path : List ResidualArc) → Levels d arcs k path → Above d arcs k (arc_of t) → ResidualCapacities arcs flow x path → ResidualCapacities arcs (shift flow y t) x path
+capacities_kept d arcs flow x y t k [] h a r = tt
+capacities_kept d arcs flow x y t k (s ∷ path) h a r = (
+  subst (λ o. within x o ≡ true) (sym (capacity_kept d arcs flow y t k s h.0 h.1 a)) r.0,
+  capacities_kept d arcs flow x y t (d (finish arcs s)) path h.3 (above_less d arcs k (d (finish arcs s)) (arc_of t) (omega arith) a) r.1,
 )
 
 bottle_kept : (d : ℕ → ℕ) (arcs : List Arc) (flow : List ℕ) (x y : ℕ) (t : ResidualArc) (k : ℕ) (path : List ResidualArc) → Levels d arcs k path → Above d arcs k (arc_of t) → Bottle arcs flow x path → Bottle arcs (shift flow y t) x path
 bottle_kept d arcs flow x y t k [] h a r = r
-bottle_kept d arcs flow x y t k (s ∷ path) h a (inl e) = inl (room_kept d arcs flow y t k s h.0 h.1 a ∙ e)
+bottle_kept d arcs flow x y t k (s ∷ path) h a (inl e) = inl (capacity_kept d arcs flow y t k s h.0 h.1 a ∙ e)
 bottle_kept d arcs flow x y t k (s ∷ path) h a (inr r) =
     inr (bottle_kept d arcs flow x y t (d (finish arcs s)) path h.3 (above_less d arcs k (d (finish arcs s)) (arc_of t) (omega arith) a) r)
 
 -- each arc's amount is as it was, or the arc was tight
-pub outcome : (d : ℕ → ℕ) (arcs : List Arc) (flow : List ℕ) (x : ℕ) (path : List ResidualArc) (k i : ℕ) → 1 ≤ x → Levels d arcs k path → Rooms arcs flow x path → (amount_at (raise flow x path) i ≡ amount_at flow i) ⊎ (tight d arcs flow i ≡ true)
+pub outcome : (d : ℕ → ℕ) (arcs : List Arc) (flow : List ℕ) (x : ℕ) (path : List ResidualArc) (k i : ℕ) → 1 ≤ x → Levels d arcs k path → ResidualCapacities arcs flow x path → (amount_at (raise flow x path) i ≡ amount_at flow i) ⊎ (tight d arcs flow i ≡ true)
 outcome d arcs flow x [] k i l h r = inl refl
 outcome d arcs flow x (s ∷ path) k i l h r =
     let after : List ℕ = shift flow x s in
     let up : Above d arcs (d (finish arcs s)) (arc_of s) = above_step d arcs s h.1 in
     let here : tight d arcs flow (arc_of s) ≡ true = tight_step d arcs flow x s l r.0 h.1 in
-    let ih : (amount_at (raise after x path) i ≡ amount_at after i) ⊎ (tight d arcs after i ≡ true) = outcome d arcs after x path (d (finish arcs s)) i l h.3 (rooms_kept d arcs flow x x s (d (finish arcs s)) path h.3 up r.1) in
+    let ih : (amount_at (raise after x path) i ≡ amount_at after i) ⊎ (tight d arcs after i ≡ true) = outcome d arcs after x path (d (finish arcs s)) i l h.3 (capacities_kept d arcs flow x x s (d (finish arcs s)) path h.3 up r.1) in
     elim (cases_eq i (arc_of s)) [
       | inl same ↦ inr (ap (tight d arcs flow) same ∙ here)
       | inr ne ↦
@@ -156,7 +156,7 @@ filled d arcs flow x (Backward i) l e r =
     (and_right _ _ (ne_eqb (d (arc_at arcs i).from) (suc (d (arc_at arcs i).to)) (λ (q : d (arc_at arcs i).from ≡ suc (d (arc_at arcs i).to)). omega arith)))
     (and_left _ _ (lt-leb 1 (amount_at flow i - x) (omega arith)))
 
-pub bottleneck_full : (d : ℕ → ℕ) (arcs : List Arc) (flow : List ℕ) (x : ℕ) (path : List ResidualArc) (k : ℕ) → 1 ≤ x → length flow ≡ length arcs → Levels d arcs k path → Rooms arcs flow x path → Bottle arcs flow x path → (i : ℕ) × (i < length arcs) × (tight d arcs flow i ≡ true) × (tight d arcs (raise flow x path) i ≡ false)
+pub bottleneck_full : (d : ℕ → ℕ) (arcs : List Arc) (flow : List ℕ) (x : ℕ) (path : List ResidualArc) (k : ℕ) → 1 ≤ x → length flow ≡ length arcs → Levels d arcs k path → ResidualCapacities arcs flow x path → Bottle arcs flow x path → (i : ℕ) × (i < length arcs) × (tight d arcs flow i ≡ true) × (tight d arcs (raise flow x path) i ≡ false)
 bottleneck_full d arcs flow x [] k l len h r b = absurd b
 bottleneck_full d arcs flow x (s ∷ path) k l len h r (inl e) =
     let up : Above d arcs (d (finish arcs s)) (arc_of s) = above_step d arcs s h.1 in (
@@ -171,7 +171,7 @@ bottleneck_full d arcs flow x (s ∷ path) k l len h r (inr b) =
     let up : Above d arcs (d (finish arcs s)) (arc_of s) = above_step d arcs s h.1 in
     let here : tight d arcs flow (arc_of s) ≡ true = tight_step d arcs flow x s l r.0 h.1 in
     let ih : (i : ℕ) × (i < length arcs) × (tight d arcs after i ≡ true) × (tight d arcs (raise after x path) i ≡ false) =
-    bottleneck_full d arcs after x path (d (finish arcs s)) l (length-shift flow x s ∙ len) h.3 (rooms_kept d arcs flow x x s (d (finish arcs s)) path h.3 up r.1) (bottle_kept d arcs flow x x s (d (finish arcs s)) path h.3 up b) in
+    bottleneck_full d arcs after x path (d (finish arcs s)) l (length-shift flow x s ∙ len) h.3 (capacities_kept d arcs flow x x s (d (finish arcs s)) path h.3 up r.1) (bottle_kept d arcs flow x x s (d (finish arcs s)) path h.3 up b) in
     let was : tight d arcs flow ih.0 ≡ true =
     elim (cases_eq ih.0 (arc_of s)) [
       | inl same ↦ ap (tight d arcs flow) same ∙ here
@@ -180,10 +180,10 @@ bottleneck_full d arcs flow x (s ∷ path) k l len h r (inr b) =
     (ih.0, ih.1, was, ih.3)
 
 -- the labels still fall by at most one along each residual arc
-pub falls_after : (d : ℕ → ℕ) (arcs : List Arc) (flow : List ℕ) (x : ℕ) (path : List ResidualArc) (k : ℕ) → 1 ≤ x → Levels d arcs k path → Rooms arcs flow x path → Falls arcs flow d → Falls arcs (raise flow x path) d
+pub falls_after : (d : ℕ → ℕ) (arcs : List Arc) (flow : List ℕ) (x : ℕ) (path : List ResidualArc) (k : ℕ) → 1 ≤ x → Levels d arcs k path → ResidualCapacities arcs flow x path → Falls arcs flow d → Falls arcs (raise flow x path) d
 falls_after d arcs flow x path k l h r f s res =
     elim (outcome d arcs flow x path k (arc_of s) l h r) [
-      | inl e ↦ f s (res.0, subst (λ o. within 1 o ≡ true) (room_at arcs s flow (raise flow x path) e) res.1)
+      | inl e ↦ f s (res.0, subst (λ o. within 1 o ≡ true) (capacity_at arcs s flow (raise flow x path) e) res.1)
       | inr t ↦ differ s (tight_labels d (arc_at arcs (arc_of s)) (amount_at flow (arc_of s)) t)
     ]
   where

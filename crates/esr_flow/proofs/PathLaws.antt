@@ -5,7 +5,7 @@ use Rattle.std.proofs.lemmas.List.{length_push, reverse-append, length-replicate
 use Rattle.esr_flow.specs.Words.{ResidualArc, Forward}
 use Rattle.esr_flow.specs.Residual.{IsPath}
 use Rattle.esr_cert.specs.Network.{Network, IsNetwork}
-use Rattle.esr_flow.specs.Search.{visit_at, is_marked, unmarked, Comes, Searched, FoundSink, Visit}
+use Rattle.esr_flow.specs.Search.{visit_at, is_marked, unmarked, IsReached, Searched, FoundSink, Visit}
 use Rattle.esr_flow.proofs.SearchLaws.{start_search, unmarked_mark}
 
 -- the steps so far, the last first, lead from the node of a visit to the sink
@@ -17,7 +17,7 @@ pub record Back (net : Network) (flow : List ℕ) (visits : List Visit) (path : 
 module _ (net : Network) (flow : List ℕ) (visits : List Visit) (f : FoundSink net flow visits) where
   pub back_more : (path : List ResidualArc) (at : ℕ) → 0 < at → Back net flow visits path at → Back net flow visits (path ++ (visit_at visits at).step ∷ []) (visit_at visits at).parent
   back_more path at l b =
-      let c : Comes net.arcs flow visits at = f.searched.comes at l b.in_visits in
+      let c : IsReached net.arcs flow visits at = f.searched.is_reached at l b.in_visits in
       record {
         in_visits = omega (arith, c.earlier, b.in_visits);
         is_path = subst (λ p. IsPath net.arcs flow (visit_at visits (visit_at visits at).parent).node p net.sink) (sym (reverse-append path ((visit_at visits at).step ∷ [])))

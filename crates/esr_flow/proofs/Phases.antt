@@ -8,7 +8,7 @@ use Rattle.esr_cert.specs.Flow.{within}
 use Rattle.esr_cert.specs.Network.{arc_at, Network, IsNetwork}
 use Rattle.esr_flow.specs.Augmentation.{Augments, TakesFrom}
 use Rattle.esr_flow.proofs.Count.{count_below, count_le, count_none_lem, count_fewer}
-use Rattle.esr_flow.proofs.Labels.{Levels, Rooms, Bottle, levels_from, tight, tight_at, outcome, bottleneck_full, falls_after, length-shift}
+use Rattle.esr_flow.proofs.Labels.{Levels, ResidualCapacities, Bottle, levels_from, tight, tight_at, outcome, bottleneck_full, falls_after, length-shift}
 use Rattle.esr_flow.proofs.Distance.{distance, distance_sink, distance_falls, distance_limit, steps_le_nodes}
 
 -- the smaller of two rooms is within both, and is one of them
@@ -21,24 +21,24 @@ smaller_parts (Some a) (Some b) x h =
     (le-leb x a (omega arith), le-leb x b (omega arith), elim split [ inl q ↦ inl (ap (λ n. Some n) q) | inr q ↦ inr (ap (λ n. Some n) q) ])
 
 -- what the bottleneck of a path says of each step and of one of them
-within_room : (x : ℕ) (b : Option ℕ) → within x b ≡ true → (r : ℕ) → b ≡ Some r → x ≤ r
-within_room x None h r e = cc
-within_room x (Some s) h r e = let q : s ≡ r = cc in omega (arith, leb-true x s h)
+within_capacity : (x : ℕ) (b : Option ℕ) → within x b ≡ true → (r : ℕ) → b ≡ Some r → x ≤ r
+within_capacity x None h r e = cc
+within_capacity x (Some s) h r e = let q : s ≡ r = cc in omega (arith, leb-true x s h)
 
 -- within the bottleneck, within each
-pub rooms_within : (arcs : List Arc) (flow : List ℕ) (x : ℕ) (path : List ResidualArc) → within x (bottleneck arcs flow path) ≡ true → Rooms arcs flow x path
-rooms_within arcs flow x [] h = tt
-rooms_within arcs flow x (s ∷ path) h =
+pub capacities_within : (arcs : List Arc) (flow : List ℕ) (x : ℕ) (path : List ResidualArc) → within x (bottleneck arcs flow path) ≡ true → ResidualCapacities arcs flow x path
+capacities_within arcs flow x [] h = tt
+capacities_within arcs flow x (s ∷ path) h =
     let p : (within x (residual_capacity arcs flow s) ≡ true) × (within x (bottleneck arcs flow path) ≡ true) = smaller_within (residual_capacity arcs flow s) (bottleneck arcs flow path) x h in
-    (p.0, rooms_within arcs flow x path p.1)
+    (p.0, capacities_within arcs flow x path p.1)
   where
     smaller_within : (a b : Option ℕ) (x : ℕ) → within x (smaller a b) ≡ true → (within x a ≡ true) × (within x b ≡ true)
     smaller_within None b x h = (refl, h)
     smaller_within (Some a) None x h = (h, refl)
     smaller_within (Some a) (Some b) x h = let l : x ≤ min a b = leb-true x (min a b) h in (le-leb x a (omega arith), le-leb x b (omega arith))
 
-pub rooms_from : (arcs : List Arc) (flow : List ℕ) (x : ℕ) (path : List ResidualArc) → bottleneck arcs flow path ≡ Some x → Rooms arcs flow x path
-rooms_from arcs flow x path h = rooms_within arcs flow x path (subst (λ o. within x o ≡ true) (sym h) (le-leb x x (omega arith)))
+pub capacities_from : (arcs : List Arc) (flow : List ℕ) (x : ℕ) (path : List ResidualArc) → bottleneck arcs flow path ≡ Some x → ResidualCapacities arcs flow x path
+capacities_from arcs flow x path h = capacities_within arcs flow x path (subst (λ o. within x o ≡ true) (sym h) (le-leb x x (omega arith)))
 
 pub bottle_from : (arcs : List Arc) (flow : List ℕ) (x : ℕ) (path : List ResidualArc) → bottleneck arcs flow path ≡ Some x → Bottle arcs flow x path
 bottle_from arcs flow x [] h = cc
@@ -50,7 +50,7 @@ bottle_from arcs flow x (s ∷ path) h =
 
 pub amount_pos : (arcs : List Arc) (flow : List ℕ) (x : ℕ) (path : List ResidualArc) (a b : ℕ) → IsPath arcs flow a path b → Bottle arcs flow x path → 1 ≤ x
 amount_pos arcs flow x [] a b h r = absurd r
-amount_pos arcs flow x (s ∷ path) a b h (inl e) = within_room 1 (residual_capacity arcs flow s) h.1.1 x e
+amount_pos arcs flow x (s ∷ path) a b h (inl e) = within_capacity 1 (residual_capacity arcs flow s) h.1.1 x e
 amount_pos arcs flow x (s ∷ path) a b h (inr r) = amount_pos arcs flow x path (finish arcs s) b h.2 r
 
 pub length-raise : (flow : List ℕ) (x : ℕ) (path : List ResidualArc) → length (raise flow x path) ≡ length flow
@@ -58,7 +58,7 @@ length-raise flow x [] = refl
 length-raise flow x (s ∷ path) = length-raise (shift flow x s) x path ∙ length-shift flow x s
 
 -- an augmentation along a path on which the labels fall at each step leaves fewer tight arcs
-pub fewer_tight : (d : ℕ → ℕ) (arcs : List Arc) (flow : List ℕ) (x : ℕ) (path : List ResidualArc) (k : ℕ) → 1 ≤ x → length flow ≡ length arcs → Levels d arcs k path → Rooms arcs flow x path → Bottle arcs flow x path → suc (count_below (tight d arcs (raise flow x path)) (length arcs)) ≤ count_below (tight d arcs flow) (length arcs)
+pub fewer_tight : (d : ℕ → ℕ) (arcs : List Arc) (flow : List ℕ) (x : ℕ) (path : List ResidualArc) (k : ℕ) → 1 ≤ x → length flow ≡ length arcs → Levels d arcs k path → ResidualCapacities arcs flow x path → Bottle arcs flow x path → suc (count_below (tight d arcs (raise flow x path)) (length arcs)) ≤ count_below (tight d arcs flow) (length arcs)
 fewer_tight d arcs flow x path k l len h r b =
     let full : (i : ℕ) × (i < length arcs) × (tight d arcs flow i ≡ true) × (tight d arcs (raise flow x path) i ≡ false) = bottleneck_full d arcs flow x path k l len h r b in
     count_fewer (tight d arcs (raise flow x path)) (tight d arcs flow) (length arcs) full.0 still full.1 full.3 full.2
@@ -89,7 +89,7 @@ first_phase net first e = record {
 within_phase : (net : Network) → IsNetwork net → (n : ℕ) (flow after : List ℕ) (p : Phase net n flow) (a : Augments net flow after) → length a.path ≤ p.label net.source → Phase net (suc n) after
 within_phase net ok n flow after p a l =
     let b : Bottle net.arcs flow a.amount a.path = bottle_from net.arcs flow a.amount a.path a.is_least in
-    let r : Rooms net.arcs flow a.amount a.path = rooms_from net.arcs flow a.amount a.path a.is_least in
+    let r : ResidualCapacities net.arcs flow a.amount a.path = capacities_from net.arcs flow a.amount a.path a.is_least in
     let x : 1 ≤ a.amount = amount_pos net.arcs flow a.amount a.path net.source net.sink a.is_path b in
     let h : Levels p.label net.arcs (p.label net.source) a.path = levels_from net.arcs flow p.label p.falls a.path net.source net.sink a.is_path (omega (arith, p.at_sink)) in
     let fewer : suc (count_below (tight p.label net.arcs (raise flow a.amount a.path)) (length net.arcs)) ≤ count_below (tight p.label net.arcs flow) (length net.arcs) =

@@ -8,7 +8,7 @@ use Rattle.esr_cert.specs.Steps.{arc_of, start, step_at}
 use Rattle.esr_flow.specs.Residual.{finish, IsResidual}
 use Rattle.esr_cert.specs.Network.{Network, IsNetwork}
 use Rattle.esr_flow.specs.Graph.{IsEntry, Lists}
-use Rattle.esr_flow.specs.Search.{visit_at, is_marked, Leads, Searched, FoundSink, Visit}
+use Rattle.esr_flow.specs.Search.{visit_at, is_marked, EndsVisited, Searched, FoundSink, Visit}
 use Rattle.esr_flow.proofs.SearchLaws.{visit_more, next_head, unmarked_far}
 
 -- the first k steps of the row are done
@@ -18,7 +18,7 @@ pub record Scanning (net : Network) (flow : List ℕ) (steps : List ResidualArc)
   pub lists : Lists net.arcs flow (visit_at visits head).node steps row
   pub next_level : level ≡ (visit_at visits head).level + 1
   pub unfound : is_marked marks net.sink ≡ false
-  pub row_done : (i : ℕ) → i < k → i < length row → IsResidual net.arcs flow (step_at steps i) → Leads net.arcs visits (visit_at visits head).level (step_at steps i)
+  pub row_done : (i : ℕ) → i < k → i < length row → IsResidual net.arcs flow (step_at steps i) → EndsVisited net.arcs visits (visit_at visits head).level (step_at steps i)
 
 abbrev pub none_at : AdjacencyEntry
 none_at = record { to = 0; ahead = false; back = false }
@@ -32,8 +32,8 @@ place_of arcs flow v steps row s h l e =
     let (k, m, q) = h.all s l e in
     (k, omega (arith, h.count), get_or_default steps k (Forward 0) s m ∙ q)
 
-leads_more : (arcs : List Arc) (visits : List Visit) (x : Visit) (level : ℕ) (s : ResidualArc) → Leads arcs visits level s → Leads arcs (visits ++ x ∷ []) level s
-leads_more arcs visits x level s (j, l, e, m) =
+ends_visited_more : (arcs : List Arc) (visits : List Visit) (x : Visit) (level : ℕ) (s : ResidualArc) → EndsVisited arcs visits level s → EndsVisited arcs (visits ++ x ∷ []) level s
+ends_visited_more arcs visits x level s (j, l, e, m) =
     let same : visit_at (visits ++ x ∷ []) j ≡ visit_at visits j = get_or_append_left visits (x ∷ []) (record { node = 0; level = 0; step = Forward 0; parent = 0 }) j l in
     (j, omega (arith, length_push visits x), ap (λ v. v.node) same ∙ e, omega (arith, ap (λ v. v.level) same))
 
@@ -56,14 +56,14 @@ module _ (net : Network) (ok : IsNetwork net) (flow : List ℕ) (steps : List Re
   entry_marked e h l is = let q : IsEntry net.arcs flow (visit_at visits head).node (step_at steps k) e = entry_in e h l is in omega (arith, q.leads, finish_in net ok (step_at steps k) q.in_arcs, h.searched.marks_length)
 
   -- one more step, which leads to a visit if it has residual capacity
-  scan_on : Scanning net flow steps row visits marks head level k → (IsResidual net.arcs flow (step_at steps k) → Leads net.arcs visits (visit_at visits head).level (step_at steps k)) → Scanning net flow steps row visits marks head level (k + 1)
+  scan_on : Scanning net flow steps row visits marks head level k → (IsResidual net.arcs flow (step_at steps k) → EndsVisited net.arcs visits (visit_at visits head).level (step_at steps k)) → Scanning net flow steps row visits marks head level (k + 1)
   scan_on h here = record {
     searched = h.searched;
     in_visits = h.in_visits;
     lists = h.lists;
     next_level = h.next_level;
     unfound = h.unfound;
-    row_done = at_k (λ t. IsResidual net.arcs flow t → Leads net.arcs visits (visit_at visits head).level t) here h.row_done;
+    row_done = at_k (λ t. IsResidual net.arcs flow t → EndsVisited net.arcs visits (visit_at visits head).level t) here h.row_done;
   }
 
   -- a step without residual capacity
@@ -105,10 +105,10 @@ module _ (net : Network) (ok : IsNetwork net) (flow : List ℕ) (steps : List Re
         lists = subst (λ x. Lists net.arcs flow x.node steps row) (sym same) h.lists;
         next_level = omega (arith, h.next_level, ap (λ x. x.level) same);
         unfound = get_or-set_other marks e.to net.sink true false (λ g. ne (sym g)) ∙ h.unfound;
-        row_done = subst (λ x. (i : ℕ) → i < k + 1 → i < length row → IsResidual net.arcs flow (step_at steps i) → Leads net.arcs (visits ++ visit_of (step_at steps k) e level head ∷ []) x.level (step_at steps i)) (sym same)
-            (at_k (λ t. IsResidual net.arcs flow t → Leads net.arcs (visits ++ visit_of (step_at steps k) e level head ∷ []) (visit_at visits head).level t)
+        row_done = subst (λ x. (i : ℕ) → i < k + 1 → i < length row → IsResidual net.arcs flow (step_at steps i) → EndsVisited net.arcs (visits ++ visit_of (step_at steps k) e level head ∷ []) x.level (step_at steps i)) (sym same)
+            (at_k (λ t. IsResidual net.arcs flow t → EndsVisited net.arcs (visits ++ visit_of (step_at steps k) e level head ∷ []) (visit_at visits head).level t)
             (λ g. (length visits, omega (arith, len), ap (λ x. x.node) new ∙ q.leads, omega (arith, ap (λ x. x.level) new, h.next_level)))
-            (λ i a b g. leads_more net.arcs visits (visit_of (step_at steps k) e level head) (visit_at visits head).level (step_at steps i) (h.row_done i a b g)));
+            (λ i a b g. ends_visited_more net.arcs visits (visit_of (step_at steps k) e level head) (visit_at visits head).level (step_at steps i) (h.row_done i a b g)));
       }
 
   -- a step to the sink
@@ -143,7 +143,7 @@ module _ (net : Network) (ok : IsNetwork net) (flow : List ℕ) (steps : List Re
   scan_end l h = (
     next_head net flow visits marks head h.searched h.in_visits (λ s r q.
         let c : (i : ℕ) × (i < length row) × (step_at steps i ≡ s) = place_of net.arcs flow (visit_at visits head).node steps row s h.lists r.0 q in
-        subst (λ t. Leads net.arcs visits (visit_at visits head).level t) c.2
+        subst (λ t. EndsVisited net.arcs visits (visit_at visits head).level t) c.2
         (h.row_done c.0 (omega (arith, c.1)) c.1 (subst (IsResidual net.arcs flow) (sym c.2) r))),
     h.unfound,
     h.in_visits,

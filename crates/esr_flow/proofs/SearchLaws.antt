@@ -7,7 +7,7 @@ use Rattle.esr_cert.specs.Steps.{arc_of, start}
 use Rattle.esr_flow.specs.Residual.{finish, IsResidual, IsPath}
 use Rattle.esr_cert.specs.Network.{Network, IsNetwork}
 use Rattle.esr_flow.specs.Augmentation.{IsReach}
-use Rattle.esr_flow.specs.Search.{visit_at, is_marked, unmarked, Leads, Comes, Searched, Visit}
+use Rattle.esr_flow.specs.Search.{visit_at, is_marked, unmarked, EndsVisited, IsReached, Searched, Visit}
 
 -- labels that rise by at most one along each residual step
 rise_bound : (arcs : List Arc) (flow : List ℕ) (d : ℕ → ℕ) → ((s : ResidualArc) → IsResidual arcs flow s → d (finish arcs s) ≤ suc (d (start arcs s))) → (path : List ResidualArc) (a b : ℕ) → IsPath arcs flow a path b → d b ≤ length path + d a
@@ -87,7 +87,7 @@ module _ (net : Network) (flow : List ℕ) where
             | inl (i, k, e, q) ↦
                 elim (cases_lt i head) [
                   | inl before ↦
-                      let leads : Leads net.arcs visits (visit_at visits i).level s = h.done i before s res (sym e) in
+                      let leads : EndsVisited net.arcs visits (visit_at visits i).level s = h.done i before s res (sym e) in
                       let least : label visits (suc (visit_at visits head).level) (visit_at visits leads.0).node ≤ (visit_at visits leads.0).level = label_least visits (suc (visit_at visits head).level) h.sorted leads.0 leads.1 in
                       omega (arith, ap (label visits (suc (visit_at visits head).level)) leads.2, leads.3)
                   | inr after ↦ omega (arith, h.sorted head i after k)
@@ -96,13 +96,13 @@ module _ (net : Network) (flow : List ℕ) where
           ]
 
   pub start_search : (marks : List Bool) (visits : List Visit) → net.source < net.nodes → length marks ≡ net.nodes → unmarked marks + 1 ≡ net.nodes → ((v : ℕ) → is_marked marks v ≡ true → v ≡ net.source) → is_marked marks net.source ≡ true → visits ≡ record { node = net.source; level = 0; step = Forward 0; parent = 0 } ∷ [] → Searched net flow visits marks 0
-  start_search marks visits ok ml room only here e =
+  start_search marks visits ok ml capacity_left only here e =
       subst (λ vs. Searched net flow vs marks 0) (sym e) (record {
         marks_length = ml;
         some = omega arith;
         first_node = refl;
         first_level = refl;
-        comes = λ j a b. absurd (omega arith);
+        is_reached = λ j a b. absurd (omega arith);
         sorted = λ i j a b. let z : j ≡ 0 = omega arith in let y : i ≡ 0 = omega arith in same_level i j (y ∙ sym z);
         low = λ j a. let z : j ≡ 0 = omega arith in omega (arith, zero_level j z);
         nodes = λ j a. let z : j ≡ 0 = omega arith in subst (λ n. (visit_at one n).node < net.nodes) (sym z) ok;
@@ -110,7 +110,7 @@ module _ (net : Network) (flow : List ℕ) where
         visited = λ v t. (0, omega arith, sym (only v t));
         done = λ i a. absurd (omega arith);
         near = λ j a b. let z : j ≡ 0 = omega arith in omega (arith, zero_level j z);
-        room = omega arith;
+        capacity_left = omega arith;
       })
     where
       one : List Visit
@@ -130,7 +130,7 @@ module _ (net : Network) (flow : List ℕ) where
         some = omega (arith, len);
         first_node = ap (λ x. x.node) (old 0 h.some) ∙ h.first_node;
         first_level = ap (λ x. x.level) (old 0 h.some) ∙ h.first_level;
-        comes = comes_more;
+        is_reached = reached_more;
         sorted = λ i j a b. elim (place j b) [
           | inl jl ↦ omega (arith, ap (λ x. x.level) (old i (omega arith)), ap (λ x. x.level) (old j jl), h.sorted i j a jl)
           | inr je ↦ elim (place i (omega arith)) [
@@ -162,7 +162,7 @@ module _ (net : Network) (flow : List ℕ) where
           | inl jl ↦ omega (arith, ap (λ x. x.level) (old j jl), ap (λ x. x.level) (old head l), h.near j jl l)
           | inr je ↦ omega (arith, ap (λ x. x.level) (new j je), ap (λ x. x.level) (old head l))
         ];
-        room = omega (arith, len, unmarked_mark marks (finish net.arcs s) (omega (arith, target, h.marks_length)) f, h.room);
+        capacity_left = omega (arith, len, unmarked_mark marks (finish net.arcs s) (omega (arith, target, h.marks_length)) f, h.capacity_left);
       }
     where
       extra : Visit
@@ -196,11 +196,11 @@ module _ (net : Network) (flow : List ℕ) where
       visited_old : (v : ℕ) → (j : ℕ) × (j < length visits) × ((visit_at visits j).node ≡ v) → (j : ℕ) × (j < length (visits ++ extra ∷ [])) × ((visit_at (visits ++ extra ∷ []) j).node ≡ v)
       visited_old v (j, k, q) = (j, omega (arith, len), ap (λ x. x.node) (old j k) ∙ q)
 
-      done_old : (i : ℕ) → i < length visits → (t : ResidualArc) → Leads net.arcs visits (visit_at visits i).level t → Leads net.arcs (visits ++ extra ∷ []) (visit_at (visits ++ extra ∷ []) i).level t
+      done_old : (i : ℕ) → i < length visits → (t : ResidualArc) → EndsVisited net.arcs visits (visit_at visits i).level t → EndsVisited net.arcs (visits ++ extra ∷ []) (visit_at (visits ++ extra ∷ []) i).level t
       done_old i il t (j, k, q, m) = (j, omega (arith, len), ap (λ x. x.node) (old j k) ∙ q, omega (arith, ap (λ x. x.level) (old j k), ap (λ x. x.level) (old i il)))
 
-      comes_old : (j : ℕ) → j < length visits → Comes net.arcs flow visits j → Comes net.arcs flow (visits ++ extra ∷ []) j
-      comes_old j jl c =
+      reached_old : (j : ℕ) → j < length visits → IsReached net.arcs flow visits j → IsReached net.arcs flow (visits ++ extra ∷ []) j
+      reached_old j jl c =
           let back : visit_at (visits ++ extra ∷ []) (visit_at visits j).parent ≡ visit_at visits (visit_at visits j).parent = old (visit_at visits j).parent (omega (arith, c.earlier)) in
           let same : visit_at (visits ++ extra ∷ []) j ≡ visit_at visits j = old j jl in
           let back' : visit_at (visits ++ extra ∷ []) (visit_at (visits ++ extra ∷ []) j).parent ≡ visit_at visits (visit_at visits j).parent = ap (λ x. visit_at (visits ++ extra ∷ []) x.parent) same ∙ back in
@@ -212,8 +212,8 @@ module _ (net : Network) (flow : List ℕ) where
             next_level = ap (λ x. x.level) same ∙ c.next_level ∙ ap suc (sym (ap (λ x. x.level) back'));
           }
 
-      comes_new : (j : ℕ) → j ≡ length visits → Comes net.arcs flow (visits ++ extra ∷ []) j
-      comes_new j je =
+      reached_new : (j : ℕ) → j ≡ length visits → IsReached net.arcs flow (visits ++ extra ∷ []) j
+      reached_new j je =
           let same : visit_at (visits ++ extra ∷ []) j ≡ extra = new j je in
           let back : visit_at (visits ++ extra ∷ []) (visit_at (visits ++ extra ∷ []) j).parent ≡ visit_at visits head = ap (λ x. visit_at (visits ++ extra ∷ []) x.parent) same ∙ old head l in
           record {
@@ -224,25 +224,25 @@ module _ (net : Network) (flow : List ℕ) where
             next_level = omega (arith, ap (λ x. x.level) same, ap (λ x. x.level) back);
           }
 
-      comes_more : (j : ℕ) → 0 < j → j < length (visits ++ extra ∷ []) → Comes net.arcs flow (visits ++ extra ∷ []) j
-      comes_more j a b = elim (place j b) [ inl jl ↦ comes_old j jl (h.comes j a jl) | inr je ↦ comes_new j je ]
+      reached_more : (j : ℕ) → 0 < j → j < length (visits ++ extra ∷ []) → IsReached net.arcs flow (visits ++ extra ∷ []) j
+      reached_more j a b = elim (place j b) [ inl jl ↦ reached_old j jl (h.is_reached j a jl) | inr je ↦ reached_new j je ]
 
   -- the next visit, where each step from this one is done
-  pub next_head : (visits : List Visit) (marks : List Bool) (head : ℕ) → Searched net flow visits marks head → head < length visits → ((s : ResidualArc) → IsResidual net.arcs flow s → start net.arcs s ≡ (visit_at visits head).node → Leads net.arcs visits (visit_at visits head).level s) → Searched net flow visits marks (head + 1)
+  pub next_head : (visits : List Visit) (marks : List Bool) (head : ℕ) → Searched net flow visits marks head → head < length visits → ((s : ResidualArc) → IsResidual net.arcs flow s → start net.arcs s ≡ (visit_at visits head).node → EndsVisited net.arcs visits (visit_at visits head).level s) → Searched net flow visits marks (head + 1)
   next_head visits marks head h l each = record {
     marks_length = h.marks_length;
     some = h.some;
     first_node = h.first_node;
     first_level = h.first_level;
-    comes = h.comes;
+    is_reached = h.is_reached;
     sorted = h.sorted;
     low = h.low;
     nodes = h.nodes;
     marked = h.marked;
     visited = h.visited;
-    room = h.room;
+    capacity_left = h.capacity_left;
     done = λ i a s r q. elim (cases_eq i head) [
-      | inl e ↦ subst (λ n. Leads net.arcs visits (visit_at visits n).level s) (sym e) (each s r (q ∙ ap (λ n. (visit_at visits n).node) e))
+      | inl e ↦ subst (λ n. EndsVisited net.arcs visits (visit_at visits n).level s) (sym e) (each s r (q ∙ ap (λ n. (visit_at visits n).node) e))
       | inr ne ↦ h.done i (omega arith) s r q
     ];
     near = λ j a b. omega (arith, h.near j a l, h.sorted head (head + 1) (omega arith) b);
@@ -253,7 +253,7 @@ module _ (net : Network) (flow : List ℕ) where
   path_to visits marks head h zero j a l = absurd (omega arith)
   path_to visits marks head h (suc fuel) zero a l = ([], sym h.first_node)
   path_to visits marks head h (suc fuel) (suc j) a l =
-      let c : Comes net.arcs flow visits (suc j) = h.comes (suc j) (omega arith) l in
+      let c : IsReached net.arcs flow visits (suc j) = h.is_reached (suc j) (omega arith) l in
       let p : (path : List ResidualArc) × IsPath net.arcs flow net.source path (visit_at visits (visit_at visits (suc j)).parent).node =
       path_to visits marks head h fuel (visit_at visits (suc j)).parent (omega (arith, c.earlier)) (omega (arith, c.earlier)) in (
         p.0 ++ (visit_at visits (suc j)).step ∷ [],
@@ -267,7 +267,7 @@ module _ (net : Network) (flow : List ℕ) where
     source = sym (ap (is_marked marks) h.first_node) ∙ h.marked 0 h.some;
     kept = λ s r t.
         let v : (j : ℕ) × (j < length visits) × ((visit_at visits j).node ≡ start net.arcs s) = h.visited (start net.arcs s) t in
-        let leads : Leads net.arcs visits (visit_at visits v.0).level s = h.done v.0 (omega (arith, v.1)) s r (sym v.2) in
+        let leads : EndsVisited net.arcs visits (visit_at visits v.0).level s = h.done v.0 (omega (arith, v.1)) s r (sym v.2) in
         sym (ap (is_marked marks) leads.2) ∙ h.marked leads.0 leads.1;
     reached = λ v t.
         let j : (j : ℕ) × (j < length visits) × ((visit_at visits j).node ≡ v) = h.visited v t in

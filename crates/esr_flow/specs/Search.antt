@@ -20,13 +20,13 @@ unmarked [] = 0
 unmarked (b ∷ marks) = (if b then 0 else 1) + unmarked marks
 
 -- a visit of where a step leads, one level further at most
-abbrev pub Leads : List Arc → List Visit → ℕ → ResidualArc → Type 0
-Leads arcs visits level step =
+abbrev pub EndsVisited : List Arc → List Visit → ℕ → ResidualArc → Type 0
+EndsVisited arcs visits level step =
     (j : ℕ) × (j < length visits) × ((visit_at visits j).node ≡ finish arcs step)
     × ((visit_at visits j).level ≤ suc level)
 
 -- a visit comes from an earlier one
-pub record Comes (arcs : List Arc) (flow : List ℕ) (visits : List Visit) (j : ℕ) : Type 0 where
+pub record IsReached (arcs : List Arc) (flow : List ℕ) (visits : List Visit) (j : ℕ) : Type 0 where
   pub earlier : (visit_at visits j).parent < j
   pub residual : IsResidual arcs flow (visit_at visits j).step
   pub ends : finish arcs (visit_at visits j).step ≡ (visit_at visits j).node
@@ -43,17 +43,17 @@ pub record Searched (net : Network) (flow : List ℕ) (visits : List Visit) (mar
   pub some : 0 < length visits
   pub first_node : (visit_at visits 0).node ≡ net.source
   pub first_level : (visit_at visits 0).level ≡ 0
-  pub comes : (j : ℕ) → 0 < j → j < length visits → Comes net.arcs flow visits j
+  pub is_reached : (j : ℕ) → 0 < j → j < length visits → IsReached net.arcs flow visits j
   pub sorted : (i j : ℕ) → i ≤ j → j < length visits → (visit_at visits i).level ≤ (visit_at visits j).level
   pub low : (j : ℕ) → j < length visits → (visit_at visits j).level ≤ j
   pub nodes : (j : ℕ) → j < length visits → (visit_at visits j).node < net.nodes
   pub marked : (j : ℕ) → j < length visits → is_marked marks (visit_at visits j).node ≡ true
   pub visited : (v : ℕ) → is_marked marks v ≡ true → (j : ℕ) × (j < length visits) × ((visit_at visits j).node ≡ v)
   pub done : (i : ℕ) → i < head → (step : ResidualArc) → IsResidual net.arcs flow step
-      → start net.arcs step ≡ (visit_at visits i).node → Leads net.arcs visits (visit_at visits i).level step
+      → start net.arcs step ≡ (visit_at visits i).node → EndsVisited net.arcs visits (visit_at visits i).level step
   pub near : (j : ℕ) → j < length visits → head < length visits
       → (visit_at visits j).level ≤ suc (visit_at visits head).level
-  pub room : length visits + unmarked marks ≡ net.nodes
+  pub capacity_left : length visits + unmarked marks ≡ net.nodes
 
 -- a path with fewest arcs from the source to the sink
 pub record IsShortestPath (net : Network) (flow : List ℕ) (path : List ResidualArc) : Type 0 where

@@ -38,7 +38,7 @@ fn is_within(arc: Arc, amount: u64) -> bool
 
 /// Adds the amount on an arc to what comes to its one end and to what leaves the other. Whether it is within the
 /// capacity, and the new sums fit.
-fn add_on(arc: Arc, amount: u64, into: &mut [u64], from: &mut [u64]) -> bool
+fn add_arc(arc: Arc, amount: u64, into: &mut [u64], from: &mut [u64]) -> bool
     requires to { arc.to < length into.old }
     requires from { arc.from < length from.old }
     ensures within { result ≡ true → within amount arc.capacity ≡ true }
@@ -52,7 +52,7 @@ fn add_on(arc: Arc, amount: u64, into: &mut [u64], from: &mut [u64]) -> bool
 
 /// Sums what comes to each node and what leaves it, and answers the greatest amount, if each is within the capacity of
 /// its arc and all sums fit.
-fn sum_up(graph: &Graph, flow: &[u64], into: &mut [u64], from: &mut [u64]) -> Option<u64>
+fn sum_arcs(graph: &Graph, flow: &[u64], into: &mut [u64], from: &mut [u64]) -> Option<u64>
     requires flow { length flow.now ≡ length (arcs_of graph.now) }
     requires into { length into.old ≡ graph.now.nodes }
     requires from { length from.old ≡ graph.now.nodes }
@@ -72,7 +72,7 @@ fn sum_up(graph: &Graph, flow: &[u64], into: &mut [u64], from: &mut [u64]) -> Op
             continue;
         }
         let arc = graph.problem.arc(i as u32);
-        if !add_on(arc, amount, into, from) {
+        if !add_arc(arc, amount, into, from) {
             return None;
         }
         greatest = amount.max(greatest);
@@ -81,7 +81,7 @@ fn sum_up(graph: &Graph, flow: &[u64], into: &mut [u64], from: &mut [u64]) -> Op
 }
 
 /// Whether as much comes to each node as leaves it, but the source and the sink.
-fn are_equal(graph: &Graph, into: &[u64], from: &[u64]) -> bool
+fn is_conserved(graph: &Graph, into: &[u64], from: &[u64]) -> bool
     requires into { length into.now ≡ graph.now.nodes }
     requires from { length from.now ≡ graph.now.nodes }
     ensures { result ≡ true → (v : ℕ) → v < graph.now.nodes → v ≢ graph.now.source → v ≢ graph.now.sink
@@ -104,11 +104,11 @@ pub fn worth_if_flow(alloc: Global, graph: &Graph, flow: &[u64]) -> Result<Optio
 {
     let mut into = vec![in alloc; 0u64; graph.nodes]?;
     let mut from = vec![in alloc; 0u64; graph.nodes]?;
-    let Some(greatest) = sum_up(graph, flow, &mut into, &mut from) else {
+    let Some(greatest) = sum_arcs(graph, flow, &mut into, &mut from) else {
         return Ok(None);
     };
     let worth = from[graph.source];
-    if greatest <= worth && are_equal(graph, &into, &from) {
+    if greatest <= worth && is_conserved(graph, &into, &from) {
         Ok(Some(worth))
     } else {
         Ok(None)

@@ -22,7 +22,7 @@ use std::alloc::{AllocError, Global};
 
 /// The marked positions, ascending.
 fn members(alloc: Global, marks: &[bool], count: usize) -> Result<Vec<u32>, AllocError>
-    requires room { count ≤ length marks.now }
+    requires capacity_left { count ≤ length marks.now }
     requires few { count ≤ MAX_TRANSACTIONS }
     ensures { IfOk result (λ set. set.items ≡ positions (is_marked marks.now) count) }
 {

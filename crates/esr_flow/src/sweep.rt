@@ -57,7 +57,7 @@ struct Searches {
 }
 
 /// What may still be added on an arc of a capacity.
-fn room_on(capacity: Option<u64>, amount: u64) -> u64 {
+fn capacity_on(capacity: Option<u64>, amount: u64) -> u64 {
     match capacity {
         None => u64::MAX.saturating_sub(amount),
         Some(limit) => limit.saturating_sub(amount),
@@ -160,17 +160,17 @@ fn arc_at(field: &Field, number: u32) -> Arc {
 }
 
 /// The node of a step that is nearer to where a search of a sweep began, and the most that the step may carry.
-fn end_and_room(field: &Field, flow: &[u64], sweep: Sweep, step: ResidualArc) -> (u32, u64) {
+fn end_and_capacity(field: &Field, flow: &[u64], sweep: Sweep, step: ResidualArc) -> (u32, u64) {
     let number = step.arc();
     let arc = arc_at(field, number);
     let amount = number_at(flow, number as usize);
-    let (start, finish, room) = match step {
-        ResidualArc::Forward(_) => (arc.from, arc.to, room_on(field.limit(number), amount)),
+    let (start, finish, capacity_left) = match step {
+        ResidualArc::Forward(_) => (arc.from, arc.to, capacity_on(field.limit(number), amount)),
         ResidualArc::Backward(_) => (arc.to, arc.from, amount),
     };
     match sweep {
-        Sweep::Back(_) => (finish, room),
-        Sweep::Forward => (start, room),
+        Sweep::Back(_) => (finish, capacity_left),
+        Sweep::Forward => (start, capacity_left),
     }
 }
 
@@ -195,7 +195,7 @@ fn way_over(
     let number = way.arc();
     let amount = number_at(flow, number as usize);
     let is_open = match way {
-        ResidualArc::Forward(_) => 0 < room_on(field.limit(number), amount),
+        ResidualArc::Forward(_) => 0 < capacity_on(field.limit(number), amount),
         ResidualArc::Backward(_) => 0 < amount && !field.is_of_chain(number),
     };
     if !is_open {
@@ -326,7 +326,7 @@ impl Searches {
     }
 
     /// The most that may go on the way that was found, up to what is due; 0 where there is no way.
-    fn least_room(
+    fn least_capacity(
         &self,
         field: &Field,
         flow: &[u64],
@@ -337,8 +337,8 @@ impl Searches {
         let mut least = due;
         let mut step = first;
         for _ in 0..field.graph.nodes {
-            let (node, room) = end_and_room(field, flow, self.sweep, step);
-            least = least.min(room);
+            let (node, capacity_left) = end_and_capacity(field, flow, self.sweep, step);
+            least = least.min(capacity_left);
             if node == update {
                 return least;
             }
@@ -354,7 +354,7 @@ impl Searches {
         let mut step = first;
         for _ in 0..field.graph.nodes {
             bring_over(field, flow, step, amount);
-            let (node, _) = end_and_room(field, flow, self.sweep, step);
+            let (node, _) = end_and_capacity(field, flow, self.sweep, step);
             if node == update {
                 return;
             }
@@ -382,7 +382,7 @@ impl Searches {
                 self.end_in_vain();
                 return Ok(due);
             };
-            let amount = self.least_room(field, flow, update, first, due);
+            let amount = self.least_capacity(field, flow, update, first, due);
             self.bring(field, flow, update, first, amount);
             due = due.saturating_sub(amount);
         }
@@ -439,21 +439,21 @@ fn asks(sweep: Sweep, step: ResidualArc) -> bool {
 }
 
 /// What the arcs of chains on the one side of a node carry, and the most that those on the other may.
-fn due_and_room(field: &Field, flow: &[u64], sweep: Sweep, node: usize) -> (u64, u64) {
+fn due_and_capacity(field: &Field, flow: &[u64], sweep: Sweep, node: usize) -> (u64, u64) {
     let mut due: u64 = 0;
-    let mut room: u64 = 0;
+    let mut capacity_left: u64 = 0;
     for short in row_of(field, node) {
         let step = short.step();
         let Some(limit) = field.limit(step.arc()) else {
-            return (due, room);
+            return (due, capacity_left);
         };
         if asks(sweep, step) {
-            room = room.saturating_add(limit);
+            capacity_left = capacity_left.saturating_add(limit);
         } else {
             due = due.saturating_add(number_at(flow, step.arc() as usize));
         }
     }
-    (due, room)
+    (due, capacity_left)
 }
 
 /// An amount in the ratio to a larger one, in parts of 2^31, rounded down.
@@ -479,10 +479,17 @@ fn part_of(weight: u64, ratio: u64) -> u64 {
 
 /// Adds on the arcs of chains on that side of a node parts of what is due, in the ratio of their capacities, and answers
 /// what is left of it.
-fn share(field: &Field, flow: &mut [u64], sweep: Sweep, node: usize, due: u64, room: u64) -> u64
+fn share(
+    field: &Field,
+    flow: &mut [u64],
+    sweep: Sweep,
+    node: usize,
+    due: u64,
+    capacity_left: u64,
+) -> u64
     ensures { length flow.new ≡ length flow.old }
 {
-    let ratio = ratio_of(due, room);
+    let ratio = ratio_of(due, capacity_left);
     let mut left = due;
     for short in row_of(field, node) {
         let step = short.step();
@@ -512,7 +519,7 @@ fn fill(field: &Field, flow: &mut [u64], sweep: Sweep, node: usize, due: u64) ->
         }
         if asks(sweep, step) {
             let place = step.arc() as usize;
-            let part = room_on(limit, number_at(flow, place)).min(left);
+            let part = capacity_on(limit, number_at(flow, place)).min(left);
             add_at(flow, place, part);
             left = left.saturating_sub(part);
         }
@@ -543,7 +550,7 @@ fn add_update(
     ensures { length flow.new ≡ length flow.old }
 {
     let node = update as usize;
-    let (due, room) = due_and_room(field, flow, searches.sweep, node);
+    let (due, capacity_left) = due_and_capacity(field, flow, searches.sweep, node);
     if due == 0 {
         return Ok(0);
     }
@@ -553,8 +560,8 @@ fn add_update(
             return Ok(0);
         }
     }
-    if due < room {
-        let left = share(field, flow, searches.sweep, node, due, room);
+    if due < capacity_left {
+        let left = share(field, flow, searches.sweep, node, due, capacity_left);
         return Ok(fill(field, flow, searches.sweep, node, left));
     }
     let left = fill(field, flow, searches.sweep, node, due);
@@ -563,7 +570,7 @@ fn add_update(
 
 /// Takes off the arcs on the other side of a node what it was not given, which the nodes there are not given then.
 /// Whether one of those was gone over before it.
-fn let_go(field: &Field, flow: &mut [u64], owed: &mut [u64], sweep: Sweep, node: u32) -> bool
+fn released(field: &Field, flow: &mut [u64], owed: &mut [u64], sweep: Sweep, node: u32) -> bool
     ensures flow { length flow.new ≡ length flow.old }
     ensures owed { length owed.new ≡ length owed.old }
 {
@@ -593,7 +600,7 @@ fn let_go(field: &Field, flow: &mut [u64], owed: &mut [u64], sweep: Sweep, node:
 }
 
 /// Lets go of what each update was not given, those that the sweep came to last first. Whether more is to be let go of.
-fn let_all_go(field: &Field, flow: &mut [u64], owed: &mut [u64], sweep: Sweep) -> bool
+fn release_all(field: &Field, flow: &mut [u64], owed: &mut [u64], sweep: Sweep) -> bool
     ensures flow { length flow.new ≡ length flow.old }
     ensures owed { length owed.new ≡ length owed.old }
 {
@@ -605,7 +612,7 @@ fn let_all_go(field: &Field, flow: &mut [u64], owed: &mut [u64], sweep: Sweep) -
             Sweep::Back(_) => i,
             Sweep::Forward => last.saturating_sub(i),
         };
-        if 0 < number_at(owed, node as usize) && let_go(field, flow, owed, sweep, node) {
+        if 0 < number_at(owed, node as usize) && released(field, flow, owed, sweep, node) {
             is_back = true;
         }
     }
@@ -653,7 +660,7 @@ fn settle(field: &Field, flow: &mut [u64], mut owed: Vec<u64>, sweep: Sweep)
     ensures { length flow.new ≡ length flow.old }
 {
     for _ in 0..MAX_ROUNDS {
-        if !let_all_go(field, flow, &mut owed, sweep) {
+        if !release_all(field, flow, &mut owed, sweep) {
             return;
         }
     }

@@ -2,7 +2,7 @@
 use Rattle.std.proofs.Common.{◌≡◌, ℕ, zero, suc, ◌+◌, ◌<◌, List, [], ◌∷◌, Bool, true, false, not, cond, length, get_or, refl, sym, ◌∙◌, ap, arith}
 use Rattle.std.proofs.lemmas.Bool.{and_parts}
 use Rattle.esr_grammar.specs.Command.{is_name_byte}
-use Rattle.esr_grammar.specs.Classes.{tells_of}
+use Rattle.esr_grammar.specs.Classes.{classifies}
 
 agrees : (x v : Bool) → cond x v (not v) ≡ true → x ≡ v
 agrees true true e = refl
@@ -10,7 +10,7 @@ agrees true false e = cc
 agrees false true e = cc
 agrees false false e = refl
 
-pub told : (byte : ℕ) (xs : List Bool) (k : ℕ) → tells_of byte xs ≡ true → k < length xs → get_or xs k false ≡ is_name_byte (k + byte)
+pub told : (byte : ℕ) (xs : List Bool) (k : ℕ) → classifies byte xs ≡ true → k < length xs → get_or xs k false ≡ is_name_byte (k + byte)
 told byte [] k e l = absurd (omega (arith, l))
 told byte (x ∷ xs) zero e l =
     let same : byte ≡ 0 + byte = omega arith in

@@ -34,16 +34,16 @@ whole-line (b ∷ bs) rest h =
 abbrev pub front : List ℕ → List ℕ
 front bytes = take (line_len bytes) bytes
 
-abbrev pub behind_front : List ℕ → List ℕ
-behind_front bytes = drop (line_len bytes + 1) bytes
+abbrev pub after_front : List ℕ → List ℕ
+after_front bytes = drop (line_len bytes + 1) bytes
 
 front-other : (b : ℕ) (bs : List ℕ) → nat_eq b 10 ≡ false → front (b ∷ bs) ≡ b ∷ front bs
 front-other b bs e = rw (len-other b bs e) refl
 
-behind-other : (b : ℕ) (bs : List ℕ) → nat_eq b 10 ≡ false → behind_front (b ∷ bs) ≡ behind_front bs
+behind-other : (b : ℕ) (bs : List ℕ) → nat_eq b 10 ≡ false → after_front (b ∷ bs) ≡ after_front bs
 behind-other b bs e = rw (len-other b bs e, add-one, add-one) refl
 
-behind-feed : (b : ℕ) (bs : List ℕ) → nat_eq b 10 ≡ true → behind_front (b ∷ bs) ≡ bs
+behind-feed : (b : ℕ) (bs : List ℕ) → nat_eq b 10 ≡ true → after_front (b ∷ bs) ≡ bs
 behind-feed b bs e = rw (len-feed b bs e) refl
 
 front-feed : (b : ℕ) (bs : List ℕ) → nat_eq b 10 ≡ true → front (b ∷ bs) ≡ []
@@ -55,14 +55,14 @@ plain-front [] = refl
 plain-front (b ∷ bs) = grind (arith, cases_Bool (nat_eq b 10), nat_eq b 10, front-feed, front-other, len-other, plain-front bs)
 
 -- the bytes up to the first line feed, that and the rest
-pub split-front : (bytes : List ℕ) → line_len bytes < length bytes → bytes ≡ front bytes ++ 10 ∷ behind_front bytes
+pub split-front : (bytes : List ℕ) → line_len bytes < length bytes → bytes ≡ front bytes ++ 10 ∷ after_front bytes
 split-front [] h = absurd (omega (arith, h))
 split-front (b ∷ bs) h = elim (cases_Bool (nat_eq b 10)) [
   | inl e ↦ ap (λ n. n ∷ bs) (eqb-true b 10 e) ∙ sym (ap (λ l. l ++ 10 ∷ bs) (front-feed b bs e)) ∙ ap (λ l. front (b ∷ bs) ++ 10 ∷ l) (sym (behind-feed b bs e))
   | inr e ↦
       let shorter : line_len bs < length bs = omega (arith, h, len-other b bs e) in
       ap (λ l. b ∷ l) (split-front bs shorter)
-      ∙ ap (λ l. l ++ 10 ∷ behind_front bs) (sym (front-other b bs e)) ∙ ap (λ l. front (b ∷ bs) ++ 10 ∷ l) (sym (behind-other b bs e))
+      ∙ ap (λ l. l ++ 10 ∷ after_front bs) (sym (front-other b bs e)) ∙ ap (λ l. front (b ∷ bs) ++ 10 ∷ l) (sym (behind-other b bs e))
 ]
 
 -- bytes with no line feed are one line

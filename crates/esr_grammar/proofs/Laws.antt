@@ -12,7 +12,7 @@ use Rattle.std.proofs.lemmas.Fmt.{digits_value-decimal, digits_decimal, decimal_
 use Rattle.std.proofs.lemmas.List.{take_more, take_all}
 use Rattle.std.proofs.lemmas.Option.{cond_some}
 use Rattle.std.proofs.Math.Nat.{pow-succ', pow-le-pow_right}
-use Rattle.esr_grammar.specs.Command.{IsPlainWord, IsInt, IsLimit, words_of, is_blank, number_below, value_from, int_of, limit_in, minus}
+use Rattle.esr_grammar.specs.Command.{IsPlainWord, IsInt, IsLimit, words_of, is_space, number_below, value_from, int_of, limit_in, minus}
 
 -- ---- options
 
@@ -28,9 +28,9 @@ map_some f (Some a) b e = (a, refl, cc)
 
 -- words without blanks are found again
 pub split_join : (w : List ℕ) (ws : List (List ℕ)) → IsPlainWord w → AllByRecursion IsPlainWord ws → words_of (join_with_byte 32 (w ∷ ws)) ≡ w ∷ ws
-split_join w [] plain rest = slice_split_none is_blank w plain
+split_join w [] plain rest = slice_split_none is_space w plain
 split_join w (v ∷ vs) plain rest =
-    slice_split_at is_blank w 32 (join_with_byte 32 (v ∷ vs)) plain refl ∙ ap (λ l. w ∷ l) (split_join v vs rest.0 rest.1)
+    slice_split_at is_space w 32 (join_with_byte 32 (v ∷ vs)) plain refl ∙ ap (λ l. w ∷ l) (split_join v vs rest.0 rest.1)
 
 -- ---- tests of two parts
 
@@ -73,8 +73,8 @@ pub no_digit : (cs : List ℕ) (i d : ℕ) → i < length cs → is_ascii_digit 
 no_digit cs i d within other = grind (arith, cases_Bool (all_ascii_digits cs), digit_at)
 
 -- a spelled number is read
-pub number_again : (bound n : ℕ) → bound ≤ 10 ^ 19 → n < bound → number_below bound (decimal n) ≡ Some n
-number_again bound n fits small =
+pub number_round_trip : (bound n : ℕ) → bound ≤ 10 ^ 19 → n < bound → number_below bound (decimal n) ≡ Some n
+number_round_trip bound n fits small =
     let value : value_from 0 (decimal n) ≡ n = digits_value-decimal own n (omega arith) in
     let below : nat_lt n bound ≡ true = lt-ltb n bound small in
     let same : bytes_eq (decimal n) (decimal n) ≡ true = (bytes_eq-Decides (decimal n) (decimal n)).1 refl in
@@ -100,9 +100,9 @@ nonzero : (n : ℕ) → nat_eq (suc n) 0 ≡ false
 nonzero n = ne_eqb (suc n) 0 (λ e. omega (arith, e))
 
 -- a spelled whole number is read
-pub int_again : (v : ℤ) → nat_abs v < 10 ^ 18 → int_of (signed_decimal v) ≡ Some v
-int_again (pos n) small = unsigned (decimal n) n (all_digits n (omega arith)) (decimal_nonempty n (omega arith)) (number_again (10 ^ 18) n (omega arith) small)
-int_again (negsuc n) small = rw (number_again (10 ^ 18) (suc n) (omega arith) small, nonzero n) refl
+pub int_round_trip : (v : ℤ) → nat_abs v < 10 ^ 18 → int_of (signed_decimal v) ≡ Some v
+int_round_trip (pos n) small = unsigned (decimal n) n (all_digits n (omega arith)) (decimal_nonempty n (omega arith)) (number_round_trip (10 ^ 18) n (omega arith) small)
+int_round_trip (negsuc n) small = rw (number_round_trip (10 ^ 18) (suc n) (omega arith) small, nonzero n) refl
 
 signed : (n : ℕ) (v : ℤ) → n < 10 ^ 18 → minus n ≡ Some v → (nat_abs v < 10 ^ 18) × (45 ∷ decimal n ≡ signed_decimal v)
 signed zero v small e = cc
@@ -133,7 +133,7 @@ pub limit_none : (text : List ℕ) → ((n : ℕ) → IsLimit n → text ≡ dec
 limit_none text h = none_unless (limit_in text) (λ n e. let found = number_found (10 ^ 19) text n e in h n found.0 found.1)
 
 pub limit_some : (text : List ℕ) (n : ℕ) → IsLimit n → text ≡ decimal n → Some n ≡ limit_in text
-limit_some text n small is = rw is (sym (number_again (10 ^ 19) n (omega arith) small))
+limit_some text n small is = rw is (sym (number_round_trip (10 ^ 19) n (omega arith) small))
 
 -- ---- digits of a limit
 

@@ -3,7 +3,7 @@
 
 pub mod Prefix
 pub mod Cutting
-pub mod Blanks
+pub mod Spaces
 pub mod Laws
 pub mod Bytes
 pub mod Classes

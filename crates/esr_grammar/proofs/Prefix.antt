@@ -2,7 +2,7 @@
 use Rattle.std.proofs.Common.{◌≡◌, ℕ, ◌≤◌, List, [], ◌∷◌, length, arith, nat_eq, nat_lt, None, ltb-false, position}
 use Rattle.esr_grammar.specs.Lines.{line_len}
 use Rattle.std.proofs.lemmas.Bool.{cases_Bool}
-use Rattle.esr_grammar.proofs.Blanks.{chosen_none}
+use Rattle.esr_grammar.proofs.Spaces.{chosen_none}
 
 pub line_len-le : (bytes : List ℕ) → line_len bytes ≤ length bytes
 line_len-le [] = omega arith

@@ -7,10 +7,10 @@ use Rattle.std.specs.Fmt.{signed_decimal}
 use Rattle.std.proofs.lemmas.List.Elements.{All-nil, All-cons}
 use Rattle.std.proofs.lemmas.List.Splits.{join_with_byte-slice_split}
 use Rattle.std.proofs.lemmas.Slice.Eq.{bytes_eq-Decides}
-use Rattle.esr_grammar.specs.Command.{Command, item, weighted_item, begin_update, begin_query, begin_strict_query, read, write, commit, abort, audit, totals, words, is_name, IsName, IsLimit, IsCommand, Spells, IsPlainWord, words_of, name_of, limit_in, int_of, one_of, two_of, three_of, four_of, both, plain_item_command, weighted_item_command, item_command, plain_begin_command, strict_query_command, begin_command, read_command, write_command, one_name_of, totals_command, command_of, command_by, reading}
+use Rattle.esr_grammar.specs.Command.{Command, item, weighted_item, begin_update, begin_query, begin_strict_query, read, write, commit, abort, audit, totals, words, is_name, IsName, IsLimit, IsCommand, IsSyntaxOf, IsPlainWord, words_of, name_of, limit_in, int_of, one_of, two_of, three_of, four_of, both, plain_item_command, weighted_item_command, item_command, plain_begin_command, strict_query_command, begin_command, read_command, write_command, one_name_of, totals_command, command_of, command_by, reading}
 use Rattle.std.proofs.lemmas.Bool.{cases_Bool, and_parts, not-true}
 use Rattle.esr_grammar.proofs.Bytes.{lacks, name_lacks, number_lacks, int_lacks}
-use Rattle.esr_grammar.proofs.Laws.{and_then_some, map_some, split_join, number_again, number_found, int_again, int_found}
+use Rattle.esr_grammar.proofs.Laws.{and_then_some, map_some, split_join, number_round_trip, number_found, int_round_trip, int_found}
 use Rattle.std.proofs.lemmas.Grind.{common_steps}
 
 -- ---- words without blanks
@@ -39,29 +39,29 @@ found : (line k : List ℕ) (ws : List (List ℕ)) (c : Command) → line ≡ jo
     → command_of k ws ≡ Some c → reading line ≡ Some c
 found line k ws c is first rest e = ap reading is ∙ ap command_by (split_join k ws first rest) ∙ e
 
-pub spelled : (line : List ℕ) (c : Command) → Spells line c → reading line ≡ Some c
+pub spelled : (line : List ℕ) (c : Command) → IsSyntaxOf line c → reading line ≡ Some c
 spelled line (item n v) h =
     found line (codes "item") (n ∷ signed_decimal v ∷ []) (item n v) h.1 (plain (codes "item") refl) (plain_name n h.0.0, (plain_int v h.0.1, tt))
-    (rw (named n h.0.0, int_again v h.0.1) refl)
+    (rw (named n h.0.0, int_round_trip v h.0.1) refl)
 spelled line (weighted_item n v w) h =
     found line (codes "item") (n ∷ signed_decimal v ∷ codes "weight" ∷ decimal w ∷ []) (weighted_item n v w) h.1 (plain (codes "item") refl)
     (plain_name n h.0.0, (plain_int v h.0.1, (plain (codes "weight") refl, (plain_number w h.0.2, tt))))
-    (rw (named n h.0.0, int_again v h.0.1, number_again (10 ^ 19) w (omega arith) h.0.2) refl)
+    (rw (named n h.0.0, int_round_trip v h.0.1, number_round_trip (10 ^ 19) w (omega arith) h.0.2) refl)
 spelled line (begin_update n l) h =
     found line (codes "begin") (n ∷ codes "update" ∷ decimal l ∷ []) (begin_update n l) h.1 (plain (codes "begin") refl)
-    (plain_name n h.0.0, (plain (codes "update") refl, (plain_number l h.0.1, tt))) (rw (named n h.0.0, number_again (10 ^ 19) l (omega arith) h.0.1) refl)
+    (plain_name n h.0.0, (plain (codes "update") refl, (plain_number l h.0.1, tt))) (rw (named n h.0.0, number_round_trip (10 ^ 19) l (omega arith) h.0.1) refl)
 spelled line (begin_query n l) h =
     found line (codes "begin") (n ∷ codes "query" ∷ decimal l ∷ []) (begin_query n l) h.1 (plain (codes "begin") refl)
-    (plain_name n h.0.0, (plain (codes "query") refl, (plain_number l h.0.1, tt))) (rw (named n h.0.0, number_again (10 ^ 19) l (omega arith) h.0.1) refl)
+    (plain_name n h.0.0, (plain (codes "query") refl, (plain_number l h.0.1, tt))) (rw (named n h.0.0, number_round_trip (10 ^ 19) l (omega arith) h.0.1) refl)
 spelled line (begin_strict_query n l) h =
     found line (codes "begin") (n ∷ codes "query" ∷ decimal l ∷ codes "strict" ∷ []) (begin_strict_query n l) h.1 (plain (codes "begin") refl)
     (plain_name n h.0.0, (plain (codes "query") refl, (plain_number l h.0.1, (plain (codes "strict") refl, tt))))
-    (rw (named n h.0.0, number_again (10 ^ 19) l (omega arith) h.0.1) refl)
+    (rw (named n h.0.0, number_round_trip (10 ^ 19) l (omega arith) h.0.1) refl)
 spelled line (read t x) h =
     found line (codes "read") (t ∷ x ∷ []) (read t x) h.1 (plain (codes "read") refl) (plain_name t h.0.0, (plain_name x h.0.1, tt)) (rw (named t h.0.0, named x h.0.1) refl)
 spelled line (write t x v) h =
     found line (codes "write") (t ∷ x ∷ signed_decimal v ∷ []) (write t x v) h.1 (plain (codes "write") refl)
-    (plain_name t h.0.0, (plain_name x h.0.1, (plain_int v h.0.2, tt))) (rw (named t h.0.0, named x h.0.1, int_again v h.0.2) refl)
+    (plain_name t h.0.0, (plain_name x h.0.1, (plain_int v h.0.2, tt))) (rw (named t h.0.0, named x h.0.1, int_round_trip v h.0.2) refl)
 spelled line (commit t) h = found line (codes "commit") (t ∷ []) (commit t) h.1 (plain (codes "commit") refl) (plain_name t h.0, tt) (rw (named t h.0) refl)
 spelled line (abort t) h = found line (codes "abort") (t ∷ []) (abort t) h.1 (plain (codes "abort") refl) (plain_name t h.0, tt) (rw (named t h.0) refl)
 spelled line (audit t) h = found line (codes "audit") (t ∷ []) (audit t) h.1 (plain (codes "audit") refl) (plain_name t h.0, tt) (rw (named t h.0) refl)
@@ -105,18 +105,18 @@ same_four : {a b c d w x y z : List ℕ} → a ≡ w → b ≡ x → c ≡ y →
 same_four {a} {b} {c} {d} {w} {x} {y} {z} e f g h = rw (e, f, g, h) refl
 
 -- the words behind a first word spell the command
-abbrev Behind : List ℕ → List (List ℕ) → Command → Type 0
-Behind k ws c = IsCommand c × (k ∷ ws ≡ words c)
+abbrev IsKeywordOf : List ℕ → List (List ℕ) → Command → Type 0
+IsKeywordOf k ws c = IsCommand c × (k ∷ ws ≡ words c)
 
-plain_item_found : (ws : List (List ℕ)) (c : Command) → plain_item_command ws ≡ Some c → Behind (codes "item") ws c
+plain_item_found : (ws : List (List ℕ)) (c : Command) → plain_item_command ws ≡ Some c → IsKeywordOf (codes "item") ws c
 plain_item_found ws c e =
     let p = and_then_some (λ (q : List ℕ × List ℕ). both item (name_of q.0) (int_of q.1)) (two_of ws) c e in
     let b = both_found item (name_of p.0.0) (int_of p.0.1) c p.2 in
     let n = name_found p.0.0 b.0 b.2 in
     let v = int_found p.0.1 b.1 b.3 in
-    subst (Behind (codes "item") ws) b.4 ((n.0, v.0), ap (λ l. codes "item" ∷ l) (two_found ws p.0 p.1 ∙ same_two n.1 v.1))
+    subst (IsKeywordOf (codes "item") ws) b.4 ((n.0, v.0), ap (λ l. codes "item" ∷ l) (two_found ws p.0 p.1 ∙ same_two n.1 v.1))
 
-weighted_item_found : (ws : List (List ℕ)) (c : Command) → weighted_item_command ws ≡ Some c → Behind (codes "item") ws c
+weighted_item_found : (ws : List (List ℕ)) (c : Command) → weighted_item_command ws ≡ Some c → IsKeywordOf (codes "item") ws c
 weighted_item_found ws c e =
     let p = and_then_some (λ (q : List ℕ × List ℕ × List ℕ × List ℕ). cond (bytes_eq q.2 (codes "weight"))
     (option_and_then (λ n. both (weighted_item n) (int_of q.1) (limit_in q.3)) (name_of q.0)) None) (four_of ws) c e in
@@ -128,23 +128,23 @@ weighted_item_found ws c e =
           let n = name_found p.0.0 a.0 a.1 in
           let v = int_found p.0.1 b.0 b.2 in
           let w = number_found (10 ^ 19) p.0.3 b.1 b.3 in
-          subst (Behind (codes "item") ws) b.4 (
+          subst (IsKeywordOf (codes "item") ws) b.4 (
             (n.0, v.0, w.0),
             ap (λ l. codes "item" ∷ l) (four_found ws p.0 p.1 ∙ same_four n.1 v.1 ((bytes_eq-Decides p.0.2 (codes "weight")).0 t) w.1),
           )
       | inr f ↦ let none : None ≡ Some c = rw f at p.2 in cc
     ]
 
-item_found : (ws : List (List ℕ)) (c : Command) → item_command ws ≡ Some c → Behind (codes "item") ws c
+item_found : (ws : List (List ℕ)) (c : Command) → item_command ws ≡ Some c → IsKeywordOf (codes "item") ws c
 item_found ws c e = elim (or_found (plain_item_command ws) (weighted_item_command ws) c e) [
   | inl h ↦ plain_item_found ws c h
   | inr h ↦ weighted_item_found ws c h
 ]
 
-read_found : (ws : List (List ℕ)) (c : Command) → read_command ws ≡ Some c → Behind (codes "read") ws c
+read_found : (ws : List (List ℕ)) (c : Command) → read_command ws ≡ Some c → IsKeywordOf (codes "read") ws c
 read_found ws c e = grind (arith, and_then_some, both_found, name_found, codes "read", two_found, same_two)
 
-write_found : (ws : List (List ℕ)) (c : Command) → write_command ws ≡ Some c → Behind (codes "write") ws c
+write_found : (ws : List (List ℕ)) (c : Command) → write_command ws ≡ Some c → IsKeywordOf (codes "write") ws c
 write_found ws c e =
     let p = and_then_some (λ (q : List ℕ × List ℕ × List ℕ). option_and_then (λ t. both (write t) (name_of q.1) (int_of q.2)) (name_of q.0)) (three_of ws) c e in
     let a = and_then_some (λ t. both (write t) (name_of p.0.1) (int_of p.0.2)) (name_of p.0.0) c p.2 in
@@ -152,15 +152,15 @@ write_found ws c e =
     let t = name_found p.0.0 a.0 a.1 in
     let x = name_found p.0.1 b.0 b.2 in
     let v = int_found p.0.2 b.1 b.3 in
-    subst (Behind (codes "write") ws) b.4 ((t.0, x.0, v.0), ap (λ l. codes "write" ∷ l) (three_found ws p.0 p.1 ∙ same_three t.1 x.1 v.1))
+    subst (IsKeywordOf (codes "write") ws) b.4 ((t.0, x.0, v.0), ap (λ l. codes "write" ∷ l) (three_found ws p.0 p.1 ∙ same_three t.1 x.1 v.1))
 
 begin_by : (kind : List ℕ) (f : List ℕ → ℕ → Command) (ws : List (List ℕ)) (p : List ℕ × List ℕ × List ℕ) (c : Command) → ws ≡ p.0 ∷ p.1 ∷ p.2 ∷ [] → bytes_eq p.1 kind ≡ true
-    → both f (name_of p.0) (limit_in p.2) ≡ Some c → ((n : List ℕ) (l : ℕ) → IsName n → IsLimit l → codes "begin" ∷ ws ≡ codes "begin" ∷ n ∷ kind ∷ decimal l ∷ [] → Behind (codes "begin") ws (f n l))
-    → Behind (codes "begin") ws c
+    → both f (name_of p.0) (limit_in p.2) ≡ Some c → ((n : List ℕ) (l : ℕ) → IsName n → IsLimit l → codes "begin" ∷ ws ≡ codes "begin" ∷ n ∷ kind ∷ decimal l ∷ [] → IsKeywordOf (codes "begin") ws (f n l))
+    → IsKeywordOf (codes "begin") ws c
 begin_by kind f ws p c three is_kind e spells =
     grind (arith, both_found f (name_of p.0) (limit_in p.2) c e, name_found, number_found, codes "begin", same_three, bytes_eq-Decides p.1 kind)
 
-plain_begin_found : (ws : List (List ℕ)) (c : Command) → plain_begin_command ws ≡ Some c → Behind (codes "begin") ws c
+plain_begin_found : (ws : List (List ℕ)) (c : Command) → plain_begin_command ws ≡ Some c → IsKeywordOf (codes "begin") ws c
 plain_begin_found ws c e =
     let p = and_then_some (λ (q : List ℕ × List ℕ × List ℕ). cond (bytes_eq q.1 (codes "update")) (both begin_update (name_of q.0) (limit_in q.2))
     (cond (bytes_eq q.1 (codes "query")) (both begin_query (name_of q.0) (limit_in q.2)) None)) (three_of ws) c e in
@@ -175,7 +175,7 @@ plain_begin_found ws c e =
           ]
     ]
 
-strict_query_found : (ws : List (List ℕ)) (c : Command) → strict_query_command ws ≡ Some c → Behind (codes "begin") ws c
+strict_query_found : (ws : List (List ℕ)) (c : Command) → strict_query_command ws ≡ Some c → IsKeywordOf (codes "begin") ws c
 strict_query_found ws c e =
     let p = and_then_some (λ (q : List ℕ × List ℕ × List ℕ × List ℕ). cond (bytes_eq q.1 (codes "query") && bytes_eq q.3 (codes "strict"))
     (both begin_strict_query (name_of q.0) (limit_in q.2)) None) (four_of ws) c e in
@@ -197,34 +197,34 @@ strict_query_found ws c e =
       | inr f ↦ let none : None ≡ Some c = rw f at p.2 in cc
     ]
 
-begin_found : (ws : List (List ℕ)) (c : Command) → begin_command ws ≡ Some c → Behind (codes "begin") ws c
+begin_found : (ws : List (List ℕ)) (c : Command) → begin_command ws ≡ Some c → IsKeywordOf (codes "begin") ws c
 begin_found ws c e = elim (or_found (plain_begin_command ws) (strict_query_command ws) c e) [
   | inl h ↦ plain_begin_found ws c h
   | inr h ↦ strict_query_found ws c h
 ]
 
-totals_found : (ws : List (List ℕ)) (c : Command) → totals_command ws ≡ Some c → Behind (codes "totals") ws c
-totals_found [] c e = let same : totals ≡ c = cc in subst (Behind (codes "totals") []) same (tt, refl)
+totals_found : (ws : List (List ℕ)) (c : Command) → totals_command ws ≡ Some c → IsKeywordOf (codes "totals") ws c
+totals_found [] c e = let same : totals ≡ c = cc in subst (IsKeywordOf (codes "totals") []) same (tt, refl)
 totals_found (w ∷ ws) c e = cc
 
 one_name_found : (ws : List (List ℕ)) (t : List ℕ) → one_name_of ws ≡ Some t → IsName t × (ws ≡ t ∷ [])
 one_name_found ws t e = grind (arith, and_then_some name_of (one_of ws) t e, name_found, one_found)
 
-commit_found : (ws : List (List ℕ)) (c : Command) → option_map commit (one_name_of ws) ≡ Some c → Behind (codes "commit") ws c
+commit_found : (ws : List (List ℕ)) (c : Command) → option_map commit (one_name_of ws) ≡ Some c → IsKeywordOf (codes "commit") ws c
 commit_found ws c e = grind (arith, map_some commit (one_name_of ws) c e, one_name_found, codes "commit")
 
-abort_found : (ws : List (List ℕ)) (c : Command) → option_map abort (one_name_of ws) ≡ Some c → Behind (codes "abort") ws c
+abort_found : (ws : List (List ℕ)) (c : Command) → option_map abort (one_name_of ws) ≡ Some c → IsKeywordOf (codes "abort") ws c
 abort_found ws c e = grind (arith, map_some abort (one_name_of ws) c e, one_name_found, codes "abort")
 
-audit_found : (ws : List (List ℕ)) (c : Command) → option_map audit (one_name_of ws) ≡ Some c → Behind (codes "audit") ws c
+audit_found : (ws : List (List ℕ)) (c : Command) → option_map audit (one_name_of ws) ≡ Some c → IsKeywordOf (codes "audit") ws c
 audit_found ws c e = grind (arith, map_some audit (one_name_of ws) c e, one_name_found, codes "audit")
 
 -- one of two, by the first word
 choose : (k word : List ℕ) (ws : List (List ℕ)) (a b : Option Command) (c : Command) → cond (bytes_eq k word) a b ≡ Some c
-    → (a ≡ Some c → Behind word ws c) → (b ≡ Some c → Behind k ws c) → Behind k ws c
+    → (a ≡ Some c → IsKeywordOf word ws c) → (b ≡ Some c → IsKeywordOf k ws c) → IsKeywordOf k ws c
 choose k word ws a b c e here there = grind (arith, cases_Bool (bytes_eq k word), word, bytes_eq-Decides k word)
 
-behind : (k : List ℕ) (ws : List (List ℕ)) (c : Command) → command_of k ws ≡ Some c → Behind k ws c
+behind : (k : List ℕ) (ws : List (List ℕ)) (c : Command) → command_of k ws ≡ Some c → IsKeywordOf k ws c
 behind k ws c e =
     choose k (codes "totals") ws _ _ c e (totals_found ws c) (λ e.
     choose k (codes "read") ws _ _ c e (read_found ws c) (λ e.
@@ -239,5 +239,5 @@ by_words : (ws : List (List ℕ)) (c : Command) → command_by ws ≡ Some c →
 by_words [] c e = cc
 by_words (k ∷ ws) c e = behind k ws c e
 
-pub read_back : (line : List ℕ) (c : Command) → reading line ≡ Some c → Spells line c
+pub read_back : (line : List ℕ) (c : Command) → reading line ≡ Some c → IsSyntaxOf line c
 read_back line c e = grind (arith, by_words (words_of line) c e, join_with_byte-slice_split 32 line)

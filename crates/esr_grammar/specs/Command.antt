@@ -90,8 +90,8 @@ is_skipped [] = true
 is_skipped (b ∷ bs) = nat_eq b 35
 
 -- the line spells this command
-abbrev pub Spells : List ℕ → Command → Type 0
-Spells line c = IsCommand c × (line ≡ spelling c)
+abbrev pub IsSyntaxOf : List ℕ → Command → Type 0
+IsSyntaxOf line c = IsCommand c × (line ≡ spelling c)
 
 -- no blank is in the word
 abbrev pub IsPlainWord : List ℕ → Type 0
@@ -99,12 +99,12 @@ IsPlainWord word = All (λ b. nat_eq b 32 ≡ false) word
 
 -- ---- what is read
 
-abbrev pub is_blank : ℕ → Bool
-is_blank b = nat_eq b 32
+abbrev pub is_space : ℕ → Bool
+is_space b = nat_eq b 32
 
 -- the words between single blanks
 abbrev pub words_of : List ℕ → List (List ℕ)
-words_of bytes = slice_split is_blank bytes
+words_of bytes = slice_split is_space bytes
 
 -- the words after the first blank, where there is one
 abbrev pub words_after : Option (Bor (List ℕ)) → List (List ℕ)

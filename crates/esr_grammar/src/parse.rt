@@ -5,7 +5,7 @@
 //! allocated.
 
 ghost use Rattle.std.specs.Prelude.{◌≡◌, ◌↔◌, Option, Some, option_map, IsTrue};
-ghost use Rattle.esr_grammar.specs.Command.{Command, is_skipped, Spells, words_of, words_after, totals_command, plain_item_command, weighted_item_command, item_command, plain_begin_command, strict_query_command, begin_command, read_command, write_command, one_name_command, reading, view, command_in, IsReadingOf};
+ghost use Rattle.esr_grammar.specs.Command.{Command, is_skipped, IsSyntaxOf, words_of, words_after, totals_command, plain_item_command, weighted_item_command, item_command, plain_begin_command, strict_query_command, begin_command, read_command, write_command, one_name_command, reading, view, command_in, IsReadingOf};
 
 use crate::quick::quick;
 use crate::words::{cut_word, four_words, int, limit, name, one_word, three_words, two_words};
@@ -193,7 +193,7 @@ fn of_one_name<'a>(word: &[u8], words: &'a [u8]) -> Option<Line<'a>>
     }
 }
 
-#[tactic(auto, using(crate::proofs::Blanks::no_totals))]
+#[tactic(auto, using(crate::proofs::Spaces::no_totals))]
 fn totals(words: Option<&[u8]>) -> Option<Line<'static>>
     ensures { option_map view result ≡ totals_command (words_after words.entry) }
 {
@@ -243,10 +243,10 @@ pub fn parse_line(line: &[u8]) -> Parsed<'_>
     // Skipped exactly for a skipped line, a command exactly where the line spells it.
     ensures skipped { (result ≡ Parsed.Skipped) ↔ IsTrue (is_skipped line.now) }
     ensures read { IsReadingOf line.now result }
-    ensures command { (c : Command) → (command_in result ≡ Some c) ↔ Spells line.now c }
+    ensures command { (c : Command) → (command_in result ≡ Some c) ↔ IsSyntaxOf line.now c }
 
     // The reading of a line, and its spelling.
-    ensures law { (c : Command) → (reading line.now ≡ Some c) ↔ Spells line.now c }
+    ensures law { (c : Command) → (reading line.now ≡ Some c) ↔ IsSyntaxOf line.now c }
 {
     if is_skipped(line) {
         return Parsed::Skipped;

@@ -5,7 +5,7 @@
 
 ghost use Rattle.std.specs.Prelude.{◌≡◌, ◌∷◌, ◌++◌, IfSome, codes, not};
 ghost use Rattle.std.specs.List.{position};
-ghost use Rattle.esr_grammar.specs.Command.{is_name_byte, IsName, Spells, view};
+ghost use Rattle.esr_grammar.specs.Command.{is_name_byte, IsName, IsSyntaxOf, view};
 
 use crate::parse::Line;
 use crate::words::{int, is_letter, is_name_byte, limit, name};
@@ -45,7 +45,7 @@ fn front_name(bytes: &[u8]) -> Option<(&str, &[u8])>
 /// `write NAME NAME INT`, after its first word.
 #[inline(always)]
 fn write(words: &[u8]) -> Option<Line<'_>>
-    ensures { IfSome result (λ line. Spells (codes "write " ++ words.now) (view line)) }
+    ensures { IfSome result (λ line. IsSyntaxOf (codes "write " ++ words.now) (view line)) }
 {
     let (txn, more) = front_name(words)?;
     let (item, last) = front_name(more)?;
@@ -56,7 +56,7 @@ fn write(words: &[u8]) -> Option<Line<'_>>
 /// `read NAME NAME`, after its first word.
 #[inline(always)]
 fn read(words: &[u8]) -> Option<Line<'_>>
-    ensures { IfSome result (λ line. Spells (codes "read " ++ words.now) (view line)) }
+    ensures { IfSome result (λ line. IsSyntaxOf (codes "read " ++ words.now) (view line)) }
 {
     let (txn, last) = front_name(words)?;
     let item = name(last)?;
@@ -66,7 +66,7 @@ fn read(words: &[u8]) -> Option<Line<'_>>
 /// `commit NAME`, after its first word.
 #[inline(always)]
 fn commit(words: &[u8]) -> Option<Line<'_>>
-    ensures { IfSome result (λ line. Spells (codes "commit " ++ words.now) (view line)) }
+    ensures { IfSome result (λ line. IsSyntaxOf (codes "commit " ++ words.now) (view line)) }
 {
     let txn = name(words)?;
     Some(Line::Commit { txn })
@@ -76,7 +76,7 @@ fn commit(words: &[u8]) -> Option<Line<'_>>
 #[inline(always)]
 fn begin_update<'a>(name: &'a str, last: &[u8]) -> Option<Line<'a>>
     requires { IsName name.now }
-    ensures { IfSome result (λ line. Spells (codes "begin " ++ name.now ++ 32 ∷ (codes "update " ++ last.now)) (view line)) }
+    ensures { IfSome result (λ line. IsSyntaxOf (codes "begin " ++ name.now ++ 32 ∷ (codes "update " ++ last.now)) (view line)) }
 {
     let limit = limit(last)?;
     Some(Line::BeginUpdate { name, limit })
@@ -86,7 +86,7 @@ fn begin_update<'a>(name: &'a str, last: &[u8]) -> Option<Line<'a>>
 #[inline(always)]
 fn begin_query<'a>(name: &'a str, last: &[u8]) -> Option<Line<'a>>
     requires { IsName name.now }
-    ensures { IfSome result (λ line. Spells (codes "begin " ++ name.now ++ 32 ∷ (codes "query " ++ last.now)) (view line)) }
+    ensures { IfSome result (λ line. IsSyntaxOf (codes "begin " ++ name.now ++ 32 ∷ (codes "query " ++ last.now)) (view line)) }
 {
     let limit = limit(last)?;
     Some(Line::BeginQuery { name, limit })
@@ -94,7 +94,7 @@ fn begin_query<'a>(name: &'a str, last: &[u8]) -> Option<Line<'a>>
 
 /// What follows `update` and a blank.
 #[inline(always)]
-fn behind_update(bytes: &[u8]) -> Option<&[u8]>
+fn after_update(bytes: &[u8]) -> Option<&[u8]>
     ensures { IfSome result (λ last. bytes.now ≡ codes "update " ++ last.now) }
 {
     match bytes {
@@ -105,7 +105,7 @@ fn behind_update(bytes: &[u8]) -> Option<&[u8]>
 
 /// What follows `query` and a blank.
 #[inline(always)]
-fn behind_query(bytes: &[u8]) -> Option<&[u8]>
+fn after_query(bytes: &[u8]) -> Option<&[u8]>
     ensures { IfSome result (λ last. bytes.now ≡ codes "query " ++ last.now) }
 {
     match bytes {
@@ -118,18 +118,18 @@ fn behind_query(bytes: &[u8]) -> Option<&[u8]>
 #[inline(always)]
 fn begin_kind<'a>(name: &'a str, more: &[u8]) -> Option<Line<'a>>
     requires { IsName name.now }
-    ensures { IfSome result (λ line. Spells (codes "begin " ++ name.now ++ 32 ∷ more.now) (view line)) }
+    ensures { IfSome result (λ line. IsSyntaxOf (codes "begin " ++ name.now ++ 32 ∷ more.now) (view line)) }
 {
-    match behind_update(more) {
+    match after_update(more) {
         Some(last) => begin_update(name, last),
-        None => begin_query(name, behind_query(more)?),
+        None => begin_query(name, after_query(more)?),
     }
 }
 
 /// `begin NAME update LIMIT` and `begin NAME query LIMIT`, after the first word.
 #[inline(always)]
 fn begin(words: &[u8]) -> Option<Line<'_>>
-    ensures { IfSome result (λ line. Spells (codes "begin " ++ words.now) (view line)) }
+    ensures { IfSome result (λ line. IsSyntaxOf (codes "begin " ++ words.now) (view line)) }
 {
     let (name, more) = front_name(words)?;
     begin_kind(name, more)
@@ -138,7 +138,7 @@ fn begin(words: &[u8]) -> Option<Line<'_>>
 /// The command, where the line is one of these that spells it.
 #[inline(always)]
 pub fn quick(line: &[u8]) -> Option<Line<'_>>
-    ensures { IfSome result (λ found. Spells line.now (view found)) }
+    ensures { IfSome result (λ found. IsSyntaxOf line.now (view found)) }
 {
     match line {
         [b'w', b'r', b'i', b't', b'e', b' ', words @ ..] => write(words),

@@ -4,26 +4,26 @@ ghost use Rattle.esr_grammar.specs.declared.words.TheConstants.{INT_END};
 ghost use Rattle.std.specs.Prelude.{◌≡◌, ◌∷◌, ◌<◌, ◌≤◌, ◌^◌, Option, option_map, length, IfSome, IfNone, IsTrue, true, false};
 ghost use Rattle.std.specs.Str.{all_ascii_digits};
 ghost use Rattle.std.specs.List.{position, list_all};
-ghost use Rattle.esr_grammar.specs.Command.{is_letter, is_name_byte, is_name, value_from, number_below, is_blank, words_of, words_after, name_of, limit_in, int_of, one_of, two_of, three_of, four_of};
-ghost use Rattle.esr_grammar.specs.Classes.{tells_of};
+ghost use Rattle.esr_grammar.specs.Command.{is_letter, is_name_byte, is_name, value_from, number_below, is_space, words_of, words_after, name_of, limit_in, int_of, one_of, two_of, three_of, four_of};
+ghost use Rattle.esr_grammar.specs.Classes.{classifies};
 
 use std::str::from_utf8_unchecked;
 
 /// One above the largest number of 18 digits.
 const INT_END: u64 = 1_000_000_000_000_000_000;
 
-fn find_blank(bytes: &[u8]) -> Option<usize>
-    ensures { result ≡ position is_blank bytes.now }
+fn find_space(bytes: &[u8]) -> Option<usize>
+    ensures { result ≡ position is_space bytes.now }
 {
     bytes.iter().position(|b| *b == b' ')
 }
 
 /// The first word, and what follows the blank after it.
-#[tactic(auto, using(crate::proofs::Blanks::no_blank, crate::proofs::Blanks::at_blank))]
+#[tactic(auto, using(crate::proofs::Spaces::no_space, crate::proofs::Spaces::at_space))]
 pub fn cut_word(bytes: &[u8]) -> (&[u8], Option<&[u8]>)
     ensures { words_of bytes.now ≡ result.0.now ∷ words_after result.1 }
 {
-    match find_blank(bytes) {
+    match find_space(bytes) {
         None => (bytes, None),
         Some(place) => (&bytes[..place], Some(&bytes[place + 1..])),
     }
@@ -98,7 +98,7 @@ static NAME_BYTES: [bool; 256] = [
 
 #[inline(always)]
 fn name_bytes() -> &'static [bool; 256]
-    ensures { IsTrue (tells_of 0 result.now) }
+    ensures { IsTrue (classifies 0 result.now) }
 {
     &NAME_BYTES
 }

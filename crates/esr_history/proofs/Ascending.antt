@@ -8,7 +8,7 @@ use Rattle.std.proofs.lemmas.Bool.{cases_Bool, cases_eq, cases_lt, eq-eqb, ne_eq
 use Rattle.std.proofs.lemmas.Bool.Decides.{nat_tests}
 use Rattle.std.proofs.lemmas.List.Elements.{All-from_recursion}
 use mathlib.Core.Bool.{or_comm}
-use Rattle.esr_history.specs.Ascending.{IsAscendingBy, placed, IsPlaceOf, IsGapFor}
+use Rattle.esr_history.specs.Ascending.{IsAscendingBy, upserted, IsPlaceOf, IsGapFor}
 
 pub lt_ltb : (a b : ℕ) → a < b → nat_lt a b ≡ true
 lt_ltb a b l = grind (arith, nat_tests)
@@ -52,7 +52,7 @@ module _ {X : Type 0} (key : X → ℕ) where
 
   module _ (t : ℕ) (new : X) (change : X → X) where
     -- where the number is, its element is changed
-    pub placed_at : (xs : List X) → IsAscendingBy key xs → (i : ℕ) (d : X) → IsPlaceOf key xs t i → set xs i (change (get_or xs i d)) ≡ placed key t new change xs
+    pub placed_at : (xs : List X) → IsAscendingBy key xs → (i : ℕ) (d : X) → IsPlaceOf key xs t i → set xs i (change (get_or xs i d)) ≡ upserted key t new change xs
     placed_at [] asc i d place = absurd (omega (arith, place.in_range))
     placed_at (x ∷ xs) asc zero d place = rw (eq-eqb (key x) t (place.has_number d)) refl
     placed_at (x ∷ xs) asc (suc i) d place =
@@ -61,7 +61,7 @@ module _ {X : Type 0} (key : X → ℕ) where
         rw (ne_eqb (key x) t (λ (e : key x ≡ t). omega arith), le_ltb t (key x) (omega arith)) (ap (λ ys. x ∷ ys) (placed_at xs asc.1 i d (place_tail x xs t i place)))
 
     -- in the gap for the number, a new element is put
-    pub placed_gap : (xs : List X) (i : ℕ) → IsGapFor key xs t i → insert xs i new ≡ placed key t new change xs
+    pub placed_gap : (xs : List X) (i : ℕ) → IsGapFor key xs t i → insert xs i new ≡ upserted key t new change xs
     placed_gap [] zero gap = refl
     placed_gap [] (suc i) gap = absurd (omega (arith, gap.in_range))
     placed_gap (x ∷ xs) zero gap =
@@ -71,13 +71,13 @@ module _ {X : Type 0} (key : X → ℕ) where
         let l : key x < t = gap.smaller_before 0 x (omega arith) in
         rw (ne_eqb (key x) t (λ (e : key x ≡ t). omega arith), le_ltb t (key x) (omega arith)) (ap (λ ys. x ∷ ys) (placed_gap xs i (gap_tail x xs t i gap)))
 
-    placed_above : key new ≡ t → ((y : X) → key (change y) ≡ key y) → (a : ℕ) → a < t → (xs : List X) → AllByRecursion (λ y. a < key y) xs → AllByRecursion (λ y. a < key y) (placed key t new change xs)
+    placed_above : key new ≡ t → ((y : X) → key (change y) ≡ key y) → (a : ℕ) → a < t → (xs : List X) → AllByRecursion (λ y. a < key y) xs → AllByRecursion (λ y. a < key y) (upserted key t new change xs)
     placed_above is same a l [] all = (omega (arith, is), tt)
     placed_above is same a l (x ∷ xs) all =
         grind (arith, cases_eq (key x) t, eq-eqb, ne_eqb, cases_lt t (key x), lt_ltb, le_ltb, placed_above is same a l xs all.1)
 
     -- the list still ascends
-    pub placed_ascends : key new ≡ t → ((y : X) → key (change y) ≡ key y) → (xs : List X) → IsAscendingBy key xs → IsAscendingBy key (placed key t new change xs)
+    pub placed_ascends : key new ≡ t → ((y : X) → key (change y) ≡ key y) → (xs : List X) → IsAscendingBy key xs → IsAscendingBy key (upserted key t new change xs)
     placed_ascends is same [] asc = (tt, tt)
     placed_ascends is same (x ∷ xs) asc =
         elim (cases_eq (key x) t) [
@@ -147,7 +147,7 @@ module _ {X : Type 0} (key : X → ℕ) where
       rw (ne_eqb (key x) t (λ (e : key x ≡ t). omega arith)) (any_gap t i xs (gap_tail x xs t i gap))
 
   -- where the number is, and its element is not changed, nothing changes
-  pub placed_same : (t i : ℕ) (new : X) (xs : List X) → IsAscendingBy key xs → IsPlaceOf key xs t i → placed key t new (λ y. y) xs ≡ xs
+  pub placed_same : (t i : ℕ) (new : X) (xs : List X) → IsAscendingBy key xs → IsPlaceOf key xs t i → upserted key t new (λ y. y) xs ≡ xs
   placed_same t i new [] asc place = absurd (omega (arith, place.in_range))
   placed_same t zero new (x ∷ xs) asc place = rw (eq-eqb (key x) t (place.has_number x)) refl
   placed_same t (suc i) new (x ∷ xs) asc place =
@@ -165,25 +165,25 @@ module _ {X : Type 0} (key : X → ℕ) where
       rw (ne_eqb (key x) t (λ (e : key x ≡ t). omega arith)) (found_at t i xs d asc.1 (place_tail x xs t i place))
 
   -- what holds of each element, the new one and the changed ones holds where one is placed
-  pub all_placed : (P : X → Type 0) (t : ℕ) (new : X) (change : X → X) → P new → ((y : X) → P y → P (change y)) → (xs : List X) → AllByRecursion P xs → AllByRecursion P (placed key t new change xs)
+  pub all_placed : (P : X → Type 0) (t : ℕ) (new : X) (change : X → X) → P new → ((y : X) → P y → P (change y)) → (xs : List X) → AllByRecursion P xs → AllByRecursion P (upserted key t new change xs)
   all_placed P t new change p keeps [] all = (p, tt)
   all_placed P t new change p keeps (x ∷ xs) all =
       grind (arith, cases_eq (key x) t, eq-eqb, ne_eqb, cases_lt t (key x), lt_ltb, le_ltb, all_placed P t new change p keeps xs all.1)
 
   -- who stands there after one more is placed stood there before, or is the one placed
   pub any_placed : (t : ℕ) (new : X) (change : X → X) → key new ≡ t → ((y : X) → key (change y) ≡ key y) → (u : ℕ) (xs : List X)
-      → list_any (λ y. key y == u) (placed key t new change xs) ≡ (list_any (λ y. key y == u) xs || (t == u))
+      → list_any (λ y. key y == u) (upserted key t new change xs) ≡ (list_any (λ y. key y == u) xs || (t == u))
   any_placed t new change is same u [] = rw is (or_comm (t == u) false)
   any_placed t new change is same u (x ∷ xs) =
       grind (arith, cases_eq (key x) t, eq-eqb, ne_eqb, cases_lt t (key x), lt_ltb, le_ltb, any_placed t new change is same u xs)
 
 -- a view of the elements that keeps their numbers
 module _ {X Y : Type 0} (key : X → ℕ) (key_of : Y → ℕ) (f : X → Y) (same : (x : X) → key_of (f x) ≡ key x) where
-  pub map-placed : (t : ℕ) (new : X) (change : X → X) (change_of : Y → Y) → ((x : X) → f (change x) ≡ change_of (f x)) → (xs : List X)
-      → map f (placed key t new change xs) ≡ placed key_of t (f new) change_of (map f xs)
-  map-placed t new change change_of is [] = refl
-  map-placed t new change change_of is (x ∷ xs) =
-      grind (arith, map-placed t new change change_of is xs, map f (placed key t new change xs), map f xs, map)
+  pub map-upserted : (t : ℕ) (new : X) (change : X → X) (change_of : Y → Y) → ((x : X) → f (change x) ≡ change_of (f x)) → (xs : List X)
+      → map f (upserted key t new change xs) ≡ upserted key_of t (f new) change_of (map f xs)
+  map-upserted t new change change_of is [] = refl
+  map-upserted t new change change_of is (x ∷ xs) =
+      grind (arith, map-upserted t new change change_of is xs, map f (upserted key t new change xs), map f xs, map)
 
   pub map-others : (t : ℕ) (xs : List X) → map f (filter (λ x. not (key x == t)) xs) ≡ filter (λ y. not (key_of y == t)) (map f xs)
   map-others t [] = refl

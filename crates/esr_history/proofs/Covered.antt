@@ -5,7 +5,7 @@ use Rattle.std.proofs.lemmas.Bool.{true≢false, cases_Bool, cases_eq, and_parts
 use Rattle.esr_history.specs.Operations.{Operation}
 use Rattle.esr_history.specs.Events.{Beginning}
 use Rattle.esr_history.proofs.Membership.{In, filter_none_in}
-use Rattle.esr_history.proofs.Traces.{says, Setting, IsMetric, reads_item, Trace, update_in, query_in, begun_in, ended_in, Active, with_operation, read_of, write_of, current_in, committed_in, read_count_in, Reached, Reached.nothing, Reached.begin, Reached.read_update, Reached.read_query, Reached.write, Reached.commit, Reached.abort}
+use Rattle.esr_history.proofs.Traces.{holds_of, Setting, IsMetric, reads_item, Trace, update_in, query_in, begun_in, ended_in, Active, with_operation, read_of, write_of, current_in, committed_in, read_count_in, Reached, Reached.nothing, Reached.begin, Reached.read_update, Reached.read_query, Reached.write, Reached.commit, Reached.abort}
 use Rattle.esr_history.proofs.Locking.{known, update_stays, ended_kept_commit, ended_kept_abort}
 use Rattle.esr_history.proofs.Versions.{writers, settled, item_parts, current_after_abort, committed_after_commit, committed_with, current_with_other, current_with_write, filter_push_false, filter_push_true}
 
@@ -66,7 +66,7 @@ sums_within p c f g k (x ∷ xs) h =
 pub unbegun : {s : Setting} {t : Trace} {m : ℕ → ℕ} → Reached s t m → (q : ℕ) → begun_in t q ≡ false → filter (read_by q) t.operations ≡ []
 unbegun {t = t} r q h = grind (arith, filter_none_in, false_from_ne_true, true≢false, known r, begun_in t, read_parts)
 
-pub query_from : (o : Option Beginning) → is_some o ≡ true → says (λ s. not s.query) o ≡ false → says (λ s. s.query) o ≡ true
+pub query_from : (o : Option Beginning) → is_some o ≡ true → holds_of (λ s. not s.query) o ≡ false → holds_of (λ s. s.query) o ≡ true
 query_from None b h = absurd (true≢false (sym b))
 query_from (Some s) b h = not-false s.query h
 
@@ -159,7 +159,7 @@ covered {s = s} d (begin {t = t} r b keeps) = λ q eq uq w mix.
     true≢false (sym (update_stays t b q keeps bg ∙ h) ∙ uq)))
     w mix
   where
-    begun_if : (o : Option Beginning) → says (λ s. not s.query) o ≡ true → is_some o ≡ true
+    begun_if : (o : Option Beginning) → holds_of (λ s. not s.query) o ≡ true → is_some o ≡ true
     begun_if None h = absurd (true≢false (sym h))
     begun_if (Some b) h = refl
 covered {s = s} d (read_update {t = t} {m = m} r u x ac up free) = λ q eq uq w mix.

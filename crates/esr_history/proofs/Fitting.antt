@@ -6,7 +6,7 @@ use Rattle.esr_history.specs.Machine.{Distance, Schedule, accepted_in, reply_to,
 use Rattle.esr_history.specs.Legal.{legal_induction}
 use Rattle.esr_history.specs.BackLinks.{item_of, txn_of, ender, begun_by, begun_count, is_key, IsFit, IsNumbered}
 use Rattle.esr_history.proofs.Allowed.{NoneApplies, none_applies}
-use Rattle.esr_history.proofs.Lawful.{when_none, begun_number}
+use Rattle.esr_history.proofs.Lawful.{when_none, begun_in_range}
 use Rattle.esr_history.proofs.Linking.{last_same, count_refused, count_same, count_more}
 
 -- an accepted reply is the acceptance, and no reason to refuse applies
@@ -18,7 +18,7 @@ accepts d h e r is yes_it_is = at (refusal d h e) refl is
     at (Some why) some same = absurd (true≢false (sym (ap is_refusal same) ∙ yes_it_is))
 
 begun_below : (h : Schedule) (t : ℕ) → not_begun h t ≡ None → t < 1 + length (beginnings (accepted_in h))
-begun_below h t none = (begun_number (accepted_in h) t (not-false (is_begun (accepted_in h) t) (when_none (not (is_begun (accepted_in h) t)) NoSuchTransaction none))).1
+begun_below h t none = (begun_in_range (accepted_in h) t (not-false (is_begun (accepted_in h) t) (when_none (not (is_begun (accepted_in h) t)) NoSuchTransaction none))).1
 
 item_below : (h : Schedule) (x : ℕ) → no_item h x ≡ None → x < length h.opening
 item_below h x none = leb-false (length h.opening) x (when_none (nat_le (length h.opening) x) NoSuchItem none)

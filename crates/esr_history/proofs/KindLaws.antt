@@ -6,6 +6,6 @@ pub query_kind : (query : Bool) → is_query_kind (kind_of query) ≡ query
 query_kind true = refl
 query_kind false = refl
 
-pub kind_again : (k : Kind) → kind_of (is_query_kind k) ≡ k
-kind_again Query = refl
-kind_again Update = refl
+pub kind_round_trip : (k : Kind) → kind_of (is_query_kind k) ≡ k
+kind_round_trip Query = refl
+kind_round_trip Update = refl

@@ -8,7 +8,7 @@ use Rattle.esr_history.specs.Operations.{Operation}
 use Rattle.esr_history.specs.Events.{Beginning}
 use Rattle.esr_history.specs.Serial.{any_pair, conflict}
 use Rattle.esr_history.proofs.Membership.{In, Pairs, each_at, In-of_filter, Pairs-append, Pairs-map, Pairs-push, In-push, filter_agree_in, In-any, any-from_number}
-use Rattle.esr_history.proofs.Traces.{is_among, says, Setting, Trace, update_in, begun_in, ended_in, with_operation, with_commit, with_abort, with_begins, Keeps, read_of, write_of, current_in, Reached, Reached.nothing, Reached.begin, Reached.read_update, Reached.read_query, Reached.write, Reached.commit, Reached.abort}
+use Rattle.esr_history.proofs.Traces.{is_among, holds_of, Setting, Trace, update_in, begun_in, ended_in, with_operation, with_commit, with_abort, with_begins, Keeps, read_of, write_of, current_in, Reached, Reached.nothing, Reached.begin, Reached.read_update, Reached.read_query, Reached.write, Reached.commit, Reached.abort}
 
 pub among_push : (us : List ℕ) (u v : ℕ) → is_among (us ++ u ∷ []) v ≡ true → (is_among us v ≡ true) ⊎ (u ≡ v)
 among_push us u v h =
@@ -86,7 +86,7 @@ conflict_parts a b h =
     record { apart = eqb-false a.txn b.txn (not-true (eqb a.txn b.txn) p.0); same_item = eqb-true a.item b.item r.0; one_writes = r.1 }
 
 pub update_stays : (t : Trace) (b : ℕ → Option Beginning) (u : ℕ) → Keeps t.beginning b → begun_in t u ≡ true → update_in (with_begins t b) u ≡ update_in t u
-update_stays t b u keeps h = ap (says (λ b. not b.query)) (keeps u h)
+update_stays t b u keeps h = ap (holds_of (λ b. not b.query)) (keeps u h)
 
 pub locks : {s : Setting} {t : Trace} {m : ℕ → ℕ} → Reached s t m → Pairs (Locked t) t.operations
 locks nothing = tt

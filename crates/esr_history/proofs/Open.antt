@@ -7,7 +7,7 @@ use Rattle.std.proofs.lemmas.Bool.{true≢false, cases_Bool, cases_eq, and_parts
 use Rattle.esr_history.specs.Operations.{Operation}
 use Rattle.esr_history.specs.Events.{Beginning}
 use Rattle.esr_history.proofs.Membership.{In}
-use Rattle.esr_history.proofs.Traces.{says, Setting, IsMetric, reads_item, writes_item, Trace, update_in, begun_in, ended_in, NoOtherWriter, with_operation, with_commit, with_abort, read_of, write_of, current_in, committed_in, Reached, Reached.nothing, Reached.begin, Reached.read_update, Reached.read_query, Reached.write, Reached.commit, Reached.abort}
+use Rattle.esr_history.proofs.Traces.{holds_of, Setting, IsMetric, reads_item, writes_item, Trace, update_in, begun_in, ended_in, NoOtherWriter, with_operation, with_commit, with_abort, read_of, write_of, current_in, committed_in, Reached, Reached.nothing, Reached.begin, Reached.read_update, Reached.read_query, Reached.write, Reached.commit, Reached.abort}
 use Rattle.esr_history.proofs.Locking.{update_stays, ended_kept_commit, ended_kept_abort}
 use Rattle.esr_history.proofs.Versions.{writers, settled, item_parts, current_after_abort, committed_after_commit, committed_with, current_with_other, current_with_write, filter_push_true}
 use Rattle.esr_history.proofs.Covered.{read_by, reads_with, sums_within, unbegun, query_from}
@@ -55,7 +55,7 @@ open_within d (begin {t = t} r b keeps) q eq uq =
     let bg : begun_in t q ≡ true = begun_if (t.beginning q) h in
     true≢false (sym (update_stays t b q keeps bg ∙ h) ∙ uq)))
   where
-    begun_if : (o : Option Beginning) → says (λ s. not s.query) o ≡ true → is_some o ≡ true
+    begun_if : (o : Option Beginning) → holds_of (λ s. not s.query) o ≡ true → is_some o ≡ true
     begun_if None h = absurd (true≢false (sym h))
     begun_if (Some b) h = refl
 open_within {s = s} d (read_update {t = t} {m = m} r u x ac up free) q eq uq =

@@ -2,7 +2,7 @@
 use Rattle.std.proofs.Common.{◌≡◌, ℕ, zero, suc, ◌+◌, ◌<◌, ◌≤◌, List, [], ◌∷◌, ◌++◌, Bool, true, false, not, ◌==◌, refl, sym, ◌∙◌, ap, subst, arith, inl, inr, Option, None, Some, if◌then◌else◌, map, set, filter, find, unwrap_or, option_map}
 use Rattle.std.specs.List.{filter_map, range_with_len, cons_option, list_any, AllByRecursion}
 use Rattle.std.proofs.lemmas.Bool.{cases_Bool, cases_eq, eq-eqb, eqb-true, ne_eqb, false≢true, or_left, or_right, or_cases}
-use Rattle.esr_history.specs.Ascending.{placed, IsAscendingBy}
+use Rattle.esr_history.specs.Ascending.{upserted, IsAscendingBy}
 use Rattle.esr_history.proofs.Ascending.{lt_ltb, le_ltb}
 
 module _ {X : Type 0} where
@@ -31,13 +31,13 @@ module _ {X : Type 0} where
     keys_above t a zero l = tt
     keys_above t a (suc n) l = grind (arith, keys_above t (a + 1) n (omega arith))
 
-    placed_front : (t : ℕ) (new : X) (change : X → X) (xs : List X) → AllByRecursion (λ (y : X). t < key y) xs → placed key t new change xs ≡ new ∷ xs
+    placed_front : (t : ℕ) (new : X) (change : X → X) (xs : List X) → AllByRecursion (λ (y : X). t < key y) xs → upserted key t new change xs ≡ new ∷ xs
     placed_front t new change [] all = refl
     placed_front t new change (x ∷ xs) all = grind (arith, ne_eqb, lt_ltb)
 
     -- one number's element is placed among those in a row
     pub filter_map_placed : (g : ℕ → Option X) (t : ℕ) (new : X) (change : X → X) → ((u : ℕ) → (u ≡ t → ⊥) → g u ≡ f u) → g t ≡ Some (unwrap_or (option_map change (f t)) new)
-        → (a n : ℕ) → a ≤ t → t < a + n → filter_map g (range_with_len a n) ≡ placed key t new change (filter_map f (range_with_len a n))
+        → (a n : ℕ) → a ≤ t → t < a + n → filter_map g (range_with_len a n) ≡ upserted key t new change (filter_map f (range_with_len a n))
     filter_map_placed g t new change same is a zero low high = absurd (omega arith)
     filter_map_placed g t new change same is a (suc n) low high =
         elim (cases_eq a t) [
@@ -50,12 +50,12 @@ module _ {X : Type 0} where
               ∙ past ne (f a) refl (filter_map_placed g t new change same is (a + 1) n (omega arith) (omega arith))
         ]
       where
-        here : a ≡ t → (o : Option X) → f a ≡ o → unwrap_or (option_map change o) new ∷ filter_map f (range_with_len (a + 1) n) ≡ placed key t new change (cons_option o (filter_map f (range_with_len (a + 1) n)))
+        here : a ≡ t → (o : Option X) → f a ≡ o → unwrap_or (option_map change o) new ∷ filter_map f (range_with_len (a + 1) n) ≡ upserted key t new change (cons_option o (filter_map f (range_with_len (a + 1) n)))
         here e None is' = sym (placed_front t new change (filter_map f (range_with_len (a + 1) n)) (keys_above t (a + 1) n (omega arith)))
         here e (Some y) is' = rw (eq-eqb (key y) t (own a y is' ∙ e)) refl
 
-        past : (a ≡ t → ⊥) → (o : Option X) → f a ≡ o → filter_map g (range_with_len (a + 1) n) ≡ placed key t new change (filter_map f (range_with_len (a + 1) n))
-            → cons_option o (filter_map g (range_with_len (a + 1) n)) ≡ placed key t new change (cons_option o (filter_map f (range_with_len (a + 1) n)))
+        past : (a ≡ t → ⊥) → (o : Option X) → f a ≡ o → filter_map g (range_with_len (a + 1) n) ≡ upserted key t new change (filter_map f (range_with_len (a + 1) n))
+            → cons_option o (filter_map g (range_with_len (a + 1) n)) ≡ upserted key t new change (cons_option o (filter_map f (range_with_len (a + 1) n)))
         past ne None is' later = later
         past ne (Some y) is' later = grind (arith, ne_eqb, le_ltb)
 
@@ -133,7 +133,7 @@ module _ {X : Type 0} (key : X → ℕ) (f : ℕ → X) (own : (u : ℕ) → key
   none_in_range t a (suc n) high = rw (ne_eqb (key (f a)) t (λ (h : key (f a) ≡ t). let k : key (f a) ≡ a = own a in omega arith)) (none_in_range t (a + 1) n (omega arith))
 
   -- a number past those in a row is placed at the end
-  pub placed_end : (new : X) (change : X → X) (a n : ℕ) → key new ≡ a + n → placed key (key new) new change (map f (range_with_len a n)) ≡ map f (range_with_len a n) ++ new ∷ []
+  pub placed_end : (new : X) (change : X → X) (a n : ℕ) → key new ≡ a + n → upserted key (key new) new change (map f (range_with_len a n)) ≡ map f (range_with_len a n) ++ new ∷ []
   placed_end new change a zero is = refl
   placed_end new change a (suc n) is =
       let k : key (f a) ≡ a = own a in

@@ -14,7 +14,7 @@ use Rattle.esr_history.specs.Operations.{Operation, operation_by, operations, co
 use Rattle.esr_history.proofs.Lists.{filter_map_push, find_none, option_map_none}
 use Rattle.esr_history.proofs.Orderly.{beginning-push, beginning-kept, update_begun, active_parts}
 use Rattle.esr_history.proofs.Allowed.{NoneApplies, none_applies, read_allowed, write_allowed, end_allowed}
-use Rattle.esr_history.proofs.Lawful.{done-refused, done-accepted, not_ended, begun_number, update_from, when_none}
+use Rattle.esr_history.proofs.Lawful.{done-refused, done-accepted, not_ended, begun_in_range, update_from, when_none}
 use Rattle.esr_history.proofs.Charges.{import-push}
 use Rattle.esr_history.proofs.Membership.{In, any-from_In}
 use Rattle.esr_history.proofs.Traces.{Setting, Trace, Keeps, ended_in, query_in, read_of, write_of, current_in, committed_in, read_count_in, Active, NoOtherWriter, NoOtherUser, with_operation, with_commit, with_abort, with_begins, Reached, Reached.nothing, IsKept, reached_kept}
@@ -129,12 +129,12 @@ module _ (d : Distance) (h : Schedule) where
   -- who is not found fails the test
   unfound : (p : ℕ → Bool) → find (λ u. is_update (accepted_in h) u && p u) (numbers (accepted_in h)) ≡ None → (u : ℕ) → is_update (accepted_in h) u ≡ true → p u ≡ false
   unfound p none u update =
-      let n = begun_number (accepted_in h) u (update_begun (accepted_in h) u update) in
+      let n = begun_in_range (accepted_in h) u (update_begun (accepted_in h) u update) in
       and_right_false (is_update (accepted_in h) u) (p u) update (find_none (λ u. is_update (accepted_in h) u && p u) 1 (length (beginnings (accepted_in h))) none u n.0 n.1)
 
   unfound_other : (p : ℕ → Bool) (t : ℕ) → find (λ u. not (u == t) && (is_update (accepted_in h) u && p u)) (numbers (accepted_in h)) ≡ None → (u : ℕ) → (u ≡ t → ⊥) → is_update (accepted_in h) u ≡ true → p u ≡ false
   unfound_other p t none u other update =
-      let n = begun_number (accepted_in h) u (update_begun (accepted_in h) u update) in
+      let n = begun_in_range (accepted_in h) u (update_begun (accepted_in h) u update) in
       and_right_false (is_update (accepted_in h) u) (p u) update
       (and_right_false (not (u == t)) (is_update (accepted_in h) u && p u) (ap not (ne_eqb u t other)) (find_none (λ u. not (u == t) && (is_update (accepted_in h) u && p u)) 1 (length (beginnings (accepted_in h))) none u n.0 n.1))
 
@@ -243,7 +243,7 @@ module _ (d : Distance) (h : Schedule) (P : Trace → (ℕ → ℕ) → Type 0) 
           rw (sym (reads_trace h q x.0), sym (current_trace h x.0), listed)
           (elim (cases_Bool (list_any (reads q x.0) (accepted_in h))) [
             | inl did ↦
-                let n = begun_number (accepted_in h) q a.begun in
+                let n = begun_in_range (accepted_in h) q a.begun in
                 let held : holds_read (accepted_in h) q x.0 ≡ true = and_from (is_active (accepted_in h) q) (list_any (reads q x.0) (accepted_in h)) (trace_active h q a) did in
                 amount_listed charge (record { query = q; update = t.0; amount = reads_of (accepted_in h) q x.0 * distance_in d h x.0 v (current_value h.opening (accepted_in h) x.0) }) q 1 (length (beginnings (accepted_in h)))
                 (rw (query, held) refl) refl n.0 n.1

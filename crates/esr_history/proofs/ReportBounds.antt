@@ -8,20 +8,20 @@ use Rattle.std.proofs.lemmas.Bool.{true≢false, cases_Bool, cases_eq, eq-eqb, n
 use Rattle.esr_history.specs.Operations.{Operation}
 use Rattle.esr_history.specs.Events.{Beginning}
 use Rattle.esr_history.proofs.Membership.{In, filter_agree_in, any-from_number}
-use Rattle.esr_history.proofs.Traces.{is_among, says, Setting, IsMetric, reads_item, writes_item, Trace, update_in, query_in, ended_in, Active, NoOtherWriter, with_operation, with_commit, with_abort, with_begins, read_of, write_of, current_in, committed_in, read_count_in, Reached, IsKept, reached_kept}
+use Rattle.esr_history.proofs.Traces.{is_among, holds_of, Setting, IsMetric, reads_item, writes_item, Trace, update_in, query_in, ended_in, Active, NoOtherWriter, with_operation, with_commit, with_abort, with_begins, read_of, write_of, current_in, committed_in, read_count_in, Reached, IsKept, reached_kept}
 use Rattle.esr_history.proofs.Locking.{known, update_stays, among_push, committed_updates_in, ended_kept_commit, ended_kept_abort}
 use Rattle.esr_history.proofs.Versions.{writers, settled, item_parts, current_after_abort, committed_after_commit, committed_with, current_with_other, current_with_write, filter_push_false, filter_push_true, state_in, state_with, committed_version}
 use Rattle.esr_history.proofs.Covered.{read_by, IsMixture}
 use Rattle.esr_history.proofs.Bounded.{before_first-kept, before_first-all, In-before_first, updates_of_in, listed_committed}
 
 -- the distance of the values read from the values w
-abbrev pub told_in : (ℕ → ℤ → ℤ → ℕ) → List Operation → (ℕ → ℤ) → ℕ
-told_in d refusal_info w = sum_by (λ o. d o.item o.value (w o.item)) refusal_info
+abbrev pub distance_at : (ℕ → ℤ → ℤ → ℕ) → List Operation → (ℕ → ℤ) → ℕ
+distance_at d read_ops w = sum_by (λ o. d o.item o.value (w o.item)) read_ops
 
 -- the reads of q are of items that it has read as often, and within the bound of every mixture
-pub record IsToldIn (s : Setting) (t : Trace) (q : ℕ) (refusal_info : List Operation) (b : ℕ) : Type 0 where
-  pub held : (x : ℕ) → count_by (λ o. eqb o.item x) refusal_info ≤ read_count_in t x q
-  pub within : (w : ℕ → ℤ) → IsMixture s.opening t w → told_in s.distance refusal_info w ≤ b
+pub record AreReadsWithin (s : Setting) (t : Trace) (q : ℕ) (read_ops : List Operation) (b : ℕ) : Type 0 where
+  pub held : (x : ℕ) → count_by (λ o. eqb o.item x) read_ops ≤ read_count_in t x q
+  pub within : (w : ℕ → ℤ) → IsMixture s.opening t w → distance_at s.distance read_ops w ≤ b
 
 count_push : (p : Operation → Bool) (xs : List Operation) (y : Operation) → count_by p (xs ++ y ∷ []) ≡ count_by p xs + cond (p y) 1 0
 count_push p xs y = sum_by_push (λ z. cond (p z) 1 0) xs y
@@ -36,28 +36,28 @@ mixture_before o t r w reads running mix y =
     ⊎_elim (λ e. inl (e ∙ committed_with o t r y running))
     (λ e. inr (e ∙ current_with_other o t r y (ap (λ b. b && eqb r.item y) reads))) (mix y)
 
-module _ {s : Setting} (d : IsMetric s.distance) (t : Trace) (q : ℕ) (refusal_info : List Operation) (b : ℕ) (was : IsToldIn s t q refusal_info b) where
-  looser : (c : ℕ) → IsToldIn s t q refusal_info (b + c)
-  looser c = record { held = was.held; within = λ w mix. let h : told_in s.distance refusal_info w ≤ b = was.within w mix in omega (arith, h) }
+module _ {s : Setting} (d : IsMetric s.distance) (t : Trace) (q : ℕ) (read_ops : List Operation) (b : ℕ) (was : AreReadsWithin s t q read_ops b) where
+  looser : (c : ℕ) → AreReadsWithin s t q read_ops (b + c)
+  looser c = record { held = was.held; within = λ w mix. let h : distance_at s.distance read_ops w ≤ b = was.within w mix in omega (arith, h) }
 
   -- a read by another
-  read_by_other : (r : Operation) → r.writes ≡ false → ended_in t r.txn ≡ false → IsToldIn s (with_operation t r) q refusal_info b
+  read_by_other : (r : Operation) → r.writes ≡ false → ended_in t r.txn ≡ false → AreReadsWithin s (with_operation t r) q read_ops b
   read_by_other r reads running = record {
-    held = λ x. count_more (λ o. reads_item x o && eqb o.txn q) t.operations r (count_by (λ o. eqb o.item x) refusal_info) (was.held x);
+    held = λ x. count_more (λ o. reads_item x o && eqb o.txn q) t.operations r (count_by (λ o. eqb o.item x) read_ops) (was.held x);
     within = λ w mix. was.within w (mixture_before s.opening t r w reads running mix);
   }
 
   -- its own read, of a value that is within the charge of both values of the item
   read_by_itself : (x : ℕ) (c : ℕ) → ended_in t q ≡ false
       → ((w : ℕ → ℤ) → IsMixture s.opening t w → s.distance x (current_in s.opening t x) (w x) ≤ c)
-      → IsToldIn s (with_operation t (read_of q x (current_in s.opening t x))) q (refusal_info ++ read_of q x (current_in s.opening t x) ∷ []) (b + c)
+      → AreReadsWithin s (with_operation t (read_of q x (current_in s.opening t x))) q (read_ops ++ read_of q x (current_in s.opening t x) ∷ []) (b + c)
   read_by_itself x c running paid = record {
     held = counted;
     within = λ w mix.
         let old : IsMixture s.opening t w = mixture_before s.opening t r w refl running mix in
-        let h : told_in s.distance refusal_info w ≤ b = was.within w old in
+        let h : distance_at s.distance read_ops w ≤ b = was.within w old in
         let one : s.distance x (current_in s.opening t x) (w x) ≤ c = paid w old in
-        rw (sum_by_push (λ o. s.distance o.item o.value (w o.item)) refusal_info r) (omega (arith, h, one));
+        rw (sum_by_push (λ o. s.distance o.item o.value (w o.item)) read_ops r) (omega (arith, h, one));
   }
     where
       r : Operation
@@ -70,21 +70,21 @@ module _ {s : Setting} (d : IsMetric s.distance) (t : Trace) (q : ℕ) (refusal_
           less true = omega arith
           less false = omega arith
 
-      counted : (y : ℕ) → count_by (λ o. eqb o.item y) (refusal_info ++ r ∷ []) ≤ count_by (λ o. reads_item y o && eqb o.txn q) (t.operations ++ r ∷ [])
+      counted : (y : ℕ) → count_by (λ o. eqb o.item y) (read_ops ++ r ∷ []) ≤ count_by (λ o. reads_item y o && eqb o.txn q) (t.operations ++ r ∷ [])
       counted y =
-          let h : count_by (λ o. eqb o.item y) refusal_info ≤ count_by (λ o. reads_item y o && eqb o.txn q) t.operations = was.held y in
+          let h : count_by (λ o. eqb o.item y) read_ops ≤ count_by (λ o. reads_item y o && eqb o.txn q) t.operations = was.held y in
           let k : cond (eqb x y) 1 0 ≤ cond (reads_item y r && eqb q q) 1 0 = both y in
-          rw (count_push (λ o. eqb o.item y) refusal_info r, count_push (λ o. reads_item y o && eqb o.txn q) t.operations r) (omega (arith, h, k))
+          rw (count_push (λ o. eqb o.item y) read_ops r, count_push (λ o. reads_item y o && eqb o.txn q) t.operations r) (omega (arith, h, k))
 
   -- a write is charged for each read of the item, and so once per value of it that q got
   written : (u x : ℕ) (v : ℤ) (c : ℕ) → ended_in t u ≡ false
       → read_count_in t x q * s.distance x v (current_in s.opening t x) ≤ c
-      → IsToldIn s (with_operation t (write_of u x v)) q refusal_info (b + c)
+      → AreReadsWithin s (with_operation t (write_of u x v)) q read_ops (b + c)
   written u x v c running paid = record {
-    held = λ y. count_more (λ o. reads_item y o && eqb o.txn q) t.operations (write_of u x v) (count_by (λ o. eqb o.item y) refusal_info) (was.held y);
+    held = λ y. count_more (λ o. reads_item y o && eqb o.txn q) t.operations (write_of u x v) (count_by (λ o. eqb o.item y) read_ops) (was.held y);
     within = λ w mix.
         ⊎_elim
-        (λ e. more_le (told_in s.distance refusal_info w) b c (was.within w
+        (λ e. more_le (distance_at s.distance read_ops w) b c (was.within w
         (λ y. ⊎_elim (λ yx. inl (ap w yx ∙ (e ∙ (committed_with s.opening t (write_of u x v) x running ∙ ap (committed_in s.opening t) (sym yx))))) (λ nyx. elsewhere w y nyx (mix y)) (cases_eq y x))))
         (λ e. moved w (e ∙ current_with_write s.opening t (write_of u x v) x running (eq-eqb x x refl)) (λ y nyx. elsewhere w y nyx (mix y)))
         (mix x);
@@ -132,7 +132,7 @@ module _ {s : Setting} (d : IsMetric s.distance) (t : Trace) (q : ℕ) (refusal_
       product a n k c h1 h2 = le_trans (mul-le-mul_right k h1) h2
 
       moved : (w : ℕ → ℤ) → w x ≡ v → ((y : ℕ) → (y ≡ x → ⊥) → (w y ≡ committed_in s.opening t y) ⊎ (w y ≡ current_in s.opening t y)) →
-          told_in s.distance refusal_info w ≤ b + c
+          distance_at s.distance read_ops w ≤ b + c
       moved w wx other =
           let cur : ℤ = current_in s.opening t x in
           let w0 : ℕ → ℤ = λ y. cond (eqb y x) cur (w y) in
@@ -141,20 +141,20 @@ module _ {s : Setting} (d : IsMetric s.distance) (t : Trace) (q : ℕ) (refusal_
           (λ yx. inr (cond-true (eqb y x) cur (w y) (eq-eqb y x yx) ∙ ap (current_in s.opening t) (sym yx)))
           (λ nyx. let z : w0 y ≡ w y = cond-false (eqb y x) cur (w y) (ne_eqb y x nyx) in ⊎_elim (λ e. inl (z ∙ e)) (λ e. inr (z ∙ e)) (other y nyx))
           (cases_eq y x) in
-          let below : told_in s.distance refusal_info w0 ≤ b = was.within w0 mix0 in
-          let grown : told_in s.distance refusal_info w ≤ told_in s.distance refusal_info w0 + count_by (λ o. eqb o.item x) refusal_info * k =
-          sums (λ o. s.distance o.item o.value (w o.item)) (λ o. s.distance o.item o.value (w0 o.item)) k refusal_info (single w wx) in
-          let charged : count_by (λ o. eqb o.item x) refusal_info * k ≤ c = product (count_by (λ o. eqb o.item x) refusal_info) (read_count_in t x q) k c (was.held x) paid in
+          let below : distance_at s.distance read_ops w0 ≤ b = was.within w0 mix0 in
+          let grown : distance_at s.distance read_ops w ≤ distance_at s.distance read_ops w0 + count_by (λ o. eqb o.item x) read_ops * k =
+          sums (λ o. s.distance o.item o.value (w o.item)) (λ o. s.distance o.item o.value (w0 o.item)) k read_ops (single w wx) in
+          let charged : count_by (λ o. eqb o.item x) read_ops * k ≤ c = product (count_by (λ o. eqb o.item x) read_ops) (read_count_in t x q) k c (was.held x) paid in
           omega (arith, below, grown, charged)
 
-  ended_commit_told : {m : ℕ → ℕ} → Reached s t m → (u : ℕ) → Active t u → IsToldIn s (with_commit t u) q refusal_info b
-  ended_commit_told r u a = record {
+  ended_commit_within : {m : ℕ → ℕ} → Reached s t m → (u : ℕ) → Active t u → AreReadsWithin s (with_commit t u) q read_ops b
+  ended_commit_within r u a = record {
     held = was.held;
     within = λ w mix. was.within w (λ x. ⊎_elim (λ e. ⊎_elim (λ f. inl (e ∙ f)) (λ f. inr (e ∙ f)) (committed_after_commit r s.opening u x a)) (λ e. inr e) (mix x));
   }
 
-  ended_abort_told : {m : ℕ → ℕ} → Reached s t m → (u : ℕ) → Active t u → IsToldIn s (with_abort t u) q refusal_info b
-  ended_abort_told r u a = record {
+  ended_abort_within : {m : ℕ → ℕ} → Reached s t m → (u : ℕ) → Active t u → AreReadsWithin s (with_abort t u) q read_ops b
+  ended_abort_within r u a = record {
     held = was.held;
     within = λ w mix. was.within w (λ x. ⊎_elim (λ e. inl e) (λ e. ⊎_elim (λ f. inl (e ∙ f)) (λ f. inr (e ∙ f)) (current_after_abort r s.opening u x a)) (mix x));
   }
@@ -162,25 +162,25 @@ module _ {s : Setting} (d : IsMetric s.distance) (t : Trace) (q : ℕ) (refusal_
 -- From a trace on in which q had read `before` and imported an amount: each later read is added to its reads, each
 -- later import to the bound, until it has ended; and if it has committed, the bound is that of the values which the
 -- updates before it left.
-pub record IsOnward (s : Setting) (q : ℕ) (before : List Operation) (imported : ℕ) (refusal_info : List Operation) (b : ℕ) (t : Trace) (m : ℕ → ℕ) : Type 0 where
+pub record IsOnward (s : Setting) (q : ℕ) (before : List Operation) (imported : ℕ) (read_ops : List Operation) (b : ℕ) (t : Trace) (m : ℕ → ℕ) : Type 0 where
   pub reached : Reached s t m
   pub query : query_in t q ≡ true
   pub later : List Operation
   pub reads : filter (read_by q) t.operations ≡ before ++ later
   pub more : ℕ
   pub grown : m q ≡ imported + more
-  pub told_now : ended_in t q ≡ false → IsToldIn s t q (refusal_info ++ later) (b + more)
-  pub told_then : is_among t.commits q ≡ true → told_in s.distance (refusal_info ++ later) (state_in s.opening t (updates_of_in t q)) ≤ b + more
+  pub within_while_active : ended_in t q ≡ false → AreReadsWithin s t q (read_ops ++ later) (b + more)
+  pub within_at_commit : is_among t.commits q ≡ true → distance_at s.distance (read_ops ++ later) (state_in s.opening t (updates_of_in t q)) ≤ b + more
 
-module _ (s : Setting) (d : IsMetric s.distance) (q : ℕ) (before : List Operation) (imported : ℕ) (refusal_info : List Operation) (b : ℕ) where
+module _ (s : Setting) (d : IsMetric s.distance) (q : ℕ) (before : List Operation) (imported : ℕ) (read_ops : List Operation) (b : ℕ) where
   abbrev P : Trace → (ℕ → ℕ) → Type 0
-  P = IsOnward s q before imported refusal_info b
+  P = IsOnward s q before imported read_ops b
 
-  begun_query : (o : Option Beginning) → says (λ s. s.query) o ≡ true → is_some o ≡ true
+  begun_query : (o : Option Beginning) → holds_of (λ s. s.query) o ≡ true → is_some o ≡ true
   begun_query None h = absurd (true≢false (sym h))
   begun_query (Some b) h = refl
 
-  query_no_update : (o : Option Beginning) → says (λ s. s.query) o ≡ true → says (λ s. not s.query) o ≡ true → ⊥
+  query_no_update : (o : Option Beginning) → holds_of (λ s. s.query) o ≡ true → holds_of (λ s. not s.query) o ≡ true → ⊥
   query_no_update None h k = true≢false (sym h)
   query_no_update (Some b) h k = true≢false (sym k ∙ ap not h)
 
@@ -211,23 +211,23 @@ module _ (s : Setting) (d : IsMetric s.distance) (q : ℕ) (before : List Operat
       (λ u i e. true≢false (sym (listed_committed t q u i) ∙ (ap (is_among t.commits) (sym e) ∙ open_committed))))
 
   then_after : {m : ℕ → ℕ} (t : Trace) (p : P t m) (w : Operation) → ended_in t w.txn ≡ false → is_among t.commits q ≡ true →
-      told_in s.distance (refusal_info ++ p.later) (state_in s.opening (with_operation t w) (updates_of_in t q)) ≤ b + p.more
-  then_after t p w running c = subst (λ f. told_in s.distance (refusal_info ++ p.later) f ≤ b + p.more) (sym (then_with t w running c)) (p.told_then c)
+      distance_at s.distance (read_ops ++ p.later) (state_in s.opening (with_operation t w) (updates_of_in t q)) ≤ b + p.more
+  then_after t p w running c = subst (λ f. distance_at s.distance (read_ops ++ p.later) f ≤ b + p.more) (sym (then_with t w running c)) (p.within_at_commit c)
 
   then_committed : {m : ℕ → ℕ} (t : Trace) (p : P t m) (u : ℕ) → Active t u → is_among (with_commit t u).commits q ≡ true →
-      told_in s.distance (refusal_info ++ p.later) (state_in s.opening t (updates_of_in (with_commit t u) q)) ≤ b + p.more
+      distance_at s.distance (read_ops ++ p.later) (state_in s.opening t (updates_of_in (with_commit t u) q)) ≤ b + p.more
   then_committed t p u a c =
       ⊎_elim
       (λ old.
-      subst (λ us. told_in s.distance (refusal_info ++ p.later) (state_in s.opening t us) ≤ b + p.more)
+      subst (λ us. distance_at s.distance (read_ops ++ p.later) (state_in s.opening t us) ≤ b + p.more)
       (ap (filter (update_in t)) (sym (before_first-kept (λ u. eqb u q) t.commits (u ∷ []) old)))
-      (p.told_then old))
+      (p.within_at_commit old))
       (λ no.
       let e : u ≡ q = ⊎_elim (λ h. absurd (true≢false (sym h ∙ no))) (λ h. h) (among_push t.commits u q c) in
       let l : updates_of_in (with_commit t u) q ≡ committed_updates_in t = ap (filter (update_in t)) (before_first-all (λ u. eqb u q) t.commits u [] no (eq-eqb u q e)) in
-      subst (λ us. told_in s.distance (refusal_info ++ p.later) (state_in s.opening t us) ≤ b + p.more) (sym l)
-      (subst (λ f. told_in s.distance (refusal_info ++ p.later) f ≤ b + p.more) (sym (fun_ext (committed_version p.reached s.opening)))
-      ((p.told_now (ap (ended_in t) (sym e) ∙ a.open_ended)).within (committed_in s.opening t) (λ x. inl refl))))
+      subst (λ us. distance_at s.distance (read_ops ++ p.later) (state_in s.opening t us) ≤ b + p.more) (sym l)
+      (subst (λ f. distance_at s.distance (read_ops ++ p.later) f ≤ b + p.more) (sym (fun_ext (committed_version p.reached s.opening)))
+      ((p.within_while_active (ap (ended_in t) (sym e) ∙ a.open_ended)).within (committed_in s.opening t) (λ x. inl refl))))
       (cases_Bool (is_among t.commits q))
 
   more_le : (a n k j : ℕ) → a ≤ n + k → a ≤ n + (k + j)
@@ -245,11 +245,11 @@ module _ (s : Setting) (d : IsMetric s.distance) (q : ℕ) (before : List Operat
         reads = filter_push_true (read_by q) t.operations r (eq-eqb q q refl) ∙ (ap (λ l. l ++ r ∷ []) p.reads ∙ append_assoc before p.later (r ∷ []));
         more = p.more + c q;
         grown = let g : m q ≡ imported + p.more = p.grown in omega (arith, g);
-        told_now = λ e.
-            subst (λ l. IsToldIn s (with_operation t r) q l (b + (p.more + c q))) (append_assoc refusal_info p.later (r ∷ []))
-            (subst (λ n. IsToldIn s (with_operation t r) q ((refusal_info ++ p.later) ++ r ∷ []) n) (omega arith)
-            (read_by_itself d t q (refusal_info ++ p.later) (b + p.more) (p.told_now e) x (c q) e (read_paid p.reached q x (c q) nup paid)));
-        told_then = λ over. absurd (true≢false (sym over ∙ (or_parts (is_among t.commits q) (is_among t.aborts q) a.open_ended).0));
+        within_while_active = λ e.
+            subst (λ l. AreReadsWithin s (with_operation t r) q l (b + (p.more + c q))) (append_assoc read_ops p.later (r ∷ []))
+            (subst (λ n. AreReadsWithin s (with_operation t r) q ((read_ops ++ p.later) ++ r ∷ []) n) (omega arith)
+            (read_by_itself d t q (read_ops ++ p.later) (b + p.more) (p.within_while_active e) x (c q) e (read_paid p.reached q x (c q) nup paid)));
+        within_at_commit = λ over. absurd (true≢false (sym over ∙ (or_parts (is_among t.commits q) (is_among t.aborts q) a.open_ended).0));
       }
 
   other_read : (t : Trace) (m : ℕ → ℕ) → P t m → (u x : ℕ) (c : ℕ → ℕ) → (u ≡ q → ⊥) → ended_in t u ≡ false →
@@ -264,27 +264,27 @@ module _ (s : Setting) (d : IsMetric s.distance) (q : ℕ) (before : List Operat
         reads = filter_push_false (read_by q) t.operations r (ne_eqb u q ne) ∙ p.reads;
         more = p.more + c q;
         grown = let g : m q ≡ imported + p.more = p.grown in omega (arith, g);
-        told_now = λ e.
-            subst (λ n. IsToldIn s (with_operation t r) q (refusal_info ++ p.later) n) (omega arith)
-            (looser d (with_operation t r) q (refusal_info ++ p.later) (b + p.more) (read_by_other d t q (refusal_info ++ p.later) (b + p.more) (p.told_now e) r refl running) (c q));
-        told_then = λ over. more_le (told_in s.distance (refusal_info ++ p.later) (state_in s.opening (with_operation t r) (updates_of_in t q))) b p.more (c q) (then_after t p r running over);
+        within_while_active = λ e.
+            subst (λ n. AreReadsWithin s (with_operation t r) q (read_ops ++ p.later) n) (omega arith)
+            (looser d (with_operation t r) q (read_ops ++ p.later) (b + p.more) (read_by_other d t q (read_ops ++ p.later) (b + p.more) (p.within_while_active e) r refl running) (c q));
+        within_at_commit = λ over. more_le (distance_at s.distance (read_ops ++ p.later) (state_in s.opening (with_operation t r) (updates_of_in t q))) b p.more (c q) (then_after t p r running over);
       }
 
   pub onward_kept : IsKept s P
   onward_kept = record {
     begins = λ t m p β keep. record {
       reached = (reached_kept s).begins t m p.reached β keep;
-      query = ap (says (λ s. s.query)) (keep q (begun_query (t.beginning q) p.query)) ∙ p.query;
+      query = ap (holds_of (λ s. s.query)) (keep q (begun_query (t.beginning q) p.query)) ∙ p.query;
       later = p.later;
       reads = p.reads;
       more = p.more;
       grown = p.grown;
-      told_now = λ e. let a = p.told_now e in record { held = a.held; within = a.within };
-      told_then = λ over.
-          subst (λ us. told_in s.distance (refusal_info ++ p.later) (state_in s.opening t us) ≤ b + p.more)
+      within_while_active = λ e. let a = p.within_while_active e in record { held = a.held; within = a.within };
+      within_at_commit = λ over.
+          subst (λ us. distance_at s.distance (read_ops ++ p.later) (state_in s.opening t us) ≤ b + p.more)
           (filter_agree_in (update_in t) (update_in (with_begins t β)) (before_first (λ u. eqb u q) t.commits)
           (λ u i. sym (update_stays t β u keep ((known p.reached).of_ends u (or_left (is_among t.commits u) (is_among t.aborts u) (any-from_number t.commits u (In-before_first (λ u. eqb u q) t.commits u i)))))))
-          (p.told_then over);
+          (p.within_at_commit over);
     };
     update_reads = λ t m p u x a up free.
         let r : Operation = read_of u x (current_in s.opening t x) in
@@ -296,8 +296,8 @@ module _ (s : Setting) (d : IsMetric s.distance) (q : ℕ) (before : List Operat
           reads = filter_push_false (read_by q) t.operations r (ne_eqb u q ne) ∙ p.reads;
           more = p.more;
           grown = p.grown;
-          told_now = λ e. read_by_other d t q (refusal_info ++ p.later) (b + p.more) (p.told_now e) r refl a.open_ended;
-          told_then = λ over. then_after t p r a.open_ended over;
+          within_while_active = λ e. read_by_other d t q (read_ops ++ p.later) (b + p.more) (p.within_while_active e) r refl a.open_ended;
+          within_at_commit = λ over. then_after t p r a.open_ended over;
         };
     query_reads = λ t m p u x c a nup paid.
         ⊎_elim
@@ -315,11 +315,11 @@ module _ (s : Setting) (d : IsMetric s.distance) (q : ℕ) (before : List Operat
       reads = filter_push_false (read_by q) t.operations (write_of u x v) refl ∙ p.reads;
       more = p.more + c q;
       grown = let g : m q ≡ imported + p.more = p.grown in omega (arith, g);
-      told_now = λ e.
-          subst (λ n. IsToldIn s (with_operation t (write_of u x v)) q (refusal_info ++ p.later) n) (omega arith)
-          (written d t q (refusal_info ++ p.later) (b + p.more) (p.told_now e) u x v (c q) a.open_ended
+      within_while_active = λ e.
+          subst (λ n. AreReadsWithin s (with_operation t (write_of u x v)) q (read_ops ++ p.later) n) (omega arith)
+          (written d t q (read_ops ++ p.later) (b + p.more) (p.within_while_active e) u x v (c q) a.open_ended
           (paid q (record { begun = begun_query (t.beginning q) p.query; open_ended = e }) p.query));
-      told_then = λ over. more_le (told_in s.distance (refusal_info ++ p.later) (state_in s.opening (with_operation t (write_of u x v)) (updates_of_in t q))) b p.more (c q) (then_after t p (write_of u x v) a.open_ended over);
+      within_at_commit = λ over. more_le (distance_at s.distance (read_ops ++ p.later) (state_in s.opening (with_operation t (write_of u x v)) (updates_of_in t q))) b p.more (c q) (then_after t p (write_of u x v) a.open_ended over);
     };
     commits = λ t m p u a. record {
       reached = (reached_kept s).commits t m p.reached u a;
@@ -328,10 +328,10 @@ module _ (s : Setting) (d : IsMetric s.distance) (q : ℕ) (before : List Operat
       reads = p.reads;
       more = p.more;
       grown = p.grown;
-      told_now = λ e.
-          ended_commit_told d t q (refusal_info ++ p.later) (b + p.more)
-          (p.told_now (false_from_ne_true (ended_in t q) (λ h. true≢false (sym (ended_kept_commit t u q h) ∙ e)))) p.reached u a;
-      told_then = λ over. then_committed t p u a over;
+      within_while_active = λ e.
+          ended_commit_within d t q (read_ops ++ p.later) (b + p.more)
+          (p.within_while_active (false_from_ne_true (ended_in t q) (λ h. true≢false (sym (ended_kept_commit t u q h) ∙ e)))) p.reached u a;
+      within_at_commit = λ over. then_committed t p u a over;
     };
     aborts = λ t m p u a. record {
       reached = (reached_kept s).aborts t m p.reached u a;
@@ -340,9 +340,9 @@ module _ (s : Setting) (d : IsMetric s.distance) (q : ℕ) (before : List Operat
       reads = p.reads;
       more = p.more;
       grown = p.grown;
-      told_now = λ e.
-          ended_abort_told d t q (refusal_info ++ p.later) (b + p.more)
-          (p.told_now (false_from_ne_true (ended_in t q) (λ h. true≢false (sym (ended_kept_abort t u q h) ∙ e)))) p.reached u a;
-      told_then = λ over. p.told_then over;
+      within_while_active = λ e.
+          ended_abort_within d t q (read_ops ++ p.later) (b + p.more)
+          (p.within_while_active (false_from_ne_true (ended_in t q) (λ h. true≢false (sym (ended_kept_abort t u q h) ∙ e)))) p.reached u a;
+      within_at_commit = λ over. p.within_at_commit over;
     };
   }

@@ -11,13 +11,13 @@ use Rattle.esr_history.specs.Machine.{Distance, Schedule, accepted_in, empty_sch
 use Rattle.esr_history.specs.Legal.{along, legal_induction_after}
 use Rattle.esr_history.specs.Operations.{Operation, operations, operations_in}
 use Rattle.esr_history.specs.Queries.{reads_by, updates_of}
-use Rattle.esr_history.specs.ReportBounds.{is_active_query, IsMixture, ImportBoundsActive, told_distance, IsTold, reads_in, BoundGrowsByImport, BoundHoldsAtCommit, OpenIsImported}
+use Rattle.esr_history.specs.ReportBounds.{is_active_query, IsMixture, ImportBoundsActive, distance_of_reads, AreReadsWithinBound, reads_in, BoundGrowsByImport, BoundHoldsAtCommit, OpenIsImported}
 use Rattle.esr_history.proofs.Traces.{IsMetric, is_among, reads_item, committed_in}
 use Rattle.esr_history.proofs.Versions.{state_in}
 use Rattle.esr_history.proofs.Covered.{read_by, covered}
 use Rattle.esr_history.proofs.Covered as mixed
 use Rattle.esr_history.proofs.Open.{open_within}
-use Rattle.esr_history.proofs.ReportBounds.{told_in, IsToldIn, IsOnward, onward_kept}
+use Rattle.esr_history.proofs.ReportBounds.{distance_at, AreReadsWithin, IsOnward, onward_kept}
 use Rattle.esr_history.proofs.Words.{trace, query_not_update, committed_trace, current_trace, reads_trace, active_trace, state_trace, committed_among}
 use Rattle.esr_history.proofs.Reaches.{setting, imports, kept_step, legal_reached}
 use Rattle.esr_history.proofs.Onward.{legal_parts, legal_front}
@@ -70,17 +70,17 @@ module _ (d : Distance) (metric : (w : List ℕ) → IsMetric (d w)) where
       let p = and_parts (is_query (accepted_in h) q) (is_active (accepted_in h) q) is in
       covered (metric h.weights) (legal_reached d h legal) q (active_trace h q p.1).open_ended (query_not_update (accepted_in h) q p.0) w (to_trace h w mix)
 
-  told_in_trace : (h : Schedule) (q : ℕ) (refusal_info : List Operation) (b : ℕ) → IsTold d h q refusal_info b → IsToldIn (setting d h) (trace h) q refusal_info b
-  told_in_trace h q refusal_info b is = record {
+  within_in_trace : (h : Schedule) (q : ℕ) (read_ops : List Operation) (b : ℕ) → AreReadsWithinBound d h q read_ops b → AreReadsWithin (setting d h) (trace h) q read_ops b
+  within_in_trace h q read_ops b is = record {
     held = λ x. rw (sym (reads_trace h q x)) (is.held x);
     within = λ w mix. is.within w (from_trace h w mix);
   }
 
-  module _ (h : Schedule) (q : ℕ) (refusal_info : List Operation) (b : ℕ) (is : IsTold d h q refusal_info b) (later : List Entry) (legal : IsLegal d (along h later)) where
+  module _ (h : Schedule) (q : ℕ) (read_ops : List Operation) (b : ℕ) (is : AreReadsWithinBound d h q read_ops b) (later : List Entry) (legal : IsLegal d (along h later)) where
     abbrev k : Schedule
     k = along h later
 
-    start : IsOnward (setting d h) q (reads_by h q) (imports d h q) refusal_info b (trace h) (imports d h)
+    start : IsOnward (setting d h) q (reads_by h q) (imports d h q) read_ops b (trace h) (imports d h)
     start =
         let was = and_parts (is_query (accepted_in h) q) (is_active (accepted_in h) q) is.active in
         record {
@@ -90,17 +90,17 @@ module _ (d : Distance) (metric : (w : List ℕ) → IsMetric (d w)) where
           reads = sym (append-nil (reads_by h q));
           more = 0;
           grown = sym (add-zero (imports d h q));
-          told_now = λ e.
-              subst (λ l. IsToldIn (setting d h) (trace h) q l (b + 0)) (sym (append-nil refusal_info))
-              (subst (λ n. IsToldIn (setting d h) (trace h) q refusal_info n) (sym (add-zero b)) (told_in_trace h q refusal_info b is));
-          told_then = λ over. absurd (true≢false (sym over ∙ (or_parts (is_among (trace h).commits q) (is_among (trace h).aborts q) (active_trace h q was.1).open_ended).0));
+          within_while_active = λ e.
+              subst (λ l. AreReadsWithin (setting d h) (trace h) q l (b + 0)) (sym (append-nil read_ops))
+              (subst (λ n. AreReadsWithin (setting d h) (trace h) q read_ops n) (sym (add-zero b)) (within_in_trace h q read_ops b is));
+          within_at_commit = λ over. absurd (true≢false (sym over ∙ (or_parts (is_among (trace h).commits q) (is_among (trace h).aborts q) (active_trace h q was.1).open_ended).0));
         }
 
-    onward : IsOnward (setting d k) q (reads_by h q) (imports d h q) refusal_info b (trace k) (imports d k)
+    onward : IsOnward (setting d k) q (reads_by h q) (imports d h q) read_ops b (trace k) (imports d k)
     onward =
-        legal_induction_after d (λ g. IsOnward (setting d g) q (reads_by h q) (imports d h q) refusal_info b (trace g) (imports d g))
-        (λ g e r answers p. kept_step d g (IsOnward (setting d g) q (reads_by h q) (imports d h q) refusal_info b)
-        (onward_kept (setting d g) (metric g.weights) q (reads_by h q) (imports d h q) refusal_info b) e r answers p)
+        legal_induction_after d (λ g. IsOnward (setting d g) q (reads_by h q) (imports d h q) read_ops b (trace g) (imports d g))
+        (λ g e r answers p. kept_step d g (IsOnward (setting d g) q (reads_by h q) (imports d h q) read_ops b)
+        (onward_kept (setting d g) (metric g.weights) q (reads_by h q) (imports d h q) read_ops b) e r answers p)
         h later (legal_parts d (empty_schedule h) h.entries later legal).1 start
 
     same_later : onward.later ≡ reads_in later q
@@ -109,18 +109,18 @@ module _ (d : Distance) (metric : (w : List ℕ) → IsMetric (d w)) where
     same_more : (more : ℕ) → imports d h q + more ≡ imports d k q → onward.more ≡ more
     same_more more grown = let a : imports d k q ≡ imports d h q + onward.more = onward.grown in omega (arith, a, grown)
 
-  pub import_grows : (h : Schedule) (q : ℕ) (refusal_info : List Operation) (b : ℕ) → IsTold d h q refusal_info b → (later : List Entry) → IsLegal d (along h later)
+  pub import_grows : (h : Schedule) (q : ℕ) (read_ops : List Operation) (b : ℕ) → AreReadsWithinBound d h q read_ops b → (later : List Entry) → IsLegal d (along h later)
       → (more : ℕ) × (import_in (charges_in d h) q + more ≡ import_in (charges_in d (along h later)) q)
-  import_grows h q refusal_info b is later legal = let o = onward h q refusal_info b is later legal in (o.more, sym o.grown)
+  import_grows h q read_ops b is later legal = let o = onward h q read_ops b is later legal in (o.more, sym o.grown)
 
   pub bound_grows : (h : Schedule) → BoundGrowsByImport d h
-  bound_grows h q refusal_info b is later legal then_active more grown =
+  bound_grows h q read_ops b is later legal then_active more grown =
       let k : Schedule = along h later in
       let now = and_parts (is_query (accepted_in k) q) (is_active (accepted_in k) q) then_active in
-      let a : IsToldIn (setting d k) (trace k) q (refusal_info ++ reads_in later q) (b + more) =
-      subst (λ l. IsToldIn (setting d k) (trace k) q (refusal_info ++ l) (b + more)) (same_later h q refusal_info b is later legal)
-      (subst (λ n. IsToldIn (setting d k) (trace k) q (refusal_info ++ (onward h q refusal_info b is later legal).later) (b + n)) (same_more h q refusal_info b is later legal more grown)
-      ((onward h q refusal_info b is later legal).told_now (active_trace k q now.1).open_ended)) in
+      let a : AreReadsWithin (setting d k) (trace k) q (read_ops ++ reads_in later q) (b + more) =
+      subst (λ l. AreReadsWithin (setting d k) (trace k) q (read_ops ++ l) (b + more)) (same_later h q read_ops b is later legal)
+      (subst (λ n. AreReadsWithin (setting d k) (trace k) q (read_ops ++ (onward h q read_ops b is later legal).later) (b + n)) (same_more h q read_ops b is later legal more grown)
+      ((onward h q read_ops b is later legal).within_while_active (active_trace k q now.1).open_ended)) in
       record {
         active = then_active;
         held = λ x. rw (reads_trace k q x) (a.held x);
@@ -128,13 +128,13 @@ module _ (d : Distance) (metric : (w : List ℕ) → IsMetric (d w)) where
       }
 
   pub bound_at_commit : (h : Schedule) → BoundHoldsAtCommit d h
-  bound_at_commit h q refusal_info b is later legal over more grown =
+  bound_at_commit h q read_ops b is later legal over more grown =
       let k : Schedule = along h later in
       let p = and_parts (is_query (accepted_in k) q) (is_committed (accepted_in k) q) over in
-      subst (λ (w : ℕ → ℤ). told_distance d h (refusal_info ++ reads_in later q) w ≤ b + more) (sym (fun_ext (state_trace k (updates_of k q))))
-      (subst (λ l. told_in (distance_in d h) (refusal_info ++ l) (state_in (value_at k.opening) (trace k) (updates_of k q)) ≤ b + more) (same_later h q refusal_info b is later legal)
-      (subst (λ n. told_in (distance_in d h) (refusal_info ++ (onward h q refusal_info b is later legal).later) (state_in (value_at k.opening) (trace k) (updates_of k q)) ≤ b + n) (same_more h q refusal_info b is later legal more grown)
-      ((onward h q refusal_info b is later legal).told_then (sym (committed_among (accepted_in k) q) ∙ p.1))))
+      subst (λ (w : ℕ → ℤ). distance_of_reads d h (read_ops ++ reads_in later q) w ≤ b + more) (sym (fun_ext (state_trace k (updates_of k q))))
+      (subst (λ l. distance_at (distance_in d h) (read_ops ++ l) (state_in (value_at k.opening) (trace k) (updates_of k q)) ≤ b + more) (same_later h q read_ops b is later legal)
+      (subst (λ n. distance_at (distance_in d h) (read_ops ++ (onward h q read_ops b is later legal).later) (state_in (value_at k.opening) (trace k) (updates_of k q)) ≤ b + n) (same_more h q read_ops b is later legal more grown)
+      ((onward h q read_ops b is later legal).within_at_commit (sym (committed_among (accepted_in k) q) ∙ p.1))))
 
   pub open_is_imported : (h : Schedule) → IsLegal d h → OpenIsImported d h
   open_is_imported h legal q is =
@@ -144,8 +144,8 @@ module _ (d : Distance) (metric : (w : List ℕ) → IsMetric (d w)) where
       (open_within (metric h.weights) (legal_reached d h legal) q (active_trace h q p.1).open_ended (query_not_update (accepted_in h) q p.0))
 
   -- the values that an active query got are its reads, within its import
-  pub reads_told : (h : Schedule) → IsLegal d h → (q : ℕ) → IsTrue (is_active_query h q) → IsTold d h q (reads_by h q) (import_in (charges_in d h) q)
-  reads_told h legal q is = record {
+  pub reads_are_within : (h : Schedule) → IsLegal d h → (q : ℕ) → IsTrue (is_active_query h q) → AreReadsWithinBound d h q (reads_by h q) (import_in (charges_in d h) q)
+  reads_are_within h legal q is = record {
     active = is;
     held = λ x. rw (reads_trace h q x) (fewer x (operations h));
     within = λ w mix. import_bounds_active h legal q is w mix;

@@ -34,14 +34,14 @@ pub record Trace : Type 0 where
 abbrev pub is_among : List ℕ → ℕ → Bool
 is_among ts t = list_any (λ u. eqb u t) ts
 
-abbrev pub says : (Beginning → Bool) → Option Beginning → Bool
-says test b = unwrap_or (option_map test b) false
+abbrev pub holds_of : (Beginning → Bool) → Option Beginning → Bool
+holds_of test b = unwrap_or (option_map test b) false
 
 abbrev pub update_in : Trace → ℕ → Bool
-update_in t u = says (λ b. not b.query) (t.beginning u)
+update_in t u = holds_of (λ b. not b.query) (t.beginning u)
 
 abbrev pub query_in : Trace → ℕ → Bool
-query_in t u = says (λ b. b.query) (t.beginning u)
+query_in t u = holds_of (λ b. b.query) (t.beginning u)
 
 abbrev pub begun_in : Trace → ℕ → Bool
 begun_in t u = is_some (t.beginning u)

@@ -73,12 +73,12 @@ module _ (d : Distance) (h : Schedule) (was : InRanges h) where
       one o i = In-append_cases (operations h) (cons_option (operation_by e r) []) o (subst (In o) (operations-accepted h e r is) i)
 
   begin_in_ranges : (e : Event) (r : Reply) (b : Beginning) → is_refusal r ≡ false → beginning_of e ≡ Some b → operation_by e r ≡ None → ((t : ℕ) → reads_any t e ≡ false) → nat_le 65535 (length (beginnings (accepted_in h))) ≡ false → InRanges (extended h e r)
-  begin_in_ranges e r b is begins none no_read room =
+  begin_in_ranges e r b is begins none no_read capacity_left =
       about e r is more (fewer_reads e no_read) (λ o i. absurd (subst (λ p. In o (cons_option p [])) none i))
     where
       more : length (beginnings (accepted_in h ++ e ∷ [])) ≤ 65535
       more =
-          let below : length (beginnings (accepted_in h)) < 65535 = leb-false 65535 (length (beginnings (accepted_in h))) room in
+          let below : length (beginnings (accepted_in h)) < 65535 = leb-false 65535 (length (beginnings (accepted_in h))) capacity_left in
           let same : length (beginnings (accepted_in h ++ e ∷ [])) ≡ length (beginnings (accepted_in h)) + 1 = ap length (filter_map_push beginning_of (accepted_in h) e ∙ ap (λ o. beginnings (accepted_in h) ++ cons_option o []) begins) ∙ length-append (beginnings (accepted_in h)) (b ∷ []) in
           omega arith
 
@@ -100,8 +100,8 @@ module _ (d : Distance) (h : Schedule) (was : InRanges h) where
       act : is_active (accepted_in h) t.0 ≡ true
       act = not_ended h t.0 (read_allowed d h t x none).active
 
-      room : is_query (accepted_in h) t.0 ≡ true → all_reads_of (accepted_in h) t.0 < 1000
-      room query = leb-false 1000 (all_reads_of (accepted_in h) t.0) (sym (ap (λ b. b && nat_le 1000 (all_reads_of (accepted_in h) t.0)) query) ∙ when_none (is_query (accepted_in h) t.0 && nat_le 1000 (all_reads_of (accepted_in h) t.0)) TooManyReads (read_allowed d h t x none).few)
+      capacity_left : is_query (accepted_in h) t.0 ≡ true → all_reads_of (accepted_in h) t.0 < 1000
+      capacity_left query = leb-false 1000 (all_reads_of (accepted_in h) t.0) (sym (ap (λ b. b && nat_le 1000 (all_reads_of (accepted_in h) t.0)) query) ∙ when_none (is_query (accepted_in h) t.0 && nat_le 1000 (all_reads_of (accepted_in h) t.0)) TooManyReads (read_allowed d h t x none).few)
 
       reads : (u : ℕ) → is_update (accepted_in h ++ Read t x ∷ []) u ≡ false → all_reads_of (accepted_in h ++ Read t x ∷ []) u ≤ 1000
       reads u fails =
@@ -109,7 +109,7 @@ module _ (d : Distance) (h : Schedule) (was : InRanges h) where
           rw (reads-push (Read t x) u)
           (elim (cases_Bool (t.0 == u)) [
             | inl own ↦
-                let below : all_reads_of (accepted_in h) u < 1000 = subst (λ w. all_reads_of (accepted_in h) w < 1000) (eqb-true t.0 u own) (room (query_from (beginning (accepted_in h) t.0) (active_parts (accepted_in h) t.0 act).0 (subst (λ w. is_update (accepted_in h) w ≡ false) (sym (eqb-true t.0 u own)) before))) in
+                let below : all_reads_of (accepted_in h) u < 1000 = subst (λ w. all_reads_of (accepted_in h) w < 1000) (eqb-true t.0 u own) (capacity_left (query_from (beginning (accepted_in h) t.0) (active_parts (accepted_in h) t.0 act).0 (subst (λ w. is_update (accepted_in h) w ≡ false) (sym (eqb-true t.0 u own)) before))) in
                 rw own (omega arith)
             | inr other ↦
                 let low : all_reads_of (accepted_in h) u ≤ 1000 = was.reads u before in

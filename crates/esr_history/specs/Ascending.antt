@@ -12,10 +12,10 @@ IsAscendingBy key [] = ⊤
 IsAscendingBy key (x ∷ xs) = AllByRecursion (λ y. key x < key y) xs × IsAscendingBy key xs
 
 -- the element of number t changed, or a new one put where it belongs
-abbrev pub placed : {X : Type 0} → (X → ℕ) → ℕ → X → (X → X) → List X → List X
-placed key t new change [] = new ∷ []
-placed key t new change (x ∷ xs) =
-    if key x == t then change x ∷ xs else (if nat_lt t (key x) then new ∷ x ∷ xs else x ∷ placed key t new change xs)
+abbrev pub upserted : {X : Type 0} → (X → ℕ) → ℕ → X → (X → X) → List X → List X
+upserted key t new change [] = new ∷ []
+upserted key t new change (x ∷ xs) =
+    if key x == t then change x ∷ xs else (if nat_lt t (key x) then new ∷ x ∷ xs else x ∷ upserted key t new change xs)
 
 -- the element at place i has number t
 pub record IsPlaceOf {X : Type 0} (key : X → ℕ) (xs : List X) (t i : ℕ) : Type 0 where

@@ -124,18 +124,18 @@ pub record IsFit (n : ℕ) (es : List Entry) : Type 0 where
   pub ends : (t : ℕ) → begun_count es < t → last_place accepted_end t es ≡ None
 
 -- there is room for so many more begins, and for so many more entries, whose places have codes of 32 bits
-abbrev pub HasRoomToBegin : ℕ → BackLinks → Type 0
-HasRoomToBegin k l =
+abbrev pub HasCapacityToBegin : ℕ → BackLinks → Type 0
+HasCapacityToBegin k l =
     (length l.txns.items + k ≤ vec_capacity l.txns)
     × (length l.ends.items + k ≤ vec_capacity l.ends)
     × (length l.begins.items + k ≤ vec_capacity l.begins)
 
-abbrev pub HasRoom : ℕ → BackLinks → Type 0
-HasRoom k l =
+abbrev pub HasCapacity : ℕ → BackLinks → Type 0
+HasCapacity k l =
     (length l.on_item.items + k < 2 ^ 32)
     × (length l.on_item.items + k ≤ vec_capacity l.on_item)
     × (length l.of_txn.items + k ≤ vec_capacity l.of_txn)
-    × HasRoomToBegin k l
+    × HasCapacityToBegin k l
 
 -- What an accepted event leaves of the tables, where its place has the code.
 

@@ -21,7 +21,7 @@ writer_of x _ = None
 abbrev pub last_writer : List Event → ℕ → Option ℕ
 last_writer events x = last_or None (filter_map (writer_of x) events)
 
-pub record IsOrderly (events : List Event) : Type 0 where
+pub record IsWellFormed (events : List Event) : Type 0 where
   pub begun : (t : ℕ) → list_any (names t) events ≡ true → is_begun events t ≡ true
   pub writers : (t x : ℕ) → list_any (writes t x) events ≡ true → is_update events t ≡ true
   pub exclusive : (t x : ℕ) → holds_write events t x ≡ true → last_writer events x ≡ Some t

@@ -29,15 +29,15 @@ ImportBoundsActive d h =
     → distance_from d h q w ≤ import_in (charges_in d h) q
 
 -- the distance of the reads, items with the values read, from the values w of the items
-abbrev pub told_distance : Distance → Schedule → List Operation → (ℕ → ℤ) → ℕ
-told_distance d h refusal_info w = sum_by (λ o. distance_in d h o.item o.value (w o.item)) refusal_info
+abbrev pub distance_of_reads : Distance → Schedule → List Operation → (ℕ → ℤ) → ℕ
+distance_of_reads d h read_ops w = sum_by (λ o. distance_in d h o.item o.value (w o.item)) read_ops
 
 -- q is active, it has read each item at least as often as these reads contain it, and they are within the bound
 -- of every mixture. They may be of earlier histories: those of this one say only which items, and how often.
-pub record IsTold (d : Distance) (h : Schedule) (q : ℕ) (refusal_info : List Operation) (bound : ℕ) : Type 0 where
+pub record AreReadsWithinBound (d : Distance) (h : Schedule) (q : ℕ) (read_ops : List Operation) (bound : ℕ) : Type 0 where
   pub active : IsTrue (is_active_query h q)
-  pub held : (x : ℕ) → count_by (λ o. o.item == x) refusal_info ≤ reads_of (accepted_in h) q x
-  pub within : (w : ℕ → ℤ) → IsMixture h w → told_distance d h refusal_info w ≤ bound
+  pub held : (x : ℕ) → count_by (λ o. o.item == x) read_ops ≤ reads_of (accepted_in h) q x
+  pub within : (w : ℕ → ℤ) → IsMixture h w → distance_of_reads d h read_ops w ≤ bound
 
 -- what q reads in further entries
 abbrev pub reads_in : List Entry → ℕ → List Operation
@@ -46,18 +46,18 @@ reads_in entries q = filter (λ o. not o.writes && (o.txn == q)) (operations_in 
 -- As its history continues, the bound of an active query grows by what it imports, and by no more.
 abbrev pub BoundGrowsByImport : Distance → Schedule → Type 0
 BoundGrowsByImport d h =
-    (q : ℕ) (refusal_info : List Operation) (bound : ℕ) → IsTold d h q refusal_info bound
+    (q : ℕ) (read_ops : List Operation) (bound : ℕ) → AreReadsWithinBound d h q read_ops bound
     → (later : List Entry) → IsLegal d (along h later) → IsTrue (is_active_query (along h later) q)
     → (more : ℕ) → import_in (charges_in d h) q + more ≡ import_in (charges_in d (along h later)) q
-    → IsTold d (along h later) q (refusal_info ++ reads_in later q) (bound + more)
+    → AreReadsWithinBound d (along h later) q (read_ops ++ reads_in later q) (bound + more)
 
 -- Once it has committed, it is within its bound, with what it imported since, of the values that its updates left.
 abbrev pub BoundHoldsAtCommit : Distance → Schedule → Type 0
 BoundHoldsAtCommit d h =
-    (q : ℕ) (refusal_info : List Operation) (bound : ℕ) → IsTold d h q refusal_info bound
+    (q : ℕ) (read_ops : List Operation) (bound : ℕ) → AreReadsWithinBound d h q read_ops bound
     → (later : List Entry) → IsLegal d (along h later) → IsTrue (is_committed_query (along h later) q)
     → (more : ℕ) → import_in (charges_in d h) q + more ≡ import_in (charges_in d (along h later)) q
-    → told_distance d h (refusal_info ++ reads_in later q) (state (along h later) (updates_of (along h later) q)) ≤ bound + more
+    → distance_of_reads d h (read_ops ++ reads_in later q) (state (along h later) (updates_of (along h later) q)) ≤ bound + more
 
 -- what the reads of q would be charged if each were repeated now: the charges that are open
 abbrev pub open_import : Distance → Schedule → ℕ → ℕ

@@ -27,21 +27,21 @@ abbrev pub item : ℕ → ItemId
 item x = record { 0 = x }
 
 -- a query reads what an active update has written, within its limit
-abbrev report_beside_a_writer : Schedule
-report_beside_a_writer =
+abbrev report_concurrent_with_writer : Schedule
+report_concurrent_with_writer =
     played (started_from (pos 100 ∷ []))
     (BeginUpdate 50 ∷ BeginQuery 10 false ∷ Write (txn 1) (item 0) (pos 107) ∷ Read (txn 2) (item 0)
     ∷ Commit (txn 1) ∷ Commit (txn 2) ∷ [])
 
-report_beside_a_writer_replies : replies report_beside_a_writer
+report_concurrent_with_writer_replies : replies report_concurrent_with_writer
     ≡ Begun (txn 1) ∷ Begun (txn 2) ∷ Wrote ∷ Value (pos 107) ∷ Committed ∷ Committed ∷ []
-report_beside_a_writer_replies = refl
+report_concurrent_with_writer_replies = refl
 
-report_beside_a_writer_import : import_in (charges_in plain report_beside_a_writer) 2 ≡ 7
-report_beside_a_writer_import = refl
+report_concurrent_with_writer_import : import_in (charges_in plain report_concurrent_with_writer) 2 ≡ 7
+report_concurrent_with_writer_import = refl
 
-report_beside_a_writer_export : export_in (charges_in plain report_beside_a_writer) 1 ≡ 7
-report_beside_a_writer_export = refl
+report_concurrent_with_writer_export : export_in (charges_in plain report_concurrent_with_writer) 1 ≡ 7
+report_concurrent_with_writer_export = refl
 
 -- a read that would pass the query's limit leaves no charge, and is refused each time
 abbrev import_limit_reached : ℕ → Schedule
@@ -119,12 +119,12 @@ every_refusal_in_order_replies : replies every_refusal_in_order
 every_refusal_in_order_replies = refl
 
 -- an abort puts the value back
-abbrev abort_puts_back : Schedule
-abort_puts_back =
+abbrev abort_rolls_back : Schedule
+abort_rolls_back =
     played (started_from (pos 1 ∷ []))
     (BeginUpdate 0 ∷ Write (txn 1) (item 0) (pos 5) ∷ Abort (txn 1) ∷ BeginUpdate 0 ∷ Read (txn 2) (item 0) ∷ [])
 
-abort_puts_back_replies : replies abort_puts_back ≡ Begun (txn 1) ∷ Wrote ∷ Aborted ∷ Begun (txn 2) ∷ Value (pos 1) ∷ []
+abort_puts_back_replies : replies abort_rolls_back ≡ Begun (txn 1) ∷ Wrote ∷ Aborted ∷ Begun (txn 2) ∷ Value (pos 1) ∷ []
 abort_puts_back_replies = refl
 
 export_limit_over_queries_locks : item_locks (accepted_in export_limit_over_queries) 0

@@ -9,7 +9,7 @@
 ghost use Rattle.esr_base.specs.declared.limits.TheConstants.{MAX_ITEMS};
 ghost use Rattle.std.specs.Prelude.{◌≡◌, ◌+◌, ◌^◌, ◌<◌, ◌≤◌, ◌++◌, ◌∷◌, [], ℕ, List, length, slice_index_or, slice_set, IfOk, OnOk, vec_capacity};
 ghost use Rattle.esr_history.specs.declared.event.Entry.{Entry};
-ghost use Rattle.esr_history.specs.BackLinks.{with_key, txns_after, ends_after, begins_after, IsNumbered, item_of, begun_by, txn_of, key_at, decoded, AreLinks, IsFit, HasRoom, HasRoomToBegin, begun_count, last_place, earlier, facts_of, accepted_item, accepted_txn, item_in, txn_in};
+ghost use Rattle.esr_history.specs.BackLinks.{with_key, txns_after, ends_after, begins_after, IsNumbered, item_of, begun_by, txn_of, key_at, decoded, AreLinks, IsFit, HasCapacity, HasCapacityToBegin, begun_count, last_place, earlier, facts_of, accepted_item, accepted_txn, item_in, txn_in};
 
 use crate::event::{Entry, Event, Kind, Reply};
 use std::alloc::{AllocError, Global};
@@ -162,8 +162,8 @@ impl BackLinks {
     /// it is given too where no further place has a code of 32 bits.
     pub fn reserve(&mut self) -> Result<(), AllocError>
         ensures same { (n : ℕ) (es : List Entry) → AreLinks n es self.old → AreLinks n es self.new }
-        ensures room { (k : ℕ) → HasRoom k self.old → HasRoom k self.new }
-        ensures ok { OnOk result (HasRoom 1 self.new) }
+        ensures capacity_left { (k : ℕ) → HasCapacity k self.old → HasCapacity k self.new }
+        ensures ok { OnOk result (HasCapacity 1 self.new) }
     {
         if self.on_item.len() >= MAX_CODES {
             return Err(AllocError);
@@ -177,10 +177,10 @@ impl BackLinks {
     }
 
     /// For how many more entries there is room, whatever their events.
-    pub fn room(&self) -> usize
-        requires { HasRoom 0 self.now }
-        ensures room { HasRoom result self.now }
-        ensures some { HasRoom 1 self.now → 0 < result }
+    pub fn capacity_left(&self) -> usize
+        requires { HasCapacity 0 self.now }
+        ensures capacity_left { HasCapacity result self.now }
+        ensures some { HasCapacity 1 self.now → 0 < result }
     {
         let entries = spare(&self.on_item).min(spare(&self.of_txn));
         let begins = spare(&self.txns)
@@ -192,7 +192,7 @@ impl BackLinks {
     /// Leaves the tables of no entries, over as many items.
     pub fn clear(&mut self)
         ensures links { (n : ℕ) (es : List Entry) → AreLinks n es self.old → AreLinks n [] self.new }
-        ensures room { HasRoom 0 self.old → HasRoom 0 self.new }
+        ensures capacity_left { HasCapacity 0 self.old → HasCapacity 0 self.new }
     {
         self.on_item.clear();
         self.of_txn.clear();
@@ -207,7 +207,7 @@ impl BackLinks {
     /// Notes an accepted begin.
     #[inline(always)]
     fn add_begin(&mut self, kind: Kind, limit: u64, code: u32)
-        requires { HasRoomToBegin 1 self.old }
+        requires { HasCapacityToBegin 1 self.old }
         ensures on_item { self.new.on_item ≡ self.old.on_item }
         ensures of_txn { self.new.of_txn ≡ self.old.of_txn }
         ensures items { self.new.items ≡ self.old.items }
@@ -215,7 +215,7 @@ impl BackLinks {
         ensures ends { self.new.ends.items ≡ self.old.ends.items ++ 0 ∷ [] }
         ensures begins { self.new.begins.items ≡ self.old.begins.items ++ (record { kind = kind; limit = limit })
             ∷ [] }
-        ensures room { (k : ℕ) → HasRoomToBegin (k + 1) self.old → HasRoomToBegin k self.new }
+        ensures capacity_left { (k : ℕ) → HasCapacityToBegin (k + 1) self.old → HasCapacityToBegin k self.new }
     {
         self.txns.push_reserved(code);
         self.ends.push_reserved(0);
@@ -226,7 +226,7 @@ impl BackLinks {
     /// for each table.
     #[inline(always)]
     fn note(&mut self, event: Event, reply: Reply, code: u32) -> (u32, u32)
-        requires { HasRoomToBegin 1 self.old }
+        requires { HasCapacityToBegin 1 self.old }
         ensures item { result.0 ≡ key_at self.old.items.items (item_of event) }
         ensures txn { result.1 ≡ key_at self.old.txns.items (txn_of event reply) }
         ensures on_item { self.new.on_item ≡ self.old.on_item }
@@ -235,7 +235,7 @@ impl BackLinks {
         ensures txns { self.new.txns.items ≡ txns_after self.old.txns.items event code }
         ensures ends { self.new.ends.items ≡ ends_after self.old.ends.items event code }
         ensures begins { self.new.begins.items ≡ begins_after self.old.begins.items event }
-        ensures room { (k : ℕ) → HasRoomToBegin (k + 1) self.old → HasRoomToBegin k self.new }
+        ensures capacity_left { (k : ℕ) → HasCapacityToBegin (k + 1) self.old → HasCapacityToBegin k self.new }
     {
         let begun = at_key(&self.txns, begun_by(reply));
         match event {
@@ -272,8 +272,8 @@ impl BackLinks {
     /// Adds the codes of the places that an entry links to, for which there is room.
     #[inline(always)]
     fn link(&mut self, on_item: u32, of_txn: u32)
-        requires item_room { length self.old.on_item.items < vec_capacity self.old.on_item }
-        requires txn_room { length self.old.of_txn.items < vec_capacity self.old.of_txn }
+        requires item_capacity_left { length self.old.on_item.items < vec_capacity self.old.on_item }
+        requires txn_capacity_left { length self.old.of_txn.items < vec_capacity self.old.of_txn }
         ensures on_item { self.new.on_item.items ≡ self.old.on_item.items ++ on_item ∷ [] }
         ensures of_txn { self.new.of_txn.items ≡ self.old.of_txn.items ++ of_txn ∷ [] }
         ensures item_capacity { vec_capacity self.new.on_item ≡ vec_capacity self.old.on_item }
@@ -290,10 +290,10 @@ impl BackLinks {
     /// Adds an entry, for which there is room.
     #[inline(always)]
     pub fn add(&mut self, entry: Entry)
-        requires { HasRoom 1 self.old }
+        requires { HasCapacity 1 self.old }
         ensures links { (n : ℕ) (es : List Entry) → AreLinks n es self.old → IsFit n es
             → IsNumbered es entry.event entry.reply → AreLinks n (es ++ entry ∷ []) self.new }
-        ensures room { (k : ℕ) → HasRoom (k + 1) self.old → HasRoom k self.new }
+        ensures capacity_left { (k : ℕ) → HasCapacity (k + 1) self.old → HasCapacity k self.new }
     {
         if entry.is_refused() {
             let (on_item, of_txn) = self.last(entry);

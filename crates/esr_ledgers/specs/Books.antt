@@ -2,7 +2,7 @@
 use Rattle.std.specs.Prelude.{◌≡◌, ℕ, ◌+◌, ◌<◌, ◌≤◌, ◌^◌, List, [], ◌∷◌, Bool, true, false, not, ◌==◌, nat_lt, Option, None, Some, unwrap_or, find, map, sum_by, All, if◌then◌else◌, option_map}
 use Rattle.std.specs.List.{list_any, AllByRecursion}
 use Rattle.esr_base.specs.declared.numbers.TxnId.{TxnId}
-use Rattle.esr_history.specs.Ascending.{IsAscendingBy, placed}
+use Rattle.esr_history.specs.Ascending.{IsAscendingBy, upserted}
 use Rattle.esr_history.specs.declared.event.Kind.{Kind}
 use Rattle.esr_history.specs.Events.{is_query_kind}
 pub use Rattle.esr_ledgers.specs.declared.account.Account.{Account}
@@ -36,7 +36,7 @@ abbrev pub new_account : Kind → TxnId → ℕ → Account
 new_account kind t limit = record { number = t; kind = kind; limit = limit; amount = 0 }
 
 abbrev pub with_account : List Account → Account → List Account
-with_account accounts a = placed number (number a) a (λ b. b) accounts
+with_account accounts a = upserted number (number a) a (λ b. b) accounts
 
 -- Charges of an update: to each query an amount, by ascending queries.
 

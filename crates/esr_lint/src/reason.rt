@@ -29,9 +29,9 @@ pub enum Reason<'a> {
     Utf16,
     CarriageReturn,
     Tab,
-    BlankInFront,
-    BlankBehind,
-    TwoBlanks,
+    LeadingSpace,
+    TrailingSpace,
+    DoubleSpace,
     NotAscii(u8),
     Session,
     UnknownCommand(&'a [u8]),
@@ -71,15 +71,15 @@ fn encoding_fault(line: &[u8]) -> Option<Reason<'_>> {
 }
 
 /// What is wrong with the blanks between words.
-fn blank_fault(line: &[u8]) -> Option<Diagnosis<'_>> {
+fn space_fault(line: &[u8]) -> Option<Diagnosis<'_>> {
     let mut before = b' ';
     let mut column = 1usize;
     for byte in line {
         if *byte == b' ' && before == b' ' {
             let reason = if column == 1 {
-                Reason::BlankInFront
+                Reason::LeadingSpace
             } else {
-                Reason::TwoBlanks
+                Reason::DoubleSpace
             };
             return Some(Diagnosis { column, reason });
         }
@@ -87,7 +87,7 @@ fn blank_fault(line: &[u8]) -> Option<Diagnosis<'_>> {
         column = column.saturating_add(1);
     }
     if before == b' ' {
-        let reason = Reason::BlankBehind;
+        let reason = Reason::TrailingSpace;
         return Some(Diagnosis {
             column: line.len(),
             reason,
@@ -310,7 +310,7 @@ pub fn find_reason(line: &[u8]) -> Diagnosis<'_> {
     if let Some(finding) = byte_fault(line) {
         return finding;
     }
-    match blank_fault(line) {
+    match space_fault(line) {
         Some(finding) => finding,
         None => line_fault(line),
     }
@@ -428,9 +428,9 @@ impl fmt::Display for Reason<'_> {
             Reason::Utf16 => f.write_str("file is UTF-16; save it as UTF-8"),
             Reason::CarriageReturn => f.write_str("line ends with CR LF; use LF only"),
             Reason::Tab => f.write_str("tab character; separate words with a single space"),
-            Reason::BlankInFront => f.write_str("leading space"),
-            Reason::BlankBehind => f.write_str("trailing space"),
-            Reason::TwoBlanks => f.write_str(
+            Reason::LeadingSpace => f.write_str("leading space"),
+            Reason::TrailingSpace => f.write_str("trailing space"),
+            Reason::DoubleSpace => f.write_str(
                 "consecutive spaces; separate words with a single space",
             ),
             Reason::NotAscii(byte) => write!(

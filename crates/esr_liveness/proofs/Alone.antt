@@ -77,8 +77,8 @@ module _ (d : Distance) (h : Schedule) (t : TxnId) (x : ItemId) (update : is_upd
       (filter_map_none (charge_of_write (distance_in d h) h.opening (accepted_in h) t.0 x.0 v) (numbers (accepted_in h))
       (λ q. no_charge (is_query (accepted_in h) q) (is_active (accepted_in h) q) (list_any (reads q x.0) (accepted_in h)) _ (λ active. subst (λ u. is_query (accepted_in h) u ≡ false) (sym (alone q active)) not_query)))
 
-  nobody : (r : Option Refusal) → r ≡ None → Names (λ u. ⊥) r
-  nobody r is = subst (Names (λ u. ⊥)) (sym is) (none_names (λ u. ⊥))
+  no_one : (r : Option Refusal) → r ≡ None → Names (λ u. ⊥) r
+  no_one r is = subst (Names (λ u. ⊥)) (sym is) (none_names (λ u. ⊥))
 
   pub lone_read : blocker_in (reply_to d h (Read t x)) ≡ None
   lone_read =
@@ -91,11 +91,11 @@ module _ (d : Distance) (h : Schedule) (t : TxnId) (x : ItemId) (update : is_upd
             (
               names_none (λ u. ⊥) (is_query (accepted_in h) t.0 && nat_le MAX_READS (all_reads_of (accepted_in h) t.0)) TooManyReads refl,
               (
-                nobody (read_blocked h t.0 x.0) unread,
+                no_one (read_blocked h t.0 x.0) unread,
                 (
-                  nobody (import_full d h (due_in d h (Read t x))) (ap (import_full d h) read_free),
+                  no_one (import_full d h (due_in d h (Read t x))) (ap (import_full d h) read_free),
                   (
-                    nobody (export_full d h (due_in d h (Read t x))) (ap (export_full d h) read_free),
+                    no_one (export_full d h (due_in d h (Read t x))) (ap (export_full d h) read_free),
                     tt,
                   ),
                 ),
@@ -118,11 +118,11 @@ module _ (d : Distance) (h : Schedule) (t : TxnId) (x : ItemId) (update : is_upd
               (
                 names_none (λ u. ⊥) (not (is_value v)) ValueOutOfRange refl,
                 (
-                  nobody (write_blocked h t.0 x.0) unwritten,
+                  no_one (write_blocked h t.0 x.0) unwritten,
                   (
-                    nobody (import_full d h (due_in d h (Write t x v))) (ap (import_full d h) (write_free v)),
+                    no_one (import_full d h (due_in d h (Write t x v))) (ap (import_full d h) (write_free v)),
                     (
-                      nobody (export_full d h (due_in d h (Write t x v))) (ap (export_full d h) (write_free v)),
+                      no_one (export_full d h (due_in d h (Write t x v))) (ap (export_full d h) (write_free v)),
                       tt,
                     ),
                   ),

@@ -31,8 +31,8 @@ none_in_the_way : holders_against (accepted_in first_aborted) (Write (txn 2) (it
 none_in_the_way = refl
 
 -- an update concurrent with an active query is not alone: the query's limit may block it
-beside_a_query : blocker_in (reply_to plain
+concurrent_with_query : blocker_in (reply_to plain
     (played (started_from (pos 40 ∷ [])) (BeginUpdate 9 ∷ BeginQuery 2 false ∷ Read (txn 2) (item 0) ∷ []))
     (Write (txn 1) (item 0) (pos 37)))
     ≡ Some (txn 2)
-beside_a_query = refl
+concurrent_with_query = refl

@@ -12,8 +12,8 @@ use Rattle.esr_history.specs.ItemLocks.{ItemLocks}
 use Rattle.esr_history.proofs.Ascending.{any_placed}
 use Rattle.esr_history.proofs.Lists.{any_push, or_false}
 use Rattle.esr_locks.specs.Modes.{Mode, Read, Write, QueryRead}
-use Rattle.esr_locks.specs.Rows.{RowOf, LockedItemsOf, nothing_held, empty_row, row_at, held_at, IsTable, with_lock, has_such}
-use Rattle.esr_locks.specs.Tables.{no_locks, locks_at, is_writer, is_reader, has_query_lock, has_lock, released, lists_item}
+use Rattle.esr_locks.specs.Rows.{RowOf, LockedItemsOf, nothing_held, empty_row, row_at, held_at, IsTable, with_lock, has_lock_in_mode}
+use Rattle.esr_locks.specs.Tables.{no_locks, locks_at, is_writer, is_reader, has_query_lock, has_lock, released, contains_item}
 
 -- the locks at an item, by the rows
 pub locks_at-rows : (rows : List RowOf) (x : ℕ) → x < length rows → locks_at (map (λ r. r.locks) rows) x ≡ (row_at rows x).locks
@@ -31,7 +31,7 @@ lock_more Write t u l is = grind (arith, cases_Bool, or_left, or_right, or_cases
 lock_more QueryRead t u l is = grind (arith, any_placed (λ (r : ℕ × ℕ). r.0) t (t, 1) (λ (r : ℕ × ℕ). (r.0, r.1 + 1)) refl (λ r. refl) u l.queries, cases_Bool, or_left, or_right, or_cases, eqb-true)
 
 -- who holds such a lock on an item holds a lock on it
-pub such_has : (mode : Mode) (t : ℕ) (l : ItemLocks) → has_such mode l t ≡ true → has_lock l t ≡ true
+pub such_has : (mode : Mode) (t : ℕ) (l : ItemLocks) → has_lock_in_mode mode l t ≡ true → has_lock l t ≡ true
 such_has Read t l is = grind (arith, or_cases, or_left, or_right)
 such_has Write t l is = grind (arith, or_cases, or_left, or_right)
 such_has QueryRead t l is = grind (arith, or_left, or_right)
@@ -49,13 +49,13 @@ pub read_list : (held : List LockedItemsOf) (t : ℕ) (list : LockedItemsOf) →
 read_list held t list l is = is ∙ get_or_default held t list nothing_held l
 
 module _ (rows : List RowOf) (held : List LockedItemsOf) (tab : IsTable rows held) (t x : ℕ) (inside : x < length rows) (row new : RowOf) (is : row ≡ get_or rows x row) where
-  lock_there : (more : (u : ℕ) → has_lock new.locks u ≡ true → (has_lock row.locks u ≡ true) ⊎ (t ≡ u)) → (u y : ℕ) → y < length (set rows x new) → has_lock (row_at (set rows x new) y).locks u ≡ true → (lists_item (held_at held u).items y ≡ true) ⊎ ((t ≡ u) × (x ≡ y))
+  lock_there : (more : (u : ℕ) → has_lock new.locks u ≡ true → (has_lock row.locks u ≡ true) ⊎ (t ≡ u)) → (u y : ℕ) → y < length (set rows x new) → has_lock (row_at (set rows x new) y).locks u ≡ true → (contains_item (held_at held u).items y ≡ true) ⊎ ((t ≡ u) × (x ≡ y))
   lock_there more u y l has =
       elim (cases_eq y x) [
         | inl e ↦
             let there : has_lock new.locks u ≡ true = ap (λ (r : RowOf). has_lock r.locks u) (sym (get_or-set_same rows x new empty_row inside) ∙ ap (row_at (set rows x new)) (sym e)) ∙ has in
             elim (more u there) [
-              | inl before ↦ inl (ap (lists_item (held_at held u).items) e ∙ tab.listed u x inside (ap (λ (r : RowOf). has_lock r.locks u) (sym (read_row rows x row inside is)) ∙ before))
+              | inl before ↦ inl (ap (contains_item (held_at held u).items) e ∙ tab.listed u x inside (ap (λ (r : RowOf). has_lock r.locks u) (sym (read_row rows x row inside is)) ∙ before))
               | inr same ↦ inr (same, sym e)
             ]
         | inr ne ↦ inl (tab.listed u y (rw length-set at l) (ap (λ (r : RowOf). has_lock r.locks u) (sym (get_or-set_other rows x y new empty_row ne)) ∙ has))
@@ -77,19 +77,19 @@ module _ (rows : List RowOf) (held : List LockedItemsOf) (tab : IsTable rows hel
     listed = λ u y l has.
         elim (lock_there more u y l has) [
           | inl before ↦ keeps u y before
-          | inr now ↦ ap (λ v. lists_item (held_at (set held t list) v).items y) (sym now.0) ∙ (ap (λ (is' : List ItemId). lists_item is' y) (at_t) ∙ (any_push (λ (i : ItemId). i.0 == y) (held_at held t).items id ∙ or_right (lists_item (held_at held t).items y) (id.0 == y) (eq-eqb id.0 y (id_is ∙ now.1))))
+          | inr now ↦ ap (λ v. contains_item (held_at (set held t list) v).items y) (sym now.0) ∙ (ap (λ (is' : List ItemId). contains_item is' y) (at_t) ∙ (any_push (λ (i : ItemId). i.0 == y) (held_at held t).items id ∙ or_right (contains_item (held_at held t).items y) (id.0 == y) (eq-eqb id.0 y (id_is ∙ now.1))))
         ];
   }
     where
       at_t : (held_at (set held t list) t).items ≡ (held_at held t).items ++ id ∷ []
       at_t = ap (λ (h : LockedItemsOf). h.items) (get_or-set_same held t list nothing_held in_held) ∙ list_is
 
-      keeps : (u y : ℕ) → lists_item (held_at held u).items y ≡ true → lists_item (held_at (set held t list) u).items y ≡ true
+      keeps : (u y : ℕ) → contains_item (held_at held u).items y ≡ true → contains_item (held_at (set held t list) u).items y ≡ true
       keeps u y before = grind (arith, cases_eq u t, set held t list, at_t, any_push, or_left, get_or-set_other)
 
   -- who took the lock had one there
-  pub IsTable-again : ((u : ℕ) → has_lock new.locks u ≡ true → (has_lock row.locks u ≡ true) ⊎ (t ≡ u)) → has_lock row.locks t ≡ true → IsTable (set rows x new) held
-  IsTable-again more had = grind (arith, length-set, lock_there, read_row rows x row inside is)
+  pub IsTable-already_locked : ((u : ℕ) → has_lock new.locks u ≡ true → (has_lock row.locks u ≡ true) ⊎ (t ≡ u)) → has_lock row.locks t ≡ true → IsTable (set rows x new) held
+  IsTable-already_locked more had = grind (arith, length-set, lock_there, read_row rows x row inside is)
 
 -- a release changes nothing where the transaction has no lock
 list_any_none : {X : Type 0} (p : X → Bool) (xs : List X) → list_any p xs ≡ false → filter (λ x. not (p x)) xs ≡ xs
@@ -143,11 +143,11 @@ released_less t u l is =
 
 module _ (rows : List RowOf) (held : List LockedItemsOf) (tab : IsTable rows held) (t : ℕ) (rows_new : List RowOf) (held_new : List LockedItemsOf)
     (len : length rows_new ≡ length rows)
-    (locks : (x : ℕ) → x < length rows → (row_at rows_new x).locks ≡ (if lists_item (held_at held t).items x then released t (row_at rows x).locks else (row_at rows x).locks))
+    (locks : (x : ℕ) → x < length rows → (row_at rows_new x).locks ≡ (if contains_item (held_at held t).items x then released t (row_at rows x).locks else (row_at rows x).locks))
     (left : (u : ℕ) → (held_at held_new u).items ≡ (if t == u then [] else (held_at held u).items)) where
   every : (x : ℕ) → x < length rows → (row_at rows_new x).locks ≡ released t (row_at rows x).locks
   every x l =
-      grind (arith, cases_Bool (lists_item (held_at held t).items x), released_none, cases_Bool (has_lock (row_at rows x).locks t), false≢true)
+      grind (arith, cases_Bool (contains_item (held_at held t).items x), released_none, cases_Bool (has_lock (row_at rows x).locks t), false≢true)
 
   pub released_all : map (λ r. r.locks) rows_new ≡ map (released t) (map (λ r. r.locks) rows)
   released_all =
@@ -168,28 +168,28 @@ set_same_row (r ∷ rs) zero row new is same = ap (λ (l : ItemLocks). l ∷ map
 set_same_row (r ∷ rs) (suc x) row new is same = ap (λ ls. r.locks ∷ ls) (set_same_row rs x row new is same)
 
 -- who has room for one more item has a list
-pub has_list : (held : List LockedItemsOf) (t : ℕ) → 0 < slice_index (map (λ h. h.room) held) t → t < length held
+pub has_list : (held : List LockedItemsOf) (t : ℕ) → 0 < slice_index (map (λ h. h.capacity_left) held) t → t < length held
 has_list [] zero l = absurd (omega arith)
 has_list [] (suc t) l = absurd (omega arith)
 has_list (h ∷ held) zero l = omega arith
 has_list (h ∷ held) (suc t) l = let m : t < length held = has_list held t l in omega arith
 
-pub room_of_row : (rows : List RowOf) (x : ℕ) (new : RowOf) → x < length rows → slice_index (map (λ r. r.room) (set rows x new)) x ≡ new.room
-room_of_row [] x new l = absurd (omega arith)
-room_of_row (r ∷ rs) zero new l = refl
-room_of_row (r ∷ rs) (suc x) new l = room_of_row rs x new (omega arith)
+pub capacity_of_row : (rows : List RowOf) (x : ℕ) (new : RowOf) → x < length rows → slice_index (map (λ r. r.capacity_left) (set rows x new)) x ≡ new.capacity_left
+capacity_of_row [] x new l = absurd (omega arith)
+capacity_of_row (r ∷ rs) zero new l = refl
+capacity_of_row (r ∷ rs) (suc x) new l = capacity_of_row rs x new (omega arith)
 
-pub room_of_list : (held : List LockedItemsOf) (t : ℕ) (new : LockedItemsOf) → t < length held → slice_index (map (λ h. h.room) (set held t new)) t ≡ new.room
-room_of_list [] t new l = absurd (omega arith)
-room_of_list (h ∷ hs) zero new l = refl
-room_of_list (h ∷ hs) (suc t) new l = room_of_list hs t new (omega arith)
+pub capacity_of_list : (held : List LockedItemsOf) (t : ℕ) (new : LockedItemsOf) → t < length held → slice_index (map (λ h. h.capacity_left) (set held t new)) t ≡ new.capacity_left
+capacity_of_list [] t new l = absurd (omega arith)
+capacity_of_list (h ∷ hs) zero new l = refl
+capacity_of_list (h ∷ hs) (suc t) new l = capacity_of_list hs t new (omega arith)
 
 -- what the lists say of the locks
 pub table_within : (rows : List RowOf) (held : List LockedItemsOf) → IsTable rows held → (t : ℕ) → All (λ (i : ItemId). i.0 < length (map (λ (r : RowOf). r.locks) rows)) (held_at held t).items
 table_within rows held tab t = rw length-map (tab.within t)
 
 pub table_listed : (rows : List RowOf) (held : List LockedItemsOf) → IsTable rows held → (t x : ℕ) → x < length (map (λ (r : RowOf). r.locks) rows)
-    → has_lock (locks_at (map (λ (r : RowOf). r.locks) rows) x) t ≡ true → lists_item (held_at held t).items x ≡ true
+    → has_lock (locks_at (map (λ (r : RowOf). r.locks) rows) x) t ≡ true → contains_item (held_at held t).items x ≡ true
 table_listed rows held tab t x l has =
     let inside : x < length rows = rw length-map at l in
     tab.listed t x inside (ap (λ (g : ItemLocks). has_lock g t) (sym (locks_at-rows rows x inside)) ∙ has)
@@ -221,27 +221,27 @@ empty_more rows new n is none =
 pub release_more : (rows before : List RowOf) (items : List ItemId) (k t : ℕ) (id : ItemId) (row new : RowOf)
     → k < length items → id ≡ get_or items k id → id.0 < length rows → row ≡ get_or rows id.0 row → new.locks ≡ released t row.locks
     → length rows ≡ length before
-    → ((y : ℕ) → y < length before → (row_at rows y).locks ≡ (if lists_item (take k items) y then released t (row_at before y).locks else (row_at before y).locks))
-    → (y : ℕ) → y < length before → (row_at (set rows id.0 new) y).locks ≡ (if lists_item (take (k + 1) items) y then released t (row_at before y).locks else (row_at before y).locks)
+    → ((y : ℕ) → y < length before → (row_at rows y).locks ≡ (if contains_item (take k items) y then released t (row_at before y).locks else (row_at before y).locks))
+    → (y : ℕ) → y < length before → (row_at (set rows id.0 new) y).locks ≡ (if contains_item (take (k + 1) items) y then released t (row_at before y).locks else (row_at before y).locks)
 release_more rows before items k t id row new in_items id_is in_rows row_is new_is len so_far y l =
     elim (cases_eq y id.0) [
       | inl e ↦
-          let here : (row_at rows id.0).locks ≡ (if lists_item (take k items) id.0 then released t (row_at before id.0).locks else (row_at before id.0).locks) = so_far id.0 (rw (← e) l) in
+          let here : (row_at rows id.0).locks ≡ (if contains_item (take k items) id.0 then released t (row_at before id.0).locks else (row_at before id.0).locks) = so_far id.0 (rw (← e) l) in
           ap (λ z. (row_at (set rows id.0 new) z).locks) e
           ∙ (ap (λ (r : RowOf). r.locks) (get_or-set_same rows id.0 new empty_row in_rows)
           ∙ (new_is
           ∙ (ap (λ (r : RowOf). released t r.locks) (read_row rows id.0 row in_rows row_is)
           ∙ (ap (released t) here
-          ∙ (once (lists_item (take k items) id.0) (row_at before id.0).locks
+          ∙ (once (contains_item (take k items) id.0) (row_at before id.0).locks
           ∙ (ap (λ z. released t (row_at before z).locks) (sym e)
-          ∙ ap (λ b. if b then released t (row_at before y).locks else (row_at before y).locks) (sym (longer y ∙ or_right (lists_item (take k items) y) (id.0 == y) (eq-eqb id.0 y (sym e))))))))))
+          ∙ ap (λ b. if b then released t (row_at before y).locks else (row_at before y).locks) (sym (longer y ∙ or_right (contains_item (take k items) y) (id.0 == y) (eq-eqb id.0 y (sym e))))))))))
       | inr ne ↦
           ap (λ (r : RowOf). r.locks) (get_or-set_other rows id.0 y new empty_row ne)
-          ∙ (so_far y l ∙ ap (λ b. if b then released t (row_at before y).locks else (row_at before y).locks) (sym (longer y ∙ (ap (λ b. lists_item (take k items) y || b) (ne_eqb id.0 y (λ (f : id.0 ≡ y). ne (sym f))) ∙ or_false (lists_item (take k items) y)))))
+          ∙ (so_far y l ∙ ap (λ b. if b then released t (row_at before y).locks else (row_at before y).locks) (sym (longer y ∙ (ap (λ b. contains_item (take k items) y || b) (ne_eqb id.0 y (λ (f : id.0 ≡ y). ne (sym f))) ∙ or_false (contains_item (take k items) y)))))
     ]
   where
-    longer : (z : ℕ) → lists_item (take (k + 1) items) z ≡ (lists_item (take k items) z || (id.0 == z))
-    longer z = ap (λ is. lists_item is z) (take_more items k id in_items ∙ ap (λ i. take k items ++ i ∷ []) (sym id_is)) ∙ any_push (λ (i : ItemId). i.0 == z) (take k items) id
+    longer : (z : ℕ) → contains_item (take (k + 1) items) z ≡ (contains_item (take k items) z || (id.0 == z))
+    longer z = ap (λ is. contains_item is z) (take_more items k id in_items ∙ ap (λ i. take k items ++ i ∷ []) (sym id_is)) ∙ any_push (λ (i : ItemId). i.0 == z) (take k items) id
 
     once : (b : Bool) (l : ItemLocks) → released t (if b then released t l else l) ≡ released t l
     once true l = released_none t (released t l) (released_gone t l)

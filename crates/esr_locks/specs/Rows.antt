@@ -7,15 +7,15 @@ use Rattle.esr_history.specs.ItemLocks.{ItemLocks}
 use Rattle.esr_locks.specs.declared.lists.Reader.{Reader}
 use Rattle.esr_locks.specs.declared.lists.QueryReads.{QueryReads}
 use Rattle.esr_locks.specs.Modes.{Mode, Read, Write, QueryRead}
-use Rattle.esr_locks.specs.Tables.{no_locks, has_lock, has_update_lock, has_query_lock, with_reader, with_writer, with_query_read, lists_item}
+use Rattle.esr_locks.specs.Tables.{no_locks, has_lock, has_update_lock, has_query_lock, with_reader, with_writer, with_query_read, contains_item}
 
 -- what a row is to contracts: the locks, and for how many more there is room
 pub record RowOf : Type 0 where
   pub locks : ItemLocks
-  pub room : ℕ
+  pub capacity_left : ℕ
 
 -- what making room for one more element of a list does
-pub record MakesRoom {T A E : Type 0} (old new : SmallVec T) (result : Result A E) : Type 0 where
+pub record Reserves {T A E : Type 0} (old new : SmallVec T) (result : Result A E) : Type 0 where
   pub items : new.items ≡ old.items
   pub capacity : old.capacity ≤ new.capacity
   pub ok : OnOk result (HasRoomFor new 1)
@@ -44,21 +44,21 @@ with_lock Read = with_reader
 with_lock Write = with_writer
 with_lock QueryRead = with_query_read
 
-abbrev pub has_such : Mode → ItemLocks → ℕ → Bool
-has_such Read = has_update_lock
-has_such Write = has_update_lock
-has_such QueryRead = has_query_lock
+abbrev pub has_lock_in_mode : Mode → ItemLocks → ℕ → Bool
+has_lock_in_mode Read = has_update_lock
+has_lock_in_mode Write = has_update_lock
+has_lock_in_mode QueryRead = has_query_lock
 
 -- what the items that a transaction has locked are to contracts: the items, and for how many more there is room
 pub record LockedItemsOf : Type 0 where
   pub items : List ItemId
-  pub room : ℕ
+  pub capacity_left : ℕ
 
 abbrev pub nothing_held : LockedItemsOf
-nothing_held = record { items = []; room = 0 }
+nothing_held = record { items = []; capacity_left = 0 }
 
 abbrev pub empty_row : RowOf
-empty_row = record { locks = no_locks; room = 0 }
+empty_row = record { locks = no_locks; capacity_left = 0 }
 
 abbrev pub row_at : List RowOf → ℕ → RowOf
 row_at rows x = slice_index_or rows x empty_row
@@ -70,4 +70,4 @@ held_at held t = slice_index_or held t nothing_held
 pub record IsTable (rows : List RowOf) (held : List LockedItemsOf) : Type 0 where
   pub within : (t : ℕ) → All (λ i. i.0 < length rows) (held_at held t).items
   pub listed : (t x : ℕ) → x < length rows → has_lock (row_at rows x).locks t ≡ true
-      → lists_item (held_at held t).items x ≡ true
+      → contains_item (held_at held t).items x ≡ true

@@ -3,19 +3,19 @@ use Rattle.std.specs.Prelude.{ℕ, ◌+◌, List, [], Bool, false, not, ◌&&◌
 use Rattle.std.specs.List.{list_any}
 use Rattle.esr_base.specs.declared.numbers.ItemId.{ItemId}
 use Rattle.esr_history.specs.ItemLocks.{ItemLocks}
-use Rattle.esr_history.specs.Ascending.{placed}
+use Rattle.esr_history.specs.Ascending.{upserted}
 use Rattle.esr_locks.specs.Modes.{Mode, Read, Write, conflicts}
 
 -- what a lock table is to contracts: the locks on each item, for how many more locks there is room on each item, and
 -- for how many more items in the list of each transaction
 pub record Table : Type 0 where
   pub locks : List ItemLocks
-  pub item_rooms : List ℕ
-  pub list_rooms : List ℕ
+  pub item_capacities : List ℕ
+  pub list_capacities : List ℕ
 
 -- for how many more locks of transaction t on item x there is room
-abbrev pub room_for : Table → ℕ → ℕ → ℕ
-room_for table t x = min (slice_index table.item_rooms x) (slice_index table.list_rooms t)
+abbrev pub locks_that_fit : Table → ℕ → ℕ → ℕ
+locks_that_fit table t x = min (slice_index table.item_capacities x) (slice_index table.list_capacities t)
 
 -- an item that nobody has locked
 abbrev pub no_locks : ItemLocks
@@ -42,26 +42,26 @@ abbrev pub has_lock : ItemLocks → ℕ → Bool
 has_lock l t = is_writer l t || (is_reader l t || has_query_lock l t)
 
 -- whether update u keeps transaction t from locking the item in a mode: it is another, and has a lock that conflicts
-abbrev pub keeps_from : Mode → ItemLocks → ℕ → ℕ → Bool
-keeps_from asked l t u =
+abbrev pub blocks : Mode → ItemLocks → ℕ → ℕ → Bool
+blocks asked l t u =
     not (u == t) && ((conflicts Read asked && is_reader l u) || (conflicts Write asked && is_writer l u))
 
 -- whether update u keeps transaction t, as an update, from reading the item, and from writing it
-abbrev pub keeps_from_reading : ItemLocks → ℕ → ℕ → Bool
-keeps_from_reading = keeps_from Read
+abbrev pub blocks_read : ItemLocks → ℕ → ℕ → Bool
+blocks_read = blocks Read
 
-abbrev pub keeps_from_writing : ItemLocks → ℕ → ℕ → Bool
-keeps_from_writing = keeps_from Write
+abbrev pub blocks_write : ItemLocks → ℕ → ℕ → Bool
+blocks_write = blocks Write
 
 -- the locks with one more: a read by an update, a write, a read by a query
 abbrev pub with_reader : ℕ → ItemLocks → ItemLocks
-with_reader t l = record l { readers = placed (λ u. u) t t (λ u. u) l.readers }
+with_reader t l = record l { readers = upserted (λ u. u) t t (λ u. u) l.readers }
 
 abbrev pub with_writer : ℕ → ItemLocks → ItemLocks
 with_writer t l = record l { writer = Some t }
 
 abbrev pub with_query_read : ℕ → ItemLocks → ItemLocks
-with_query_read q l = record l { queries = placed (λ r. r.0) q (q, 1) (λ r. (r.0, r.1 + 1)) l.queries }
+with_query_read q l = record l { queries = upserted (λ r. r.0) q (q, 1) (λ r. (r.0, r.1 + 1)) l.queries }
 
 -- the locks where transaction t holds none any more
 abbrev pub released : ℕ → ItemLocks → ItemLocks
@@ -72,5 +72,5 @@ released t l = record {
 }
 
 -- whether an item is among those listed
-abbrev pub lists_item : List ItemId → ℕ → Bool
-lists_item items x = list_any (λ i. i.0 == x) items
+abbrev pub contains_item : List ItemId → ℕ → Bool
+contains_item items x = list_any (λ i. i.0 == x) items

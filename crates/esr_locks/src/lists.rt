@@ -9,8 +9,8 @@ ghost use Rattle.std.specs.Prelude.{◌≡◌, ℕ, ◌<◌, ◌≤◌, ◌==◌
 ghost use Rattle.std.specs.List.{list_any, insert, AllByRecursion};
 ghost use Rattle.smallvec.specs.SmallVec.{HasRoomFor};
 ghost use Rattle.esr_base.specs.declared.limits.TheConstants.{MAX_READS};
-ghost use Rattle.esr_history.specs.Ascending.{IsAscendingBy, IsPlaceOf, IsGapFor, placed};
-ghost use Rattle.esr_locks.specs.Rows.{MakesRoom, reader, first_reads, more_reads};
+ghost use Rattle.esr_history.specs.Ascending.{IsAscendingBy, IsPlaceOf, IsGapFor, upserted};
+ghost use Rattle.esr_locks.specs.Rows.{Reserves, reader, first_reads, more_reads};
 
 use esr_history::TxnId;
 use smallvec::SmallVec;
@@ -87,7 +87,7 @@ pub type Queries = SmallVec<QueryReads, 2>;
 fn grow<T: MadeWith<Global> + Drop, const N: usize>(
     list: &mut SmallVec<T, N>,
 ) -> Result<(), AllocError>
-    ensures { MakesRoom list.old list.new result }
+    ensures { Reserves list.old list.new result }
 {
     list.reserve(1)
 }
@@ -98,10 +98,10 @@ fn grow<T: MadeWith<Global> + Drop, const N: usize>(
 pub fn reserve_one<T: MadeWith<Global> + Drop, const N: usize>(
     list: &mut SmallVec<T, N>,
 ) -> Result<(), AllocError>
-    ensures { MakesRoom list.old list.new result }
+    ensures { Reserves list.old list.new result }
 {
     if list.len() < N {
-        let _room = list.capacity(); // N or more: brought into the proof, and dead when it runs
+        let _capacity_left = list.capacity(); // N or more: brought into the proof, and dead when it runs
         return Ok(());
     }
     if list.len() < list.capacity() {
@@ -141,7 +141,7 @@ pub fn is_reader(readers: &[Reader], t: TxnId) -> bool
 #[inline(always)]
 fn put<T: MadeWith<Global> + Drop, const N: usize>(list: &mut SmallVec<T, N>, at: usize, element: T)
     requires place { at ≤ length list.old.items }
-    requires room { HasRoomFor list.old 1 }
+    requires capacity_left { HasRoomFor list.old 1 }
     ensures { list.new.items ≡ insert list.old.items at element }
 {
     if at == list.len() {
@@ -155,8 +155,8 @@ fn put<T: MadeWith<Global> + Drop, const N: usize>(list: &mut SmallVec<T, N>, at
 #[inline(never)]
 fn add_among(readers: &mut Readers, t: TxnId) -> bool
     requires ascending { IsAscendingBy (λ r. r.update.0) readers.old.items }
-    requires room { HasRoomFor readers.old 1 }
-    ensures items { readers.new.items ≡ placed (λ r. r.update.0) t.0 (reader t) (λ r. r) readers.old.items }
+    requires capacity_left { HasRoomFor readers.old 1 }
+    ensures items { readers.new.items ≡ upserted (λ r. r.update.0) t.0 (reader t) (λ r. r) readers.old.items }
     ensures fresh { result ≡ not (list_any (λ r. r.update.0 == t.0) readers.old.items) }
 {
     match place_of(readers, t) {
@@ -172,8 +172,8 @@ fn add_among(readers: &mut Readers, t: TxnId) -> bool
 #[inline(always)]
 pub fn add_reader(readers: &mut Readers, t: TxnId) -> bool
     requires ascending { IsAscendingBy (λ r. r.update.0) readers.old.items }
-    requires room { HasRoomFor readers.old 1 }
-    ensures items { readers.new.items ≡ placed (λ r. r.update.0) t.0 (reader t) (λ r. r) readers.old.items }
+    requires capacity_left { HasRoomFor readers.old 1 }
+    ensures items { readers.new.items ≡ upserted (λ r. r.update.0) t.0 (reader t) (λ r. r) readers.old.items }
     ensures fresh { result ≡ not (list_any (λ r. r.update.0 == t.0) readers.old.items) }
 {
     if readers.is_empty() {
@@ -186,10 +186,10 @@ pub fn add_reader(readers: &mut Readers, t: TxnId) -> bool
 /// Counts one more read of a query, and answers whether it had none.
 pub fn count_read(queries: &mut Queries, q: TxnId) -> bool
     requires ascending { IsAscendingBy (λ r. r.query.0) queries.old.items }
-    requires room { HasRoomFor queries.old 1 }
+    requires capacity_left { HasRoomFor queries.old 1 }
     requires few { All (λ r. r.query.0 ≡ q.0 → r.count < MAX_READS) queries.old.items }
     requires most { AllByRecursion (λ r. r.count ≤ MAX_READS) queries.old.items }
-    ensures items { queries.new.items ≡ placed (λ r. r.query.0) q.0 (first_reads q) more_reads queries.old.items }
+    ensures items { queries.new.items ≡ upserted (λ r. r.query.0) q.0 (first_reads q) more_reads queries.old.items }
     ensures most { AllByRecursion (λ r. r.count ≤ MAX_READS) queries.new.items }
     ensures fresh { result ≡ not (list_any (λ r. r.query.0 == q.0) queries.old.items) }
 {

@@ -22,7 +22,7 @@ impl Model for LockedItems {
 
     ghost Value = { LockedItemsOf };
 
-    ghost view = { λ h. record { items = h.list.items; room = h.list.capacity - length h.list.items } };
+    ghost view = { λ h. record { items = h.list.items; capacity_left = h.list.capacity - length h.list.items } };
 }
 
 impl LockedItems {
@@ -44,15 +44,15 @@ impl LockedItems {
     #[inline(always)]
     pub fn reserve(&mut self) -> Result<(), AllocError>
         ensures items { self.new.items ≡ self.old.items }
-        ensures ok { OnOk result (0 < self.new.room) }
-        ensures full { OnErr result (self.old.room ≡ 0) }
+        ensures ok { OnOk result (0 < self.new.capacity_left) }
+        ensures full { OnErr result (self.old.capacity_left ≡ 0) }
     {
         reserve_one(&mut self.list)
     }
 
     /// Adds an item, for which there is room.
     pub fn push(&mut self, x: ItemId)
-        requires { 0 < self.old.room }
+        requires { 0 < self.old.capacity_left }
         ensures { self.new.items ≡ self.old.items ++ x ∷ [] }
     {
         self.list.push_reserved(x);

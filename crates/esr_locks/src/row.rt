@@ -7,8 +7,8 @@ ghost use Rattle.std.specs.Prelude.{◌≡◌, ℕ, ◌<◌, ◌≤◌, ◌==◌
 ghost use Rattle.esr_base.specs.declared.limits.TheConstants.{MAX_READS};
 ghost use Rattle.esr_history.specs.Ascending.{IsAscendingBy, IsSmallest};
 ghost use Rattle.esr_locks.specs.Modes.{conflicts};
-ghost use Rattle.esr_locks.specs.Rows.{query_and_count, with_lock, has_such, RowOf};
-ghost use Rattle.esr_locks.specs.Tables.{no_locks, is_writer, is_reader, has_update_lock, has_query_lock, keeps_from, with_reader, with_writer, with_query_read, released};
+ghost use Rattle.esr_locks.specs.Rows.{query_and_count, with_lock, has_lock_in_mode, RowOf};
+ghost use Rattle.esr_locks.specs.Tables.{no_locks, is_writer, is_reader, has_update_lock, has_query_lock, blocks, with_reader, with_writer, with_query_read, released};
 ghost use Rattle.std.specs.List.{AllByRecursion};
 ghost use Rattle.std.specs.Option.{option_map};
 
@@ -39,7 +39,7 @@ impl Model for Row {
         readers = map (λ u. u.update.0) r.readers.items;
         queries = map query_and_count r.queries.items;
       };
-      room = min (r.readers.capacity - length r.readers.items) (r.queries.capacity - length r.queries.items);
+      capacity_left = min (r.readers.capacity - length r.readers.items) (r.queries.capacity - length r.queries.items);
     } };
 
     ghost invariant = { λ r. IsAscendingBy (λ u. u.update.0) r.readers.items
@@ -107,7 +107,7 @@ impl Row {
     }
 
     /// The smallest reader other than `t`, where reading keeps others from locking in this mode.
-    fn reader_against(&self, t: TxnId, asked: Mode) -> Option<TxnId>
+    fn blocking_reader(&self, t: TxnId, asked: Mode) -> Option<TxnId>
         ensures { IsSmallest (λ u. not (u == t.0) && (conflicts Mode.Read asked && is_reader self.now.locks u))
             (option_map (λ u. u.0) result) }
     {
@@ -119,7 +119,7 @@ impl Row {
     }
 
     /// The writer, where it is another than `t` and writing keeps others from locking in this mode.
-    fn writer_against(&self, t: TxnId, asked: Mode) -> Option<TxnId>
+    fn blocking_writer(&self, t: TxnId, asked: Mode) -> Option<TxnId>
         ensures { IsSmallest (λ u. not (u == t.0) && (conflicts Mode.Write asked && is_writer self.now.locks u))
             (option_map (λ u. u.0) result) }
     {
@@ -132,18 +132,21 @@ impl Row {
 
     /// The smallest update that keeps `t` from locking the item in this mode.
     #[inline(always)]
-    pub fn update_against(&self, t: TxnId, asked: Mode) -> Option<TxnId>
-        ensures { IsSmallest (keeps_from asked self.now.locks t.0) (option_map (λ u. u.0) result) }
+    pub fn blocking_update(&self, t: TxnId, asked: Mode) -> Option<TxnId>
+        ensures { IsSmallest (blocks asked self.now.locks t.0) (option_map (λ u. u.0) result) }
     {
-        smaller_of(self.reader_against(t, asked), self.writer_against(t, asked))
+        smaller_of(
+            self.blocking_reader(t, asked),
+            self.blocking_writer(t, asked),
+        )
     }
 
     /// Makes room for one more lock.
     #[inline(always)]
     pub fn reserve(&mut self) -> Result<(), AllocError>
         ensures locks { self.new.locks ≡ self.old.locks }
-        ensures ok { OnOk result (0 < self.new.room) }
-        ensures full { OnErr result (self.old.room ≡ 0) }
+        ensures ok { OnOk result (0 < self.new.capacity_left) }
+        ensures full { OnErr result (self.old.capacity_left ≡ 0) }
     {
         reserve_one(&mut self.readers)?;
         reserve_one(&mut self.queries)?;
@@ -154,7 +157,7 @@ impl Row {
     /// item.
     #[inline(always)]
     fn add_reader(&mut self, t: TxnId) -> bool
-        requires { 0 < self.old.room }
+        requires { 0 < self.old.capacity_left }
         ensures locks { self.new.locks ≡ with_reader t.0 self.old.locks }
         ensures fresh { result ≡ not (has_update_lock self.old.locks t.0) }
     {
@@ -177,7 +180,7 @@ impl Row {
 
     /// Adds a read by a query, and answers whether the query had not read the item.
     fn add_query_read(&mut self, q: TxnId) -> bool
-        requires room { 0 < self.old.room }
+        requires capacity_left { 0 < self.old.capacity_left }
         requires few { All (λ r. r.0 ≡ q.0 → r.1 < MAX_READS) self.old.locks.queries }
         ensures locks { self.new.locks ≡ with_query_read q.0 self.old.locks }
         ensures fresh { result ≡ not (has_query_lock self.old.locks q.0) }
@@ -188,10 +191,10 @@ impl Row {
     /// Adds a lock, and answers whether the transaction held none on the item yet.
     #[inline(always)]
     pub fn add(&mut self, t: TxnId, mode: Mode) -> bool
-        requires room { 0 < self.old.room }
+        requires capacity_left { 0 < self.old.capacity_left }
         requires few { mode ≡ Mode.QueryRead → All (λ r. r.0 ≡ t.0 → r.1 < MAX_READS) self.old.locks.queries }
         ensures locks { self.new.locks ≡ with_lock mode t.0 self.old.locks }
-        ensures fresh { result ≡ not (has_such mode self.old.locks t.0) }
+        ensures fresh { result ≡ not (has_lock_in_mode mode self.old.locks t.0) }
     {
         match mode {
             Mode::Read => self.add_reader(t),

@@ -11,8 +11,8 @@ ghost use Rattle.std.specs.Prelude.{◌≡◌, ℕ, ◌<◌, ◌≤◌, ◌==◌
 ghost use Rattle.std.specs.List.{range_with_len};
 ghost use Rattle.esr_base.specs.declared.limits.TheConstants.{MAX_READS};
 ghost use Rattle.esr_history.specs.Ascending.{IsAscendingBy, IsSmallest};
-ghost use Rattle.esr_locks.specs.Rows.{query_and_count, row_at, held_at, with_lock, has_such, IsTable};
-ghost use Rattle.esr_locks.specs.Tables.{no_locks, locks_at, room_for, has_lock, has_update_lock, has_query_lock, lists_item, keeps_from_reading, keeps_from_writing, with_reader, with_writer, with_query_read, released, Table};
+ghost use Rattle.esr_locks.specs.Rows.{query_and_count, row_at, held_at, with_lock, has_lock_in_mode, IsTable};
+ghost use Rattle.esr_locks.specs.Tables.{no_locks, locks_at, locks_that_fit, has_lock, has_update_lock, has_query_lock, contains_item, blocks_read, blocks_write, with_reader, with_writer, with_query_read, released, Table};
 
 use crate::lists::QueryReads;
 use crate::locked_items::LockedItems;
@@ -41,9 +41,9 @@ impl Model for LockTable {
 
     ghost view = { λ t. record {
       locks = map (λ r. r.locks) t.rows.items;
-      item_rooms = map
-          (λ r. r.room) t.rows.items;
-      list_rooms = map (λ h. h.room) t.held.items;
+      item_capacities = map
+          (λ r. r.capacity_left) t.rows.items;
+      list_capacities = map (λ h. h.capacity_left) t.held.items;
     } };
 
     ghost invariant = { λ t. IsTable t.rows.items t.held.items };
@@ -63,7 +63,7 @@ fn empty_rows(alloc: Global, items: u32) -> Result<Vec<Row>, AllocError>
 /// Gives each transaction up to `t`, which has none, a list of items.
 #[cold]
 #[inline(never)]
-fn add_lists(held: &mut Vec<LockedItems>, alloc: Global, t: TxnId) -> Result<(), AllocError>
+fn grow_lists(held: &mut Vec<LockedItems>, alloc: Global, t: TxnId) -> Result<(), AllocError>
     ensures items { (u : ℕ) → (held_at held.new.items u).items ≡ (held_at held.old.items u).items }
     ensures ok { OnOk result (t.0 < length held.new.items) }
     ensures full { OnErr result (length held.old.items ≤ t.0) }
@@ -76,7 +76,7 @@ fn add_lists(held: &mut Vec<LockedItems>, alloc: Global, t: TxnId) -> Result<(),
 
 /// Gives each transaction up to `t` a list of items.
 #[inline(always)]
-fn make_lists(held: &mut Vec<LockedItems>, alloc: Global, t: TxnId) -> Result<(), AllocError>
+fn ensure_lists(held: &mut Vec<LockedItems>, alloc: Global, t: TxnId) -> Result<(), AllocError>
     ensures items { (u : ℕ) → (held_at held.new.items u).items ≡ (held_at held.old.items u).items }
     ensures ok { OnOk result (t.0 < length held.new.items) }
     ensures full { OnErr result (length held.old.items ≤ t.0) }
@@ -85,7 +85,7 @@ fn make_lists(held: &mut Vec<LockedItems>, alloc: Global, t: TxnId) -> Result<()
     if (t.0 as usize) < held.len() {
         return Ok(());
     }
-    add_lists(held, alloc, t)
+    grow_lists(held, alloc, t)
 }
 
 /// The items in the list of a transaction.
@@ -101,7 +101,7 @@ fn listed(held: &[LockedItems], t: TxnId) -> &[ItemId]
 }
 
 /// Leaves the list of a transaction empty, and frees what it had on the heap.
-fn empty_list(held: &mut Vec<LockedItems>, alloc: Global, t: TxnId)
+fn clear_list(held: &mut Vec<LockedItems>, alloc: Global, t: TxnId)
     ensures { (u : ℕ) → (held_at held.new.items u).items
         ≡ (if t.0 == u then [] else (held_at held.old.items u).items) }
 {
@@ -116,7 +116,7 @@ fn release_each(rows: &mut Vec<Row>, items: &[ItemId], t: TxnId)
     requires { All (λ i. i.0 < length rows.old.items) items.now }
     ensures len { length rows.new.items ≡ length rows.old.items }
     ensures locks { (x : ℕ) → x < length rows.old.items
-        → (row_at rows.new.items x).locks ≡ (if lists_item items.now x then released t.0
+        → (row_at rows.new.items x).locks ≡ (if contains_item items.now x then released t.0
         (row_at rows.old.items x).locks else (row_at rows.old.items x).locks) }
 {
     for x in items {
@@ -140,7 +140,7 @@ impl LockTable {
     }
 
     /// Makes room for the lists of so many transactions at once, as far as memory allows.
-    pub fn prepare(&mut self, transactions: usize)
+    pub fn reserve_transactions(&mut self, transactions: usize)
         ensures { self.new ≡ self.old }
     {
         let _ = self.held.reserve(transactions);
@@ -151,9 +151,9 @@ impl LockTable {
     #[inline(always)]
     pub fn may_read_update(&self, t: TxnId, x: ItemId) -> Option<TxnId>
         requires { x.0 < length self.now.locks }
-        ensures { IsSmallest (keeps_from_reading (locks_at self.now.locks x.0) t.0) (option_map (λ u. u.0) result) }
+        ensures { IsSmallest (blocks_read (locks_at self.now.locks x.0) t.0) (option_map (λ u. u.0) result) }
     {
-        self.rows[x.0 as usize].update_against(t, Mode::Read)
+        self.rows[x.0 as usize].blocking_update(t, Mode::Read)
     }
 
     /// The smallest update that keeps transaction `t` from writing the item: another that has read
@@ -161,9 +161,9 @@ impl LockTable {
     #[inline(always)]
     pub fn may_write(&self, t: TxnId, x: ItemId) -> Option<TxnId>
         requires { x.0 < length self.now.locks }
-        ensures { IsSmallest (keeps_from_writing (locks_at self.now.locks x.0) t.0) (option_map (λ u. u.0) result) }
+        ensures { IsSmallest (blocks_write (locks_at self.now.locks x.0) t.0) (option_map (λ u. u.0) result) }
     {
-        self.rows[x.0 as usize].update_against(t, Mode::Write)
+        self.rows[x.0 as usize].blocking_update(t, Mode::Write)
     }
 
     /// The update that has written the item.
@@ -189,7 +189,7 @@ impl LockTable {
     pub fn items_of(&self, t: TxnId) -> &[ItemId]
         ensures within { All (λ i. i.0 < length self.now.locks) result.now }
         ensures listed { (x : ℕ) → x < length self.now.locks → has_lock (locks_at self.now.locks x) t.0 ≡ true
-            → lists_item result.now x ≡ true }
+            → contains_item result.now x ≡ true }
     {
         listed(&self.held, t)
     }
@@ -200,13 +200,13 @@ impl LockTable {
     pub fn reserve(&mut self, t: TxnId, x: ItemId) -> Result<(), NoMemory>
         requires { x.0 < length self.old.locks }
         ensures locks { self.new.locks ≡ self.old.locks }
-        ensures ok { OnOk result (0 < room_for self.new t.0 x.0) }
-        ensures full { OnErr result (room_for self.old t.0 x.0 ≡ 0) }
+        ensures ok { OnOk result (0 < locks_that_fit self.new t.0 x.0) }
+        ensures full { OnErr result (locks_that_fit self.old t.0 x.0 ≡ 0) }
     {
         if self.rows[x.0 as usize].reserve().is_err() {
             return Err(NoMemory);
         }
-        if make_lists(&mut self.held, self.alloc, t).is_err() {
+        if ensure_lists(&mut self.held, self.alloc, t).is_err() {
             return Err(NoMemory);
         }
         if self.held[t.0 as usize].reserve().is_err() {
@@ -219,10 +219,10 @@ impl LockTable {
     #[inline(always)]
     fn add(&mut self, t: TxnId, x: ItemId, mode: Mode)
         requires item { x.0 < length self.old.locks }
-        requires room { 0 < room_for self.old t.0 x.0 }
+        requires capacity_left { 0 < locks_that_fit self.old t.0 x.0 }
         requires few { mode ≡ Mode.QueryRead
             → All (λ r. r.0 ≡ t.0 → r.1 < MAX_READS) (locks_at self.old.locks x.0).queries }
-        ensures again { has_such mode (locks_at self.old.locks x.0) t.0 ≡ true → self.new.list_rooms ≡ self.old.list_rooms }
+        ensures already_locked { has_lock_in_mode mode (locks_at self.old.locks x.0) t.0 ≡ true → self.new.list_capacities ≡ self.old.list_capacities }
         ensures locks { self.new.locks ≡ slice_set self.old.locks x.0 (with_lock mode t.0 (locks_at self.old.locks x.0)) }
     {
         if self.rows[x.0 as usize].add(t, mode) {
@@ -234,8 +234,8 @@ impl LockTable {
     #[inline(always)]
     pub fn add_read_update(&mut self, t: TxnId, x: ItemId)
         requires item { x.0 < length self.old.locks }
-        requires room { 0 < room_for self.old t.0 x.0 }
-        ensures again { has_update_lock (locks_at self.old.locks x.0) t.0 ≡ true → self.new.list_rooms ≡ self.old.list_rooms }
+        requires capacity_left { 0 < locks_that_fit self.old t.0 x.0 }
+        ensures already_locked { has_update_lock (locks_at self.old.locks x.0) t.0 ≡ true → self.new.list_capacities ≡ self.old.list_capacities }
         ensures locks { self.new.locks ≡ slice_set self.old.locks x.0 (with_reader t.0 (locks_at self.old.locks x.0)) }
     {
         self.add(t, x, Mode::Read);
@@ -245,8 +245,8 @@ impl LockTable {
     #[inline(always)]
     pub fn add_write(&mut self, t: TxnId, x: ItemId)
         requires item { x.0 < length self.old.locks }
-        requires room { 0 < room_for self.old t.0 x.0 }
-        ensures again { has_update_lock (locks_at self.old.locks x.0) t.0 ≡ true → self.new.list_rooms ≡ self.old.list_rooms }
+        requires capacity_left { 0 < locks_that_fit self.old t.0 x.0 }
+        ensures already_locked { has_update_lock (locks_at self.old.locks x.0) t.0 ≡ true → self.new.list_capacities ≡ self.old.list_capacities }
         ensures locks { self.new.locks ≡ slice_set self.old.locks x.0 (with_writer t.0 (locks_at self.old.locks x.0)) }
     {
         self.add(t, x, Mode::Write);
@@ -255,9 +255,9 @@ impl LockTable {
     /// Adds the lock of a query that has read the item, or counts one more read, and then the item is not listed again.
     pub fn add_read_query(&mut self, q: TxnId, x: ItemId)
         requires item { x.0 < length self.old.locks }
-        requires room { 0 < room_for self.old q.0 x.0 }
+        requires capacity_left { 0 < locks_that_fit self.old q.0 x.0 }
         requires few { All (λ r. r.0 ≡ q.0 → r.1 < MAX_READS) (locks_at self.old.locks x.0).queries }
-        ensures again { has_query_lock (locks_at self.old.locks x.0) q.0 ≡ true → self.new.list_rooms ≡ self.old.list_rooms }
+        ensures already_locked { has_query_lock (locks_at self.old.locks x.0) q.0 ≡ true → self.new.list_capacities ≡ self.old.list_capacities }
         ensures locks { self.new.locks ≡ slice_set self.old.locks x.0 (with_query_read q.0 (locks_at self.old.locks x.0)) }
     {
         self.add(q, x, Mode::QueryRead);
@@ -268,6 +268,6 @@ impl LockTable {
         ensures { self.new.locks ≡ map (released t.0) self.old.locks }
     {
         release_each(&mut self.rows, listed(&self.held, t), t);
-        empty_list(&mut self.held, self.alloc, t);
+        clear_list(&mut self.held, self.alloc, t);
     }
 }

@@ -79,10 +79,10 @@ accesses_along t es = ap (filter_map access_in) (entries_from accepted_txn t [] 
 pub record IsBackTo (es : List Entry) (t : ℕ) (accesses : List Access) (next : Option ℕ) : Type 0 where
   pub places : List ℕ
   pub walk : IsWalk accepted_txn t es places next
-  pub gave : reverse accesses ≡ filter_map access_in (filter_map (slice_get es) (reverse places))
+  pub restored : reverse accesses ≡ filter_map access_in (filter_map (slice_get es) (reverse places))
 
 pub back_none : (es : List Entry) (t : ℕ) (next : Option ℕ) → next ≡ last_place accepted_txn t es → IsBackTo es t [] next
-back_none es t next is = record { places = []; walk = walk_none accepted_txn t es next is; gave = refl }
+back_none es t next is = record { places = []; walk = walk_none accepted_txn t es next is; restored = refl }
 
 module _ (es : List Entry) (t : ℕ) (accesses : List Access) (next : Option ℕ) (b : IsBackTo es t accesses next) where
   -- one entry further back
@@ -90,9 +90,9 @@ module _ (es : List Entry) (t : ℕ) (accesses : List Access) (next : Option ℕ
   back_more i is o gives more grown after then_is = record {
     places = b.places ++ i ∷ [];
     walk = walk_next accepted_txn txn_in (accepted_owns txn_in) t es b.places next b.walk i is (b.places ++ i ∷ []) after refl then_is;
-    gave =
+    restored =
         grown
-        ∙ (ap (cons_option o) b.gave
+        ∙ (ap (cons_option o) b.restored
         ∙ (at (slice_get es i) o gives
         ∙ ap (λ l. filter_map access_in (filter_map (slice_get es) l)) (sym (reverse-append b.places (i ∷ [])))));
   }
@@ -105,7 +105,7 @@ module _ (es : List Entry) (t : ℕ) (accesses : List Access) (next : Option ℕ
   back_smaller i is after then_is = walk_smaller accepted_txn txn_in (accepted_owns txn_in) t es b.places next b.walk i is after then_is
 
   pub back_done : next ≡ None → reverse accesses ≡ accesses_in es t
-  back_done none = b.gave ∙ (ap (λ l. filter_map access_in (filter_map (slice_get es) l)) (walk_done accepted_txn t es b.places next none b.walk) ∙ accesses_along t es)
+  back_done none = b.restored ∙ (ap (λ l. filter_map access_in (filter_map (slice_get es) l)) (walk_done accepted_txn t es b.places next none b.walk) ∙ accesses_along t es)
 
 -- they are on items of the history
 pub accesses_inside : (d : Distance) (h : Schedule) → IsLegal d h → (t n : ℕ) → n ≡ length h.opening → All (λ a. a.item.0 < n) (accesses_in h.entries t)

@@ -11,7 +11,7 @@ use Rattle.esr_history.proofs.Membership.{Pairs-from_all}
 use Rattle.esr_order.specs.UpdateOperations.{UpdateOperation}
 use Rattle.esr_order.specs.Turns.{turns}
 use Rattle.esr_order.specs.Placements.{is_among}
-use Rattle.esr_order.specs.Listing.{IsBelow}
+use Rattle.esr_order.specs.ConflictPairs.{IsLexLess}
 use Rattle.esr_order.specs.Conflicts.{on_item, AreConflicts, AreNextPaired}
 use Rattle.esr_order.specs.Chains.{Chain, chain_from, last_by_update, nth}
 use Rattle.esr_order.specs.Orders.{IsOrderAmong}
@@ -31,7 +31,7 @@ module _ (d : Distance) (h : Schedule) (legal : IsLegal d h) (commits : List Txn
   pub few_pairs : (before : List (ℕ × ℕ)) → AreConflicts steps before → length before ≤ 2 * length (filter (λ o. is_among (map (λ t. t.0) commits) o.txn) (operations h))
   few_pairs before conflicting = omega (arith, conflicting.few, turns_of.counted (operations h) 0 us (Pairs-from_all (λ u v. u ≢ v) us once))
 
-  pub made : (before : List (ℕ × ℕ)) → AllPairs IsBelow before → AreConflicts steps before × ((x : ℕ) → AreNextPaired before (filter (λ s. s.writes) (on_item x steps)))
+  pub made : (before : List (ℕ × ℕ)) → AllPairs IsLexLess before → AreConflicts steps before × ((x : ℕ) → AreNextPaired before (filter (λ s. s.writes) (on_item x steps)))
       → (chains : List Chain) → chains ≡ map (λ x. chain_from (last_by_update steps x) (length commits)) (range_with_len 0 (length h.opening))
       → (n : ℕ) → n ≤ length commits → (first : List ℕ) → first ≡ range_with_len 0 n
       → (q : ℕ) → map (nth (map (λ t. t.0) commits)) (range_with_len 0 n) ≡ must h q

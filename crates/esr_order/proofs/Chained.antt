@@ -6,7 +6,7 @@ use Rattle.std.proofs.lemmas.List.{reverse-append}
 use Rattle.esr_history.proofs.Membership.{In, In-of_filter, Pairs, Pairs-filter, each_at, filter_none_in}
 use Rattle.esr_order.specs.UpdateOperations.{UpdateOperation}
 use Rattle.esr_order.specs.Chains.{Chain, chain_from, last_in, last_of, last_by_update, latest_writer, is_latest, with_write, turned}
-use Rattle.esr_order.specs.Later.{nobody, chain_back}
+use Rattle.esr_order.specs.Later.{no_one, chain_back}
 use Rattle.esr_order.proofs.Kept.{last_put}
 use Rattle.esr_order.proofs.Placing.{chain_agree}
 
@@ -59,7 +59,7 @@ module _ (f g : ℕ → Option ℤ) (a : ℕ) (v : ℤ) (here : g a ≡ Some v) 
   pub chain_first : (n : ℕ) → a < n → record { writers = a ∷ (chain_from f n).writers; values = v ∷ (chain_from f n).values } ≡ chain_from g n
   chain_first n below = λ k. record { writers = sym (writers 0 n (omega arith) (omega (arith, below))) k; values = sym (values 0 n (omega arith) (omega (arith, below))) k }
 
-none_from : (n : ℕ) → nobody ≡ chain_from (λ i. None) n
+none_from : (n : ℕ) → no_one ≡ chain_from (λ i. None) n
 none_from n = λ k. record { writers = sym (ws 0 n) k; values = sym (vs 0 n) k }
   where
     none : ℕ → Option ℤ
@@ -75,7 +75,7 @@ none_from n = λ k. record { writers = sym (ws 0 n) k; values = sym (vs 0 n) k }
 
 -- the chain of some writes of one item, back from the last
 abbrev back : List UpdateOperation → Chain
-back [] = nobody
+back [] = no_one
 back (w ∷ ws) = with_write (back ws) w.place w.value
 
 abbrev writes_of : ℕ → List UpdateOperation → List UpdateOperation

@@ -21,7 +21,7 @@ use Rattle.esr_history.proofs.Membership.{In, In-from_any, In-Contains, Contains
 use Rattle.esr_history.proofs.Bounded.{In-before_first, before_first-here, before_first-later}
 use Rattle.esr_history.proofs.WithinRanges.{legal_begins}
 use Rattle.esr_history.proofs.Words.{committed_among, trace}
-use Rattle.esr_history.proofs.Lawful.{begun_number}
+use Rattle.esr_history.proofs.Lawful.{begun_in_range}
 use Rattle.esr_history.proofs.Locking.{known}
 use Rattle.esr_history.proofs.Reaches.{legal_reached}
 use Rattle.esr_order.specs.Scans.{commit_by, commit_in, commits_in, is_commit_at, is_end_before, is_ended_before, has_ended_before, end_in, begins_strictly, AreEnds}
@@ -297,14 +297,14 @@ ends_more es t ends more end is grown was = subst (AreEndsBelow es (t + 1)) (sym
 pub known_below : (d : Distance) (h : Schedule) → IsLegal d h → (t : ℕ) (f : Facts) → Some f ≡ facts_of h.entries t → (1 ≤ t) × (t ≤ 65535)
 known_below d h legal t f some =
     let s = facts_some h.entries t f some in
-    let n = begun_number (accepted_in h) t (ap is_some s.1) in
+    let n = begun_in_range (accepted_in h) t (ap is_some s.1) in
     let most : length (beginnings (accepted_in h)) ≤ 65535 = legal_begins d h legal in
     (n.0, omega (arith, n.1, most))
 
 pub ends_all : (h : Schedule) (t : ℕ) (ends found : List ℕ) → 1 ≤ t → None ≡ facts_of h.entries t → AreEndsBelow h.entries t ends → ((p : ℕ) → In p ends → Contains found p) → ((p : ℕ) → Contains found p → In p ends) → AreEnds h found
 ends_all h t ends found low none below there back = record {
   all = λ k p begun is.
-      let n = begun_number (accepted_in h) k begun in
+      let n = begun_in_range (accepted_in h) k begun in
       let under : k < t = below_end t low (facts_none h.entries t none) k n.1 in
       there p (below.all k p n.0 under is);
   only = λ p c. below.only p (back p c);

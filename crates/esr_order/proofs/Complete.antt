@@ -14,7 +14,7 @@ use Rattle.esr_history.proofs.Words.{values_trace}
 use Rattle.esr_history.proofs.WithinRanges.{legal_items}
 use Rattle.esr_order.specs.UpdateOperations.{UpdateOperation}
 use Rattle.esr_order.specs.Turns.{turns}
-use Rattle.esr_order.specs.Listing.{is_pair, IsBelow}
+use Rattle.esr_order.specs.ConflictPairs.{is_conflict_pair, IsLexLess}
 use Rattle.esr_order.specs.Conflicts.{AreConflicts, AreNextPaired}
 use Rattle.esr_order.specs.Chains.{Chain, chain_from, if_written, some_chain, last_of, last_in, last_by_update, last_among, nth, chain_among}
 use Rattle.esr_order.specs.Orders.{Ordered, chain_at, written_chain, IsClosedAt, IsClosedOn, IsOrderAmong, IsOrderOf}
@@ -55,7 +55,7 @@ module _ (d : Distance) (h : Schedule) (q : ℕ) (legal : IsLegal d h) (us : Lis
   abbrev steps : List UpdateOperation
   steps = turns (operations h) 0 us
 
-  same_pairs : (i j : ℕ) → i < length us → j < length us → is_pair steps i j ≡ is_before h (nth us i) (nth us j)
+  same_pairs : (i j : ℕ) → i < length us → j < length us → is_conflict_pair steps i j ≡ is_before h (nth us i) (nth us j)
   same_pairs i j li lj = pair_before h us once keeps i j li lj
 
   last_same : (x i : ℕ) → i < length us → last_by_update steps x i ≡ last_among h us x i
@@ -67,14 +67,14 @@ module _ (d : Distance) (h : Schedule) (q : ℕ) (legal : IsLegal d h) (us : Lis
   rising : (x : ℕ) → Pairs (λ (a b : UpdateOperation). a.place ≤ b.place) (writes_in (on x steps))
   rising x = Pairs-filter (λ (a b : UpdateOperation). a.place ≤ b.place) (λ (s : UpdateOperation). s.writes) (on x steps) (Pairs-filter (λ (a b : UpdateOperation). a.place ≤ b.place) (λ (s : UpdateOperation). eqb s.item x) steps (rises (operations h) 0 us))
 
-  module _ (before : List (ℕ × ℕ)) (ascends : AllPairs IsBelow before) (conflicting : AreConflicts steps before) (next : (x : ℕ) → AreNextPaired before (writes_in (on x steps))) (n : ℕ) (part : n ≤ length us) (musts : map (nth us) (range_with_len 0 n) ≡ must h q) (few : length us ≤ 65535) (commits : List TxnId) where
+  module _ (before : List (ℕ × ℕ)) (ascends : AllPairs IsLexLess before) (conflicting : AreConflicts steps before) (next : (x : ℕ) → AreNextPaired before (writes_in (on x steps))) (n : ℕ) (part : n ≤ length us) (musts : map (nth us) (range_with_len 0 n) ≡ must h q) (few : length us ≤ 65535) (commits : List TxnId) where
     abbrev found : Ordered
     found = record { commits = commits; before = before; must = range_with_len 0 n; chains = map (λ x. chain_from (last_by_update steps x) (length us)) (range_with_len 0 (length h.opening)) }
 
     upward : All (λ p. (p.0 < p.1) × (p.1 < length us) × IsTrue (is_before h (nth us p.0) (nth us p.1))) before
     upward k e l =
         let p = get_or before k e in
-        let is : is_pair steps p.0 p.1 ≡ true = conflicting.sound k e l in
+        let is : is_conflict_pair steps p.0 p.1 ≡ true = conflicting.sound k e l in
         let w = pair_inside h us once keeps p.0 p.1 is in
         let b : is_before h (nth us p.0) (nth us p.1) ≡ true = sym (same_pairs p.0 p.1 w.0 w.1) ∙ is in
         (up h us once keeps p.0 p.1 w.0 w.1 b, w.1, b)
@@ -84,7 +84,7 @@ module _ (d : Distance) (h : Schedule) (q : ℕ) (legal : IsLegal d h) (us : Lis
       downward = λ u v cu cv b sv.
           let at_u : nth us cu.0 ≡ u = same_default us cu.0 0 u cu.1 ∙ cu.2 in
           let at_v : nth us cv.0 ≡ v = same_default us cv.0 0 v cv.1 ∙ cv.2 in
-          let pair : is_pair steps cu.0 cv.0 ≡ true = same_pairs cu.0 cv.0 cu.1 cv.1 ∙ (ap (λ w. is_before h w (nth us cv.0)) at_u ∙ (ap (is_before h u) at_v ∙ b)) in
+          let pair : is_conflict_pair steps cu.0 cv.0 ≡ true = same_pairs cu.0 cv.0 cu.1 cv.1 ∙ (ap (λ w. is_before h w (nth us cv.0)) at_u ∙ (ap (is_before h u) at_v ∙ b)) in
           ap S (sym at_u) ∙ conflicting.closed (λ i. S (nth us i)) c.downward cu.0 cv.0 pair (ap S at_v ∙ sv);
       holds_must = λ u m.
           let i : In u (map (nth us) (range_with_len 0 n)) = subst (In u) (sym (musts)) (Contains-In (must h q) u m) in

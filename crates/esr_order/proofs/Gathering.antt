@@ -10,11 +10,11 @@ use Rattle.esr_history.specs.Operations.{Operation, operations}
 use Rattle.esr_history.proofs.Membership.{In, In-Contains, Contains-In, In-append_cases, In-append_left, In-append_right, Pairs, Pairs-append, Pairs-from_all, All-from_pairs, each_at}
 use Rattle.esr_order.specs.UpdateOperations.{UpdateOperation}
 use Rattle.esr_order.specs.Scans.{access_of, accesses_in, Access}
-use Rattle.esr_order.specs.Listing.{IsBelow}
+use Rattle.esr_order.specs.ConflictPairs.{IsLexLess}
 use Rattle.esr_order.specs.Turns.{placed_operation, operation_at, turn, turns}
 use Rattle.esr_order.specs.Conflicts.{pair_of, pairs_from, AreConflicts, AreNextPaired, on_item}
 use Rattle.esr_order.specs.Chains.{Chain, chain_from, last_by_update, turned}
-use Rattle.esr_order.specs.Later.{nobody, chain_back, readers_of, with_operation, readers_with, conflicts_of, turn_conflicts, AreLater}
+use Rattle.esr_order.specs.Later.{no_one, chain_back, readers_of, with_operation, readers_with, conflicts_of, turn_conflicts, AreLater}
 use Rattle.esr_order.proofs.Kept.{Pair, Kept, kept_same, kept_turn, open_reads, turn_count, pairs_few, in_pairs_from, of_pairs_from, next_paired, writes_in, on, conflicting_all}
 use Rattle.esr_order.proofs.Chained.{chain_turned}
 use Rattle.esr_order.proofs.Turns as turns_of
@@ -51,18 +51,18 @@ abbrev pub no_txn : TxnId
 no_txn = record { 0 = 0 }
 
 pub later_operation : (links : List Chain) (rows : List (List ℕ)) (steps : List UpdateOperation) (s : UpdateOperation) → AreLater links rows steps → s.item < length links → s.item < length rows
-    → (link : Chain) → link ≡ with_operation (get_or links s.item nobody) s → (row : List ℕ) → row ≡ readers_with (get_or rows s.item []) s
+    → (link : Chain) → link ≡ with_operation (get_or links s.item no_one) s → (row : List ℕ) → row ≡ readers_with (get_or rows s.item []) s
     → AreLater (slice_set links s.item link) (slice_set rows s.item row) (s ∷ steps)
 later_operation links rows steps s are linked read link put row added = record {
   chains = λ x l. ⊎_elim
       (λ e.
-      ap (λ y. get_or (slice_set links s.item link) y nobody) (sym e)
-      ∙ (get_or-set_same links s.item link nobody linked
+      ap (λ y. get_or (slice_set links s.item link) y no_one) (sym e)
+      ∙ (get_or-set_same links s.item link no_one linked
       ∙ (put
       ∙ (ap (λ c. with_operation c s) (are.chains s.item linked ∙ ap (λ y. chain_back y steps) e)
       ∙ ap (λ b. cond b (with_operation (chain_back x steps) s) (chain_back x steps)) (sym (eq-eqb s.item x e))))))
       (λ ne.
-      get_or-set_other links s.item x link nobody (λ e. ne (sym e))
+      get_or-set_other links s.item x link no_one (λ e. ne (sym e))
       ∙ (are.chains x (omega (arith, l, length-set links s.item link))
       ∙ ap (λ b. cond b (with_operation (chain_back x steps) s) (chain_back x steps)) (sym (ne_eqb s.item x ne))))
       (cases_eq s.item x);
@@ -98,8 +98,8 @@ module _ {V W : Type 0} (see : V → Chain) (read : W → List ℕ) (chains : Li
     abbrev row : List ℕ
     row = read (get_or readers access.item.0 e)
 
-    link_is : get_or (map see chains) access.item.0 nobody ≡ link
-    link_is = get_or-map see chains access.item.0 d nobody linked
+    link_is : get_or (map see chains) access.item.0 no_one ≡ link
+    link_is = get_or-map see chains access.item.0 d no_one linked
 
     row_is : get_or (map read readers) access.item.0 [] ≡ row
     row_is = get_or-map read readers access.item.0 e [] in_rows
@@ -156,12 +156,12 @@ pub record IsGathered (h : Schedule) (updates : List TxnId) (i : ℕ) (links : L
   pub later : AreLater links rows (rest h updates i)
   pub kept : Kept (rest h updates i) pairs
   pub few : length pairs + length (open_reads (rest h updates i)) ≤ 2 * length (rest h updates i)
-  pub falling : Pairs (λ p r. IsBelow r p) pairs
+  pub falling : Pairs (λ p r. IsLexLess r p) pairs
   pub above : (p : Pair) → In p pairs → i ≤ p.0
 
-below_from : (i : ℕ) (js : List ℕ) → Pairs (λ j k. j < k) js → Pairs IsBelow (pairs_from i js)
+below_from : (i : ℕ) (js : List ℕ) → Pairs (λ j k. j < k) js → Pairs IsLexLess (pairs_from i js)
 below_from i [] p = tt
-below_from i (j ∷ js) p = Pairs-append IsBelow (pair_of i j) (pairs_from i js) one (below_from i js p.1)
+below_from i (j ∷ js) p = Pairs-append IsLexLess (pair_of i j) (pairs_from i js) one (below_from i js p.1)
     (λ a b k l.
     let x = of_pairs_from (j ∷ []) i a (In-append_left (pair_of i j) [] a k) in
     let y = of_pairs_from js i b l in
@@ -169,11 +169,11 @@ below_from i (j ∷ js) p = Pairs-append IsBelow (pair_of i j) (pairs_from i js)
     let lt : j < b.1 = each_at (λ k. j < k) js b.1 p.0 y.1 in
     inr (x.0 ∙ sym y.0, omega (arith, aj, lt)))
   where
-    both : (b : Bool) → Pairs IsBelow (cond b [] ((i, j) ∷ []))
+    both : (b : Bool) → Pairs IsLexLess (cond b [] ((i, j) ∷ []))
     both true = tt
     both false = (tt, tt)
 
-    one : Pairs IsBelow (pair_of i j)
+    one : Pairs IsLexLess (pair_of i j)
     one = both (eqb i j)
 
 -- with one update more
@@ -193,7 +193,7 @@ gathered_more h updates i next is inside d links rows pairs g accesses made more
           (kept_turn i own_operations later pairs (placed_at i accesses) g.kept));
       few = subst (λ ss. length (pairs ++ reverse own) + length (open_reads ss) ≤ 2 * length ss) whole
           (omega (arith, g.few, few, ap length conflicting, turn_count own_operations later, length-append pairs (reverse own), length-reverse own, pairs_few others i, length-append own_operations later));
-      falling = Pairs-append (λ p r. IsBelow r p) pairs (reverse own) g.falling (Pairs-reverse IsBelow own (below_from i others (Pairs-from_all (λ j k. j < k) others ascends)))
+      falling = Pairs-append (λ p r. IsLexLess r p) pairs (reverse own) g.falling (Pairs-reverse IsLexLess own (below_from i others (Pairs-from_all (λ j k. j < k) others ascends)))
           (λ p r j k.
           let high : next ≤ p.0 = g.above p j in
           let low : r.0 ≡ i = (of_pairs_from others i r (In-of_reverse own r k)).0 in
@@ -234,8 +234,8 @@ module _ (h : Schedule) (updates : List TxnId) (i : ℕ) (is : i ≡ 0) (links :
   kept : Kept steps (reverse pairs)
   kept = subst (λ ss. Kept ss (reverse pairs)) all (kept_same (rest h updates i) pairs (reverse pairs) (λ p j. In-reverse pairs p j) (λ p j. In-of_reverse pairs p j) g.kept)
 
-  pub gathered_ascending : AllPairs IsBelow (reverse pairs)
-  gathered_ascending = All-from_pairs IsBelow (reverse pairs) (Pairs-reverse (λ p r. IsBelow r p) pairs g.falling)
+  pub gathered_ascending : AllPairs IsLexLess (reverse pairs)
+  gathered_ascending = All-from_pairs IsLexLess (reverse pairs) (Pairs-reverse (λ p r. IsLexLess r p) pairs g.falling)
 
   pub gathered_conflicting : AreConflicts steps (reverse pairs)
   gathered_conflicting = conflicting_all steps (reverse pairs) kept (let few = g.few in omega (arith, few, ap length all, length-reverse pairs))
@@ -252,7 +252,7 @@ module _ (h : Schedule) (updates : List TxnId) (i : ℕ) (is : i ≡ 0) (links :
       turned_is : (x : ℕ) → turned (chain_back x (rest h updates i)) ≡ chain_from (last_by_update steps x) (length updates)
       turned_is x = ap (λ ss. turned (chain_back x ss)) all ∙ chain_turned x (length updates) steps (turns_of.rises (operations h) 0 (map (λ (t : TxnId). t.0) updates)) below
 
-      each : (cs : List Chain) (a : ℕ) → ((x : ℕ) → x < length cs → get_or cs x nobody ≡ chain_back (a + x) (rest h updates i)) → map turned cs ≡ map (λ x. chain_from (last_by_update steps x) (length updates)) (range_with_len a (length cs))
+      each : (cs : List Chain) (a : ℕ) → ((x : ℕ) → x < length cs → get_or cs x no_one ≡ chain_back (a + x) (rest h updates i)) → map turned cs ≡ map (λ x. chain_from (last_by_update steps x) (length updates)) (range_with_len a (length cs))
       each [] a are = refl
       each (c ∷ cs) a are =
           let z : a + 0 ≡ a = omega arith in

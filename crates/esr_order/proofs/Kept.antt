@@ -9,7 +9,7 @@ use Rattle.std.proofs.lemmas.List.Elements.{All-contains, All-from_recursion, fi
 use Rattle.esr_history.specs.Serial.{any_pair}
 use Rattle.esr_history.proofs.Membership.{In, In-Contains, In-append_cases, In-append_left, In-append_right, any-from_In, In-any, each_in}
 use Rattle.esr_order.specs.UpdateOperations.{UpdateOperation}
-use Rattle.esr_order.specs.Listing.{clash, is_pair}
+use Rattle.esr_order.specs.ConflictPairs.{operations_conflict, is_conflict_pair}
 use Rattle.esr_order.specs.Conflicts.{pair_of, pairs_from, AreConflicts, AreNextPaired}
 use Rattle.esr_order.specs.Chains.{Chain, latest_writer, is_latest, with_write}
 use Rattle.esr_order.specs.Later.{chain_back, readers_of, writer_in, later_conflicts, turn_conflicts}
@@ -22,19 +22,19 @@ abbrev pub Holds : (ℕ → Bool) → List Pair → Type 0
 Holds S pairs = (p : Pair) → In p pairs → S p.1 ≡ true → S p.0 ≡ true
 
 abbrev test : ℕ → ℕ → UpdateOperation → UpdateOperation → Bool
-test i j a b = eqb a.place i && (eqb b.place j && clash a b)
+test i j a b = eqb a.place i && (eqb b.place j && operations_conflict a b)
 
 -- what a clash says
-pub clash_parts : (a b : UpdateOperation) → clash a b ≡ true → (a.place ≡ b.place → ⊥) × ((a.writes || b.writes) ≡ true)
+pub clash_parts : (a b : UpdateOperation) → operations_conflict a b ≡ true → (a.place ≡ b.place → ⊥) × ((a.writes || b.writes) ≡ true)
 clash_parts a b h =
     let p = and_parts (not (eqb a.place b.place)) (eqb a.item b.item && (a.writes || b.writes)) h in
     let q = and_parts (eqb a.item b.item) (a.writes || b.writes) p.1 in
     ((λ e. eqb-false a.place b.place (Rattle.std.proofs.lemmas.Bool.not-true (eqb a.place b.place) p.0) e), q.1)
 
-clash_item : (a b : UpdateOperation) → clash a b ≡ true → a.item ≡ b.item
+clash_item : (a b : UpdateOperation) → operations_conflict a b ≡ true → a.item ≡ b.item
 clash_item a b h = eqb-true a.item b.item (and_parts (eqb a.item b.item) (a.writes || b.writes) (and_parts (not (eqb a.place b.place)) (eqb a.item b.item && (a.writes || b.writes)) h).1).0
 
-pub clash_from : (a b : UpdateOperation) → (a.place ≡ b.place → ⊥) → a.item ≡ b.item → (a.writes || b.writes) ≡ true → clash a b ≡ true
+pub clash_from : (a b : UpdateOperation) → (a.place ≡ b.place → ⊥) → a.item ≡ b.item → (a.writes || b.writes) ≡ true → operations_conflict a b ≡ true
 clash_from a b ne same w =
     and_from (not (eqb a.place b.place)) (eqb a.item b.item && (a.writes || b.writes)) (not_from_false (eqb a.place b.place) (ne_eqb a.place b.place ne))
     (and_from (eqb a.item b.item) (a.writes || b.writes) (eq-eqb a.item b.item same) w)
@@ -146,18 +146,18 @@ readers_from x (z ∷ zs) r i = at (eqb z.item x) refl z.writes (readers_from x 
     at true e false rest h = ⊎_elim (λ j. later (rest j)) (λ j. ⊎_elim (λ p. (z, inl refl, eqb-true z.item x e, p)) (λ b. absurd b) j) (In-append_cases (readers_of x zs) (z.place ∷ []) r h)
     at false e writes rest h = later (rest h)
 
-pair_front : (s : UpdateOperation) (ss : List UpdateOperation) (b : UpdateOperation) → In b ss → clash s b ≡ true → is_pair (s ∷ ss) s.place b.place ≡ true
+pair_front : (s : UpdateOperation) (ss : List UpdateOperation) (b : UpdateOperation) → In b ss → operations_conflict s b ≡ true → is_conflict_pair (s ∷ ss) s.place b.place ≡ true
 pair_front s ss b i c =
     or_left (list_any (test s.place b.place s) ss) (any_pair (test s.place b.place) ss)
     (any-from_In (test s.place b.place s) ss b i
-    (and_from (eqb s.place s.place) (eqb b.place b.place && clash s b) (eq-eqb s.place s.place refl) (and_from (eqb b.place b.place) (clash s b) (eq-eqb b.place b.place refl) c)))
+    (and_from (eqb s.place s.place) (eqb b.place b.place && operations_conflict s b) (eq-eqb s.place s.place refl) (and_from (eqb b.place b.place) (operations_conflict s b) (eq-eqb b.place b.place refl) c)))
 
-pair_later : (s : UpdateOperation) (ss : List UpdateOperation) (i j : ℕ) → is_pair ss i j ≡ true → is_pair (s ∷ ss) i j ≡ true
+pair_later : (s : UpdateOperation) (ss : List UpdateOperation) (i j : ℕ) → is_conflict_pair ss i j ≡ true → is_conflict_pair (s ∷ ss) i j ≡ true
 pair_later s ss i j h = or_right (list_any (test i j s) ss) (any_pair (test i j) ss) h
 
 -- the next writer is the step's, or before it
 abbrev Reached : List UpdateOperation → ℕ → Option ℕ → Type 0
-Reached ss place o = (w : ℕ) × (o ≡ Some w) × ((w ≡ place) ⊎ (is_pair ss w place ≡ true))
+Reached ss place o = (w : ℕ) × (o ≡ Some w) × ((w ≡ place) ⊎ (is_conflict_pair ss w place ≡ true))
 
 -- a step is a read until the next write, or that write is before it
 reach : (x : ℕ) (ss : List UpdateOperation) (b : UpdateOperation) → In b ss → b.item ≡ x → (In b.place (readers_of x ss) × (b.writes ≡ false)) ⊎ Reached ss b.place (latest_writer (chain_back x ss))
@@ -212,8 +212,8 @@ first_write x (z ∷ zs) = at (eqb z.item x) z.writes (first_write x zs)
 -- ---- the pairs of some steps
 
 pub record Kept (ss : List UpdateOperation) (pairs : List Pair) : Type 0 where
-  pub sound : (p : Pair) → In p pairs → is_pair ss p.0 p.1 ≡ true
-  pub covers : (S : ℕ → Bool) → Holds S pairs → (i j : ℕ) → is_pair ss i j ≡ true → S j ≡ true → S i ≡ true
+  pub sound : (p : Pair) → In p pairs → is_conflict_pair ss p.0 p.1 ≡ true
+  pub covers : (S : ℕ → Bool) → Holds S pairs → (i j : ℕ) → is_conflict_pair ss i j ≡ true → S j ≡ true → S i ≡ true
   pub next : (x : ℕ) → Next (writes_in (on x ss)) pairs
 
 -- the same pairs in another order
@@ -252,21 +252,21 @@ module _ (s : UpdateOperation) (ss : List UpdateOperation) (pairs : List Pair) (
   later_holds : (S : ℕ → Bool) → Holds S (own ++ pairs) → Holds S pairs
   later_holds S h p i = h p (In-append_right own pairs p i)
 
-  sound_conflict : (j : ℕ) → (s.place ≡ j → ⊥) → In j conflicts → is_pair (s ∷ ss) s.place j ≡ true
+  sound_conflict : (j : ℕ) → (s.place ≡ j → ⊥) → In j conflicts → is_conflict_pair (s ∷ ss) s.place j ≡ true
   sound_conflict j ne i =
       ⊎_elim
       (λ a. let b = writer_from s.item ss j (of_writer writer j a) in
-      subst (λ z. is_pair (s ∷ ss) s.place z ≡ true) b.4 (pair_front s ss b.0 b.1 (clash_from s b.0 (λ e. ne (e ∙ b.4)) (sym b.2) (or_right s.writes b.0.writes b.3))))
+      subst (λ z. is_conflict_pair (s ∷ ss) s.place z ≡ true) b.4 (pair_front s ss b.0 b.1 (clash_from s b.0 (λ e. ne (e ∙ b.4)) (sym b.2) (or_right s.writes b.0.writes b.3))))
       (λ a. read s.writes refl a)
       (In-append_cases (writer_in writer) (cond s.writes (readers_of s.item ss) []) j i)
     where
-      read : (w : Bool) → s.writes ≡ w → In j (cond w (readers_of s.item ss) []) → is_pair (s ∷ ss) s.place j ≡ true
+      read : (w : Bool) → s.writes ≡ w → In j (cond w (readers_of s.item ss) []) → is_conflict_pair (s ∷ ss) s.place j ≡ true
       read true wr a =
           let b = readers_from s.item ss j a in
-          subst (λ z. is_pair (s ∷ ss) s.place z ≡ true) b.3 (pair_front s ss b.0 b.1 (clash_from s b.0 (λ e. ne (e ∙ b.3)) (sym b.2) (or_left s.writes b.0.writes wr)))
+          subst (λ z. is_conflict_pair (s ∷ ss) s.place z ≡ true) b.3 (pair_front s ss b.0 b.1 (clash_from s b.0 (λ e. ne (e ∙ b.3)) (sym b.2) (or_left s.writes b.0.writes wr)))
       read false wr a = absurd a
 
-  front : (S : ℕ → Bool) → Holds S (own ++ pairs) → (b : UpdateOperation) → In b ss → clash s b ≡ true → S b.place ≡ true → S s.place ≡ true
+  front : (S : ℕ → Bool) → Holds S (own ++ pairs) → (b : UpdateOperation) → In b ss → operations_conflict s b ≡ true → S b.place ≡ true → S s.place ≡ true
   front S h b i c sb =
       ⊎_elim
       (λ r. holds S h b.place (to_reader b.place (⊎_elim (λ w. w) (λ w. absurd (true≢false (sym w ∙ r.1))) (or_cases s.writes b.writes (clash_parts s b c).1)) r.0) sb)
@@ -276,14 +276,14 @@ module _ (s : UpdateOperation) (ss : List UpdateOperation) (pairs : List Pair) (
   pub kept_operation : Kept (s ∷ ss) (own ++ pairs)
   kept_operation = record {
     sound = λ p i. ⊎_elim
-        (λ a. let q = of_pairs_from conflicts s.place p a in subst (λ z. is_pair (s ∷ ss) z p.1 ≡ true) (sym q.0) (sound_conflict p.1 q.2 q.1))
+        (λ a. let q = of_pairs_from conflicts s.place p a in subst (λ z. is_conflict_pair (s ∷ ss) z p.1 ≡ true) (sym q.0) (sound_conflict p.1 q.2 q.1))
         (λ b. pair_later s ss p.0 p.1 (k.sound p b))
         (In-append_cases own pairs p i);
     covers = λ S h i j c sj. ⊎_elim
         (λ e.
         let b = In-any (test i j s) ss e in
-        let p = and_parts (eqb s.place i) (eqb b.0.place j && clash s b.0) b.2 in
-        let q = and_parts (eqb b.0.place j) (clash s b.0) p.1 in
+        let p = and_parts (eqb s.place i) (eqb b.0.place j && operations_conflict s b.0) b.2 in
+        let q = and_parts (eqb b.0.place j) (operations_conflict s b.0) p.1 in
         subst (λ z. S z ≡ true) (eqb-true s.place i p.0) (front S h b.0 b.1 q.1 (ap S (eqb-true b.0.place j q.0) ∙ sj)))
         (λ e. k.covers S (later_holds S h) i j e sj)
         (or_cases (list_any (test i j s) ss) (any_pair (test i j) ss) c);
@@ -405,7 +405,7 @@ turn_count (s ∷ turn) ss = omega (arith, turn_count turn ss, operation_count s
 
 pub conflicting_all : (ss : List UpdateOperation) (pairs : List Pair) → Kept ss pairs → length pairs ≤ 2 * length ss → AreConflicts ss pairs
 conflicting_all ss pairs k few = record {
-  sound = All-from_recursion (λ (p : Pair). is_pair ss p.0 p.1 ≡ true) pairs (each_in (λ (p : Pair). is_pair ss p.0 p.1 ≡ true) pairs (λ p i. k.sound p i));
+  sound = All-from_recursion (λ (p : Pair). is_conflict_pair ss p.0 p.1 ≡ true) pairs (each_in (λ (p : Pair). is_conflict_pair ss p.0 p.1 ≡ true) pairs (λ p i. k.sound p i));
   closed = λ S d. k.covers S (λ p i. All-contains (λ (p : Pair). S p.1 ≡ true → S p.0 ≡ true) pairs p d (In-Contains pairs p i));
   few = few;
 }

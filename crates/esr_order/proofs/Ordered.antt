@@ -11,7 +11,7 @@ use Rattle.esr_history.specs.Serial.{is_before}
 use Rattle.esr_history.specs.Queries.{updates_of}
 use Rattle.esr_history.proofs.Membership.{In, Pairs, Pairs-left, In-of_filter, In-any, each_in, each_at, any-from_number}
 use Rattle.esr_history.proofs.Bounded.{In-before_first}
-use Rattle.esr_history.proofs.Lawful.{begun_number}
+use Rattle.esr_history.proofs.Lawful.{begun_in_range}
 use Rattle.esr_history.proofs.Locking.{known}
 use Rattle.esr_history.proofs.WithinRanges.{legal_begins}
 use Rattle.esr_history.proofs.Words.{trace}
@@ -40,7 +40,7 @@ module _ (d : Distance) (h : Schedule) (q : ℕ) (legal : IsLegal d h) where
   pub listed_begun : (u : ℕ) → In u (updates_of h q) → (1 ≤ u) × (u < 1 + length (beginnings (accepted_in h)))
   listed_begun u i =
       let c : In u (commit_order (accepted_in h)) = In-before_first (λ t. eqb t q) (commit_order (accepted_in h)) u (In-of_filter (is_update (accepted_in h)) (before_first (λ t. eqb t q) (commit_order (accepted_in h))) u i).0 in
-      begun_number (accepted_in h) u ((known (legal_reached d h legal)).of_ends u (or_left (list_any (λ w. eqb w u) (commit_order (accepted_in h))) (list_any (λ w. eqb w u) (trace h).aborts) (any-from_number (commit_order (accepted_in h)) u c)))
+      begun_in_range (accepted_in h) u ((known (legal_reached d h legal)).of_ends u (or_left (list_any (λ w. eqb w u) (commit_order (accepted_in h))) (list_any (λ w. eqb w u) (trace h).aborts) (any-from_number (commit_order (accepted_in h)) u c)))
 
   distinct : (us : List ℕ) → Pairs (λ u v. u ≡ v → ⊥) us → IsDistinct eqb us
   unfolding IsDistinct

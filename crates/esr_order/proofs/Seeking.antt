@@ -69,8 +69,8 @@ kind_is true false e = absurd (true≢false (sym e))
 kind_is false true e = absurd (true≢false e)
 kind_is false false e = refl
 
-did_so : (h : Schedule) (w : Bool) (x t : ℕ) → did h w x t ≡ true → (o : Operation) × In o (operations h) × (o.txn ≡ t) × (o.item ≡ x) × (o.writes ≡ w)
-did_so h w x t is =
+did_by_operation : (h : Schedule) (w : Bool) (x t : ℕ) → did h w x t ≡ true → (o : Operation) × In o (operations h) × (o.txn ≡ t) × (o.item ≡ x) × (o.writes ≡ w)
+did_by_operation h w x t is =
     let a = In-any (is_access w x) (accesses_in h.entries t) is in
     let o = of_map access_of (filter (λ (o : Operation). eqb o.txn t) (operations h)) a.0 a.1 in
     let p = In-of_filter (λ (o : Operation). eqb o.txn t) (operations h) o.0 o.1 in
@@ -80,8 +80,8 @@ did_so h w x t is =
 accessed : (h : Schedule) (o : Operation) (t : ℕ) → In o (operations h) → o.txn ≡ t → In (access_of o) (accesses_in h.entries t)
 accessed h o t i is = in_map access_of (filter (λ (o : Operation). eqb o.txn t) (operations h)) o (In-filter (λ (o : Operation). eqb o.txn t) (operations h) o i (eq-eqb o.txn t is))
 
-so_did : (h : Schedule) (w : Bool) (x t : ℕ) (o : Operation) → In o (operations h) → o.txn ≡ t → o.item ≡ x → o.writes ≡ w → did h w x t ≡ true
-so_did h w x t o i txn item writes =
+operation_did : (h : Schedule) (w : Bool) (x t : ℕ) (o : Operation) → In o (operations h) → o.txn ≡ t → o.item ≡ x → o.writes ≡ w → did h w x t ≡ true
+operation_did h w x t o i txn item writes =
     any-from_In (is_access w x) (accesses_in h.entries t) (access_of o) (accessed h o t i txn) (and_from (if w then o.writes else not o.writes) (eqb o.item x) (kind_is w o.writes writes) (eq-eqb o.item x item))
 
 -- the items seen are those of these updates, and those that q read
@@ -188,7 +188,7 @@ module _ (d : Distance) (h : Schedule) (q : ℕ) (legal : IsLegal d h) where
           (wrote_trace h u p.item ∙ any-from_In (wrote_by p.item u) (operations h) o io (and_from (writes_item p.item o) (eqb o.txn u) (and_from o.writes (eqb o.item p.item) writes (eq-eqb o.item p.item item)) (eq-eqb o.txn u own))))
 
       of_us : (w : Bool) (x : ℕ) → list_any (did h w x) us ≡ true → (p : Operation) × In p (operations h) × In p.txn us × (p.item ≡ x) × (p.writes ≡ w)
-      of_us w x is = let t = In-any (did h w x) us is in let p = did_so h w x t.0 t.2 in (p.0, p.1, subst (λ v. In v us) (sym p.2) t.1, p.3, p.4)
+      of_us w x is = let t = In-any (did h w x) us is in let p = did_by_operation h w x t.0 t.2 in (p.0, p.1, subst (λ v. In v us) (sym p.2) t.1, p.3, p.4)
 
       pub near_by : list_any (conflicts_with s) (accesses_in h.entries u) ≡ true → IsNear h q u
       near_by is =
@@ -204,7 +204,7 @@ module _ (d : Distance) (h : Schedule) (q : ℕ) (legal : IsLegal d h) where
           let both = and_parts a.0.writes (marked s.read a.0.item.0) r in
           ⊎_elim
           (λ m. let b = of_us false a.0.item.0 m in by_update o.0 b.0 p.0 b.1 own b.2 (item ∙ sym b.3) (or_left o.0.writes b.0.writes (wrote ∙ both.0)))
-          (λ m. let b = did_so h false a.0.item.0 q m in by_read o.0 b.0 p.0 b.1 own b.2 (item ∙ sym b.3) (wrote ∙ both.0) b.4)
+          (λ m. let b = did_by_operation h false a.0.item.0 q m in by_read o.0 b.0 p.0 b.1 own b.2 (item ∙ sym b.3) (wrote ∙ both.0) b.4)
           (or_cases (list_any (did h false a.0.item.0) us) (did h false a.0.item.0 q) (sym (seen.read a.0.item.0) ∙ both.1)))
           (or_cases (marked s.written a.0.item.0) (a.0.writes && marked s.read a.0.item.0) a.2)
 
@@ -216,17 +216,17 @@ module _ (d : Distance) (h : Schedule) (q : ℕ) (legal : IsLegal d h) where
       with_read : (o p : Operation) → In o (operations h) → In p (operations h) → o.txn ≡ u → p.txn ≡ q → p.item ≡ o.item → o.writes ≡ true → p.writes ≡ false → list_any (conflicts_with s) (accesses_in h.entries u) ≡ true
       with_read o p io ip own reads item writes read =
           conflicts o io own (or_right (marked s.written o.item) (o.writes && marked s.read o.item) (and_from o.writes (marked s.read o.item) writes
-          (seen.read o.item ∙ or_right (list_any (did h false o.item) us) (did h false o.item q) (so_did h false o.item q p ip reads item read))))
+          (seen.read o.item ∙ or_right (list_any (did h false o.item) us) (did h false o.item q) (operation_did h false o.item q p ip reads item read))))
 
       with_update : (o p : Operation) → In o (operations h) → In p (operations h) → o.txn ≡ u → In p.txn us → p.item ≡ o.item → (o.writes || p.writes) ≡ true → list_any (conflicts_with s) (accesses_in h.entries u) ≡ true
       with_update o p io ip own there_ item writes = at p.writes refl
         where
           at : (b : Bool) → p.writes ≡ b → list_any (conflicts_with s) (accesses_in h.entries u) ≡ true
           at true is = conflicts o io own (or_left (marked s.written o.item) (o.writes && marked s.read o.item)
-              (seen.written o.item ∙ any-from_In (did h true o.item) us p.txn there_ (so_did h true o.item p.txn p ip refl item is)))
+              (seen.written o.item ∙ any-from_In (did h true o.item) us p.txn there_ (operation_did h true o.item p.txn p ip refl item is)))
           at false is = conflicts o io own (or_right (marked s.written o.item) (o.writes && marked s.read o.item)
               (and_from o.writes (marked s.read o.item) (⊎_elim (λ w. w) (λ w. absurd (true≢false (sym w ∙ is))) (or_cases o.writes p.writes writes))
-              (seen.read o.item ∙ or_left (list_any (did h false o.item) us) (did h false o.item q) (any-from_In (did h false o.item) us p.txn there_ (so_did h false o.item p.txn p ip refl item is)))))
+              (seen.read o.item ∙ or_left (list_any (did h false o.item) us) (did h false o.item q) (any-from_In (did h false o.item) us p.txn there_ (operation_did h false o.item p.txn p ip refl item is)))))
 
       before_near : (w : ℕ) → Contains (updates_of h q) w → is_before h u w ≡ true → IsNear h q w → list_any (conflicts_with s) (accesses_in h.entries u) ≡ true
       before_near w cw b n =

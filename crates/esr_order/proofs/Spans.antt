@@ -228,11 +228,11 @@ record LegalBegun (d : Distance) (h : Schedule) : Type 0 where
 begun_all : (d : Distance) (h : Schedule) → IsLegal d h → AreBegun h
 begun_all d h legal =
     (legal_induction d (LegalBegun d) (λ g e r is w. record { legal = IsLegal-extended d g e r w.legal is; begun = begun_next d g w.legal w.begun e r is }) h
-    (record { legal = tt; begun = record { some = λ t b is. absurd (nobody t b is); none = λ t l. refl } }) legal).begun
+    (record { legal = tt; begun = record { some = λ t b is. absurd (no_one t b is); none = λ t l. refl } }) legal).begun
   where
-    nobody : (t : ℕ) (b : Beginning) → beginning [] t ≡ Some b → ⊥
-    nobody zero b is = cc
-    nobody (suc k) b is = cc
+    no_one : (t : ℕ) (b : Beginning) → beginning [] t ≡ Some b → ⊥
+    no_one zero b is = cc
+    no_one (suc k) b is = cc
 
 -- a transaction that has begun
 pub begun_at : (d : Distance) (h : Schedule) → IsLegal d h → (t : ℕ) (b : Beginning) → beginning (accepted_in h) t ≡ Some b → (p : ℕ) × IsBegunAt h.entries t b p

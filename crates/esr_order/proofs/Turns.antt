@@ -10,7 +10,7 @@ use Rattle.esr_history.proofs.Membership.{In, In-Contains, In-append_cases, In-a
 use Rattle.esr_history.proofs.Versions.{wrote_by, conflict_of}
 use Rattle.esr_order.specs.UpdateOperations.{UpdateOperation}
 use Rattle.esr_order.specs.Placements.{is_among}
-use Rattle.esr_order.specs.Listing.{clash, is_pair}
+use Rattle.esr_order.specs.ConflictPairs.{operations_conflict, is_conflict_pair}
 use Rattle.esr_order.specs.Turns.{placed_operation, turn, turns}
 use Rattle.esr_order.specs.Chains.{last_of, last_by_update, nth}
 use Rattle.esr_order.proofs.Writers.{pair_total}
@@ -194,7 +194,7 @@ conflict_parts h u v is =
 
 module _ (h : Schedule) (us : List ℕ) (once : AllPairs (λ u v. u ≢ v) us) (keeps : AllPairs (λ u v. is_before h v u ≡ false) us) where
   abbrev tests : ℕ → ℕ → UpdateOperation → UpdateOperation → Bool
-  tests i j a b = eqb a.place i && (eqb b.place j && clash a b)
+  tests i j a b = eqb a.place i && (eqb b.place j && operations_conflict a b)
 
   pub up : (i j : ℕ) → i < length us → j < length us → is_before h (nth us i) (nth us j) ≡ true → i < j
   up i j li lj b =
@@ -203,20 +203,20 @@ module _ (h : Schedule) (us : List ℕ) (once : AllPairs (λ u v. u ≢ v) us) (
       (λ o. ⊎_elim (λ lt. lt) (λ gt. absurd (true≢false (sym b ∙ keeps j i 0 gt li))) o)
       (cases_order i j)
 
-  pub pair_inside : (i j : ℕ) → is_pair (turns (operations h) 0 us) i j ≡ true → (i < length us) × (j < length us)
+  pub pair_inside : (i j : ℕ) → is_conflict_pair (turns (operations h) 0 us) i j ≡ true → (i < length us) × (j < length us)
   pair_inside i j is =
       let w = pair_parts (λ a b. ⊤) (tests i j) (turns (operations h) 0 us) (any_two (turns (operations h) 0 us)) is in
-      let p = and_parts (eqb w.0.place i) (eqb w.1.place j && clash w.0 w.1) w.4 in
-      (below w.0 w.2 i (eqb-true w.0.place i p.0), below w.1 w.3 j (eqb-true w.1.place j (and_parts (eqb w.1.place j) (clash w.0 w.1) p.1).0))
+      let p = and_parts (eqb w.0.place i) (eqb w.1.place j && operations_conflict w.0 w.1) w.4 in
+      (below w.0 w.2 i (eqb-true w.0.place i p.0), below w.1 w.3 j (eqb-true w.1.place j (and_parts (eqb w.1.place j) (operations_conflict w.0 w.1) p.1).0))
     where
       below : (s : UpdateOperation) → In s (turns (operations h) 0 us) → (k : ℕ) → s.place ≡ k → k < length us
       below s i k is = subst (λ m. m < length us) is (All-contains (λ (s : UpdateOperation). s.place < length us) (turns (operations h) 0 us) s (placed (operations h) us) (In-Contains (turns (operations h) 0 us) s i))
 
-  pair_to : (i j : ℕ) → i < length us → j < length us → is_pair (turns (operations h) 0 us) i j ≡ true → is_before h (nth us i) (nth us j) ≡ true
+  pair_to : (i j : ℕ) → i < length us → j < length us → is_conflict_pair (turns (operations h) 0 us) i j ≡ true → is_before h (nth us i) (nth us j) ≡ true
   pair_to i j li lj is =
       let w = pair_parts (λ (a b : UpdateOperation). a.place ≤ b.place) (tests i j) (turns (operations h) 0 us) (rises (operations h) 0 us) is in
-      let p = and_parts (eqb w.0.place i) (eqb w.1.place j && clash w.0 w.1) w.4 in
-      let r = and_parts (eqb w.1.place j) (clash w.0 w.1) p.1 in
+      let p = and_parts (eqb w.0.place i) (eqb w.1.place j && operations_conflict w.0 w.1) w.4 in
+      let r = and_parts (eqb w.1.place j) (operations_conflict w.0 w.1) p.1 in
       let c = clash_parts w.0 w.1 r.1 in
       let same = and_parts (eqb w.0.item w.1.item) (w.0.writes || w.1.writes) (and_parts (not (eqb w.0.place w.1.place)) (eqb w.0.item w.1.item && (w.0.writes || w.1.writes)) r.1).1 in
       let a = in_turns (operations h) 0 us w.0 w.2 in
@@ -236,7 +236,7 @@ module _ (h : Schedule) (us : List ℕ) (once : AllPairs (λ u v. u ≢ v) us) (
       (ap (λ x. x || b.1.writes) (ap (λ (s : UpdateOperation). s.writes) a.5) ∙ (ap (λ x. w.0.writes || x) (ap (λ (s : UpdateOperation). s.writes) b.5) ∙ same.1))
       (nth us i) (nth us j) au bv (keeps i j 0 lt lj)
 
-  pair_from : (i j : ℕ) → i < length us → j < length us → is_before h (nth us i) (nth us j) ≡ true → is_pair (turns (operations h) 0 us) i j ≡ true
+  pair_from : (i j : ℕ) → i < length us → j < length us → is_before h (nth us i) (nth us j) ≡ true → is_conflict_pair (turns (operations h) 0 us) i j ≡ true
   pair_from i j li lj is =
       let lt : i < j = up i j li lj is in
       let w = conflict_parts h (nth us i) (nth us j) is in
@@ -245,16 +245,16 @@ module _ (h : Schedule) (us : List ℕ) (once : AllPairs (λ u v. u ≢ v) us) (
       let ne : a.place ≡ b.place → ⊥ = λ e. absurd (omega (arith, e, lt)) in
       ⊎_elim (λ t. t)
       (λ t. let back = pair_parts (λ (a b : UpdateOperation). a.place ≤ b.place) (tests j i) (turns (operations h) 0 us) (rises (operations h) 0 us) t in
-      let q = and_parts (eqb back.0.place j) (eqb back.1.place i && clash back.0 back.1) back.4 in
+      let q = and_parts (eqb back.0.place j) (eqb back.1.place i && operations_conflict back.0 back.1) back.4 in
       let pj : back.0.place ≡ j = eqb-true back.0.place j q.0 in
-      let pi : back.1.place ≡ i = eqb-true back.1.place i (and_parts (eqb back.1.place i) (clash back.0 back.1) q.1).0 in
+      let pi : back.1.place ≡ i = eqb-true back.1.place i (and_parts (eqb back.1.place i) (operations_conflict back.0 back.1) q.1).0 in
       let le : back.0.place ≤ back.1.place = back.5 in
       absurd (omega arith))
       (pair_total (tests i j) (tests j i) (turns (operations h) 0 us) a b
       (to_turns (operations h) 0 us i w.0 li w.2 w.4) (to_turns (operations h) 0 us j w.1 lj w.3 w.5)
       (λ e. ne (ap (λ (s : UpdateOperation). s.place) e))
-      (and_from (eqb a.place i) (eqb b.place j && clash a b) (eq-eqb a.place i (omega arith)) (and_from (eqb b.place j) (clash a b) (eq-eqb b.place j (omega arith)) (clash_from a b ne w.6 w.7)))
-      (and_from (eqb b.place j) (eqb a.place i && clash b a) (eq-eqb b.place j (omega arith)) (and_from (eqb a.place i) (clash b a) (eq-eqb a.place i (omega arith)) (clash_from b a (λ e. ne (sym e)) (sym w.6) (or_swap w.0.writes w.1.writes w.7)))))
+      (and_from (eqb a.place i) (eqb b.place j && operations_conflict a b) (eq-eqb a.place i (omega arith)) (and_from (eqb b.place j) (operations_conflict a b) (eq-eqb b.place j (omega arith)) (clash_from a b ne w.6 w.7)))
+      (and_from (eqb b.place j) (eqb a.place i && operations_conflict b a) (eq-eqb b.place j (omega arith)) (and_from (eqb a.place i) (operations_conflict b a) (eq-eqb a.place i (omega arith)) (clash_from b a (λ e. ne (sym e)) (sym w.6) (or_swap w.0.writes w.1.writes w.7)))))
 
-  pub pair_before : (i j : ℕ) → i < length us → j < length us → is_pair (turns (operations h) 0 us) i j ≡ is_before h (nth us i) (nth us j)
-  pair_before i j li lj = same_truth (is_pair (turns (operations h) 0 us) i j) (is_before h (nth us i) (nth us j)) (pair_to i j li lj) (pair_from i j li lj)
+  pub pair_before : (i j : ℕ) → i < length us → j < length us → is_conflict_pair (turns (operations h) 0 us) i j ≡ is_before h (nth us i) (nth us j)
+  pair_before i j li lj = same_truth (is_conflict_pair (turns (operations h) 0 us) i j) (is_before h (nth us i) (nth us j)) (pair_to i j li lj) (pair_from i j li lj)

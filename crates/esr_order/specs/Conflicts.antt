@@ -2,7 +2,7 @@
 -- next write, and a write with the reads until then.
 use Rattle.std.specs.Prelude.{◌≡◌, ◌≢◌, ◌≤◌, ◌*◌, ◌==◌, ℕ, Bool, true, IsTrue, List, [], ◌∷◌, ◌++◌, All, Contains, filter, length, if◌then◌else◌, ⊤}
 use Rattle.esr_order.specs.UpdateOperations.{UpdateOperation}
-use Rattle.esr_order.specs.Listing.{is_pair}
+use Rattle.esr_order.specs.ConflictPairs.{is_conflict_pair}
 
 -- the pair of two positions, none of a position with itself
 abbrev pub pair_of : ℕ → ℕ → List (ℕ × ℕ)
@@ -31,7 +31,7 @@ AreNextPaired pairs (a ∷ b ∷ operations) =
 -- The pairs are clashes of the operations, at most two for each, and a set that is closed by them is closed by all
 -- clashes.
 pub record AreConflicts (operations : List UpdateOperation) (pairs : List (ℕ × ℕ)) : Type 0 where
-  pub sound : All (λ p. is_pair operations p.0 p.1 ≡ true) pairs
-  pub closed : (S : ℕ → Bool) → IsDownward S pairs → (i j : ℕ) → is_pair operations i j ≡ true → IsTrue (S j)
+  pub sound : All (λ p. is_conflict_pair operations p.0 p.1 ≡ true) pairs
+  pub closed : (S : ℕ → Bool) → IsDownward S pairs → (i j : ℕ) → is_conflict_pair operations i j ≡ true → IsTrue (S j)
       → IsTrue (S i)
   pub few : length pairs ≤ 2 * length operations

@@ -4,8 +4,8 @@ use Rattle.std.specs.Prelude.{◌≡◌, ◌<◌, ◌==◌, ℕ, List, [], ◌�
 use Rattle.esr_order.specs.UpdateOperations.{UpdateOperation}
 use Rattle.esr_order.specs.Chains.{Chain, latest_writer, with_write}
 
-abbrev pub nobody : Chain
-nobody = record { writers = []; values = [] }
+abbrev pub no_one : Chain
+no_one = record { writers = []; values = [] }
 
 -- a chain, and the readers, with an operation before
 abbrev pub with_operation : Chain → UpdateOperation → Chain
@@ -16,7 +16,7 @@ readers_with readers s = if s.writes then [] else readers ++ s.place ∷ []
 
 -- the chain of item x, back from the last writer to the first
 abbrev pub chain_back : ℕ → List UpdateOperation → Chain
-chain_back x [] = nobody
+chain_back x [] = no_one
 chain_back x (s ∷ operations) =
     if s.item == x then with_operation (chain_back x operations) s else chain_back x operations
 
@@ -45,5 +45,5 @@ turn_conflicts (s ∷ turn) later = turn_conflicts turn later ++ later_conflicts
 
 -- the chains and the readers of the items, by number
 pub record AreLater (links : List Chain) (rows : List (List ℕ)) (operations : List UpdateOperation) : Type 0 where
-  pub chains : (x : ℕ) → x < length links → slice_index_or links x nobody ≡ chain_back x operations
+  pub chains : (x : ℕ) → x < length links → slice_index_or links x no_one ≡ chain_back x operations
   pub readers : (x : ℕ) → x < length rows → slice_index_or rows x [] ≡ readers_of x operations

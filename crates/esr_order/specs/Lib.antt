@@ -8,7 +8,7 @@ pub mod Scans
 pub mod AccessRows
 pub mod Index
 pub mod UpdateOperations
-pub mod Listing
+pub mod ConflictPairs
 pub mod Conflicts
 pub mod Turns
 pub mod Later

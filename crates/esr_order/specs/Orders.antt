@@ -8,7 +8,7 @@ use Rattle.esr_history.specs.Serial.{is_before, IsSerialOrder}
 use Rattle.esr_history.specs.Queries.{updates_of, must}
 use Rattle.esr_order.specs.Placements.{is_among, IsClosed}
 use Rattle.esr_order.specs.Chains.{Chain, some_chain, update_at, chain_of, nth, chain_among}
-use Rattle.esr_order.specs.Listing.{IsBelow}
+use Rattle.esr_order.specs.ConflictPairs.{IsLexLess}
 
 -- what an order is to contracts
 pub record Ordered : Type 0 where
@@ -41,7 +41,7 @@ pub record IsOrderOf (h : Schedule) (q : ℕ) (o : Ordered) : Type 0 where
   pub serial : IsSerialOrder h (updates_of h q) (updates_of h q)
   pub few : length o.commits ≤ MAX_TRANSACTIONS
   -- pairs of the conflict order, from a lower to a higher position, by which the same sets are closed
-  pub ascending : AllPairs IsBelow o.before
+  pub ascending : AllPairs IsLexLess o.before
   pub pairs : All (λ p. (p.0 < p.1) × (p.1 < length o.commits)
       × IsTrue (is_before h (update_at h q p.0) (update_at h q p.1))) o.before
   pub closed : (S : ℕ → Bool) → IsClosedIn h q o S ↔ IsClosed h q S
@@ -67,7 +67,7 @@ pub record IsOrderAmong (h : Schedule) (q : ℕ) (us : List ℕ) (o : Ordered) :
   pub commits : map (λ t. t.0) o.commits ≡ us
   pub serial : IsSerialOrder h us us
   pub few : length o.commits ≤ MAX_TRANSACTIONS
-  pub ascending : AllPairs IsBelow o.before
+  pub ascending : AllPairs IsLexLess o.before
   pub pairs : All (λ p. (p.0 < p.1) × (p.1 < length o.commits)
       × IsTrue (is_before h (nth us p.0) (nth us p.1))) o.before
   pub closed : (S : ℕ → Bool) → IsClosedAt us o S ↔ IsClosedOn h q us S

@@ -20,7 +20,7 @@ impl Links {
 
     /// The same, with room for so many writers: the chains of many items are filled side by side, and what each has
     /// more than it needs adds up.
-    pub(crate) fn with_room(alloc: Global, writers: usize) -> Result<Links, AllocError>
+    pub(crate) fn with_capacity_for(alloc: Global, writers: usize) -> Result<Links, AllocError>
         ensures { IfOk result (λ links. seen_links links ≡ record { writers = []; values = [] }) }
     {
         Ok(Links {

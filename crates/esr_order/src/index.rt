@@ -52,7 +52,7 @@ impl Index {
         let mut index = Index {
             read: 0,
             commits: Vec::new(alloc),
-            rows: AccessRows::with_room(alloc, history.log().len())?,
+            rows: AccessRows::with_capacity_for(alloc, history.log().len())?,
         };
         index.extend(history)?;
         Ok(index)

@@ -14,7 +14,7 @@ ghost use Rattle.esr_base.specs.declared.limits.TheConstants.{MAX_TRANSACTIONS};
 ghost use Rattle.esr_order.specs.UpdateOperations.{UpdateOperation};
 ghost use Rattle.esr_order.specs.AccessRows.{AreRowsOf};
 ghost use Rattle.esr_order.specs.Turns.{operation_at, update_operations};
-ghost use Rattle.esr_order.specs.Listing.{IsBelow};
+ghost use Rattle.esr_order.specs.ConflictPairs.{IsLexLess};
 ghost use Rattle.esr_order.specs.Conflicts.{on_item, AreConflicts, AreNextPaired};
 ghost use Rattle.esr_order.specs.Chains.{chain_from, last_by_update, seen_links};
 ghost use Rattle.esr_order.specs.Later.{with_operation, readers_with, conflicts_of, turn_conflicts, AreLater};
@@ -102,8 +102,8 @@ fn nothing_later(
     let mut chains = Vec::with_capacity(alloc, items as usize)?;
     let mut readers = Vec::with_capacity(alloc, items as usize)?;
     for x in 0..items {
-        let room = writers.get(x as usize).copied().unwrap_or(0);
-        let links = Links::with_room(alloc, room as usize)?;
+        let capacity_left = writers.get(x as usize).copied().unwrap_or(0);
+        let links = Links::with_capacity_for(alloc, capacity_left as usize)?;
         chains.push(links)?;
         readers.push(Vec::new(alloc))?;
     }
@@ -143,7 +143,7 @@ fn gather_into<M: Metric>(
     requires read { length readers.old ≡ length history.now.schedule.opening }
     requires later { AreLater (map seen_links chains.old) (map (λ r. r.items) readers.old) [] }
     requires none { pairs.old.items ≡ [] }
-    ensures ascending { OnOk result (AllPairs IsBelow pairs.new.items) }
+    ensures ascending { OnOk result (AllPairs IsLexLess pairs.new.items) }
     ensures conflicting { OnOk result (AreConflicts (update_operations history.now.schedule updates.now) pairs.new.items) }
     ensures next { OnOk result ((x : ℕ) → AreNextPaired pairs.new.items
         (filter (λ s. s.writes) (on_item x (update_operations history.now.schedule updates.now)))) }
@@ -179,7 +179,7 @@ pub fn gather<M: Metric>(
 ) -> Result<PairsAndChains, AllocError>
     requires rows { AreRowsOf history.now.schedule.entries rows.now }
     requires few { length updates.now ≤ MAX_TRANSACTIONS }
-    ensures ascending { IfOk result (λ g. AllPairs IsBelow g.pairs.items) }
+    ensures ascending { IfOk result (λ g. AllPairs IsLexLess g.pairs.items) }
     ensures conflicting { IfOk result (λ g. AreConflicts (update_operations history.now.schedule updates.now) g.pairs.items) }
     ensures next { IfOk result (λ g. (x : ℕ) → AreNextPaired g.pairs.items
         (filter (λ s. s.writes) (on_item x (update_operations history.now.schedule updates.now)))) }

@@ -63,7 +63,7 @@ impl AccessRows {
 
     /// No rows, with room for so many accesses: a list that grows leaves each smaller list that it had been behind in
     /// the heap.
-    pub fn with_room(alloc: Global, accesses: usize) -> Result<AccessRows, AllocError>
+    pub fn with_capacity_for(alloc: Global, accesses: usize) -> Result<AccessRows, AllocError>
         ensures { IfOk result (λ rows. rows ≡ []) }
     {
         Ok(AccessRows {

@@ -63,7 +63,7 @@ fn push_words(out: &mut String, row: &QueryRow<'_>) -> Result<(), AllocError> {
 /// if torn, crossed that of the bar before it, and could not be seen on narrow bars.
 fn push_column(out: &mut String, row: &QueryRow<'_>, top: u64) -> Result<(), AllocError> {
     let name = row.name;
-    let target = if row.is_told { "q" } else { "r" };
+    let target = if row.has_explanation { "q" } else { "r" };
     write!(out, "<li><a href='#{target}-{name}' title='")?;
     push_words(out, row)?;
     let end = if row.charged > top { " cut" } else { "" };

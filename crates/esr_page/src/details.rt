@@ -33,7 +33,7 @@ fn mark(
     for (_, _, number) in ranks {
         let query = TxnId(*number);
         if let Some(row) = all.of(query) {
-            row.is_told = true;
+            row.has_explanation = true;
             told.push(query)?;
         }
     }
@@ -41,7 +41,7 @@ fn mark(
 }
 
 /// Marks so many queries that were farthest off, and gives them, the farthest first.
-pub fn tell_farthest(
+pub fn describe_farthest(
     alloc: Global,
     all: &mut QueryRows<'_>,
     count: usize,
@@ -81,7 +81,7 @@ impl<P: Part, W: Part> Page<'_, P, W> {
     }
 
     /// A query with picture and words.
-    fn push_told(
+    fn push_explained(
         &self,
         alloc: Global,
         out: &mut String,
@@ -113,10 +113,10 @@ impl<P: Part, W: Part> Page<'_, P, W> {
         query: TxnId,
     ) -> Result<(), AllocError> {
         if let Some(finding) = audits.finding_of(query) {
-            return self.push_told(alloc, out, recording, finding);
+            return self.push_explained(alloc, out, recording, finding);
         }
         match audit_query(alloc, &recording.history, query) {
-            Ok(finding) => self.push_told(alloc, out, recording, &finding),
+            Ok(finding) => self.push_explained(alloc, out, recording, &finding),
             Err(AuditError::NoMemory) => Err(AllocError),
             Err(_) => Ok(()),
         }

@@ -5,7 +5,7 @@ ghost use Rattle.esr_page.specs.Page.{IsPage};
 
 use crate::audits::{Audits, audit_all};
 use crate::chart::push_chart;
-use crate::details::{heading_of, tell_farthest};
+use crate::details::{describe_farthest, heading_of};
 use crate::rows::{QueryRow, QueryRows, rows_of};
 use crate::style::{head, script};
 use crate::table::push_table;
@@ -205,7 +205,7 @@ impl<P: Part, W: Part> Page<'_, P, W> {
         count: usize,
     ) -> Result<String, AllocError> {
         let mut all = rows_of(alloc, recording, &audits.found)?;
-        let told = tell_farthest(alloc, &mut all, count)?;
+        let told = describe_farthest(alloc, &mut all, count)?;
         let mut out = String::new(alloc);
         self.push_body(alloc, &mut out, recording, audits, &mut all, &told)?;
         Ok(out)

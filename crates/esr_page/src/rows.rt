@@ -28,7 +28,7 @@ pub struct QueryRow<'a> {
     pub reads: u64,
     pub end: QueryEnd,
     /// Whether picture and prose follow.
-    pub is_told: bool,
+    pub has_explanation: bool,
 }
 
 impl QueryRow<'_> {
@@ -73,7 +73,7 @@ fn row_of<'a>(recording: &'a Recording<'_>, query: TxnId) -> Option<QueryRow<'a>
         charged: recording.history.import(query),
         reads: 0,
         end: end_of(&recording.history, facts.end),
-        is_told: false,
+        has_explanation: false,
     })
 }
 

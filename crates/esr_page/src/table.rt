@@ -21,7 +21,7 @@ fn push_cell(out: &mut String, number: u64) -> Result<(), AllocError> {
 /// The name of a query, a link where it is told in full.
 fn push_name(out: &mut String, row: &QueryRow<'_>) -> Result<(), AllocError> {
     let name = row.name;
-    if row.is_told {
+    if row.has_explanation {
         write!(out, "<th scope='row'><a href='#q-{name}'>{name}</a></th>")
     } else {
         write!(out, "<th scope='row'>{name}</th>")

@@ -242,13 +242,13 @@ fn needs(
     drawn: &[u32],
     most: usize,
 ) -> Result<Option<Vec<u32>>, AllocError> {
-    let room = most.saturating_sub(drawn.len());
+    let space = most.saturating_sub(drawn.len());
     let both = bounds_of(alloc, chain, crossing, nearest(chain), drawn)?;
-    if both.len() <= room {
+    if both.len() <= space {
         return Ok(Some(both));
     }
     let at_line = bounds_of(alloc, chain, crossing, crossing.version, drawn)?;
-    Ok((at_line.len() <= room).then_some(at_line))
+    Ok((at_line.len() <= space).then_some(at_line))
 }
 
 /// Draws a lane, and the updates that it needs beside those that are drawn. Where there is no room for these, it draws

@@ -12,7 +12,7 @@ use Rattle.esr_plan.specs.declared.fault.DriveFault.TheVariants as fault
 use Rattle.std.specs.List.{position, position_or_len}
 use Rattle.esr_history.proofs.Ascending.{le_ltb, lt_ltb}
 use Rattle.esr_grammar.specs.Lines.{lines, line_len}
-use Rattle.esr_grammar.proofs.Cutting.{Begins, begins, front, behind_front, split-front, plain-front, lines-line, lines-last}
+use Rattle.esr_grammar.proofs.Cutting.{Begins, begins, front, after_front, split-front, plain-front, lines-line, lines-last}
 use Rattle.esr_grammar.proofs.Prefix.{none_is_length}
 
 pub position_within : {X : Type 0} (p : X → Bool) (xs : List X) (place : ℕ) → position p xs ≡ Some place → place < length xs
@@ -31,8 +31,8 @@ at_feed bytes place e =
     let within : line_len bytes < length bytes = ltb-true _ _ found.0 in
     let all : take (length bytes - (place + 1)) (drop (place + 1) bytes) ≡ drop (place + 1) bytes =
     ap (λ n. take n (drop (place + 1) bytes)) (sym (length-drop (place + 1) bytes)) ∙ take-length (drop (place + 1) bytes) in
-    let cut : lines bytes ≡ front bytes ∷ lines (behind_front bytes) =
-    ap lines (split-front bytes within) ∙ lines-line (front bytes) (behind_front bytes) (plain-front bytes) in
+    let cut : lines bytes ≡ front bytes ∷ lines (after_front bytes) =
+    ap lines (split-front bytes within) ∙ lines-line (front bytes) (after_front bytes) (plain-front bytes) in
     cut
     ∙ ap (λ n. take n bytes ∷ lines (drop (n + 1) bytes)) found.1
     ∙ ap (λ l. take place bytes ∷ lines l) (sym all)
@@ -47,8 +47,8 @@ cut_more count ls more line is few short =
     ap (cut_fault count) is ∙ rw (is_not count 2000000 few, le_ltb 200 (length line) short) refl
 
 -- a line too many
-pub cut_many : (count : ℕ) (ls more : List (List ℕ)) (line : List ℕ) → ls ≡ line ∷ more → count ≡ 2000000 → cut_fault count ls ≡ Some TooManyLines
-cut_many count ls more line is all = ap (λ n. cut_fault n ls) all ∙ ap (cut_fault 2000000) is
+pub cut_too_many : (count : ℕ) (ls more : List (List ℕ)) (line : List ℕ) → ls ≡ line ∷ more → count ≡ 2000000 → cut_fault count ls ≡ Some TooManyLines
+cut_too_many count ls more line is all = ap (λ n. cut_fault n ls) all ∙ ap (cut_fault 2000000) is
 
 -- a line that is too long
 pub cut_long : (count : ℕ) (ls more : List (List ℕ)) (line : List ℕ) → ls ≡ line ∷ more → (count ≡ 2000000 → ⊥) → 200 < length line → cut_fault count ls ≡ Some LineTooLong
@@ -87,12 +87,12 @@ mark_line bytes start count len at found few short rest =
     let is = cond_some _ _ _ found in
     let within : line_len tail < length tail = ltb-true _ _ is.0 in
     let size : length (front tail) ≤ 200 = omega (arith, length-take (line_len tail) tail, short, is.1) in
-    let cut : lines (tail ++ rest) ≡ front tail ∷ lines (behind_front tail ++ rest) =
+    let cut : lines (tail ++ rest) ≡ front tail ∷ lines (after_front tail ++ rest) =
     ap (λ l. lines (l ++ rest)) (split-front tail within)
-    ∙ (ap lines (append_assoc (front tail) (10 ∷ behind_front tail) rest) ∙ lines-line (front tail) (behind_front tail ++ rest) (plain-front tail)) in
-    let behind : behind_front tail ≡ drop (start + len + 1) bytes =
+    ∙ (ap lines (append_assoc (front tail) (10 ∷ after_front tail) rest) ∙ lines-line (front tail) (after_front tail ++ rest) (plain-front tail)) in
+    let behind : after_front tail ≡ drop (start + len + 1) bytes =
     ap (λ n. drop (n + 1) tail) is.1 ∙ (drop-drop (len + 1) start bytes ∙ ap (λ n. drop n bytes) (omega arith)) in
-    at rest ∙ (cut_more count (lines (tail ++ rest)) (lines (behind_front tail ++ rest)) (front tail) cut few size ∙ ap (λ l. cut_fault (count + 1) (lines (l ++ rest))) behind)
+    at rest ∙ (cut_more count (lines (tail ++ rest)) (lines (after_front tail ++ rest)) (front tail) cut few size ∙ ap (λ l. cut_fault (count + 1) (lines (l ++ rest))) behind)
 
 -- a line at fault, whatever follows
 pub mark_fault : (bytes : List ℕ) (start count len : ℕ) (e : DriveFault) → At bytes start count → 0 < length (drop start bytes) → len ≡ line_len (drop start bytes)
@@ -103,7 +103,7 @@ mark_fault bytes start count len e at some is bad rest = at rest ∙ by e bad
     b = begins (drop start bytes) rest some
 
     by : (e : DriveFault) → IsLineFault count len e → cut_fault count (lines (drop start bytes ++ rest)) ≡ Some e
-    by fault.TooManyLines bad = cut_many count (lines (drop start bytes ++ rest)) b.more b.line b.is bad
+    by fault.TooManyLines bad = cut_too_many count (lines (drop start bytes ++ rest)) b.more b.line b.is bad
     by fault.LineTooLong bad = cut_long count (lines (drop start bytes ++ rest)) b.more b.line b.is bad.0 (omega (arith, bad.1, is, b.long))
     by fault.Read bad = absurd bad
     by fault.Write bad = absurd bad

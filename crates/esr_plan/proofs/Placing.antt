@@ -173,18 +173,18 @@ last_at (c ∷ calls) call is = (
   sym (unwrap_or-slice_get (c ∷ calls) (length (c ∷ calls) - 1) call) ∙ ap (λ o. unwrap_or o call) is,
 )
 
-caller_behind : (names : List (List ℕ)) (earlier : List Call) (call : Call) (txn : Caller) → IsResolved names earlier call → caller_of call ≡ Some txn → IsCaller (earlier ++ call ∷ []) txn
-caller_behind names earlier (Begin name k limit) txn resolved is = cc
-caller_behind names earlier (Read t x) txn resolved is =
+caller_of_call : (names : List (List ℕ)) (earlier : List Call) (call : Call) (txn : Caller) → IsResolved names earlier call → caller_of call ≡ Some txn → IsCaller (earlier ++ call ∷ []) txn
+caller_of_call names earlier (Begin name k limit) txn resolved is = cc
+caller_of_call names earlier (Read t x) txn resolved is =
     let same : t ≡ txn = cc in
     subst (λ (y : Caller). IsCaller (earlier ++ Read t x ∷ []) y) same (resolved.0 ∙ sym (place_kept earlier (Read t x) t.name.now refl))
-caller_behind names earlier (Write t x value) txn resolved is =
+caller_of_call names earlier (Write t x value) txn resolved is =
     let same : t ≡ txn = cc in
     subst (λ (y : Caller). IsCaller (earlier ++ Write t x value ∷ []) y) same (resolved.0 ∙ sym (place_kept earlier (Write t x value) t.name.now refl))
-caller_behind names earlier (Commit t) txn resolved is =
+caller_of_call names earlier (Commit t) txn resolved is =
     let same : t ≡ txn = cc in
     subst (λ (y : Caller). IsCaller (earlier ++ Commit t ∷ []) y) same (resolved ∙ sym (place_kept earlier (Commit t) t.name.now refl))
-caller_behind names earlier (Abort t) txn resolved is =
+caller_of_call names earlier (Abort t) txn resolved is =
     let same : t ≡ txn = cc in
     subst (λ (y : Caller). IsCaller (earlier ++ Abort t ∷ []) y) same (resolved ∙ sym (place_kept earlier (Abort t) t.name.now refl))
 
@@ -195,7 +195,7 @@ last_calls names calls call txn are last is =
     let resolved : IsResolved names (take i calls) call = subst (λ (c : Call). IsResolved names (take i calls) c) at.1 (are i call at.0) in
     let parts : calls ≡ take i calls ++ call ∷ [] =
     sym (take_all (i + 1) calls (omega (arith, at.0))) ∙ (take_more calls i call at.0 ∙ ap (λ (c : Call). take i calls ++ c ∷ []) at.1) in
-    subst (λ (l : List Call). IsCaller l txn) (sym parts) (caller_behind names (take i calls) call txn resolved is)
+    subst (λ (l : List Call). IsCaller l txn) (sym parts) (caller_of_call names (take i calls) call txn resolved is)
 
 pub last_caller : (names : List (List ℕ)) (calls : List Call) (call : Call) (txn : Option Caller) → AreResolved names calls → slice_get calls (length calls - 1) ≡ Some call → txn ≡ caller_of call → IfSome txn (IsCaller calls)
 last_caller names calls call None are last is = tt

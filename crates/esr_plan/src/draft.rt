@@ -235,7 +235,7 @@ impl<'a> Draft<'a> {
     /// Adds the call that begins a transaction.
     fn add_begin(&mut self, name: &'a str, kind: BeginKind, limit: u64) -> Result<(), PlanError>
         requires sound { IsSound self.old }
-        requires room { length self.old.begun < 2 ^ 32 }
+        requires fits { length self.old.begun < 2 ^ 32 }
         ensures ok { OnOk result (IsSound self.new
             × (with_begin (plan_in self.old) name.entry.now (begin_command kind name.entry.now limit)
             ≡ Ok (plan_in self.new))) }
@@ -262,7 +262,7 @@ impl<'a> Draft<'a> {
     /// Adds what a line of a script spells.
     fn add_command(&mut self, line: Line<'a>) -> Result<(), PlanError>
         requires sound { IsSound self.old }
-        requires room { length self.old.begun < 2 ^ 32 }
+        requires fits { length self.old.begun < 2 ^ 32 }
         ensures ok { OnOk result (IsSound self.new × (with_command (plan_in self.old) (view line.entry)
             ≡ Ok (plan_in self.new))) }
         ensures err { IfErr result (IsPlanError (with_command (plan_in self.old) (view line.entry))) }
@@ -305,7 +305,7 @@ impl<'a> Draft<'a> {
     /// Adds a line of a drive file.
     fn add_line(&mut self, alloc: Global, line: &'a [u8]) -> Result<(), PlanError>
         requires sound { IsSound self.old }
-        requires room { length self.old.begun < 2 ^ 32 }
+        requires fits { length self.old.begun < 2 ^ 32 }
         ensures ok { OnOk result (IsSound self.new × (with_line (plan_in self.old) line.entry.now
             ≡ Ok (plan_in self.new))) }
         ensures err { IfErr result (IsPlanError (with_line (plan_in self.old) line.entry.now)) }

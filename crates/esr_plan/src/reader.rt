@@ -85,7 +85,7 @@ fn check_lines(bytes: &[u8], mark: Mark) -> Result<Mark, DriveFault>
 }
 
 /// Room for the bytes of one read.
-fn room(alloc: Global) -> Result<Vec<u8>, AllocError>
+fn chunk_buffer(alloc: Global) -> Result<Vec<u8>, AllocError>
     ensures { IfOk result (λ v. 0 < length v.items) }
 {
     let chunk = vec![in alloc; 0u8; INPUT_ROOM]?;
@@ -104,7 +104,7 @@ pub fn read_all<R: Read>(alloc: Global, reader: &mut Watched<R>) -> Result<Vec<u
 {
     let mut bytes = Vec::new(alloc);
     let mut mark = Mark { start: 0, lines: 0 };
-    let Ok(mut chunk) = room(alloc) else {
+    let Ok(mut chunk) = chunk_buffer(alloc) else {
         return Err(DriveFault::NoMemory);
     };
     for _ in 0..u64::MAX {

@@ -37,7 +37,7 @@ fn put_writes(
 }
 
 /// The values of the items behind these updates.
-fn values_behind(
+fn values_after(
     alloc: Global,
     subject: &Subject<'_>,
     updates: &[TxnId],
@@ -189,7 +189,7 @@ pub fn push_nearest(
     if finding.distance == 0 {
         return Ok(());
     }
-    let values = values_behind(alloc, subject, &finding.before)?;
+    let values = values_after(alloc, subject, &finding.before)?;
     let items = items_read(alloc, trace, subject, &values)?;
     push_all(alloc, blocks, subject, trace, &items)
 }

@@ -27,8 +27,8 @@ same_of k l a b ka lb e =
     rw (eq-eqb _ _ (ka.low ∙ ap low_of e ∙ sym lb.low), eq-eqb _ _ (ka.high ∙ ap high_of e ∙ sym lb.high), eq-eqb _ _ (ka.length ∙ ap length e ∙ sym lb.length)) refl
 
 -- keys are the same where the names are
-told_apart : (k l : Key) (a b : List ℕ) → IsKeyOf k a → IsKeyOf l b → same_key k l ≡ bytes_eq a b
-told_apart k l a b ka lb = elim (cases_Bool (same_key k l)) [
+distinguished : (k l : Key) (a b : List ℕ) → IsKeyOf k a → IsKeyOf l b → same_key k l ≡ bytes_eq a b
+distinguished k l a b ka lb = elim (cases_Bool (same_key k l)) [
   | inl t ↦ t ∙ sym ((bytes_eq-Decides a b).1 (one_key k l a b ka lb t))
   | inr f ↦ elim (cases_Bool (bytes_eq a b)) [
     | inl same ↦ let never : false ≡ true = sym f ∙ same_of k l a b ka lb ((bytes_eq-Decides a b).0 same) in cc
@@ -46,7 +46,7 @@ place_of : (k : Key) (name : List ℕ) → IsKeyOf k name → (entries : List En
     → position_or_len (same_key k) (map (λ (e : Entry). e.0) entries) ≡ position_or_len (bytes_eq name) (map (λ (e : Entry). e.1.bytes) entries)
 place_of k name is [] h = refl
 place_of k name is (e ∷ es) h =
-    let here : same_key k e.0 ≡ bytes_eq name e.1.bytes = told_apart k e.0 name e.1.bytes is (h 0 e (omega arith)) in
+    let here : same_key k e.0 ≡ bytes_eq name e.1.bytes = distinguished k e.0 name e.1.bytes is (h 0 e (omega arith)) in
     let later = place_of k name is es (λ i d l. h (suc i) d (omega (arith, l))) in
     ap (λ v. cond (not v) (1 + position_or_len (same_key k) (map (λ (x : Entry). x.0) es)) 0) here
     ∙ ap (λ n. cond (not (bytes_eq name e.1.bytes)) (1 + n) 0) later
@@ -79,5 +79,5 @@ pub entered : (k : Key) (name : List ℕ) (text : ArrayString 16) → IsKeyOf k 
 entered k name text is [] h none = refl
 entered k name text is (e ∷ es) h none =
     let apart = both_false _ _ none in
-    let here : same_key k e.0 ≡ false = told_apart k e.0 name e.1.bytes is (h 0 e (omega arith)) ∙ apart.0 in
+    let here : same_key k e.0 ≡ false = distinguished k e.0 name e.1.bytes is (h 0 e (omega arith)) ∙ apart.0 in
     rw here (ap (λ l. e ∷ l) (entered k name text is es (λ i d l. h (suc i) d (omega (arith, l))) apart.1))

@@ -93,7 +93,7 @@ impl Names {
     /// refused too. Then nothing has changed.
     pub fn bind(&mut self, name: &str) -> Result<u32, AllocError>
         requires unbound { position_of self.old name.now ≡ None }
-        requires room { length self.old < 2 ^ 32 }
+        requires fits { length self.old < 2 ^ 32 }
         ensures number { IfOk result (λ n. n ≡ length self.old) }
         ensures bound { OnOk result (self.new ≡ self.old ++ name.now ∷ []) }
         ensures err { OnErr result (self.new ≡ self.old) }

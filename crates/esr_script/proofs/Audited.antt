@@ -25,8 +25,8 @@ lines_of_map f g (x ∷ xs) = ap (λ l. f (g x) ++ l) (lines_of_map f g xs)
 
 -- the lines of a book over a history are the output of a state with this history
 pub book_lines : (items names : List (List ℕ)) (was : Bool) (h0 h : Schedule) (s : ScriptState)
-    (order : List ℕ) (tolds : List (ℕ × ℕ × ℕ × List ℕ)) (imports exports entries : ℕ)
+    (order : List ℕ) (summaries : List (ℕ × ℕ × ℕ × List ℕ)) (imports exports entries : ℕ)
     → record { items = items; transactions = names; closed = was; history = h0 } ≡ s → h ≡ h0
-    → order ≡ committed_updates h → tolds ≡ map (summary_of weighted h) (committed_queries h) → imports ≡ all_imports weighted h → exports ≡ all_exports weighted h → entries ≡ length h.entries
-    → order_line names order ++ flat_map (finding_line names) tolds ++ totals_line imports exports entries ≡ audit_output s
-book_lines items names was h0 h s order tolds imports exports entries seen same o t i e n = grind (arith, common_steps)
+    → order ≡ committed_updates h → summaries ≡ map (summary_of weighted h) (committed_queries h) → imports ≡ all_imports weighted h → exports ≡ all_exports weighted h → entries ≡ length h.entries
+    → order_line names order ++ flat_map (finding_line names) summaries ++ totals_line imports exports entries ≡ audit_output s
+book_lines items names was h0 h s order summaries imports exports entries seen same o t i e n = grind (arith, common_steps)

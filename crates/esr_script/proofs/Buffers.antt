@@ -27,13 +27,13 @@ module _ (items moved ahead : List ℕ) (s e len : ℕ) (order : s ≤ e) (withi
   abbrev part : ℕ
   part = length moved - (e - s)
 
-  module _ (read before : List ℕ) (room : length read ≡ length (mid_of (e - s) part moved)) where
+  module _ (read before : List ℕ) (fits : length read ≡ length (mid_of (e - s) part moved)) where
     abbrev after : List ℕ
     after = put_mid (e - s) part moved read
 
     -- the buffer holds what was put into it
     held : take len (after ++ drop (length after) before) ≡ after
-    held = grind (arith, same_len_mid (e - s) part moved read room, long, take-append_seam after (drop (length after) before))
+    held = grind (arith, same_len_mid (e - s) part moved read fits, long, take-append_seam after (drop (length after) before))
 
     -- where nothing was read
     pub kept : take ((e - s) - 0) (drop 0 (take len (after ++ drop (length after) before))) ≡ ahead
@@ -48,8 +48,8 @@ module _ (items moved ahead : List ℕ) (s e len : ℕ) (order : s ≤ e) (withi
         ∙ take-append-add ahead (read ++ rest) count ∙ ap (λ l. ahead ++ l) (take-append-le count read rest came)
 
     -- there is room behind few bytes
-    pub has_room : length ahead ≤ 200 → len ≡ 65536 → 0 < length read
-    has_room few all = omega (arith, room, size, long, whole, few, all, length-take part (drop (e - s) moved), length-drop (e - s) moved)
+    pub has_capacity : length ahead ≤ 200 → len ≡ 65536 → 0 < length read
+    has_capacity few all = omega (arith, fits, size, long, whole, few, all, length-take part (drop (e - s) moved), length-drop (e - s) moved)
 
 -- no bytes that came leave those that were there
 pub same_bytes : (before after more : List ℕ) (n : ℕ) → length more ≡ n → n ≡ 0 → after ≡ before ++ more → after ≡ before

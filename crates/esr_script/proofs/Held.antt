@@ -11,7 +11,7 @@ use Rattle.esr_script.specs.Run.{IsRunBy}
 use Rattle.esr_grammar.specs.Lines.{line_len, IsNext}
 use Rattle.esr_script.specs.Parts.{InputProgress, IsAnswer, IsHeldRun, IsUnread, is_read_fault, is_write_fault}
 use Rattle.esr_grammar.proofs.Prefix.{line_len-le}
-use Rattle.esr_script.proofs.Steps.{advance, all_read, text_begins, at_memory, at_long, at_many, at_fault_line, at_last, at_fault_last, at_read}
+use Rattle.esr_script.proofs.Steps.{advance, all_read, text_begins, at_memory, at_long, at_too_many, at_fault_line, at_last, at_fault_last, at_read}
 use Rattle.std.proofs.lemmas.Grind.{common_steps}
 
 -- there are bytes ahead where it need not be read on
@@ -92,7 +92,7 @@ module _ (input : List ℕ) (left : Option (List ℕ)) (bytes : List ℕ) (n : �
   held_long few is = (text, at_long input left bytes n s (sent ++ out) here few is)
 
   pub held_many : n ≡ MAX_LINES → 0 < length bytes → IsHeldRun input left out (Err fault.TooManyLines) sent
-  held_many many some = (text, at_many input left bytes n s (sent ++ out) here many some)
+  held_many many some = (text, at_too_many input left bytes n s (sent ++ out) here many some)
 
   pub held_full : (k : ℕ) → n ≢ MAX_LINES → IsNext (next.Line k) bytes → answer s (take k bytes) ≡ Err fault.HistoryFull → IsHeldRun input left out (Err fault.HistoryFull) sent
   held_full k few is full = (

@@ -7,7 +7,7 @@ mod Unread
 pub mod Held
 pub mod Replays
 pub mod Ends
-pub mod Asks
+pub mod Requests
 pub mod Audits
 pub mod Answering
 pub mod Audited

@@ -17,14 +17,14 @@ use Rattle.esr_script.specs.Ends.{EndsBy}
 use Rattle.esr_script.specs.Replays.{IsReplay, IsLineOf}
 use Rattle.esr_grammar.specs.Lines.{line_len, IsNext}
 use Rattle.esr_script.specs.Parts.{InputProgress, IsAnswer}
-use Rattle.esr_script.proofs.Steps.{all_read, step_line, at_long, at_many, at_last, at_fault_line, at_fault_last, state_at_last}
+use Rattle.esr_script.proofs.Steps.{all_read, step_line, at_long, at_too_many, at_last, at_fault_line, at_fault_last, state_at_last}
 
 abbrev fault_of : Outcome → Option RunFault
 fault_of o = o.fault
 
 module _ (input : List ℕ) (left : Option (List ℕ)) (bytes : List ℕ) (n : ℕ) (s : ScriptState) (w : List ℕ) (here : InputProgress input left bytes n s w) where
   pub replay_many : n ≡ MAX_LINES → 0 < length bytes → EndsBy input fault.TooManyLines
-  replay_many many some = ap fault_of (at_many input left bytes n s w here many some)
+  replay_many many some = ap fault_of (at_too_many input left bytes n s w here many some)
 
   pub replay_long : n ≢ MAX_LINES → MAX_LINE_BYTES < line_len bytes → EndsBy input fault.LineTooLong
   replay_long few long = ap fault_of (at_long input left bytes n s w here few long)
@@ -52,7 +52,7 @@ module _ (input : List ℕ) (left : Option (List ℕ)) (bytes : List ℕ) (n : �
 bundled : (steps : Bool) (h : Schedule) (q : ℕ) (f : Finding) → IsFound h q f.problem (certificate_of f.certificate) → (line : List ℕ) → IsLineOf steps f line → IsBundleLine steps h q line
 bundled false h q f found line is =
     let c = certificate_of f.certificate in
-    (bundle f.problem c, record { problem = f.problem; certificate = c; stands = found.stands; near = found.near; certified = found.certified; set_is = found.set_is; told = found.untold; text_is = refl }, is)
+    (bundle f.problem c, record { problem = f.problem; certificate = c; stands = found.stands; near = found.near; certified = found.certified; set_is = found.set_is; told = found.without_count; text_is = refl }, is)
 bundled true h q f found line (c, certified, smallest, counted, is) =
     let same : c.set ≡ (certificate_of f.certificate).set = same_set f.problem c (certificate_of f.certificate) certified found.certified smallest found.smallest in
     (bundle f.problem c, record { problem = f.problem; certificate = c; stands = found.stands; near = found.near; certified = certified; set_is = ap (filter_map (slice_get f.problem.updates)) same ∙ found.set_is; told = counted; text_is = refl }, is)

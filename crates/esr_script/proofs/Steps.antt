@@ -9,7 +9,7 @@ use Rattle.esr_script.specs.Text.{ScriptState, start, answer, next_state, state_
 use Rattle.esr_base.specs.Watch.{BeginsWith}
 use Rattle.esr_script.specs.Run.{IsWholeText}
 use Rattle.esr_script.specs.Parts.{Progress, InputProgress}
-use Rattle.esr_grammar.proofs.Cutting.{lines-line, whole-line, front, behind_front, plain-front, split-front, lines-last, whole-none, Begins, begins}
+use Rattle.esr_grammar.proofs.Cutting.{lines-line, whole-line, front, after_front, plain-front, split-front, lines-last, whole-none, Begins, begins}
 use Rattle.esr_grammar.proofs.Prefix.{line_len-le}
 
 -- ---- one line of an outcome
@@ -54,12 +54,12 @@ module _ (input : List ℕ) (n : ℕ) (s : ScriptState) (w : List ℕ) where
   -- a line more
   pub step : (bytes rest : List ℕ) (s' : ScriptState) (t : List ℕ) → Progress input (bytes ++ rest) n s w → n ≢ MAX_LINES
       → line_len bytes < length bytes → line_len bytes ≤ MAX_LINE_BYTES → answer s (front bytes) ≡ Ok (s', t)
-      → Progress input (behind_front bytes ++ rest) (n + 1) s' (w ++ t)
+      → Progress input (after_front bytes ++ rest) (n + 1) s' (w ++ t)
   step bytes rest s' t p few ended short is =
       let l = front bytes in
       let plain : line_len l ≡ length l = plain-front bytes in
       let size : length l ≤ MAX_LINE_BYTES = omega (arith, length-take (line_len bytes) bytes, line_len-le bytes) in
-      let split : input ≡ (p.used ++ (l ++ 10 ∷ [])) ++ (behind_front bytes ++ rest) =
+      let split : input ≡ (p.used ++ (l ++ 10 ∷ [])) ++ (after_front bytes ++ rest) =
       p.split ∙ ap (λ b. p.used ++ (b ++ rest)) (split-front bytes ended) ∙ simp append_assoc in
       let counted : length (p.answered ++ l ∷ []) ≡ n + 1 = length-append p.answered (l ∷ []) ∙ ap (λ k. k + 1) p.counted in
       let cut : (b : List ℕ) → lines ((p.used ++ (l ++ 10 ∷ [])) ++ b) ≡ (p.answered ++ l ∷ []) ++ lines b =
@@ -113,7 +113,7 @@ consumed (Some x) rest taken e split = let same : x ≡ rest = cc in split ∙ a
 module _ (input : List ℕ) (left : Option (List ℕ)) (bytes : List ℕ) (n : ℕ) (s : ScriptState) (w : List ℕ) where
   pub step_line : InputProgress input left bytes n s w → (s' : ScriptState) (t : List ℕ) → n ≢ MAX_LINES
       → line_len bytes < length bytes → line_len bytes ≤ MAX_LINE_BYTES → answer s (front bytes) ≡ Ok (s', t)
-      → InputProgress input left (behind_front bytes) (n + 1) s' (w ++ t)
+      → InputProgress input left (after_front bytes) (n + 1) s' (w ++ t)
   step_line here s' t few ended short is = grind (arith, step input n s w bytes here.rest s' t here.progress few ended short is)
 
   pub text_begins : InputProgress input left bytes n s w → BeginsWith (outcome input).text w
@@ -128,17 +128,17 @@ module _ (input : List ℕ) (left : Option (List ℕ)) (bytes : List ℕ) (n : �
       whole input n s w (bytes ++ here.rest) (b.line ∷ b.more) here.progress b.is
       ∙ ap (preceded_by w) (outcome-long n s b.line b.more few (omega (arith, long, b.long))) ∙ preceded_by-stopped w LineTooLong
 
-  pub at_many : InputProgress input left bytes n s w → n ≡ MAX_LINES → 0 < length bytes → outcome input ≡ record { text = w; fault = Some TooManyLines }
-  at_many here many some = grind (arith, begins bytes here.rest some, whole, outcome-many, preceded_by-stopped w TooManyLines)
+  pub at_too_many : InputProgress input left bytes n s w → n ≡ MAX_LINES → 0 < length bytes → outcome input ≡ record { text = w; fault = Some TooManyLines }
+  at_too_many here many some = grind (arith, begins bytes here.rest some, whole, outcome-many, preceded_by-stopped w TooManyLines)
 
   pub at_fault_line : InputProgress input left bytes n s w → (f : RunFault) → n ≢ MAX_LINES → line_len bytes < length bytes → line_len bytes ≤ MAX_LINE_BYTES
       → answer s (front bytes) ≡ Err f → outcome input ≡ record { text = w; fault = Some f }
   at_fault_line here f few ended short is =
       let size : length (front bytes) ≤ MAX_LINE_BYTES = omega (arith, length-take (line_len bytes) bytes, line_len-le bytes) in
-      let moved : bytes ++ here.rest ≡ front bytes ++ 10 ∷ (behind_front bytes ++ here.rest) = ap (λ b. b ++ here.rest) (split-front bytes ended) ∙ simp append_assoc in
-      whole input n s w (bytes ++ here.rest) (front bytes ∷ lines (behind_front bytes ++ here.rest)) here.progress
-      (ap lines moved ∙ lines-line (front bytes) (behind_front bytes ++ here.rest) (plain-front bytes))
-      ∙ ap (preceded_by w) (outcome-fault n s (front bytes) f (lines (behind_front bytes ++ here.rest)) few size is) ∙ preceded_by-stopped w f
+      let moved : bytes ++ here.rest ≡ front bytes ++ 10 ∷ (after_front bytes ++ here.rest) = ap (λ b. b ++ here.rest) (split-front bytes ended) ∙ simp append_assoc in
+      whole input n s w (bytes ++ here.rest) (front bytes ∷ lines (after_front bytes ++ here.rest)) here.progress
+      (ap lines moved ∙ lines-line (front bytes) (after_front bytes ++ here.rest) (plain-front bytes))
+      ∙ ap (preceded_by w) (outcome-fault n s (front bytes) f (lines (after_front bytes ++ here.rest)) few size is) ∙ preceded_by-stopped w f
 
   -- at the end of the input
   pub all_read : InputProgress input left bytes n s w → IsAtEnd left → Consumes (Some input) left input

@@ -6,7 +6,7 @@ use Rattle.esr_cert.specs.Problem.{Problem}
 use Rattle.esr_cert.specs.Certificate.{Certificate, Certifies}
 use Rattle.esr_order.specs.Least.{least_set}
 use Rattle.esr_order.specs.Near.{AreNear}
-use Rattle.esr_audit.specs.Problems.{StandsFor}
+use Rattle.esr_audit.specs.Problems.{IsProblemOf}
 use Rattle.esr_audit.specs.Findings.{IsCounted}
 use Rattle.esr_bundle.specs.Bundle.{bundle}
 use Rattle.esr_script.specs.Text.{final, RunFault}
@@ -22,7 +22,7 @@ HasAugmentations false p c = c.augmentations ≡ None
 pub record IsBundleOf (steps : Bool) (h : Schedule) (q : ℕ) (text : List ℕ) : Type 0 where
   pub problem : Problem
   pub certificate : Certificate
-  pub stands : StandsFor weighted h q problem
+  pub stands : IsProblemOf weighted h q problem
   pub near : AreNear h q problem.updates
   pub certified : Certifies problem certificate
   pub set_is : filter_map (slice_get problem.updates) certificate.set ≡ least_set weighted h q

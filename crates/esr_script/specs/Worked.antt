@@ -25,11 +25,11 @@ lines_at_fault : IsWholeText
 unfolding digits
 lines_at_fault = refl
 
-report_beside_a_writer : IsWholeText
+report_concurrent_with_writer : IsWholeText
     (outcome (codes "item a 100\nbegin u update 50\nbegin q query 10\nwrite u a 107\nread q a\ncommit u\ncommit q\naudit q\ntotals\n"))
     (codes "item a 100\nbegun u 1\nbegun q 2\nwrote u a 107\nq a 107\ncommitted u\ncommitted q\naudit q distance 0 import 7 before u\ntotals import 7 export 7 entries 6\n")
 unfolding digits
-report_beside_a_writer = refl
+report_concurrent_with_writer = refl
 
 export_limit_over_queries : IsWholeText
     (outcome (codes "item a 0\nbegin q query 10\nbegin r query 5\nbegin u update 14\nbegin v update 15\nread q a\nread q a\nread r a\nwrite u a 5\nwrite v a 5\ntotals\n"))

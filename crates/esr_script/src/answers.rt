@@ -54,7 +54,7 @@ fn answer<S: Sink, O: Observer>(
     if ended.is_ok() {
         observer.see_line(count + 1, line, out.get(before..).unwrap_or(&[]));
     }
-    if let Audience::Nobody = audience {
+    if let Audience::NoReader = audience {
         out.clear();
     }
     ended

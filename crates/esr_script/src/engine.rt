@@ -54,7 +54,7 @@ impl IndexedMachine {
         ensures added { IfOk result (λ reply. self.new ≡ extended self.old event reply) }
         ensures err { OnErr result (self.new ≡ self.old) }
         ensures full { IsErrOf result StepError.HistoryFull → length self.old.entries ≡ MAX_ENTRIES }
-        ensures room { IfOk result (λ reply. ¬ (length self.old.entries ≡ MAX_ENTRIES)) }
+        ensures fits { IfOk result (λ reply. ¬ (length self.old.entries ≡ MAX_ENTRIES)) }
         ensures open { ¬ IsErrOf result StepError.EngineClosed }
     {
         self.machine.step(event)

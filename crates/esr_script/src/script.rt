@@ -12,7 +12,7 @@ ghost use Rattle.esr_script.specs.Stages.{IsBegin, is_running, history_of};
 ghost use Rattle.esr_views.specs.Ask.{IsAnswered, IsFoundOf, IsRecorded};
 ghost use Rattle.esr_script.specs.Audit.{IsAuditedScript, audit_output};
 ghost use Rattle.esr_history.specs.Queries.{is_committed_query};
-ghost use Rattle.esr_grammar.specs.Command.{view, Spells};
+ghost use Rattle.esr_grammar.specs.Command.{view, IsSyntaxOf};
 ghost use Rattle.std.specs.List.{join_with_byte};
 ghost use Rattle.std.specs.Fmt.{signed_decimal};
 ghost use Rattle.esr_script.specs.Echoes.{IsEcho};
@@ -462,7 +462,7 @@ impl Script {
 
     /// Obeys the command that the text spells.
     fn execute(&mut self, text: &[u8], line: Line<'_>, out: &mut Vec<u8>) -> Result<(), RunFault>
-        requires { Spells text.now (view line) }
+        requires { IsSyntaxOf text.now (view line) }
         ensures { Executes (execute self.old (view line.entry)) self.new out.old.items out.new.items result }
     {
         match line {
@@ -516,7 +516,7 @@ impl Script {
         match parse_line(line) {
             Parsed::Skipped => Ok(()),
             Parsed::NotACommand => line_or_fault(error_line(out, LineError::NotACommand)),
-            Parsed::Command(Line::Audit { txn }) if audience == Audience::Nobody => {
+            Parsed::Command(Line::Audit { txn }) if audience == Audience::NoReader => {
                 self.pass_audit(txn, out)
             }
             Parsed::Command(command) => self.execute(line, command, out),

@@ -18,7 +18,7 @@ use std::io::Write;
 #[derive(Clone, Copy, PartialEq)]
 pub enum Audience {
     Somebody,
-    Nobody,
+    NoReader,
 }
 
 /// What takes the text of lines.
@@ -29,7 +29,7 @@ pub trait Sink {
 
     /// Who reads what it takes.
     fn audience(&self) -> Audience
-        ensures { result ≡ Audience.Nobody → contents self.now ≡ None };
+        ensures { result ≡ Audience.NoReader → contents self.now ≡ None };
 
     /// Takes what the buffer holds, and empties the buffer.
     fn take(&mut self, text: &mut Vec<u8>) -> Result<(), RunFault>
@@ -64,7 +64,7 @@ impl Sink for Dropped {
     ghost has_failed = { λ _. false };
 
     fn audience(&self) -> Audience {
-        Audience::Nobody
+        Audience::NoReader
     }
 
     fn take(&mut self, text: &mut Vec<u8>) -> Result<(), RunFault> {

@@ -82,7 +82,7 @@ impl Stage {
     #[inline(always)]
     pub fn step(&mut self, event: Event) -> Result<Reply, RunFault>
         requires { is_running self.old ≡ true }
-        ensures room { OnOk result (length (history_of self.old).entries ≢ MAX_ENTRIES) }
+        ensures fits { OnOk result (length (history_of self.old).entries ≢ MAX_ENTRIES) }
         ensures reply { IfOk result (λ reply. reply ≡ reply_to weighted (history_of self.old) event) }
         ensures added { IfOk result (λ reply. history_of self.new ≡ extended (history_of self.old) event reply) }
         ensures running { is_running self.new ≡ true }

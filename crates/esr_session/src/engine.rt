@@ -280,7 +280,7 @@ fn audit_from<M: Metric + Drop, N: Naming>(
     ensures amount { seen.new.amount ≡ seen.old.amount }
     ensures sessions { sessions.new ≡ sessions.old }
     ensures bound { seen.old.amount + count_in sessions.old ≤ total.old.total }
-    ensures room { seen.old.parts + length sessions.old ≤ N.parts }
+    ensures fits { seen.old.parts + length sessions.old ≤ N.parts }
     ensures whole { seen.old.parts + length sessions.old ≡ N.parts
         → seen.old.amount + count_in sessions.old ≡ total.old.total }
 {
@@ -320,7 +320,7 @@ fn take_apart<M: Metric + Drop, N: Naming>(
     sessions: Vec<Session<M, N>>,
 ) -> Vec<Vec<Receipt>>
     requires none { lists.items ≡ [] }
-    requires room { vec_len sessions ≤ vec_capacity lists }
+    requires fits { vec_len sessions ≤ vec_capacity lists }
     ensures { map (λ list. list.items) result.items ≡ sessions.items }
 {
     let mut lists = lists;

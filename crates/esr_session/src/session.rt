@@ -56,7 +56,7 @@ impl<M: Metric + Drop, N: Naming> Session<M, N> {
     ///
     /// # Errors
     /// Where memory was refused.
-    pub fn make_room(&mut self, alloc: Global, calls: usize) -> Result<(), AllocError>
+    pub fn reserve(&mut self, alloc: Global, calls: usize) -> Result<(), AllocError>
         ensures { self.new ≡ self.old }
     {
         let pocket = &mut self.pocket;

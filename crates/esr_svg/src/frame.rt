@@ -307,8 +307,8 @@ impl Frame {
 
     /// How many updates fit between the names of the items and the right edge.
     fn fitting_updates(&self) -> usize {
-        let room = (WIDEST - 20).saturating_sub(u32::from(self.left));
-        let slots = room.checked_div(u32::from(self.pitch)).unwrap_or(0);
+        let space = (WIDEST - 20).saturating_sub(u32::from(self.left));
+        let slots = space.checked_div(u32::from(self.pitch)).unwrap_or(0);
         slots.saturating_sub(2).max(2) as usize
     }
 
@@ -363,19 +363,19 @@ impl Frame {
     }
 
     /// Whether there is room to the right of the line for what lanes are off with their weights.
-    pub fn has_room_for_weights(&self, line: u8) -> bool {
+    pub fn has_space_for_weights(&self, line: u8) -> bool {
         self.x(line) + u32::from(self.factors_width) + 30 <= WIDEST
     }
 
     /// Whether the words at the line stand to its left, since there is no room to its right even without weights. Then
     /// there is room on the left.
     pub fn is_left(&self, line: u8) -> bool {
-        !self.has_room_for_weights(line) && self.x(line) + u32::from(self.off_width) + 30 > WIDEST
+        !self.has_space_for_weights(line) && self.x(line) + u32::from(self.off_width) + 30 > WIDEST
     }
 
     /// How far the words at the line reach to its right.
     fn reach(&self, line: u8) -> u16 {
-        if self.has_room_for_weights(line) {
+        if self.has_space_for_weights(line) {
             self.factors_width
         } else if self.is_left(line) {
             0

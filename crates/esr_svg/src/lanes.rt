@@ -208,9 +208,14 @@ fn push_all_strays(out: &mut String, lanes: &[Lane<'_>], frame: &Frame) -> Resul
 }
 
 /// By how much a lane is off: the difference, where it counts more than once with its weight, if that is to be told.
-fn push_off(out: &mut String, off: u64, weight: u64, tells_weight: bool) -> Result<(), AllocError> {
+fn push_off(
+    out: &mut String,
+    off: u64,
+    weight: u64,
+    has_weight_note: bool,
+) -> Result<(), AllocError> {
     out.push_str("off by ")?;
-    if weight > 1 && tells_weight {
+    if weight > 1 && has_weight_note {
         push_number(out, off / weight)?;
         out.push_str(" x ")?;
         push_number(out, weight)?;
@@ -255,7 +260,12 @@ fn push_crossing(
     }
     write!(out, "<circle class='c' cx='{x}' cy='{y}' r='5'/>")?;
     open_at_line(out, "m r o", x, y, is_left)?;
-    push_off(out, lane.off, lane.weight, frame.has_room_for_weights(line))
+    push_off(
+        out,
+        lane.off,
+        lane.weight,
+        frame.has_space_for_weights(line),
+    )
 }
 
 /// What each lane is off where the line crosses it.

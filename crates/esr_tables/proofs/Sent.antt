@@ -9,9 +9,9 @@ use Rattle.esr_tables.specs.declared.format.Format.TheVariants.{Csv}
 use Rattle.esr_tables.specs.Csv.{ledger_csv}
 use Rattle.esr_tables.specs.Written.{IsLedger, IsLedgerOf}
 
-pub ledger_told : (s : ScriptState) (c : Recording) → IsRecorded s c → (first last : ℕ → ℕ) (text : List ℕ)
+pub ledger_written : (s : ScriptState) (c : Recording) → IsRecorded s c → (first last : ℕ → ℕ) (text : List ℕ)
     → text ≡ ledger_csv weighted c.history.schedule c.transactions first last → IsLedger Csv s text
-ledger_told s c recorded first last text is = (
+ledger_written s c recorded first last text is = (
   first,
   last,
   is
@@ -20,10 +20,10 @@ ledger_told s c recorded first last text is = (
 )
 
 -- the same of a text that is made, if it is
-pub csv_told : {T E : Type 0} (items : T → List ℕ) (s : ScriptState) (c : Recording) → IsRecorded s c → (first last : ℕ → ℕ) (r : Result T E)
+pub csv_written : {T E : Type 0} (items : T → List ℕ) (s : ScriptState) (c : Recording) → IsRecorded s c → (first last : ℕ → ℕ) (r : Result T E)
     → IfOk r (λ v. items v ≡ ledger_csv weighted c.history.schedule c.transactions first last) → IfOk r (λ v. IsLedger Csv s (items v))
-csv_told items s c recorded first last (Ok v) is = ledger_told s c recorded first last (items v) is
-csv_told items s c recorded first last (Err e) is = tt
+csv_written items s c recorded first last (Ok v) is = ledger_written s c recorded first last (items v) is
+csv_written items s c recorded first last (Err e) is = tt
 
 -- the same of a history
 pub csv_of : {T E : Type 0} (items : T → List ℕ) (h : Schedule) (names : List (List ℕ)) (first last : ℕ → ℕ) (r : Result T E)

@@ -10,11 +10,11 @@ use Rattle.std.proofs.lemmas.List.FromFn.{map-range_with_len_more}
 pub one_row_more : {X : Type 0} (f : X → List ℕ) (row : ℕ → X) (out : List ℕ) (n : ℕ) (x : X) (before after : List ℕ)
     → before ≡ out ++ flat_map f (map row (range_with_len 1 n)) → x ≡ row (n + 1) → after ≡ before ++ f x
     → after ≡ out ++ flat_map f (map row (range_with_len 1 (n + 1)))
-one_row_more f row out n x before after stood is grew =
+one_row_more f row out n x before after before_it is grew =
     let rows = map row (range_with_len 1 n) in
     let next = row (n + 1) in
     grew
-    ∙ (ap₂ (λ l y. l ++ f y) stood is
+    ∙ (ap₂ (λ l y. l ++ f y) before_it is
     ∙ (append_assoc out (flat_map f rows) (f next)
     ∙ ap (λ l. out ++ l)
     (ap (λ l. flat_map f rows ++ l) (sym (append-nil (f next)))
@@ -23,7 +23,7 @@ one_row_more f row out n x before after stood is grew =
 -- after the last
 pub all_rows : {X : Type 0} (f : X → List ℕ) (row : ℕ → X) (out : List ℕ) (n i : ℕ) (after : List ℕ) → i ≡ n
     → after ≡ out ++ flat_map f (map row (range_with_len 1 i)) → after ≡ out ++ flat_map f (map row (range_with_len 1 n))
-all_rows f row out n i after all stood = stood ∙ ap (λ k. out ++ flat_map f (map row (range_with_len 1 k))) all
+all_rows f row out n i after all before_it = before_it ∙ ap (λ k. out ++ flat_map f (map row (range_with_len 1 k))) all
 
 -- ---- fields behind commas
 
@@ -37,25 +37,25 @@ first_field out x after is = is ∙ ap (λ l. out ++ l) (sym (append-nil x))
 -- more fields
 pub separated_more : (out x : List ℕ) (xs ys : List (List ℕ)) (before after : List ℕ) → before ≡ out ++ (x ++ separated xs) → after ≡ before ++ separated ys
     → after ≡ out ++ (x ++ separated (xs ++ ys))
-separated_more out x xs ys before after stood grew =
+separated_more out x xs ys before after before_it grew =
     grew
-    ∙ (ap (λ l. l ++ separated ys) stood
+    ∙ (ap (λ l. l ++ separated ys) before_it
     ∙ (append_assoc out (x ++ separated xs) (separated ys)
     ∙ ap (λ l. out ++ l) (append_assoc x (separated xs) (separated ys) ∙ ap (λ l. x ++ l) (sym (flat_map-append comma xs ys)))))
 
 -- the end of the line
 pub line_ended : (out x : List ℕ) (xs : List (List ℕ)) (before after : List ℕ) → before ≡ out ++ (x ++ separated xs) → after ≡ before ++ 10 ∷ [] → after ≡ out ++ csv_line x xs
-line_ended out x xs before after stood grew =
-    grew ∙ (ap (λ l. l ++ 10 ∷ []) stood ∙ (append_assoc out (x ++ separated xs) (10 ∷ []) ∙ ap (λ l. out ++ l) (append_assoc x (separated xs) (10 ∷ []))))
+line_ended out x xs before after before_it grew =
+    grew ∙ (ap (λ l. l ++ 10 ∷ []) before_it ∙ (append_assoc out (x ++ separated xs) (10 ∷ []) ∙ ap (λ l. out ++ l) (append_assoc x (separated xs) (10 ∷ []))))
 
 -- a field of a list more
 pub field_more : (out : List ℕ) (xs : List (Bor (List ℕ))) (i : ℕ) (d : Bor (List ℕ)) (before after : List ℕ) → i < length xs
     → before ≡ out ++ separated (map (λ (w : Bor (List ℕ)). w.now) (take i xs)) → after ≡ before ++ separated ((get_or xs i d).now ∷ [])
     → after ≡ out ++ separated (map (λ (w : Bor (List ℕ)). w.now) (take (i + 1) xs))
-field_more out xs i d before after within stood grew =
+field_more out xs i d before after within before_it grew =
     let f : Bor (List ℕ) → List ℕ = λ (w : Bor (List ℕ)). w.now in
     grew
-    ∙ (ap (λ l. l ++ separated (f (get_or xs i d) ∷ [])) stood
+    ∙ (ap (λ l. l ++ separated (f (get_or xs i d) ∷ [])) before_it
     ∙ (append_assoc out (separated (map f (take i xs))) (separated (f (get_or xs i d) ∷ []))
     ∙ ap (λ l. out ++ l)
     (sym (flat_map-append comma (map f (take i xs)) (f (get_or xs i d) ∷ []))

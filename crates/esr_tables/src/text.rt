@@ -55,7 +55,7 @@ impl Widths {
 }
 
 /// Appends so many blanks.
-fn push_blanks(out: &mut String, count: usize) -> Result<(), AllocError> {
+fn push_spaces(out: &mut String, count: usize) -> Result<(), AllocError> {
     for _ in 0..count {
         out.push_str(" ")?;
     }
@@ -69,9 +69,9 @@ fn push_cell(
     content: Content<'_>,
     width: usize,
 ) -> Result<(), AllocError> {
-    let blanks = width.saturating_sub(width_of(content));
+    let spaces = width.saturating_sub(width_of(content));
     if !is_of_words(cell) {
-        push_blanks(out, blanks)?;
+        push_spaces(out, spaces)?;
     }
     match content {
         Content::Number(number) => push_number(out, number)?,
@@ -79,7 +79,7 @@ fn push_cell(
         Content::Nothing => out.push_str("-")?,
     }
     if is_of_words(cell) {
-        push_blanks(out, blanks)?;
+        push_spaces(out, spaces)?;
     }
     Ok(())
 }
@@ -89,7 +89,7 @@ fn push_heads(out: &mut String, widths: &Widths) -> Result<(), AllocError> {
     let mut before = 0usize;
     for (width, (cell, _, _)) in widths.0.iter().zip(CELLS.iter()) {
         if *cell == Cell::ByLock {
-            push_blanks(out, before)?;
+            push_spaces(out, before)?;
             out.push_str("blocked by\n")?;
         }
         before = before.saturating_add(*width).saturating_add(2);

@@ -297,5 +297,5 @@ outcomes =
     []
 
 -- the definitions find the outcome of each history
-abbrev pub Agrees : Type 0
-Agrees = map outcome_of plays ≡ outcomes
+abbrev pub OutcomesMatch : Type 0
+OutcomesMatch = map outcome_of plays ≡ outcomes

@@ -5,33 +5,33 @@ use Rattle.std.specs.Prelude.{codes}
 use Rattle.esr_text.specs.Markup.{Attributes, none, one, Tag, opens, empty, closes, Closes, ends, next, IsMarkup, HasNo, IsName, IsPlain}
 
 -- an attribute before others
-pub attribute_before : (text attribute name quoted value behind : List ℕ)
-    → text ≡ 32 ∷ attribute → attribute ≡ name ++ (codes "='" ++ quoted) → quoted ≡ value ++ (39 ∷ behind)
-    → IsName name → IsPlain value → HasNo 39 value → Attributes behind → Attributes text
-attribute_before text attribute name quoted value behind e1 e2 e3 named plain unquoted rest =
+pub attribute_before : (text attribute name quoted value remainder : List ℕ)
+    → text ≡ 32 ∷ attribute → attribute ≡ name ++ (codes "='" ++ quoted) → quoted ≡ value ++ (39 ∷ remainder)
+    → IsName name → IsPlain value → HasNo 39 value → Attributes remainder → Attributes text
+attribute_before text attribute name quoted value remainder e1 e2 e3 named plain unquoted rest =
     subst Attributes
     (sym (e1 ∙ ap (λ (a : List ℕ). 32 ∷ a) (e2 ∙ ap (λ (q : List ℕ). name ++ (codes "='" ++ q)) e3)))
-    (one name value behind named plain unquoted rest)
+    (one name value remainder named plain unquoted rest)
 
 -- a tag that closes the innermost element
-pub closing : (path name outer behind : List ℕ) → path ≡ outer ++ (47 ∷ name) → behind ≡ outer → IsName name
-    → Tag path (47 ∷ name) behind
-closing path name outer behind e b named = rw (e, b) (closes outer name named)
+pub closing : (path name outer remainder : List ℕ) → path ≡ outer ++ (47 ∷ name) → remainder ≡ outer → IsName name
+    → Tag path (47 ∷ name) remainder
+closing path name outer remainder e b named = rw (e, b) (closes outer name named)
 
 -- a tag that is a whole element
-pub single : (path tag element name attributes behind : List ℕ) → tag ≡ element ++ (47 ∷ [])
-    → element ≡ name ++ attributes → behind ≡ path → IsName name → Attributes attributes → Tag path tag behind
-single path tag element name attributes behind t e b named given = rw (t, e, b) (empty path name attributes named given)
+pub single : (path tag element name attributes remainder : List ℕ) → tag ≡ element ++ (47 ∷ [])
+    → element ≡ name ++ attributes → remainder ≡ path → IsName name → Attributes attributes → Tag path tag remainder
+single path tag element name attributes remainder t e b named given = rw (t, e, b) (empty path name attributes named given)
 
 -- a tag that opens an element
-pub starting : (path tag name attributes behind : List ℕ) → tag ≡ name ++ attributes → behind ≡ path ++ (47 ∷ name)
-    → IsName name → Attributes attributes → Tag path tag behind
-starting path tag name attributes behind t b named given = rw (t, b) (opens path name attributes named given)
+pub starting : (path tag name attributes remainder : List ℕ) → tag ≡ name ++ attributes → remainder ≡ path ++ (47 ∷ name)
+    → IsName name → Attributes attributes → Tag path tag remainder
+starting path tag name attributes remainder t b named given = rw (t, b) (opens path name attributes named given)
 
 -- a text behind a tag
-pub continuing : (path text plain tag behind rest : List ℕ) → text ≡ plain ++ (60 ∷ (tag ++ (62 ∷ rest)))
-    → IsPlain plain → Tag path tag behind → Closes behind rest → Closes path text
-continuing path text plain tag behind rest e flat tagged closed = rw e (next path plain tag behind rest flat tagged closed)
+pub continuing : (path text plain tag remainder rest : List ℕ) → text ≡ plain ++ (60 ∷ (tag ++ (62 ∷ rest)))
+    → IsPlain plain → Tag path tag remainder → Closes remainder rest → Closes path text
+continuing path text plain tag remainder rest e flat tagged closed = rw e (next path plain tag remainder rest flat tagged closed)
 
 -- no attributes
 pub none_of : (text : List ℕ) → (length text == 0) ≡ true → Attributes text

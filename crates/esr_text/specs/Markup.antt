@@ -35,7 +35,7 @@ pub data Tag : List ℕ → List ℕ → List ℕ → Type 0 where
 -- a text that closes, one after another, all elements that are open before it and all that it opens
 pub data Closes : List ℕ → List ℕ → Type 0 where
   ends : (plain : List ℕ) → IsPlain plain → Closes [] plain
-  next : (path plain tag behind rest : List ℕ) → IsPlain plain → Tag path tag behind → Closes behind rest
+  next : (path plain tag remainder rest : List ℕ) → IsPlain plain → Tag path tag remainder → Closes remainder rest
       → Closes path (plain ++ (60 ∷ (tag ++ (62 ∷ rest))))
 
 -- what may stand within an element: it closes what it opens

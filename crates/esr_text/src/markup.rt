@@ -45,15 +45,15 @@ fn is_plain(text: &str) -> bool
 }
 
 /// What is behind the first attribute of a text.
-fn behind_attribute(text: &str) -> Option<&str>
-    ensures shorter { IfSome result (λ behind. length behind.now < length text.now) }
-    ensures continues { IfSome result (λ behind. Attributes behind.now → Attributes text.now) }
+fn after_attribute(text: &str) -> Option<&str>
+    ensures shorter { IfSome result (λ remainder. length remainder.now < length text.now) }
+    ensures continues { IfSome result (λ remainder. Attributes remainder.now → Attributes text.now) }
 {
     let attribute = text.strip_prefix(' ')?;
     let (name, quoted) = attribute.split_once("='")?;
-    let (value, behind) = quoted.split_once('\'')?;
+    let (value, remainder) = quoted.split_once('\'')?;
     if is_name(name) && is_plain(value) {
-        Some(behind)
+        Some(remainder)
     } else {
         None
     }
@@ -65,8 +65,8 @@ pub fn is_attributes(text: &str) -> bool
 {
     let mut rest = text;
     while !rest.is_empty() {
-        match behind_attribute(rest) {
-            Some(behind) => rest = behind,
+        match after_attribute(rest) {
+            Some(remainder) => rest = remainder,
             None => return false,
         }
     }
@@ -107,8 +107,8 @@ fn within(alloc: Global, path: &str, name: &str) -> Result<String, AllocError>
 }
 
 /// The elements that are open behind the tag that closes an element, if it is the innermost.
-fn behind_end(alloc: Global, path: &str, name: &str) -> Result<Option<String>, AllocError>
-    ensures { IfOk result (λ found. IfSome found (λ behind. Tag path.now (47 ∷ name.now) (string_bytes behind))) }
+fn after_end(alloc: Global, path: &str, name: &str) -> Result<Option<String>, AllocError>
+    ensures { IfOk result (λ found. IfSome found (λ remainder. Tag path.now (47 ∷ name.now) (string_bytes remainder))) }
 {
     match around(path, name) {
         Some(outer) if is_name(name) => Ok(Some(String::from_str(alloc, outer)?)),
@@ -117,8 +117,8 @@ fn behind_end(alloc: Global, path: &str, name: &str) -> Result<Option<String>, A
 }
 
 /// The elements that are open behind a tag that does not close an element that was open.
-fn behind_start(alloc: Global, path: &str, tag: &str) -> Result<Option<String>, AllocError>
-    ensures { IfOk result (λ found. IfSome found (λ behind. Tag path.now tag.now (string_bytes behind))) }
+fn after_start(alloc: Global, path: &str, tag: &str) -> Result<Option<String>, AllocError>
+    ensures { IfOk result (λ found. IfSome found (λ remainder. Tag path.now tag.now (string_bytes remainder))) }
 {
     if let Some(element) = tag.strip_suffix('/') {
         return match element_of(element) {
@@ -133,12 +133,12 @@ fn behind_start(alloc: Global, path: &str, tag: &str) -> Result<Option<String>, 
 }
 
 /// The elements that are open behind a tag, if it may stand where these are open.
-fn open_behind(alloc: Global, path: &str, tag: &str) -> Result<Option<String>, AllocError>
-    ensures { IfOk result (λ found. IfSome found (λ behind. Tag path.now tag.now (string_bytes behind))) }
+fn open_after(alloc: Global, path: &str, tag: &str) -> Result<Option<String>, AllocError>
+    ensures { IfOk result (λ found. IfSome found (λ remainder. Tag path.now tag.now (string_bytes remainder))) }
 {
     match tag.strip_prefix('/') {
-        Some(name) => behind_end(alloc, path, name),
-        None => behind_start(alloc, path, tag),
+        Some(name) => after_end(alloc, path, name),
+        None => after_start(alloc, path, tag),
     }
 }
 
@@ -148,8 +148,8 @@ fn parts(text: &str) -> Option<(&str, &str, &str)>
     ensures shorter { IfSome result (λ p. length p.2.now < length text.now) }
     ensures whole { IfSome result (λ p. text.now ≡ p.0.now ++ (60 ∷ (p.1.now ++ (62 ∷ p.2.now)))) }
 {
-    let (plain, behind) = text.split_once('<')?;
-    let (tag, rest) = behind.split_once('>')?;
+    let (plain, remainder) = text.split_once('<')?;
+    let (tag, rest) = remainder.split_once('>')?;
     if is_plain(plain) {
         Some((plain, tag, rest))
     } else {
@@ -174,12 +174,12 @@ pub fn is_markup(alloc: Global, text: &str) -> Result<bool, AllocError>
 {
     let mut path = String::new(alloc);
     let mut rest = text;
-    while let Some((_, tag, behind)) = parts(rest) {
-        match open_behind(alloc, path.as_str(), tag)? {
+    while let Some((_, tag, remainder)) = parts(rest) {
+        match open_after(alloc, path.as_str(), tag)? {
             Some(open) => path = open,
             None => return Ok(false),
         }
-        rest = behind;
+        rest = remainder;
     }
     Ok(is_end(path.as_str(), rest))
 }

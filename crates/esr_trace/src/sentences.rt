@@ -35,7 +35,7 @@ fn push_moment(
 }
 
 /// Whether it is placed behind updates that had committed when it began, so that earlier moments do not count.
-fn has_to_be_behind(audited: &Audited<'_>) -> bool {
+fn must_follow(audited: &Audited<'_>) -> bool {
     !audited.finding.problem.must().is_empty()
 }
 
@@ -51,7 +51,7 @@ pub fn push_verdict(
     }
     write!(out, "What {query}")?;
     if audited.finding.distance > 0 {
-        return out.push_str(if has_to_be_behind(audited) {
+        return out.push_str(if must_follow(audited) {
             " read was not a state that a strict report may be placed at."
         } else {
             " read was never a consistent state."
@@ -68,7 +68,7 @@ pub fn push_nearest_moment(
     audited: &Audited<'_>,
     trace: &QueryTrace,
 ) -> Result<(), AllocError> {
-    out.push_str(if has_to_be_behind(audited) {
+    out.push_str(if must_follow(audited) {
         "The nearest of these, "
     } else {
         "The nearest state, "
@@ -147,7 +147,7 @@ pub fn push_strict(
     out: &mut String,
     audited: &Audited<'_>,
 ) -> Result<(), AllocError> {
-    if !has_to_be_behind(audited) {
+    if !must_follow(audited) {
         return Ok(());
     }
     let seen = updates_seen(alloc, audited)?;

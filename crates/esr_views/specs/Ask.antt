@@ -10,7 +10,7 @@ use Rattle.esr_order.specs.Least.{least_set}
 use Rattle.esr_order.specs.Near.{AreNear}
 use Rattle.esr_audit.specs.declared.finding.Finding.{Finding}
 use Rattle.esr_audit.specs.Findings.{summary, summary_of}
-use Rattle.esr_audit.specs.Problems.{StandsFor}
+use Rattle.esr_audit.specs.Problems.{IsProblemOf}
 use Rattle.esr_views.specs.declared.query.AuditedQuery.{AuditedQuery}
 use Rattle.esr_views.specs.declared.recording.Recording.{Recording}
 use Rattle.esr_views.specs.State.{ScriptState, transaction_called}
@@ -18,12 +18,12 @@ use Rattle.esr_views.specs.State.{ScriptState, transaction_called}
 -- The problem stands for the query of the history, and is one of just its near updates; the certificate certifies it,
 -- with the smallest least set, and does not tell how many augmentations lead to its flow.
 pub record IsFound (h : Schedule) (q : ℕ) (problem : Problem) (certificate : Certificate) : Type 0 where
-  pub stands : StandsFor weighted h q problem
+  pub stands : IsProblemOf weighted h q problem
   pub near : AreNear h q problem.updates
   pub certified : Certifies problem certificate
   pub set_is : filter_map (slice_get problem.updates) certificate.set ≡ least_set weighted h q
   pub smallest : IsSmallestLeast problem (in_set certificate.set)
-  pub untold : certificate.augmentations ≡ None
+  pub without_count : certificate.augmentations ≡ None
 
 -- What is found of the query of that name, which has committed: what the audit tells of it, and the problem with its
 -- certificate.

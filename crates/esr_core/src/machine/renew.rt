@@ -110,7 +110,7 @@ impl<M: Metric + Drop> Machine<M> {
         let opening = self.committed_values(alloc)?;
         let items = Store::of_valid(alloc, &opening)?;
         let mut state = State::new(alloc, items)?;
-        state.prepare(self.state.transactions.len());
+        state.reserve_transactions(self.state.transactions.len());
         Ok((state, opening))
     }
 }

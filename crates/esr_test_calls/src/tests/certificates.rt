@@ -13,7 +13,7 @@ pub(super) type Item<'a> = (u32, &'a [u32], &'a [u64]);
 
 /// The parts of a problem.
 #[derive(Clone, Copy)]
-struct Asked<'a> {
+struct OneItemEvent<'a> {
     updates: &'a [u32],
     before: &'a [(u32, u32)],
     items: &'a [Item<'a>],
@@ -21,7 +21,7 @@ struct Asked<'a> {
 }
 
 /// Two updates in a row, and two items: the second wrote both, the first one of them.
-const REPORT: Asked<'static> = Asked {
+const REPORT: OneItemEvent<'static> = OneItemEvent {
     updates: &[2, 3],
     before: &[(0, 1)],
     items: &[(0, &[0, 1], &[0, 10, 1]), (1, &[1], &[8, 0])],
@@ -34,24 +34,24 @@ const TOO_DEAR: &[Item<'static>] = &[
 ];
 
 /// Two updates in a row, each of an item of its own.
-const THIRD_ITEM: Asked<'static> = Asked {
+const THIRD_ITEM: OneItemEvent<'static> = OneItemEvent {
     items: &[(0, &[0], &[0, 6]), (1, &[1], &[2, 0])],
     ..REPORT
 };
 
-const NOTHING: Asked<'static> = Asked {
+const NOTHING: OneItemEvent<'static> = OneItemEvent {
     updates: &[],
     before: &[],
     items: &[],
     must: &[],
 };
 
-const ONE_ITEM: Asked<'static> = Asked {
+const ONE_ITEM: OneItemEvent<'static> = OneItemEvent {
     items: &[(0, &[], &[4])],
     ..NOTHING
 };
 
-const STRICT: Asked<'static> = Asked {
+const STRICT: OneItemEvent<'static> = OneItemEvent {
     updates: &[1],
     before: &[],
     items: &[(0, &[0], &[0, 5])],
@@ -158,15 +158,15 @@ const OF_SEEN: [Case; 5] = [
     (Set(&[]), Some(Fault::SetNotClosed)),
 ];
 
-fn faulty_problems() -> &'static [(Asked<'static>, BundleFault)] {
+fn faulty_problems() -> &'static [(OneItemEvent<'static>, BundleFault)] {
     &REFUSED
 }
 
 /// Parts that are no problem, and the rule that each breaks.
-static REFUSED: [(Asked<'static>, BundleFault); 5] = [
+static REFUSED: [(OneItemEvent<'static>, BundleFault); 5] = [
     // Neighbours of a chain are no pair.
     (
-        Asked {
+        OneItemEvent {
             before: &[],
             ..REPORT
         },
@@ -174,7 +174,7 @@ static REFUSED: [(Asked<'static>, BundleFault); 5] = [
     ),
     // 0 is no transaction.
     (
-        Asked {
+        OneItemEvent {
             updates: &[2, 0],
             ..REPORT
         },
@@ -182,7 +182,7 @@ static REFUSED: [(Asked<'static>, BundleFault); 5] = [
     ),
     // A cost is above what reads can cost.
     (
-        Asked {
+        OneItemEvent {
             items: TOO_DEAR,
             ..REPORT
         },
@@ -190,7 +190,7 @@ static REFUSED: [(Asked<'static>, BundleFault); 5] = [
     ),
     // An update is there twice, which is of shape and told before the cost.
     (
-        Asked {
+        OneItemEvent {
             updates: &[2, 2],
             items: TOO_DEAR,
             ..REPORT
@@ -199,7 +199,7 @@ static REFUSED: [(Asked<'static>, BundleFault); 5] = [
     ),
     // What must be held is none of the updates.
     (
-        Asked {
+        OneItemEvent {
             items: &[],
             must: &[1],
             ..STRICT
@@ -234,7 +234,7 @@ pub(super) fn chains(alloc: Global, items: &[Item]) -> Result<Vec<Chain>, AllocE
     Ok(chains)
 }
 
-fn problem(alloc: Global, asked: Asked) -> Result<Problem, BundleFault> {
+fn problem(alloc: Global, asked: OneItemEvent) -> Result<Problem, BundleFault> {
     let chains = chains(alloc, asked.items)?;
     let updates = numbers(alloc, asked.updates)?;
     let before = asked.before.to_vec(alloc)?;
@@ -289,7 +289,7 @@ fn change_certificate(
 }
 
 /// Compares the first fault of a certificate with each of these changes.
-fn check_all(rt: &impl Abort, alloc: Global, asked: Asked, parts: Parts, cases: &[Case]) {
+fn check_all(rt: &impl Abort, alloc: Global, asked: OneItemEvent, parts: Parts, cases: &[Case]) {
     let Ok(problem) = problem(alloc, asked) else {
         panic!(rt; "a problem")
     };

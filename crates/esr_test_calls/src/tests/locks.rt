@@ -3,7 +3,7 @@
 
 ghost use Rattle.std.specs.Prelude.{◌≡◌, ◌<◌, length, map};
 ghost use Rattle.std.specs.List.{range_with_len};
-ghost use Rattle.esr_locks.specs.Tables.{no_locks, room_for};
+ghost use Rattle.esr_locks.specs.Tables.{no_locks, locks_that_fit};
 
 use esr_history::TxnId;
 use esr_items::ItemId;
@@ -21,10 +21,10 @@ fn table(rt: &impl Abort, alloc: Global) -> LockTable
     LockTable::new(alloc, 2).expect(rt, "memory")
 }
 
-fn make_room(rt: &impl Abort, locks: &mut LockTable, t: TxnId, x: ItemId)
+fn reserve_lock(rt: &impl Abort, locks: &mut LockTable, t: TxnId, x: ItemId)
     requires { x.0 < length locks.old.locks }
     ensures same { locks.new.locks ≡ locks.old.locks }
-    ensures room { 0 < room_for locks.new t.0 x.0 }
+    ensures capacity_left { 0 < locks_that_fit locks.new t.0 x.0 }
 {
     locks.reserve(t, x).expect(rt, "memory")
 }
@@ -33,7 +33,7 @@ fn read_by(rt: &impl Abort, locks: &mut LockTable, t: TxnId)
     requires { 0 < length locks.old.locks }
     ensures { length locks.new.locks ≡ length locks.old.locks }
 {
-    make_room(rt, locks, t, A);
+    reserve_lock(rt, locks, t, A);
     locks.add_read_update(t, A);
 }
 
@@ -41,7 +41,7 @@ fn write_by(rt: &impl Abort, locks: &mut LockTable, t: TxnId)
     requires { 0 < length locks.old.locks }
     ensures { length locks.new.locks ≡ length locks.old.locks }
 {
-    make_room(rt, locks, t, A);
+    reserve_lock(rt, locks, t, A);
     locks.add_write(t, A);
 }
 
@@ -85,11 +85,11 @@ fn queries_stand_by_their_numbers_with_counts(rt: HostRuntime) {
     let mut locks = table(&rt, rt.alloc());
     let q = TxnId(4);
     let r = TxnId(2);
-    make_room(&rt, &mut locks, q, B);
+    reserve_lock(&rt, &mut locks, q, B);
     locks.add_read_query(q, B);
-    make_room(&rt, &mut locks, r, B);
+    reserve_lock(&rt, &mut locks, r, B);
     locks.add_read_query(r, B);
-    make_room(&rt, &mut locks, q, B);
+    reserve_lock(&rt, &mut locks, q, B);
     locks.add_read_query(q, B);
     assert!(rt; locks.query_reads(A).is_empty());
     assert!(rt;
@@ -125,11 +125,11 @@ fn more_queries_than_a_row_holds_stand_by_their_numbers(rt: HostRuntime) {
     let q = TxnId(4);
     let r = TxnId(2);
     let s = TxnId(3);
-    make_room(&rt, &mut locks, q, B);
+    reserve_lock(&rt, &mut locks, q, B);
     locks.add_read_query(q, B);
-    make_room(&rt, &mut locks, r, B);
+    reserve_lock(&rt, &mut locks, r, B);
     locks.add_read_query(r, B);
-    make_room(&rt, &mut locks, s, B);
+    reserve_lock(&rt, &mut locks, s, B);
     locks.add_read_query(s, B);
     locks.release(r);
     assert!(rt;

@@ -1,7 +1,7 @@
 //! Events given to a machine over one item, with the replies that they get by hand. A machine answers as a definition
 //! says or is out of memory: no clause can say that it ever answers, or that the definition is that of the pages.
 
-use Asked::{Commit, Query, Read, Update, Write};
+use OneItemEvent::{Commit, Query, Read, Update, Write};
 use esr_core::{Machine, RenewError, StepError, Totals};
 use esr_history::Reply::{Aborted, Begun, Committed, Refused, Value, Wrote};
 use esr_history::{Event, NoMemory, Refusal, Reply, TxnId};
@@ -11,7 +11,7 @@ use std::process::Abort;
 
 /// An event on the one item of a machine: the limit of a begin, the transaction of all others.
 #[derive(Clone, Copy)]
-enum Asked {
+enum OneItemEvent {
     Update(u64),
     Query(u64),
     Read(u32),
@@ -20,7 +20,7 @@ enum Asked {
     Abort(u32),
 }
 
-fn event(asked: Asked) -> Event {
+fn event(asked: OneItemEvent) -> Event {
     let item = ItemId(0);
     match asked {
         Update(limit) => Event::BeginUpdate { limit },
@@ -38,7 +38,7 @@ fn event(asked: Asked) -> Event {
             value,
         },
         Commit(t) => Event::Commit { txn: TxnId(t) },
-        Asked::Abort(t) => Event::Abort { txn: TxnId(t) },
+        OneItemEvent::Abort(t) => Event::Abort { txn: TxnId(t) },
     }
 }
 
@@ -54,7 +54,7 @@ fn open(alloc: Global, value: i64) -> Result<Machine<Plain>, NoMemory> {
 }
 
 /// The same, where one allocation may be refused.
-fn open_at_last(rt: &impl Abort, alloc: Global, value: i64) -> Machine<Plain> {
+fn open_with_retry(rt: &impl Abort, alloc: Global, value: i64) -> Machine<Plain> {
     match open(alloc, value) {
         Ok(machine) => machine,
         Err(_) => open(alloc, value).expect(rt, "memory"),
@@ -80,16 +80,22 @@ fn step(rt: &impl Abort, machine: &mut Machine<Plain>, event: Event, reply: Repl
 }
 
 /// Gives events, each of which is answered so.
-fn play(rt: &impl Abort, machine: &mut Machine<Plain>, rows: &[(Asked, Reply)]) {
+fn run_events(rt: &impl Abort, machine: &mut Machine<Plain>, rows: &[(OneItemEvent, Reply)]) {
     for (asked, reply) in rows {
         step(rt, machine, event(*asked), *reply);
     }
 }
 
 /// Opens a machine over one item, which answers the events so, and imports and exports so much.
-fn plays(rt: &impl Abort, alloc: Global, value: i64, rows: &[(Asked, Reply)], import: u128) {
-    let mut machine = open_at_last(rt, alloc, value);
-    play(rt, &mut machine, rows);
+fn check_run(
+    rt: &impl Abort,
+    alloc: Global,
+    value: i64,
+    rows: &[(OneItemEvent, Reply)],
+    import: u128,
+) {
+    let mut machine = open_with_retry(rt, alloc, value);
+    run_events(rt, &mut machine, rows);
     let totals = Totals {
         import,
         export: import,
@@ -98,7 +104,7 @@ fn plays(rt: &impl Abort, alloc: Global, value: i64, rows: &[(Asked, Reply)], im
     assert!(rt; machine.totals() == totals);
 }
 
-const BESIDE_A_WRITER: [(Asked, Reply); 6] = [
+const REPORT_AND_WRITER: [(OneItemEvent, Reply); 6] = [
     (Update(50), Begun(TxnId(1))),
     (Query(10), Begun(TxnId(2))),
     (Write(1, 107), Wrote),
@@ -109,11 +115,11 @@ const BESIDE_A_WRITER: [(Asked, Reply); 6] = [
 
 /// A machine that is always out of memory keeps its contract; and a definition could charge more than the distance.
 #[test]
-fn report_beside_a_writer(rt: HostRuntime) {
-    plays(&rt, rt.alloc(), 100, &BESIDE_A_WRITER, 7);
+fn report_concurrent_with_writer(rt: HostRuntime) {
+    check_run(&rt, rt.alloc(), 100, &REPORT_AND_WRITER, 7);
 }
 
-const OVER_QUERIES: [(Asked, Reply); 9] = [
+const OVER_QUERIES: [(OneItemEvent, Reply); 9] = [
     (Query(10), Begun(TxnId(1))),
     (Query(5), Begun(TxnId(2))),
     (Update(14), Begun(TxnId(3))),
@@ -128,10 +134,10 @@ const OVER_QUERIES: [(Asked, Reply); 9] = [
 /// A definition that refused what just fills a limit would be as safe: here 15 passes where 14 are too few.
 #[test]
 fn export_limit_over_queries(rt: HostRuntime) {
-    plays(&rt, rt.alloc(), 0, &OVER_QUERIES, 15);
+    check_run(&rt, rt.alloc(), 0, &OVER_QUERIES, 15);
 }
 
-const UPGRADE: [(Asked, Reply); 8] = [
+const UPGRADE: [(OneItemEvent, Reply); 8] = [
     (Update(0), Begun(TxnId(1))),
     (Update(0), Begun(TxnId(2))),
     (Read(1), Value(0)),
@@ -145,28 +151,28 @@ const UPGRADE: [(Asked, Reply); 8] = [
 /// A definition that refused each upgrade would be as serializable: here it passes once the other reader has ended.
 #[test]
 fn upgrade_waits_for_a_reader(rt: HostRuntime) {
-    plays(&rt, rt.alloc(), 0, &UPGRADE, 0);
+    check_run(&rt, rt.alloc(), 0, &UPGRADE, 0);
 }
 
-const ABORTED: [(Asked, Reply); 5] = [
+const ABORTED: [(OneItemEvent, Reply); 5] = [
     (Update(0), Begun(TxnId(1))),
     (Write(1, 5), Wrote),
-    (Asked::Abort(1), Aborted),
+    (OneItemEvent::Abort(1), Aborted),
     (Update(0), Begun(TxnId(2))),
     (Read(2), Value(1)),
 ];
 
 /// No clause can say that an abort finds memory for its entry: a machine that never takes one would be proved.
 #[test]
-fn abort_puts_back(rt: HostRuntime) {
-    let mut machine = open_at_last(&rt, rt.alloc(), 1);
-    play(&rt, &mut machine, &ABORTED);
+fn abort_rolls_back(rt: HostRuntime) {
+    let mut machine = open_with_retry(&rt, rt.alloc(), 1);
+    run_events(&rt, &mut machine, &ABORTED);
     assert!(rt; machine.history().items() == 1);
     assert!(rt; machine.close().log().len() == 5);
 }
 
 /// Goes on from the committed values, where one allocation may be refused.
-fn renew_at_last(m: &mut Machine<Plain>, alloc: Global) -> Result<(), RenewError> {
+fn renew_with_retry(m: &mut Machine<Plain>, alloc: Global) -> Result<(), RenewError> {
     match m.renew(alloc, Plain) {
         Err(RenewError::NoMemory) => m.renew(alloc, Plain),
         answer => answer,
@@ -176,17 +182,17 @@ fn renew_at_last(m: &mut Machine<Plain>, alloc: Global) -> Result<(), RenewError
 /// A renewal that is always out of memory keeps its contract, and the history would fill up with no way on.
 #[test]
 fn renewed_over_committed_values(rt: HostRuntime) {
-    let mut machine = open_at_last(&rt, rt.alloc(), 1);
+    let mut machine = open_with_retry(&rt, rt.alloc(), 1);
     let m = &mut machine;
-    play(
+    run_events(
         &rt,
         m,
         &[(Update(0), Begun(TxnId(1))), (Write(1, 5), Wrote)],
     );
     assert!(rt; m.has_active());
-    assert!(rt; renew_at_last(m, rt.alloc()) == Err(RenewError::TransactionActive));
-    play(&rt, m, &[(Commit(1), Committed)]);
-    assert!(rt; renew_at_last(m, rt.alloc()) == Ok(()));
+    assert!(rt; renew_with_retry(m, rt.alloc()) == Err(RenewError::TransactionActive));
+    run_events(&rt, m, &[(Commit(1), Committed)]);
+    assert!(rt; renew_with_retry(m, rt.alloc()) == Ok(()));
     assert!(rt; m.log().len() == 0);
-    play(&rt, m, &[(Update(0), Begun(TxnId(1))), (Read(1), Value(5))]);
+    run_events(&rt, m, &[(Update(0), Begun(TxnId(1))), (Read(1), Value(5))]);
 }

@@ -76,7 +76,7 @@ fn machine(rt: &impl Abort, alloc: Global) -> Machine<Plain> {
 }
 
 /// Gives the machine the events, which it accepts.
-fn play(rt: &impl Abort, machine: &mut Machine<Plain>, events: &[Event]) {
+fn run_events(rt: &impl Abort, machine: &mut Machine<Plain>, events: &[Event]) {
     for event in events {
         let reply = machine.step(*event);
         assert!(rt;
@@ -111,7 +111,7 @@ fn is_of_the_first_report(found: &Finding) -> bool {
 /// A machine that played the two updates over a report.
 fn machine_after_report(rt: &impl Abort, alloc: Global) -> Machine<Plain> {
     let mut machine = machine(rt, alloc);
-    play(rt, &mut machine, &TWO_UPDATES_OVER_A_REPORT);
+    run_events(rt, &mut machine, &TWO_UPDATES_OVER_A_REPORT);
     machine
 }
 
@@ -154,7 +154,7 @@ fn an_empty_history_has_no_findings(rt: HostRuntime) {
 #[test]
 fn two_workers_at_once(rt: HostRuntime) {
     let mut m = machine_after_report(&rt, rt.alloc());
-    play(&rt, &mut m, &A_SECOND_REPORT);
+    run_events(&rt, &mut m, &A_SECOND_REPORT);
     let gate = Meeting::new();
     let book = audit_by(&rt, rt.alloc(), m.history(), 2, &gate);
     assert!(rt; book.findings.len() == 2);

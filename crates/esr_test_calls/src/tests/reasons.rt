@@ -154,7 +154,7 @@ fn rows() -> &'static [Row] {
 fn check_row(rt: &impl Abort, alloc: Global, row: Row) {
     let (line, column, text) = row;
     let finding = find_reason(line);
-    let Ok(told) = finding.reason.to_string(alloc) else {
+    let Ok(printed) = finding.reason.to_string(alloc) else {
         panic!(rt; "no memory for {}", text)
     };
     assert!(rt;
@@ -163,7 +163,7 @@ fn check_row(rt: &impl Abort, alloc: Global, row: Row) {
         text,
         column
     );
-    assert!(rt; told.as_str() == text, "{} is told", text);
+    assert!(rt; printed.as_str() == text, "{} is told", text);
 }
 
 #[test]

@@ -241,7 +241,7 @@ where
     let (first, mut second) = last_two(&rt, &mut sessions);
     let first = write_apart(rt, first);
     read_five(&rt, &mut second);
-    give_back(&rt, &mut sessions, first, second);
+    release(&rt, &mut sessions, first, second);
     let closed = close_all(&rt, engine, sessions);
     assert!(rt; closed.history.log().len() == 6);
     check_list_given_twice(&rt, alloc, closed);
@@ -259,7 +259,7 @@ fn last_two<N: Naming>(
 }
 
 /// Puts two sessions back.
-fn give_back<N: Naming>(
+fn release<N: Naming>(
     rt: &impl Abort,
     sessions: &mut Vec<Session<Plain, N>>,
     first: Session<Plain, N>,
@@ -363,7 +363,7 @@ where
     };
     let (mut first, mut second) = last_two(&rt, &mut sessions);
     block_on_a_write(&rt, &mut first, &mut second);
-    give_back(&rt, &mut sessions, first, second);
+    release(&rt, &mut sessions, first, second);
     let closed = close_all(&rt, engine, sessions);
     check_turns(&rt, &closed);
     let late = idle.call(&rt, Event::BeginUpdate { limit: 0 });

@@ -278,7 +278,7 @@ fn ways() -> &'static [(Words, Progress, Option<Format>)] {
 }
 
 /// Whether the words ask for this.
-fn asks_so(alloc: Global, words: Words, progress: Progress, format: Option<Format>) -> bool {
+fn requests(alloc: Global, words: Words, progress: Progress, format: Option<Format>) -> bool {
     match job_of(alloc, words) {
         Ok(job) => job.progress == progress && job.format == format,
         Err(_) => false,
@@ -290,7 +290,7 @@ fn asks_so(alloc: Global, words: Words, progress: Progress, format: Option<Forma
 fn words_say_how_it_is_told(rt: HostRuntime) {
     for (words, progress, format) in ways() {
         assert!(rt;
-            asks_so(rt.alloc(), words, *progress, *format),
+            requests(rt.alloc(), words, *progress, *format),
             "{:?}",
             words
         );

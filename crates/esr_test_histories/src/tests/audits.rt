@@ -1,7 +1,7 @@
 //! Audits of the worked histories.
 
 use super::Asked::{Commit, Query, Read, Update, Write};
-use super::placements::least_or_again;
+use super::placements::least_or_abort;
 use super::plain::agrees;
 use super::{
     Asked, BEHIND_AN_UPDATE, OVER_A_REPORT, STRICTLY_BEHIND_AN_UPDATE, THROUGH_A_THIRD_ITEM,
@@ -23,7 +23,7 @@ fn open_once(alloc: Global, opening: &[i64]) -> Option<Machine<Plain>> {
 }
 
 /// The same, once more where memory is refused.
-pub(super) fn open_or_again(alloc: Global, opening: &[i64]) -> Option<Machine<Plain>> {
+pub(super) fn open_machine(alloc: Global, opening: &[i64]) -> Option<Machine<Plain>> {
     match open_once(alloc, opening) {
         None => open_once(alloc, opening),
         opened => opened,
@@ -36,7 +36,7 @@ pub(super) fn machine_after(
     opening: &[i64],
     events: &[Asked],
 ) -> Option<Machine<Plain>> {
-    let mut m = open_or_again(alloc, opening)?;
+    let mut m = open_machine(alloc, opening)?;
     if play(&mut m, events) { Some(m) } else { None }
 }
 
@@ -93,7 +93,7 @@ fn finds(alloc: Global, m: &Machine<Plain>, row: Row) -> bool {
     match audit_of(alloc, m, row.query) {
         Ok(found) => {
             has(&found, row)
-                && least_or_again(alloc, m, row.query) == Some((row.distance, row.before.len()))
+                && least_or_abort(alloc, m, row.query) == Some((row.distance, row.before.len()))
                 && agrees(alloc, m, 1)
         }
         Err(_) => false,

@@ -93,7 +93,7 @@ fn operations_in(alloc: Global, log: &Log) -> Result<Vec<Operation>, AllocError>
 }
 
 /// Whether an operation of v comes before this one and conflicts with it.
-fn is_behind(operations: &[Operation], v: u32, late: Operation) -> bool {
+fn follows(operations: &[Operation], v: u32, late: Operation) -> bool {
     for early in operations {
         let conflicts = early.item == late.item && (early.write || late.write);
         if early.txn == v && early.at < late.at && conflicts {
@@ -106,7 +106,7 @@ fn is_behind(operations: &[Operation], v: u32, late: Operation) -> bool {
 /// Whether an operation comes before one of u that it conflicts with, and is v's.
 fn is_after(operations: &[Operation], u: u32, v: u32) -> bool {
     for late in operations {
-        if late.txn == u && is_behind(operations, v, *late) {
+        if late.txn == u && follows(operations, v, *late) {
             return true;
         }
     }
@@ -330,7 +330,7 @@ fn least(alloc: Global, m: &Machine<Plain>, q: u32) -> Result<(u64, usize), Allo
 }
 
 /// The same, once more where memory is refused.
-pub(super) fn least_or_again(alloc: Global, m: &Machine<Plain>, q: u32) -> Option<(u64, usize)> {
+pub(super) fn least_or_abort(alloc: Global, m: &Machine<Plain>, q: u32) -> Option<(u64, usize)> {
     match least(alloc, m, q) {
         Ok(found) => Some(found),
         Err(_) => least(alloc, m, q).ok(),
@@ -394,7 +394,7 @@ fn compare(
     q: u32,
 ) -> Option<((u64, usize), Option<(u64, usize)>)> {
     let found = audit_result(alloc, m, q)?;
-    Some((found, least_or_again(alloc, m, q)))
+    Some((found, least_or_abort(alloc, m, q)))
 }
 
 /// A wrong definition of a placement would be proved: a plain program that lists them all must find the same.

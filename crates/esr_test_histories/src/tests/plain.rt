@@ -1,7 +1,7 @@
 //! Plain forms beside the fast ones: scans of the log, a plain list of locks, and all pairs of updates that conflict.
 
 use super::Asked::{Commit, Query, Read, Strict, Update, Write};
-use super::audits::open_or_again;
+use super::audits::open_machine;
 use super::placements::Draws;
 use super::{Asked, accepts, order_of};
 use esr_core::Machine;
@@ -256,7 +256,7 @@ fn smaller(least: Option<u32>, u: u32) -> Option<u32> {
 }
 
 /// The smallest other update than t whose lock on an item is in the way of an operation at a place.
-fn holder_beside(
+fn conflicting_holder(
     log: &Log,
     facts: &[Option<Facts>],
     t: u32,
@@ -278,7 +278,7 @@ fn holder_beside(
 fn blocker(log: &Log, facts: &[Option<Facts>], i: usize, entry: Entry) -> Option<u32> {
     let x = item_in(entry)?;
     let t = txn_in(entry)?;
-    holder_beside(log, facts, t, x, i, written_in(entry).is_some())
+    conflicting_holder(log, facts, t, x, i, written_in(entry).is_some())
 }
 
 /// Whether an entry is a read by a query.
@@ -510,7 +510,7 @@ fn own_operations(
 }
 
 /// Whether an operation is behind one of these that it conflicts with.
-fn is_behind(own: &[Operation], late: Operation) -> bool {
+fn follows(own: &[Operation], late: Operation) -> bool {
     for early in own {
         let conflicts = early.item == late.item && (early.write || late.write);
         if early.at < late.at && conflicts {
@@ -523,7 +523,7 @@ fn is_behind(own: &[Operation], late: Operation) -> bool {
 /// Whether an operation of an update is behind one of these that it conflicts with.
 fn conflict(operations: &[Operation], own: &[Operation], j: usize) -> bool {
     for late in operations {
-        if late.position == j && is_behind(own, *late) {
+        if late.position == j && follows(own, *late) {
             return true;
         }
     }
@@ -556,7 +556,7 @@ fn reach_of(alloc: Global, order: &Order, i: usize) -> Result<Vec<bool>, AllocEr
 /// Whether all operations that are behind one of these, and conflict with it, are of marked updates.
 fn are_all_marked(operations: &[Operation], own: &[Operation], marks: &[bool]) -> bool {
     for late in operations {
-        if !is_marked(marks, late.position) && is_behind(own, *late) {
+        if !is_marked(marks, late.position) && follows(own, *late) {
             return false;
         }
     }
@@ -806,7 +806,7 @@ fn round(m: &mut Machine<Plain>, draws: &mut Draws, begun: u32) {
 
 /// A history of 64 items and 500 transactions, of which eight run at a time.
 fn draw_history(alloc: Global, seed: u64) -> Option<Machine<Plain>> {
-    let mut m = open_or_again(alloc, &[0; 64])?;
+    let mut m = open_machine(alloc, &[0; 64])?;
     let mut draws = Draws { state: seed };
     for begun in 1..501u32 {
         round(&mut m, &mut draws, begun);

@@ -216,7 +216,7 @@ fn count(alloc: Global, script: &str, text: &str) -> usize {
 #[test]
 fn of_many_updates_those_are_drawn_that_bound_what_is_seen(rt: HostRuntime) {
     let lanes = ("class='m n' x='20'", 3);
-    has_so_often(
+    occurs(
         &rt,
         rt.alloc(),
         8,
@@ -229,11 +229,11 @@ fn of_many_updates_those_are_drawn_that_bound_what_is_seen(rt: HostRuntime) {
         (">off by 28<", 1),
         ("keeps the line", 0),
     ];
-    has_so_often(&rt, rt.alloc(), 30, &of_many);
+    occurs(&rt, rt.alloc(), 30, &of_many);
 }
 
 /// Draws the query beside so many updates, and counts texts in what is written.
-fn has_so_often(rt: &impl Abort, alloc: Global, updates: u32, wanted: &[(&str, usize)]) {
+fn occurs(rt: &impl Abort, alloc: Global, updates: u32, wanted: &[(&str, usize)]) {
     let script = beside(alloc, updates).expect(rt, "memory");
     for (text, times) in wanted {
         assert!(rt;

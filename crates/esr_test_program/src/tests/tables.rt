@@ -90,7 +90,7 @@ fn writes<S: ScriptView>(rt: &impl Abort, alloc: Global, script: &str, view_of: 
 }
 
 /// Compares what is told of the report of the bank.
-fn tells<T: QueryView>(rt: &impl Abort, alloc: Global, view: &T, text: &str) {
+fn explains_as<T: QueryView>(rt: &impl Abort, alloc: Global, view: &T, text: &str) {
     let mut reader = Watched::new(BANK.as_bytes());
     let mut writer = Watched::new(Vec::new(alloc));
     let ended = render_query(
@@ -178,11 +178,11 @@ before,,,,,,early,,,,,,,,
 after,,,,,,transfer,,,,,,,,
 sums,,,,,,,,,,,,,100,200
 ";
-    tells(&rt, rt.alloc(), &ExplanationTable { data: Data::Csv }, csv);
+    explains_as(&rt, rt.alloc(), &ExplanationTable { data: Data::Csv }, csv);
     let json =
         r#"{"name":"report","reads":[{"item":"checking","value":400,"nearest":500,"off":100},{"item":"savings","value":1500,"nearest":1500,"off":0}],"charges":[{"operation":"read","update":"transfer","item":"checking","amount":100,"step":7,"import_left":100,"import_limit":200,"export_left":100,"export_limit":200},{"operation":"write","update":"transfer","item":"savings","amount":100,"step":9,"import_left":0,"import_limit":200,"export_left":0,"export_limit":200}],"before":["early"],"after":["transfer"],"distance":100,"import":200}
 "#;
-    tells(
+    explains_as(
         &rt,
         rt.alloc(),
         &ExplanationTable { data: Data::Json },

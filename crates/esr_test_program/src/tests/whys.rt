@@ -69,7 +69,7 @@ line 23: read third a: blocked by the write lock of second; second is still acti
 ";
 
 /// Whether this is told of a script.
-fn tells(rt: &impl Abort, alloc: Global, script: &str, name: Option<&str>, wanted: &str) {
+fn explains_as(rt: &impl Abort, alloc: Global, script: &str, name: Option<&str>, wanted: &str) {
     script_views(rt, alloc, script, &Why { name }, Ok(()), wanted);
 }
 
@@ -77,9 +77,9 @@ fn tells(rt: &impl Abort, alloc: Global, script: &str, name: Option<&str>, wante
 #[test]
 fn blocked_lines_and_rings_are_told(rt: HostRuntime) {
     let alloc = rt.alloc();
-    tells(&rt, alloc, CLOSING, None, CLOSING_TOLD);
-    tells(&rt, alloc, NIGHT, None, NIGHT_TOLD);
-    tells(
+    explains_as(&rt, alloc, CLOSING, None, CLOSING_TOLD);
+    explains_as(&rt, alloc, NIGHT, None, NIGHT_TOLD);
+    explains_as(
         &rt,
         alloc,
         "item a 0\nread b a\n",
@@ -96,9 +96,9 @@ fn one_transaction_is_told_of(rt: HostRuntime) {
 line 11: write other savings 1: blocked by the write lock of transfer; transfer ended at line 15
 deadlock: transfer waits for other at line 10, other waits for transfer at line 11
 ";
-    tells(&rt, alloc, CLOSING, Some("other"), other);
+    explains_as(&rt, alloc, CLOSING, Some("other"), other);
     let closer = "no line of closer was blocked\n";
-    tells(&rt, alloc, CLOSING, Some("closer"), closer);
+    explains_as(&rt, alloc, CLOSING, Some("closer"), closer);
 }
 
 /// The contract lets out of memory come in place of this refusal.

@@ -24,6 +24,6 @@ answer g c =
 pub returns-clause-finding : goal.returns-clause-finding
 returns-clause-finding g c = record {
   answer = answer g c;
-  shown = record { stands = c.in_ok-problem.ensures.stands; certified = c.in_ok-certificate.ensures.certifies; set_is = found g c; worth_is = refl; smallest = c.in_ok-certificate.ensures.least; untold = c.in_ok-certificate.ensures.untold };
+  shown = record { stands = c.in_ok-problem.ensures.stands; certified = c.in_ok-certificate.ensures.certifies; set_is = found g c; worth_is = refl; smallest = c.in_ok-certificate.ensures.least; without_count = c.in_ok-certificate.ensures.without_count };
   near = c.in_ok-problem.ensures.near;
 }

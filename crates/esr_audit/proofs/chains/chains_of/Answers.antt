@@ -8,7 +8,7 @@ use Rattle.esr_order.specs.Chains.{seen_links}
 use Rattle.esr_order.specs.Orders.{Ordered, chain_at}
 use Rattle.esr_cert.specs.Problem as spec
 use Rattle.esr_cert.specs.Views.{chain_of as chain_view}
-use Rattle.esr_audit.specs.Reads.{values_of, gathered, gathered_by, gathered_from, ItemRead}
+use Rattle.esr_audit.specs.Reads.{values_of, audit_chain, audit_chain_by, audit_chain_from, ItemRead}
 use Rattle.esr_audit.proofs.Gathered.{list_is, values_few, values_in_range, none_read, some_read, chain_step, chain_skip}
 use Rattle.esr_audit.proofs.chains.chains_of.Goals as goal
 use Rattle.esr_audit.proofs.chains.chains_of.Goals.{then-not-is_empty+in_ok-chain_of+in_ok-push, else-not-is_empty}
@@ -34,7 +34,7 @@ loop-x-preserved g c =
     let d = g.M.Metric.distance_by h.weights in
     let reads = c.args.reads.now in
     let x : ℕ = c.loop-x.x in
-    let G : ℕ → spec.Chain = gathered d h.opening c.args.order.now reads in
+    let G : ℕ → spec.Chain = audit_chain d h.opening c.args.order.now reads in
     let P : ℕ → Bool = λ y. list_any (λ (r : ItemRead). eqb r.item y) reads in
     let list = c.index-values.result.now in
     let inside : x < length c.in_ok-lists.lists.items = omega (arith, c.loop-x-test.true, c.items.ensures.items, c.items-x-end.ensures.items, c.in_ok-lists.ensures.count) in
@@ -46,8 +46,8 @@ loop-x-preserved g c =
           let some : P x ≡ true = some_read reads x (λ none. true≢false (sym (eq-eqb (vec_len list) 0 (size ∙ none)) ∙ (sym c.is_empty.ensures ∙ w.if-not-is_empty.true))) in
           let is : chain_view w.in_ok-chain_of.field-0 ≡ G x =
           w.in_ok-chain_of.ensures
-          ∙ ap (λ vs. gathered_by d h.opening (option_map seen_links w.take_chain-links.result) vs x) (w.deref.ensures.value ∙ values)
-          ∙ ap (λ o. gathered_from d h.opening o reads x) (taken.chain ∙ c.loop-x.invariant.left x (omega arith)) in record {
+          ∙ ap (λ vs. audit_chain_by d h.opening (option_map seen_links w.take_chain-links.result) vs x) (w.deref.ensures.value ∙ values)
+          ∙ ap (λ o. audit_chain_from d h.opening o reads x) (taken.chain ∙ c.loop-x.invariant.left x (omega arith)) in record {
             chains = ap (λ v. map chain_view v.items) w.chains-is ∙ chain_step chain_view G P x c.loop-x.chains.items w.push.new.self.items w.in_ok-chain_of.field-0 c.loop-x.invariant.chains some w.in_ok-push.ensures.items is;
             left = λ y later. ap (λ o. chain_at o y) w.order-is ∙ taken.others y (λ e. omega arith) ∙ c.loop-x.invariant.left y (omega arith);
             commits = ap (λ (o : Ordered). o.commits) w.order-is ∙ taken.commits ∙ c.loop-x.invariant.commits;

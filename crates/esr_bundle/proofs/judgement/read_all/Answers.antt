@@ -1,13 +1,13 @@
 -- Why `read_all` keeps its contract: the goals that are left to a proof of ours.
 use Rattle.std.proofs.Common.{rules, ◌≡◌, [], length, drop, arith, ◌∙◌, ap}
 use Rattle.std.proofs.KnownBytes.{Consumes-trans, Consumes-nil}
-use Rattle.esr_bundle.proofs.Verdicts.{no_more, room_kept}
+use Rattle.esr_bundle.proofs.Verdicts.{no_more, capacity_kept}
 use Rattle.esr_bundle.proofs.judgement.read_all.Goals as goal
 
 pub chunks-init : goal.chunks-init
 chunks-init g c =
     let none : c.new-bytes.result.items ≡ [] = search rules in
-    record { bound = rw none (omega arith); read = rw none (Consumes-nil _); room = c.in-Ok.ensures; failed = c.requires }
+    record { bound = rw none (omega arith); read = rw none (Consumes-nil _); chunk_buffer = c.in-Ok.ensures; failed = c.requires }
 
 pub returns-then-count-eq0-clause-ok : goal.returns-then-count-eq0-clause-ok
 returns-then-count-eq0-clause-ok g c =
@@ -26,6 +26,6 @@ chunks-preserved g c =
     record {
       bound = omega arith;
       read = rw came.2 (Consumes-trans _ _ _ _ _ c.chunks.invariant.read came.3);
-      room = room_kept c.read_some.new.chunk (drop (length c.read_some.new.chunk) c.chunks.chunk.items) c.chunks.chunk.len (omega (arith, c.chunks.chunk.ok.0, c.chunks.invariant.room)) (omega (arith, c.read_some.ensures.room, ap length c.deref_mut.ensures.value, c.chunks.invariant.room));
+      chunk_buffer = capacity_kept c.read_some.new.chunk (drop (length c.read_some.new.chunk) c.chunks.chunk.items) c.chunks.chunk.len (omega (arith, c.chunks.chunk.ok.0, c.chunks.invariant.chunk_buffer)) (omega (arith, c.read_some.ensures.chunk_buffer, ap length c.deref_mut.ensures.value, c.chunks.invariant.chunk_buffer));
       failed = search rules;
     }

@@ -8,7 +8,7 @@ abbrev pub invariant-chunks : goal.invariant-chunks
 invariant-chunks g l = record {
   bound : length l.bytes.items ≤ 64000000;
   read : Consumes (g.R.Read.remaining (inner l.initial.reader)) (g.R.Read.remaining (inner l.reader)) l.bytes.items;
-  room : 0 < length l.chunk.items;
+  chunk_buffer : 0 < length l.chunk.items;
   failed : failed l.reader ≡ false;
 }
 

@@ -6,7 +6,7 @@ use Rattle.serde_json.specs.Written.{has_float, compact_text}
 use Rattle.esr_cert.specs.Views.{certificate_of}
 use Rattle.esr_bundle.specs.Bundle.{bundle_data, is_position}
 use Rattle.esr_bundle.proofs.Judged.{not_faulty}
-use Rattle.esr_bundle.proofs.Trees.{plain_bundle, shallow_bundle, stands_back}
+use Rattle.esr_bundle.proofs.Trees.{plain_bundle, shallow_bundle, problem_round_trip}
 use Rattle.esr_bundle.proofs.writer.to_json.Goals as goal
 
 pub returns-clause-text : goal.returns-clause-text
@@ -21,4 +21,4 @@ returns-clause-stands c =
     let by = certificate_of c.args.certificate.now in
     let shallow = subst (λ (d : Data). depth d ≤ 127) (sym c.in_ok-tree.ensures) (shallow_bundle p by) in
     let read = c.in_ok-to_vec.ensures.reads_back shallow ∙ ap (λ (d : Data). Some d) c.in_ok-tree.ensures in
-    (bundle_data p by, (c.in_ok-to_vec.ensures.utf8, read), stands_back p by (not_faulty p c.updates-sound.ensures.sound) (ap (list_all is_position) (sym c.deref.ensures.value) ∙ c.as_positions-fits.ensures.fits))
+    (bundle_data p by, (c.in_ok-to_vec.ensures.utf8, read), problem_round_trip p by (not_faulty p c.updates-sound.ensures.sound) (ap (list_all is_position) (sym c.deref.ensures.value) ∙ c.as_positions-fits.ensures.fits))

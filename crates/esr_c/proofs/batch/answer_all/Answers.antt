@@ -27,9 +27,9 @@ pub returns-then-is_refusal-clause-answered : goal.returns-then-is_refusal-claus
 unfolding none
 returns-then-is_refusal-clause-answered c =
     let within : c.loop-i.i < length c.args.events.now = omega (arith, c.loop-i-test.true) in
-    let roomy : c.loop-i.i < length c.loop-i.replies = omega (arith, c.loop-i.auto.replies, c.requires.room, within) in
+    let has_capacity : c.loop-i.i < length c.loop-i.replies = omega (arith, c.loop-i.auto.replies, c.requires.capacity, within) in
     answered_more c.args.engine.now c.loop-i.engine c.args.events.now c.loop-i.i c.loop-i.replies none c.loop-i.invariant.answered within
-    c.in-Ok.reply c.answer_one.new.engine c.in-Ok.ensures.ok c.to_reply.result c.to_reply.ensures roomy
+    c.in-Ok.reply c.answer_one.new.engine c.in-Ok.ensures.ok c.to_reply.result c.to_reply.ensures has_capacity
 
 pub returns-then-is_refusal-clause-end : goal.returns-then-is_refusal-clause-end
 unfolding none
@@ -43,10 +43,10 @@ pub loop-i-preserved : goal.loop-i-preserved
 unfolding none
 loop-i-preserved c =
     let within : c.loop-i.i < length c.args.events.now = omega (arith, c.loop-i-test.true) in
-    let roomy : c.loop-i.i < length c.loop-i.replies = omega (arith, c.loop-i.auto.replies, c.requires.room, within) in
+    let has_capacity : c.loop-i.i < length c.loop-i.replies = omega (arith, c.loop-i.auto.replies, c.requires.capacity, within) in
     record {
       answered = answered_more c.args.engine.now c.loop-i.engine c.args.events.now c.loop-i.i c.loop-i.replies none c.loop-i.invariant.answered within
-          c.in-Ok.reply c.answer_one.new.engine c.in-Ok.ensures.ok c.to_reply.result c.to_reply.ensures roomy;
+          c.in-Ok.reply c.answer_one.new.engine c.in-Ok.ensures.ok c.to_reply.result c.to_reply.ensures has_capacity;
       counted = refl;
       accepted = λ is. elim c.else-stop.branch [
         | else-stop-via-then-stop+else-is_refusal w ↦

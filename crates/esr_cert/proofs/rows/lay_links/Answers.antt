@@ -5,15 +5,15 @@ use Rattle.esr_cert.specs.Rows.{Laid}
 use Rattle.esr_cert.proofs.Laid.{within_along, within_against, laid_more}
 use Rattle.esr_cert.proofs.rows.lay_links.Goals as goal
 
-pub add_step-requires-clause-room : goal.add_step-requires-clause-room
-add_step-requires-clause-room c =
+pub add_step-requires-clause-in_bounds : goal.add_step-requires-clause-in_bounds
+add_step-requires-clause-in_bounds c =
     let l : c.loop-j.j < length c.args.chain.now.costs.items = omega (arith, c.loop-j-test.true, c.len-j-end.ensures, c.args.chain.now.costs.ok.0) in
     let low : c.args.begin + c.loop-j.j < length c.args._arcs.now = omega (arith, l, c.requires.links.inside) in
     let from : c.arc_tail-from.result ≡ (arc_at c.args._arcs.now (c.args.begin + c.loop-j.j)).from = c.arc_tail-from.ensures ∙ sym (c.requires.links.from c.loop-j.j l) in
     rw from (within_along low c.requires.ends c.loop-j.invariant)
 
-pub add_step-requires-in-loop-j-clause-room : goal.add_step-requires-in-loop-j-clause-room
-add_step-requires-in-loop-j-clause-room c =
+pub add_step-requires-in-loop-j-clause-in_bounds : goal.add_step-requires-in-loop-j-clause-in_bounds
+add_step-requires-in-loop-j-clause-in_bounds c =
     let l : c.loop-j.j < length c.args.chain.now.costs.items = omega (arith, c.loop-j-test.true, c.len-j-end.ensures, c.args.chain.now.costs.ok.0) in
     let low : c.args.begin + c.loop-j.j < length c.args._arcs.now = omega (arith, l, c.requires.links.inside) in
     let from : c.arc_tail-from.result ≡ (arc_at c.args._arcs.now (c.args.begin + c.loop-j.j)).from = c.arc_tail-from.ensures ∙ sym (c.requires.links.from c.loop-j.j l) in

@@ -4,12 +4,12 @@ use Rattle.esr_cert.specs.Rows.{Laid}
 use Rattle.esr_cert.proofs.Laid.{within_along, within_against, laid_more}
 use Rattle.esr_cert.proofs.rows.lay_others.Goals as goal
 
-pub add_step-requires-clause-room : goal.add_step-requires-clause-room
-add_step-requires-clause-room c =
+pub add_step-requires-clause-in_bounds : goal.add_step-requires-clause-in_bounds
+add_step-requires-clause-in_bounds c =
     rw c.at-arc.ensures (within_along (omega (arith, c.loop-i-test.true, c.len-i-end.ensures)) c.requires.ends c.loop-i.invariant)
 
-pub add_step-requires-in-loop-i-clause-room : goal.add_step-requires-in-loop-i-clause-room
-add_step-requires-in-loop-i-clause-room c =
+pub add_step-requires-in-loop-i-clause-in_bounds : goal.add_step-requires-in-loop-i-clause-in_bounds
+add_step-requires-in-loop-i-clause-in_bounds c =
     rw c.at-arc.ensures (within_against (omega (arith, c.loop-i-test.true, c.len-i-end.ensures)) c.requires.ends c.loop-i.invariant _ _ (rw c.at-arc.ensures at c.add_step.ensures.spans) (rw c.at-arc.ensures at c.add_step.ensures.steps))
 
 pub loop-i-preserved : goal.loop-i-preserved

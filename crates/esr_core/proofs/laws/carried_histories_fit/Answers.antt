@@ -1,6 +1,6 @@
 -- Why `carried_histories_fit` keeps its contract: the goals that are left to a proof of ours.
-use Rattle.esr_core.proofs.Fits.{law_of_room}
+use Rattle.esr_core.proofs.Fits.{law_of_carried_length}
 use Rattle.esr_core.proofs.laws.carried_histories_fit.Goals as goal
 
 pub returns : goal.returns
-returns c = law_of_room
+returns c = law_of_carried_length

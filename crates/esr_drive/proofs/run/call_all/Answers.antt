@@ -9,8 +9,8 @@ use Rattle.esr_drive.proofs.run.call_all.Goals as goal
 
 pub loop-progress-init : goal.loop-progress-init
 loop-progress-init g c =
-    let session = c.make_room.new.self in
-    let none = subst (λ (rs : List Receipt). IsUnderWay c.args.calls.now [] 0 rs) (sym (c.make_room.ensures ∙ c.requires)) (begun c.args.calls.now) in
+    let session = c.reserve.new.self in
+    let none = subst (λ (rs : List Receipt). IsUnderWay c.args.calls.now [] 0 rs) (sym (c.reserve.ensures ∙ c.requires)) (begun c.args.calls.now) in
     (refl, subst (λ (l : List Reply). IsUnderWay c.args.calls.now l 0 session) (sym c.in-Ok.ensures.items) none)
 
 pub loop-progress-smaller : goal.loop-progress-smaller

@@ -12,8 +12,8 @@ bind-requires-clause-unbound c =
     let before : c.loop-i.names ≡ all_numbered word first i = c.loop-i.invariant in
     rw (is, before) (unbound word first i (omega arith))
 
-pub bind-requires-clause-room : goal.bind-requires-clause-room
-bind-requires-clause-room c =
+pub bind-requires-clause-fits : goal.bind-requires-clause-fits
+bind-requires-clause-fits c =
     let before : c.loop-i.names ≡ all_numbered c.args.word.now c.args.first c.loop-i.i = c.loop-i.invariant in
     omega (arith, ap length before ∙ length-map-range_with_len (numbered c.args.word.now) c.args.first c.loop-i.i)
 

@@ -8,7 +8,7 @@ use Rattle.esr_history.specs.Serial.{state}
 use Rattle.esr_order.specs.Scans.{accesses_in}
 use Rattle.esr_explain.specs.Accesses.{access_line}
 use Rattle.esr_explain.specs.Explain.{read_line, read_lines}
-use Rattle.esr_explain.proofs.Accessed.{accesses_inside, accesses_valued, lines_agree, reads_told}
+use Rattle.esr_explain.proofs.Accessed.{accesses_inside, accesses_valued, lines_agree, reads_are_within}
 use Rattle.esr_explain.proofs.reads.push_reads.Goals as goal
 
 pub push_lines-requires-clause-accesses : goal.push_lines-requires-clause-accesses
@@ -28,5 +28,5 @@ returns c =
     ∙ (ap (λ (l : List ℤ). flat_map (access_line D items (value_at l)) c.deref.result.now) c.deref-2.ensures.value
     ∙ (ap (flat_map (access_line D items (value_at vs))) (c.deref.ensures.value ∙ c.in_ok-accesses.ensures)
     ∙ (lines_agree D items (value_at vs) (state h us) (length h.opening) c.in_ok-values.ensures.values (accesses_in h.entries q) (accesses_inside weighted h c.log-legal.ensures.range c.log-legal.ensures.legal q)
-    ∙ reads_told h q (λ x v. read_line D items x v (state h us x))))) in
+    ∙ reads_are_within h q (λ x v. read_line D items x v (state h us x))))) in
     subst (λ l. OnOk c.push_lines.result (c.push_lines.new.out.items ≡ c.args.out.now.items ++ l)) lines c.push_lines.ensures

@@ -1,12 +1,12 @@
 -- Why `script_of` keeps its contract: the goals that are left to a proof of ours.
 use Rattle.std.proofs.Common.{◌∙◌, ap, map}
 use Rattle.esr_plan.specs.Tables.{names_in}
-use Rattle.esr_explore.proofs.Turning.{lent_answered}
+use Rattle.esr_explore.proofs.Turning.{borrowed_result}
 use Rattle.esr_explore.proofs.pipeline.script_of.Goals as goal
 
 pub begun_names-requires : goal.begun_names-requires
 begun_names-requires c =
-    lent_answered (map (λ b. b.items) c.args.drive_plan.now.blocks.items) (map (λ b. b.items) c.as_slice.result.now) c.args.run.runners.items
+    borrowed_result (map (λ b. b.items) c.args.drive_plan.now.blocks.items) (map (λ b. b.items) c.as_slice.result.now) c.args.run.runners.items
     (map (λ r. r.items) c.as_slice-2.result.now) (ap (λ bs. map (λ b. b.items) bs) c.as_slice.ensures.value)
     (ap (λ rs. map (λ r. r.items) rs) c.as_slice-2.ensures.value ∙ c.in_ok-replies.ensures) c.requires.done
 

@@ -45,14 +45,14 @@ loop-at-preserved-then-i-row c =
     let row : Lists arcs flow c.loop-at.at c.steps_at-steps.result.now c.row-row.result.now = lists_read c.args.graph.now c.args.flow.now c.args.entries.now c.requires.entries c.loop-at.at c.loop-at.invariant.0.node c.steps_at-steps.result.now c.row-row.result.now c.steps_at-steps.ensures c.row-row.ensures in
     let at : IsEntry arcs flow c.loop-at.at t e = row.entries c.next_back-i.result c.if-i-row.true in
     let in_arcs : arc_of s < length arcs = omega (arith, at.in_arcs, opposite_arc t) in
-    let has_room : within 1 (residual_capacity arcs flow s) ≡ true = c.next_back-i.ensures.residual c.if-i-row.true in
+    let has_capacity : within 1 (residual_capacity arcs flow s) ≡ true = c.next_back-i.ensures.residual c.if-i-row.true in
     let ends : finish arcs s ≡ c.loop-at.at = opposite_finish arcs t ∙ at.starts in
     let begins : start arcs s ≡ e.to = opposite_start arcs t ∙ sym at.leads in
     let down : label_at labels (finish arcs s) < label_at labels (start arcs s) = omega (arith, c.next_back-i.ensures.up c.if-i-row.true, ap (label_at labels) ends, ap (label_at labels) begins) in
     let pushed : c.push.new.self.items ≡ c.loop-at.path.items ++ s ∷ [] = c.in_ok-push.ensures.items ∙ ap (λ t. c.loop-at.path.items ++ t ∷ []) c.opposite.ensures ∙ ap (λ t. c.loop-at.path.items ++ opposite t ∷ []) (c.step.ensures ∙ get_or_read c.steps_at-steps.result.now c.next_back-i.result c.index-steps-i.result (omega (arith, row.count, c.if-i-row.true)) c.index-steps-i.is (Forward 0)) in (
       subst (Walk net flow labels c.push.new.self.items) (begins ∙ ap (λ (x : AdjacencyEntry). x.to) (sym read))
           (subst (λ p. Walk net flow labels p (start arcs s)) (sym pushed)
-          (walk_push net c.args.graph.now.kept.is_network flow labels c.loop-at.path.items c.loop-at.at s c.loop-at.invariant.0 ends (in_arcs, has_room) down)),
+          (walk_push net c.args.graph.now.kept.is_network flow labels c.loop-at.path.items c.loop-at.at s c.loop-at.invariant.0 ends (in_arcs, has_capacity) down)),
       length-set c.loop-at.next c.loop-at.at (c.next_back-i.result + 1) ∙ c.loop-at.invariant.1,
     )
 

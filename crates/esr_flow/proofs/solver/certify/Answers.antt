@@ -23,8 +23,8 @@ overflow_sub-chains_end c =
     let p = c.args.problem.now in
     omega (arith, flow_length p (facts p c.must-musts.ensures.sound) c.args.maximum.flow.items c.requires.flow, ap length c.must-musts.ensures.list, ap length c.before-backs.ensures.list)
 
-pub members-requires-clause-room : goal.members-requires-clause-room
-members-requires-clause-room c = omega (arith, c.requires.marks, length-map c.updates.result.now (λ t. t.0), ap length c.updates.ensures.list, ap length c.deref.ensures.value)
+pub members-requires-clause-capacity_left : goal.members-requires-clause-capacity_left
+members-requires-clause-capacity_left c = omega (arith, c.requires.marks, length-map c.updates.result.now (λ t. t.0), ap length c.updates.ensures.list, ap length c.deref.ensures.value)
 
 pub members-requires-clause-few : goal.members-requires-clause-few
 members-requires-clause-few c = omega (arith, c.updates.ensures.few, length-map c.updates.result.now (λ t. t.0), ap length c.updates.ensures.list)

@@ -4,7 +4,7 @@ use Rattle.std.specs.List.{position}
 use Rattle.std.proofs.lemmas.List.Quantifiers.{position-Some}
 use Rattle.std.proofs.Math.Bool.{not}
 use Rattle.esr_grammar.specs.Command.{is_name, is_name_byte}
-use Rattle.esr_grammar.proofs.Blanks.{name_utf8}
+use Rattle.esr_grammar.proofs.Spaces.{name_utf8}
 use Rattle.esr_grammar.proofs.Fronts.{front_is_name, front_cut}
 use Rattle.esr_grammar.proofs.quick.front_name.Goals as goal
 

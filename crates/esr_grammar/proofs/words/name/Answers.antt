@@ -1,6 +1,6 @@
 -- Why `name` keeps its contract: the goals that are left to a proof of ours.
 use Rattle.std.proofs.Common.{arith}
-use Rattle.esr_grammar.proofs.Blanks.{name_utf8}
+use Rattle.esr_grammar.proofs.Spaces.{name_utf8}
 use Rattle.esr_grammar.proofs.words.name.Goals as goal
 
 pub from_utf8_unchecked-requires : goal.from_utf8_unchecked-requires

@@ -1,6 +1,6 @@
 -- Why `one_word` keeps its contract: the goals that are left to a proof of ours.
 use Rattle.std.proofs.Common.{arith}
-use Rattle.esr_grammar.proofs.Blanks.{one_of_more}
+use Rattle.esr_grammar.proofs.Spaces.{one_of_more}
 use Rattle.esr_grammar.proofs.words.one_word.Goals as goal
 
 pub returns-in_default-Some : goal.returns-in_default-Some

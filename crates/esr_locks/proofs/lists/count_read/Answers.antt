@@ -9,11 +9,11 @@ use Rattle.esr_locks.proofs.lists.count_read.Goals as goal
 
 pub returns-in-Ok-clause-items : goal.returns-in-Ok-clause-items
 returns-in-Ok-clause-items c =
-    let nobody : QueryReads = record { query = record { 0 = 0 }; count = 0 } in
+    let no_one : QueryReads = record { query = record { 0 = 0 }; count = 0 } in
     let reads : List QueryReads = c.args.queries.now.items in
-    let counted : List QueryReads = set reads c.in-Ok.at (more_reads (get_or reads c.in-Ok.at nobody)) in
-    rw c.deref_mut.ensures.value (items-with_items c.args.queries.now counted (length-set reads c.in-Ok.at (more_reads (get_or reads c.in-Ok.at nobody)))
-    ∙ placed_at (λ r. r.query.0) c.args.q.0 (first_reads c.args.q) more_reads reads c.requires.ascending c.in-Ok.at nobody c.in-Ok.ensures.found)
+    let counted : List QueryReads = set reads c.in-Ok.at (more_reads (get_or reads c.in-Ok.at no_one)) in
+    rw c.deref_mut.ensures.value (items-with_items c.args.queries.now counted (length-set reads c.in-Ok.at (more_reads (get_or reads c.in-Ok.at no_one)))
+    ∙ placed_at (λ r. r.query.0) c.args.q.0 (first_reads c.args.q) more_reads reads c.requires.ascending c.in-Ok.at no_one c.in-Ok.ensures.found)
 
 pub returns-in-Err-clause-items : goal.returns-in-Err-clause-items
 returns-in-Err-clause-items c = grind (arith, placed_gap)

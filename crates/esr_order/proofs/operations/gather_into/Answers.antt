@@ -4,7 +4,7 @@ use Rattle.std.specs.List.{range_with_len}
 use Rattle.std.proofs.lemmas.List.{length-map}
 use Rattle.esr_history.specs.Operations.{operations}
 use Rattle.esr_order.specs.Scans.{Access}
-use Rattle.esr_order.specs.Listing.{IsBelow}
+use Rattle.esr_order.specs.ConflictPairs.{IsLexLess}
 use Rattle.esr_order.specs.Conflicts.{pairs_from, on_item, AreConflicts, AreNextPaired}
 use Rattle.esr_order.specs.Turns.{operation_at, turns}
 use Rattle.esr_order.specs.Chains.{chain_from, last_by_update, turned, seen_links}
@@ -43,7 +43,7 @@ loop-i-preserved g c =
     )
 
 pub returns-clause-ascending : goal.returns-clause-ascending
-returns-clause-ascending g c = subst (AllPairs IsBelow) (sym c.reverse.ensures.items)
+returns-clause-ascending g c = subst (AllPairs IsLexLess) (sym c.reverse.ensures.items)
     (gathered_ascending c.args.history.now.schedule c.args.updates.now c.loop-i.i (omega (arith, c.loop-i-test.false)) (map seen_links c.loop-i.chains) (map (λ r. r.items) c.loop-i.readers) c.loop-i.pairs.items c.loop-i.invariant.2)
 
 pub returns-clause-conflicting : goal.returns-clause-conflicting

@@ -2,7 +2,7 @@
 use Rattle.std.proofs.Common.{◌≡◌, ℕ, zero, suc, ◌+◌, ◌<◌, List, [], ◌∷◌, ◌++◌, length, slice_index_or, map, refl, sym, ap, ◌∙◌, subst, arith}
 use Rattle.std.proofs.lemmas.List.{length-append, map_push}
 use Rattle.esr_order.specs.Chains.{seen_links}
-use Rattle.esr_order.specs.Later.{nobody, AreLater}
+use Rattle.esr_order.specs.Later.{no_one, AreLater}
 use Rattle.esr_order.proofs.operations.nothing_later.Goals as goal
 
 -- one more of the same
@@ -16,15 +16,15 @@ pub loop-x-preserved : goal.loop-x-preserved
 loop-x-preserved c =
     let links = map seen_links c.loop-x.chains.items in
     let rows = map (λ r. r.items) c.loop-x.readers.items in
-    let chains : map seen_links c.push.new.self.items ≡ links ++ nobody ∷ [] =
+    let chains : map seen_links c.push.new.self.items ≡ links ++ no_one ∷ [] =
     ap (map seen_links) c.in_ok-push.ensures.items ∙ map_push seen_links c.loop-x.chains.items c.in_ok-links.links ∙ ap (λ k. links ++ k ∷ []) c.in_ok-links.ensures in
     let readers : map (λ r. r.items) c.push-in-loop-x.new.self.items ≡ rows ++ [] ∷ [] =
     ap (map (λ r. r.items)) c.in_ok-push-2.ensures.items ∙ map_push (λ r. r.items) c.loop-x.readers.items c.new.result ∙ ap (λ k. rows ++ k ∷ []) c.new.ensures.items in (
       ap length c.in_ok-push.ensures.items ∙ length-append c.loop-x.chains.items (c.in_ok-links.links ∷ []) ∙ ap (λ n. n + 1) c.loop-x.invariant.0,
       ap length c.in_ok-push-2.ensures.items ∙ length-append c.loop-x.readers.items (c.new.result ∷ []) ∙ ap (λ n. n + 1) c.loop-x.invariant.1,
       subst (λ ks. AreLater ks (map (λ r. r.items) c.push-in-loop-x.new.self.items) []) (sym chains) (
-          subst (λ rs. AreLater (links ++ nobody ∷ []) rs []) (sym readers) (record {
-            chains = same_more links nobody c.loop-x.invariant.2.chains;
+          subst (λ rs. AreLater (links ++ no_one ∷ []) rs []) (sym readers) (record {
+            chains = same_more links no_one c.loop-x.invariant.2.chains;
             readers = same_more rows [] c.loop-x.invariant.2.readers;
           })),
     )

@@ -12,8 +12,8 @@ use Rattle.esr_report.proofs.lines.push_names.Goals as goal
 all_listed : (names : List (List ℕ)) (out : List ℕ) (first : TxnId) (rest txns : List TxnId) (after : List ℕ) → txns ≡ first ∷ rest
     → after ≡ out ++ join_with_byte 44 (name_of_transaction names first.0 ∷ map (λ (t : TxnId). name_of_transaction names t.0) rest)
     → after ≡ out ++ listed names (map (λ (t : TxnId). t.0) txns)
-all_listed names out first rest txns after split stood =
-    stood ∙ ap (λ ns. out ++ join_with_byte 44 (name_of_transaction names first.0 ∷ ns)) (sym (map-map (name_of_transaction names) (λ (t : TxnId). t.0) rest))
+all_listed names out first rest txns after split before_it =
+    before_it ∙ ap (λ ns. out ++ join_with_byte 44 (name_of_transaction names first.0 ∷ ns)) (sym (map-map (name_of_transaction names) (λ (t : TxnId). t.0) rest))
     ∙ ap (λ ts. out ++ listed names (map (λ (t : TxnId). t.0) ts)) (sym split)
 
 pub loop-txn-preserved : goal.loop-txn-preserved

@@ -145,7 +145,7 @@ fn written_out(alloc: Global, long: Long) -> Result<String, AllocError> {
 }
 
 /// Runs the scripts, and compares what is written with their texts.
-fn give_their_texts(rt: &impl Abort, alloc: Global, rows: &[Row]) {
+fn have_texts(rt: &impl Abort, alloc: Global, rows: &[Row]) {
     for row in rows {
         let script = written_out(alloc, row.script).expect(rt, "memory");
         let text = written_out(alloc, row.text).expect(rt, "memory");
@@ -163,25 +163,25 @@ fn give_their_texts(rt: &impl Abort, alloc: Global, rows: &[Row]) {
 /// The bound is a number in a definition, which no clause compares with the formats: with 199 there it would be proved.
 #[test]
 fn a_line_has_at_most_two_hundred_bytes(rt: HostRuntime) {
-    give_their_texts(&rt, rt.alloc(), &ROWS[..2]);
+    have_texts(&rt, rt.alloc(), &ROWS[..2]);
 }
 
 /// What counts as a line is a definition's: one that counts an empty line behind the last line feed would be proved.
 #[test]
 fn there_are_at_most_two_million_lines(rt: HostRuntime) {
-    give_their_texts(&rt, rt.alloc(), &ROWS[2..5]);
+    have_texts(&rt, rt.alloc(), &ROWS[2..5]);
 }
 
 /// No clause can say that a million entries find memory: a run could be out of it before its history is full.
 #[test]
 fn a_full_history_ends_at_the_next_event(rt: HostRuntime) {
-    give_their_texts(&rt, rt.alloc(), &ROWS[5..6]);
+    have_texts(&rt, rt.alloc(), &ROWS[5..6]);
 }
 
 /// The bound is a number in a definition, which no clause compares with the formats: with 999 there it would be proved.
 #[test]
 fn a_query_reads_at_most_a_thousand_times(rt: HostRuntime) {
-    give_their_texts(&rt, rt.alloc(), &ROWS[6..]);
+    have_texts(&rt, rt.alloc(), &ROWS[6..]);
 }
 
 /// What a line of bytes that are no text is answered is a definition's: a run that ends there would be proved as well.

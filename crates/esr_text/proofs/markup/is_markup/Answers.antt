@@ -10,6 +10,6 @@ loop-tag-preserved c =
       search rules,
       λ closed. c.loop-tag.invariant.1
           (continuing (string_bytes c.loop-tag.path) c.loop-tag.rest.now c.in-Some.field-0-0.now c.in-Some.tag.now
-          (string_bytes c.in-Some-2.open) c.in-Some.behind.now c.in-Some.ensures.whole c.in-Some.ensures.plain
+          (string_bytes c.in-Some-2.open) c.in-Some.remainder.now c.in-Some.ensures.whole c.in-Some.ensures.plain
           tagged closed),
     )

@@ -12,7 +12,7 @@ loop-next-init c = let e = c.in-Some.ensures.items in let l = c.in-Some.last in 
   table = (all_popped (IsSeatOf c.args.self) _ _ _ e c.requires).1.0;
   no_slot = search rules;
   counted = search rules;
-  room = search rules;
+  fits = search rules;
   numbers = (λ weight. popped (λ s. sum_by weight (claimed s)) _ _ l e);
   passes = popped (λ s. passes_of c.args.self.jobs (hand_of s)) _ _ l e;
 }
@@ -32,7 +32,7 @@ loop-next-preserved c = let e = c.in-Some-pop.ensures.items in let n = c.in-Some
   table = search rules;
   no_slot = search rules;
   counted = (let k = joined_count c.loop-next.all.me c.join_seat.new.seat.me n.seat.me.0 m in omega arith);
-  room = search rules;
+  fits = search rules;
   numbers = (λ weight. let p = popped (λ s. sum_by weight (claimed s)) _ _ n e in let k = joined_numbers c.loop-next.all.me c.join_seat.new.seat.me n.seat.me.0 m weight in let was = c.loop-next.invariant.numbers weight in omega arith);
   passes = (let p = popped (λ s. passes_of c.args.self.jobs (hand_of s)) _ _ n e in let k = joined_passes c.args.self.jobs c.loop-next.all.me c.join_seat.new.seat.me n.seat.me.0 m in let was = c.loop-next.invariant.passes in omega arith);
 }

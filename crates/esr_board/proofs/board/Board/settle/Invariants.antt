@@ -10,7 +10,7 @@ invariant-loop-next l = record {
   table : l.all.table_id ≡ l.self.table.shared.table_id;
   no_slot : l.all.me.1 ≡ [];
   counted : l.counted ≡ length l.all.me.0.claimed;
-  room : l.counted + vec_len l.seats * 18446744073709551616 ≤ vec_len l.fn.seats * 18446744073709551616;
+  fits : l.counted + vec_len l.seats * 18446744073709551616 ≤ vec_len l.fn.seats * 18446744073709551616;
   numbers : (weight : ℕ → ℕ) → sum_by weight l.all.me.0.claimed + sum_by (λ s. sum_by weight (claimed s)) l.seats.items ≡ sum_by (λ s. sum_by weight (claimed s)) l.fn.seats.items;
   passes : passes_of l.self.jobs l.all.me.0 + sum_by (λ s. passes_of l.self.jobs (hand_of s)) l.seats.items ≡ sum_by (λ s. passes_of l.self.jobs (hand_of s)) l.fn.seats.items;
 }

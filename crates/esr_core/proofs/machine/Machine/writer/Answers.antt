@@ -1,7 +1,7 @@
 -- Why `Machine::writer` keeps its contract: the goals that are left to a proof of ours.
 use Rattle.std.proofs.Common.{arith}
-use Rattle.esr_core.proofs.Locks.{locks_here}
+use Rattle.esr_core.proofs.Locks.{locks_at_item}
 use Rattle.esr_core.proofs.machine.Machine.writer.Goals as goal
 
 pub returns : goal.returns
-returns g c = grind (arith, locks_here)
+returns g c = grind (arith, locks_at_item)

@@ -3,7 +3,7 @@ use Rattle.std.proofs.Common.{◌≡◌, ◌∙◌, sym, subst, false}
 use Rattle.esr_history.specs.declared.event.Event.TheVariants.{Read}
 use Rattle.esr_items.specs.Weights.{weighted}
 use Rattle.esr_history.specs.Machine.{Schedule, reply_to}
-use Rattle.esr_engine.specs.Room.{is_full}
+use Rattle.esr_engine.specs.Capacity.{is_full}
 use Rattle.esr_engine.proofs.Stepped.{some_active, stepped}
 use Rattle.esr_engine.proofs.engine.EmbeddedEngine.read.Goals as goal
 

@@ -8,8 +8,8 @@ use Rattle.esr_history.specs.declared.event.Reply.TheVariants.{Wrote}
 use Rattle.esr_history.specs.Machine.{IsLegal, Schedule, extended, reply_to}
 use Rattle.esr_history.proofs.Lawful.{legal_orderly}
 use Rattle.esr_engine.specs.ForUpdate.{lock_event, no_pair}
-use Rattle.esr_engine.specs.Room.{is_full, taken}
-use Rattle.esr_engine.proofs.Active.{pair_room}
+use Rattle.esr_engine.specs.Capacity.{is_full, taken}
+use Rattle.esr_engine.proofs.Active.{pair_capacity}
 use Rattle.esr_engine.proofs.Locking.{Finished, finish, held_steps, taken_steps}
 use Rattle.esr_engine.proofs.engine.EmbeddedEngine.read_for_update.Goals as goal
 use Rattle.esr_engine.proofs.engine.EmbeddedEngine.read_for_update.Goals.{After-step, After-step-in-Ok-Wrote}
@@ -51,13 +51,13 @@ locks c =
     steps.1 steps.2
 
 -- neither the pair nor the read was refused for room
-roomy : (c : After-step-in-Ok-Wrote) → (no_pair c.args.self.now ≡ false) × (is_full c.step-2.new.self (Read c.args.t c.args.x) ≡ false)
-roomy c =
+has_capacity : (c : After-step-in-Ok-Wrote) → (no_pair c.args.self.now ≡ false) × (is_full c.step-2.new.self (Read c.args.t c.args.x) ≡ false)
+has_capacity c =
     let h = c.args.self.now in
     let most : taken h + 2 ≤ 1000000 = omega (arith, c.demand.ensures.taken, c.if-demand-gt-MAX_ENTRIES.false) in (
       not_lt (taken h + 2) most,
       subst (λ (g : Schedule). is_full g (Read c.args.t c.args.x) ≡ false) (sym (left c))
-          (pair_room weighted h (legal_orderly weighted h (subst (IsLegal weighted) c.self.view_is c.log-legal.ensures.legal)) c.args.t c.args.x _ most (wrote c)),
+          (pair_capacity weighted h (legal_orderly weighted h (subst (IsLegal weighted) c.self.view_is c.log-legal.ensures.legal)) c.args.t c.args.x _ most (wrote c)),
     )
   where
     not_lt : (n : ℕ) → n ≤ 1000000 → nat_lt 1000000 n ≡ false
@@ -74,10 +74,10 @@ returns-in-Ok-Wrote-clause-held c = (locks (goal.at.returns-in-Ok-Wrote-clause-h
 
 pub returns-in-Ok-Wrote-clause-full : goal.returns-in-Ok-Wrote-clause-full
 returns-in-Ok-Wrote-clause-full c =
-    let room = roomy (goal.at.returns-in-Ok-Wrote-clause-full c).After-step-in-Ok-Wrote in
-    (λ e. absurd (true≢false (sym (c.step-in-Ok-Wrote.ensures.full.0 e) ∙ room.1)), λ p. absurd (true≢false (sym p ∙ room.0)))
+    let capacity = has_capacity (goal.at.returns-in-Ok-Wrote-clause-full c).After-step-in-Ok-Wrote in
+    (λ e. absurd (true≢false (sym (c.step-in-Ok-Wrote.ensures.full.0 e) ∙ capacity.1)), λ p. absurd (true≢false (sym p ∙ capacity.0)))
 
 pub returns-in-Ok-Wrote-clause-kept : goal.returns-in-Ok-Wrote-clause-kept
 returns-in-Ok-Wrote-clause-kept c =
-    let room = roomy (goal.at.returns-in-Ok-Wrote-clause-kept c).After-step-in-Ok-Wrote in
-    λ e. absurd (true≢false (sym (c.step-in-Ok-Wrote.ensures.full.0 e) ∙ room.1))
+    let capacity = has_capacity (goal.at.returns-in-Ok-Wrote-clause-kept c).After-step-in-Ok-Wrote in
+    λ e. absurd (true≢false (sym (c.step-in-Ok-Wrote.ensures.full.0 e) ∙ capacity.1))

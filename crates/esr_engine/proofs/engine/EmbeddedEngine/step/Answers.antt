@@ -1,7 +1,7 @@
 -- Why `EmbeddedEngine::step` keeps its contract: the goals that are left to a proof of ours.
 use Rattle.std.proofs.Common.{◌≡◌, ◌∙◌, sym, subst, false}
 use Rattle.esr_history.specs.Machine.{Schedule}
-use Rattle.esr_engine.specs.Room.{is_full}
+use Rattle.esr_engine.specs.Capacity.{is_full}
 use Rattle.esr_engine.proofs.Stepped.{some_active, stepped}
 use Rattle.esr_engine.proofs.engine.EmbeddedEngine.step.Goals as goal
 

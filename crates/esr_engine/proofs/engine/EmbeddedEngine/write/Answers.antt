@@ -3,7 +3,7 @@ use Rattle.std.proofs.Common.{◌≡◌, ◌∙◌, sym, subst, false, rules}
 use Rattle.esr_items.specs.Weights.{weighted}
 use Rattle.esr_history.specs.declared.event.Event.TheVariants.{Write}
 use Rattle.esr_history.specs.Machine.{Schedule, extended, reply_to}
-use Rattle.esr_engine.specs.Room.{is_full}
+use Rattle.esr_engine.specs.Capacity.{is_full}
 use Rattle.esr_engine.proofs.Stepped.{some_active, stepped}
 use Rattle.esr_engine.proofs.engine.EmbeddedEngine.write.Goals as goal
 use Rattle.esr_engine.proofs.engine.EmbeddedEngine.write.Goals.{In-Ok}

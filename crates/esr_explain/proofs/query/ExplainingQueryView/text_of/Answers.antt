@@ -1,7 +1,7 @@
 -- Why `ExplainingQueryView::text_of` keeps its contract: the goals that are left to a proof of ours.
-use Rattle.esr_explain.proofs.Sent.{explained_told, told_so}
+use Rattle.esr_explain.proofs.Sent.{explained_summary, audited_summary}
 use Rattle.esr_explain.proofs.query.ExplainingQueryView.text_of.Goals as goal
 
 pub returns-in-Ok : goal.returns-in-Ok
 returns-in-Ok c s name answered =
-    let a = c.args.audited.now in explained_told s name a answered _ (c.in-Ok.ensures (told_so s name a answered))
+    let a = c.args.audited.now in explained_summary s name a answered _ (c.in-Ok.ensures (audited_summary s name a answered))

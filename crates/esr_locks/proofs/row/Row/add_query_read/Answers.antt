@@ -1,6 +1,6 @@
 -- Why `Row::add_query_read` keeps its contract: the goals that are left to a proof of ours.
 use Rattle.std.proofs.Common.{◌≡◌, ◌∙◌, sym, ap, subst, refl, not, ℕ, map, ◌<◌, arith, All}
-use Rattle.esr_history.proofs.Ascending.{placed_ascends, map-placed, any-map}
+use Rattle.esr_history.proofs.Ascending.{placed_ascends, map-upserted, any-map}
 use Rattle.esr_locks.specs.Rows.{RowOf, query_and_count}
 use Rattle.esr_locks.specs.Tables.{has_query_lock}
 use Rattle.esr_locks.proofs.Least.{All-from_map}
@@ -16,7 +16,7 @@ invariant_of-self c = grind (arith, placed_ascends)
 
 pub returns-clause-locks : goal.returns-clause-locks
 returns-clause-locks c =
-    grind (arith, map, map query_and_count c.count_read.new.queries.items, map query_and_count c.self.inside.queries.items, map-placed)
+    grind (arith, map, map query_and_count c.count_read.new.queries.items, map query_and_count c.self.inside.queries.items, map-upserted)
 
 pub returns-clause-fresh : goal.returns-clause-fresh
 returns-clause-fresh c =

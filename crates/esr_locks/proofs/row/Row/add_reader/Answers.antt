@@ -1,8 +1,8 @@
 -- Why `Row::add_reader` keeps its contract: the goals that are left to a proof of ours.
 use Rattle.std.proofs.Common.{◌≡◌, ◌∙◌, ◌==◌, ◌||◌, sym, ap, subst, refl, not, map, arith, option_map}
 use Rattle.std.specs.List.{list_any}
-use Rattle.esr_history.specs.Ascending.{placed}
-use Rattle.esr_history.proofs.Ascending.{placed_ascends, map-placed, any-map}
+use Rattle.esr_history.specs.Ascending.{upserted}
+use Rattle.esr_history.proofs.Ascending.{placed_ascends, map-upserted, any-map}
 use Rattle.esr_locks.specs.Rows.{RowOf, reader, query_and_count}
 use Rattle.esr_locks.specs.Tables.{with_reader, has_update_lock}
 use mathlib.Core.Bool.{not-not}
@@ -15,8 +15,8 @@ invariant_of-self c = grind (arith, placed_ascends)
 pub returns-clause-locks : goal.returns-clause-locks
 returns-clause-locks c =
     subst (λ (v : RowOf). record { writer = option_map (λ u. u.0) c.self.inside.writer; readers = map (λ r. r.update.0) c.add_reader-has_read.new.readers.items; queries = map query_and_count c.self.inside.queries.items } ≡ with_reader c.args.t.0 v.locks) c.self.view_is
-    (let mapped : map (λ r. r.update.0) c.add_reader-has_read.new.readers.items ≡ placed (λ u. u) c.args.t.0 c.args.t.0 (λ u. u) (map (λ r. r.update.0) c.self.inside.readers.items) =
-    rw c.add_reader-has_read.ensures.items (map-placed (λ r. r.update.0) (λ u. u) (λ r. r.update.0) (λ r. refl) c.args.t.0 (reader c.args.t) (λ r. r) (λ u. u) (λ u. refl) c.self.inside.readers.items) in
+    (let mapped : map (λ r. r.update.0) c.add_reader-has_read.new.readers.items ≡ upserted (λ u. u) c.args.t.0 c.args.t.0 (λ u. u) (map (λ r. r.update.0) c.self.inside.readers.items) =
+    rw c.add_reader-has_read.ensures.items (map-upserted (λ r. r.update.0) (λ u. u) (λ r. r.update.0) (λ r. refl) c.args.t.0 (reader c.args.t) (λ r. r) (λ u. u) (λ u. refl) c.self.inside.readers.items) in
     rw mapped refl)
 
 pub returns-clause-fresh : goal.returns-clause-fresh

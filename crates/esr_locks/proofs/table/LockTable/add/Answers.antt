@@ -3,9 +3,9 @@ use Rattle.std.proofs.Common.{◌≡◌, ℕ, ◌<◌, ◌∙◌, sym, ap, subst
 use Rattle.std.proofs.lemmas.Bool.{not-false}
 use Rattle.std.proofs.lemmas.List.{length-map}
 use Rattle.esr_history.specs.ItemLocks.{ItemLocks}
-use Rattle.esr_locks.specs.Rows.{RowOf, LockedItemsOf, with_lock, has_such}
-use Rattle.esr_locks.specs.Tables.{Table, room_for, locks_at, has_lock}
-use Rattle.esr_locks.proofs.Tables.{set_row, IsTable-push, IsTable-again, has_list, read_list, lock_more, such_has}
+use Rattle.esr_locks.specs.Rows.{RowOf, LockedItemsOf, with_lock, has_lock_in_mode}
+use Rattle.esr_locks.specs.Tables.{Table, locks_that_fit, locks_at, has_lock}
+use Rattle.esr_locks.proofs.Tables.{set_row, IsTable-push, IsTable-already_locked, has_list, read_list, lock_more, such_has}
 use Rattle.esr_locks.proofs.table.LockTable.add.Goals as goal
 use Rattle.esr_locks.proofs.table.LockTable.add.Goals.{After-add}
 
@@ -14,8 +14,8 @@ inside c = rw (← length-map c.self.inside.rows.items (λ (r : RowOf). r.locks)
 
 in_list : (c : After-add) → c.args.t.0 < length c.self.inside.held.items
 in_list c =
-    let room : 0 < min (slice_index (map (λ (r : RowOf). r.room) c.self.inside.rows.items) c.args.x.0) (slice_index (map (λ (h : LockedItemsOf). h.room) c.self.inside.held.items) c.args.t.0) =
-    subst (λ (v : Table). 0 < room_for v c.args.t.0 c.args.x.0) (sym c.self.view_is) c.requires.room in
+    let capacity_left : 0 < min (slice_index (map (λ (r : RowOf). r.capacity_left) c.self.inside.rows.items) c.args.x.0) (slice_index (map (λ (h : LockedItemsOf). h.capacity_left) c.self.inside.held.items) c.args.t.0) =
+    subst (λ (v : Table). 0 < locks_that_fit v c.args.t.0 c.args.x.0) (sym c.self.view_is) c.requires.capacity_left in
     has_list c.self.inside.held.items c.args.t.0 (omega arith)
 
 more : (c : After-add) (u : ℕ) → has_lock c.add.new.self.locks u ≡ true → (has_lock c.index_mut.result.now.locks u ≡ true) ⊎ (c.args.t.0 ≡ u)
@@ -32,8 +32,8 @@ invariant_of-self c = grind (arith, After-add, IsTable-push, inside, more, in_li
 pub invariant_of-self-else-add : goal.invariant_of-self-else-add
 invariant_of-self-else-add c =
     let w : After-add = (goal.at.invariant_of-self-else-add c).After-add in
-    IsTable-again c.self.inside.rows.items c.self.inside.held.items c.self.invariant c.args.t.0 c.args.x.0 (inside w) c.index_mut.result.now c.add.new.self c.index_mut.ensures.value (more w)
-    (such_has c.args.mode c.args.t.0 c.index_mut.result.now.locks (not-false (has_such c.args.mode c.index_mut.result.now.locks c.args.t.0) (sym c.add.ensures.fresh ∙ c.if-add.false)))
+    IsTable-already_locked c.self.inside.rows.items c.self.inside.held.items c.self.invariant c.args.t.0 c.args.x.0 (inside w) c.index_mut.result.now c.add.new.self c.index_mut.ensures.value (more w)
+    (such_has c.args.mode c.args.t.0 c.index_mut.result.now.locks (not-false (has_lock_in_mode c.args.mode c.index_mut.result.now.locks c.args.t.0) (sym c.add.ensures.fresh ∙ c.if-add.false)))
 
 pub returns-then-add-clause-locks : goal.returns-then-add-clause-locks
 returns-then-add-clause-locks c = locks (goal.at.returns-then-add-clause-locks c).After-add

@@ -30,8 +30,8 @@ invariant_of-self-2 c =
     let unbound : position_of (map text entries) c.args.name.now ≡ None = rw c.self.view_is c.requires.unbound in
     let none = nowhere (map text entries) c.args.name.now unbound in
     let added = c.in_ok-insert.ensures.entries ∙ entered c.key_of.result c.args.name.now c.in-Ok.text key entries c.self.invariant.2 none in
-    let room : length (map text entries) < 2 ^ 32 = rw c.self.view_is c.requires.room in (
-      omega (arith, room, ap length added, length-append entries ((c.key_of.result, c.in-Ok.text) ∷ []), lengths text entries),
+    let fits : length (map text entries) < 2 ^ 32 = rw c.self.view_is c.requires.fits in (
+      omega (arith, fits, ap length added, length-append entries ((c.key_of.result, c.in-Ok.text) ∷ []), lengths text entries),
       rw (added, map_push text entries (c.key_of.result, c.in-Ok.text), c.in-Ok.ensures.ok) (all_distinct-push (map text entries) c.args.name.now c.self.invariant.1 none),
       rw added (keyed_push entries (c.key_of.result, c.in-Ok.text) c.self.invariant.2 held),
     )

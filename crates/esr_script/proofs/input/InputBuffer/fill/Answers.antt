@@ -1,10 +1,10 @@
 -- Why `InputBuffer::fill` keeps its contract: the goals that are left to a proof of ours.
 use Rattle.std.proofs.Common.{refl, ◌∙◌, arith}
-use Rattle.esr_script.proofs.Buffers.{has_room, kept, filled}
+use Rattle.esr_script.proofs.Buffers.{has_capacity, kept, filled}
 use Rattle.esr_script.proofs.input.InputBuffer.fill.Goals as goal
 
 pub returns-in-Ok-clause-ok : goal.returns-in-Ok-clause-ok
-returns-in-Ok-clause-ok g c = grind (arith, filled, has_room)
+returns-in-Ok-clause-ok g c = grind (arith, filled, has_capacity)
 
 pub returns-in-Err-clause-err : goal.returns-in-Err-clause-err
 returns-in-Err-clause-err g c =

@@ -2,7 +2,7 @@
 use Rattle.std.proofs.Common.{ap₂, refl, pos}
 use Rattle.esr_history.specs.declared.event.Event.TheVariants.{Read}
 use Rattle.esr_report.specs.Lines.{Named}
-use Rattle.esr_script.proofs.Asks.{audited}
+use Rattle.esr_script.proofs.Requests.{audited}
 use Rattle.esr_script.proofs.script.Script.read.Goals as goal
 
 pub returns : goal.returns

@@ -4,7 +4,7 @@ use mir.Val.{to_z, of_z}
 use Rattle.esr_history.specs.declared.event.Event.TheVariants.{Write}
 use Rattle.esr_report.specs.Lines.{Named}
 use Rattle.esr_script.specs.Text.{transaction_called, item_called}
-use Rattle.esr_script.proofs.Asks.{audited}
+use Rattle.esr_script.proofs.Requests.{audited}
 use Rattle.esr_script.proofs.script.Script.write.Goals as goal
 
 pub returns : goal.returns

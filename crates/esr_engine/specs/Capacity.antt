@@ -1,0 +1,64 @@
+-- When a history has room for an event beside the ends of what is active, and that it is never stuck.
+use Rattle.std.specs.Prelude.{◌≡◌, ◌+◌, ◌-◌, ◌≤◌, ℕ, Bool, true, false, not, ◌&&◌, ◌||◌, nat_le, nat_lt, List, length, count_by}
+use Rattle.esr_base.specs.declared.limits.TheConstants.{MAX_ENTRIES, MAX_TRANSACTIONS}
+use Rattle.esr_base.specs.declared.numbers.TxnId.{TxnId}
+use Rattle.esr_history.specs.declared.event.Event.{Event}
+use Rattle.esr_history.specs.declared.event.Reply.{Reply}
+use Rattle.esr_history.specs.declared.event.Event.TheVariants.{BeginUpdate, BeginQuery, Commit, Abort}
+use Rattle.esr_history.specs.declared.event.Reply.TheVariants.{Begun, Committed, Aborted}
+use Rattle.esr_history.specs.Events.{beginnings, numbers, is_active}
+use Rattle.esr_history.specs.Machine.{Distance, Schedule, accepted_in, reply_to}
+use Rattle.esr_engine.specs.declared.engine.Counts.{Counts}
+
+-- how many transactions are active
+abbrev pub active_count : List Event → ℕ
+active_count events = count_by (is_active events) (numbers events)
+
+-- the entries that there are, and one for the end of each active transaction
+abbrev pub taken : Schedule → ℕ
+taken h = length h.entries + active_count (accepted_in h)
+
+-- how many transactions have begun
+abbrev pub transaction_count : Schedule → ℕ
+transaction_count h = length (beginnings (accepted_in h))
+
+-- a begin needs an entry and one for its end, and a number
+abbrev pub no_begin : Schedule → Bool
+no_begin h = nat_lt MAX_ENTRIES (taken h + 2) || nat_le MAX_TRANSACTIONS (transaction_count h)
+
+-- whether there is no room for an event: the end of an active transaction always has some
+abbrev pub is_full : Schedule → Event → Bool
+is_full h (BeginUpdate limit) = no_begin h
+is_full h (BeginQuery limit strict) = no_begin h
+is_full h (Commit t) = not (is_active (accepted_in h) t.0) && nat_le MAX_ENTRIES (taken h)
+is_full h (Abort t) = not (is_active (accepted_in h) t.0) && nat_le MAX_ENTRIES (taken h)
+is_full h _ = nat_le MAX_ENTRIES (taken h)
+
+-- There is an entry left for the end of each active transaction, and either end is accepted.
+pub record NeverStuck (d : Distance) (h : Schedule) : Type 0 where
+  pub capacity : taken h ≤ MAX_ENTRIES
+  pub fits : (t : TxnId) → is_active (accepted_in h) t.0 ≡ true → (is_full h (Commit t) ≡ false) × (is_full h (Abort t) ≡ false)
+  pub commits : (t : TxnId) → is_active (accepted_in h) t.0 ≡ true → reply_to d h (Commit t) ≡ Committed
+  pub aborts : (t : TxnId) → is_active (accepted_in h) t.0 ≡ true → reply_to d h (Abort t) ≡ Aborted
+
+-- what a history has, and what is left of it
+abbrev pub counts_of : Schedule → Counts
+counts_of h = record {
+  entries = length h.entries;
+  transactions = transaction_count h;
+  active = active_count (accepted_in h);
+  entries_left = MAX_ENTRIES - taken h;
+  transactions_left = MAX_TRANSACTIONS - transaction_count h;
+}
+
+-- how many are active after a reply, and whether it ends a transaction
+abbrev pub active_after : ℕ → Reply → ℕ
+active_after n (Begun t) = n + 1
+active_after n Committed = n - 1
+active_after n Aborted = n - 1
+active_after n _ = n
+
+abbrev pub is_end : Reply → Bool
+is_end Committed = true
+is_end Aborted = true
+is_end _ = false

@@ -1,7 +1,0 @@
--- Why `fresh_runners` keeps its contract: the goal that is left to a proof of ours.
-use Rattle.esr_explore.proofs.Turning.{one_fresh}
-use Rattle.esr_explore.proofs.run.fresh_runners.Goals as goal
-
-pub loop-block-preserved : goal.loop-block-preserved
-loop-block-preserved c =
-    one_fresh c.loop-block._block c.loop-block.runners.items c.push.new.self.items c.new.result c.loop-block.invariant c.new.ensures c.in_ok-push.ensures.items

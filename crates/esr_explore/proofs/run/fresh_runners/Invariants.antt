@@ -1,8 +1,0 @@
--- What holds at each turn of the loop in `fresh_runners`.
-use Rattle.std.proofs.Common.{◌≡◌, map}
-use Rattle.std.specs.List.{range_with_len}
-use Rattle.esr_explore.specs.Turns.{fresh}
-use Rattle.esr_explore.proofs.run.fresh_runners.Given as goal
-
-abbrev pub invariant-loop-block : goal.invariant-loop-block
-invariant-loop-block l = l.runners.items ≡ map (λ _. fresh) (range_with_len 0 l._block)

@@ -1,0 +1,8 @@
+-- What holds at each turn of the loop in `new_runners`.
+use Rattle.std.proofs.Common.{◌≡◌, map}
+use Rattle.std.specs.List.{range_with_len}
+use Rattle.esr_explore.specs.Turns.{fresh}
+use Rattle.esr_explore.proofs.run.new_runners.Given as goal
+
+abbrev pub invariant-loop-block : goal.invariant-loop-block
+invariant-loop-block l = l.runners.items ≡ map (λ _. fresh) (range_with_len 0 l._block)

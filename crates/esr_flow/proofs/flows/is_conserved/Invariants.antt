@@ -1,0 +1,6 @@
+-- What holds at each turn of the loop in `is_conserved`.
+use Rattle.std.proofs.Common.{◌≡◌, ◌≢◌, ℕ, ◌<◌, get_or}
+use Rattle.esr_flow.proofs.flows.is_conserved.Given as goal
+
+abbrev pub invariant-loop-v : goal.invariant-loop-v
+invariant-loop-v l = (v : ℕ) → v < l.v → v ≢ l.graph.source → v ≢ l.graph.sink → get_or l.into v 0 ≡ get_or l.from v 0

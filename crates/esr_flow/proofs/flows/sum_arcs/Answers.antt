@@ -1,0 +1,41 @@
+-- Why `sum_arcs` keeps its contract: the goals that are left to a proof of ours.
+use Rattle.std.proofs.Common.{rules, arith, ◌≡◌, ℕ, ◌+◌, ◌∙◌, ◌<◌, true, get_or, length, set, sym, ap, subst, below_more, Option, Some, None, refl}
+use Rattle.esr_cert.specs.Network.{arc_at}
+use Rattle.esr_cert.specs.Flow.{within, amount_at}
+use Rattle.esr_flow.specs.Words.{Arc}
+use Rattle.esr_flow.specs.Graph.{arcs_of}
+use Rattle.esr_flow.proofs.SumLaws.{sums_more, sums_same}
+use Rattle.esr_flow.proofs.flows.sum_arcs.Goals as goal
+
+pub loop-i-preserved : goal.loop-i-preserved
+loop-i-preserved c =
+    let arcs = arcs_of c.args.graph.now in let flow = c.args.flow.now in let i = c.loop-i.i in let nodes = c.args.graph.now.nodes in
+    let is : c.arc-arc.result ≡ arc_at arcs i = c.arc-arc.ensures in
+    let added : c.add_arc.result ≡ true = search rules in
+    let in_arcs : i < length arcs = omega (arith, c.loop-i-test.true, c.requires.flow) in
+    let ends = c.args.graph.now.kept.is_network.ends i in_arcs in
+    let capacity : within (get_or flow i 0) (arc_at arcs i).capacity ≡ true = ap (λ (a : Arc). within (get_or flow i 0) a.capacity) (sym is) ∙ c.add_arc.ensures.within added in
+    let to : c.add_arc.new.into ≡ set c.loop-i.into (arc_at arcs i).to (get_or c.loop-i.into (arc_at arcs i).to 0 + amount_at flow i) =
+    subst (λ (a : Arc). c.add_arc.new.into ≡ set c.loop-i.into a.to (get_or c.loop-i.into a.to 0 + amount_at flow i)) is (c.add_arc.ensures.into added) in
+    let out : c.add_arc.new.from ≡ set c.loop-i.from (arc_at arcs i).from (get_or c.loop-i.from (arc_at arcs i).from 0 + amount_at flow i) =
+    subst (λ (a : Arc). c.add_arc.new.from ≡ set c.loop-i.from a.from (get_or c.loop-i.from a.from 0 + amount_at flow i)) is (c.add_arc.ensures.from added) in record {
+      capacities = below_more _ _ c.loop-i.invariant.capacities capacity;
+      most = below_more _ _ (λ k l. omega (arith, c.loop-i.invariant.most k l, c.max-greatest.ensures)) (omega (arith, c.max-greatest.ensures));
+      to = sums_more arcs flow c.requires.flow i in_arcs (λ a. a.to) c.loop-i.into c.add_arc.new.into nodes (omega (arith, c.loop-i.auto.into, c.requires.into)) ends.1 to c.loop-i.invariant.to;
+      out = sums_more arcs flow c.requires.flow i in_arcs (λ a. a.from) c.loop-i.from c.add_arc.new.from nodes (omega (arith, c.loop-i.auto.from, c.requires.from)) ends.0 out c.loop-i.invariant.out;
+    }
+
+nothing_within : (limit : Option ℕ) → within 0 limit ≡ true
+nothing_within None = refl
+nothing_within (Some limit) = search rules
+
+pub loop-i-preserved-then-amount-eq0 : goal.loop-i-preserved-then-amount-eq0
+loop-i-preserved-then-amount-eq0 c =
+    let arcs = arcs_of c.args.graph.now in let flow = c.args.flow.now in let i = c.loop-i.i in let nodes = c.args.graph.now.nodes in
+    let in_arcs : i < length arcs = omega (arith, c.loop-i-test.true, c.requires.flow) in
+    let none : amount_at flow i ≡ 0 = c.if-amount-eq0.true in record {
+      capacities = below_more _ _ c.loop-i.invariant.capacities (subst (λ n. within n (arc_at arcs i).capacity ≡ true) (sym none) (nothing_within (arc_at arcs i).capacity));
+      most = below_more _ _ c.loop-i.invariant.most (omega (arith, none));
+      to = sums_same arcs flow c.requires.flow i in_arcs (λ a. a.to) c.loop-i.into nodes none c.loop-i.invariant.to;
+      out = sums_same arcs flow c.requires.flow i in_arcs (λ a. a.from) c.loop-i.from nodes none c.loop-i.invariant.out;
+    }

@@ -1,0 +1,13 @@
+-- What holds at each turn of the loop in `grow_lists`.
+use Rattle.std.proofs.Common.{◌≡◌, ℕ, ◌+◌, ◌-◌, vec_len, length, ◌≤◌}
+use Rattle.esr_locks.specs.Rows.{held_at}
+use Rattle.esr_locks.proofs.table.grow_lists.Given as goal
+
+abbrev pub invariant-loop-alloc : goal.invariant-loop-alloc
+invariant-loop-alloc l = record {
+  items : (u : ℕ) → (held_at l.held.items u).items ≡ (held_at l.initial.held.items u).items;
+  longer : length l.initial.held.items ≤ length l.held.items;
+}
+
+abbrev pub decreases-loop-alloc : goal.decreases-loop-alloc
+decreases-loop-alloc l = l.t.0 + 1 - vec_len l.held
