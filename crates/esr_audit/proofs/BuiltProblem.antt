@@ -1,4 +1,4 @@
--- The problem that is made for a query is the one gathered from an order, which is sound.
+-- The problem built for a query equals the problem specified from its update order, and is well formed.
 use Rattle.std.proofs.Common.{◌≡◌, ◌≤◌, ◌^◌, ◌*◌, ℕ, ℤ, suc, true, List, length, map, filter, take, sym, ap, ◌∙◌, subst, All, IsTrue}
 use Rattle.std.specs.List.{range_with_len}
 use Rattle.std.proofs.lemmas.List.Elements.{All-from_recursion}

@@ -1,7 +1,7 @@
-//! Fields of a JSON tree: numbers and lists of them, and the members of an object.
+//! Decodes the fields of a JSON tree: numbers, lists of numbers, and members of an object.
 //!
-//! One loop reads a list whatever its elements are: a trait says how one element is read and has as a ghost member what
-//! it stands for, and each kind of element is an `impl` of a few lines. So the loop is proved once.
+//! One generic loop decodes lists. The trait `FromJson` has the decoder of one element and, as a ghost member, its
+//! specification, and each type of element is an `impl` of a few lines. So the loop is proved once.
 ghost use Rattle.std.specs.Prelude.{◌≡◌, ◌≢◌, ◌≤◌, ℕ, List, Option, Some, None, IfOk, IfErr, map};
 ghost use Rattle.serde_json.specs.Data.{Data};
 ghost use Rattle.serde_json.specs.Find.{get};
@@ -12,7 +12,7 @@ use esr_cert::BundleFault;
 use serde_json::Value;
 use std::alloc::Global;
 
-/// What is read from a tree.
+/// A type that can be decoded from a JSON value: `part_of` specifies the decoder, and `shown` the model of a value.
 pub trait FromJson: Drop + Sized {
     ghost Kind: { Type 0 };
 
@@ -72,7 +72,7 @@ impl FromJson for Vec<u64> {
     }
 }
 
-/// A list of such parts.
+/// Decodes a list.
 pub fn list<T: FromJson>(alloc: Global, value: &Value) -> Result<Vec<T>, BundleFault>
     ensures ok { IfOk result (λ v. list_of T.part_of (view value.now) ≡ Some (map T.shown v.items)) }
     ensures err { IfErr result (λ e. e ≢ BundleFault.NoMemory → (e ≡ BundleFault.Shape)
@@ -91,7 +91,7 @@ pub fn list<T: FromJson>(alloc: Global, value: &Value) -> Result<Vec<T>, BundleF
     Ok(found)
 }
 
-/// A list of numbers.
+/// Decodes a list of numbers.
 pub fn numbers(alloc: Global, value: &Value) -> Result<Vec<u64>, BundleFault>
     ensures ok { IfOk result (λ v. as_naturals (view value.now) ≡ Some v.items) }
     ensures err { IfErr result (λ e. e ≢ BundleFault.NoMemory → (e ≡ BundleFault.Shape)
@@ -100,7 +100,7 @@ pub fn numbers(alloc: Global, value: &Value) -> Result<Vec<u64>, BundleFault>
     list(alloc, value)
 }
 
-/// A list of pairs of numbers.
+/// Decodes a list of pairs of numbers.
 pub fn pairs(alloc: Global, value: &Value) -> Result<Vec<(u64, u64)>, BundleFault>
     ensures ok { IfOk result (λ v. pairs_of (view value.now) ≡ Some v.items) }
     ensures err { IfErr result (λ e. e ≢ BundleFault.NoMemory → (e ≡ BundleFault.Shape)
@@ -109,7 +109,7 @@ pub fn pairs(alloc: Global, value: &Value) -> Result<Vec<(u64, u64)>, BundleFaul
     list(alloc, value)
 }
 
-/// Whether it is an object with so many keys.
+/// Returns whether the value is an object with exactly `count` keys.
 pub fn has_key_count(value: &Value, count: usize) -> bool
     ensures { result ≡ has_key_count count (view value.now) }
 {
@@ -119,7 +119,7 @@ pub fn has_key_count(value: &Value, count: usize) -> bool
     }
 }
 
-/// One where an object has the key.
+/// Returns 1 if the object has the key, and 0 otherwise.
 pub fn key_count(value: &Value, key: &str) -> usize
     ensures value { result ≡ key_count (get key.now (view value.now)) }
     ensures small { result ≤ 1 }
@@ -130,7 +130,11 @@ pub fn key_count(value: &Value, key: &str) -> usize
     }
 }
 
-/// The value at a key.
+/// Returns the value of a key.
+///
+/// # Errors
+///
+/// `Shape` if there is no such key.
 pub fn at<'a>(value: &'a Value, key: &str) -> Result<&'a Value, BundleFault>
     ensures ok { IfOk result (λ v. get key.now (view value.now) ≡ Some (view v.now)) }
     ensures err { IfErr result (λ e. (e ≡ BundleFault.Shape) × (get key.now (view value.now) ≡ None)) }
@@ -141,7 +145,7 @@ pub fn at<'a>(value: &'a Value, key: &str) -> Result<&'a Value, BundleFault>
     }
 }
 
-/// What is read from the value at a key.
+/// Decodes the value of a key.
 pub fn decode_member<T: FromJson>(alloc: Global, value: &Value, key: &str) -> Result<T, BundleFault>
     ensures ok { IfOk result (λ v. field T.part_of key.now (view value.now) ≡ Some (T.shown v)) }
     ensures err { IfErr result (λ e. e ≢ BundleFault.NoMemory → (e ≡ BundleFault.Shape)
@@ -150,7 +154,7 @@ pub fn decode_member<T: FromJson>(alloc: Global, value: &Value, key: &str) -> Re
     T::read(alloc, at(value, key)?)
 }
 
-/// The list of numbers at a key, and no numbers where there is no such key.
+/// Decodes the list of numbers at a key, or returns an empty list if there is no such key.
 pub fn optional_numbers(alloc: Global, value: &Value, key: &str) -> Result<Vec<u64>, BundleFault>
     ensures ok { IfOk result (λ v. optional_numbers (get key.now (view value.now)) ≡ Some v.items) }
     ensures err { IfErr result (λ e. e ≢ BundleFault.NoMemory → (e ≡ BundleFault.Shape)
@@ -162,7 +166,7 @@ pub fn optional_numbers(alloc: Global, value: &Value, key: &str) -> Result<Vec<u
     }
 }
 
-/// The number at a key, where there is such a key.
+/// Decodes the number at a key, or returns `None` if there is no such key.
 pub fn optional_number(value: &Value, key: &str) -> Result<Option<u64>, BundleFault>
     ensures ok { IfOk result (λ n. optional_number (get key.now (view value.now)) ≡ Some n) }
     ensures err { IfErr result (λ e. (e ≡ BundleFault.Shape) × (optional_number (get key.now (view value.now)) ≡ None)) }

@@ -76,10 +76,10 @@ fullness g f e same is = ap (λ (s : Schedule). is_full s e) (sym same) ∙ is
 
 -- ---- from the first event on
 
-pub at_first : (h : Schedule) (events : List EsrEvent) (capacity : List EsrReply) → AreAnswered h h events 0 capacity
-at_first h events capacity = record { within = omega arith; each = refl; after = refl; reported = refl }
+pub at_first : (h : Schedule) (events : List EsrEvent) (buffer : List EsrReply) → AreAnswered h h events 0 buffer
+at_first h events buffer = record { within = omega arith; each = refl; after = refl; reported = refl }
 
-module _ (h g : Schedule) (events : List EsrEvent) (n : ℕ) (capacity : List EsrReply) (d : EsrEvent) (so_far : AreAnswered h g events n capacity) (within : n < length events) where
+module _ (h g : Schedule) (events : List EsrEvent) (n : ℕ) (buffer : List EsrReply) (d : EsrEvent) (so_far : AreAnswered h g events n buffer) (within : n < length events) where
   module _ (r : Reply) (f : Schedule) (one : IsOne g (get_or events n d) f r) where
     grown : events_in (n + 1) events ≡ events_in n events ++ one.0 ∷ []
     grown =
@@ -95,7 +95,7 @@ module _ (h g : Schedule) (events : List EsrEvent) (n : ℕ) (capacity : List Es
         ap (replies_to h) grown ∙ (replies_push h (events_in n events) one.0
         ∙ ap (λ (s : Reply). replies_to h (events_in n events) ++ s ∷ []) (sym reply_is))
 
-    pub answered_more : (x : EsrReply) → x ≡ reply_fields r → n < length capacity → AreAnswered h f events (n + 1) (set capacity n x)
+    pub answered_more : (x : EsrReply) → x ≡ reply_fields r → n < length buffer → AreAnswered h f events (n + 1) (set buffer n x)
     answered_more x is has_capacity = record {
       within = omega arith;
       each = ap length grown ∙ (length-append (events_in n events) (one.0 ∷ []) ∙ ap (λ k. k + 1) so_far.each);
@@ -103,7 +103,7 @@ module _ (h g : Schedule) (events : List EsrEvent) (n : ℕ) (capacity : List Es
           ∙ (ap (λ (s : Schedule). after_one s one.0) so_far.after ∙ (sym (after_push h (events_in n events) one.0) ∙ sym (ap (after_all h) grown))));
       reported =
           let next : n + 1 ≡ suc n = omega arith in
-          ap (λ k. take k (set capacity n x)) next ∙ (take_set capacity n x has_capacity
+          ap (λ k. take k (set buffer n x)) next ∙ (take_set buffer n x has_capacity
           ∙ (ap (λ l. l ++ x ∷ []) so_far.reported ∙ (ap (λ y. map reply_fields (replies_to h (events_in n events)) ++ y ∷ []) is
           ∙ (sym (map-append reply_fields (replies_to h (events_in n events)) (r ∷ [])) ∙ ap (map reply_fields) (sym replies_grown)))));
     }

@@ -81,7 +81,7 @@ IsFinding h q f before = IsAnswer weighted h q f.distance f.import before × (f.
 
 -- the same, where they are at the head of a room
 abbrev pub IsFound : Schedule → ℕ → EsrFinding → List ℕ → Type 0
-IsFound h q f capacity = IsFinding h q f (take f.count capacity)
+IsFound h q f buffer = IsFinding h q f (take f.count buffer)
 
 -- the same, where there is no room for them
 abbrev pub IsCounted : Schedule → ℕ → EsrFinding → Type 0
@@ -99,7 +99,7 @@ pub record IsBundleOf (h : Schedule) (q : ℕ) (bytes : List ℕ) : Type 0 where
 
 -- such bytes are at the head of a room
 abbrev pub IsBundleIn : Schedule → ℕ → ℕ → List ℕ → Type 0
-IsBundleIn h q count capacity = IsBundleOf h q (take count capacity) × (count ≡ length (take count capacity))
+IsBundleIn h q count buffer = IsBundleOf h q (take count buffer) × (count ≡ length (take count buffer))
 
 -- such bytes are this many
 abbrev pub IsBundleLong : Schedule → ℕ → ℕ → Type 0
@@ -107,7 +107,7 @@ IsBundleLong h q count = (bytes : List ℕ) × IsBundleOf h q bytes × (count �
 
 -- the committed values are at the head of a room
 abbrev pub AreValuesIn : Schedule → ℕ → List ℤ → Type 0
-AreValuesIn h count capacity = (take count capacity ≡ committed_values h) × (count ≡ length h.opening)
+AreValuesIn h count buffer = (take count buffer ≡ committed_values h) × (count ≡ length h.opening)
 
 -- whatever the history of a renewed engine comes to be, it and the one before it are serializable as one
 pub record IsRenewed (h : Schedule) : Type 0 where

@@ -1,4 +1,4 @@
--- The past of an engine as text, which goes into a room of the caller's.
+-- Texts made from the history of an engine (script, explanation, ledger), copied into a buffer of the caller's.
 use Rattle.std.specs.Prelude.{◌≡◌, ◌⊎◌, ℕ, List, Option, Some, length, take}
 use Rattle.esr_items.specs.Weights.{weighted}
 use Rattle.esr_history.specs.Machine.{Schedule}
@@ -8,28 +8,28 @@ use Rattle.esr_dump.specs.Lines.{script}
 use Rattle.esr_explain.specs.Explain.{explanation}
 use Rattle.esr_tables.specs.Written as sheet
 
--- the names that a text gives to the items of a history
+-- the item names read from `names`, or `None` if it does not have a name for each item
 abbrev pub names_of : Schedule → List ℕ → Option (List (List ℕ))
 names_of h names = item_names (length h.opening) names
 
--- a text has a name for each item of a history
+-- `names` has a name for each item of a history
 abbrev pub AreNamed : Schedule → List ℕ → Type 0
 AreNamed h names = (items : List (List ℕ)) × (names_of h names ≡ Some items)
 
--- such a text is at the head of a room, or has so many bytes
+-- `IsTextInBuffer`: the first `count` bytes of the buffer are such a text. `IsTextLength`: `count` is the length of one
 abbrev pub IsTextInBuffer : (List ℕ → Type 0) → ℕ → List ℕ → Type 0
-IsTextInBuffer P count capacity = P (take count capacity) × (count ≡ length (take count capacity))
+IsTextInBuffer P count buffer = P (take count buffer) × (count ≡ length (take count buffer))
 
 abbrev pub IsTextLength : (List ℕ → Type 0) → ℕ → Type 0
 IsTextLength P count = (text : List ℕ) × P text × (count ≡ length text)
 
--- the script of a history, in which items have the names of a text
+-- the script of a history, with the item names of `names`
 abbrev pub IsScriptOf : Schedule → List ℕ → List ℕ → Type 0
 IsScriptOf h names text =
     (items : List (List ℕ)) × (names_of h names ≡ Some items)
     × (text ≡ script items (transaction_names (transaction_count h)) h)
 
--- the explanation of a query of a history, in which items have the names of a text
+-- the explanation of a query of a history, with the item names of `names`
 pub record IsExplanationOf (h : Schedule) (q : ℕ) (names text : List ℕ) : Type 0 where
   pub items : List (List ℕ)
   pub named : names_of h names ≡ Some items
@@ -39,7 +39,7 @@ pub record IsExplanationOf (h : Schedule) (q : ℕ) (names text : List ℕ) : Ty
 abbrev pub IsLedgerOf : Schedule → List ℕ → Type 0
 IsLedgerOf h text = sheet.IsLedgerOf h (transaction_names (transaction_count h)) text
 
--- the statuses of a script, and of what is told of a query
+-- the statuses that a script's and a ledger's call returns, and those of an explanation's and a picture's call
 abbrev pub IsScriptStatus : ℕ → Type 0
 IsScriptStatus n = (n ≡ 0) ⊎ ((n ≡ 5) ⊎ ((n ≡ 7) ⊎ ((n ≡ 13) ⊎ (n ≡ 14))))
 

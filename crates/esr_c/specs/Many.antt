@@ -56,11 +56,11 @@ none_refused_before (r ∷ s ∷ more) = not (is_refusal r) && none_refused_befo
 
 -- The first n events were answered one after another: the history has them at its end, and their replies are at the head
 -- of the room.
-pub record AreAnswered (h g : Schedule) (events : List EsrEvent) (n : ℕ) (capacity : List EsrReply) : Type 0 where
+pub record AreAnswered (h g : Schedule) (events : List EsrEvent) (n : ℕ) (buffer : List EsrReply) : Type 0 where
   pub within : n ≤ length events
   pub each : length (events_in n events) ≡ n
   pub after : g ≡ after_all h (events_in n events)
-  pub reported : take n capacity ≡ map reply_fields (replies_to h (events_in n events))
+  pub reported : take n buffer ≡ map reply_fields (replies_to h (events_in n events))
 
 -- the last of the replies to the first n events is a refusal
 abbrev pub IsRefusedAtLast : Schedule → List EsrEvent → ℕ → Type 0

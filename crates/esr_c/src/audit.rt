@@ -48,32 +48,32 @@ pub(crate) fn totals_of(engine: &EmbeddedEngine) -> EsrTotals
 }
 
 /// Copies a list to the beginning of a buffer if it fits, and leaves the rest of the buffer unchanged.
-fn fill<T: Copy>(capacity: &mut [T], list: &[T]) -> bool
-    ensures fits { IsTrue result ↔ length list.now ≤ length capacity.old }
-    ensures filled { IsTrue result → take (length list.now) capacity.new ≡ list.now }
-    ensures rest { drop (length list.now) capacity.new ≡ drop (length list.now) capacity.old }
-    ensures kept { result ≡ false → capacity.new ≡ capacity.old }
+fn fill<T: Copy>(buffer: &mut [T], list: &[T]) -> bool
+    ensures fits { IsTrue result ↔ length list.now ≤ length buffer.old }
+    ensures filled { IsTrue result → take (length list.now) buffer.new ≡ list.now }
+    ensures rest { drop (length list.now) buffer.new ≡ drop (length list.now) buffer.old }
+    ensures kept { result ≡ false → buffer.new ≡ buffer.old }
 {
-    if capacity.len() < list.len() {
+    if buffer.len() < list.len() {
         return false;
     }
-    let (head, _) = capacity.split_at_mut(list.len());
+    let (head, _) = buffer.split_at_mut(list.len());
     head.copy_from_slice(list);
     true
 }
 
 /// Stores the length of a list, and copies the list to the beginning of a buffer if it fits. The rest of the buffer is
 /// unchanged.
-pub(crate) fn hand_out<T: Copy>(capacity: &mut [T], count: &mut usize, list: &[T]) -> Status
+pub(crate) fn hand_out<T: Copy>(buffer: &mut [T], count: &mut usize, list: &[T]) -> Status
     ensures known { (result ≡ Status.Done) ⊎ (result ≡ Status.TooSmall) }
     ensures count { count.new ≡ length list.now }
-    ensures filled { result ≡ Status.Done → take count.new capacity.new ≡ list.now }
-    ensures rest { drop count.new capacity.new ≡ drop count.new capacity.old }
-    ensures small { result ≡ Status.TooSmall ↔ length capacity.old < length list.now }
-    ensures kept { result ≢ Status.Done → capacity.new ≡ capacity.old }
+    ensures filled { result ≡ Status.Done → take count.new buffer.new ≡ list.now }
+    ensures rest { drop count.new buffer.new ≡ drop count.new buffer.old }
+    ensures small { result ≡ Status.TooSmall ↔ length buffer.old < length list.now }
+    ensures kept { result ≢ Status.Done → buffer.new ≡ buffer.old }
 {
     *count = list.len();
-    if fill(capacity, list) {
+    if fill(buffer, list) {
         Status::Done
     } else {
         Status::TooSmall

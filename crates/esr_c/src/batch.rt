@@ -88,7 +88,7 @@ pub(crate) fn answer_all(
     stop: bool,
     count: &mut usize,
 ) -> Status
-    requires capacity { length events.now ≤ length replies.old }
+    requires fits { length events.now ≤ length replies.old }
     ensures known { IsAnsweredStatus (status_number result) }
     ensures answered { AreAnswered engine.old engine.new events.now count.new replies.new }
     ensures end { IsEnd engine.old events.now stop count.new (status_number result) }

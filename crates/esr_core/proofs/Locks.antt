@@ -26,7 +26,7 @@ use Rattle.esr_locks.proofs.Least.{IsSmallest-same}
 use Rattle.esr_core.proofs.Held.{active-kept, held-begin, IsBegin, numbers-kept, query-kept, update-kept, beginnings-begin, beginning-begin, not_named, reads_name, writes_name, update_or_query}
 use Rattle.std.proofs.lemmas.Grind.{common_steps}
 
--- who passes as a writer of an item, as a reader of it
+-- whether update u is active and has written (read) item x, and so holds its lock
 abbrev update_holds_write : List Event → ℕ → ℕ → Bool
 update_holds_write events x u = is_update events u && holds_write events u x
 
@@ -39,7 +39,7 @@ locks_len events n = length-map-range_with_len (item_locks events) 0 n
 pub locks_at_item : (events : List Event) (n x : ℕ) → x < n → locks_at (locks_of events n) x ≡ item_locks events x
 locks_at_item events n x l = get_or-map-range_with_len (item_locks events) 0 n x x no_locks l (omega arith)
 
--- who holds a lock has a number
+-- the number of a lock holder is in 1..n if n transactions have begun
 holder_in_range : (events : List Event) (u : ℕ) (p : Bool) → (is_active events u && p) ≡ true → (1 ≤ u) × (u < 1 + length (beginnings events))
 holder_in_range events u p is = begun_in_range events u (active_parts events u (and_parts (is_active events u) p is).0).0
 
@@ -63,7 +63,7 @@ module _ (events : List Event) (o : IsWellFormed events) where
       (is, λ v l. false_from_ne_true (update_holds_write events x v) (λ is_v. let e : v ≡ u = one_writer x v u is_v is in omega arith))
       (writer_in_range x)
 
-  -- the writer of the locks on an item is who holds the write lock
+  -- the field `writer` of the locks of an item is the update that holds the write lock
   pub writer_is : (x u : ℕ) → is_writer (item_locks events x) u ≡ update_holds_write events x u
   writer_is x u =
       elim (cases_Bool (update_holds_write events x u)) [
@@ -84,7 +84,7 @@ module _ (events : List Event) (o : IsWellFormed events) where
         | inr isnt ↦ false_from_ne_true (is_reader (item_locks events x) u) (λ it. false≢true (sym isnt ∙ any_in_filter (update_holds_read events x) u (numbers events) it)) ∙ sym isnt
       ]
 
-  -- the update that keeps another from reading, and the smallest that keeps it from writing
+  -- the search over all transactions finds the update that blocks a read
   pub find_read_blocker : (t x : ℕ) (r : Option ℕ) → IsSmallest (blocks_read (item_locks events x) t) r → find (λ u. not (u == t) && update_holds_write events x u) (numbers events) ≡ r
   find_read_blocker t x r least =
       find_least (λ u. not (u == t) && update_holds_write events x u) (length (beginnings events)) r
@@ -107,7 +107,7 @@ module _ (events : List Event) (o : IsWellFormed events) where
 locks_congruent : (w v : Option ℕ) (r s : List ℕ) (q p : List (ℕ × ℕ)) → w ≡ v → r ≡ s → q ≡ p → ◌≡◌ {A = ItemLocks} (record { writer = w; readers = r; queries = q }) (record { writer = v; readers = s; queries = p })
 locks_congruent w v r s q p e f g = grind (arith, common_steps)
 
--- two sets of accepted events with the same numbers and the same locks on an item
+-- lists of events with the same transactions and the same lock holders have the same locks on an item
 locks_extensional : (old new : List Event) (x : ℕ) → numbers new ≡ numbers old → ((u : ℕ) → update_holds_write new x u ≡ update_holds_write old x u) → ((u : ℕ) → update_holds_read new x u ≡ update_holds_read old x u) → ((u : ℕ) → query_reads new x u ≡ query_reads old x u)
     → item_locks new x ≡ item_locks old x
 locks_extensional old new x n w r q =
@@ -123,7 +123,7 @@ query_reads_own events x u y is = at (is_query events u && holds_read events u x
     at true is' = ap (λ (z : ℕ × ℕ). z.0) (sym (same_Some (u, reads_of events u x) y is'))
     at false is' = absurd (cc)
 
--- An event that begins and ends nothing.
+-- An event other than a begin, a commit or an abort.
 module _ (events : List Event) (e : Event) (none : beginning_of e ≡ None) (c : (t : ℕ) → commits t e ≡ false) (a : (t : ℕ) → aborts t e ≡ false) (x : ℕ) where
   update_holds_write-step : (u : ℕ) → update_holds_write (events ++ e ∷ []) x u ≡ (is_update events u && (is_active events u && (list_any (writes u x) events || writes u x e)))
   update_holds_write-step u = rw (update-kept events e none u, active-kept events e none c a u, any_push (writes u x) events e) refl
@@ -146,7 +146,7 @@ module _ (events : List Event) (e : Event) (none : beginning_of e ≡ None) (c :
   query-same : (u : ℕ) → reads u x e ≡ false → query_reads (events ++ e ∷ []) x u ≡ query_reads events x u
   query-same u fails = grind (arith, query-step u, or_false (list_any (reads u x) events), add-zero (reads_of events u x))
 
-  -- an event on another item
+  -- an event that neither reads nor writes the item leaves its locks unchanged
   locks-other : ((u : ℕ) → writes u x e ≡ false) → ((u : ℕ) → reads u x e ≡ false) → item_locks (events ++ e ∷ []) x ≡ item_locks events x
   locks-other w r = locks_extensional events (events ++ e ∷ []) x (numbers-kept events e none) (λ u. update_holds_write-same u (w u)) (λ u. read-same u (r u)) (λ u. query-same u (r u))
 
@@ -226,7 +226,7 @@ module _ (events : List Event) (t : TxnId) (x : ItemId) where
       was false did =
           grind (arith, count_none (reads t.0 x.0) events did, and_right, and_right (is_active events t.0) (list_any (reads t.0 x.0) events) did)
 
--- a write, where nobody else holds a lock on the item
+-- a write of an item on which no other update holds a lock
 module _ (events : List Event) (t : TxnId) (x : ItemId) (v : ℤ) where
   pub locks-write : IsWellFormed (events ++ Write t x v ∷ []) → is_update events t.0 ≡ true → is_active events t.0 ≡ true → item_locks (events ++ Write t x v ∷ []) x.0 ≡ with_writer t.0 (item_locks events x.0)
   locks-write o update act =
@@ -340,7 +340,7 @@ module _ (events : List Event) (o : IsWellFormed events) (e : Event) (b : Beginn
   holds-write : (u : ℕ) → holds_write (events ++ e ∷ []) u x ≡ holds_write events u x
   holds-write u = held-begin events o e (writes u x) u is.commits_none is.aborts_none (is.writes_none u x) (writes_name u x)
 
-  -- who holds a lock has begun, as before
+  -- a lock holder has begun before, so the new begin does not change its kind
   kind-same : (k : Option Beginning → Bool) (u : ℕ) (p : Bool) → (p ≡ true → is_begun events u ≡ true) → (k (beginning (events ++ e ∷ []) u) && p) ≡ (k (beginning events u) && p)
   kind-same k u true begun = ap (λ w. k w && true) (beginning-begin events e u (begun refl))
   kind-same k u false begun = and_right (k (beginning (events ++ e ∷ []) u)) false refl ∙ sym (and_right (k (beginning events u)) false refl)

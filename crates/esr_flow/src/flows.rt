@@ -1,8 +1,7 @@
-//! Whether amounts are a flow.
+//! Checks whether a list of amounts is a flow.
 //!
-//! It is one pass over the arcs, in the order of their numbers: those of a chain lie together, and what each node is
-//! given and gives is summed beside it. By the rows of the nodes each amount would be read twice, and no two that lie
-//! together.
+//! One pass over the arcs in the order of their numbers adds each amount to the sums of its two nodes. The arcs of a
+//! chain are adjacent, so access is sequential. A pass over the nodes would read each amount twice, at scattered places.
 ghost use Rattle.std.specs.Prelude.{◌≡◌, ◌≢◌, ℕ, ◌+◌, ◌<◌, ◌≤◌, true, length, get_or, set, IfOk, IfSome};
 ghost use Rattle.esr_cert.specs.Network.{arc_at};
 ghost use Rattle.esr_cert.specs.Flow.{within, amount_at, inflow, outflow, IsFlow, worth};
@@ -12,7 +11,7 @@ use crate::graph::Graph;
 use esr_cert::Arc;
 use std::alloc::{AllocError, Global};
 
-/// Adds to the sum of a node, where the new sum fits.
+/// Adds an amount to the sum of a node. Returns false on overflow.
 fn add_to(sums: &mut [u64], node: usize, amount: u64) -> bool
     requires { node < length sums.old }
     ensures { result ≡ true → sums.new ≡ set sums.old node (get_or sums.old node 0 + amount) }
@@ -26,7 +25,7 @@ fn add_to(sums: &mut [u64], node: usize, amount: u64) -> bool
     }
 }
 
-/// Whether an amount is within the capacity of an arc.
+/// Returns whether an amount is within the capacity of an arc.
 fn is_within(arc: Arc, amount: u64) -> bool
     ensures { result ≡ within amount arc.capacity }
 {
@@ -36,8 +35,8 @@ fn is_within(arc: Arc, amount: u64) -> bool
     }
 }
 
-/// Adds the amount on an arc to what comes to its one end and to what leaves the other. Whether it is within the
-/// capacity, and the new sums fit.
+/// Adds the amount of an arc to the inflow of its head and to the outflow of its tail. Returns false if the amount is
+/// above the arc's capacity or a sum overflows.
 fn add_arc(arc: Arc, amount: u64, into: &mut [u64], from: &mut [u64]) -> bool
     requires to { arc.to < length into.old }
     requires from { arc.from < length from.old }
@@ -50,8 +49,8 @@ fn add_arc(arc: Arc, amount: u64, into: &mut [u64], from: &mut [u64]) -> bool
         && add_to(from, arc.from as usize, amount)
 }
 
-/// Sums what comes to each node and what leaves it, and answers the greatest amount, if each is within the capacity of
-/// its arc and all sums fit.
+/// Computes the inflow and the outflow of each node, and returns the greatest amount. Returns `None` if an amount is
+/// above the capacity of its arc or a sum overflows.
 fn sum_arcs(graph: &Graph, flow: &[u64], into: &mut [u64], from: &mut [u64]) -> Option<u64>
     requires flow { length flow.now ≡ length (arcs_of graph.now) }
     requires into { length into.old ≡ graph.now.nodes }
@@ -80,7 +79,7 @@ fn sum_arcs(graph: &Graph, flow: &[u64], into: &mut [u64], from: &mut [u64]) -> 
     Some(greatest)
 }
 
-/// Whether as much comes to each node as leaves it, but the source and the sink.
+/// Returns whether inflow equals outflow at each node other than the source and the sink.
 fn is_conserved(graph: &Graph, into: &[u64], from: &[u64]) -> bool
     requires into { length into.now ≡ graph.now.nodes }
     requires from { length from.now ≡ graph.now.nodes }
@@ -95,7 +94,7 @@ fn is_conserved(graph: &Graph, into: &[u64], from: &[u64]) -> bool
     true
 }
 
-/// The worth of amounts, if they are a flow none of whose amounts is above it.
+/// Returns the value of a flow. Returns `None` if the amounts are not a flow, or if one of them is above that value.
 pub fn worth_if_flow(alloc: Global, graph: &Graph, flow: &[u64]) -> Result<Option<u64>, AllocError>
     requires flow { length flow.now ≡ length (arcs_of graph.now) }
     ensures flow { IfOk result (λ r. IfSome r (λ value. IsFlow (net_of graph.now) flow.now)) }

@@ -70,7 +70,7 @@ impl Store {
         }
     }
 
-    /// The same of values that are in range, and no more than items may be.
+    /// Like [`Store::new`], but for values that have been checked, so that only an allocation can fail.
     pub fn of_valid(alloc: Global, values: &[i64]) -> Result<Store, AllocError>
         requires few { length values.now ≤ MAX_ITEMS }
         requires range { All IsValue values.now }

@@ -1,11 +1,11 @@
-//! The locks on each item, and beside them the items of each transaction.
+//! The locks of each item, and for each transaction the items on which it holds a lock.
 //!
-//! So no call looks at locks that it does not speak of: who is in the way is found at the item, and a release goes over
-//! the items of its transaction alone. Contracts see the locks of each item and the room for more; the lists by
-//! transaction show only in `items_of`, by which a commit finds what was written.
+//! A check for conflicts reads only the item's locks, and a release visits only the transaction's items. Contracts see
+//! the locks of each item and the spare capacity; the lists by transaction are visible only through `items_of`, which a
+//! commit uses to find the items written.
 //!
-//! Room is asked for by `reserve` before anything changes, and is inlined, since each read and write asks and nearly
-//! always there is some. What makes room stands apart: a function pays at its entry for the locals of its rare cases.
+//! `reserve` is called before anything changes. It is inlined, since each read and write calls it and it usually finds
+//! spare capacity. Growth is a separate function, so that the usual path does not pay for its locals.
 
 ghost use Rattle.std.specs.Prelude.{◌≡◌, ℕ, ◌<◌, ◌≤◌, ◌==◌, [], length, map, All, IfOk, OnOk, OnErr, slice_set, true, if◌then◌else◌, option_map};
 ghost use Rattle.std.specs.List.{range_with_len};
@@ -23,12 +23,12 @@ use esr_items::ItemId;
 use std::alloc::{AllocError, Global};
 use std::marker::Model;
 
-/// The locks on each item, by two-phase locking: a transaction holds its locks until they are
-/// released together. Updates read and write, queries read.
+/// The lock table of strict two-phase locking: a transaction holds its locks until they are
+/// released together (Bernstein, Hadzilacos and Goodman, 1987). Updates take read and write locks,
+/// queries read locks.
 ///
-/// Beside the locks of each item there are the items of each transaction, so that no call looks at
-/// locks that it does not speak of. Memory goes with the count of items, the locks held and the
-/// largest number of a transaction.
+/// Memory is proportional to the number of items, the locks held and the largest transaction
+/// number.
 #[derive(Drop)]
 pub struct LockTable {
     rows: Vec<Row>,
@@ -49,7 +49,7 @@ impl Model for LockTable {
     ghost invariant = { λ t. IsTable t.rows.items t.held.items };
 }
 
-/// Rows with no locks.
+/// Returns one row without locks for each item.
 fn empty_rows(alloc: Global, items: u32) -> Result<Vec<Row>, AllocError>
     ensures { IfOk result (λ rows. map (λ r. r.locks) rows.items ≡ map (λ x. no_locks) (range_with_len 0 items)) }
 {
@@ -60,7 +60,7 @@ fn empty_rows(alloc: Global, items: u32) -> Result<Vec<Row>, AllocError>
     Ok(rows)
 }
 
-/// Gives each transaction up to `t`, which has none, a list of items.
+/// Appends empty lists of items until `t` has one.
 #[cold]
 #[inline(never)]
 fn grow_lists(held: &mut Vec<LockedItems>, alloc: Global, t: TxnId) -> Result<(), AllocError>
@@ -74,7 +74,7 @@ fn grow_lists(held: &mut Vec<LockedItems>, alloc: Global, t: TxnId) -> Result<()
     Ok(())
 }
 
-/// Gives each transaction up to `t` a list of items.
+/// Ensures that `t` has a list of items.
 #[inline(always)]
 fn ensure_lists(held: &mut Vec<LockedItems>, alloc: Global, t: TxnId) -> Result<(), AllocError>
     ensures items { (u : ℕ) → (held_at held.new.items u).items ≡ (held_at held.old.items u).items }
@@ -88,7 +88,7 @@ fn ensure_lists(held: &mut Vec<LockedItems>, alloc: Global, t: TxnId) -> Result<
     grow_lists(held, alloc, t)
 }
 
-/// The items in the list of a transaction.
+/// Returns the items in the list of a transaction.
 fn listed(held: &[LockedItems], t: TxnId) -> &[ItemId]
     ensures { result.now ≡ (held_at held.now t.0).items }
 {
@@ -100,7 +100,7 @@ fn listed(held: &[LockedItems], t: TxnId) -> &[ItemId]
     }
 }
 
-/// Leaves the list of a transaction empty, and frees what it had on the heap.
+/// Replaces the list of a transaction by an empty one, and frees its memory.
 fn clear_list(held: &mut Vec<LockedItems>, alloc: Global, t: TxnId)
     ensures { (u : ℕ) → (held_at held.new.items u).items
         ≡ (if t.0 == u then [] else (held_at held.old.items u).items) }
@@ -111,7 +111,7 @@ fn clear_list(held: &mut Vec<LockedItems>, alloc: Global, t: TxnId)
     }
 }
 
-/// Drops the locks of a transaction on some items.
+/// Releases the locks of a transaction on the items.
 fn release_each(rows: &mut Vec<Row>, items: &[ItemId], t: TxnId)
     requires { All (λ i. i.0 < length rows.old.items) items.now }
     ensures len { length rows.new.items ≡ length rows.old.items }
@@ -125,7 +125,11 @@ fn release_each(rows: &mut Vec<Row>, items: &[ItemId], t: TxnId)
 }
 
 impl LockTable {
-    /// A table of this many items, on which nobody holds a lock.
+    /// Returns a table of `items` items without locks.
+    ///
+    /// # Errors
+    ///
+    /// `NoMemory` if an allocation fails.
     pub fn new(alloc: Global, items: u32) -> Result<LockTable, NoMemory>
         ensures { IfOk result (λ t. t.locks ≡ map (λ x. no_locks) (range_with_len 0 items)) }
     {
@@ -139,15 +143,14 @@ impl LockTable {
         }
     }
 
-    /// Makes room for the lists of so many transactions at once, as far as memory allows.
+    /// Reserves capacity for the lists of `transactions` transactions. A failed allocation is ignored.
     pub fn reserve_transactions(&mut self, transactions: usize)
         ensures { self.new ≡ self.old }
     {
         let _ = self.held.reserve(transactions);
     }
 
-    /// The update that keeps transaction `t`, as an update, from reading the item: another that
-    /// has written it.
+    /// Returns the update that blocks a read of the item by update `t`: another that has written it.
     #[inline(always)]
     pub fn may_read_update(&self, t: TxnId, x: ItemId) -> Option<TxnId>
         requires { x.0 < length self.now.locks }
@@ -156,8 +159,8 @@ impl LockTable {
         self.rows[x.0 as usize].blocking_update(t, Mode::Read)
     }
 
-    /// The smallest update that keeps transaction `t` from writing the item: another that has read
-    /// or written it.
+    /// Returns the update with the smallest number that blocks a write of the item by `t`: another
+    /// that has read or written it.
     #[inline(always)]
     pub fn may_write(&self, t: TxnId, x: ItemId) -> Option<TxnId>
         requires { x.0 < length self.now.locks }
@@ -166,7 +169,7 @@ impl LockTable {
         self.rows[x.0 as usize].blocking_update(t, Mode::Write)
     }
 
-    /// The update that has written the item.
+    /// Returns the update that has written the item.
     pub fn write_holder(&self, x: ItemId) -> Option<TxnId>
         requires { x.0 < length self.now.locks }
         ensures { option_map (λ u. u.0) result ≡ (locks_at self.now.locks x.0).writer }
@@ -174,7 +177,7 @@ impl LockTable {
         self.rows[x.0 as usize].writer()
     }
 
-    /// The queries that have read the item, ascending, each with its count of reads.
+    /// Returns the queries that have read the item, in ascending order, each with its number of reads.
     pub fn query_reads(&self, x: ItemId) -> &[QueryReads]
         requires { x.0 < length self.now.locks }
         ensures reads { map query_and_count result.now ≡ (locks_at self.now.locks x.0).queries }
@@ -184,8 +187,8 @@ impl LockTable {
         self.rows[x.0 as usize].queries()
     }
 
-    /// The items on which a transaction holds a lock. One that it has read as a query and as an
-    /// update may occur twice.
+    /// Returns the items on which a transaction holds a lock. The table does not know the kind of a
+    /// transaction: an item may occur twice if it was locked both as a query's and as an update's.
     pub fn items_of(&self, t: TxnId) -> &[ItemId]
         ensures within { All (λ i. i.0 < length self.now.locks) result.now }
         ensures listed { (x : ℕ) → x < length self.now.locks → has_lock (locks_at self.now.locks x) t.0 ≡ true
@@ -194,8 +197,11 @@ impl LockTable {
         listed(&self.held, t)
     }
 
-    /// Makes room for one more lock of a transaction on an item. It fails only where there is none
-    /// yet, and then the locks are as before.
+    /// Reserves capacity for one more lock of a transaction on an item.
+    ///
+    /// # Errors
+    ///
+    /// `NoMemory` if there is no spare capacity and the allocation fails; the locks are unchanged.
     #[inline(always)]
     pub fn reserve(&mut self, t: TxnId, x: ItemId) -> Result<(), NoMemory>
         requires { x.0 < length self.old.locks }
@@ -215,7 +221,7 @@ impl LockTable {
         Ok(())
     }
 
-    /// Adds a lock, and the item to those that the transaction has locked, where it had none there.
+    /// Adds a lock, and the item to the transaction's list if it held no lock on it.
     #[inline(always)]
     fn add(&mut self, t: TxnId, x: ItemId, mode: Mode)
         requires item { x.0 < length self.old.locks }
@@ -230,7 +236,7 @@ impl LockTable {
         }
     }
 
-    /// Adds the lock of an update that has read the item. One that it has locked already is not listed again.
+    /// Adds the read lock of an update. An item that it has locked already is not listed twice.
     #[inline(always)]
     pub fn add_read_update(&mut self, t: TxnId, x: ItemId)
         requires item { x.0 < length self.old.locks }
@@ -241,7 +247,7 @@ impl LockTable {
         self.add(t, x, Mode::Read);
     }
 
-    /// Adds the lock of an update that has written the item. One that it has locked already is not listed again.
+    /// Adds the write lock of an update. An item that it has locked already is not listed twice.
     #[inline(always)]
     pub fn add_write(&mut self, t: TxnId, x: ItemId)
         requires item { x.0 < length self.old.locks }
@@ -252,7 +258,7 @@ impl LockTable {
         self.add(t, x, Mode::Write);
     }
 
-    /// Adds the lock of a query that has read the item, or counts one more read, and then the item is not listed again.
+    /// Adds the read lock of a query, or increments its number of reads; the first read lists the item.
     pub fn add_read_query(&mut self, q: TxnId, x: ItemId)
         requires item { x.0 < length self.old.locks }
         requires capacity_left { 0 < locks_that_fit self.old q.0 x.0 }
@@ -263,7 +269,7 @@ impl LockTable {
         self.add(q, x, Mode::QueryRead);
     }
 
-    /// Drops all locks of a transaction.
+    /// Releases all locks of a transaction.
     pub fn release(&mut self, t: TxnId)
         ensures { self.new.locks ≡ map (released t.0) self.old.locks }
     {

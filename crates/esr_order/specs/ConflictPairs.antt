@@ -3,7 +3,7 @@ use Rattle.std.specs.Prelude.{◌≡◌, ◌<◌, ◌⊎◌, ℕ, Bool, not, ◌
 use Rattle.esr_history.specs.Serial.{any_pair}
 use Rattle.esr_order.specs.UpdateOperations.{UpdateOperation}
 
--- of two positions, on one item, and at least one of them writes
+-- whether two operations are of different updates, on one item, and at least one writes
 abbrev pub operations_conflict : UpdateOperation → UpdateOperation → Bool
 operations_conflict a b = not (a.place == b.place) && ((a.item == b.item) && (a.writes || b.writes))
 
@@ -11,6 +11,6 @@ operations_conflict a b = not (a.place == b.place) && ((a.item == b.item) && (a.
 abbrev pub is_conflict_pair : List UpdateOperation → ℕ → ℕ → Bool
 is_conflict_pair operations i j = any_pair (λ a b. (a.place == i) && ((b.place == j) && operations_conflict a b)) operations
 
--- ascending by the first, and then by the second
+-- lexicographic order of pairs
 abbrev pub IsLexLess : ℕ × ℕ → ℕ × ℕ → Type 0
 IsLexLess p r = (p.0 < r.0) ⊎ ((p.0 ≡ r.0) × (p.1 < r.1))

@@ -12,6 +12,7 @@ pub mod Audit
 pub mod TeeReader
 pub mod ScriptView
 pub mod Replays
+pub mod Items
 pub mod Stages
 pub mod Parts
 pub mod ReaderToWriter

@@ -1,5 +1,5 @@
 -- Either items still being declared, or the running machine.
-use Rattle.std.specs.Prelude.{⊤, [], Bool, true, false}
+use Rattle.std.specs.Prelude.{⊤, ℕ, ℤ, List, [], Bool, true, false}
 use Rattle.esr_history.specs.Machine.{Schedule}
 use Rattle.esr_history.specs.declared.event.Event.{Event}
 use Rattle.esr_history.specs.declared.event.Event.TheVariants as event
@@ -7,12 +7,12 @@ use Rattle.esr_script.specs.declared.stage.Stage.{Stage}
 use Rattle.esr_script.specs.declared.stage.Stage.TheVariants as stage
 
 abbrev pub is_running : Stage → Bool
-is_running (stage.Open values weights) = false
+is_running (stage.Open items) = false
 is_running (stage.Running machine) = true
 
--- the history that the values open, or the machine's
+-- the empty history of the declared items, or the machine's history
 abbrev pub history_of : Stage → Schedule
-history_of (stage.Open values weights) = record { opening = values.items; weights = weights.items; entries = [] }
+history_of (stage.Open items) = record { opening = items.values; weights = items.weights; entries = [] }
 history_of (stage.Running machine) = machine.value
 
 -- whether an event begins a transaction

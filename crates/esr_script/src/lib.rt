@@ -11,6 +11,7 @@ mod audited_script;
 mod book;
 mod bundles;
 mod copier;
+mod declarations;
 mod echo;
 mod engine;
 mod entry_lines;

@@ -24,6 +24,7 @@ use crate::book::push_audit;
 use crate::echo::{Echo, push_reply};
 use crate::fault::RunFault;
 use crate::sink::Audience;
+use crate::declarations::Declarations;
 use crate::stage::Stage;
 use esr_audit::{AuditError, Finding};
 use esr_board::Gate;
@@ -60,6 +61,7 @@ impl Model for Script {
     } };
 
     ghost invariant = { λ s. (length s.items ≤ MAX_ITEMS)
+        × (length (history_of s.stage).opening ≤ length s.items)
         × (length s.transactions ≤ length (history_of s.stage).entries)
         × (length (history_of s.stage).entries ≤ MAX_ENTRIES) };
 }
@@ -72,10 +74,7 @@ impl Script {
             alloc,
             items: Names::new(alloc),
             transactions: Names::new(alloc),
-            stage: Stage::Open {
-                values: Vec::new(alloc),
-                weights: Vec::new(alloc),
-            },
+            stage: Stage::Open(Declarations::new(alloc)),
         }
     }
 
@@ -127,13 +126,10 @@ impl Script {
         ensures ok { OnOk result (self.new ≡ with_item self.old name.now value weight) }
         ensures faults { IfErr result (λ e. e ≡ RunFault.NoMemory) }
     {
-        let Stage::Open { values, weights } = &mut self.stage else {
+        let Stage::Open(items) = &mut self.stage else {
             unreachable!()
         };
-        if values.push(value).is_err()
-            || weights.push(weight as u32).is_err()
-            || self.items.bind(name).is_err()
-        {
+        if self.items.bind(name).is_err() || items.add(value, weight as u32).is_err() {
             return Err(RunFault::NoMemory);
         }
         Ok(())

@@ -1,5 +1,5 @@
-//! Either items still being declared, or the running machine: the first line that is no item makes the machine, and
-//! closes the items. So no call has a case that cannot come.
+//! The state of a script: either items are still being declared, or the machine runs. The first line that is not an item
+//! makes the machine, and no item can be declared after it.
 
 ghost use Rattle.esr_board.specs.declared.board.TheConstants.{MAX_SEATS};
 ghost use Rattle.esr_base.specs.declared.limits.TheConstants.{MAX_ENTRIES};
@@ -13,34 +13,38 @@ ghost use Rattle.esr_audit.specs.Findings.{IsShown, AreSummaries};
 ghost use Rattle.esr_order.specs.Near.{AreNear};
 ghost use Rattle.esr_items.specs.Weights.{weighted};
 
+use crate::declarations::Declarations;
 use crate::engine::IndexedMachine;
 use crate::fault::RunFault;
 use esr_audit::{AuditError, Finding, Summaries};
 use esr_board::{Gate, summarize_parallel};
 use esr_core::{Machine, StepError, Totals};
 use esr_history::{Event, History, Reply, TxnId};
-use esr_items::{Store, Weighted};
 use esr_lint::{TxnEnd, TxnSummary};
 use std::alloc::Global;
-use std::mem;
 use std::thread::Threads;
 
-/// The opening values and the weights of the items, while more may be declared, and then the machine. It has a place of
-/// its own: what owns a script is then small, for a proof too, which takes a value apart wherever it is let go.
+/// The declared items, while more may be declared, and then the machine. The machine is in a box so that the owner of a
+/// script is small; a proof takes an owned value apart wherever it is dropped.
 #[derive(Drop)]
 pub enum Stage {
-    Open { values: Vec<i64>, weights: Vec<u32> },
+    Open(Declarations),
     Running(Box<IndexedMachine>),
 }
 
 impl Stage {
     ghost use Rattle.esr_script.specs.Stages.{is_running, history_of};
 
-    /// Makes the machine, where it is not made yet.
+    /// Makes the machine unless it runs already.
+    ///
+    /// # Errors
+    ///
+    /// `NoMemory` if an allocation fails; the history is unchanged, or lacks the weights of its items.
     #[inline(always)]
     pub fn ensure_started(&mut self, alloc: Global) -> Result<(), RunFault>
         ensures ok { OnOk result ((is_running self.new ≡ true) × (history_of self.new ≡ history_of self.old)) }
         ensures err { OnErr result ((history_of self.new).entries ≡ (history_of self.old).entries) }
+        ensures opening { (history_of self.new).opening ≡ (history_of self.old).opening }
         ensures faults { IfErr result (λ e. e ≡ RunFault.NoMemory) }
     {
         if let Stage::Running(_) = self {
@@ -49,25 +53,23 @@ impl Stage {
         self.make(alloc)
     }
 
-    /// The same, apart: each line asks, and a function pays at its entry for the machine among its locals.
+    /// Makes the machine. It is a separate function, since each line calls `ensure_started`, and a function pays at its
+    /// entry for the machine among its locals.
     #[cold]
     #[inline(never)]
     fn make(&mut self, alloc: Global) -> Result<(), RunFault>
         ensures ok { OnOk result ((is_running self.new ≡ true) × (history_of self.new ≡ history_of self.old)) }
         ensures err { OnErr result ((history_of self.new).entries ≡ (history_of self.old).entries) }
+        ensures opening { (history_of self.new).opening ≡ (history_of self.old).opening }
         ensures faults { IfErr result (λ e. e ≡ RunFault.NoMemory) }
     {
-        let Stage::Open { values, weights } = self else {
+        let Stage::Open(items) = self else {
             return Ok(());
         };
-        let values = mem::replace(values, Vec::new(alloc));
-        let weights = mem::replace(weights, Vec::new(alloc));
-        let Ok(store) = Store::new(alloc, values) else {
+        let Ok(store) = items.store(alloc) else {
             return Err(RunFault::NoMemory);
         };
-        let Ok(metric) = Weighted::new(weights) else {
-            return Err(RunFault::NoMemory);
-        };
+        let metric = items.take_metric(alloc);
         let Ok(machine) = Machine::new(alloc, store, metric) else {
             return Err(RunFault::NoMemory);
         };
@@ -97,7 +99,7 @@ impl Stage {
                 Err(StepError::NoMemory) => Err(RunFault::NoMemory),
                 Err(StepError::EngineClosed) => unreachable!(),
             },
-            Stage::Open { .. } => unreachable!(),
+            Stage::Open(_) => unreachable!(),
         }
     }
 
@@ -109,7 +111,7 @@ impl Stage {
     {
         match self {
             Stage::Running(engine) => engine.totals(),
-            Stage::Open { .. } => Totals {
+            Stage::Open(_) => Totals {
                 import: 0,
                 export: 0,
                 entries: 0,
@@ -145,7 +147,7 @@ impl Stage {
     {
         match self {
             Stage::Running(engine) => Box::into_inner(engine).into_history(),
-            Stage::Open { .. } => unreachable!(),
+            Stage::Open(_) => unreachable!(),
         }
     }
 
@@ -170,7 +172,7 @@ impl Stage {
     {
         match self {
             Stage::Running(engine) => engine.audit(alloc, q),
-            Stage::Open { .. } => unreachable!(),
+            Stage::Open(_) => unreachable!(),
         }
     }
 

@@ -1,5 +1,6 @@
-//! Events given to a machine over one item, with the replies that they get by hand. A machine answers as a definition
-//! says or is out of memory: no clause can say that it ever answers, or that the definition is that of the pages.
+//! Runs short lists of events on a machine with one item, and compares its replies with replies worked out by hand.
+//! No clause states that the machine ever replies, since one that is always out of memory keeps its contract, nor that
+//! the definitions are those of the documentation.
 
 use OneItemEvent::{Commit, Query, Read, Update, Write};
 use esr_core::{Machine, RenewError, StepError, Totals};
@@ -9,7 +10,7 @@ use esr_items::{ItemId, Plain, Store};
 use std::alloc::Global;
 use std::process::Abort;
 
-/// An event on the one item of a machine: the limit of a begin, the transaction of all others.
+/// An event on the machine's only item. The argument of a begin is its limit, that of every other event its transaction.
 #[derive(Clone, Copy)]
 enum OneItemEvent {
     Update(u64),
@@ -42,7 +43,7 @@ fn event(asked: OneItemEvent) -> Event {
     }
 }
 
-/// A machine over one item.
+/// Opens a machine with one item.
 fn open(alloc: Global, value: i64) -> Result<Machine<Plain>, NoMemory> {
     let Ok(values) = [value].to_vec(alloc) else {
         return Err(NoMemory);
@@ -53,7 +54,7 @@ fn open(alloc: Global, value: i64) -> Result<Machine<Plain>, NoMemory> {
     }
 }
 
-/// The same, where one allocation may be refused.
+/// Like [`open`], but retries once if an allocation fails.
 fn open_with_retry(rt: &impl Abort, alloc: Global, value: i64) -> Machine<Plain> {
     match open(alloc, value) {
         Ok(machine) => machine,
@@ -61,8 +62,8 @@ fn open_with_retry(rt: &impl Abort, alloc: Global, value: i64) -> Machine<Plain>
     }
 }
 
-/// Gives an event. Where memory is refused, nothing has changed, and the event given again is
-/// answered as if nothing had happened.
+/// Executes an event and checks its reply. If an allocation fails, the machine must be unchanged, and a retry must get
+/// the same reply.
 fn step(rt: &impl Abort, machine: &mut Machine<Plain>, event: Event, reply: Reply) {
     let totals = machine.totals();
     let entries = machine.log().len();
@@ -79,14 +80,15 @@ fn step(rt: &impl Abort, machine: &mut Machine<Plain>, event: Event, reply: Repl
     assert!(rt; machine.log().len() == entries + 1);
 }
 
-/// Gives events, each of which is answered so.
+/// Executes the events in order and checks each reply.
 fn run_events(rt: &impl Abort, machine: &mut Machine<Plain>, rows: &[(OneItemEvent, Reply)]) {
     for (asked, reply) in rows {
         step(rt, machine, event(*asked), *reply);
     }
 }
 
-/// Opens a machine over one item, which answers the events so, and imports and exports so much.
+/// Executes the events on a new machine, checks each reply, and checks that its import and its export are both
+/// `import` in total.
 fn check_run(
     rt: &impl Abort,
     alloc: Global,
@@ -113,7 +115,7 @@ const REPORT_AND_WRITER: [(OneItemEvent, Reply); 6] = [
     (Commit(2), Committed),
 ];
 
-/// A machine that is always out of memory keeps its contract; and a definition could charge more than the distance.
+/// Contracts allow a machine that is always out of memory, and a definition could charge more than the distance.
 #[test]
 fn report_concurrent_with_writer(rt: HostRuntime) {
     check_run(&rt, rt.alloc(), 100, &REPORT_AND_WRITER, 7);
@@ -131,7 +133,8 @@ const OVER_QUERIES: [(OneItemEvent, Reply); 9] = [
     (Write(4, 5), Wrote),
 ];
 
-/// A definition that refused what just fills a limit would be as safe: here 15 passes where 14 are too few.
+/// A definition that refused a write whose charge equals what is left of the limit would also be safe. Here a limit of
+/// 15 suffices, and 14 does not.
 #[test]
 fn export_limit_over_queries(rt: HostRuntime) {
     check_run(&rt, rt.alloc(), 0, &OVER_QUERIES, 15);
@@ -148,7 +151,8 @@ const UPGRADE: [(OneItemEvent, Reply); 8] = [
     (Commit(1), Committed),
 ];
 
-/// A definition that refused each upgrade would be as serializable: here it passes once the other reader has ended.
+/// A definition that refused every upgrade of a lock would also be serializable. Here the upgrade succeeds once the
+/// other reader has ended.
 #[test]
 fn upgrade_waits_for_a_reader(rt: HostRuntime) {
     check_run(&rt, rt.alloc(), 0, &UPGRADE, 0);
@@ -162,7 +166,7 @@ const ABORTED: [(OneItemEvent, Reply); 5] = [
     (Read(2), Value(1)),
 ];
 
-/// No clause can say that an abort finds memory for its entry: a machine that never takes one would be proved.
+/// No clause states that an abort can allocate its entry: a machine whose aborts always fail keeps its contract.
 #[test]
 fn abort_rolls_back(rt: HostRuntime) {
     let mut machine = open_with_retry(&rt, rt.alloc(), 1);
@@ -171,7 +175,7 @@ fn abort_rolls_back(rt: HostRuntime) {
     assert!(rt; machine.close().log().len() == 5);
 }
 
-/// Goes on from the committed values, where one allocation may be refused.
+/// Renews the machine, and retries once if an allocation fails.
 fn renew_with_retry(m: &mut Machine<Plain>, alloc: Global) -> Result<(), RenewError> {
     match m.renew(alloc, Plain) {
         Err(RenewError::NoMemory) => m.renew(alloc, Plain),
@@ -179,7 +183,7 @@ fn renew_with_retry(m: &mut Machine<Plain>, alloc: Global) -> Result<(), RenewEr
     }
 }
 
-/// A renewal that is always out of memory keeps its contract, and the history would fill up with no way on.
+/// A renewal that is always out of memory keeps its contract, and a full history would then stop the machine.
 #[test]
 fn renewed_over_committed_values(rt: HostRuntime) {
     let mut machine = open_with_retry(&rt, rt.alloc(), 1);

@@ -27,7 +27,7 @@ pub returns-then-is_refusal-clause-answered : goal.returns-then-is_refusal-claus
 unfolding none
 returns-then-is_refusal-clause-answered c =
     let within : c.loop-i.i < length c.args.events.now = omega (arith, c.loop-i-test.true) in
-    let has_capacity : c.loop-i.i < length c.loop-i.replies = omega (arith, c.loop-i.auto.replies, c.requires.capacity, within) in
+    let has_capacity : c.loop-i.i < length c.loop-i.replies = omega (arith, c.loop-i.auto.replies, c.requires.fits, within) in
     answered_more c.args.engine.now c.loop-i.engine c.args.events.now c.loop-i.i c.loop-i.replies none c.loop-i.invariant.answered within
     c.in-Ok.reply c.answer_one.new.engine c.in-Ok.ensures.ok c.to_reply.result c.to_reply.ensures has_capacity
 
@@ -43,7 +43,7 @@ pub loop-i-preserved : goal.loop-i-preserved
 unfolding none
 loop-i-preserved c =
     let within : c.loop-i.i < length c.args.events.now = omega (arith, c.loop-i-test.true) in
-    let has_capacity : c.loop-i.i < length c.loop-i.replies = omega (arith, c.loop-i.auto.replies, c.requires.capacity, within) in
+    let has_capacity : c.loop-i.i < length c.loop-i.replies = omega (arith, c.loop-i.auto.replies, c.requires.fits, within) in
     record {
       answered = answered_more c.args.engine.now c.loop-i.engine c.args.events.now c.loop-i.i c.loop-i.replies none c.loop-i.invariant.answered within
           c.in-Ok.reply c.answer_one.new.engine c.in-Ok.ensures.ok c.to_reply.result c.to_reply.ensures has_capacity;
