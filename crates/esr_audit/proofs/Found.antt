@@ -32,7 +32,7 @@ reads_inside d h q opened legal =
 module _ (d : Distance) (h : Schedule) (q : ℕ) (opened : All IsValue h.opening) (legal : IsLegal d h) (bound : ImportBoundsDistance d h) (committed : IsTrue (is_committed_query h q)) where
   pub answer_from : (p : Problem) (c : Certificate) → IsProblemOf d h q p → is_sound p ≡ true → Certifies p c → IsSmallestLeast p (in_set c.set)
       → IsAnswer d h q c.worth (import_in (charges_in d h) q) (filter_map (slice_get p.updates) c.set)
-  answer_from p c stands sound certified s =
+  answer_from p c of_query sound certified s =
       let ok : IsProblem p = facts p sound in
       let f : IsFaultless p c = faultless p c certified in
       let dist : is_distinct p.updates ≡ true = (shape_facts p (and_parts _ _ sound).0).distinct in
@@ -40,14 +40,14 @@ module _ (d : Distance) (h : Schedule) (q : ℕ) (opened : All IsValue h.opening
       let inside : AllByRecursion (λ (o : Operation). o.item < length h.opening) (reads_by h q) = reads_inside d h q opened legal in
       let same : (u : ℕ) → u < size p → in_set c.set u ≡ passes_at p.updates (is_among before) u = λ u l. sym (passes_as_set p.updates dist c.set f.ascending f.known u l) in
       let smallest : IsSmallestLeastSet d h q (is_among before) =
-      smallest_is_least d h q p stands ok inside (is_among before) (known_at p.updates c.set) (smallest_same p ok (in_set c.set) (passes_at p.updates (is_among before)) same s) in
+      smallest_is_least d h q p of_query ok inside (is_among before) (known_at p.updates c.set) (smallest_same p ok (in_set c.set) (passes_at p.updates (is_among before)) same s) in
       let costs : c.worth ≡ cost d h q (is_among before) =
-      cost_is p c f ∙ same_cost p ok (in_set c.set) (passes_at p.updates (is_among before)) same ∙ cost_is_distance d h q p stands inside (is_among before) in
+      cost_is p c f ∙ same_cost p ok (in_set c.set) (passes_at p.updates (is_among before)) same ∙ cost_is_distance d h q p of_query inside (is_among before) in
       let all_closed : IsClosed h q (λ u. true) = record { downward = λ u v cu cv b t. refl; holds_must = λ u m. refl } in
       let parts : ClosedSetsAreParts d h q = law_of_placements d h q legal in
       record {
         least = (parts.least c.worth).1 (is_among before, smallest.least, sym costs);
-        in_order = before_members p.updates dist c.set f.ascending f.known (updates_of h q) stands.updates;
+        in_order = before_members p.updates dist c.set f.ascending f.known (updates_of h q) of_query.updates;
         smallest = smallest;
         distance_is = costs;
         import_is = refl;

@@ -146,8 +146,8 @@ module _ (d : Distance) (h : Schedule) (q : ℕ) (legal : IsLegal d h) (us : Lis
       let all = near_closed d h q legal us near S in
       ((λ c. all.0 (on.0 (closed_to S c))), (λ c. closed_from S (on.1 (all.1 c))))
 
-  pub stands : IsProblemOf d h q (problem_from d h q o)
-  stands = record {
+  pub of_query : IsProblemOf d h q (problem_from d h q o)
+  of_query = record {
     updates = good.commits ∙ near.in_order ∙ ap (λ vs. filter (is_among vs) (updates_of h q)) (sym good.commits);
     writers = All-from_recursion (λ x. filter (has_written h x) (map (λ (t : TxnId). t.0) o.commits) ≡ writers_of h q x) (items_read h q) (each_in (λ x. filter (has_written h x) (map (λ (t : TxnId). t.0) o.commits) ≡ writers_of h q x) (items_read h q) (λ x i. ap (filter (has_written h x)) good.commits ∙ all_writers x i));
     must = must_places ∙ ap (λ vs. places vs (is_among (must h q))) (sym good.commits);

@@ -19,7 +19,7 @@ use Rattle.esr_cert.proofs.Sound.{all_from}
 use Rattle.esr_audit.specs.Problems.{places, items_read, writers_of, passes_at, version_cost, chain_for}
 use Rattle.esr_audit.proofs.Places.{length-places}
 use Rattle.esr_audit.proofs.Versions.{chain_writers}
-use Rattle.esr_audit.proofs.ProblemOf.{problem_from, stands, must_ascends, all_writers}
+use Rattle.esr_audit.proofs.ProblemOf.{problem_from, of_query, must_ascends, all_writers}
 
 distinct_from : (us : List ℕ) → Pairs (λ u v. u ≢ v) us → is_distinct us ≡ true
 distinct_from [] p = refl
@@ -89,7 +89,7 @@ module _ (d : Distance) (h : Schedule) (q : ℕ) (legal : IsLegal d h) (us : Lis
       (linked_from o.before ws (linked x))
 
   pub chains_of : (problem_from d h q o).chains ≡ map (chain_for d h q us) (items_read h q)
-  chains_of = (stands d h q legal us near o good).chains ∙ ap (λ vs. map (chain_for d h q vs) (items_read h q)) good.commits
+  chains_of = (of_query d h q legal us near o good).chains ∙ ap (λ vs. map (chain_for d h q vs) (items_read h q)) good.commits
 
   all_shaped : (xs : List ℕ) → ((x : ℕ) → In x xs → In x (items_read h q)) → list_all (chain_has_shape o.before) (map (chain_for d h q us) xs) ≡ true
   all_shaped [] inside = refl

@@ -47,7 +47,7 @@ IsCounted p c = (n : ℕ) × (c.augmentations ≡ Some n) × Takes (network p) n
 -- of those of least cost.
 pub record IsShown (d : Distance) (h : Schedule) (q distance : ℕ) (before : List ℕ) (problem : Problem)
     (certificate : Certificate) : Type 0 where
-  pub stands : IsProblemOf d h q problem
+  pub of_query : IsProblemOf d h q problem
   pub certified : Certifies problem certificate
   pub set_is : before ≡ filter_map (slice_get problem.updates) certificate.set
   pub worth_is : certificate.worth ≡ distance

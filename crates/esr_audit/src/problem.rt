@@ -25,7 +25,7 @@ pub fn problem_of<M: Metric>(
     requires order { IsOrderAmong history.now.schedule q.0 (map (λ t. t.0) order.commits) order }
     requires near { AreNear history.now.schedule q.0 (map (λ t. t.0) order.commits) }
     requires query { IsTrue (is_query (accepted_in history.now.schedule) q.0) }
-    ensures stands { IfOk result (λ p. IsProblemOf M.distance_by history.now.schedule q.0 p) }
+    ensures of_query { IfOk result (λ p. IsProblemOf M.distance_by history.now.schedule q.0 p) }
     ensures near { IfOk result (λ p. AreNear history.now.schedule q.0 p.updates) }
 {
     let _legal = history.log(); // brings the invariant into the proof

@@ -33,16 +33,16 @@ tests_not_json true true b h = last_not_json (list_all is_position b.1.set) b h
 not_json : (b : Problem × Certificate) → judged b ≡ Err Json → ⊥
 not_json b h = tests_not_json (has_shape b.0) (is_in_range b.0) b h
 
-stands : (d : Data) (b : Problem × Certificate) → parts_of d ≡ Some b → problem_in d ≡ judged b
-stands d b h = ap judged_parts h
+encodes : (d : Data) (b : Problem × Certificate) → parts_of d ≡ Some b → problem_in d ≡ judged b
+encodes d b h = ap judged_parts h
 
 pub reading_from : (bytes : List ℕ) (d : Data) → IsTree bytes d → (b : Problem × Certificate) → parts_of d ≡ Some b
     → (r : Result (Problem × rust.Certificate) BundleFault) → IfOk r (λ x. judged b ≡ Ok (x.0, certificate_of x.1)) → IfErr r (λ e. e ≢ NoMemory → judged b ≡ Err e)
     → IsReadingOf bytes r
-reading_from bytes d t b h (Ok x) ok err = (d, t, stands d b h ∙ ok)
+reading_from bytes d t b h (Ok x) ok err = (d, t, encodes d b h ∙ ok)
 reading_from bytes d t b h (Err Json) ok err = absurd (not_json b (err (λ e. cc)))
 reading_from bytes d t b h (Err NoMemory) ok err = tt
-reading_from bytes d t b h _ ok err = (d, t, stands d b h ∙ err (λ e. cc))
+reading_from bytes d t b h _ ok err = (d, t, encodes d b h ∙ err (λ e. cc))
 
 pub not_faulty : (p : Problem) → is_sound p ≡ true → problem_fault p ≡ None
 not_faulty p h =

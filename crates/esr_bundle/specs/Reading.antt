@@ -19,21 +19,21 @@ abbrev pub HasNoTree : List ℕ → Type 0
 HasNoTree bytes = (d : Data) → IsTree bytes d → ⊥
 
 -- what the bytes stand for
-abbrev pub IsProblemOf : List ℕ → Result (spec.Problem × certificates.Certificate) BundleFault → Type 0
-IsProblemOf bytes b = (d : Data) × IsTree bytes d × (problem_in d ≡ b)
+abbrev pub Encodes : List ℕ → Result (spec.Problem × certificates.Certificate) BundleFault → Type 0
+Encodes bytes b = (d : Data) × IsTree bytes d × (problem_in d ≡ b)
 
 -- what the bytes mean: what their tree stands for, or that they are no JSON
 abbrev pub Means : List ℕ → Result (spec.Problem × certificates.Certificate) BundleFault → Type 0
-Means bytes (Ok b) = IsProblemOf bytes (Ok b)
+Means bytes (Ok b) = Encodes bytes (Ok b)
 Means bytes (Err Json) = HasNoTree bytes
-Means bytes (Err Shape) = IsProblemOf bytes (Err Shape)
-Means bytes (Err Range) = IsProblemOf bytes (Err Range)
+Means bytes (Err Shape) = Encodes bytes (Err Shape)
+Means bytes (Err Range) = Encodes bytes (Err Range)
 Means bytes (Err NoMemory) = ⊥
 
 -- out of memory says nothing, and every other answer is the one of the bytes
 abbrev pub IsReadingOf : List ℕ → Result (spec.Problem × Certificate) BundleFault → Type 0
-IsReadingOf bytes (Ok b) = IsProblemOf bytes (Ok (b.0, certificate_of b.1))
+IsReadingOf bytes (Ok b) = Encodes bytes (Ok (b.0, certificate_of b.1))
 IsReadingOf bytes (Err Json) = HasNoTree bytes
-IsReadingOf bytes (Err Shape) = IsProblemOf bytes (Err Shape)
-IsReadingOf bytes (Err Range) = IsProblemOf bytes (Err Range)
+IsReadingOf bytes (Err Shape) = Encodes bytes (Err Shape)
+IsReadingOf bytes (Err Range) = Encodes bytes (Err Range)
 IsReadingOf bytes (Err NoMemory) = ⊤

@@ -7,7 +7,7 @@ ghost use Rattle.esr_cert.specs.Views as views;
 ghost use Rattle.esr_bundle.specs.Bundle.{number_data, numbers_data, pair_data, chain_data, problem_data, certificate_data, bundle_data, bundle, is_position};
 ghost use Rattle.std.specs.List.{list_all};
 ghost use Rattle.esr_bundle.specs.Members.{with_list, with_number};
-ghost use Rattle.esr_bundle.specs.Reading.{IsProblemOf};
+ghost use Rattle.esr_bundle.specs.Reading.{Encodes};
 
 use esr_base::{NoMemory, TxnId};
 use esr_cert::{Certificate, Chain, Problem};
@@ -193,7 +193,7 @@ pub fn to_json(
     certificate: &Certificate,
 ) -> Result<Vec<u8>, NoMemory>
     ensures text { IfOk result (λ v. v.items ≡ bundle problem.now (views.certificate_of certificate.now)) }
-    ensures stands { IfOk result (λ v. IsProblemOf v.items (Ok (problem.now, views.certificate_of certificate.now))) }
+    ensures encodes { IfOk result (λ v. Encodes v.items (Ok (problem.now, views.certificate_of certificate.now))) }
 {
     let _sound = problem.updates(); // brings the invariant into the proof
     let _fits = as_positions(&certificate.set); // and that the set has numbers of 32 bits

@@ -31,4 +31,4 @@ pub shown_by : (s : ScriptState) (name : List ℕ) (a : AuditedQuery) (bytes : L
     → IsClaim a.finding.problem (Ok b) claim → claim ≡ Of worth → ShowsDistance s name bytes worth
 shown_by s name a bytes b claim worth answered means held is =
     let k : IsClaim a.finding.problem (Ok b) (Of worth) = subst (IsClaim a.finding.problem (Ok b)) is held in
-    (b, means, k.0, k.1, subst (λ (p : Problem). problems.IsProblemOf weighted s.history (transaction_called s name).0 p) (sym k.2) answered.finding.found.stands)
+    (b, means, k.0, k.1, subst (λ (p : Problem). problems.IsProblemOf weighted s.history (transaction_called s name).0 p) (sym k.2) answered.finding.found.of_query)

@@ -84,8 +84,8 @@ module _ (words : List (Bor (List ℕ))) (k : ℕ) (d : Bor (List ℕ)) (within 
       let n = some_is o some in
       let before : names ≡ take k (map text_of words) = are ∙ sym (take-map text_of k words) in
       let word : name ≡ get_or (map text_of words) k d.now = (found_name (get_or words k d).now name is).0 ∙ sym at in
-      let stands : position_of (take k (map text_of words)) (get_or (map text_of words) k d.now) ≡ Some n.0 = rw (← before, ← word) (sym found ∙ n.1) in
-      occurs_twice (map text_of words) k n.0 d.now long stands
+      let known : position_of (take k (map text_of words)) (get_or (map text_of words) k d.now) ≡ Some n.0 = rw (← before, ← word) (sym found ∙ n.1) in
+      occurs_twice (map text_of words) k n.0 d.now long known
 
   pub pushed : (names : List (List ℕ)) (name : List ℕ) (new : List (List ℕ)) → names ≡ map text_of (take k words) → list_all is_name names ≡ true
       → Some name ≡ name_of (get_or words k d).now → new ≡ names ++ name ∷ []

@@ -29,14 +29,14 @@ module _ (d : Distance) (h : Schedule) (legal : IsLegal d h) (t : ℕ) where
 
   pub account_from_facts : (f : Facts) → Some f ≡ facts_of h.entries t → (charged : ℕ) → charged ≡ charged_to d h f.query t → (s : TxnStatus) → s ≡ status_at h.entries f.end
       → Some (record { kind = kind_of f.query; limit = f.limit; charged = charged; txn_status = s }) ≡ account_of d h t
-  account_from_facts f is charged amount s stands = at (beginning (accepted_in h) t) refl is
+  account_from_facts f is charged amount s known = at (beginning (accepted_in h) t) refl is
     where
       at : (o : Option Beginning) → beginning (accepted_in h) t ≡ o → Some f ≡ facts_by o (last_place accepted_end t h.entries)
           → Some (record { kind = kind_of f.query; limit = f.limit; charged = charged; txn_status = s }) ≡ account_of d h t
       at None begun g = absurd (cc)
       at (Some b) begun g =
           let same : f ≡ record { query = b.query; limit = b.limit; end = last_place accepted_end t h.entries } = cc in
-          let before_it : s ≡ status_of (accepted_in h) t = stands ∙ (ap (λ (x : Facts). status_at h.entries x.end) same ∙ status_is (ap is_some begun)) in
+          let before_it : s ≡ status_of (accepted_in h) t = known ∙ (ap (λ (x : Facts). status_at h.entries x.end) same ∙ status_is (ap is_some begun)) in
           let paid : charged ≡ charged_to d h b.query t = amount ∙ ap (λ (x : Facts). charged_to d h x.query t) same in
           ap (λ (x : Facts). Some (record { kind = kind_of x.query; limit = x.limit; charged = charged; txn_status = s })) same
           ∙ (ap (λ n. Some (record { kind = kind_of b.query; limit = b.limit; charged = n; txn_status = s })) paid

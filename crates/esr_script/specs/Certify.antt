@@ -22,7 +22,7 @@ HasAugmentations false p c = c.augmentations ≡ None
 pub record IsBundleOf (steps : Bool) (h : Schedule) (q : ℕ) (text : List ℕ) : Type 0 where
   pub problem : Problem
   pub certificate : Certificate
-  pub stands : IsProblemOf weighted h q problem
+  pub of_query : IsProblemOf weighted h q problem
   pub near : AreNear h q problem.updates
   pub certified : Certifies problem certificate
   pub set_is : filter_map (slice_get problem.updates) certificate.set ≡ least_set weighted h q

@@ -21,10 +21,10 @@ ghost use Rattle.esr_grammar.specs.Command as command;
 
 use crate::audited_script::AuditedScript;
 use crate::book::push_audit;
+use crate::declarations::Declarations;
 use crate::echo::{Echo, push_reply};
 use crate::fault::RunFault;
 use crate::sink::Audience;
-use crate::declarations::Declarations;
 use crate::stage::Stage;
 use esr_audit::{AuditError, Finding};
 use esr_board::Gate;

@@ -7,8 +7,8 @@ use Rattle.esr_session.specs.Receipts.{IsReceipt, AreBlocked, is_blocked, Receip
 
 pub blocked_more : (d : Distance) (opening : List ℤ) (weights : List ℕ) (event : Event) (rs : List Receipt) (r : Receipt)
     → AreBlocked d opening weights event rs → r.event ≡ event → IsReceipt d opening weights r → is_blocked r.reply ≡ true → AreBlocked d opening weights event (rs ++ r ∷ [])
-blocked_more d opening weights event rs r all same stands blocked =
-    All-push (λ (s : Receipt). (s.event ≡ event) × IsReceipt d opening weights s × (is_blocked s.reply ≡ true)) rs r all (same, stands, blocked)
+blocked_more d opening weights event rs r all same known blocked =
+    All-push (λ (s : Receipt). (s.event ≡ event) × IsReceipt d opening weights s × (is_blocked s.reply ≡ true)) rs r all (same, known, blocked)
 
 pub if_err : {T E : Type 0} (r : Result T E) (P : Type 0) → P → IfErr r (λ _. P)
 if_err (Ok x) P p = tt
@@ -18,10 +18,10 @@ if_err (Err e) P p = p
 pub one_more : (P : Receipt → Type 0) (old now new : List Receipt) (n : ℕ) (r : Receipt)
     → (more : List Receipt) × (now ≡ old ++ more) × (length more ≡ n) × All P more → new ≡ now ++ r ∷ [] → P r
     → (more : List Receipt) × (new ≡ old ++ more) × (length more ≡ n + 1) × All P more
-one_more P old now new n r so_far grown stands =
+one_more P old now new n r so_far grown known =
     let more = so_far.0 in (
       more ++ r ∷ [],
       grown ∙ ap (λ (rs : List Receipt). rs ++ r ∷ []) so_far.1 ∙ append_assoc old more (r ∷ []),
       omega (arith, length-append more (r ∷ []), so_far.2),
-      All-push P more r so_far.3 stands,
+      All-push P more r so_far.3 known,
     )

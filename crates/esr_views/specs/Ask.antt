@@ -18,7 +18,7 @@ use Rattle.esr_views.specs.State.{ScriptState, transaction_called}
 -- The problem stands for the query of the history, and is one of just its near updates; the certificate certifies it,
 -- with the smallest least set, and does not tell how many augmentations lead to its flow.
 pub record IsFound (h : Schedule) (q : ℕ) (problem : Problem) (certificate : Certificate) : Type 0 where
-  pub stands : IsProblemOf weighted h q problem
+  pub of_query : IsProblemOf weighted h q problem
   pub near : AreNear h q problem.updates
   pub certified : Certifies problem certificate
   pub set_is : filter_map (slice_get problem.updates) certificate.set ≡ least_set weighted h q

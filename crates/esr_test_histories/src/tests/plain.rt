@@ -322,7 +322,7 @@ fn end_before(log: &Log, facts: &[Option<Facts>], t: u32, i: usize) -> Option<En
 
 /// Whether what a transaction wrote holds at the place i: it has not aborted before that, and has committed where that
 /// is asked for.
-fn stands(log: &Log, facts: &[Option<Facts>], t: u32, i: usize, committed: bool) -> bool {
+fn persists(log: &Log, facts: &[Option<Facts>], t: u32, i: usize, committed: bool) -> bool {
     match end_before(log, facts, t, i) {
         None => !committed,
         Some(last) => matches!(last.event, Event::Commit { .. }),
@@ -340,7 +340,7 @@ fn left_by(
 ) -> Option<i64> {
     let entry = accepted_on(log, at, x)?;
     let value = written_in(entry)?;
-    if stands(log, facts, txn_in(entry)?, i, committed) {
+    if persists(log, facts, txn_in(entry)?, i, committed) {
         Some(value)
     } else {
         None

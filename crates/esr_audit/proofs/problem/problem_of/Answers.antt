@@ -5,7 +5,7 @@ use Rattle.esr_order.specs.Near.{AreNear}
 use Rattle.esr_cert.specs.Problem.{is_sound}
 use Rattle.esr_cert.specs.Views.{problem_of}
 use Rattle.esr_audit.specs.Problems.{IsProblemOf}
-use Rattle.esr_audit.proofs.ProblemOf.{problem_from, stands}
+use Rattle.esr_audit.proofs.ProblemOf.{problem_from, of_query}
 use Rattle.esr_audit.proofs.BuiltProblem as built_problem_is
 use Rattle.esr_audit.proofs.problem.problem_of.Given.{Over}
 use Rattle.esr_audit.proofs.problem.problem_of.Goals as goal
@@ -44,10 +44,10 @@ of_sound-requires g c = record {
       ∙ built_problem_is.posed_sound g.M.Metric.distance_by c.args.history.now.schedule c.args.q.0 c.log-legal.ensures.legal c.log-legal.ensures.range (map (λ (t : TxnId). t.0) c.args.order.commits) c.requires.near c.args.order c.requires.order c.log-legal.ensures.items c.requires.query g.met.M.Metric.bounded;
 }
 
-pub returns-clause-stands : goal.returns-clause-stands
-returns-clause-stands g c =
+pub returns-clause-of_query : goal.returns-clause-of_query
+returns-clause-of_query g c =
     subst (IsProblemOf g.M.Metric.distance_by c.args.history.now.schedule c.args.q.0) (sym (c.in_ok-problem.ensures ∙ posed_here g c))
-    (stands g.M.Metric.distance_by c.args.history.now.schedule c.args.q.0 c.log-legal.ensures.legal (map (λ (t : TxnId). t.0) c.args.order.commits) c.requires.near c.args.order c.requires.order)
+    (of_query g.M.Metric.distance_by c.args.history.now.schedule c.args.q.0 c.log-legal.ensures.legal (map (λ (t : TxnId). t.0) c.args.order.commits) c.requires.near c.args.order c.requires.order)
 
 pub returns-clause-near : goal.returns-clause-near
 returns-clause-near g c = subst (λ p. AreNear c.args.history.now.schedule c.args.q.0 p.updates) (sym (c.in_ok-problem.ensures ∙ posed_here g c)) c.requires.near

@@ -15,8 +15,8 @@ returns-clause-text c =
     let by = certificate_of c.args.certificate.now in
     c.in_ok-to_vec.ensures.text (ap has_float c.in_ok-tree.ensures ∙ plain_bundle p by) ∙ ap compact_text c.in_ok-tree.ensures
 
-pub returns-clause-stands : goal.returns-clause-stands
-returns-clause-stands c =
+pub returns-clause-encodes : goal.returns-clause-encodes
+returns-clause-encodes c =
     let p = c.args.problem.now in
     let by = certificate_of c.args.certificate.now in
     let shallow = subst (λ (d : Data). depth d ≤ 127) (sym c.in_ok-tree.ensures) (shallow_bundle p by) in

@@ -12,5 +12,5 @@ pub returns-in-Some-clause-account : goal.returns-in-Some-clause-account
 returns-in-Some-clause-account c =
     let history : c.history-history.result.now.schedule ≡ c.args.self.now = c.history-history.ensures.schedule ∙ c.self.view_is in
     let is : Some c.in-Some.facts ≡ facts_of c.args.self.now.entries c.args.t.0 = c.in-Some.ensures ∙ ap (λ (g : Schedule). facts_of g.entries c.args.t.0) history in
-    let stands = c.status_at.ensures ∙ ap (λ (es : List Entry). status_at es c.in-Some.facts.end) (c.log.ensures.entries ∙ ap (λ (g : Schedule). g.entries) history) in
-    rw c.kind_of.ensures (account_from_facts weighted c.args.self.now (subst (IsLegal weighted) c.self.view_is c.history-history.ensures.legal) c.args.t.0 c.in-Some.facts is c.charge_of.result c.charge_of.ensures c.status_at.result stands)
+    let known = c.status_at.ensures ∙ ap (λ (es : List Entry). status_at es c.in-Some.facts.end) (c.log.ensures.entries ∙ ap (λ (g : Schedule). g.entries) history) in
+    rw c.kind_of.ensures (account_from_facts weighted c.args.self.now (subst (IsLegal weighted) c.self.view_is c.history-history.ensures.legal) c.args.t.0 c.in-Some.facts is c.charge_of.result c.charge_of.ensures c.status_at.result known)
