@@ -115,8 +115,8 @@ given_from us S (u ∷ rest) a g =
     at false e here more =
         ap (λ b. filter_map (slice_get us) (cond b (a ∷ filter (passes_at us S) (range_with_len (a + 1) (length rest))) (filter (passes_at us S) (range_with_len (a + 1) (length rest))))) e ∙ more
 
-pub places_give : (us : List ℕ) (S : ℕ → Bool) → filter_map (slice_get us) (places us S) ≡ filter S us
-places_give us S = given_from us S us 0 (λ k. ap (slice_get us) (let e : 0 + k ≡ k = omega arith in e))
+pub places_yield : (us : List ℕ) (S : ℕ → Bool) → filter_map (slice_get us) (places us S) ≡ filter S us
+places_yield us S = given_from us S us 0 (λ k. ap (slice_get us) (let e : 0 + k ≡ k = omega arith in e))
 
 filter_within : (P Q : ℕ → Bool) → ((u : ℕ) → P u ≡ true → Q u ≡ true) → (us : List ℕ) → filter P (filter Q us) ≡ filter P us
 filter_within P Q k [] = refl
@@ -149,6 +149,6 @@ module _ (us : List ℕ) (dist : is_distinct us ≡ true) (set : List ℕ) (up :
       ap (filter_map (slice_get us)) (
       ascending_range set 0 (length us) up (from_tests (length us) set known)
       ∙ filter_agree (in_set set) (passes_at us (is_among there)) 0 (length us) (λ i low high. sym (passes_as_set i (omega arith))))
-      ∙ places_give us (is_among there)
+      ∙ places_yield us (is_among there)
       ∙ ap (filter (is_among there)) part
       ∙ filter_within (is_among there) (is_among us) (known_at us set) all

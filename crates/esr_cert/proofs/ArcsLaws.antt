@@ -78,7 +78,7 @@ module _ (p : Problem) (ok : IsProblem p) where
       ∙ ap (λ row. arc_at row (number - get_or starts k 0)) (get_or-map (chain_links (size p)) p.chains k d [] l)
 
   pub arc_of_pair : (number : ℕ) (d : ℕ × ℕ) → get_or starts (length p.chains) 0 ≤ number → number - get_or starts (length p.chains) 0 < length p.before → arc_at (network p).arcs number ≡ back_arc (get_or p.before (number - get_or starts (length p.chains) 0) d)
-  arc_of_pair number d behind inside =
+  arc_of_pair number d not_before inside =
       ap (λ arcs. arc_at arcs number) whole_list
       ∙ in_backs starts rows (links_starts p ok) none (back_arcs p) (must_arcs p) number (omega (arith, same_end)) (omega (arith, same_end, length-map {B = Arc} p.before back_arc))
       ∙ ap (λ n. arc_at (back_arcs p) (number - n)) same_end
@@ -86,7 +86,7 @@ module _ (p : Problem) (ok : IsProblem p) where
 
   pub arc_of_must : (number d : ℕ) → number < length (network p).arcs → get_or starts (length p.chains) 0 ≤ number → length p.before ≤ number - get_or starts (length p.chains) 0
       → (number - get_or starts (length p.chains) 0 - length p.before < length p.must) × (arc_at (network p).arcs number ≡ must_arc (size p) (get_or p.must (number - get_or starts (length p.chains) 0 - length p.before) d))
-  arc_of_must number d inside behind after =
+  arc_of_must number d inside not_before after =
       let backs : length (back_arcs p) ≡ length p.before = length-map {B = Arc} p.before back_arc in
       let short : number - get_or starts (length p.chains) 0 - length p.before < length p.must = omega (arith, arcs_long) in (
         short,

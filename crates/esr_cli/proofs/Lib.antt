@@ -6,5 +6,5 @@ mod Faultless
 mod WalksTo
 mod Readings
 mod Rows
-mod Spelled
+mod ParsedWords
 mod Stops

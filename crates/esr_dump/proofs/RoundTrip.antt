@@ -239,11 +239,11 @@ module _ (items transactions : List (List ℕ)) (h : Schedule) (names : AreNames
         elim (cases_Bool (is_kept e.reply)) [
           | inl stays ↦
               let c = command_of items transactions e.reply e.event in
-              let told : IsCommand c = (asks before opens few_before e.event e.reply legal.0 stays few_after).0 in
+              let described : IsCommand c = (asks before opens few_before e.event e.reply legal.0 stays few_after).0 in
               let line : entry_text items transactions e ≡ line_of c = rw stays refl in
               let own : of c ≡ q e = means before e legal.0 stays opens few_before few_after in
               ap (λ l. found_in of (l ++ flat_map (entry_text items transactions) later)) line
-              ∙ (found_next of c (flat_map (entry_text items transactions) later) told
+              ∙ (found_next of c (flat_map (entry_text items transactions) later) described
               ∙ (ap (λ o. cons_option o (found_in of (flat_map (entry_text items transactions) later))) own
               ∙ (ap (λ l. cons_option (q e) l) rest
               ∙ sym (ap (filter_map q) (ap (λ b. cond b (e ∷ filter (λ (n : Entry). is_kept n.reply) later) (filter (λ (n : Entry). is_kept n.reply) later)) stays)))))
@@ -277,9 +277,9 @@ module _ (items transactions : List (List ℕ)) (h : Schedule) (names : AreNames
     items_found a zero fits = refl
     items_found a (suc k) fits =
         let more = flat_map (item_text items h) (range_with_len (a + 1) k) in
-        let told = item_reads_back a (omega arith) (valued a _ (omega arith)) in
+        let described = item_reads_back a (omega arith) (valued a _ (omega arith)) in
         ap (found_in of) (append_assoc (item_text items h a) more rest)
-        ∙ (found_next of (declaration (name_of_item items a) (value_at h.opening a) (weight_of h.weights a)) (more ++ rest) told
+        ∙ (found_next of (declaration (name_of_item items a) (value_at h.opening a) (weight_of h.weights a)) (more ++ rest) described
         ∙ (ap (λ o. cons_option o (found_in of (more ++ rest))) (means a)
         ∙ (ap (cons_option (q a)) (items_found (a + 1) k (omega arith)) ∙ consed (q a) (filter_map q (range_with_len (a + 1) k)) (found_in of rest))))
 

@@ -47,9 +47,9 @@ pub ran : (opening : List ℤ) (weights : List ℕ) (blocks seen : List (List Ca
     → seen ≡ blocks → start ≡ begun opening weights blocks → mid ≡ turns seen start order → ((rest : List ℕ) × (stage h rs ≡ turns seen mid rest))
     → AreDone seen rs → closed ≡ h → IsRun opening weights blocks order (stage closed rs)
 ran opening weights blocks seen order start mid h closed rs seen_is start_is mid_is (rest, end_is) done closed_is =
-    let came : stage h rs ≡ turns seen start (order ++ rest) = end_is ∙ (ap (λ (s : Stage). turns seen s rest) mid_is ∙ sym (then_turns seen start order rest)) in
+    let occurred : stage h rs ≡ turns seen start (order ++ rest) = end_is ∙ (ap (λ (s : Stage). turns seen s rest) mid_is ∙ sym (then_turns seen start order rest)) in
     record {
       rest = rest;
-      came = ap (λ (k : Schedule). stage k rs) closed_is ∙ (came ∙ ap₂ (λ (bs : List (List Call)) (s : Stage). turns bs s (order ++ rest)) seen_is start_is);
+      occurred = ap (λ (k : Schedule). stage k rs) closed_is ∙ (occurred ∙ ap₂ (λ (bs : List (List Call)) (s : Stage). turns bs s (order ++ rest)) seen_is start_is);
       done = subst (λ (bs : List (List Call)). AreDone bs rs) seen_is done;
     }

@@ -89,5 +89,5 @@ AreDone blocks runners =
 -- The blocks took their turns in this order, and then in some other until each had given each of its lines; this came.
 pub record IsRun (opening : List ℤ) (weights : List ℕ) (blocks : List (List Call)) (order : List ℕ) (end : Stage) : Type 0 where
   pub rest : List ℕ
-  pub came : end ≡ turns blocks (begun opening weights blocks) (order ++ rest)
+  pub occurred : end ≡ turns blocks (begun opening weights blocks) (order ++ rest)
   pub done : AreDone blocks end.blocks

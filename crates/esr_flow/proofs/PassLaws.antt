@@ -35,16 +35,16 @@ module _ (p : Problem) (sound : is_sound p ≡ true) where
   -- and begin with those of the pairs
   pub pair_kept : (flow : List ℕ) (marks : List Bool) (i : ℕ) → first_back p ≤ i → i - first_back p < length p.before
       → is_marked marks (get_or p.before (i - first_back p) (0, 0)).1 ≡ is_marked marks (get_or p.before (i - first_back p) (0, 0)).0 → IsKeptOver (network p).arcs flow marks i
-  pair_kept flow marks i behind inside same =
-      let is : arc_at (network p).arcs i ≡ back_arc (get_or p.before (i - first_back p) (0, 0)) = arc_of_pair p ok i (0, 0) behind inside in
+  pair_kept flow marks i not_before inside same =
+      let is : arc_at (network p).arcs i ≡ back_arc (get_or p.before (i - first_back p) (0, 0)) = arc_of_pair p ok i (0, 0) not_before inside in
       kept_equal (network p).arcs flow marks i (ap (λ (a : Arc). is_marked marks a.from) is ∙ same ∙ sym (ap (λ (a : Arc). is_marked marks a.to) is))
 
   -- the same beside a list that is that of the pairs, and a number that is that of the first
   pub pair_kept_by : (flow : List ℕ) (marks : List Bool) (pairs : List (ℕ × ℕ)) → pairs ≡ p.before → (first : ℕ) → first ≡ first_back p → (i : ℕ) → first ≤ i → i - first < length pairs
       → is_marked marks (get_or pairs (i - first) (0, 0)).1 ≡ is_marked marks (get_or pairs (i - first) (0, 0)).0 → IsKeptOver (network p).arcs flow marks i
-  pair_kept_by flow marks pairs ps first fs i behind inside same =
+  pair_kept_by flow marks pairs ps first fs i not_before inside same =
       let at : get_or p.before (i - first_back p) (0, 0) ≡ get_or pairs (i - first) (0, 0) = ap (λ list. get_or list (i - first_back p) (0, 0)) (sym ps) ∙ ap (λ n. get_or pairs (i - n) (0, 0)) (sym fs) in
-      pair_kept flow marks i (omega (arith, behind, fs)) (omega (arith, inside, fs, ap length ps)) (ap (λ (e : ℕ × ℕ). is_marked marks e.1) at ∙ (same ∙ sym (ap (λ (e : ℕ × ℕ). is_marked marks e.0) at)))
+      pair_kept flow marks i (omega (arith, not_before, fs)) (omega (arith, inside, fs, ap length ps)) (ap (λ (e : ℕ × ℕ). is_marked marks e.1) at ∙ (same ∙ sym (ap (λ (e : ℕ × ℕ). is_marked marks e.0) at)))
 
   module _ (chains : List code.Chain) (are : map chain_of chains ≡ p.chains) where
     pub has_links : (k begin : ℕ) (chain : code.Chain) → k < length chains → chain ≡ get_or chains k chain → begin ≡ get_or starts k 0 → HasLinks (network p).arcs chain begin

@@ -10,11 +10,11 @@ agrees true false e = cc
 agrees false true e = cc
 agrees false false e = refl
 
-pub told : (byte : ℕ) (xs : List Bool) (k : ℕ) → classifies byte xs ≡ true → k < length xs → get_or xs k false ≡ is_name_byte (k + byte)
-told byte [] k e l = absurd (omega (arith, l))
-told byte (x ∷ xs) zero e l =
+pub described : (byte : ℕ) (xs : List Bool) (k : ℕ) → classifies byte xs ≡ true → k < length xs → get_or xs k false ≡ is_name_byte (k + byte)
+described byte [] k e l = absurd (omega (arith, l))
+described byte (x ∷ xs) zero e l =
     let same : byte ≡ 0 + byte = omega arith in
     agrees x (is_name_byte byte) (and_parts _ _ e).0 ∙ ap is_name_byte same
-told byte (x ∷ xs) (suc k) e l =
+described byte (x ∷ xs) (suc k) e l =
     let same : k + suc byte ≡ suc k + byte = omega arith in
-    told (suc byte) xs k (and_parts _ _ e).1 (omega (arith, l)) ∙ ap is_name_byte same
+    described (suc byte) xs k (and_parts _ _ e).1 (omega (arith, l)) ∙ ap is_name_byte same

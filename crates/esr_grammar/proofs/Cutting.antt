@@ -40,11 +40,11 @@ after_front bytes = drop (line_len bytes + 1) bytes
 front-other : (b : ℕ) (bs : List ℕ) → nat_eq b 10 ≡ false → front (b ∷ bs) ≡ b ∷ front bs
 front-other b bs e = rw (len-other b bs e) refl
 
-behind-other : (b : ℕ) (bs : List ℕ) → nat_eq b 10 ≡ false → after_front (b ∷ bs) ≡ after_front bs
-behind-other b bs e = rw (len-other b bs e, add-one, add-one) refl
+following-other : (b : ℕ) (bs : List ℕ) → nat_eq b 10 ≡ false → after_front (b ∷ bs) ≡ after_front bs
+following-other b bs e = rw (len-other b bs e, add-one, add-one) refl
 
-behind-feed : (b : ℕ) (bs : List ℕ) → nat_eq b 10 ≡ true → after_front (b ∷ bs) ≡ bs
-behind-feed b bs e = rw (len-feed b bs e) refl
+following-feed : (b : ℕ) (bs : List ℕ) → nat_eq b 10 ≡ true → after_front (b ∷ bs) ≡ bs
+following-feed b bs e = rw (len-feed b bs e) refl
 
 front-feed : (b : ℕ) (bs : List ℕ) → nat_eq b 10 ≡ true → front (b ∷ bs) ≡ []
 front-feed b bs e = rw (len-feed b bs e) refl
@@ -58,11 +58,11 @@ plain-front (b ∷ bs) = grind (arith, cases_Bool (nat_eq b 10), nat_eq b 10, fr
 pub split-front : (bytes : List ℕ) → line_len bytes < length bytes → bytes ≡ front bytes ++ 10 ∷ after_front bytes
 split-front [] h = absurd (omega (arith, h))
 split-front (b ∷ bs) h = elim (cases_Bool (nat_eq b 10)) [
-  | inl e ↦ ap (λ n. n ∷ bs) (eqb-true b 10 e) ∙ sym (ap (λ l. l ++ 10 ∷ bs) (front-feed b bs e)) ∙ ap (λ l. front (b ∷ bs) ++ 10 ∷ l) (sym (behind-feed b bs e))
+  | inl e ↦ ap (λ n. n ∷ bs) (eqb-true b 10 e) ∙ sym (ap (λ l. l ++ 10 ∷ bs) (front-feed b bs e)) ∙ ap (λ l. front (b ∷ bs) ++ 10 ∷ l) (sym (following-feed b bs e))
   | inr e ↦
       let shorter : line_len bs < length bs = omega (arith, h, len-other b bs e) in
       ap (λ l. b ∷ l) (split-front bs shorter)
-      ∙ ap (λ l. l ++ 10 ∷ after_front bs) (sym (front-other b bs e)) ∙ ap (λ l. front (b ∷ bs) ++ 10 ∷ l) (sym (behind-other b bs e))
+      ∙ ap (λ l. l ++ 10 ∷ after_front bs) (sym (front-other b bs e)) ∙ ap (λ l. front (b ∷ bs) ++ 10 ∷ l) (sym (following-other b bs e))
 ]
 
 -- bytes with no line feed are one line

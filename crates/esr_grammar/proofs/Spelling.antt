@@ -224,8 +224,8 @@ choose : (k word : List ℕ) (ws : List (List ℕ)) (a b : Option Command) (c : 
     → (a ≡ Some c → IsKeywordOf word ws c) → (b ≡ Some c → IsKeywordOf k ws c) → IsKeywordOf k ws c
 choose k word ws a b c e here there = grind (arith, cases_Bool (bytes_eq k word), word, bytes_eq-Decides k word)
 
-behind : (k : List ℕ) (ws : List (List ℕ)) (c : Command) → command_of k ws ≡ Some c → IsKeywordOf k ws c
-behind k ws c e =
+following : (k : List ℕ) (ws : List (List ℕ)) (c : Command) → command_of k ws ≡ Some c → IsKeywordOf k ws c
+following k ws c e =
     choose k (codes "totals") ws _ _ c e (totals_found ws c) (λ e.
     choose k (codes "read") ws _ _ c e (read_found ws c) (λ e.
     choose k (codes "write") ws _ _ c e (write_found ws c) (λ e.
@@ -237,7 +237,7 @@ behind k ws c e =
 
 by_words : (ws : List (List ℕ)) (c : Command) → command_by ws ≡ Some c → IsCommand c × (ws ≡ words c)
 by_words [] c e = cc
-by_words (k ∷ ws) c e = behind k ws c e
+by_words (k ∷ ws) c e = following k ws c e
 
 pub read_back : (line : List ℕ) (c : Command) → reading line ≡ Some c → IsSyntaxOf line c
 read_back line c e = grind (arith, by_words (words_of line) c e, join_with_byte-slice_split 32 line)

@@ -33,8 +33,8 @@ pub due_kinds : (d : ℕ → ℤ → ℤ → ℕ) (opening : List ℤ) (events :
 due_kinds d opening events (Read q x) = grind (arith, find_some, and_parts)
 due_kinds d opening events (Write u x v) = write (is_update events u.0) refl
   where
-    gives : is_update events u.0 ≡ true → (q : ℕ) (c : Charge) → charge_of_write d opening events u.0 x.0 v q ≡ Some c → IsOfKinds events c
-    gives is q c got = at (is_query events q && holds_read events q x.0) refl got
+    yields : is_update events u.0 ≡ true → (q : ℕ) (c : Charge) → charge_of_write d opening events u.0 x.0 v q ≡ Some c → IsOfKinds events c
+    yields is q c got = at (is_query events q && holds_read events q x.0) refl got
       where
         at : (b : Bool) → (is_query events q && holds_read events q x.0) ≡ b → (if b then Some (record { query = q; update = u.0; amount = reads_of events q x.0 * d x.0 v (current_value opening events x.0) }) else None) ≡ Some c → IsOfKinds events c
         at true both got' = grind (arith, same_Some, and_parts (is_query events q) (holds_read events q x.0) both)
@@ -42,7 +42,7 @@ due_kinds d opening events (Write u x v) = write (is_update events u.0) refl
 
     write : (b : Bool) → is_update events u.0 ≡ b → AllByRecursion (IsOfKinds events) (if b then filter_map (charge_of_write d opening events u.0 x.0 v) (numbers events) else [])
     write false is = tt
-    write true is = Each-filter_map (IsOfKinds events) (charge_of_write d opening events u.0 x.0 v) (gives is) (numbers events)
+    write true is = Each-filter_map (IsOfKinds events) (charge_of_write d opening events u.0 x.0 v) (yields is) (numbers events)
 due_kinds d opening events _ = tt
 
 charges_kinds_after : (d : ℕ → ℤ → ℤ → ℕ) (opening : List ℤ) (before later : List Event) → AllByRecursion (IsOfKinds (before ++ later)) (charges_after d opening before later)

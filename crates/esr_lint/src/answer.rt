@@ -25,8 +25,8 @@ impl FaultyLine<'_> {
 /// Whether an answer is this word and a number. The answer to a read begins with the name of its transaction, which may
 /// be that word; but behind it stands the name of an item, which begins with a letter.
 fn is_numbered(answer: &[u8], word: &[u8]) -> bool {
-    let behind = answer.get(word.len()).copied().unwrap_or(0);
-    answer.starts_with(word) && behind.is_ascii_digit()
+    let following = answer.get(word.len()).copied().unwrap_or(0);
+    answer.starts_with(word) && following.is_ascii_digit()
 }
 
 /// Whether a line was answered by an error.

@@ -20,9 +20,9 @@ fn common_back(left: &[u8], right: &[u8]) -> usize {
 
 /// What is between the bytes that both begin and both end with.
 fn middle(text: &[u8], front: usize, back: usize) -> &[u8] {
-    let behind = text.get(front..).unwrap_or(&[]);
-    let length = behind.len().saturating_sub(back);
-    behind.get(..length).unwrap_or(&[])
+    let following = text.get(front..).unwrap_or(&[]);
+    let length = following.len().saturating_sub(back);
+    following.get(..length).unwrap_or(&[])
 }
 
 /// Whether one may stand for the other by a slip of the hand.

@@ -24,8 +24,8 @@ in_the_way = refl
 abbrev first_aborted : Schedule
 first_aborted = played both_have_read (Abort (txn 1) ∷ [])
 
-second_goes_through : reply_to plain first_aborted (Write (txn 2) (item 0) (pos 38)) ≡ Wrote
-second_goes_through = refl
+second_is_accepted : reply_to plain first_aborted (Write (txn 2) (item 0) (pos 38)) ≡ Wrote
+second_is_accepted = refl
 
 none_in_the_way : holders_against (accepted_in first_aborted) (Write (txn 2) (item 0) (pos 38)) ≡ []
 none_in_the_way = refl

@@ -87,13 +87,13 @@ back_none es t next is = record { places = []; walk = walk_none accepted_txn t e
 module _ (es : List Entry) (t : ℕ) (accesses : List Access) (next : Option ℕ) (b : IsBackTo es t accesses next) where
   -- one entry further back
   pub back_more : (i : ℕ) → next ≡ Some i → (o : Option Access) → o ≡ access_at es i → (more : List Access) → reverse more ≡ cons_option o (reverse accesses) → (after : Option ℕ) → after ≡ earlier accepted_txn txn_in es i → IsBackTo es t more after
-  back_more i is o gives more grown after then_is = record {
+  back_more i is o yields more grown after then_is = record {
     places = b.places ++ i ∷ [];
     walk = walk_next accepted_txn txn_in (accepted_owns txn_in) t es b.places next b.walk i is (b.places ++ i ∷ []) after refl then_is;
     restored =
         grown
         ∙ (ap (cons_option o) b.restored
-        ∙ (at (slice_get es i) o gives
+        ∙ (at (slice_get es i) o yields
         ∙ ap (λ l. filter_map access_in (filter_map (slice_get es) l)) (sym (reverse-append b.places (i ∷ [])))));
   }
     where

@@ -157,7 +157,7 @@ module _ (d : Distance) (h : Schedule) (legal : IsLegal d h) where
 
   -- the commits at the places of ends are all commits, in order
   pub committed_at : (at : List ℕ) → IsStrictlyIncreasing at → AreEnds h at → map (λ (t : TxnId). t.0) (filter_map commit_in (filter_map (slice_get h.entries) at)) ≡ commit_order (accepted_in h)
-  committed_at at rises ends = ap (map (λ (t : TxnId). t.0)) (sparse_entries commit_in h.entries at rises inside gives) ∙ committed_are h.entries
+  committed_at at rises ends = ap (map (λ (t : TxnId). t.0)) (sparse_entries commit_in h.entries at rises inside yields) ∙ committed_are h.entries
     where
       inside : (i : ℕ) → In i at → i < 0 + length h.entries
       inside i j =
@@ -165,8 +165,8 @@ module _ (d : Distance) (h : Schedule) (legal : IsLegal d h) where
           let s = split_at accepted_end r.0 h.entries i r.1 in
           let l : i < length h.entries = get_inside h.entries i s.entry s.at in omega arith
 
-      gives : (i : ℕ) (e : Entry) → slice_get h.entries i ≡ Some e → (In i at → ⊥) → commit_in e ≡ None
-      gives i e there out = found (commit_in e) refl
+      yields : (i : ℕ) (e : Entry) → slice_get h.entries i ≡ Some e → (In i at → ⊥) → commit_in e ≡ None
+      yields i e there out = found (commit_in e) refl
         where
           found : (o : Option TxnId) → commit_in e ≡ o → commit_in e ≡ None
           found None is = is

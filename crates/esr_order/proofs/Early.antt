@@ -107,9 +107,9 @@ module _ (d : Distance) (h : Schedule) (q : ℕ) (legal : IsLegal d h) where
 
       apart : (u : ℕ) → In u rest → is_committed (accepted (before_begin h q)) u ≡ false
       apart u i =
-          let behind : In u (commit_order (accepted later)) = In-before_first (λ t. eqb t q) (commit_order (accepted later)) u (In-of_filter (is_update (accepted_in h)) (before_first (λ t. eqb t q) (commit_order (accepted later))) u i).0 in
+          let among_later : In u (commit_order (accepted later)) = In-before_first (λ t. eqb t q) (commit_order (accepted later)) u (In-of_filter (is_update (accepted_in h)) (before_first (λ t. eqb t q) (commit_order (accepted later))) u i).0 in
           false_from_ne_true (is_committed (accepted (before_begin h q)) u) (λ is.
-          Pairs-across (λ u v. u ≡ v → ⊥) early (commit_order (accepted later)) u u once (In-from_any early u (sym (committed_among (accepted (before_begin h q)) u) ∙ is)) behind refl)
+          Pairs-across (λ u v. u ≡ v → ⊥) early (commit_order (accepted later)) u u once (In-from_any early u (sym (committed_among (accepted (before_begin h q)) u) ∙ is)) among_later refl)
 
   -- the positions that a strict query must have seen, and those of another
   pub must_positions : (n : ℕ) → n ≡ length (must h q) → map (update_at h q) (range_with_len 0 n) ≡ must h q

@@ -48,14 +48,14 @@ sub_range g a (suc m) (x ∷ xs) rise low high none =
 -- what the entries at some rising places give is what all of them give, where no other gives anything
 pub sparse_entries : {Y : Type 0} (f : Entry → Option Y) (es : List Entry) (at : List ℕ) → IsStrictlyIncreasing at → ((i : ℕ) → In i at → i < 0 + length es)
     → ((i : ℕ) (e : Entry) → slice_get es i ≡ Some e → (In i at → ⊥) → f e ≡ None) → filter_map f (filter_map (slice_get es) at) ≡ filter_map f es
-sparse_entries f es at rises inside gives =
+sparse_entries f es at rises inside yields =
     twice (slice_get es) f at
     ∙ (sub_range (λ i. from f (slice_get es i)) 0 (length es) at (Pairs-from_all (λ i j. i < j) at (AllPairs-from_increasing at rises)) (λ i j. omega arith) inside (λ i l h out. nothing i (slice_get es i) refl out)
     ∙ (sym (twice (slice_get es) f (range_with_len 0 (length es))) ∙ ap (filter_map f) (all_entries es)))
   where
     nothing : (i : ℕ) (o : Option Entry) → slice_get es i ≡ o → (In i at → ⊥) → from f o ≡ None
     nothing i None is out = refl
-    nothing i (Some e) is out = gives i e is out
+    nothing i (Some e) is out = yields i e is out
 
 -- the places of a key
 pub in_places : (key : Entry → Option ℕ) (k n : ℕ) (es : List Entry) (i : ℕ) (e : Entry) → slice_get es i ≡ Some e → is_key (key e) k ≡ true → In (n + i) (places_from key k n es)

@@ -29,15 +29,15 @@ fn mark(
     all: &mut QueryRows<'_>,
     ranks: &[(u64, u64, u32)],
 ) -> Result<Vec<TxnId>, AllocError> {
-    let mut told = Vec::new(alloc);
+    let mut explained = Vec::new(alloc);
     for (_, _, number) in ranks {
         let query = TxnId(*number);
         if let Some(row) = all.of(query) {
             row.has_explanation = true;
-            told.push(query)?;
+            explained.push(query)?;
         }
     }
-    Ok(told)
+    Ok(explained)
 }
 
 /// Marks so many queries that were farthest off, and gives them, the farthest first.
@@ -129,9 +129,9 @@ impl<P: Part, W: Part> Page<'_, P, W> {
         out: &mut String,
         recording: &Recording<'_>,
         audits: &Audits,
-        told: &[TxnId],
+        explained: &[TxnId],
     ) -> Result<(), AllocError> {
-        for query in told {
+        for query in explained {
             self.push_query(alloc, out, recording, audits, *query)?;
         }
         Ok(())
@@ -139,8 +139,8 @@ impl<P: Part, W: Part> Page<'_, P, W> {
 }
 
 /// What queries are told in full, if any are: those that were farthest off, or where none was off, those that were charged most.
-pub fn heading_of(rows: &[QueryRow<'_>], told: &[TxnId]) -> &'static str {
-    if told.is_empty() {
+pub fn heading_of(rows: &[QueryRow<'_>], explained: &[TxnId]) -> &'static str {
+    if explained.is_empty() {
         ""
     } else if rows.iter().any(|row| row.distance().unwrap_or(0) > 0) {
         "<h2>Largest distances</h2>\n"

@@ -187,11 +187,11 @@ impl<P: Part, W: Part> Page<'_, P, W> {
         recording: &Recording<'_>,
         audits: &Audits,
         all: &mut QueryRows<'_>,
-        told: &[TxnId],
+        explained: &[TxnId],
     ) -> Result<(), AllocError> {
         push_overview(alloc, out, self.origin, all, audits)?;
-        out.push_str(heading_of(&all.rows, told))?;
-        self.push_details(alloc, out, recording, audits, told)?;
+        out.push_str(heading_of(&all.rows, explained))?;
+        self.push_details(alloc, out, recording, audits, explained)?;
         push_order(out, &recording.transactions, &audits.order)?;
         out.push_str(script())
     }
@@ -205,9 +205,9 @@ impl<P: Part, W: Part> Page<'_, P, W> {
         count: usize,
     ) -> Result<String, AllocError> {
         let mut all = rows_of(alloc, recording, &audits.found)?;
-        let told = describe_farthest(alloc, &mut all, count)?;
+        let explained = describe_farthest(alloc, &mut all, count)?;
         let mut out = String::new(alloc);
-        self.push_body(alloc, &mut out, recording, audits, &mut all, &told)?;
+        self.push_body(alloc, &mut out, recording, audits, &mut all, &explained)?;
         Ok(out)
     }
 

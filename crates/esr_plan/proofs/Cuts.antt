@@ -90,9 +90,9 @@ mark_line bytes start count len at found few short rest =
     let cut : lines (tail ++ rest) ≡ front tail ∷ lines (after_front tail ++ rest) =
     ap (λ l. lines (l ++ rest)) (split-front tail within)
     ∙ (ap lines (append_assoc (front tail) (10 ∷ after_front tail) rest) ∙ lines-line (front tail) (after_front tail ++ rest) (plain-front tail)) in
-    let behind : after_front tail ≡ drop (start + len + 1) bytes =
+    let following : after_front tail ≡ drop (start + len + 1) bytes =
     ap (λ n. drop (n + 1) tail) is.1 ∙ (drop-drop (len + 1) start bytes ∙ ap (λ n. drop n bytes) (omega arith)) in
-    at rest ∙ (cut_more count (lines (tail ++ rest)) (lines (after_front tail ++ rest)) (front tail) cut few size ∙ ap (λ l. cut_fault (count + 1) (lines (l ++ rest))) behind)
+    at rest ∙ (cut_more count (lines (tail ++ rest)) (lines (after_front tail ++ rest)) (front tail) cut few size ∙ ap (λ l. cut_fault (count + 1) (lines (l ++ rest))) following)
 
 -- a line at fault, whatever follows
 pub mark_fault : (bytes : List ℕ) (start count len : ℕ) (e : DriveFault) → At bytes start count → 0 < length (drop start bytes) → len ≡ line_len (drop start bytes)

@@ -30,10 +30,10 @@ rest n a few short =
 joined : (n : ℕ) (a b : List ℕ) → length a ≡ length b → n ≤ length a → length a ≤ n + n → take n a ≡ take n b
     → drop (length a - n) a ≡ drop (length b - n) b → a ≡ b
 joined n a b long few short front back =
-    let behind : drop n a ≡ drop n b =
+    let following : drop n a ≡ drop n b =
     rest n a few short ∙ ap (drop (n - (length a - n))) back ∙ ap (λ l. drop (n - (l - n)) (drop (length b - n) b)) long
     ∙ sym (rest n b (omega (arith, long, few)) (omega (arith, long, short))) in
-    sym (take-append-drop n a) ∙ ap (λ l. l ++ drop n a) front ∙ ap (λ l. take n b ++ l) behind ∙ take-append-drop n b
+    sym (take-append-drop n a) ∙ ap (λ l. l ++ drop n a) front ∙ ap (λ l. take n b ++ l) following ∙ take-append-drop n b
 
 two : (a b : List ℕ) → length a ≡ length b → length a < 3 → AreBytes a → AreBytes b
     → get_or a 0 0 + 256 * get_or a 1 0 ≡ get_or b 0 0 + 256 * get_or b 1 0 → a ≡ b

@@ -33,7 +33,7 @@ module _ (s : ScriptState) (items names : List (List ℕ)) (was : Bool) (first h
       → IsFoundOf s name f
   found_of f query committed distance import before shown near = record {
     committed = both (λ k n. is_committed_query k n ≡ true) committed;
-    told = both (λ k n. summary f ≡ summary_of weighted k n) (four (ap (λ (t : TxnId). t.0) query) distance import before);
+    reported = both (λ k n. summary f ≡ summary_of weighted k n) (four (ap (λ (t : TxnId). t.0) query) distance import before);
     found = both (λ k n. IsFound k n f.problem (certificate_of f.certificate))
         (record { of_query = shown.of_query; near = near; certified = shown.certified; set_is = sym shown.set_is ∙ before; smallest = shown.smallest; without_count = shown.without_count });
   }

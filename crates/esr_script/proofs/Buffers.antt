@@ -41,11 +41,11 @@ module _ (items moved ahead : List ℕ) (s e len : ℕ) (order : s ≤ e) (withi
 
     -- where so many bytes were read behind them
     pub filled : (count : ℕ) → count ≤ length read → take (((e - s) + count) - 0) (drop 0 (take len (after ++ drop (length after) before))) ≡ ahead ++ take count read
-    filled count came =
+    filled count received =
         let more : ((e - s) + count) - 0 ≡ length ahead + count = omega (arith, size) in
         let rest = post_of (e - s) part moved in
         ap (take (((e - s) + count) - 0)) held ∙ ap (λ n. take n after) more ∙ ap (λ l. take (length ahead + count) (l ++ (read ++ rest))) front
-        ∙ take-append-add ahead (read ++ rest) count ∙ ap (λ l. ahead ++ l) (take-append-le count read rest came)
+        ∙ take-append-add ahead (read ++ rest) count ∙ ap (λ l. ahead ++ l) (take-append-le count read rest received)
 
     -- there is room behind few bytes
     pub has_capacity : length ahead ≤ 200 → len ≡ 65536 → 0 < length read

@@ -52,10 +52,10 @@ module _ (input : List ℕ) (left : Option (List ℕ)) (bytes : List ℕ) (n : �
 bundled : (steps : Bool) (h : Schedule) (q : ℕ) (f : Finding) → IsFound h q f.problem (certificate_of f.certificate) → (line : List ℕ) → IsLineOf steps f line → IsBundleLine steps h q line
 bundled false h q f found line is =
     let c = certificate_of f.certificate in
-    (bundle f.problem c, record { problem = f.problem; certificate = c; of_query = found.of_query; near = found.near; certified = found.certified; set_is = found.set_is; told = found.without_count; text_is = refl }, is)
+    (bundle f.problem c, record { problem = f.problem; certificate = c; of_query = found.of_query; near = found.near; certified = found.certified; set_is = found.set_is; reported = found.without_count; text_is = refl }, is)
 bundled true h q f found line (c, certified, smallest, counted, is) =
     let same : c.set ≡ (certificate_of f.certificate).set = same_set f.problem c (certificate_of f.certificate) certified found.certified smallest found.smallest in
-    (bundle f.problem c, record { problem = f.problem; certificate = c; of_query = found.of_query; near = found.near; certified = certified; set_is = ap (filter_map (slice_get f.problem.updates)) same ∙ found.set_is; told = counted; text_is = refl }, is)
+    (bundle f.problem c, record { problem = f.problem; certificate = c; of_query = found.of_query; near = found.near; certified = certified; set_is = ap (filter_map (slice_get f.problem.updates)) same ∙ found.set_is; reported = counted; text_is = refl }, is)
 
 -- the bundle of what was asked for, with a line feed
 pub bundle_rendered : (steps : Bool) (s : ScriptState) (name : List ℕ) (a : AuditedQuery) → IsAnswered s name a → (line : List ℕ)

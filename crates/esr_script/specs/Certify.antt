@@ -26,7 +26,7 @@ pub record IsBundleOf (steps : Bool) (h : Schedule) (q : ℕ) (text : List ℕ) 
   pub near : AreNear h q problem.updates
   pub certified : Certifies problem certificate
   pub set_is : filter_map (slice_get problem.updates) certificate.set ≡ least_set weighted h q
-  pub told : HasAugmentations steps problem certificate
+  pub reported : HasAugmentations steps problem certificate
   pub text_is : text ≡ bundle problem certificate
 
 -- the same with a line feed

@@ -7,12 +7,12 @@ use std::alloc::Global;
 
 /// Whether a line made an entry: it gave the machine an event, and was answered by no error.
 fn makes_entry(line: &[u8], answer: &[u8]) -> bool {
-    let gives_event = line.starts_with(b"read ")
+    let has_event = line.starts_with(b"read ")
         || line.starts_with(b"write ")
         || line.starts_with(b"begin ")
         || line.starts_with(b"commit ")
         || line.starts_with(b"abort ");
-    gives_event && !is_error(answer)
+    has_event && !is_error(answer)
 }
 
 /// Keeps the number of each line that made an entry, and lets another observer look on.

@@ -53,8 +53,8 @@ pub fn answer_lines<R: Read, S: Sink, O: Observer>(
     'lines: loop {
         let next = next_line(pending.bytes());
         if let Next::More = next {
-            let came = read_on(reader, sink, pending, out)?;
-            if came == 0 {
+            let received = read_on(reader, sink, pending, out)?;
+            if received == 0 {
                 return answer_last(pending, count, script, sink, out, observer);
             }
             continue 'lines;

@@ -29,7 +29,7 @@ pub record IsFound (h : Schedule) (q : ℕ) (problem : Problem) (certificate : C
 -- certificate.
 pub record IsFoundOf (s : ScriptState) (name : List ℕ) (f : Finding) : Type 0 where
   pub committed : is_committed_query s.history (transaction_called s name).0 ≡ true
-  pub told : summary f ≡ summary_of weighted s.history (transaction_called s name).0
+  pub reported : summary f ≡ summary_of weighted s.history (transaction_called s name).0
   pub found : IsFound s.history (transaction_called s name).0 f.problem (certificate_of f.certificate)
 
 -- The names that are bound, the history, and what is found of the query of that name.

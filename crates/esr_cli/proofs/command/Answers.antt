@@ -6,7 +6,7 @@ use Rattle.clap.proofs.FaultLemmas.{failed_up}
 use Rattle.clap.specs.declared.error.Error.{Error}
 use Rattle.esr_cli.specs.declared.Job.{Job}
 use Rattle.esr_cli.proofs.Faultless.{found_by_program, job_found, of_program}
-use Rattle.esr_cli.proofs.Spelled.{no_ok, spelled}
+use Rattle.esr_cli.proofs.ParsedWords.{no_ok, parsed}
 use Rattle.esr_cli.proofs.command.Goals as goal
 
 pub returns-in_err-matches-clause-errors : goal.returns-in_err-matches-clause-errors
@@ -16,9 +16,9 @@ returns-in_err-matches-clause-errors c =
     failed_up _ e _ _ c.from_residual-in_err-matches.ensures.1 has
 
 pub returns-in_err-matches-clause-asked : goal.returns-in_err-matches-clause-asked
-returns-in_err-matches-clause-asked c wanted spells =
+returns-in_err-matches-clause-asked c wanted syntax =
     let r : Result Job Error = c.from_residual-in_err-matches.result in
-    spelled r _ wanted spells (returns-in_err-matches-clause-errors c) (no_ok r _ _ c.from_residual-in_err-matches.ensures.1)
+    parsed r _ wanted syntax (returns-in_err-matches-clause-errors c) (no_ok r _ _ c.from_residual-in_err-matches.ensures.1)
 
 pub unreachable-requires : goal.unreachable-requires
 unreachable-requires c =
@@ -36,5 +36,5 @@ returns c =
       job = known.0;
       workers = known.1;
       errors = none;
-      asked = λ wanted spells. spelled (Ok c.in-Some.job) _ wanted spells none known.0;
+      asked = λ wanted syntax. parsed (Ok c.in-Some.job) _ wanted syntax none known.0;
     }

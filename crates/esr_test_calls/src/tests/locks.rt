@@ -81,7 +81,7 @@ fn an_upgrade_waits_for_the_smallest_other_reader(rt: HostRuntime) {
 /// No clause can say that the lock of a query finds room: a table that never has any would be proved. A second read of
 /// one query counts with the first.
 #[test]
-fn queries_stand_by_their_numbers_with_counts(rt: HostRuntime) {
+fn queries_are_in_order_with_counts(rt: HostRuntime) {
     let mut locks = table(&rt, rt.alloc());
     let q = TxnId(4);
     let r = TxnId(2);
@@ -106,7 +106,7 @@ fn queries_stand_by_their_numbers_with_counts(rt: HostRuntime) {
 
 /// A row holds four readers without an allocation; that the fifth gets one no clause can say.
 #[test]
-fn more_readers_than_a_row_holds_stand_by_their_numbers(rt: HostRuntime) {
+fn more_readers_than_a_row_holds_are_in_order(rt: HostRuntime) {
     let mut locks = table(&rt, rt.alloc());
     read_by(&rt, &mut locks, TxnId(14));
     read_by(&rt, &mut locks, TxnId(12));
@@ -120,7 +120,7 @@ fn more_readers_than_a_row_holds_stand_by_their_numbers(rt: HostRuntime) {
 
 /// A row holds two queries without an allocation; that the third gets one no clause can say.
 #[test]
-fn more_queries_than_a_row_holds_stand_by_their_numbers(rt: HostRuntime) {
+fn more_queries_than_a_row_holds_are_in_order(rt: HostRuntime) {
     let mut locks = table(&rt, rt.alloc());
     let q = TxnId(4);
     let r = TxnId(2);

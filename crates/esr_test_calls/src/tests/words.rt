@@ -287,7 +287,7 @@ fn requests(alloc: Global, words: Words, progress: Progress, format: Option<Form
 
 /// The same of how progress is shown and tables are written.
 #[test]
-fn words_say_how_it_is_told(rt: HostRuntime) {
+fn options_choose_the_format(rt: HostRuntime) {
     for (words, progress, format) in ways() {
         assert!(rt;
             requests(rt.alloc(), words, *progress, *format),

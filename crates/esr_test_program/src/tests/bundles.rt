@@ -24,7 +24,7 @@ fn change_bundle(alloc: Global, row: &Row) -> Result<String, AllocError> {
 }
 
 /// Judges the bundle, and compares what is written with the line.
-fn gives(rt: &impl Abort, alloc: Global, text: &str, line: &str) {
+fn has_verdict(rt: &impl Abort, alloc: Global, text: &str, line: &str) {
     let mut reader = Watched::new(text.as_bytes());
     let mut writer = Watched::new(Vec::new(alloc));
     let ended = judge(alloc, &mut reader, &mut writer);
@@ -34,17 +34,17 @@ fn gives(rt: &impl Abort, alloc: Global, text: &str, line: &str) {
 
 /// A verdict is proved against definitions; one that gives a fault another number would be proved as well.
 #[test]
-fn bundles_give_their_verdicts(rt: HostRuntime) {
+fn bundles_have_their_verdicts(rt: HostRuntime) {
     for row in table() {
         let text = change_bundle(rt.alloc(), row).expect(&rt, "memory");
-        gives(&rt, rt.alloc(), text.as_str(), row.line);
+        has_verdict(&rt, rt.alloc(), text.as_str(), row.line);
     }
 }
 
 /// JSON leaves the order of keys and white space free; a definition that knows one spelling alone would be proved.
 #[test]
 fn keys_may_come_in_any_order_with_white_space(rt: HostRuntime) {
-    gives(
+    has_verdict(
         &rt,
         rt.alloc(),
         " { \"problem\" : {\"updates\":[],\n\
@@ -56,8 +56,8 @@ fn keys_may_come_in_any_order_with_white_space(rt: HostRuntime) {
 /// Which fault is of JSON and which of a bundle's shape is a definition's: the least input of each is tried.
 #[test]
 fn the_empty_input_is_no_json(rt: HostRuntime) {
-    gives(&rt, rt.alloc(), "", "bad 1\n");
-    gives(&rt, rt.alloc(), "{}", "bad 2\n");
+    has_verdict(&rt, rt.alloc(), "", "bad 1\n");
+    has_verdict(&rt, rt.alloc(), "{}", "bad 2\n");
 }
 
 /// Reads a bundle, and writes it.

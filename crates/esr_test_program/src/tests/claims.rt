@@ -82,7 +82,7 @@ fn a_bundle_is_of_one_query(rt: HostRuntime) {
 
 /// The words for people.
 #[test]
-fn what_a_fault_is_is_told(rt: HostRuntime) {
+fn faults_are_described(rt: HostRuntime) {
     let detail = detail_of(rt.alloc(), CHANGED.as_bytes());
     match &detail {
         Ok(Some(text)) => {

@@ -278,7 +278,7 @@ fn drive_by<T: Threads + Wait + Sync, R: Read, W: Write>(
 
 /// Which history comes is open, so a drive could always call it full; of one busy block only one can come.
 #[test]
-fn files_give_their_texts(rt: HostRuntime) {
+fn files_have_their_texts(rt: HostRuntime) {
     for row in table() {
         let mut reader = Watched::new(row.file.as_bytes());
         let mut writer = Watched::new(Vec::new(rt.alloc()));

@@ -147,7 +147,7 @@ fn lines_with_errors_are_drawn(rt: HostRuntime) {
 /// A value that was read and given up, one that was read twice, one that its writer wrote over, and one that was given up
 /// and is the item's own all the same.
 #[test]
-fn values_that_did_not_stay_are_told(rt: HostRuntime) {
+fn values_that_were_undone_are_described(rt: HostRuntime) {
     let texts = [
         ">read 9 of u, which aborted</text>",
         ">read 6 of v, which overwrote it</text>",
@@ -214,7 +214,7 @@ fn count(alloc: Global, script: &str, text: &str) -> usize {
 /// Of few updates all are drawn, of more those that bound what is seen of the lanes: here three, with the lane that is as
 /// read and keeps the line from the end, where the other one would be exact.
 #[test]
-fn of_many_updates_those_are_drawn_that_bound_what_is_seen(rt: HostRuntime) {
+fn of_many_updates_the_bounding_ones_are_drawn(rt: HostRuntime) {
     let lanes = ("class='m n' x='20'", 3);
     occurs(
         &rt,
@@ -247,7 +247,7 @@ fn occurs(rt: &impl Abort, alloc: Global, updates: u32, wanted: &[(&str, usize)]
 
 /// The contract lets out of memory come in place of this refusal, for an update's or an item's name as for none.
 #[test]
-fn what_is_no_committed_query_is_not_drawn(rt: HostRuntime) {
+fn only_committed_queries_are_drawn(rt: HostRuntime) {
     let alloc = rt.alloc();
     for name in ["transfer", "checking", "nobody", "<"] {
         let mut reader = Watched::new(BANK.as_bytes());

@@ -94,14 +94,14 @@ fn has<S: ScriptView>(rt: &impl Abort, alloc: Global, script: &str, view_of: &S,
 
 /// The lines, the sums and the order of the sentences.
 #[test]
-fn a_report_of_the_bank_is_told(rt: HostRuntime) {
+fn a_report_of_the_bank_is_described(rt: HostRuntime) {
     let prose = Prose { name: "report" };
     has(&rt, rt.alloc(), BANK, &prose, &[BANK_TOLD]);
 }
 
 /// What README's example does not have: each of these was wrong, or nowhere, in some draft.
 #[test]
-fn what_became_of_values_and_queries_is_told(rt: HostRuntime) {
+fn outcomes_of_values_and_queries_are_described(rt: HostRuntime) {
     let alloc = rt.alloc();
     let report = [
         "What report read was not a state that a strict report may be placed at. The\nnearest",
@@ -123,7 +123,7 @@ fn what_became_of_values_and_queries_is_told(rt: HostRuntime) {
 
 /// The contract lets out of memory come in place of this refusal.
 #[test]
-fn what_is_no_query_is_not_told(rt: HostRuntime) {
+fn only_queries_are_described(rt: HostRuntime) {
     let alloc = rt.alloc();
     let refused = Err(RunFault::NotACommittedQuery);
     for name in ["transfer", "checking", "<"] {

@@ -50,7 +50,7 @@ fn answers(
 
 /// The program is proved against definitions; the texts are from the formats, from which a definition could stray.
 #[test]
-fn scripts_give_their_texts(rt: HostRuntime) {
+fn scripts_have_their_texts(rt: HostRuntime) {
     for row in table() {
         answers(
             &rt,

@@ -75,7 +75,7 @@ fn explains_as(rt: &impl Abort, alloc: Global, script: &str, name: Option<&str>,
 
 /// Each kind of line that there is, in the words of the guide.
 #[test]
-fn blocked_lines_and_rings_are_told(rt: HostRuntime) {
+fn blocked_lines_and_cycles_are_described(rt: HostRuntime) {
     let alloc = rt.alloc();
     explains_as(&rt, alloc, CLOSING, None, CLOSING_TOLD);
     explains_as(&rt, alloc, NIGHT, None, NIGHT_TOLD);
@@ -90,7 +90,7 @@ fn blocked_lines_and_rings_are_told(rt: HostRuntime) {
 
 /// The lines of one transaction, and the rings that it is in.
 #[test]
-fn one_transaction_is_told_of(rt: HostRuntime) {
+fn one_transaction_is_described(rt: HostRuntime) {
     let alloc = rt.alloc();
     let other = "\
 line 11: write other savings 1: blocked by the write lock of transfer; transfer ended at line 15
@@ -103,7 +103,7 @@ deadlock: transfer waits for other at line 10, other waits for transfer at line 
 
 /// The contract lets out of memory come in place of this refusal.
 #[test]
-fn nobody_is_not_told_of(rt: HostRuntime) {
+fn unknown_transactions_are_refused(rt: HostRuntime) {
     let alloc = rt.alloc();
     let name = Some("savings");
     let refused = Err(RunFault::NotACommittedQuery);

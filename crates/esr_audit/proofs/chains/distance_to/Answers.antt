@@ -6,8 +6,8 @@ use Rattle.esr_audit.proofs.Gathered.{value_fits}
 use Rattle.esr_audit.proofs.chains.distance_to.Given.{Over}
 use Rattle.esr_audit.proofs.chains.distance_to.Goals as goal
 
-told : (g : Over) (c : goal.After-distance-sum g) → c.distance-sum.result ≡ g.M.Metric.distance_by (g.M.Metric.weights c.args.metric.now) c.args.x.0 (get_or c.args.values.now c.loop-value.value-index (pos 0)) c.args.version
-told g c =
+described : (g : Over) (c : goal.After-distance-sum g) → c.distance-sum.result ≡ g.M.Metric.distance_by (g.M.Metric.weights c.args.metric.now) c.args.x.0 (get_or c.args.values.now c.loop-value.value-index (pos 0)) c.args.version
+described g c =
     let v : ℤ = get_or c.args.values.now c.loop-value.value-index (pos 0) in
     let D : ℤ → ℤ → ℕ = g.M.Metric.distance_by (g.M.Metric.weights c.args.metric.now) c.args.x.0 in
     let read : to_z w64 (of_z w64 v) ≡ v = to_z-of_z w64 v (value_fits v (c.requires.values c.loop-value.value-index (pos 0) c.loop-value-test.true)) in
@@ -18,7 +18,7 @@ small : (g : Over) (c : goal.After-distance-sum g) → c.distance-sum.result ≤
 small g c =
     let v : ℤ = get_or c.args.values.now c.loop-value.value-index (pos 0) in
     let b = g.met.M.Metric.bounded (g.M.Metric.weights c.args.metric.now) c.args.x.0 v c.args.version (c.requires.values c.loop-value.value-index (pos 0) c.loop-value-test.true) c.requires.version in
-    omega (arith, told g c, b)
+    omega (arith, described g c, b)
 
 pub overflow_add-sum : goal.overflow_add-sum
 overflow_add-sum g c = omega (arith, small g c, c.loop-value.invariant.1, c.loop-value-test.true, c.requires.few)
@@ -29,7 +29,7 @@ loop-value-preserved g c =
     let same : to_z w64 (of_z w64 c.args.version) ≡ c.args.version = to_z-of_z w64 c.args.version (value_fits c.args.version c.requires.version) in
     let so_far : c.loop-value.sum ≡ sum_by (λ v. D v c.args.version) (take c.loop-value.value-index c.args.values.now) = c.loop-value.invariant.0 ∙ ap (λ ver. sum_by (λ v. D v ver) (take c.loop-value.value-index c.args.values.now)) same in
     let more = sum_by_more (λ v. D v c.args.version) c.args.values.now c.loop-value.value-index (pos 0) c.loop-value-test.true in
-    let sum : c.loop-value.sum + c.distance-sum.result ≡ sum_by (λ v. D v c.args.version) (take (c.loop-value.value-index + 1) c.args.values.now) = omega (arith, so_far, more, told g c) in (
+    let sum : c.loop-value.sum + c.distance-sum.result ≡ sum_by (λ v. D v c.args.version) (take (c.loop-value.value-index + 1) c.args.values.now) = omega (arith, so_far, more, described g c) in (
       sum ∙ ap (λ ver. sum_by (λ v. D v ver) (take (c.loop-value.value-index + 1) c.args.values.now)) (sym same),
       omega (arith, small g c, c.loop-value.invariant.1),
     )

@@ -11,21 +11,21 @@ chunks-init g c =
 
 pub returns-then-count-eq0-clause-ok : goal.returns-then-count-eq0-clause-ok
 returns-then-count-eq0-clause-ok g c =
-    let came = c.in_ok-count.ensures.ok in
-    let same = no_more _ _ came.0 came.2 (came.1 ∙ c.if-count-eq0.true) in
-    (rw came.2 (Consumes-trans _ _ _ _ _ c.chunks.invariant.read came.3), came.4 c.if-count-eq0.true, rw same c.chunks.invariant.bound)
+    let received = c.in_ok-count.ensures.ok in
+    let same = no_more _ _ received.0 received.2 (received.1 ∙ c.if-count-eq0.true) in
+    (rw received.2 (Consumes-trans _ _ _ _ _ c.chunks.invariant.read received.3), received.4 c.if-count-eq0.true, rw same c.chunks.invariant.bound)
 
 pub returns-then-len-gt-MAX_BYTES-clause-long : goal.returns-then-len-gt-MAX_BYTES-clause-long
 returns-then-len-gt-MAX_BYTES-clause-long g c is =
-    let came = c.in_ok-count.ensures.ok in
-    (c.read_some.new.bytes.items, rw came.2 (Consumes-trans _ _ _ _ _ c.chunks.invariant.read came.3), omega arith)
+    let received = c.in_ok-count.ensures.ok in
+    (c.read_some.new.bytes.items, rw received.2 (Consumes-trans _ _ _ _ _ c.chunks.invariant.read received.3), omega arith)
 
 pub chunks-preserved : goal.chunks-preserved
 chunks-preserved g c =
-    let came = c.in_ok-count.ensures.ok in
+    let received = c.in_ok-count.ensures.ok in
     record {
       bound = omega arith;
-      read = rw came.2 (Consumes-trans _ _ _ _ _ c.chunks.invariant.read came.3);
+      read = rw received.2 (Consumes-trans _ _ _ _ _ c.chunks.invariant.read received.3);
       chunk_buffer = capacity_kept c.read_some.new.chunk (drop (length c.read_some.new.chunk) c.chunks.chunk.items) c.chunks.chunk.len (omega (arith, c.chunks.chunk.ok.0, c.chunks.invariant.chunk_buffer)) (omega (arith, c.read_some.ensures.chunk_buffer, ap length c.deref_mut.ensures.value, c.chunks.invariant.chunk_buffer));
       failed = search rules;
     }

@@ -24,14 +24,14 @@ loop-access-preserved c =
     append_assoc out (flat_map f (take k xs)) (f a) ∙ ap (λ l. out ++ l) (sym (lines_more f xs k d c.loop-access-test.true)) in
     elim c.if-not-access.branch [
       | then-not-access+in_ok-read_line w ↦
-          let told : f a ≡ line = ap (λ (b : Bool). if b then [] else line) w.if-not-access.true in
+          let described : f a ≡ line = ap (λ (b : Bool). if b then [] else line) w.if-not-access.true in
           let n : ℤ = w.value_of-nearest.result in
           let fits : to_z w64 (of_z w64 n) ≡ n = to_z-of_z w64 n (value_fits n (subst IsValue (sym w.value_of-nearest.ensures) (c.requires.values a.item.0))) in
           ap (λ v. v.items) w.out-is ∙ (w.in_ok-read_line.ensures
           ∙ (ap (λ m. c.loop-access.out.items ++ read_line D items a.item.0 a.value m) fits
           ∙ (ap (λ l. l ++ read_line D items a.item.0 a.value w.value_of-nearest.result) c.loop-access.invariant
           ∙ (ap (λ n. (out ++ flat_map f (take k xs)) ++ read_line D items a.item.0 a.value n) w.value_of-nearest.ensures
-          ∙ (ap (λ l. (out ++ flat_map f (take k xs)) ++ l) (sym told) ∙ next)))))
+          ∙ (ap (λ l. (out ++ flat_map f (take k xs)) ++ l) (sym described) ∙ next)))))
       | else-not-access w ↦
           let none : f a ≡ [] = ap (λ (b : Bool). if b then [] else line) w.if-not-access.false in
           ap (λ v. v.items) w.out-is ∙ (c.loop-access.invariant

@@ -10,11 +10,11 @@ pub returns-clause-imports : goal.returns-clause-imports
 returns-clause-imports c = λ d h legal is due are.
     let opened = c.open.new.imports in
     let summed = c.add_charges.new.imports in
-    let lent : c.deref_mut.result.now ≡ with_number c.args.imports.now.items c.args.entry.event = c.deref_mut.ensures.value ∙ c.open.ensures.places in
+    let updated : c.deref_mut.result.now ≡ with_number c.args.imports.now.items c.args.entry.event = c.deref_mut.ensures.value ∙ c.open.ensures.places in
     let same : length summed ≡ length opened.items = c.add_charges.ensures.len ∙ ap length c.deref_mut.ensures.value in
     let made : AreImports d (extended h c.args.entry.event c.args.entry.reply) summed =
     imports_accepted d h legal c.args.entry.event c.args.entry.reply is (sym c.is_refused.ensures ∙ c.if-is_refused.false) c.args.imports.now.items summed c.args.charges.now due are
-    (c.add_charges.ensures.len ∙ ap length lent) (rw (← lent) c.add_charges.ensures.sums) in
+    (c.add_charges.ensures.len ∙ ap length updated) (rw (← updated) c.add_charges.ensures.sums) in
     subst (AreImports d (extended h c.args.entry.event c.args.entry.reply)) (sym (whole_slice opened.len summed opened.items same opened.ok.0)) made
 
 pub returns-clause-capacity_left : goal.returns-clause-capacity_left

@@ -11,19 +11,19 @@ use Rattle.esr_script.proofs.Held.{all_sent, all_grown, is_not_read, unread, hel
 use Rattle.esr_script.proofs.lines.answer_lines.Goals as goal
 use Rattle.esr_script.proofs.lines.answer_lines.Goals.{then-len-ge-OUTPUT_FULL+in_ok-take, else-len-ge-OUTPUT_FULL}
 
-pub returns-in_err-came-clause-text : goal.returns-in_err-came-clause-text
-returns-in_err-came-clause-text g c = rw (handed_on _ _ c.from_residual.ensures.1) λ input known.
+pub returns-in_err-received-clause-text : goal.returns-in_err-received-clause-text
+returns-in_err-received-clause-text g c = rw (handed_on _ _ c.from_residual.ensures.1) λ input known.
     let inv = c.lines.invariant.text input known in
     let more = rw c.bytes.ensures at c.in-More.ensures in
-    elim c.in_err-came.ensures.faults [
+    elim c.in_err-received.ensures.faults [
       | inl e ↦
-          let none = c.in_err-came.ensures.read (ap (λ f. Err f) e) in
-          let sent = c.in_err-came.ensures.sent (rw e refl) in
+          let none = c.in_err-received.ensures.read (ap (λ f. Err f) e) in
+          let sent = c.in_err-received.ensures.sent (rw e refl) in
           let here = all_sent _ (unread input _ _ _ _ _ _ _ inv.2 none.0 none.1) in
           let plain : line_len c.read_on.new.pending ≡ length c.read_on.new.pending = rw none.0 more.0 in
           (inv.0 ++ c.lines.out.items, Appends-trans _ _ _ _ _ inv.1 sent.1, rw (e, sent.0) (held_read input _ _ _ _ (inv.0 ++ c.lines.out.items) [] here plain))
       | inr e ↦
-          let part = c.in_err-came.ensures.write (ap (λ f. Err f) e) in
+          let part = c.in_err-received.ensures.write (ap (λ f. Err f) e) in
           let other = g.R.Read.remaining (inner c.read_on.new.reader) in (
             inv.0 ++ part.0,
             Appends-trans _ _ _ _ _ inv.1 part.2,
@@ -31,48 +31,48 @@ returns-in_err-came-clause-text g c = rw (handed_on _ _ c.from_residual.ensures.
           )
     ]
 
-pub returns-then-came-eq0-clause-text : goal.returns-then-came-eq0-clause-text
-returns-then-came-eq0-clause-text g c input known =
+pub returns-then-received-eq0-clause-text : goal.returns-then-received-eq0-clause-text
+returns-then-received-eq0-clause-text g c input known =
     let inv = c.lines.invariant.text input known in
     let more = rw c.bytes.ensures at c.in-More.ensures in
-    let came = c.in_ok-came.ensures.ok in
-    let sent = c.in_ok-came.ensures.sent refl in
-    let here = all_sent _ (advance input _ _ _ _ _ _ _ came.0 inv.2 came.2 came.3) in
-    let same : c.read_on.new.pending ≡ c.lines.pending = same_bytes _ _ came.0 _ came.1 c.if-came-eq0.true came.2 in
+    let received = c.in_ok-received.ensures.ok in
+    let sent = c.in_ok-received.ensures.sent refl in
+    let here = all_sent _ (advance input _ _ _ _ _ _ _ received.0 inv.2 received.2 received.3) in
+    let same : c.read_on.new.pending ≡ c.lines.pending = same_bytes _ _ received.0 _ received.1 c.if-received-eq0.true received.2 in
     let plain : line_len c.read_on.new.pending ≡ length c.read_on.new.pending = rw same more.0 in
-    let held = c.answer_last.ensures.held input (inv.0 ++ c.lines.out.items) _ (rw sent.0 here) (came.4 c.if-came-eq0.true) plain in (
+    let held = c.answer_last.ensures.held input (inv.0 ++ c.lines.out.items) _ (rw sent.0 here) (received.4 c.if-received-eq0.true) plain in (
       (inv.0 ++ c.lines.out.items) ++ held.0,
       Appends-trans _ _ _ _ _ (Appends-trans _ _ _ _ _ inv.1 sent.1) held.1,
       held.2,
     )
 
-pub returns-in_err-came-clause-replay : goal.returns-in_err-came-clause-replay
-returns-in_err-came-clause-replay g c = rw (handed_on _ _ c.from_residual.ensures.1) λ kept input known. elim c.in_err-came.ensures.faults [
+pub returns-in_err-received-clause-replay : goal.returns-in_err-received-clause-replay
+returns-in_err-received-clause-replay g c = rw (handed_on _ _ c.from_residual.ensures.1) λ kept input known. elim c.in_err-received.ensures.faults [
   | inl e ↦ rw e tt
   | inr e ↦ let lost = rw e at kept in absurd (cc)
 ]
 
-pub returns-then-came-eq0-clause-replay : goal.returns-then-came-eq0-clause-replay
-returns-then-came-eq0-clause-replay g c kept input known =
+pub returns-then-received-eq0-clause-replay : goal.returns-then-received-eq0-clause-replay
+returns-then-received-eq0-clause-replay g c kept input known =
     let inv = c.lines.invariant.text input known in
     let more = rw c.bytes.ensures at c.in-More.ensures in
-    let came = c.in_ok-came.ensures.ok in
-    let here = advance input _ _ _ _ _ _ _ came.0 inv.2 came.2 came.3 in
-    let same : c.read_on.new.pending ≡ c.lines.pending = same_bytes _ _ came.0 _ came.1 c.if-came-eq0.true came.2 in
+    let received = c.in_ok-received.ensures.ok in
+    let here = advance input _ _ _ _ _ _ _ received.0 inv.2 received.2 received.3 in
+    let same : c.read_on.new.pending ≡ c.lines.pending = same_bytes _ _ received.0 _ received.1 c.if-received-eq0.true received.2 in
     let plain : line_len c.read_on.new.pending ≡ length c.read_on.new.pending = rw same more.0 in
-    c.answer_last.ensures.replay input _ _ here (came.4 c.if-came-eq0.true) plain
+    c.answer_last.ensures.replay input _ _ here (received.4 c.if-received-eq0.true) plain
 
 pub lines-preserved-in-More : goal.lines-preserved-in-More
 lines-preserved-in-More g c =
     record {
       bound = c.lines.invariant.bound;
-      reader = c.in_ok-came.ensures.reader;
-      sink = c.in_ok-came.ensures.sink;
+      reader = c.in_ok-received.ensures.reader;
+      sink = c.in_ok-received.ensures.sink;
       text = λ input known.
           let inv = c.lines.invariant.text input known in
-          let came = c.in_ok-came.ensures.ok in
-          let sent = c.in_ok-came.ensures.sent refl in
-          let here = all_sent _ (advance input _ _ _ _ _ _ _ came.0 inv.2 came.2 came.3) in
+          let received = c.in_ok-received.ensures.ok in
+          let sent = c.in_ok-received.ensures.sent refl in
+          let here = all_sent _ (advance input _ _ _ _ _ _ _ received.0 inv.2 received.2 received.3) in
           (inv.0 ++ c.lines.out.items, Appends-trans _ _ _ _ _ inv.1 sent.1, rw sent.0 here);
     }
 

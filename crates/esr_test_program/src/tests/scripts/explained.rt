@@ -152,7 +152,7 @@ fn strict_and_weighted_queries_are_explained(rt: HostRuntime) {
 
 /// A definition could set current values beside the reads, or tell one that is made twice once, and would be proved.
 #[test]
-fn reads_are_told_beside_the_nearest_placement(rt: HostRuntime) {
+fn reads_are_described_next_to_the_nearest_placement(rt: HostRuntime) {
     check_explanation(&rt, rt.alloc(), TORN, "q", Ok(()), TORN_EXPLAINED);
     check_explanation(&rt, rt.alloc(), BETWEEN, "q", Ok(()), BETWEEN_EXPLAINED);
 }

@@ -317,9 +317,9 @@ taken words (asked.certify query false) file bail (plain, (named, call)) =
 taken words (asked.certify query true) file bail (plain, (named, call)) =
     called words _ _ call (certify_steps query bail file (plain_operand query plain) named)
 taken words (asked.check None None false) file bail (named, none, call) = rw none (called words _ _ call (check file named))
-taken words (asked.check None None true) file bail spells = absurd spells
-taken words (asked.check None (Some query) verbose) file bail spells = absurd spells
-taken words (asked.check (Some script) query verbose) file bail spells = absurd spells
+taken words (asked.check None None true) file bail syntax = absurd syntax
+taken words (asked.check None (Some query) verbose) file bail syntax = absurd syntax
+taken words (asked.check (Some script) query verbose) file bail syntax = absurd syntax
 taken words (asked.explain query false) file bail (plain, (named, call)) =
     called words _ _ call (explain query bail file (plain_operand query plain) named)
 taken words (asked.explain query true) file bail (plain, (named, call)) =
@@ -336,11 +336,11 @@ taken words (asked.drive n script) file bail (own, workers, (named, none, call))
     rw none (called words _ _ call (with_count (codes "--workers") 4 n own (λ own n. AreTaken (codes "drive" ∷ (own ++ flag_words script (codes "--as-script") ++ file_words file)) (plainly (asked.drive n script) file false)) workers (drive script file named)
     (λ text passes. drive_counted script text file (plain_operand text (plain_number text passes)) passes named)))
 taken words (asked.explore None all None) file bail (named, none, call) = rw none (called words _ _ call (explore all file named))
-taken words (asked.explore (Some seeds) all worst) file bail spells = absurd spells
-taken words (asked.explore None all (Some worst)) file bail spells = absurd spells
+taken words (asked.explore (Some seeds) all worst) file bail syntax = absurd syntax
+taken words (asked.explore None all (Some worst)) file bail syntax = absurd syntax
 taken words asked.ledger file bail (named, call) = called words _ _ call (ledger bail file named)
 taken words (asked.why None) file bail (named, call) = called words _ _ call (why bail file named)
-taken words (asked.why (Some name)) file bail spells = absurd spells
+taken words (asked.why (Some name)) file bail syntax = absurd syntax
 taken words asked.lint file bail (named, none, call) = rw none (called words _ _ call (lint file named))
 
 taken_as : (words : List Text) (wanted : Request) → IsSyntaxOf words wanted → IsTaken words wanted
@@ -355,10 +355,10 @@ taken_as words wanted (progress, format, is) =
     subst (IsTaken words) same (taken words wanted.work wanted.file wanted.bail (subst (λ r. IsSyntaxOfTask wanted.work r words) (sym same) is))
 
 -- words that spell a job fail only if allocation fails
-pub spelled : (r : Result Job Error) (words : List Text) (wanted : Request) → IsSyntaxOf words wanted → FailsBy (fault_of program words) r
+pub parsed : (r : Result Job Error) (words : List Text) (wanted : Request) → IsSyntaxOf words wanted → FailsBy (fault_of program words) r
     → IfOk r (λ job. request_in (subcommand_of program words) ≡ Some (request_of job)) → MatchResult r (λ job. request_of job ≡ wanted) (λ e. kind_of e ≡ kind.OutOfMemory)
-spelled (Ok job) words wanted spells fails is = let same : Some (request_of job) ≡ Some wanted = sym is ∙ (taken_as words wanted spells).1 in cc
-spelled (Err e) words wanted spells fails is = ⊎_elim (λ memory. memory) (λ among. absurd (subst (IsAmong (kind_of e)) (taken_as words wanted spells).0 among)) fails
+parsed (Ok job) words wanted syntax fails is = let same : Some (request_of job) ≡ Some wanted = sym is ∙ (taken_as words wanted syntax).1 in cc
+parsed (Err e) words wanted syntax fails is = ⊎_elim (λ memory. memory) (λ among. absurd (subst (IsAmong (kind_of e)) (taken_as words wanted syntax).0 among)) fails
 
 pub no_ok : {T : Type 0} (r : Result T Error) (P : Error → Type 0) (Q : T → Type 0) → IsErrAnd r P → IfOk r Q
 no_ok (Ok x) P Q fails = absurd fails
