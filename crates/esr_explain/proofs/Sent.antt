@@ -17,7 +17,7 @@ joined r c b a s after_r after_c after_b after_a after_s is_r is_c is_b is_a is_
 
 -- the query that was found is the one that was asked for
 query_is : (s : ScriptState) (name : List ℕ) (a : AuditedQuery) → IsAnswered s name a → a.finding.query.0 ≡ (transaction_called s name).0
-query_is s name a h = ap (λ (t : ℕ × ℕ × ℕ × List ℕ). t.0) h.finding.described
+query_is s name a h = ap (λ (t : ℕ × ℕ × ℕ × List ℕ). t.0) h.finding.reported
 
 pub audited_summary : (s : ScriptState) (name : List ℕ) (a : AuditedQuery) → IsAnswered s name a → summary a.finding ≡ summary_of weighted a.history.schedule a.finding.query.0
 audited_summary s name a h = grind (arith, query_is s name a h)
