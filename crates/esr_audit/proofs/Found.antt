@@ -1,5 +1,5 @@
 -- A solved problem of a query gives the audit's answer.
-use Rattle.std.proofs.Common.{◌≡◌, ℕ, zero, suc, [], ◌∷◌, map, Option, Some, None, ◌<◌, true, not, eqb, ◌&&◌, List, length, refl, sym, ap, ◌∙◌, arith, All, IsTrue, option_map}
+use Rattle.std.proofs.Common.{◌≡◌, ℕ, zero, suc, [], ◌∷◌, map, Option, Some, None, ◌<◌, ◌≤◌, true, not, eqb, ◌&&◌, List, length, refl, sym, ap, ◌∙◌, arith, All, IsTrue, option_map}
 use Rattle.esr_base.specs.declared.numbers.TxnId.{TxnId}
 use Rattle.std.specs.List.{cons_option, filter_map, slice_get, AllByRecursion}
 use Rattle.std.proofs.lemmas.Bool.{and_parts}
@@ -10,18 +10,18 @@ use Rattle.esr_history.specs.Operations.{Operation, operations}
 use Rattle.esr_history.specs.Queries.{is_committed_query, updates_of, reads_by, cost, ImportBoundsDistance}
 use Rattle.esr_history.proofs.Membership.{Each-filter}
 use Rattle.esr_history.proofs.WithinRanges.{legal_within_ranges}
-use Rattle.esr_order.specs.Placements.{is_among, IsClosed, IsSmallestLeastSet}
+use Rattle.esr_order.specs.Placements.{is_among, IsClosed, IsLeastSet, IsSmallestLeastSet, IsLeastDistance}
 use Rattle.esr_order.specs.Statements.{ClosedSetsAreParts}
 use Rattle.esr_order.proofs.Ordered.{law_of_placements}
-use Rattle.esr_cert.specs.Problem.{Problem, size, is_sound, in_set, is_distinct, IsSmallestLeast}
+use Rattle.esr_cert.specs.Problem.{Problem, size, is_sound, in_set, is_distinct, IsSmallestLeast, cost as problem_cost}
 use Rattle.esr_cert.specs.Certificate.{Certificate, Certifies}
 use Rattle.esr_cert.proofs.Sound.{IsProblem, facts, shape_facts}
-use Rattle.esr_cert.proofs.Certified.{IsFaultless, faultless, cost_is}
-use Rattle.esr_flow.proofs.SolveLaws.{smallest_same, same_cost}
+use Rattle.esr_cert.proofs.Certified.{IsFaultless, faultless, cost_is, worth_least}
+use Rattle.esr_flow.proofs.SolveLaws.{closed_same, smallest_same, same_cost}
 use Rattle.esr_audit.specs.Problems.{passes_at, IsProblemOf}
 use Rattle.esr_audit.specs.Findings.{IsAnswer}
 use Rattle.esr_audit.proofs.Costs.{cost_is_distance}
-use Rattle.esr_audit.proofs.Smallest.{known_at, smallest_is_least}
+use Rattle.esr_audit.proofs.Smallest.{known_at, closed_is_least, smallest_is_least}
 use Rattle.esr_audit.proofs.Positions.{passes_as_set, before_members}
 
 -- the items that a query read are among those of the history
@@ -46,6 +46,7 @@ module _ (d : Distance) (h : Schedule) (q : ℕ) (opened : All IsValue h.opening
       let all_closed : IsClosed h q (λ u. true) = record { downward = λ u v cu cv b t. refl; holds_must = λ u m. refl } in
       let parts : ClosedSetsAreParts d h q = law_of_placements d h q legal in
       record {
+        committed = committed;
         least = (parts.least c.worth).1 (is_among before, smallest.least, sym costs);
         in_order = before_members p.updates dist c.set f.ascending f.known (updates_of h q) of_query.updates;
         smallest = smallest;
@@ -53,6 +54,26 @@ module _ (d : Distance) (h : Schedule) (q : ℕ) (opened : All IsValue h.opening
         import_is = refl;
         bounded = omega (arith, costs, smallest.least.none_less (λ u. true) all_closed, bound q committed);
       }
+
+-- Any certificate of the query's problem shows the query's least distance, whichever of the sets of least cost it has.
+module _ (d : Distance) (h : Schedule) (q : ℕ) (opened : All IsValue h.opening) (legal : IsLegal d h) where
+  pub certified_is_least : (p : Problem) (c : Certificate) → IsProblemOf d h q p → is_sound p ≡ true → Certifies p c
+      → IsLeastDistance d h q c.worth
+  certified_is_least p c of_query sound certified =
+      let ok : IsProblem p = facts p sound in
+      let f : IsFaultless p c = faultless p c certified in
+      let dist : is_distinct p.updates ≡ true = (shape_facts p (and_parts _ _ sound).0).distinct in
+      let before : List ℕ = filter_map (slice_get p.updates) c.set in
+      let inside : AllByRecursion (λ (o : Operation). o.item < length h.opening) (reads_by h q) = reads_inside d h q opened legal in
+      let same : (u : ℕ) → u < size p → in_set c.set u ≡ passes_at p.updates (is_among before) u = λ u l. sym (passes_as_set p.updates dist c.set f.ascending f.known u l) in
+      let costs : problem_cost p (in_set c.set) ≡ problem_cost p (passes_at p.updates (is_among before)) =
+      same_cost p ok (in_set c.set) (passes_at p.updates (is_among before)) same in
+      let least : IsLeastSet d h q (is_among before) =
+      closed_is_least d h q p of_query ok inside (is_among before) (known_at p.updates c.set)
+      (closed_same p ok (in_set c.set) (passes_at p.updates (is_among before)) same f.closed)
+      (λ has closed. let l : c.worth ≤ problem_cost p has = worth_least p c sound certified has closed in omega (arith, l, costs, cost_is p c f)) in
+      let parts : ClosedSetsAreParts d h q = law_of_placements d h q legal in
+      (parts.least c.worth).1 (is_among before, least, sym (cost_is p c f ∙ costs ∙ cost_is_distance d h q p of_query inside (is_among before)))
 
 -- what is found, with its list of updates
 pub found_of : (p : Problem) (us vs : List TxnId) → map (λ (t : TxnId). t.0) us ≡ p.updates → (set : List ℕ) → vs ≡ filter_map (slice_get us) set → map (λ (t : TxnId). t.0) vs ≡ filter_map (slice_get p.updates) set

@@ -67,24 +67,29 @@ module _ (d : Distance) (h : Schedule) (q : ℕ) (p : Problem) (of_query : IsPro
       at false true k = refl
       at false false k = refl
 
+  -- a closed set of the problem that no other is cheaper than is a least set of the query
+  pub closed_is_least : (S : ℕ → Bool) → ((u : ℕ) → S u ≡ true → is_among p.updates u ≡ true) → is_closed p (passes_at p.updates S) ≡ true
+      → ((has : ℕ → Bool) → is_closed p has ≡ true → problems.cost p (passes_at p.updates S) ≤ problems.cost p has) → IsLeastSet d h q S
+  closed_is_least S known closed least = record {
+    closed = subst (IsClosed h q) (within_updates S known) ((of_query.closed S).0 closed);
+    none_less = λ T c.
+        let l = least (passes_at p.updates T) ((of_query.closed T).1 (part_closed T c)) in
+        omega (arith, l, cost_is_distance d h q p of_query inside S, cost_is_distance d h q p of_query inside T);
+  }
+
   pub smallest_is_least : (S : ℕ → Bool) → ((u : ℕ) → S u ≡ true → is_among p.updates u ≡ true) → IsSmallestLeast p (passes_at p.updates S) → IsSmallestLeastSet d h q S
   smallest_is_least S known s = record {
-    least = record { closed = closed; none_less = λ T c. none_less T c };
+    least = least;
     smallest = λ T t. All-from_recursion (λ u. IsTrue (S u) → IsTrue (T u)) (updates_of h q) (each_in (λ u. IsTrue (S u) → IsTrue (T u)) (updates_of h q) (λ u i su. contained T t u su));
   }
     where
-      closed : IsClosed h q S
-      closed = subst (IsClosed h q) (within_updates S known) ((of_query.closed S).0 s.closed)
-
-      none_less : (T : ℕ → Bool) → IsClosed h q T → cost d h q S ≤ cost d h q T
-      none_less T c =
-          let l = s.least (passes_at p.updates T) ((of_query.closed T).1 (part_closed T c)) in
-          omega (arith, l, cost_is_distance d h q p of_query inside S, cost_is_distance d h q p of_query inside T)
+      least : IsLeastSet d h q S
+      least = closed_is_least S known s.closed s.least
 
       contained : (T : ℕ → Bool) → IsLeastSet d h q T → (u : ℕ) → S u ≡ true → T u ≡ true
       contained T t u su =
           let at : (i : ℕ) × (i < length p.updates) × (slice_get p.updates i ≡ Some u) = place_of p.updates u (known u su) in
-          let cheap : cost d h q T ≤ cost d h q S = t.none_less S closed in
+          let cheap : cost d h q T ≤ cost d h q S = t.none_less S least.closed in
           let dear : problems.cost p (passes_at p.updates T) ≤ problems.cost p (passes_at p.updates S) = omega (arith, cheap, cost_is_distance d h q p of_query inside S, cost_is_distance d h q p of_query inside T) in
           sym (passes_here p.updates T at.0 u at.2) ∙ s.smallest (passes_at p.updates T) ((of_query.closed T).1 (part_closed T t.closed)) dear at.0 at.1 (passes_here p.updates S at.0 u at.2 ∙ su)
 

@@ -59,6 +59,7 @@ module _ (d : Distance) (h longer : Schedule) (q : ℕ) (alike : IsAlike d h lon
       let costs : distance ≡ cost d longer q (is_among before) = a.distance_is ∙ sym (alike.costs (is_among before)) in
       let parts : ClosedSetsAreParts d longer q = law_of_placements d longer q legal in
       record {
+        committed = alike.committed ∙ a.committed;
         least = (parts.least distance).1 (is_among before, smallest.least, sym costs);
         in_order = a.in_order ∙ ap (filter (is_among before)) (sym alike.updates);
         smallest = smallest;

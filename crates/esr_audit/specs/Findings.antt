@@ -1,9 +1,9 @@
 -- What an audit finds of a committed query.
-use Rattle.std.specs.Prelude.{◌≡◌, ◌≤◌, ℕ, List, All, filter, map, Some, None, filter_map, slice_get}
+use Rattle.std.specs.Prelude.{◌≡◌, ◌≤◌, ℕ, true, List, All, filter, map, Some, None, filter_map, slice_get}
 use Rattle.esr_history.specs.Events.{is_query}
 use Rattle.esr_history.specs.Machine.{Distance, Schedule, accepted_in, charges_in, import_in}
 use Rattle.esr_history.specs.Operations.{commit_order}
-use Rattle.esr_history.specs.Queries.{members, cost}
+use Rattle.esr_history.specs.Queries.{is_committed_query, members, cost}
 use Rattle.esr_history.specs.Serial.{committed_updates}
 use Rattle.esr_order.specs.Placements.{is_among, IsLeastDistance, IsSmallestLeastSet}
 use Rattle.esr_order.specs.Near.{AreNear}
@@ -29,9 +29,11 @@ abbrev pub refusal_of : OrderError → AuditError
 refusal_of NotACommittedQuery = refusals.NotACommittedQuery
 refusal_of NoMemory = refusals.NoMemory
 
--- The distance is the least over all placements of q; `before` is, in commit order, the smallest set of updates that
--- stands before the position in a placement of that distance; and the distance is at most the import charged to q.
+-- q is a query that has committed. The distance is the least over all placements of q; `before` is, in commit order, the
+-- smallest set of updates before the position in a placement of that distance; and the distance is at most the import
+-- charged to q.
 pub record IsAnswer (d : Distance) (h : Schedule) (q distance import : ℕ) (before : List ℕ) : Type 0 where
+  pub committed : is_committed_query h q ≡ true
   pub least : IsLeastDistance d h q distance
   pub in_order : before ≡ members h q (is_among before)
   pub smallest : IsSmallestLeastSet d h q (is_among before)

@@ -7,6 +7,7 @@ use Rattle.esr_cert.specs.declared.certificate.Fault.{Fault}
 use Rattle.esr_cert.specs.Faults.{fault_number, bundle_fault_number}
 use Rattle.esr_cert.specs.declared.problem.BundleFault.{BundleFault}
 use Rattle.esr_audit.specs.Problems as problems
+use Rattle.esr_order.specs.Placements.{IsLeastDistance}
 use Rattle.esr_bundle.specs.Reading.{Means}
 use Rattle.esr_views.specs.State.{ScriptState, transaction_called}
 use Rattle.esr_commands.specs.declared.claim.BundleClaim.{BundleClaim}
@@ -30,6 +31,7 @@ abbrev pub ShowsDistance : ScriptState → List ℕ → List ℕ → ℕ → Typ
 ShowsDistance s name bytes worth =
     (b : Problem × Certificate) × Means bytes (Ok b) × Certifies b.0 b.1 × (worth ≡ b.1.worth)
     × problems.IsProblemOf weighted s.history (transaction_called s name).0 b.0
+    × IsLeastDistance weighted s.history (transaction_called s name).0 worth
 
 -- the line of a claim about the query of that name
 abbrev pub claim_line : List ℕ → BundleClaim → List ℕ

@@ -61,17 +61,21 @@ cost_same p ok f g e (c ∷ chains) h =
 pub same_cost : (p : Problem) → IsProblem p → (f g : ℕ → Bool) → ((u : ℕ) → u < size p → f u ≡ g u) → cost p f ≡ cost p g
 same_cost p ok f g e = cost_same p ok f g e p.chains ok.chains
 
+pub closed_same : (p : Problem) → IsProblem p → (f g : ℕ → Bool) → ((u : ℕ) → u < size p → f u ≡ g u) → is_closed p f ≡ true → is_closed p g ≡ true
+closed_same p ok f g e closed =
+    let was : IsClosed p f = closed_facts p f closed in
+    closed_from p g (record {
+      before = λ u v c h.
+          let ends : (u < size p) × (v < size p) = ok.pairs u v c in
+          sym (e u ends.0) ∙ was.before u v c (e v ends.1 ∙ h);
+      must = λ u c. sym (e u (ok.musts u c)) ∙ was.must u c;
+    })
+
 pub smallest_same : (p : Problem) → IsProblem p → (f g : ℕ → Bool) → ((u : ℕ) → u < size p → f u ≡ g u) → IsSmallestLeast p f → IsSmallestLeast p g
 smallest_same p ok f g e s =
     let same : cost p f ≡ cost p g = same_cost p ok f g e in
-    let was : IsClosed p f = closed_facts p f s.closed in
     record {
-      closed = closed_from p g (record {
-        before = λ u v c h.
-            let ends : (u < size p) × (v < size p) = ok.pairs u v c in
-            sym (e u ends.0) ∙ was.before u v c (e v ends.1 ∙ h);
-        must = λ u c. sym (e u (ok.musts u c)) ∙ was.must u c;
-      });
+      closed = closed_same p ok f g e s.closed;
       least = λ other c. omega (arith, s.least other c, same);
       smallest = λ other c l u m h. s.smallest other c (omega (arith, same)) u m (e u m ∙ h);
     }
