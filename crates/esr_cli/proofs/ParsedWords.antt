@@ -55,8 +55,8 @@ file_operand : (file : Text) → IsFile (Some file) → IsOperand file
 file_operand file (inl is) = subst IsOperand (sym is) (record { no_dashes = refl; no_long = refl; no_short = refl })
 file_operand file (inr plain) = plain_operand file plain
 
--- where the words behind the name of a subcommand lead to this walk, have no fault and ask for this, so do the words with
--- the name
+-- if the arguments after the name of a subcommand walk to this state, without a fault, and request this, so do the
+-- arguments with the name
 remainder : (word : Text) (s : Shape) → IsNameOf word s → (rest : List Text) (to : Walk) (wanted : Request) → WalksTo s (walk_from nothing_held) rest to
     → fault_at s to ≡ [] → request_in (Some (s.name, finished s.rules to.held)) ≡ Some wanted → AreTaken (word ∷ rest) wanted
 remainder word s is rest to wanted leads none asks name = (
@@ -70,7 +70,7 @@ counted : (ask : ℕ → RequestedTask) (text : Text) (file : Option Text) (bail
     ≡ Some (plainly (ask (digits_value 10 (without_leading_plus text))) file bail)
 counted ask text file bail passes = rw (number text passes).0 refl
 
--- the walk behind an option with its number, and behind `--bail` after it
+-- the walk after an option with its number, and after a `--bail` that follows it
 abbrev with_number : (option text : Text) → Walk
 with_number option text = record {
   held = record { rows = []; pending = Some (option, text ∷ []); skip = 0 };
@@ -89,7 +89,7 @@ with_bail s option text = record {
   stopped = None;
 }
 
--- the same behind a number of workers and `--as-script`
+-- the walk after a number of workers and `--as-script`
 abbrev with_script : Text → Walk
 with_script text = record {
   held = record { rows = (walked drive_shape.rules [] (with_number (codes "workers") text) (codes "--as-script")).held.rows; pending = None; skip = 0 };
@@ -303,7 +303,7 @@ plain_number (x ∷ xs) passes = go (x == 45) refl
     go true is = let same : x ≡ 45 = grind (arith, nat_tests) in absurd (no_minus xs (subst (λ y. is_unsigned_in 1 64 (y ∷ xs) ≡ true) same passes))
     go false is = refl
 
--- the words with these own ones, for so many
+-- the arguments that follow the subcommand, with this count
 with_count : (option : Text) (usual n : ℕ) (own : List Text) (Taken : List Text → ℕ → Type 0) → IsCount option usual n own → Taken [] usual
     → ((text : Text) → is_unsigned_in 1 64 text ≡ true → Taken (option ∷ text ∷ []) (digits_value 10 (without_leading_plus text))) → Taken own n
 with_count option usual n own Taken (inl (is, none)) plain counted = rw (is, none) plain

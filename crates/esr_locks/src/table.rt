@@ -201,7 +201,7 @@ impl LockTable {
     ///
     /// # Errors
     ///
-    /// `NoMemory` if there is no spare capacity and the allocation fails; the locks are unchanged.
+    /// `NoMemory` if spare capacity is missing and the allocation fails; the locks are unchanged.
     #[inline(always)]
     pub fn reserve(&mut self, t: TxnId, x: ItemId) -> Result<(), NoMemory>
         requires { x.0 < length self.old.locks }
