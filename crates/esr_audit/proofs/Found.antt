@@ -13,7 +13,8 @@ use Rattle.esr_history.proofs.WithinRanges.{legal_within_ranges}
 use Rattle.esr_order.specs.Placements.{is_among, IsClosed, IsLeastSet, IsSmallestLeastSet, IsLeastDistance}
 use Rattle.esr_order.specs.Statements.{ClosedSetsAreParts}
 use Rattle.esr_order.proofs.Ordered.{law_of_placements}
-use Rattle.esr_cert.specs.Problem.{Problem, size, is_sound, in_set, is_distinct, IsSmallestLeast, cost as problem_cost}
+use Rattle.esr_cert.specs.Problem.{Problem, size, is_sound, in_set, is_distinct, IsSmallestLeast}
+use Rattle.esr_cert.specs.Problem as problems
 use Rattle.esr_cert.specs.Certificate.{Certificate, Certifies}
 use Rattle.esr_cert.proofs.Sound.{IsProblem, facts, shape_facts}
 use Rattle.esr_cert.proofs.Certified.{IsFaultless, faultless, cost_is, worth_least}
@@ -66,12 +67,12 @@ module _ (d : Distance) (h : Schedule) (q : ℕ) (opened : All IsValue h.opening
       let before : List ℕ = filter_map (slice_get p.updates) c.set in
       let inside : AllByRecursion (λ (o : Operation). o.item < length h.opening) (reads_by h q) = reads_inside d h q opened legal in
       let same : (u : ℕ) → u < size p → in_set c.set u ≡ passes_at p.updates (is_among before) u = λ u l. sym (passes_as_set p.updates dist c.set f.ascending f.known u l) in
-      let costs : problem_cost p (in_set c.set) ≡ problem_cost p (passes_at p.updates (is_among before)) =
+      let costs : problems.cost p (in_set c.set) ≡ problems.cost p (passes_at p.updates (is_among before)) =
       same_cost p ok (in_set c.set) (passes_at p.updates (is_among before)) same in
       let least : IsLeastSet d h q (is_among before) =
       closed_is_least d h q p of_query ok inside (is_among before) (known_at p.updates c.set)
       (closed_same p ok (in_set c.set) (passes_at p.updates (is_among before)) same f.closed)
-      (λ has closed. let l : c.worth ≤ problem_cost p has = worth_least p c sound certified has closed in omega (arith, l, costs, cost_is p c f)) in
+      (λ has closed. let l : c.worth ≤ problems.cost p has = worth_least p c sound certified has closed in omega (arith, l, costs, cost_is p c f)) in
       let parts : ClosedSetsAreParts d h q = law_of_placements d h q legal in
       (parts.least c.worth).1 (is_among before, least, sym (cost_is p c f ∙ costs ∙ cost_is_distance d h q p of_query inside (is_among before)))
 

@@ -56,7 +56,8 @@ impl Declarations {
         ensures err { OnErr result (length self.new.values ≤ length self.old.values + 1) }
     {
         self.values.push(value)?;
-        self.weights.push(weight)
+        self.weights.push(weight)?;
+        Ok(())
     }
 
     /// Returns a store in which each item has its opening value.

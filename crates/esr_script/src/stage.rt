@@ -20,6 +20,7 @@ use esr_audit::{AuditError, Finding, Summaries};
 use esr_board::{Gate, summarize_parallel};
 use esr_core::{Machine, StepError, Totals};
 use esr_history::{Event, History, Reply, TxnId};
+use esr_items::Weighted;
 use esr_lint::{TxnEnd, TxnSummary};
 use std::alloc::Global;
 use std::thread::Threads;
