@@ -1,5 +1,5 @@
-/* engine TRANSACTIONS [THREADS]: the load over an engine. With THREADS, that many share it under one lock, which is taken
- * for each call, on items apart. Near its end a history is renewed. malloc is told to keep what is freed, as the other
+/* engine TRANSACTIONS [THREADS]: the load over an engine. With THREADS, that many threads share it under one lock, which
+ * they take for each call, on separate items. A history is renewed shortly before it is full. malloc keeps freed memory, as the other
  * programs keep their caches. */
 #include "esr.h"
 #include "load.h"

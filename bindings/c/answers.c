@@ -1,4 +1,4 @@
-/* The bank of the README, call by call: what each call answers, tells and leaves alone. */
+/* The bank of the README, call by call: the result and the outputs of each call, and what it leaves unchanged. */
 #include "esr.h"
 #include <stdio.h>
 #include <string.h>
@@ -30,7 +30,7 @@ static void answered(esr_status status, const esr_reply *reply, uint32_t kind) {
     WANT(reply->kind, kind);
 }
 
-/* A report reads between the two writes of a transfer, each 100 away from what it read. */
+/* A report reads between the two writes of a transfer, each of which changes a value that it read by 100. */
 static void day(esr_engine *engine) {
     static const int64_t opening[2] = {500, 1500};
     esr_reply reply;
@@ -47,7 +47,7 @@ static void day(esr_engine *engine) {
     answered(esr_commit(engine, 2, &reply), &reply, ESR_COMMITTED);
 }
 
-/* The report is 100 from the state before the transfer, and was charged 200. What is refused leaves the finding alone. */
+/* The report is 100 from the state before the transfer, and was charged 200. A refusal leaves the finding unchanged. */
 static void audit(esr_engine *engine) {
     uint32_t before[2] = {7, 7};
     esr_finding finding = {0, 0, 9};
@@ -65,8 +65,8 @@ static void audit(esr_engine *engine) {
     WANT(totals.entries, 8);
 }
 
-/* The bundle is told its length where the room is too small, and written where it is just large enough. Cut short it is bad,
- * and with another worth invalid. */
+/* The call returns the length of the bundle if the buffer is too small, and writes it if the buffer is just large enough. A
+ * truncated bundle is bad, and one with another worth is invalid. */
 static void bundle(esr_engine *engine) {
     static uint8_t bytes[1000];
     size_t length = 0, again = 0;
@@ -93,7 +93,7 @@ static void bundle(esr_engine *engine) {
     WANT(verdict.number, 6);
 }
 
-/* A renewal keeps the committed values, and nothing else: numbers begin at 1 again, and an abort puts back. */
+/* A renewal keeps only the committed values: numbers restart at 1, and an abort restores them. */
 static void renewed(esr_engine *engine) {
     int64_t values[2] = {0, 0};
     size_t count = 0;
@@ -151,7 +151,7 @@ static void weights(void) {
     esr_close(&engine);
 }
 
-/* Of two updates that want to change one item the second is told at its read, not at its write. */
+/* Of two updates that change one item, the second is blocked at its read, not at its write. */
 static void for_update(void) {
     static const int64_t opening[1] = {7};
     esr_engine engine = ESR_CLOSED;
@@ -179,8 +179,8 @@ static void for_update(void) {
     esr_close(&engine);
 }
 
-/* Many events in one call: they end behind the first refusal where that is asked, and at the first that is none. What was
- * not answered has written nothing. */
+/* Many events in one call: it stops after the first refusal if asked to, and at the first event that is not valid. Events after
+ * that write nothing. */
 static void many(void) {
     static const int64_t opening[1] = {7};
     static const esr_event sale[5] = {
@@ -218,7 +218,7 @@ static void many(void) {
     esr_close(&engine);
 }
 
-/* The script has what was accepted or blocked, and no other refusal. */
+/* The script has the accepted and the blocked events, and no other refusal. */
 static void past(void) {
     static const int64_t opening[2] = {500, -1500};
     static const uint32_t weights[1] = {3};
@@ -253,7 +253,7 @@ static void past(void) {
     esr_close(&engine);
 }
 
-/* Whether a text begins so, and has a 0 nowhere. */
+/* Returns whether a text begins with a prefix and contains no 0. */
 static bool begins(const uint8_t *bytes, size_t length, const char *head) {
     return length >= strlen(head) && memcmp(bytes, head, strlen(head)) == 0 && memchr(bytes, 0, length) == NULL;
 }
@@ -304,7 +304,7 @@ static void told(void) {
     esr_close(&engine);
 }
 
-/* The words of each status and refusal are there, and no two are alike but where they say the same. */
+/* Each status and each refusal has a text, and different meanings have different texts. */
 static void texts(void) {
     WANT(strcmp(esr_status_text(ESR_HISTORY_FULL), "history full"), 0);
     WANT(strcmp(esr_status_text(99), "no such status"), 0);

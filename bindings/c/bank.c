@@ -1,5 +1,5 @@
-/* A bank: tellers move money between accounts, each in a thread of its own, while a report adds all accounts up. The
- * report waits for nobody and may be off by what it allows; afterwards its audit tells by how much it was. */
+/* A bank: tellers move money between accounts, each on its own thread, while a report sums all accounts. The report does not wait,
+ * and may be off by at most its limit; afterwards its audit computes the error. */
 #define _POSIX_C_SOURCE 200809L
 #include "esr.h"
 #include <pthread.h>
@@ -12,7 +12,7 @@ enum { ACCOUNTS = 8, OPENING = 1000, TELLERS = 3, TRANSFERS = 300, LIMIT = 100, 
 static esr_engine engine = ESR_CLOSED;
 static pthread_mutex_t lock = PTHREAD_MUTEX_INITIALIZER;
 static uint32_t report;    /* the number of the report, once it has committed */
-static int64_t total;      /* what it added up to */
+static int64_t total;      /* its sum */
 
 static void must(esr_status status, esr_status wanted) {
     if (status != wanted) {
@@ -50,13 +50,13 @@ static void end(uint32_t txn, bool commits) {
     pthread_mutex_unlock(&lock);
 }
 
-/* Lets the others go on, longer each time. */
+/* Pauses, longer each time. */
 static void pause_for(int round) {
     struct timespec time = {0, 20000L << (round < 6 ? round : 6)};
     nanosleep(&time, NULL);
 }
 
-/* Changes an account by an amount. What is blocked is tried again, but not for ever: two tellers may block one another. */
+/* Changes an account by an amount. Retries a blocked event, but not forever: two tellers may block each other. */
 static bool change(uint32_t txn, uint32_t account, int64_t amount) {
     for (int i = 0; i < TRIES; i++) {
         esr_reply reply = read_item(txn, account);
@@ -74,7 +74,7 @@ static void *teller(void *seed) {
         uint32_t from = random / 65536 % ACCOUNTS, to = (from + 1 + random / 1024 % (ACCOUNTS - 1)) % ACCOUNTS;
         uint32_t txn = begin(false).txn;
         bool moved = change(txn, from, -10);
-        pause_for(0); /* as long as the money is nowhere */
+        pause_for(0); /* while the money is in neither account */
         moved = moved && change(txn, to, 10);
         end(txn, moved);
         done += moved;
@@ -82,7 +82,7 @@ static void *teller(void *seed) {
     return NULL;
 }
 
-/* Adds all accounts up; where its limit is reached it starts anew. */
+/* Sums all accounts; restarts if its limit is reached. */
 static void *reporter(void *unused) {
     (void)unused;
     for (int round = 0;; round++) {

@@ -1,5 +1,5 @@
-/* A history is filled while an update is active, in each way that there is; then the update commits, the engine is renewed
- * and goes on. So it is never stuck. */
+/* Fills a history while an update is active, in each possible way; then the update commits, and the engine is renewed and
+ * continues. So it is never stuck. */
 #include "esr.h"
 #include <stdio.h>
 
@@ -22,7 +22,7 @@ static esr_status ended_commit(esr_engine *engine, esr_reply *reply) { return es
 static esr_status held_read(esr_engine *engine, esr_reply *reply) { return esr_read_for_update(engine, 1, 0, reply); }
 static esr_status begun_query(esr_engine *engine, esr_reply *reply) { return esr_begin_query(engine, 0, false, reply); }
 
-/* One event again and again until there is no room for it; `fills` of a way that leaves no entry for another event. */
+/* Repeats one event until no entry is left for it; `fills` if that leaves no entry for any other event. */
 static void fill(esr_status (*event)(esr_engine *, esr_reply *), bool fills) {
     static const int64_t opening[2] = {500, 1500};
     esr_engine engine = ESR_CLOSED;
@@ -66,7 +66,7 @@ static void fill(esr_status (*event)(esr_engine *, esr_reply *), bool fills) {
     esr_close(&engine);
 }
 
-/* Where nobody ends what is active, the renewal does, and puts back what it wrote. */
+/* A renewal aborts the active update and restores the values that it wrote. */
 static void abort_all(void) {
     static const int64_t opening[1] = {5};
     esr_engine engine = ESR_CLOSED;

@@ -1,5 +1,5 @@
-/* Each allocation fails in turn (linked with -Wl,--wrap=malloc,--wrap=realloc): a call that wants memory answers
- * ESR_NO_MEMORY and has changed nothing, and given again it is answered as if nothing had happened. */
+/* Each allocation fails in turn (linked with -Wl,--wrap=malloc,--wrap=realloc): the call returns ESR_NO_MEMORY and changes
+ * nothing, and a retry has the result of a first try. */
 #include "esr.h"
 #include <stdio.h>
 #include <stdlib.h>
@@ -27,7 +27,7 @@ void *__wrap_realloc(void *block, size_t size) { return fails() ? NULL : __real_
         } \
     } while (0)
 
-/* Read for update, and a renewal with an update active, behind which numbers begin at 1 again. */
+/* Read for update, and a renewal with an active update, after which numbers restart at 1. */
 static int aborted_day(void) {
     esr_engine engine = ESR_CLOSED;
     esr_reply reply;
@@ -48,7 +48,7 @@ static int aborted_day(void) {
     return values[0] != 400 || values[1] != 1500 || reply.txn != 1;
 }
 
-/* Events in one call: where memory is refused amid them, those before have been answered, and the rest is given again. */
+/* Events in one call: if an allocation fails, the events before it have their replies, and the test retries the rest. */
 static int listed_day(void) {
     static const esr_event events[5] = {
         {ESR_BEGIN_UPDATE, 0, 0, 200, 0},

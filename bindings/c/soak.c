@@ -1,6 +1,6 @@
-/* soak [SECONDS]: eight threads move money among accounts for so long, by read for update, while reports add all up; the
- * engine renews itself whenever its history is full. Each transfer that was told committed is in the sums, no thread is
- * stuck, and each report is off by at most what it was charged. */
+/* soak [SECONDS]: for this time eight threads move money among accounts, by read for update, while reports sum all of them; the
+ * engine is renewed whenever its history is full. Each committed transfer is in the sums, no thread is stuck, and each report is
+ * off by at most its charges. */
 #include "esr.h"
 #include <pthread.h>
 #include <stdio.h>
@@ -22,7 +22,7 @@ static unsigned long generation, renewals, transfers, reports;
 static int64_t moved[THREADS]; /* what each thread has moved to account 0 */
 static time_t until;
 
-/* One call under the lock, of a transaction of this generation. Whatever ended with its history is told so. */
+/* Makes one call under the lock, for a transaction of this generation. Reports that the transaction ended if its history did. */
 static bool call(unsigned long mine, esr_status status, esr_reply *reply, bool *full) {
     *full = status == ESR_HISTORY_FULL;
     MUST(status == ESR_DONE || *full);
@@ -35,7 +35,7 @@ static void renew(void) {
     renewals++;
 }
 
-/* One transaction; tells whether it committed. */
+/* Runs one transaction, and returns whether it committed. */
 static bool transfer(unsigned number, uint32_t from) {
     esr_reply reply;
     bool full, ok = false;
