@@ -18,12 +18,11 @@ import threading
 from typing import Any, NamedTuple, Sequence
 
 from .connections import DATABASE, HAS_ENDED, Connector, Ended, RecordingConnection
-from .reports import leaves_of, nodes_of
+from .reports import SHARED, leaves_of, nodes_of
 from .tables import Table, known_table
 
 import psycopg2  # isort: skip (`connections` reports how to install it)
 
-SHARED = ("repeatable read", "serializable")
 ALONE = 0  # the life of a statement that is a transaction by itself
 HERE = os.path.dirname(os.path.abspath(__file__))
 

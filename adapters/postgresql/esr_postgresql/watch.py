@@ -39,6 +39,7 @@ from .window import load_line, report_of, window_record, windows_of
 
 RESTART = 120.0  # seconds to wait for a server that restarts
 MAX_REASONS = 10
+REFUSED = "not_audited.txt"  # (in the folder of the result: a line for each report that was not audited)
 
 
 @dataclass
@@ -68,10 +69,12 @@ class Findings:
             lines.append(line("restarts", f"{self.restarts}: the log has a gap there, and no report spans one"))
         lines += [line("", f"not audited: {reason}") for reason in self.refused[:MAX_REASONS]]
         if len(self.refused) > MAX_REASONS:
-            lines.append(line("", f"not audited: {len(self.refused) - MAX_REASONS:,} more reports"))
+            lines.append(line("", f"not audited: {len(self.refused) - MAX_REASONS:,} more reports, in {REFUSED}"))
         if not distances:
             return "\n".join(lines + [line("reports", "none was audited")]) + "\n"
-        lines.append(line("reports", f"{len(distances) - off:,} exact if the updates are serializable; {off:,} off"))
+        counts = f"{len(distances) - off:,} exact if the updates are serializable; {off:,} off"
+        counts += f"; {len(self.refused):,} not audited" if self.refused else ""
+        lines.append(line("reports", counts))
         if off:
             mean = sum(distances) / len(distances)
             errors = [abs(each.sum_error) for each in self.reports]
@@ -215,6 +218,8 @@ class Watch:
         found = [explained(each, self._program, self._folder / "worst") for each in off[:worst]]
         text = self.findings.text(self.system, found)
         (self._folder / "result.txt").write_text(text, encoding="utf-8")
+        refused = "".join(f"{reason}\n" for reason in self.findings.refused)
+        (self._folder / REFUSED).write_text(refused, encoding="utf-8")
         return text
 
 
