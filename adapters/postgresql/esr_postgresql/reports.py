@@ -37,6 +37,8 @@ from .tables import KnownTable, RecordingError, Table, known_table
 import psycopg2  # isort: skip (`connections` reports how to install it)
 
 SHARED = ("repeatable read", "serializable")  # levels at which the statements of a transaction share a snapshot
+# EXPLAIN may wait for a lock behind a program that waits for the report itself, in which case none of them would ever end.
+LOCK_TIMEOUT = "set lock_timeout = '1s'"
 SNAPSHOT_TYPES = (5038, 2970)  # pg_snapshot, txid_snapshot
 CONDITIONS = ("Filter", "Index Cond", "Recheck Cond", "One-Time Filter", "TID Cond", "Group Key", "Join Filter")
 WHOLE_SCANS = ("Aggregate", "Seq Scan", "Index Scan", "Index Only Scan", "Gather", "Append")
@@ -77,6 +79,7 @@ class ReportRecorder(Connector):
         self._plain.autocommit = True
         self._plans: dict[str, _Plan] = {}
         with self._plain.cursor() as cursor:
+            cursor.execute(LOCK_TIMEOUT)
             cursor.execute(DATABASE)
             self.database = cursor.fetchone()
             self._known = [known_table(cursor, table) for table in tables]

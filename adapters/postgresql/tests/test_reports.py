@@ -3,6 +3,7 @@
 import json
 import os
 import tempfile
+import threading
 import unittest
 
 DSN = os.environ.get("ESR_POSTGRES_DSN")
@@ -135,6 +136,22 @@ class Reports(unittest.TestCase):
         self.connection.cursor().execute(one)
         self.connection.commit()
         self.assertEqual(self.recorder.count, count)
+
+    def test_a_statement_whose_table_is_locked_by_a_program_that_waits_for_it(self):
+        self.connection.cursor().execute("select id from t")
+        waiting = threading.Thread(target=self.plain.execute, args=("truncate t",))
+        waiting.start()
+        probe = psycopg2.connect(DSN)
+        probe.autocommit = True
+        self.addCleanup(probe.close)
+        cursor = probe.cursor()
+        cursor.execute("select 0")
+        while cursor.fetchone() == (0,):
+            cursor.execute("select count(*) from pg_locks where not granted")
+        (statement,) = self.noted("select sum(v), pg_current_snapshot() from t")["statements"]
+        waiting.join()
+        self.assertIn("EXPLAIN fails: canceling statement due to lock timeout", statement["fault"])
+        self.assertNotIn("fault", self.noted("select sum(v), pg_current_snapshot() from t")["statements"][0])
 
     def test_tables_that_are_not_there(self):
         with self.assertRaisesRegex(RecordingError, "there is no table nowhere"):
