@@ -189,6 +189,13 @@ class Watch:
             demand(self.process.poll() is None and time.monotonic() < until, f"the watch works: {self.said()}")
             time.sleep(0.05)
 
+    def wait_for_window(self):
+        """Waits until the first window is audited."""
+        until = time.monotonic() + PATIENCE
+        while not (self.folder / "out" / "window_1" / "audits.tsv").exists():
+            demand(self.process.poll() is None and time.monotonic() < until, f"a window closes: {self.said()}")
+            time.sleep(0.05)
+
     def end(self):
         """Ends the watch. Returns its text, the distance of each report, and the reasons of those that were not audited."""
         self.process.send_signal(signal.SIGTERM)
@@ -445,7 +452,7 @@ def restart(dsn, folder, program):
             connection.commit()
             recorder.close()
             if number == 0:
-                time.sleep(3)  # (a window closes)
+                watch.wait_for_window()
                 dsn.restart()
                 watch.wait_for("esr-postgres: watching", 2)
         demand(slots(dsn) == 1, "the watch has one slot")
@@ -465,9 +472,8 @@ def restart(dsn, folder, program):
     print("a restart in the middle: both sides audited; no slot is left, also after SIGKILL")
 
 
-def watched(dsn, tool, folder, program, seconds):
-    folder = pathlib.Path(folder) / "watched"
-    pgbench(dsn, tool, folder, program, round(seconds))
+def writers(dsn, folder, program, seconds):
+    """Watches the writers of every kind, tables that are replaced, and a restart."""
     shop(dsn, folder, program, seconds)
     replaced(dsn, folder, program)
     restart(dsn, folder, program)
