@@ -369,6 +369,7 @@ def shop(dsn, folder, program, seconds):
         name = f"{kind} at {level}, every kind of write{' and SQLAlchemy' if has_orm else ''}"
         tests = [functools.partial(test, kind) for test in (totals_differ, is_emptied)]
         count, broken, emptied = compare(name, ended, found, tests[0], level, tests[1])
+        demand(not broken or ended[0].count(", in units of 1/100\n") == 2, f"{name}: the unit is named:\n{ended[0]}")
         print(f"{name}: {count} reports, {broken} do not add up, and just these are off; {emptied} found no account")
     if not has_orm:
         print("SQLAlchemy: not run: it is not installed (Debian's python3-sqlalchemy)")

@@ -37,7 +37,7 @@ from .tables import KnownTable, RecordingError, Table, known_table
 import psycopg2  # isort: skip (`connections` reports how to install it)
 
 SHARED = ("repeatable read", "serializable")  # levels at which the statements of a transaction share a snapshot
-# EXPLAIN may wait for a lock behind a program that waits for the report itself, in which case none of them would ever end.
+# EXPLAIN may wait for a program that waits for a lock of the report, in which case none of the three would ever end.
 LOCK_TIMEOUT = "set lock_timeout = '1s'"
 SNAPSHOT_TYPES = (5038, 2970)  # pg_snapshot, txid_snapshot
 CONDITIONS = ("Filter", "Index Cond", "Recheck Cond", "One-Time Filter", "TID Cond", "Group Key", "Join Filter")

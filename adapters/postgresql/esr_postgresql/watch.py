@@ -29,7 +29,7 @@ from typing import Any, Optional, Sequence
 from esr_history.audit import audited, explained
 from esr_history.program import Program
 from esr_history.record import Record, save
-from esr_history.result import UNSEEN, AuditedReport, line
+from esr_history.result import UNSEEN, AuditedReport, line, units_of
 
 from .connections import ServerError
 from .tables import RecordingError, Table
@@ -54,7 +54,7 @@ class Findings:
     refused: list[str] = field(default_factory=list)
     restarts: int = 0
 
-    def text(self, system: str, worst: Sequence[Any]) -> str:
+    def text(self, system: str, worst: Sequence[Any], units: str) -> str:
         """Returns the text of the result."""
         distances = [each.distance for each in self.reports]
         off = sum(1 for distance in distances if distance)
@@ -79,8 +79,8 @@ class Findings:
             mean = sum(distances) / len(distances)
             errors = [abs(each.sum_error) for each in self.reports]
             where = "at most, among the updates of a window: "
-            lines.append(line("distance", f"{where}worst {max(distances):,}, mean {mean:,.1f}"))
-            lines.append(line("sum", f"worst error {max(errors):,}, mean {sum(errors) / len(errors):,.1f}"))
+            lines.append(line("distance", f"{where}worst {max(distances):,}, mean {mean:,.1f}{units}"))
+            lines.append(line("sum", f"worst error {max(errors):,}, mean {sum(errors) / len(errors):,.1f}{units}"))
         for each in worst:
             told = f"off by {each.report.distance:,}, its sum by {each.report.sum_error:+,}"
             lines.append(line("worst", f"{each.report.name}: {told}; {each.picture}"))
@@ -216,7 +216,7 @@ class Watch:
         off = sorted((each for each in self.findings.reports if each.distance), key=lambda each: -each.distance)
         (self._folder / "worst").mkdir(exist_ok=True)
         found = [explained(each, self._program, self._folder / "worst") for each in off[:worst]]
-        text = self.findings.text(self.system, found)
+        text = self.findings.text(self.system, found, units_of({table.scale for table in self._tables}))
         (self._folder / "result.txt").write_text(text, encoding="utf-8")
         refused = "".join(f"{reason}\n" for reason in self.findings.refused)
         (self._folder / REFUSED).write_text(refused, encoding="utf-8")
