@@ -4,16 +4,20 @@ only add `pg_current_snapshot()` to their statements.
 - pgbench itself with 100,000 accounts, at six pairs of isolation levels. A report adds up branches, tellers and accounts;
   the three sums are equal at every moment, so a report has to be off if and only if its sums differ.
 - An unchanged SQLAlchemy program and a writer with savepoints, COPY, triggers, ON CONFLICT, prepared transactions, DELETE
-  and TRUNCATE. A trigger keeps the total of each branch, each transaction changes the sum by an amount that the others do not make up
-  for, and a report is off if and only if its totals differ.
+  and TRUNCATE. A trigger keeps the total of each branch, each transaction changes the sum by an amount that the others do
+  not make up for, and a report is off if and only if its totals differ. A report at repeatable read may find the accounts
+  empty after a TRUNCATE, against its snapshot (PostgreSQL's manual names this); exactly such reports are not audited.
+- A report whose snapshot is older than a TRUNCATE or an ALTER TABLE that committed before its read, each time.
 - A restart of the server in the middle, and a watch that is killed: the slot is gone.
 """
 
 import contextlib
 import functools
+import itertools
 import json
 import os
 import pathlib
+import re
 import signal
 import subprocess
 import sys
@@ -30,6 +34,7 @@ PAIRS = [
     for updates in ("read committed", "repeatable read", "serializable")
     for reports in ("read committed", "repeatable read")
 ]
+LEVELS = ("read committed", "repeatable read")
 PATIENCE = 60
 REPORTS = 10
 
@@ -184,8 +189,15 @@ class Watch:
             demand(self.process.poll() is None and time.monotonic() < until, f"the watch works: {self.said()}")
             time.sleep(0.05)
 
+    def wait_for_window(self):
+        """Waits until the first window is audited."""
+        until = time.monotonic() + PATIENCE
+        while not (self.folder / "out" / "window_1" / "audits.tsv").exists():
+            demand(self.process.poll() is None and time.monotonic() < until, f"a window closes: {self.said()}")
+            time.sleep(0.05)
+
     def end(self):
-        """Ends the watch. Returns its text, and the distance of each report."""
+        """Ends the watch. Returns its text, the distance of each report, and the reasons of those that were not audited."""
         self.process.send_signal(signal.SIGTERM)
         text = self.process.communicate(timeout=PATIENCE)[0]
         demand(self.process.returncode == 0, f"the watch ends with 0: {text}{self.said()}")
@@ -194,7 +206,8 @@ class Watch:
             for row in path.read_text(encoding="utf-8").splitlines()[1:]:
                 name, _, _, distance, *_ = row.split("\t")
                 distances[name] = int(distance)
-        return text, distances
+        lines = (self.folder / "out" / "not_audited.txt").read_text(encoding="utf-8").splitlines()
+        return text, distances, dict(text.split(": ", 1) for text in lines)
 
     def kill(self):
         if self.process.poll() is None:
@@ -229,9 +242,16 @@ class Reporter:
         return {f"c1_{number}": json.loads(text) for number, text in enumerate(lines, 1)}
 
 
-def compare(name, text, distances, found, is_broken, level):
-    """Each report whose sums differ has to be off, and no other."""
-    demand("not audited" not in text, f"{name}: each report is audited:\n{text}")
+def compare(name, watched, found, is_broken, level, is_emptied=lambda rows: False):
+    """Demands that each report whose sums differ is off, and no other, and that each report is audited, except those at
+    repeatable read that found a table empty."""
+    text, distances, refused = watched
+    emptied = {report for report, rows in found.items() if is_emptied(rows)}
+    by_truncate = {report for report, reason in refused.items() if "replaced the table by TRUNCATE after" in reason}
+    demand(by_truncate == emptied, f"{name}: the reports of an empty table are {emptied}, and not {by_truncate}:\n{text}")
+    demand(set(refused) == emptied, f"{name}: each other report is audited:\n{text}")
+    demand(not emptied or level != "read committed", f"{name}: no report at read committed finds an empty table")
+    found = {report: rows for report, rows in found.items() if report not in emptied}
     demand(set(distances) == set(found) and len(found) > 3, f"{name}: each of {len(found)} reports is audited:\n{text}")
     for report, rows in found.items():
         broken = is_broken(rows)
@@ -242,7 +262,7 @@ def compare(name, text, distances, found, is_broken, level):
     broken = sum(map(is_broken, found.values()))
     if level != "read committed":
         demand(not broken, f"{name}: no report at {level} is off")
-    return len(found), broken
+    return len(found), broken, len(emptied)
 
 
 def pgbench(dsn, tool, folder, program, seconds):
@@ -263,11 +283,11 @@ def pgbench(dsn, tool, folder, program, seconds):
             words = [tool, "-n", "-c", "6", "-T", str(seconds), "--max-tries=100", "-d", dsn]
             subprocess.run(words, env=environment, **quiet)
             found = reporter.end()
-            text, distances = watch.end()
+            ended = watch.end()
         finally:
             watch.kill()
         name = f"pgbench at {updates}, reports at {reports}"
-        count, broken = compare(name, text, distances, found, is_broken, reports)
+        count, broken, _ = compare(name, ended, found, is_broken, reports)
         total_broken += broken
         print(f"{name}: {count} reports, {broken} with different sums, and just these are off")
     demand(total_broken > 0, "some report at read committed has different sums")
@@ -301,6 +321,14 @@ def totals_differ(kind, rows):
     return hundredths(rows[0], 1) != sum(branches.values())
 
 
+def is_emptied(kind, rows):
+    """Returns whether a report found no account. (There are always some; a transaction replaces them by TRUNCATE and
+    INSERT.)"""
+    if kind == "sum and count":
+        return rows[0] == [["None", "0"]]
+    return all(row[0] == "None" for row in rows[0])
+
+
 def started(programs, folder):
     """Starts some programs: their texts and arguments."""
     for number, (text, *words) in enumerate(programs):
@@ -322,7 +350,7 @@ def shape(dsn, watch, kind, level, has_orm, seconds):
         said = [writer.communicate(timeout=PATIENCE)[0] for writer in writers]
         demand(all(writer.returncode == 0 for writer in writers), "the writers end with 0")
         demand(not has_orm or int(said[2]) > 3, f"the SQLAlchemy program commits: {said}")
-        return (*watch.end(), found)
+        return watch.end(), found
     finally:
         watch.kill()
         for writer in writers:
@@ -337,16 +365,68 @@ def shop(dsn, folder, program, seconds):
     has_orm = tried.returncode == 0
     for kind, level in SHAPES:
         watch = Watch(dsn, SHOP, folder / f"{kind} {level}".replace(" ", "_"), program)
-        text, distances, found = shape(dsn, watch, kind, level, has_orm, seconds)
+        ended, found = shape(dsn, watch, kind, level, has_orm, seconds)
         name = f"{kind} at {level}, every kind of write{' and SQLAlchemy' if has_orm else ''}"
-        count, broken = compare(name, text, distances, found, functools.partial(totals_differ, kind), level)
-        print(f"{name}: {count} reports, {broken} do not add up, and just these are off")
+        tests = [functools.partial(test, kind) for test in (totals_differ, is_emptied)]
+        count, broken, emptied = compare(name, ended, found, tests[0], level, tests[1])
+        demand(not broken or ended[0].count(", in units of 1/100\n") == 2, f"{name}: the unit is named:\n{ended[0]}")
+        print(f"{name}: {count} reports, {broken} do not add up, and just these are off; {emptied} found no account")
     if not has_orm:
         print("SQLAlchemy: not run: it is not installed (Debian's python3-sqlalchemy)")
 
 
 def hundredths(rows, place):
     return sum(round(100 * float(row[place])) for row in rows if row[place] != "None")
+
+
+REPLACED = {
+    "TRUNCATE": "truncate t; insert into t select 1, v + 7 from u; update u set v = v + 7",
+    "ALTER TABLE": "alter table t alter v type int using v + 7; update u set v = v + 7",
+}
+LOOKS = {
+    "sum": "select sum(v), count(*), pg_current_snapshot() from t",
+    "rows": "select id, v, pg_current_snapshot() from t",
+}
+
+
+def replaced(dsn, folder, program):
+    """Watches reports whose snapshot is taken before a command that replaces a table, and which read the table afterwards.
+    At repeatable read they find it empty, which has to be named; at read committed they are off by the 7 that it adds."""
+    with contextlib.closing(psycopg2.connect(dsn)) as plain:
+        plain.autocommit = True
+        cursor = plain.cursor()
+        cursor.execute("drop table if exists t, u; create table t(id int primary key, v int)")
+        cursor.execute("create table u(id int primary key, v int); insert into t values (1, 1); insert into u values (1, 1)")
+        watch = Watch(dsn, ("t:id:v", "u:id:v"), folder / "replaced", program)
+        try:
+            names = [report_of_replaced(dsn, watch, cursor, *words) for words in itertools.product(REPLACED, LOOKS, LEVELS)]
+            text, distances, refused = watch.end()
+        finally:
+            watch.kill()
+    demand(set(distances) == {name for name in names if "read committed" in name}, f"these are audited: {distances}\n{text}")
+    demand(set(distances.values()) == {7}, f"they are off by 7: {distances}\n{text}")
+    demand(set(distances) | set(refused) == set(names), f"the others are named: {refused}\n{text}")
+    for name, reason in refused.items():
+        said = f"it read t without rows of its snapshot: x\\d+ replaced the table by {name.split(',')[0]} after that snapshot"
+        demand(re.match(said, reason) and f"not audited: {name}: {reason}" in text, f"{name} is named: {reason}\n{text}")
+    print(f"a table replaced before its read: {len(refused)} reports found it empty and are named, {len(distances)} are off")
+
+
+def report_of_replaced(dsn, watch, writer, word, look, level):
+    """Makes a report whose table is replaced before it is read. Returns its name."""
+    from esr_postgresql.reports import ReportRecorder
+    from esr_postgresql.tables import Table
+
+    recorder = ReportRecorder(dsn, [Table(name, ("id",), "v") for name in ("t", "u")], str(watch.reports))
+    label = f"{word}, {look}, {level}"
+    with contextlib.closing(recorder), contextlib.closing(recorder.connect(label)) as connection:
+        connection.set_session(isolation_level=level)
+        cursor = connection.cursor()
+        cursor.execute("select sum(v), pg_current_snapshot() from u")
+        writer.execute(REPLACED[word])
+        cursor.execute(LOOKS[look])
+        connection.commit()
+    return f"{label}_1"
 
 
 def slots(dsn):
@@ -373,11 +453,11 @@ def restart(dsn, folder, program):
             connection.commit()
             recorder.close()
             if number == 0:
-                time.sleep(3)  # (a window closes)
+                watch.wait_for_window()
                 dsn.restart()
                 watch.wait_for("esr-postgres: watching", 2)
         demand(slots(dsn) == 1, "the watch has one slot")
-        text, distances = watch.end()
+        text, distances, _ = watch.end()
     finally:
         watch.kill()
     demand(distances == {"life0_1": 0, "life1_1": 0}, f"both reports are audited: {distances}\n{text}")
@@ -393,8 +473,8 @@ def restart(dsn, folder, program):
     print("a restart in the middle: both sides audited; no slot is left, also after SIGKILL")
 
 
-def watched(dsn, tool, folder, program, seconds):
-    folder = pathlib.Path(folder) / "watched"
-    pgbench(dsn, tool, folder, program, round(seconds))
+def writers(dsn, folder, program, seconds):
+    """Watches the writers of every kind, tables that are replaced, and a restart."""
     shop(dsn, folder, program, seconds)
+    replaced(dsn, folder, program)
     restart(dsn, folder, program)

@@ -146,9 +146,9 @@ def _conversion(conversion: Conversion) -> Iterator[str]:
     yield line("script", f"{count:,} lines, each accepted; each read gave the value that was recorded")
 
 
-def _units(record: Record) -> str:
-    scales = {item.scale for item in record.items.values()}
-    if scales == {0}:
+def units_of(scales: set[int]) -> str:
+    """Returns the end of a line with amounts: their unit, by the numbers of decimal digits of the values."""
+    if scales <= {0}:
         return ""
     if len(scales) == 1:
         return f", in units of 1/{10 ** scales.pop():,}"
@@ -171,7 +171,7 @@ def _reports(result: Result) -> Iterator[str]:
         exact = "exact: they read what some serial order shows"
     yield line("reports", f"{count - result.off:,} {exact}; {result.off:,} off")
     if result.off:
-        mean, units = sum(distances) / count, _units(result.record)
+        mean, units = sum(distances) / count, units_of({item.scale for item in result.record.items.values()})
         bound = "at most, among the updates of a window: " if len(conversion.scripts) > 1 else ""
         yield line("distance", f"{bound}worst {max(distances):,}, mean {mean:,.1f}{units}")
         errors = [abs(report.sum_error) for report in result.reports]

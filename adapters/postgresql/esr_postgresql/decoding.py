@@ -45,23 +45,28 @@ class Snapshot(NamedTuple):
 
 
 class Change(NamedTuple):
-    """A write: the item, and its value afterwards, None if the row was deleted."""
+    """A write: the item, and its value afterwards, None if the row was deleted. The item EVERY_ROW is each row of the
+    table (TRUNCATE)."""
 
     table: Table
     item: str
     value: Optional[int]
+    is_insert: bool = False
+
+
+EVERY_ROW = ""
 
 
 @dataclass
 class Commit:
     """A transaction of the log that changed a watched table. `time` is in microseconds. `faults` are its rows that cannot
-    be recorded."""
+    be recorded. `replaced` has for a table that it gave a new file (empty for older snapshots) the command that did so."""
 
     xid: int
     time: int = 0
     changes: list[Change] = field(default_factory=list)
-    truncated: list[Table] = field(default_factory=list)
     faults: list[str] = field(default_factory=list)
+    replaced: dict[str, str] = field(default_factory=dict)
 
 
 # ---- lines of test_decoding
@@ -105,7 +110,7 @@ class Decoder:
         elif word == "COMMIT" and self._commit is not None:
             commit, self._commit = self._commit, None
             commit.time = _microseconds(line[line.index("(at ") + 4 : -1])
-            if commit.changes or commit.truncated or commit.faults:
+            if commit.changes or commit.faults:
                 return commit
         elif word == "table" and self._commit is not None:
             self._change(rest)
@@ -120,7 +125,7 @@ class Decoder:
             return
         word, _, row = rest.partition(": ")
         if word == "TRUNCATE":
-            self._commit.truncated += [self._names[each] for each in name.split(", ") if each in self._names]
+            self._truncate([each for each in name.split(", ") if each in self._names])
             return
         table = self._names.get(name)
         if table is None:
@@ -134,22 +139,32 @@ class Decoder:
             else:
                 if old is not None:
                     self._add_moved(table, old, new)
-                self._add(table, new)
+                self._add(table, new, is_insert=word == "INSERT")
         except (RecordingError, InvalidOperation, KeyError) as error:
             self._commit.faults.append(str(error))
+
+    def _truncate(self, names: list[str]) -> None:
+        """Adds a TRUNCATE of some tables and partitions. (Which rows a single partition had is not in the log.)"""
+        assert self._commit is not None
+        for table in {self._names[name].name: self._names[name] for name in names}.values():
+            self._commit.replaced[table.name] = "TRUNCATE"
+            if {name for name, other in self._names.items() if other is table} <= set(names):
+                self._commit.changes.append(Change(table, EVERY_ROW, None))
+            else:
+                self._commit.faults.append(f"{table.name}: some of its partitions were truncated")
 
     def _item(self, table: Table, columns: dict[str, Optional[str]]) -> str:
         if any(name not in columns for name in table.key):
             raise RecordingError(f"{table.name}: the log does not have the key of a row")
         return table.item([columns[name] for name in table.key])
 
-    def _add(self, table: Table, text: str, deleted: bool = False) -> None:
+    def _add(self, table: Table, text: str, deleted: bool = False, is_insert: bool = False) -> None:
         assert self._commit is not None
         columns = dict(_columns(text))
         item = self._item(table, columns)
         value = columns.get(table.value)
         whole = None if deleted else table.whole(item, None if value is None else Decimal(value))
-        self._commit.changes.append(Change(table, item, whole))
+        self._commit.changes.append(Change(table, item, whole, is_insert))
 
     def _add_moved(self, table: Table, old: str, new: str) -> None:
         """Adds the deletion of a row whose key changes."""

@@ -18,12 +18,12 @@ import threading
 from typing import Any, NamedTuple, Sequence
 
 from .connections import DATABASE, HAS_ENDED, Connector, Ended, RecordingConnection
-from .reports import leaves_of, nodes_of
+from .reports import LOCK_TIMEOUT, SHARED, leaves_of, nodes_of
 from .tables import Table, known_table
 
 import psycopg2  # isort: skip (`connections` reports how to install it)
+from psycopg2.errors import LockNotAvailable  # isort: skip
 
-SHARED = ("repeatable read", "serializable")
 ALONE = 0  # the life of a statement that is a transaction by itself
 HERE = os.path.dirname(os.path.abspath(__file__))
 
@@ -89,22 +89,28 @@ class Linter(Connector):
         self._plain.autocommit = True
         self._plans: dict[str, frozenset[str]] = {}
         with self._plain.cursor() as cursor:
+            cursor.execute(LOCK_TIMEOUT)
             cursor.execute(DATABASE)
             self.database = cursor.fetchone()
             known = [known_table(cursor, table) for table in tables]
             self._leaves = {leaf: each.table.name for each in known for leaf in leaves_of(cursor, each)}
         self.findings: dict[Finding, int] = {}
-        self.reports = 0
+        self.reports = self.unexplained = 0
         self._alone: dict[str, list[Look]] = {}
 
     def about_to_end(self, ended: Ended) -> None:
         """Does nothing: a report counts when it ends."""
 
     def tables_of(self, text: str, template: str) -> frozenset[str]:
-        """Returns the watched tables that a statement reads, none if it has no plan."""
+        """Returns the watched tables that a statement reads, none if it has no plan. A statement whose tables are locked is
+        explained the next time."""
         with self._explaining:
             if template not in self._plans:
-                self._plans[template] = frozenset(self._explained(text))
+                try:
+                    self._plans[template] = frozenset(self._explained(text))
+                except LockNotAvailable:
+                    self.unexplained += 1
+                    return frozenset()
             return self._plans[template]
 
     def _explained(self, text: str) -> set[str]:
@@ -114,6 +120,8 @@ class Linter(Connector):
             try:
                 cursor.execute("explain (verbose, format json) " + text)
                 plan = cursor.fetchone()[0][0]["Plan"]
+            except LockNotAvailable:
+                raise
             except psycopg2.Error:
                 return set()
         leaves = {(each["Schema"], each["Relation Name"]) for each in nodes_of(plan) if "Relation Name" in each}
@@ -165,4 +173,6 @@ class Linter(Connector):
             )
         if not lines:
             lines.append(f"{self.reports:,} reports, each of one moment")
+        if self.unexplained:
+            lines.append(f"{self.unexplained:,} statements are not in this, since their tables were locked for more than 1 s")
         return "\n".join(lines)

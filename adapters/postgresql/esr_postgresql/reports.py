@@ -11,12 +11,14 @@ A file of reports has one JSON line for each report that committed, so that prog
 A STATEMENT has `snapshot`, the text of `pg_current_snapshot()`, and either `rows`, a list of [ITEM, VALUE], or `sums` and
 `counts`, objects that have for a table its sum or its number of rows, over all its rows. Values are numbers or decimal texts.
 With `rows`, `all` lists the tables of which the statement read all rows, so that a row that is not in `rows` was absent.
+`tables`, which may be left out, lists all watched tables that the statement read, also without a row in its result.
 `began` and `ended` are microseconds of the server's clock. A report that also wrote has `"writes":true`, and a statement
 that could not be understood has `fault`.
 
 The module writes such lines for Python programs that use psycopg2. Rows are found by the column numbers that the server
 reports. Sums, and whether a statement read all rows of a table, are found in its plan (EXPLAIN, on a separate connection),
-which names tables and conditions.
+which names tables and conditions. A statement whose result has no row has no snapshot; at repeatable read and serializable it
+is that of the other statements of its transaction.
 
 Rejected: reading the statement, which needs a parser; and sums over a condition, whose rows the log does not determine.
 """
@@ -34,6 +36,9 @@ from .tables import KnownTable, RecordingError, Table, known_table
 
 import psycopg2  # isort: skip (`connections` reports how to install it)
 
+SHARED = ("repeatable read", "serializable")  # levels at which the statements of a transaction share a snapshot
+# EXPLAIN may wait for a program that waits for a lock of the report, in which case none of the three would ever end.
+LOCK_TIMEOUT = "set lock_timeout = '1s'"
 SNAPSHOT_TYPES = (5038, 2970)  # pg_snapshot, txid_snapshot
 CONDITIONS = ("Filter", "Index Cond", "Recheck Cond", "One-Time Filter", "TID Cond", "Group Key", "Join Filter")
 WHOLE_SCANS = ("Aggregate", "Seq Scan", "Index Scan", "Index Only Scan", "Gather", "Append")
@@ -55,7 +60,7 @@ class ReportConnection(RecordingConnection):
         self._template = str(query)
 
     def _note(self, cursor: Any) -> dict[str, set[str]]:
-        if self._is_recorded and cursor.rowcount > 0:
+        if self._is_recorded:
             content = self.recorder.statement(cursor, self._template)
             if content is not None:
                 self._noted.append(Statement(content))
@@ -74,6 +79,7 @@ class ReportRecorder(Connector):
         self._plain.autocommit = True
         self._plans: dict[str, _Plan] = {}
         with self._plain.cursor() as cursor:
+            cursor.execute(LOCK_TIMEOUT)
             cursor.execute(DATABASE)
             self.database = cursor.fetchone()
             self._known = [known_table(cursor, table) for table in tables]
@@ -91,21 +97,22 @@ class ReportRecorder(Connector):
 
     def keep(self, ended: Ended) -> None:
         """Appends a report."""
-        if ended.outcome is not Outcome.COMMITTED:
+        statements = list(_with_snapshots([each.content for each in ended.noted], ended.level in SHARED))
+        if ended.outcome is not Outcome.COMMITTED or not statements:
             return
         content: dict[str, Any] = {"report": ended.name, "level": ended.level}
         content.update(began=ended.began, ended=ended.ended)
         if ended.xid is not None:
             content["writes"] = True
-        content["statements"] = [each.content for each in ended.noted]
+        content["statements"] = statements
         with self._writing:
             self._file.write(json_line(content))
             self._file.flush()
             self.count += 1
 
     def statement(self, cursor: Any, template: str) -> Optional[dict[str, Any]]:
-        """Returns what a statement read, or None if it has no snapshot. (Statements of one template have one plan here:
-        parameters do not add conditions.)"""
+        """Returns what a statement read, or None if it does not ask for its snapshot. (Statements of one template have one
+        plan here: parameters do not add conditions.)"""
         snapshots = [
             place
             for place, column in enumerate(cursor.description)
@@ -113,11 +120,12 @@ class ReportRecorder(Connector):
         ]
         if not snapshots:
             return None
-        rows = cursor._rows()
-        content: dict[str, Any] = {"snapshot": str(rows[0][snapshots[0]])}
+        rows = cursor._rows() if cursor.rowcount > 0 else []
+        content: dict[str, Any] = {"snapshot": str(rows[0][snapshots[0]]) if rows else None}
         places = [(known, *each) for known in self._known for each in known.values_of(cursor.description)]
         try:
             plan = self._plan(cursor.query.decode(errors="replace"), template)
+            content["tables"] = sorted(plan.tables)
             if places:
                 read = {
                     known.table.item([row[part] for part in key]): row[value]
@@ -154,7 +162,9 @@ class ReportRecorder(Connector):
                         plan = cursor.fetchone()[0][0]["Plan"]
                     except psycopg2.Error as error:
                         raise RecordingError(f"EXPLAIN fails: {str(error).strip()}") from None
-                self._plans[template] = _Plan(self._aggregates_of(plan), self._whole_tables(plan))
+                found = (self._leaves.get(_leaf(each)) for each in nodes_of(plan) if "Relation Name" in each)
+                tables = frozenset(known.table.name for known in found if known is not None)
+                self._plans[template] = _Plan(self._aggregates_of(plan), self._whole_tables(plan), tables)
             return self._plans[template]
 
     def _whole_tables(self, plan: dict[str, Any]) -> frozenset[str]:
@@ -206,10 +216,27 @@ def leaves_of(cursor: Any, known: KnownTable) -> list[tuple[str, str]]:
 
 
 class _Plan(NamedTuple):
-    """The plan of a statement: the columns that are sums and counts of tables, and the tables that are read wholly."""
+    """The plan of a statement: the columns that are sums and counts of tables, the tables that are read wholly, and all
+    tables that are read."""
 
     aggregates: dict[int, tuple[str, Table]]
     whole: frozenset[str]
+    tables: frozenset[str]
+
+
+def _with_snapshots(statements: list[dict[str, Any]], is_shared: bool) -> Iterator[dict[str, Any]]:
+    """Yields the statements of a report, those without a row with the snapshot of the others if it is shared. If it is not
+    known, a statement over a whole table is a fault, and another one counts as not read, as rows that a condition left
+    out."""
+    known = [each["snapshot"] for each in statements if each["snapshot"] is not None] if is_shared else []
+    for each in statements:
+        if each["snapshot"] is not None:
+            yield each
+        elif known:
+            yield {**each, "snapshot": known[0]}
+        elif each.get("all") or "fault" in each:
+            fault = f"a statement over all rows of {', '.join(each.get('all', []))} returned no row, and so no snapshot"
+            yield {**each, "snapshot": "", "fault": each.get("fault", fault)}
 
 
 def _leaf(node: dict[str, Any]) -> tuple[str, str]:

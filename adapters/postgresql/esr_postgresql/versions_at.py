@@ -14,7 +14,7 @@ from __future__ import annotations
 from collections import deque
 from typing import Iterator, NamedTuple, Optional, Sequence
 
-from .decoding import Change, Commit, Snapshot
+from .decoding import EVERY_ROW, Change, Commit, Snapshot
 from .tables import RecordingError, Rows, Table
 
 MAX_BEFORE = 10_000
@@ -60,12 +60,14 @@ class Versions:
 
     def add(self, commit: Commit) -> None:
         """Takes the next commit of the log."""
-        for table in commit.truncated:
-            gone = [Change(table, item, None) for item in self.items[table.name] if self.now.get(item) is not None]
-            commit.changes[:0] = gone
         totals = dict(self.totals[-1])
-        for table, item, value in commit.changes:
+        changes = []
+        for change in self._single(commit.changes):
+            table, item, value, is_insert = change
             old, (total, count) = self.now.get(item), totals[table.name]
+            if is_insert and old is not None:
+                # (only a form of ALTER TABLE that rewrites the table inserts rows that exist)
+                commit.replaced.setdefault(table.name, "ALTER TABLE")
             totals[table.name] = (
                 total + (value or 0) - (old or 0),
                 count + (value is not None) - (old is not None),
@@ -73,8 +75,20 @@ class Versions:
             self.now[item] = value
             self.items[table.name].add(item)
             self.chains.setdefault(item, []).append((len(self.commits), value))
+            changes.append(change)
+        commit.changes = changes
         self.commits.append(commit)
         self.totals.append(totals)
+
+    def _single(self, changes: Sequence[Change]) -> Iterator[Change]:
+        """Yields changes of one row each: for a TRUNCATE, one for each row that exists at that point."""
+        for change in changes:
+            if change.item != EVERY_ROW:
+                yield change
+                continue
+            for item in sorted(self.items[change.table.name]):
+                if self.now.get(item) is not None:
+                    yield Change(change.table, item, None)
 
     def view(self, snapshot: Snapshot) -> View:
         """Returns the commits that a snapshot sees.
@@ -142,6 +156,13 @@ class Versions:
                 for fault in commit.faults:
                     if fault.startswith(f"{table}/") or fault.startswith(f"{table}:"):
                         return fault
+        return None
+
+    def replaced(self, table: str, view: View, until: int) -> Optional[Commit]:
+        """Returns the first commit until a time that moved a table to a new file and that a view does not see."""
+        for place, commit in enumerate(self.commits):
+            if table in commit.replaced and commit.time <= until and not view.sees(place):
+                return commit
         return None
 
     def trim(self, place: int) -> None:

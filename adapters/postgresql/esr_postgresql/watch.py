@@ -29,7 +29,7 @@ from typing import Any, Optional, Sequence
 from esr_history.audit import audited, explained
 from esr_history.program import Program
 from esr_history.record import Record, save
-from esr_history.result import UNSEEN, AuditedReport, line
+from esr_history.result import UNSEEN, AuditedReport, line, units_of
 
 from .connections import ServerError
 from .tables import RecordingError, Table
@@ -39,6 +39,7 @@ from .window import load_line, report_of, window_record, windows_of
 
 RESTART = 120.0  # seconds to wait for a server that restarts
 MAX_REASONS = 10
+REFUSED = "not_audited.txt"  # (in the folder of the result: a line for each report that was not audited)
 
 
 @dataclass
@@ -53,7 +54,7 @@ class Findings:
     refused: list[str] = field(default_factory=list)
     restarts: int = 0
 
-    def text(self, system: str, worst: Sequence[Any]) -> str:
+    def text(self, system: str, worst: Sequence[Any], units: str) -> str:
         """Returns the text of the result."""
         distances = [each.distance for each in self.reports]
         off = sum(1 for distance in distances if distance)
@@ -68,16 +69,18 @@ class Findings:
             lines.append(line("restarts", f"{self.restarts}: the log has a gap there, and no report spans one"))
         lines += [line("", f"not audited: {reason}") for reason in self.refused[:MAX_REASONS]]
         if len(self.refused) > MAX_REASONS:
-            lines.append(line("", f"not audited: {len(self.refused) - MAX_REASONS:,} more reports"))
+            lines.append(line("", f"not audited: {len(self.refused) - MAX_REASONS:,} more reports, in {REFUSED}"))
         if not distances:
             return "\n".join(lines + [line("reports", "none was audited")]) + "\n"
-        lines.append(line("reports", f"{len(distances) - off:,} exact if the updates are serializable; {off:,} off"))
+        counts = f"{len(distances) - off:,} exact if the updates are serializable; {off:,} off"
+        counts += f"; {len(self.refused):,} not audited" if self.refused else ""
+        lines.append(line("reports", counts))
         if off:
             mean = sum(distances) / len(distances)
             errors = [abs(each.sum_error) for each in self.reports]
             where = "at most, among the updates of a window: "
-            lines.append(line("distance", f"{where}worst {max(distances):,}, mean {mean:,.1f}"))
-            lines.append(line("sum", f"worst error {max(errors):,}, mean {sum(errors) / len(errors):,.1f}"))
+            lines.append(line("distance", f"{where}worst {max(distances):,}, mean {mean:,.1f}{units}"))
+            lines.append(line("sum", f"worst error {max(errors):,}, mean {sum(errors) / len(errors):,.1f}{units}"))
         for each in worst:
             told = f"off by {each.report.distance:,}, its sum by {each.report.sum_error:+,}"
             lines.append(line("worst", f"{each.report.name}: {told}; {each.picture}"))
@@ -213,8 +216,10 @@ class Watch:
         off = sorted((each for each in self.findings.reports if each.distance), key=lambda each: -each.distance)
         (self._folder / "worst").mkdir(exist_ok=True)
         found = [explained(each, self._program, self._folder / "worst") for each in off[:worst]]
-        text = self.findings.text(self.system, found)
+        text = self.findings.text(self.system, found, units_of({table.scale for table in self._tables}))
         (self._folder / "result.txt").write_text(text, encoding="utf-8")
+        refused = "".join(f"{reason}\n" for reason in self.findings.refused)
+        (self._folder / REFUSED).write_text(refused, encoding="utf-8")
         return text
 
 

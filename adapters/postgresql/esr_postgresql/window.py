@@ -84,8 +84,8 @@ def _number(table: Table, item: str, value: Any) -> int:
         raise RecordingError(f"{item}: {value!r} is not a number") from None
 
 
-def _read(content: dict[str, Any], versions: Versions) -> Read:
-    """Checks the result of a statement.
+def _read(content: dict[str, Any], versions: Versions, ended: int) -> Read:
+    """Checks the result of a statement, of a report that ended at a time.
 
     # Errors
     RecordingError if it is not that of its snapshot."""
@@ -97,31 +97,76 @@ def _read(content: dict[str, Any], versions: Versions) -> Read:
         raise RecordingError(f"{content['snapshot']!r} is not a snapshot") from None
     rows, sums, counts = content.get("rows", []), content.get("sums", {}), content.get("counts", {})
     tables = {versions.table_of(item).name for item, _ in rows} | set(sums) | set(counts)
-    for name in tables:
+    for name in tables | set(content.get("tables", [])):
         if name not in versions.tables:
             raise RecordingError(f"{name} is not a watched table")
         fault = versions.faults(name, view)
         if fault:
             raise RecordingError(f"a row of its snapshot cannot be recorded: {fault}")
-    for item, value in rows:
-        found, got = versions.version(item, view)[0], _number(versions.table_of(item), item, value)
-        if found != got:
-            raise RecordingError(f"it read {got} of {item}, which is {found} at its snapshot")
-    for name, value in sums.items():
-        total = versions.total(name, view)[0]
-        if _number(versions.tables[name], name, value) != total:
-            raise RecordingError(f"it got the sum {value} of {name}, which is {total} units at its snapshot")
-    for name, value in counts.items():
-        count = versions.total(name, view)[1]
-        if int(value) != count:
-            raise RecordingError(f"it counted {value} rows of {name}, which has {count} at its snapshot")
+        _demand_its_file(content, name, versions, view, ended)
+    _compare(content, versions, view)
     whole = {name for name in content.get("all", []) if name in versions.tables and _has_all(name, rows, versions, view)}
     return Read(view, frozenset(item for item, _ in rows), frozenset(sums) | whole, frozenset(counts))
 
 
+def _compare(content: dict[str, Any], versions: Versions, view: View) -> None:
+    """Compares the result of a statement with the rows of its snapshot.
+
+    # Errors
+    RecordingError if they differ."""
+    for item, value in content.get("rows", []):
+        found, got = versions.version(item, view)[0], _number(versions.table_of(item), item, value)
+        if found != got:
+            raise RecordingError(f"it read {got} of {item}, which is {found} at its snapshot")
+    for name, value in content.get("sums", {}).items():
+        total = versions.total(name, view)[0]
+        if _number(versions.tables[name], name, value) != total:
+            raise RecordingError(f"it got the sum {value} of {name}, which is {total} units at its snapshot")
+    for name, value in content.get("counts", {}).items():
+        count = versions.total(name, view)[1]
+        if int(value) != count:
+            raise RecordingError(f"it counted {value} rows of {name}, which has {count} at its snapshot")
+
+
+def _count(name: str, rows: list[Any], versions: Versions) -> int:
+    return sum(1 for item, _ in rows if versions.table_of(item).name == name)
+
+
 def _has_all(name: str, rows: list[Any], versions: Versions, view: View) -> bool:
-    """Whether a result has all rows of a table. (A join may leave out some.)"""
-    return sum(1 for item, _ in rows if versions.table_of(item).name == name) == versions.total(name, view)[1]
+    """Returns whether a result has all rows of a table. (A join may leave out some.)"""
+    return _count(name, rows, versions) == versions.total(name, view)[1]
+
+
+def _demand_its_file(content: dict[str, Any], name: str, versions: Versions, view: View, ended: int) -> None:
+    """Finds a statement that read a table after a TRUNCATE or a rewriting ALTER TABLE that its snapshot does not see.
+
+    Neither is MVCC-safe in PostgreSQL: the table has a new file then, whose rows older snapshots do not see. A statement
+    that read the old file kept a lock that made the command wait for the end of the report; so if the command committed
+    before that end and the result lacks rows of the snapshot, the statement read the new file.
+
+    # Errors
+    RecordingError for such a statement."""
+    commit = versions.replaced(name, view, ended)
+    if commit is not None and _lacks_rows(content, name, versions, view):
+        raise RecordingError(
+            f"it read {name} without rows of its snapshot: x{commit.xid} replaced the table by {commit.replaced[name]} after"
+            " that snapshot and before the read, and PostgreSQL does so without regard to older snapshots (its manual:"
+            " Concurrency Control, Caveats)"
+        )
+
+
+def _lacks_rows(content: dict[str, Any], name: str, versions: Versions, view: View) -> bool:
+    """Returns whether the result of a statement lacks rows that a table has at its snapshot."""
+    total, count = versions.total(name, view)
+    rows, sums, counts = content.get("rows", []), content.get("sums", {}), content.get("counts", {})
+    if not count:
+        return False
+    if name in sums or name in counts:
+        has_total = name not in sums or _number(versions.tables[name], name, sums[name]) == total
+        return not has_total or int(counts.get(name, count)) != count
+    if name in content.get("all", []):
+        return not _has_all(name, rows, versions, view)
+    return not _count(name, rows, versions)
 
 
 def report_of(content: dict[str, Any], versions: Versions) -> Report:
@@ -131,7 +176,7 @@ def report_of(content: dict[str, Any], versions: Versions) -> Report:
     RecordingError if it cannot be audited."""
     if content.get("writes"):
         raise RecordingError("it also wrote or locked rows")
-    reads = tuple(_read(each, versions) for each in content["statements"])
+    reads = tuple(_read(each, versions, content["ended"]) for each in content["statements"])
     if not reads:
         raise RecordingError("it has no statement with a snapshot")
     return Report(content["report"], str(content.get("level", "")), content["began"], content["ended"], reads)
@@ -208,10 +253,11 @@ def window_record(first: int, last: int, reports: list[Report], versions: Versio
     for place in range(first, last):
         commit = versions.commits[place]
         time_of_last = max(time_of_last, commit.time)
-        writes = [Operation(Action.WRITE, item, value, str(commit.xid)) for _, item, value in commit.changes]
+        writes = [Operation(Action.WRITE, each.item, each.value, str(commit.xid)) for each in commit.changes]
         writes += rows.get(place, [])
         times = time_of_last, time_of_last
-        record.transactions.append(Transaction(f"x{commit.xid}", Outcome.COMMITTED, *times, tuple(writes)))
+        if writes:  # (a TRUNCATE of an empty table writes no row)
+            record.transactions.append(Transaction(f"x{commit.xid}", Outcome.COMMITTED, *times, tuple(writes)))
     for report in reports:
         operations = tuple(_operations(report, versions, items, first))
         if not operations:

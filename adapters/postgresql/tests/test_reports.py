@@ -3,6 +3,7 @@
 import json
 import os
 import tempfile
+import threading
 import unittest
 
 DSN = os.environ.get("ESR_POSTGRES_DSN")
@@ -49,6 +50,7 @@ class Reports(unittest.TestCase):
         """Returns what is noted of a statement, without the snapshot."""
         (noted,) = self.noted(statement)["statements"]
         self.assertRegex(noted.pop("snapshot"), r"^\d+:\d+:[\d,]*$")
+        noted.pop("tables")
         return noted
 
     def test_rows(self):
@@ -109,6 +111,47 @@ class Reports(unittest.TestCase):
         self.connection.cursor().execute("select id, v, pg_current_snapshot() from t")
         self.connection.rollback()
         self.assertEqual(self.recorder.count, 3)
+
+    def test_tables_that_a_statement_reads(self):
+        for statement, tables in (
+            ("select sum(v), pg_current_snapshot() from t", ["t"]),
+            ("select t.id, t.v, pg_current_snapshot() from t left join u on u.n = t.id where t.id = 1", ["t", "u"]),
+        ):
+            with self.subTest(statement):
+                self.assertEqual(self.noted(statement)["statements"][0]["tables"], tables)
+
+    def test_statements_that_return_no_row(self):
+        self.plain.execute("truncate t")
+        everything, one = (f"select id, v, pg_current_snapshot() from t{where}" for where in ("", " where id = 1"))
+        other = "select sum(v), pg_current_snapshot() from u"
+        (statement,) = self.noted(everything)["statements"]
+        self.assertEqual(statement["fault"], "a statement over all rows of t returned no row, and so no snapshot")
+        self.assertEqual(len(self.noted(other, everything)["statements"]), 2)
+        self.assertEqual(len(self.noted(other, one)["statements"]), 1)
+        self.connection.set_session(isolation_level="repeatable read")
+        first, *rest = self.noted(other, everything, one)["statements"]
+        place = {"snapshot": first["snapshot"], "tables": ["t"], "rows": []}
+        self.assertEqual(rest, [{**place, "all": ["t"]}, {**place, "all": []}])
+        count = self.recorder.count
+        self.connection.cursor().execute(one)
+        self.connection.commit()
+        self.assertEqual(self.recorder.count, count)
+
+    def test_a_statement_whose_table_is_locked_by_a_program_that_waits_for_it(self):
+        self.connection.cursor().execute("select id from t")
+        waiting = threading.Thread(target=self.plain.execute, args=("truncate t",))
+        waiting.start()
+        probe = psycopg2.connect(DSN)
+        probe.autocommit = True
+        self.addCleanup(probe.close)
+        cursor = probe.cursor()
+        cursor.execute("select 0")
+        while cursor.fetchone() == (0,):
+            cursor.execute("select count(*) from pg_locks where not granted")
+        (statement,) = self.noted("select sum(v), pg_current_snapshot() from t")["statements"]
+        waiting.join()
+        self.assertIn("EXPLAIN fails: canceling statement due to lock timeout", statement["fault"])
+        self.assertNotIn("fault", self.noted("select sum(v), pg_current_snapshot() from t")["statements"][0])
 
     def test_tables_that_are_not_there(self):
         with self.assertRaisesRegex(RecordingError, "there is no table nowhere"):

@@ -8,7 +8,7 @@ import unittest
 
 from esr_history.order import history_of
 from esr_history.script import convert
-from esr_postgresql.decoding import PREFIX, Change, Commit, Decoder, Snapshot
+from esr_postgresql.decoding import EVERY_ROW, PREFIX, Change, Commit, Decoder, Snapshot
 from esr_postgresql.tables import RecordingError, Table
 from esr_postgresql.versions_at import Versions
 from esr_postgresql.window import load_line, report_of, window_record, windows_of
@@ -54,8 +54,22 @@ class Decoding(unittest.TestCase):
         self.assertEqual((commit.changes, commit.faults[0][:13]), ([], "t/1: v is nul"))
         (commit,) = commits(self.decoder, "BEGIN 9", "table public.t: DELETE: (no-tuple-data)", COMMIT)
         self.assertEqual(commit.faults, ["t: the log does not have the key of a row"])
-        (commit,) = commits(self.decoder, "BEGIN 9", "table public.t, public.o: TRUNCATE: (no-flags)", COMMIT)
-        self.assertEqual((commit.truncated, commit.time), ([T], 1795809600500000))
+        self.assertEqual(commit.time, 1795809600500000)
+
+    def test_truncate_in_the_order_of_the_changes(self):
+        truncate = "table public.t, public.t_1, public.o: TRUNCATE: (no-flags)"
+        rows = [f"table public.t: INSERT: id[integer]:{number} v[numeric]:{number}" for number in (1, 2)]
+        (commit,) = commits(self.decoder, "BEGIN 9", rows[0], truncate, rows[1], COMMIT)
+        self.assertEqual([change.item for change in commit.changes], ["t/1", EVERY_ROW, "t/2"])
+        self.assertEqual(commit.replaced, {"t": "TRUNCATE"})
+        versions = Versions([T], {"t/3": (T, 300, "1")}, Snapshot(10, 10, frozenset()))
+        versions.add(commit)
+        self.assertEqual({item: value for item, value in versions.now.items() if value is not None}, {"t/2": 200})
+        self.assertEqual(versions.totals[-1], {"t": (200, 1)})
+
+    def test_truncate_of_a_partition(self):
+        (commit,) = commits(self.decoder, "BEGIN 9", "table public.t_1: TRUNCATE: (no-flags)", COMMIT)
+        self.assertEqual((commit.changes, commit.faults), ([], ["t: some of its partitions were truncated"]))
 
     def test_markers_and_times(self):
         self.decoder.feed(f"message: transactional: 1 prefix: {PREFIX}, sz: 3 content:1.2")
@@ -92,7 +106,7 @@ class Simulation:
         rows = dict(self.opening)
         for commit in self.commits:
             if seen(commit.xid):
-                rows.update((item, value) for _, item, value in commit.changes)
+                rows.update((change.item, change.value) for change in commit.changes)
         return {item: value for item, value in rows.items() if value is not None}
 
 
@@ -202,3 +216,61 @@ class Windows(unittest.TestCase):
         for text in ("", "[]", '{"report":"r"}', line("r", {})):
             with self.assertRaisesRegex(RecordingError, "not a line of a file of reports"):
                 load_line(text)
+
+
+class Replaced(unittest.TestCase):
+    """A table that a commit gave a new file, which is empty for older snapshots."""
+
+    def versions(self, *changes, **replaced):
+        opening = {"t/1": (T, 500, "1"), "t/2": (T, 700, "1")}
+        versions = Versions([T], opening, Snapshot(10, 10, frozenset()))
+        versions.add(Commit(10, 50, [Change(T, *change) for change in changes], replaced=dict(replaced)))
+        return versions
+
+    def truncated(self):
+        return self.versions((EVERY_ROW, None), ("t/1", 300, True), t="TRUNCATE")
+
+    def refusal(self, versions, statement, **more):
+        with self.assertRaises(RecordingError) as raised:
+            report_of(load_line(line("r", {"snapshot": "10:10:", **statement}, **more)), versions)
+        return str(raised.exception)
+
+    def test_reads_after_a_command_that_their_snapshot_does_not_see(self):
+        for statement in (
+            {"sums": {"t": "0"}},
+            {"counts": {"t": 0}},
+            {"sums": {"t": "12"}, "counts": {"t": 0}},
+            {"rows": [], "all": ["t"], "tables": ["t"]},
+            {"rows": [], "all": [], "tables": ["t"]},
+        ):
+            with self.subTest(statement):
+                said = self.refusal(self.truncated(), statement)
+                self.assertIn("it read t without rows of its snapshot: x10 replaced the table by TRUNCATE after", said)
+        rewritten = self.versions(("t/1", 1000, True), ("t/2", 1400, True))
+        said = self.refusal(rewritten, {"sums": {"t": 0}})
+        self.assertIn("x10 replaced the table by ALTER TABLE after", said)
+
+    def test_other_differences(self):
+        said = self.refusal(self.truncated(), {"sums": {"t": "0"}}, ended=49)
+        self.assertEqual(said, "it got the sum 0 of t, which is 1200 units at its snapshot")
+        updated = self.versions(("t/1", 1000), ("t/2", None), ("t/2", 1400, True))
+        self.assertEqual(updated.commits[0].replaced, {})
+        self.assertIn("it got the sum 0 of t, which is 1200 units", self.refusal(updated, {"sums": {"t": "0"}}))
+
+    def test_reads_that_are_those_of_their_snapshot(self):
+        for snapshot, statement in (
+            ("10:10:", {"sums": {"t": "12"}, "counts": {"t": 2}}),
+            ("10:10:", {"rows": [["t/2", 7]], "all": [], "tables": ["t"]}),
+            ("10:10:", {"rows": [], "tables": []}),
+            ("11:11:", {"sums": {"t": "3"}, "counts": {"t": 1}}),
+            ("11:11:", {"rows": [["t/1", "3"]], "all": ["t"], "tables": ["t"]}),
+        ):
+            with self.subTest(statement, snapshot=snapshot):
+                report_of(load_line(line("r", {"snapshot": snapshot, **statement})), self.truncated())
+
+    def test_a_command_that_removes_no_row_is_not_a_report(self):
+        versions = Versions([T], {}, Snapshot(10, 10, frozenset()))
+        versions.add(Commit(10, 50, [Change(T, EVERY_ROW, None)], replaced={"t": "TRUNCATE"}))
+        report = report_of(load_line(line("r", {"snapshot": "10:10:", "counts": {"t": 0}})), versions)
+        record = window_record(0, 1, [report], versions, "a test")
+        self.assertEqual([each.name for each in record.transactions], ["r"])
