@@ -694,6 +694,23 @@ impl Bank {
         Ok(self.named(&state, text))
     }
 
+    /// Returns the audit of a report as a JSON object, its problem and a certificate of the least distance, which `esr check`
+    /// verifies without this engine.
+    ///
+    /// ```
+    /// let bank = esr::Bank::builder().item("checking", 500).open()?;
+    /// let (_, report) = bank.report_unaudited(0, |report| report.read("checking"))?;
+    /// assert!(bank.bundle(report)?.starts_with(b"{"));
+    /// # Ok::<(), esr::Error>(())
+    /// ```
+    ///
+    /// # Errors
+    /// Those of [`audit`](Bank::audit).
+    pub fn bundle(&self, report: Report) -> Result<Vec<u8>, Error> {
+        let mut state = self.lock_with(report)?;
+        state.engine.bundle(report.query)
+    }
+
     /// Draws the audit of a report as one SVG, in which transactions have their numbers.
     ///
     /// ```
