@@ -4,8 +4,11 @@ use super::{
     Bank, Closing,
     items::Items,
     state::{RESERVED_NUMBERS, State},
+    watch::Observing,
 };
-use crate::{Engine, Error, Patience, gate::Lock, mirror::Mirror, sync::AtomicU64, twin::Twin};
+use crate::{
+    Engine, Error, Observer, Patience, gate::Lock, mirror::Mirror, sync::AtomicU64, twin::Twin,
+};
 use std::{error, fmt, sync::OnceLock};
 
 /// The work before a renewal.
@@ -28,6 +31,7 @@ pub struct BankBuilder {
     before_renewal: Option<BeforeRenewal>,
     is_optimistic: bool,
     background_audits: Option<bool>,
+    observer: Option<Box<dyn Observer>>,
 }
 
 impl Default for BankBuilder {
@@ -40,6 +44,7 @@ impl Default for BankBuilder {
             before_renewal: None,
             is_optimistic: true,
             background_audits: None,
+            observer: None,
         }
     }
 }
@@ -198,6 +203,30 @@ impl BankBuilder {
         self
     }
 
+    /// Sets the observer, which is called when a transaction begins, is blocked, runs again or ends, at audits and at
+    /// renewals. It replaces one that was set before.
+    ///
+    /// ```
+    /// use esr::{Audited, Bank, Error, Observer};
+    ///
+    /// struct Warns;
+    ///
+    /// impl Observer for Warns {
+    ///     fn audited(&self, audited: &Audited<'_>) {
+    ///         if audited.finding.distance > 1_000 {
+    ///             eprintln!("a report is off by {}", audited.finding.distance);
+    ///         }
+    ///     }
+    /// }
+    ///
+    /// let bank = Bank::builder().item("checking", 500).observer(Warns).open()?;
+    /// # Ok::<(), Error>(())
+    /// ```
+    pub fn observer(mut self, observer: impl Observer + 'static) -> BankBuilder {
+        self.observer = Some(Box::new(observer));
+        self
+    }
+
     /// Opens the bank.
     ///
     /// ```
@@ -231,6 +260,7 @@ impl BankBuilder {
             weights: self.weights,
             may_start_twin: self.background_audits.is_none(),
             before_renewal: self.before_renewal,
+            observing: self.observer.map(Observing::of),
         })
     }
 }
