@@ -1,7 +1,7 @@
 //! Observers, which a bank calls when a transaction begins, is blocked, runs again or ends, and at audits and renewals.
 //!
 //! The crate has no dependencies, so it does not call the crates `tracing` and `metrics`: Cargo resolves optional
-//! dependencies too, so with them a build without a registry would fail. An observer of ten lines forwards to them.
+//! dependencies too, so with them a build without a registry would fail. A short observer forwards to them.
 
 use crate::{Error, Finding, Refused};
 use std::time::Duration;
@@ -23,15 +23,14 @@ use std::time::Duration;
 ///
 /// ```
 /// # mod tracing {
-/// #     // stands for the crate `tracing`, which the documentation is built without
+/// #     // a stand-in for the crate `tracing`, with which `tests/forwards` compiles this
 /// #     #[derive(Clone, Copy)]
 /// #     pub struct Span;
-/// #     pub struct EnteredSpan;
-/// #     impl Span {
-/// #         pub fn record(&self, _: &str, _: &str) {}
-/// #         pub fn entered(self) -> EnteredSpan { EnteredSpan }
+/// #     impl Span { pub fn entered(self) -> span::EnteredSpan { span::EnteredSpan } }
+/// #     pub mod span {
+/// #         pub struct EnteredSpan;
+/// #         impl EnteredSpan { pub fn record(&self, _: &str, _: &str) {} }
 /// #     }
-/// #     impl EnteredSpan { pub fn record(&self, _: &str, _: &str) {} }
 /// #     pub mod field { pub struct Empty; }
 /// #     macro_rules! info_span { ($name:literal, $($field:ident = $value:expr),*) => {{ $(let _ = &$value;)* tracing::Span }}; }
 /// #     macro_rules! event { ($($field:ident = $value:expr,)* $text:literal) => {{ $(let _ = &$value;)* let _ = $text; }}; }
@@ -40,7 +39,7 @@ use std::time::Duration;
 /// use esr::{Audited, Bank, Ended, Error, Observed, Observer, Refused};
 /// use std::cell::RefCell;
 ///
-/// thread_local!(static SPANS: RefCell<Vec<tracing::EnteredSpan>> = const { RefCell::new(Vec::new()) });
+/// thread_local!(static SPANS: RefCell<Vec<tracing::span::EnteredSpan>> = const { RefCell::new(Vec::new()) });
 ///
 /// struct Traces;
 ///
@@ -78,7 +77,7 @@ use std::time::Duration;
 /// # Counters and histograms of `metrics`
 /// ```
 /// # mod metrics {
-/// #     // stands for the crate `metrics`, which the documentation is built without
+/// #     // a stand-in for the crate `metrics`
 /// #     pub struct Counter;
 /// #     impl Counter { pub fn increment(&self, _: u64) {} }
 /// #     pub struct Gauge;
