@@ -147,10 +147,10 @@ impl<'a> Handle<'a> {
         let commit = Event::Commit { txn };
         state.engine.step(commit)?;
         self.is_active = false;
-        self.watch.commit(false);
         let writes = &state.active(self.me.handle).writes;
         self.bank.mirror.publish(writes.iter().copied());
         state.log(commit, txn, 0);
+        self.watch.commit(false);
         if self.is_query {
             state.metrics.reports += 1;
         } else {

@@ -98,6 +98,7 @@ pub struct Report {
 pub struct Bank {
     items: Items,
     patience: Patience,
+    observing: Option<Observing>,
     state: Lock<State>,
     mirror: Mirror,
     /// The number of step-by-step transactions that have ended.
@@ -111,7 +112,6 @@ pub struct Bank {
     /// Whether a renewal after a report starts it.
     may_start_twin: bool,
     before_renewal: Option<BeforeRenewal>,
-    observing: Option<Observing>,
 }
 
 /// Counts a body that panics.
