@@ -65,7 +65,7 @@ pub enum Error {
     /// The transaction was the youngest of a ring of transactions that waited for each other, and patience has ended.
     Deadlock(Box<Refused>),
     /// Other updates changed what the body of an optimistic update had read. The body returns this error and runs again;
-    /// no caller gets it.
+    /// no caller gets it, but an observer of the restart does.
     Overtaken,
     /// The history is full, and the work before its renewal failed: see
     /// [`BankBuilder::try_before_renewal`](crate::BankBuilder::try_before_renewal).

@@ -11,7 +11,7 @@
 //! body begins nothing else in its bank. (e) `add` is one read and one write of the history. In return, eight threads run
 //! about four times as many updates, and no update blocks others while its body runs.
 
-use super::{Bank, BankUpdate, Mode, state::State};
+use super::{Bank, BankUpdate, Mode, state::State, watch::Watch};
 use crate::{
     Error, Event, Options, Refusal, Reply, Txn,
     engine::refusal_of,
@@ -43,9 +43,32 @@ enum Outcome {
         other: Txn,
         renewals: u64,
         ends: u64,
+        /// Described for an observer.
+        refused: Option<Box<Refused>>,
     },
     /// A limit is in the way, or the history has no capacity.
-    Blocked,
+    Blocked(Option<Box<Refused>>),
+}
+
+impl Outcome {
+    /// Reports a draft that has not committed.
+    fn observe(&self, watch: &Watch<'_>) {
+        let (Outcome::Locked { refused, .. } | Outcome::Blocked(refused)) = self else {
+            return watch.give_up(|| Error::Overtaken);
+        };
+        let Some(refused) = refused else {
+            return watch.give_up(|| Error::HistoryFull);
+        };
+        watch.block(|| (**refused).clone());
+        watch.give_up(|| Error::Refused(refused.clone()));
+    }
+}
+
+/// A run of a body, whose draft is executed.
+struct Attempt<'a> {
+    reruns: u32,
+    priority: Option<&'a Priority<'a>>,
+    watch: &'a Watch<'a>,
 }
 
 impl Bank {
@@ -55,11 +78,11 @@ impl Bank {
         options: &Options,
         draft: &mut Draft,
         waiting: &mut Option<Waiting>,
-        (reruns, priority): (u32, Option<&Priority<'_>>),
+        attempt: &Attempt<'_>,
     ) -> Result<Outcome, Error> {
         self.check_not_inside_renewal()?;
         let is_fresh = || !draft.is_stale(&self.mirror);
-        let Some(mut state) = self.state.lock_while(priority, is_fresh) else {
+        let Some(mut state) = self.state.lock_while(attempt.priority, is_fresh) else {
             return Ok(Outcome::Stale);
         };
         if state.is_nearly_full() {
@@ -70,7 +93,11 @@ impl Bank {
         if draft.is_stale(&self.mirror) {
             return Ok(Outcome::Stale);
         }
-        self.submit_in(&mut state, options, draft, reruns)
+        let outcome = self.submit_in(&mut state, options, draft, attempt)?;
+        if let (Outcome::Committed, Some(waiting)) = (&outcome, waiting) {
+            state.count_wait(waiting.waited(), attempt.watch);
+        }
+        Ok(outcome)
     }
 
     fn submit_in(
@@ -78,7 +105,7 @@ impl Bank {
         state: &mut State,
         options: &Options,
         draft: &mut Draft,
-        reruns: u32,
+        attempt: &Attempt<'_>,
     ) -> Result<Outcome, Error> {
         let limit = options.limit;
         let begin = Event::BeginUpdate { limit };
@@ -109,7 +136,8 @@ impl Bank {
             }
             state.metrics.updates += 1;
             state.metrics.optimistic_updates += 1;
-            state.metrics.reruns += u64::from(reruns);
+            state.metrics.reruns += u64::from(attempt.reruns);
+            attempt.watch.commit(true);
             return Ok(Outcome::Committed);
         }
         // the engine keeps capacity for the end of each active transaction
@@ -118,16 +146,28 @@ impl Bank {
         state.log(abort, txn, 0);
         match (judged, error) {
             (_, Some(Error::NoMemory)) => Err(Error::NoMemory),
-            (Err(Misfit::Refused(reply)), _) => match refusal_of(reply) {
-                Refusal::BlockedByLock(other) => Ok(Outcome::Locked {
-                    other,
-                    renewals: state.renewals,
-                    ends: self.ends.load(Ordering::Relaxed),
-                }),
-                _ => Ok(Outcome::Blocked),
-            },
+            (Err(Misfit::Refused(reply)), _) => {
+                let reason = refusal_of(reply);
+                let refused = attempt.watch.is_on().then(|| {
+                    let item = self.items.name(draft.events()[answered - 1].item);
+                    Box::new(state.describe_as(options.name.as_deref(), reason, item))
+                });
+                Ok(self.outcome_of(state, reason, refused))
+            }
             (Err(Misfit::Stale), _) => Ok(Outcome::Stale),
-            _ => ended.and(Ok(Outcome::Blocked)),
+            _ => ended.and(Ok(Outcome::Blocked(None))),
+        }
+    }
+
+    fn outcome_of(&self, state: &State, reason: Refusal, refused: Option<Box<Refused>>) -> Outcome {
+        match reason {
+            Refusal::BlockedByLock(other) => Outcome::Locked {
+                other,
+                renewals: state.renewals,
+                ends: self.ends.load(Ordering::Relaxed),
+                refused,
+            },
+            _ => Outcome::Blocked(refused),
         }
     }
 
@@ -165,11 +205,13 @@ impl Bank {
         options: &Options,
         waiting: &mut Option<Waiting>,
         body: &mut impl FnMut(&mut BankUpdate<'_, '_>) -> Result<T, E>,
+        watch: &Watch<'_>,
     ) -> Option<Result<T, E>> {
         let mut draft = Draft::take();
         let (mut reruns, mut blocked) = (0, 0);
         let mut last = Duration::MAX;
         let result = loop {
+            watch.run();
             draft.restart(&self.mirror);
             let begun = (reruns > 0).then(Instant::now);
             let is_urgent = reruns >= PATIENT_RERUNS && last < SHORT;
@@ -177,10 +219,14 @@ impl Bank {
             let mode = Mode::Ahead(self, &mut draft);
             let result = body(&mut BankUpdate { mode });
             last = begun.map_or(Duration::MAX, |begun| begun.elapsed());
-            let attempt = (reruns, priority.as_ref());
+            let attempt = Attempt {
+                reruns,
+                priority: priority.as_ref(),
+                watch,
+            };
             let outcome = match result {
                 _ if draft.is_overtaken() => Outcome::Stale,
-                Ok(value) => match self.submit(options, &mut draft, waiting, attempt) {
+                Ok(value) => match self.submit(options, &mut draft, waiting, &attempt) {
                     Ok(Outcome::Committed) => break Some(Ok(value)),
                     Ok(outcome) => outcome,
                     Err(error) => break Some(Err(error.into())),
@@ -192,11 +238,13 @@ impl Bank {
                 }
             };
             drop(priority);
+            outcome.observe(watch);
             match outcome {
                 Outcome::Locked {
                     other,
                     renewals,
                     ends,
+                    ..
                 } if blocked < MAX_BLOCKED => {
                     blocked += 1;
                     reruns += 1;
@@ -207,6 +255,21 @@ impl Bank {
             }
         };
         draft.put_back();
+        match &result {
+            Some(Ok(_)) => {}
+            Some(Err(_)) => self.count_uncommitted(reruns, waiting.as_ref(), watch),
+            // its wait is counted step by step
+            None => self.count_uncommitted(reruns, None, watch),
+        }
         result
+    }
+
+    /// Counts the reruns and the wait of an update that has not committed optimistically.
+    fn count_uncommitted(&self, reruns: u32, waiting: Option<&Waiting>, watch: &Watch<'_>) {
+        if reruns > 0 || waiting.is_some() {
+            let mut state = self.lock();
+            state.metrics.reruns += u64::from(reruns);
+            state.count_wait(waiting.map_or(Duration::ZERO, Waiting::waited), watch);
+        }
     }
 }

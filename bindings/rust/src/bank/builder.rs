@@ -4,8 +4,11 @@ use super::{
     Bank, Closing,
     items::Items,
     state::{RESERVED_NUMBERS, State},
+    watch::Observing,
 };
-use crate::{Engine, Error, Patience, gate::Lock, mirror::Mirror, sync::AtomicU64, twin::Twin};
+use crate::{
+    Engine, Error, Observer, Patience, gate::Lock, mirror::Mirror, sync::AtomicU64, twin::Twin,
+};
 use std::{error, fmt, sync::OnceLock};
 
 /// The work before a renewal.
@@ -25,6 +28,7 @@ pub struct BankBuilder {
     opening: Vec<i64>,
     weights: Vec<u32>,
     patience: Patience,
+    observer: Option<Box<dyn Observer>>,
     before_renewal: Option<BeforeRenewal>,
     is_optimistic: bool,
     background_audits: Option<bool>,
@@ -37,6 +41,7 @@ impl Default for BankBuilder {
             opening: Vec::new(),
             weights: Vec::new(),
             patience: Patience::default(),
+            observer: None,
             before_renewal: None,
             is_optimistic: true,
             background_audits: None,
@@ -100,6 +105,30 @@ impl BankBuilder {
     /// ```
     pub fn patience(mut self, patience: Patience) -> BankBuilder {
         self.patience = patience;
+        self
+    }
+
+    /// Sets the observer, which is called when a transaction begins, is blocked, runs again or ends, at audits and at
+    /// renewals. It replaces one that was set before.
+    ///
+    /// ```
+    /// use esr::{Audited, Bank, Error, Observer};
+    ///
+    /// struct Warns;
+    ///
+    /// impl Observer for Warns {
+    ///     fn audited(&self, audited: &Audited<'_>) {
+    ///         if audited.finding.distance > 1_000 {
+    ///             eprintln!("a report is off by {}", audited.finding.distance);
+    ///         }
+    ///     }
+    /// }
+    ///
+    /// let bank = Bank::builder().item("checking", 500).observer(Warns).open()?;
+    /// # Ok::<(), Error>(())
+    /// ```
+    pub fn observer(mut self, observer: impl Observer + 'static) -> BankBuilder {
+        self.observer = Some(Box::new(observer));
         self
     }
 
@@ -222,6 +251,7 @@ impl BankBuilder {
         Ok(Bank {
             items,
             patience: self.patience,
+            observing: self.observer.map(Observing::of),
             state: Lock::new(State::new(engine, feed, reserved)),
             mirror: Mirror::of(&self.opening),
             ends: AtomicU64::new(0),

@@ -3,9 +3,10 @@
 use super::{
     Bank, Report,
     state::{Hold, Me, State},
+    watch::Watch,
 };
 use crate::{
-    Error, Event, Finding, Reply, Txn,
+    Error, Event, Finding, Refusal, Refused, Reply, Txn,
     patience::{Rounds, Waiting},
     waits::Holds,
 };
@@ -25,6 +26,7 @@ pub(super) struct Handle<'a> {
     pub(super) is_query: bool,
     /// Whether its body has failed.
     pub(super) has_failed: bool,
+    pub(super) watch: &'a Watch<'a>,
 }
 
 impl<'a> Handle<'a> {
@@ -38,26 +40,22 @@ impl<'a> Handle<'a> {
             return Err(error.clone());
         }
         let mut rounds = Rounds::default();
+        let mut blocked_at = None;
         loop {
             let reply = events(&mut self.bank.lock());
             match reply {
-                Ok(Reply::Refused(reason)) => {
-                    let can_retry =
-                        reason.may_pass_later() && self.waiting.pause_for_event(&mut rounds);
-                    if can_retry {
-                        continue;
+                Ok(Reply::Refused(reason)) if reason.may_pass_later() => {
+                    if blocked_at.replace(item.get()) != Some(item.get()) {
+                        self.watch.block(|| self.describe(reason, item.get()));
                     }
-                    let name = self.bank.items.name(item.get());
-                    let error: Error = self.bank.lock().describe(self.me, reason, name).into();
-                    return Err(if reason.may_pass_later() {
-                        self.stop_for(error)
-                    } else {
-                        error
-                    });
+                    if !self.waiting.pause_for_event(&mut rounds) {
+                        let refused = self.describe(reason, item.get());
+                        return Err(self.stop_for(refused.into()));
+                    }
                 }
+                Ok(Reply::Refused(reason)) => return Err(self.describe(reason, item.get()).into()),
                 Err(Error::Deadlock(refused)) => {
-                    let name = self.bank.items.name(item.get());
-                    let refused = self.bank.lock().describe(self.me, refused.reason, name);
+                    let refused = self.describe(refused.reason, item.get());
                     return Err(self.stop_for(Error::Deadlock(Box::new(refused))));
                 }
                 Err(error @ Error::HistoryFull) => return Err(self.stop_for(error)),
@@ -68,6 +66,11 @@ impl<'a> Handle<'a> {
                 }
             }
         }
+    }
+
+    fn describe(&self, reason: Refusal, item: u32) -> Refused {
+        let name = self.bank.items.name(item);
+        self.bank.lock().describe(self.me, reason, name)
     }
 
     fn stop_for(&mut self, error: Error) -> Error {
@@ -147,6 +150,7 @@ impl<'a> Handle<'a> {
         let writes = &state.active(self.me.handle).writes;
         self.bank.mirror.publish(writes.iter().copied());
         state.log(commit, txn, 0);
+        self.watch.commit(false);
         if self.is_query {
             state.metrics.reports += 1;
         } else {
@@ -159,11 +163,7 @@ impl<'a> Handle<'a> {
     /// Removes it after its end. Returns the transaction it waited for, if it was a deadlock's victim.
     fn remove(&self, state: &mut State) -> Option<Txn> {
         let waited_for = state.remove(self.me.handle);
-        let waited = self.waiting.waited();
-        if !waited.is_zero() {
-            state.metrics.waits += 1;
-            state.metrics.waited += waited;
-        }
+        state.count_wait(self.waiting.waited(), self.watch);
         self.bank.ends.fetch_add(1, Ordering::Release);
         if state.is_nearly_full() && state.may_renew() {
             state.wake_for_capacity();

@@ -26,6 +26,7 @@ mod state;
 #[cfg(test)]
 mod tests;
 mod update;
+mod watch;
 
 pub use builder::BankBuilder;
 pub use closing::Closing;
@@ -33,8 +34,8 @@ pub use items::{Item, ItemKey};
 pub use update::{BankQuery, BankUpdate};
 
 use crate::{
-    Active, Counts, Error, Event, Finding, Metrics, Options, Patience, Reply, Standing, Totals,
-    Txn,
+    Active, Audited, Counts, Error, Event, Finding, Metrics, Options, Patience, Renewed, Reply,
+    Standing, Totals, Txn,
     error::{MAX_LIMIT, Refused},
     gate::Lock,
     mirror::Mirror,
@@ -58,6 +59,7 @@ use std::{
     thread,
 };
 use update::Mode;
+use watch::{Observing, Renewal, Watch};
 
 thread_local! {
     /// The bank whose work before a renewal runs on this thread.
@@ -96,6 +98,7 @@ pub struct Report {
 pub struct Bank {
     items: Items,
     patience: Patience,
+    observing: Option<Observing>,
     state: Lock<State>,
     mirror: Mirror,
     /// The number of step-by-step transactions that have ended.
@@ -168,8 +171,13 @@ impl Bank {
                 return Ok(state);
             }
             if state.may_renew() {
-                self.renew(&mut state)?;
-                return Ok(state);
+                let renewal = self.renew(&mut state);
+                if self.observing.is_none() {
+                    return renewal.map(|_| state);
+                }
+                drop(state);
+                self.observe_renewal(renewal)?;
+                continue;
             }
             if waiting.rest().is_zero() {
                 return Err(Error::HistoryFull);
@@ -181,13 +189,13 @@ impl Bank {
     }
 
     /// Does the work before a renewal, and renews. After failed work the bank continues in the old history if it can.
-    fn renew(&self, state: &mut State) -> Result<(), Error> {
-        let begun = Instant::now();
+    fn renew(&self, state: &mut State) -> Result<Renewal, Error> {
+        let (begun, carried) = (Instant::now(), state.metrics.carried);
         if let Err(why) = self.work_before_renewal(state) {
             state.metrics.failed_renewals += 1;
             state.failed_renewal = Some((Instant::now() + RETRY, why.clone()));
             if state.may_continue() {
-                return Ok(());
+                return Ok(Renewal::Failed { why });
             }
             return Err(Error::RenewalFailed { why });
         }
@@ -199,8 +207,10 @@ impl Bank {
             }
         }
         state.renew()?;
-        state.metrics.count_renewal(begun.elapsed());
-        Ok(())
+        let time = begun.elapsed();
+        state.metrics.count_renewal(time);
+        let carried = state.metrics.carried - carried;
+        Ok(Renewal::Done(Renewed { time, carried }))
     }
 
     fn work_before_renewal(&self, state: &mut State) -> Result<(), String> {
@@ -218,13 +228,14 @@ impl Bank {
     }
 
     /// Begins a transaction. One that begins again keeps the age of its first attempt.
-    fn begin(
-        &self,
+    fn begin<'a>(
+        &'a self,
         options: &Options,
         is_query: bool,
         age: Option<Age>,
         mut waiting: Waiting,
-    ) -> Result<Handle<'_>, Error> {
+        watch: &'a Watch<'_>,
+    ) -> Result<Handle<'a>, Error> {
         let mut state = self.lock_with_capacity(&mut waiting)?;
         let limit = options.limit;
         let event = match is_query {
@@ -240,6 +251,7 @@ impl Bank {
             other => unreachable!("{other:?}"),
         };
         state.log(event, txn, 0);
+        state.metrics.reruns += u64::from(watch.has_run());
         let handle = state.add(txn, is_query, limit, options.name.clone());
         let age = age.unwrap_or_else(|| {
             state.bodies += 1;
@@ -257,6 +269,7 @@ impl Bank {
             is_active: true,
             is_query,
             has_failed: false,
+            watch,
         })
     }
 
@@ -268,10 +281,12 @@ impl Bank {
         mut waiting: Waiting,
         mut body: impl FnMut(&mut Handle<'_>) -> Result<T, E>,
         end: impl Fn(Handle<'_>, T) -> Result<R, Error>,
+        watch: &Watch<'_>,
     ) -> Result<R, E> {
         let mut age = None;
         loop {
-            let mut handle = self.begin(options, is_query, age, waiting)?;
+            let mut handle = self.begin(options, is_query, age, waiting, watch)?;
+            watch.run();
             if handle.is_query {
                 self.wake_twin();
             }
@@ -283,9 +298,10 @@ impl Bank {
                 (Some(why), _) => why,
             };
             waiting = handle.waiting.of_next_attempt();
-            let is_deadlock = matches!(why, Error::Deadlock(_));
-            let renewals = self.count_rerun(is_deadlock);
-            match (&why, handle.abort()) {
+            let renewals = self.count_deadlock(matches!(why, Error::Deadlock(_)));
+            let waited_for = handle.abort();
+            watch.give_up(|| why.clone());
+            match (&why, waited_for) {
                 (Error::Deadlock(_), Some(txn)) => self.wait_for_end(txn, renewals, &mut waiting),
                 (Error::HistoryFull, _) => waiting.spend_share(),
                 _ => _ = waiting.pause_for_attempt(),
@@ -297,10 +313,9 @@ impl Bank {
         }
     }
 
-    /// Counts an attempt that is given up. Returns the number of renewals.
-    fn count_rerun(&self, is_deadlock: bool) -> u64 {
+    /// Counts the victim of a deadlock. Returns the number of renewals.
+    fn count_deadlock(&self, is_deadlock: bool) -> u64 {
         let mut state = self.lock();
-        state.metrics.reruns += 1;
         state.metrics.deadlocks += u64::from(is_deadlock);
         state.renewals
     }
@@ -400,15 +415,17 @@ impl Bank {
         mut body: impl FnMut(&mut BankUpdate<'_, '_>) -> Result<T, E>,
     ) -> Result<T, E> {
         let options = options.into();
-        let mut waiting = None;
-        if self.is_optimistic && options.limit <= MAX_LIMIT {
-            let _counter = PanicCounter(&self.dropped);
-            if let Some(result) = self.run_ahead(&options, &mut waiting, &mut body) {
-                return result;
+        self.watched(&options, false, |watch| {
+            let mut waiting = None;
+            if self.is_optimistic && options.limit <= MAX_LIMIT {
+                let _counter = PanicCounter(&self.dropped);
+                if let Some(result) = self.run_ahead(&options, &mut waiting, &mut body, watch) {
+                    return result;
+                }
             }
-        }
-        let waiting = waiting.unwrap_or_else(|| self.waiting_of(&options));
-        self.run_stepwise(&options, waiting, body)
+            let waiting = waiting.unwrap_or_else(|| self.waiting_of(&options));
+            self.run_stepwise(&options, waiting, body, watch)
+        })
     }
 
     /// Runs an update like [`transact`](Bank::transact), but executes each event at once: the update takes its locks as the
@@ -455,7 +472,9 @@ impl Bank {
     ) -> Result<T, E> {
         let options = options.into();
         let waiting = self.waiting_of(&options);
-        self.run_stepwise(&options, waiting, body)
+        self.watched(&options, false, |watch| {
+            self.run_stepwise(&options, waiting, body, watch)
+        })
     }
 
     fn run_stepwise<T, E: From<Error>>(
@@ -463,6 +482,7 @@ impl Bank {
         options: &Options,
         waiting: Waiting,
         mut body: impl FnMut(&mut BankUpdate<'_, '_>) -> Result<T, E>,
+        watch: &Watch<'_>,
     ) -> Result<T, E> {
         self.run(
             options,
@@ -473,6 +493,7 @@ impl Bank {
                 body(&mut BankUpdate { mode })
             },
             |handle, value| handle.commit().map(|()| value),
+            watch,
         )
     }
 
@@ -566,13 +587,16 @@ impl Bank {
         mut body: impl FnMut(&mut BankQuery<'_, '_>) -> Result<T, E>,
         end: impl Fn(Handle<'_>, T) -> Result<R, Error>,
     ) -> Result<R, E> {
-        self.run(
-            options,
-            true,
-            self.waiting_of(options),
-            |handle| body(&mut BankQuery { handle }),
-            end,
-        )
+        self.watched(options, true, |watch| {
+            self.run(
+                options,
+                true,
+                self.waiting_of(options),
+                |handle| body(&mut BankQuery { handle }),
+                end,
+                watch,
+            )
+        })
     }
 }
 
@@ -618,7 +642,7 @@ impl Bank {
 
     /// Audits a committed report, on the second engine if there is one.
     fn audit_of<'a>(&'a self, mut state: Hold<'a>, report: Report) -> Result<Finding, Error> {
-        let begun = Instant::now();
+        let (begun, mut is_background) = (Instant::now(), false);
         let found = match &mut state.feed {
             Some(feed) => {
                 let receiver = feed.ask(report.query);
@@ -626,7 +650,8 @@ impl Bank {
                 self.wake_twin();
                 let found = receiver.recv().unwrap_or(Err(Error::NoMemory));
                 state = self.lock();
-                state.metrics.background_audits += u64::from(found.is_ok());
+                is_background = found.is_ok();
+                state.metrics.background_audits += u64::from(is_background);
                 found
             }
             None => Err(Error::NoMemory),
@@ -638,7 +663,16 @@ impl Bank {
             }
             found => found?,
         };
-        state.metrics.count_audit(&finding, begun.elapsed());
+        let time = begun.elapsed();
+        state.metrics.count_audit(&finding, time);
+        drop(state);
+        self.observe(|observer| {
+            observer.audited(&Audited {
+                finding: &finding,
+                time,
+                is_background,
+            });
+        });
         Ok(finding)
     }
 
@@ -692,6 +726,23 @@ impl Bank {
         let mut state = self.lock_with(report)?;
         let text = state.engine.explain_by(report.query, self.items.texts())?;
         Ok(self.named(&state, text))
+    }
+
+    /// Returns the audit of a report as a JSON object, its problem and a certificate of the least distance, which `esr check`
+    /// verifies without this engine.
+    ///
+    /// ```
+    /// let bank = esr::Bank::builder().item("checking", 500).open()?;
+    /// let (_, report) = bank.report_unaudited(0, |report| report.read("checking"))?;
+    /// assert!(bank.bundle(report)?.starts_with(b"{"));
+    /// # Ok::<(), esr::Error>(())
+    /// ```
+    ///
+    /// # Errors
+    /// Those of [`audit`](Bank::audit).
+    pub fn bundle(&self, report: Report) -> Result<Vec<u8>, Error> {
+        let mut state = self.lock_with(report)?;
+        state.engine.bundle(report.query)
     }
 
     /// Draws the audit of a report as one SVG, in which transactions have their numbers.

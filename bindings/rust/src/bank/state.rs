@@ -5,6 +5,7 @@
 //! changed what it read or seen what it wrote, and each reply is what it was. An update whose reply differs is lost, and its
 //! body runs again. A report has read values that may have been overwritten since, so a renewal waits for it.
 
+use super::watch::Watch;
 use crate::{
     Engine, Error, Event, Metrics, Refusal, Reply, Txn,
     engine::{MAX_ENTRIES, MAX_TRANSACTIONS},
@@ -188,9 +189,19 @@ impl State {
 
     /// Describes why an event of a transaction is refused.
     pub(super) fn describe(&mut self, me: Me, reason: Refusal, item: &str) -> Refused {
+        let name = self.active(me.handle).name.clone();
+        self.describe_as(name.as_deref(), reason, item)
+    }
+
+    /// Describes why an event of a transaction with this name is refused.
+    pub(super) fn describe_as(
+        &mut self,
+        name: Option<&str>,
+        reason: Refusal,
+        item: &str,
+    ) -> Refused {
         let mut refused = Refused::of(reason).item(item);
-        let active = self.active(me.handle);
-        refused.name = active.name.as_ref().map(ToString::to_string);
+        refused.name = name.map(ToString::to_string);
         if let Some(other) = reason.names() {
             refused.other = self.names.get(&other.number()).map(ToString::to_string);
             if !matches!(reason, Refusal::BlockedByLock(_)) {
@@ -198,6 +209,15 @@ impl State {
             }
         }
         refused
+    }
+
+    /// Counts the time for which a transaction has waited, if it has.
+    pub(super) fn count_wait(&mut self, waited: Duration, watch: &Watch<'_>) {
+        if !waited.is_zero() {
+            self.metrics.waits += 1;
+            self.metrics.waited += waited;
+            watch.wait(waited);
+        }
     }
 
     fn keep_write(&mut self, me: Me, item: u32, value: i64) {
