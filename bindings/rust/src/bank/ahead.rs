@@ -19,6 +19,7 @@ use crate::{
     gate::{Priority, pause},
     mirror::{Draft, Misfit, commit_of},
     patience::{Rounds, Waiting},
+    store::Place,
     sync::Instant,
 };
 use std::{sync::atomic::Ordering, time::Duration};
@@ -35,7 +36,8 @@ const POLLS: u32 = 400;
 
 /// The outcome of a draft.
 enum Outcome {
-    Committed,
+    /// The caller waits for this place in the queue of the store.
+    Committed(Place),
     /// Other updates have changed what it had read.
     Stale,
     /// Transaction `other` holds a lock; `ends` transactions had ended by then.
@@ -62,6 +64,7 @@ impl Bank {
         let Some(mut state) = self.state.lock_while(priority, is_fresh) else {
             return Ok(Outcome::Stale);
         };
+        self.check_running()?;
         if state.is_nearly_full() {
             drop(state);
             state = self.lock_with_capacity(self.waiting_in(options, waiting))?;
@@ -100,6 +103,7 @@ impl Bank {
             feed.push_all(&draft.events()[..accepted]);
         }
         if let Ok(Reply::Committed) = ended {
+            let place = self.enter_store(draft.writes());
             self.mirror.publish(draft.writes());
             if let Some(feed) = &mut state.feed {
                 feed.push_all(&[commit_of(txn.number())]);
@@ -110,7 +114,7 @@ impl Bank {
             state.metrics.updates += 1;
             state.metrics.optimistic_updates += 1;
             state.metrics.reruns += u64::from(reruns);
-            return Ok(Outcome::Committed);
+            return Ok(Outcome::Committed(place));
         }
         // the engine keeps capacity for the end of each active transaction
         let abort = Event::Abort { txn };
@@ -166,6 +170,9 @@ impl Bank {
         waiting: &mut Option<Waiting>,
         body: &mut impl FnMut(&mut BankUpdate<'_, '_>) -> Result<T, E>,
     ) -> Option<Result<T, E>> {
+        if let Err(stopped) = self.check_running() {
+            return Some(Err(stopped.into()));
+        }
         let mut draft = Draft::take();
         let (mut reruns, mut blocked) = (0, 0);
         let mut last = Duration::MAX;
@@ -181,14 +188,14 @@ impl Bank {
             let outcome = match result {
                 _ if draft.is_overtaken() => Outcome::Stale,
                 Ok(value) => match self.submit(options, &mut draft, waiting, attempt) {
-                    Ok(Outcome::Committed) => break Some(Ok(value)),
+                    Ok(Outcome::Committed(place)) => break Some((Ok(value), place)),
                     Ok(outcome) => outcome,
-                    Err(error) => break Some(Err(error.into())),
+                    Err(error) => break Some((Err(error.into()), self.last_place())),
                 },
                 // the body saw values of one moment, so this is its result, and there is nothing to undo
                 Err(error) => {
                     self.dropped.fetch_add(1, Ordering::Relaxed);
-                    break Some(Err(error));
+                    break Some((Err(error), self.last_place()));
                 }
             };
             drop(priority);
@@ -207,6 +214,9 @@ impl Bank {
             }
         };
         draft.put_back();
-        result
+        // no priority is held during the wait
+        let (result, place) = result?;
+        let waited = self.wait_for_place(place).map_err(E::from);
+        Some(waited.and(result))
     }
 }
