@@ -46,6 +46,9 @@ struct Inner {
     closes: u32,
 }
 
+/// No write is held longer, so that a test that fails ends.
+const LONGEST: Duration = Duration::from_secs(20);
+
 /// A store in memory that fails on command, and whose writes wait while it is held.
 #[derive(Clone, Default)]
 struct Fake(Arc<(Mutex<Inner>, Condvar)>);
@@ -80,8 +83,9 @@ impl Fake {
     /// Waits until the given number of writes has begun.
     fn wait_for_writes(&self, count: u32) {
         let inner = self.lock();
-        let waited = self.0.1.wait_while(inner, |inner| inner.writes < count);
-        drop(waited);
+        let waiting = |inner: &mut Inner| inner.writes < count;
+        let waited = self.0.1.wait_timeout_while(inner, LONGEST, waiting);
+        assert!(!waited.unwrap().1.timed_out(), "no write begins");
     }
 }
 
@@ -103,7 +107,12 @@ impl Store for Fake {
         let mut inner = self.lock();
         inner.writes += 1;
         self.0.1.notify_all();
-        let mut inner = self.0.1.wait_while(inner, |inner| inner.is_held).unwrap();
+        let is_held = |inner: &mut Inner| inner.is_held;
+        let (mut inner, _) = self
+            .0
+            .1
+            .wait_timeout_while(inner, LONGEST, is_held)
+            .unwrap();
         let fault = inner.faults.pop_front().unwrap_or(Fault::None);
         match fault {
             Fault::Before => return Err(StoreError::NotWritten("disk full".into())),
@@ -647,11 +656,10 @@ fn threads_lose_nothing_while_writes_fail() {
                 })
             })
             .collect();
-        tellers
-            .into_iter()
-            .for_each(|teller| teller.join().unwrap());
+        let ended: Vec<_> = tellers.into_iter().map(|teller| teller.join()).collect();
         is_done.store(true, Ordering::SeqCst);
         reporter.join().unwrap();
+        assert!(ended.iter().all(Result::is_ok));
     });
     let moved = THREADS as i64 * TURNS;
     assert_eq!((store.total(), store.value("pocket")), (2000, moved));
