@@ -677,10 +677,11 @@ fn renewals_wait_for_the_store() {
     let closing = store.clone();
     let builder = Bank::builder().item("hits", 0).store(store.clone());
     let builder = builder.before_renewal(move |history| {
+        let stored = closing.value("hits");
         let script = history.script().unwrap();
         let commits = script.lines().filter(|line| line.starts_with("commit"));
-        let found = (commits.count() as i64, closing.value("hits"));
-        sender.lock().unwrap().send(found).unwrap();
+        let commits = commits.count() as i64;
+        sender.lock().unwrap().send((commits, stored)).unwrap();
     });
     let bank = builder.open().unwrap();
     let left = AtomicU64::new(TURNS);
