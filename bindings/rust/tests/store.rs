@@ -423,6 +423,16 @@ fn a_transaction_that_is_active_when_the_bank_stops() {
     assert_eq!(store.value("checking"), 500);
 }
 
+/// A write that would fail again stops the bank at once.
+#[test]
+fn a_final_error_is_not_tried_again() {
+    let store = Fake::default();
+    let bank = open(&store);
+    store.fail(&[Fault::Final], 0);
+    assert_eq!(transfer(&bank, 100), Err(stopped("a constraint", false)));
+    assert_eq!((store.value("checking"), store.lock().writes), (500, 1));
+}
+
 /// A store that fails for a while is waited for.
 #[test]
 fn callers_wait_as_long_as_patience_lasts() {
