@@ -57,14 +57,14 @@ def plant(fault):
         raise SystemExit(f"no fault has the name {fault}")
 
 
-def child(kind, place, pipe):
+def child(kind, place):
     """Runs a bank until it is killed."""
     from esr import Bank
 
     bank = Bank(ITEMS, store=store_of(kind, place))
 
     def say(*words):
-        os.write(pipe, (" ".join(map(str, words)) + "\n").encode())
+        os.write(1, (" ".join(map(str, words)) + "\n").encode())
 
     def teller(thread):
         number = bank[COUNTERS[thread]]
@@ -105,10 +105,10 @@ def child(kind, place, pipe):
         thread.start()
 
 
-def killed(words, lifetime):
-    """Runs a child for some seconds once it is open, kills it, and returns the lines that it wrote."""
+def killed(command, lifetime):
+    """Runs a child for some seconds once it is open, kills it, and returns the lines that it wrote to its standard output."""
     reading, writing = os.pipe()
-    process = subprocess.Popen([sys.executable, "-B", __file__, *words, "--child", str(writing)], pass_fds=[writing])
+    process = subprocess.Popen(command, stdout=writing)
     os.close(writing)
     parts, until = [os.read(reading, 65536)], 0.0
     demand(parts[0], "the bank opens")
@@ -151,22 +151,30 @@ def look(lines, answered, shown):
 def main(words):
     planted = words[1] if words[0] == "--planted" else None
     kind, place = words[2:4] if planted else words[:2]
-    if words[-2] == "--child":
+    if words[-1] == "--child":
         if planted:
             plant(planted)
-        child(kind, place, int(words[-1]))
+        child(kind, place)
         return
     from esr import Bank
 
-    balances, draw, begun = Balances(), random.Random(1), time.monotonic()
-    counts = [0, 0, 0]
-    under_way = 0
-    for kill in range(int(words[-1])):
-        answered, shown = list(balances.done), [0] * THREADS
-        lines = killed(words[:-1], draw.random() * LIFETIME)
-        counts = [sum(pair) for pair in zip(counts, look(lines, answered, shown))]
+    def values():
         with Bank(store=store_of(kind, place)) as bank:
-            kept = balances.compare(bank.snapshot(), f"kill {kill}")
+            return bank.snapshot()
+
+    command = [sys.executable, "-B", __file__, *words[:-1], "--child"]
+    kill_repeatedly(command, int(words[-1]), values, Balances(), f"over {kind}")
+
+
+def kill_repeatedly(command, times, values, balances, where):
+    """Kills a child the given number of times, and compares the values of its store each time with what its calls returned."""
+    draw, begun = random.Random(1), time.monotonic()
+    counts, under_way = [0, 0, 0], 0
+    for kill in range(times):
+        answered, shown = list(balances.done), [0] * THREADS
+        lines = killed(command, draw.random() * LIFETIME)
+        counts = [sum(pair) for pair in zip(counts, look(lines, answered, shown))]
+        kept = balances.compare(values(), f"kill {kill}")
         for thread in range(THREADS):
             what = f"kill {kill}: thread {thread} was answered {answered[thread]}, and the store has {kept[thread]}"
             demand(answered[thread] <= kept[thread] <= answered[thread] + 1, what)
@@ -174,7 +182,7 @@ def main(words):
             under_way += kept[thread] - answered[thread]
     answers, reports, off = counts
     print(
-        f"{words[-1]} kills over {kind} in {time.monotonic() - begun:.0f} s: {answers:,} transfers answered, all there;"
+        f"{times} kills {where} in {time.monotonic() - begun:.0f} s: {answers:,} transfers answered, all there;"
         f" {under_way} more were under way, whole; {reports:,} reports, {off:,} of them off, none by more than its distance",
         flush=True,
     )

@@ -70,8 +70,8 @@ def last_of(bank, updates):
 class Balances:
     """The balances up to the counters of a store, computed transfer by transfer."""
 
-    def __init__(self):
-        self.balances, self.done = [OPENING] * len(ACCOUNTS), [0] * THREADS
+    def __init__(self, transfer_of=transfer_of):
+        self.balances, self.done, self.transfer_of = [OPENING] * len(ACCOUNTS), [0] * THREADS, transfer_of
 
     def compare(self, values, what):
         """Demands that each account is what the transfers up to the counters make it."""
@@ -79,7 +79,7 @@ class Balances:
         for thread, number in enumerate(kept):
             demand(number >= self.done[thread], f"{what}: the counter of thread {thread} went back to {number}")
             for each in range(self.done[thread] + 1, number + 1):
-                giver, taker, amount = transfer_of(thread, each)
+                giver, taker, amount = self.transfer_of(thread, each)
                 self.balances[giver] -= amount
                 self.balances[taker] += amount
         self.done = kept

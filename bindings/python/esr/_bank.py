@@ -532,11 +532,13 @@ class Bank(Mapping[str, int]):
         """Shows the writes of a commit, and returns their place in the queue of the store."""
         if not wrote:
             return None
+        # A function that reads a value from the mirror without the lock waits for the store only if the write is queued.
+        ticket = None if self._queue is None else self._queue.enter(dict(wrote))
         now = self._mirror[None][0] + 1
         shown: Dict[Optional[str], Tuple[int, int]] = {name: (now, value) for name, value in wrote.items()}
         shown[None] = (now, 0)
         self._mirror.update(shown)
-        return None if self._queue is None else self._queue.enter(dict(wrote))
+        return ticket
 
     def _text(self, call: Callable[..., int], *arguments: object) -> bytes:
         """Returns the text that a call writes. The buffer is large enough for nearly every text of the history, so that it is

@@ -296,6 +296,14 @@ class Waiting(Case):
         self.ahead.join()
         self.assertEqual(self.bank["checking"], 400)
 
+    def test_a_write_is_queued_before_its_value_is_shown(self):
+        shown = []
+        with Bank(OPENING, store=HeldStore()) as bank:
+            enter = bank._queue.enter
+            with mock.patch.object(bank._queue, "enter", lambda wrote: (shown.append(bank._mirror["pocket"][1]), enter(wrote))[1]):
+                bank.transact(0, lambda update: update.write("pocket", 7))
+            self.assertEqual((shown, bank["pocket"]), ([0], 7))
+
     def test_close_writes_the_queue_first(self):
         self.waits("close", self.bank.close)
         self.assertEqual((self.store.values["checking"], self.store.closes), (400, 1))

@@ -1,7 +1,7 @@
 //! Errors of calls, with the item, value, range and transaction that they are about.
 
 use crate::{Refusal, Txn, engine::MAX_ITEMS, mirror::MAX_VALUE};
-use std::{error, fmt};
+use std::{any::Any, error, fmt};
 
 /// The largest limit of a transaction.
 pub(crate) const MAX_LIMIT: u64 = 1_000_000_000_000_000_000;
@@ -75,6 +75,24 @@ pub enum Error {
     },
     /// The work before a renewal began a transaction in its own bank, which waits for that work.
     InsideRenewal,
+    /// The store cannot be opened as that of a bank: see [`BankBuilder::store`](crate::BankBuilder::store).
+    StoreUnfit {
+        /// What is wrong, with the row or setting.
+        why: String,
+    },
+    /// Another bank has the store open.
+    StoreInUse {
+        /// Which store that is.
+        why: String,
+    },
+    /// The store has failed for longer than [`BankBuilder::store_patience`](crate::BankBuilder::store_patience), so the bank
+    /// has stopped. Drop it, and open another one from the store.
+    StoreStopped {
+        /// The last error of the store.
+        why: String,
+        /// Whether the store may have the update that ends with this error. Otherwise it certainly does not.
+        may_be_written: bool,
+    },
     /// The event was refused. [`Engine::step`](crate::Engine::step) returns [`Reply::Refused`](crate::Reply::Refused)
     /// instead.
     Refused(Box<Refused>),
@@ -142,9 +160,28 @@ impl fmt::Display for Error {
             Error::InsideRenewal => f.write_str(
                 "the work before a renewal uses its own bank: use the Closing that it is passed",
             ),
+            Error::StoreUnfit { why } => write!(f, "unfit store: {why}"),
+            Error::StoreInUse { why } => write!(f, "store in use: {why}"),
+            Error::StoreStopped {
+                why,
+                may_be_written,
+            } => {
+                f.write_str("the bank has stopped")?;
+                if *may_be_written {
+                    f.write_str("; whether the store has this update is unknown")?;
+                }
+                write!(f, ": {why}; reopen it from the store")
+            }
             Error::Refused(refused) => write!(f, "refused: {refused}"),
         }
     }
+}
+
+/// Returns the text of a panic.
+pub(crate) fn text_of(panic: &(dyn Any + Send)) -> String {
+    let text = panic.downcast_ref::<&str>().map(ToString::to_string);
+    text.or_else(|| panic.downcast_ref::<String>().cloned())
+        .unwrap_or_else(|| "a value that is not text".into())
 }
 
 impl error::Error for Error {

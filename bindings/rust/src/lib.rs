@@ -22,6 +22,8 @@
 //! For a total of the committed values take [`Bank::snapshot`], which is exact and takes microseconds. A report is for
 //! reading work in progress, for a bound that is known beforehand, and for a certificate of the error afterwards.
 //!
+//! Values are in memory. [`BankBuilder::store`] keeps the committed ones in a database, which nothing of the proofs covers.
+//!
 //! [`Engine`] executes one event at a time for one thread:
 //!
 //! ```
@@ -74,6 +76,7 @@ mod mirror;
 mod observer;
 mod options;
 mod patience;
+mod store;
 mod sync;
 mod sys;
 mod transact;
@@ -88,4 +91,7 @@ pub use metrics::{Active, Metrics};
 pub use observer::{Audited, Ended, Observed, Observer, Outcome, Renewed};
 pub use options::Options;
 pub use patience::Patience;
+pub use store::{Change, Store, StoreError, StoreOpening};
+#[cfg(feature = "sqlite")]
+pub use store::{SqliteStore, Synchronous};
 pub use transact::{Update, transact};

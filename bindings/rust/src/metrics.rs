@@ -59,6 +59,10 @@ pub struct Metrics {
     pub distances: [u64; 20],
     /// The sum of the distances.
     pub distance: u128,
+    /// Transactions of the store: see [`BankBuilder::store`](crate::BankBuilder::store).
+    pub store_writes: u64,
+    /// The updates in them.
+    pub store_updates: u64,
     /// Active transactions, when this was read.
     pub active: u64,
     /// The age of the oldest of them.
@@ -173,6 +177,16 @@ impl Metrics {
                 "esr_audit_seconds_total",
                 "The time that callers waited for audits.",
                 seconds(self.auditing),
+            ),
+            (
+                "esr_store_writes_total",
+                "Transactions of the store.",
+                self.store_writes.to_string(),
+            ),
+            (
+                "esr_store_updates_total",
+                "Updates in them.",
+                self.store_updates.to_string(),
             ),
         ] {
             head(&mut text, name, "counter", help);

@@ -126,14 +126,15 @@ fn transact_gives_up_and_aborts() {
     let bank = Mutex::new(Engine::open(&[0]).unwrap());
     let holder = bank.lock().unwrap().begin_update(0).unwrap();
     bank.lock().unwrap().write(holder, 0, 1).unwrap();
-    let patience = Patience::of(Duration::from_millis(20));
+    // long enough for a second run on a busy machine
+    let patience = Patience::of(Duration::from_millis(400));
     let (begun, mut runs) = (Instant::now(), 0);
     let answer = transact(&bank, 0, patience, |update| {
         runs += 1;
         update.read(0)
     });
     assert_eq!(refusal(&answer), Some(Refusal::BlockedByLock(holder)));
-    assert!(runs > 1 && begun.elapsed() >= Duration::from_millis(20));
+    assert!(runs > 1 && begun.elapsed() >= Duration::from_millis(400));
     let mut engine = bank.into_inner().unwrap();
     // The holder is still active, and each attempt was aborted.
     let counts = engine.counts();

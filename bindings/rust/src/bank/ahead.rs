@@ -19,6 +19,7 @@ use crate::{
     gate::{Priority, pause},
     mirror::{Draft, Misfit, commit_of},
     patience::{Rounds, Waiting},
+    store::Place,
     sync::Instant,
 };
 use std::{sync::atomic::Ordering, time::Duration};
@@ -35,7 +36,8 @@ const POLLS: u32 = 400;
 
 /// The outcome of a draft.
 enum Outcome {
-    Committed,
+    /// The caller waits for this place in the queue of the store.
+    Committed(Place),
     /// Other updates have changed what it had read.
     Stale,
     /// Transaction `other` holds a lock; `ends` transactions had ended by then.
@@ -85,6 +87,7 @@ impl Bank {
         let Some(mut state) = self.state.lock_while(attempt.priority, is_fresh) else {
             return Ok(Outcome::Stale);
         };
+        self.check_running()?;
         if state.is_nearly_full() {
             drop(state);
             state = self.lock_with_capacity(self.waiting_in(options, waiting))?;
@@ -94,7 +97,7 @@ impl Bank {
             return Ok(Outcome::Stale);
         }
         let outcome = self.submit_in(&mut state, options, draft, attempt)?;
-        if let (Outcome::Committed, Some(waiting)) = (&outcome, waiting) {
+        if let (Outcome::Committed(_), Some(waiting)) = (&outcome, waiting) {
             state.count_wait(waiting.waited(), attempt.watch);
         }
         Ok(outcome)
@@ -127,6 +130,7 @@ impl Bank {
             feed.push_all(&draft.events()[..accepted]);
         }
         if let Ok(Reply::Committed) = ended {
+            let place = self.enter_store(draft.writes());
             self.mirror.publish(draft.writes());
             if let Some(feed) = &mut state.feed {
                 feed.push_all(&[commit_of(txn.number())]);
@@ -138,7 +142,7 @@ impl Bank {
             state.metrics.optimistic_updates += 1;
             state.metrics.reruns += u64::from(attempt.reruns);
             attempt.watch.commit(true);
-            return Ok(Outcome::Committed);
+            return Ok(Outcome::Committed(place));
         }
         // the engine keeps capacity for the end of each active transaction
         let abort = Event::Abort { txn };
@@ -207,6 +211,9 @@ impl Bank {
         body: &mut impl FnMut(&mut BankUpdate<'_, '_>) -> Result<T, E>,
         watch: &Watch<'_>,
     ) -> Option<Result<T, E>> {
+        if let Err(stopped) = self.check_running() {
+            return Some(Err(stopped.into()));
+        }
         let mut draft = Draft::take();
         let (mut reruns, mut blocked) = (0, 0);
         let mut last = Duration::MAX;
@@ -227,14 +234,14 @@ impl Bank {
             let outcome = match result {
                 _ if draft.is_overtaken() => Outcome::Stale,
                 Ok(value) => match self.submit(options, &mut draft, waiting, &attempt) {
-                    Ok(Outcome::Committed) => break Some(Ok(value)),
+                    Ok(Outcome::Committed(place)) => break Some((Ok(value), place)),
                     Ok(outcome) => outcome,
-                    Err(error) => break Some(Err(error.into())),
+                    Err(error) => break Some((Err(error.into()), self.last_place())),
                 },
                 // the body saw values of one moment, so this is its result, and there is nothing to undo
                 Err(error) => {
                     self.dropped.fetch_add(1, Ordering::Relaxed);
-                    break Some(Err(error));
+                    break Some((Err(error), self.last_place()));
                 }
             };
             drop(priority);
@@ -256,12 +263,15 @@ impl Bank {
         };
         draft.put_back();
         match &result {
-            Some(Ok(_)) => {}
-            Some(Err(_)) => self.count_uncommitted(reruns, waiting.as_ref(), watch),
+            Some((Ok(_), _)) => {}
+            Some((Err(_), _)) => self.count_uncommitted(reruns, waiting.as_ref(), watch),
             // its wait is counted step by step
             None => self.count_uncommitted(reruns, None, watch),
         }
-        result
+        // no priority is held during the wait
+        let (result, place) = result?;
+        let waited = self.wait_for_place(place).map_err(E::from);
+        Some(waited.and(result))
     }
 
     /// Counts the reruns and the wait of an update that has not committed optimistically.

@@ -7,9 +7,14 @@ use super::{
     watch::Observing,
 };
 use crate::{
-    Engine, Error, Observer, Patience, gate::Lock, mirror::Mirror, sync::AtomicU64, twin::Twin,
+    Engine, Error, Observer, Patience, Store, StoreOpening,
+    gate::Lock,
+    mirror::Mirror,
+    store::{self, StoreQueue},
+    sync::AtomicU64,
+    twin::Twin,
 };
-use std::{error, fmt, sync::OnceLock};
+use std::{error, fmt, sync::OnceLock, time::Duration};
 
 /// The work before a renewal.
 pub(super) type BeforeRenewal =
@@ -32,6 +37,8 @@ pub struct BankBuilder {
     before_renewal: Option<BeforeRenewal>,
     is_optimistic: bool,
     background_audits: Option<bool>,
+    store: Option<Box<dyn Store + Send>>,
+    store_patience: Duration,
 }
 
 impl Default for BankBuilder {
@@ -45,6 +52,8 @@ impl Default for BankBuilder {
             before_renewal: None,
             is_optimistic: true,
             background_audits: None,
+            store: None,
+            store_patience: Duration::from_secs(10),
         }
     }
 }
@@ -227,6 +236,74 @@ impl BankBuilder {
         self
     }
 
+    /// Keeps the committed values in a store, such as `SqliteStore` with the feature `sqlite`. Its values replace the opening
+    /// values of the builder, and items that it does not have are added; items that only it has follow, with weight 1.
+    /// [`Bank::store_opening`] returns how many there were.
+    ///
+    /// An update, a report, and a body that fails return once the store has all committed updates whose values they have
+    /// read. [`Bank::value`] and [`Bank::snapshot`] return the store's values without waiting. A body itself reads values
+    /// that may not be in the store yet. If a bank is dropped, its store is closed.
+    ///
+    /// ```
+    /// use esr::{Bank, Change, Error, Store, StoreError};
+    /// use std::sync::{Arc, Mutex};
+    ///
+    /// /// Keeps values as long as the program runs.
+    /// #[derive(Clone, Default)]
+    /// struct Shelf(Arc<Mutex<Vec<(String, i64)>>>);
+    ///
+    /// impl Store for Shelf {
+    ///     fn open(&mut self, items: &[(&str, i64)]) -> Result<Vec<(String, i64)>, Error> {
+    ///         let mut values = self.0.lock().unwrap();
+    ///         for (name, value) in items {
+    ///             if !values.iter().any(|(known, _)| known == name) {
+    ///                 values.push((name.to_string(), *value));
+    ///             }
+    ///         }
+    ///         Ok(values.clone())
+    ///     }
+    ///
+    ///     fn write(&mut self, _: u64, changes: &[Change<'_>]) -> Result<(), StoreError> {
+    ///         for (name, value) in self.0.lock().unwrap().iter_mut() {
+    ///             *value = changes.iter().find(|change| change.name == name).map_or(*value, |change| change.new);
+    ///         }
+    ///         Ok(())
+    ///     }
+    ///
+    ///     fn resolve(&mut self, _: u64) -> Result<bool, StoreError> {
+    ///         Ok(true)
+    ///     }
+    ///
+    ///     fn close(&mut self) {}
+    /// }
+    ///
+    /// let shelf = Shelf::default();
+    /// let bank = Bank::builder().item("pens", 40).store(shelf.clone()).open()?;
+    /// bank.transact(0, |sale| sale.add("pens", -1))?;
+    /// drop(bank);
+    /// let bank = Bank::builder().item("pens", 40).store(shelf).open()?;
+    /// assert_eq!((bank.value("pens")?, bank.store_opening().unwrap().replaced), (39, 1));
+    /// # Ok::<(), Error>(())
+    /// ```
+    pub fn store(mut self, store: impl Store + Send + 'static) -> BankBuilder {
+        self.store = Some(Box::new(store));
+        self
+    }
+
+    /// Sets how long callers wait for a store that fails: 10 seconds by default. Then the bank stops: each call that returns a
+    /// `Result` fails with [`Error::StoreStopped`], and no value is returned that the store may not have.
+    ///
+    /// ```
+    /// use std::time::Duration;
+    ///
+    /// let bank = esr::Bank::builder().item("checking", 500).store_patience(Duration::from_secs(60)).open()?;
+    /// # Ok::<(), esr::Error>(())
+    /// ```
+    pub fn store_patience(mut self, store_patience: Duration) -> BankBuilder {
+        self.store_patience = store_patience;
+        self
+    }
+
     /// Opens the bank.
     ///
     /// ```
@@ -235,8 +312,51 @@ impl BankBuilder {
     /// ```
     ///
     /// # Errors
-    /// `NameTwice`, `TooManyItems`, `ValueOutOfRange`, `WeightOutOfRange`, `NoMemory`.
-    pub fn open(self) -> Result<Bank, Error> {
+    /// `NameTwice`, `TooManyItems`, `ValueOutOfRange`, `WeightOutOfRange`, `NoMemory`, and with a store `StoreUnfit`,
+    /// `StoreInUse`.
+    pub fn open(mut self) -> Result<Bank, Error> {
+        match self.store.take() {
+            Some(store) => self.open_over(store),
+            None => self.open_engine(),
+        }
+    }
+
+    fn open_over(self, mut store: Box<dyn Store + Send>) -> Result<Bank, Error> {
+        // a store gets no items that no bank can have
+        Items::new(self.names.clone())?;
+        let label = |number: usize| self.names[number].clone();
+        Engine::open_labelled(&self.opening, &self.weights, label)?;
+        let names = self.names.iter().map(String::as_str);
+        let given: Vec<(&str, i64)> = names.zip(self.opening.iter().copied()).collect();
+        let stored = store.open(&given)?;
+        let patience = self.store_patience;
+        match self.open_with(stored) {
+            Ok((mut bank, values, opening)) => {
+                let names = bank.items.names().map(String::from).collect();
+                let queue = StoreQueue::start(store, patience, names, &values)?;
+                bank.store = Some(queue);
+                bank.store_opening = Some(opening);
+                Ok(bank)
+            }
+            Err(error) => {
+                store.close();
+                Err(error)
+            }
+        }
+    }
+
+    /// Opens the bank with the values of a store. Returns these too, and how they differed from those of the builder.
+    fn open_with(
+        mut self,
+        stored: Vec<(String, i64)>,
+    ) -> Result<(Bank, Vec<i64>, StoreOpening), Error> {
+        let opening = store::merge(&mut self.names, &mut self.opening, stored)?;
+        self.weights.resize(self.names.len(), 1);
+        let values = self.opening.clone();
+        Ok((self.open_engine()?, values, opening))
+    }
+
+    fn open_engine(self) -> Result<Bank, Error> {
         let items = Items::new(self.names)?;
         let label = |number: usize| items.name(number as u32).to_owned();
         let engine = Engine::open_labelled(&self.opening, &self.weights, label)?;
@@ -261,6 +381,8 @@ impl BankBuilder {
             weights: self.weights,
             may_start_twin: self.background_audits.is_none(),
             before_renewal: self.before_renewal,
+            store: None,
+            store_opening: None,
         })
     }
 }

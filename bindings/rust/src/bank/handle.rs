@@ -8,11 +8,13 @@ use super::{
 use crate::{
     Error, Event, Finding, Refusal, Refused, Reply, Txn,
     patience::{Rounds, Waiting},
+    store::Place,
     waits::Holds,
 };
 use std::{
     cell::{Cell, RefCell},
     sync::atomic::Ordering,
+    thread,
 };
 
 /// An active transaction. It is aborted if it is dropped before it has committed, so also by a panic of its body.
@@ -42,6 +44,7 @@ impl<'a> Handle<'a> {
         let mut rounds = Rounds::default();
         let mut blocked_at = None;
         loop {
+            self.bank.check_running()?;
             let reply = events(&mut self.bank.lock());
             match reply {
                 Ok(Reply::Refused(reason)) if reason.may_pass_later() => {
@@ -140,15 +143,17 @@ impl<'a> Handle<'a> {
         self.bank.lock().active(self.me.handle).txn
     }
 
-    /// Commits it. Returns its number, and the hold of the lock.
-    fn end(mut self) -> Result<(Hold<'a>, Txn), Error> {
+    /// Commits it. Returns the hold of the lock, its number, and its place in the queue of the store.
+    fn end(mut self) -> Result<(Hold<'a>, Txn, Place), Error> {
         let mut state = self.bank.lock();
+        self.bank.check_running()?;
         let txn = state.waiter(self.me)?.txn;
         let commit = Event::Commit { txn };
         state.engine.step(commit)?;
         self.is_active = false;
-        let writes = &state.active(self.me.handle).writes;
-        self.bank.mirror.publish(writes.iter().copied());
+        let writes = state.active(self.me.handle).writes.iter().copied();
+        let place = self.bank.enter_store(writes.clone());
+        self.bank.mirror.publish(writes);
         state.log(commit, txn, 0);
         self.watch.commit(false);
         if self.is_query {
@@ -157,7 +162,7 @@ impl<'a> Handle<'a> {
             state.metrics.updates += 1;
         }
         self.remove(&mut state);
-        Ok((state, txn))
+        Ok((state, txn, place))
     }
 
     /// Removes it after its end. Returns the transaction it waited for, if it was a deadlock's victim.
@@ -188,21 +193,29 @@ impl<'a> Handle<'a> {
     }
 
     pub(super) fn commit(self) -> Result<(), Error> {
-        self.end().map(drop)
+        let bank = self.bank;
+        let (state, _, place) = self.end()?;
+        drop(state);
+        bank.wait_for_place(place)
     }
 
     pub(super) fn commit_and_audit(self) -> Result<Finding, Error> {
         let bank = self.bank;
-        let (state, query) = self.end()?;
+        let (state, query, place) = self.end()?;
         let report = bank.report_of(&state, query);
-        bank.audit_of(state, report)
+        let finding = bank.audit_of(state, report)?;
+        bank.wait_for_place(place)?;
+        Ok(finding)
     }
 
     pub(super) fn commit_as_due(self) -> Result<Report, Error> {
         let bank = self.bank;
-        let (mut state, query) = self.end()?;
+        let (mut state, query, place) = self.end()?;
         state.due.push(query);
-        Ok(bank.report_of(&state, query))
+        let report = bank.report_of(&state, query);
+        drop(state);
+        bank.wait_for_place(place)?;
+        Ok(report)
     }
 }
 
@@ -218,6 +231,10 @@ impl Drop for Handle<'_> {
         if self.is_active {
             self.has_failed = true;
             self.abort();
+            if thread::panicking() {
+                // what the body has read may be in its panic
+                let _ = self.bank.wait_for_store();
+            }
         }
     }
 }

@@ -13,6 +13,10 @@
 //! that becomes free is not reserved for a waiter, which would leave it idle until that thread runs; the first thread to
 //! come takes it.
 //!
+//! With a store (`store`) the engine is ahead of it by the updates in a queue. A call that returns something of them waits
+//! until the store has them; `value` and `snapshot` return the store's values without waiting. An update enters the queue
+//! before the mirror shows its writes, so a body cannot read a value that no call waits for.
+//!
 //! Rejected: retrying after pauses alone, which are too short for a counter that eight threads change and too long for a
 //! transfer; waking every waiter each time, or polling a few times before sleeping, after which threads alternate at each
 //! transaction and fetch the engine from each other's caches.
@@ -35,11 +39,12 @@ pub use update::{BankQuery, BankUpdate};
 
 use crate::{
     Active, Audited, Counts, Error, Event, Finding, Metrics, Options, Patience, Renewed, Reply,
-    Standing, Totals, Txn,
-    error::{MAX_LIMIT, Refused},
+    Standing, StoreOpening, Totals, Txn,
+    error::{MAX_LIMIT, Refused, text_of},
     gate::Lock,
     mirror::Mirror,
     patience::{Rounds, Waiting},
+    store::{Place, StoreQueue},
     sync::{AtomicU64, Instant, current},
     twin::Twin,
     waits::{Age, Holds},
@@ -49,11 +54,10 @@ use handle::Handle;
 use items::{Items, with_names};
 use state::{Hold, Me, RETRY, State};
 use std::{
-    any::Any,
     borrow::Cow,
     cell::Cell,
     collections::HashMap,
-    fmt,
+    fmt, iter,
     panic::{self, AssertUnwindSafe},
     sync::{OnceLock, atomic::Ordering},
     thread,
@@ -112,15 +116,19 @@ pub struct Bank {
     /// Whether a renewal after a report starts it.
     may_start_twin: bool,
     before_renewal: Option<BeforeRenewal>,
+    /// The queue in front of the store, if there is one.
+    store: Option<StoreQueue>,
+    store_opening: Option<StoreOpening>,
 }
 
-/// Counts a body that panics.
-struct PanicCounter<'a>(&'a AtomicU64);
+/// Counts a body that panics, and delays the panic until the store has what the body may have read.
+struct PanicCounter<'a>(&'a Bank);
 
 impl Drop for PanicCounter<'_> {
     fn drop(&mut self) {
         if thread::panicking() {
-            self.0.fetch_add(1, Ordering::Relaxed);
+            self.0.dropped.fetch_add(1, Ordering::Relaxed);
+            let _ = self.0.wait_for_store();
         }
     }
 }
@@ -158,6 +166,39 @@ impl Bank {
         Ok(())
     }
 
+    /// Fails if the bank has stopped because of its store.
+    fn check_running(&self) -> Result<(), Error> {
+        self.store.as_ref().map_or(Ok(()), StoreQueue::check)
+    }
+
+    /// Puts a commit of this hold of the lock into the queue of the store, and returns its place. No other thread has
+    /// seen the writes yet.
+    fn enter_store(&self, writes: impl Iterator<Item = (u32, i64)>) -> Place {
+        let queue = self.store.as_ref();
+        queue.map_or(Place::NONE, |queue| queue.enter(writes))
+    }
+
+    /// Returns the place in the queue of the store after all updates that have committed.
+    fn last_place(&self) -> Place {
+        self.enter_store(iter::empty())
+    }
+
+    /// Waits until the store has all updates up to a place.
+    fn wait_for_place(&self, place: Place) -> Result<(), Error> {
+        let queue = self.store.as_ref();
+        queue.map_or(Ok(()), |queue| queue.wait(place))
+    }
+
+    /// Waits until the store has all updates that have committed so far.
+    fn wait_for_store(&self) -> Result<(), Error> {
+        self.wait_for_place(self.last_place())
+    }
+
+    /// Returns the error of a body, once the store has what the body may have read.
+    fn after_store<E: From<Error>>(&self, error: E) -> E {
+        self.wait_for_store().map_or_else(E::from, |()| error)
+    }
+
     fn waiting_of(&self, options: &Options) -> Waiting {
         Waiting::of_bank(options.patience.unwrap_or(self.patience))
     }
@@ -167,6 +208,7 @@ impl Bank {
         self.check_not_inside_renewal()?;
         loop {
             let mut state = self.lock();
+            self.check_running()?;
             if !state.is_nearly_full() || state.may_continue() {
                 return Ok(state);
             }
@@ -191,6 +233,10 @@ impl Bank {
     /// Does the work before a renewal, and renews. After failed work the bank continues in the old history if it can.
     fn renew(&self, state: &mut State) -> Result<Renewal, Error> {
         let (begun, carried) = (Instant::now(), state.metrics.carried);
+        if self.before_renewal.is_some() {
+            // the work sees the history
+            self.wait_for_store()?;
+        }
         if let Err(why) = self.work_before_renewal(state) {
             state.metrics.failed_renewals += 1;
             state.failed_renewal = Some((Instant::now() + RETRY, why.clone()));
@@ -294,7 +340,10 @@ impl Bank {
             let result = body(&mut handle);
             let why = match (handle.stop.take(), result) {
                 (None, Ok(value)) => return end(handle, value).map_err(E::from),
-                (None, Err(error)) => return Err(error),
+                (None, Err(error)) => {
+                    drop(handle);
+                    return Err(self.after_store(error));
+                }
                 (Some(why), _) => why,
             };
             waiting = handle.waiting.of_next_attempt();
@@ -308,7 +357,7 @@ impl Bank {
             }
             if waiting.rest().is_zero() {
                 self.lock().metrics.aborts += 1;
-                return Err(why.into());
+                return Err(self.after_store(why.into()));
             }
         }
     }
@@ -341,12 +390,6 @@ impl Bank {
     }
 }
 
-fn text_of(panic: &(dyn Any + Send)) -> String {
-    let text = panic.downcast_ref::<&str>().map(ToString::to_string);
-    text.or_else(|| panic.downcast_ref::<String>().cloned())
-        .unwrap_or_else(|| "a value that is not text".into())
-}
-
 /// Updates and reports.
 impl Bank {
     /// Runs an update: runs the body and commits. After a deadlock, or when the update was blocked for some time or other
@@ -368,7 +411,8 @@ impl Bank {
     /// ```
     ///
     /// # Errors
-    /// The body's, and when its patience has ended the last reason: `Deadlock`, `Refused`, `HistoryFull`.
+    /// The body's, and when its patience has ended the last reason: `Deadlock`, `Refused`, `HistoryFull`. With a store that
+    /// fails for too long, `StoreStopped`.
     ///
     /// [`transact_stepwise`]: Bank::transact_stepwise
     /// [`try_transact`]: Bank::try_transact
@@ -418,7 +462,7 @@ impl Bank {
         self.watched(&options, false, |watch| {
             let mut waiting = None;
             if self.is_optimistic && options.limit <= MAX_LIMIT {
-                let _counter = PanicCounter(&self.dropped);
+                let _counter = PanicCounter(self);
                 if let Some(result) = self.run_ahead(&options, &mut waiting, &mut body, watch) {
                     return result;
                 }
@@ -614,6 +658,7 @@ impl Bank {
     fn lock_with(&self, report: Report) -> Result<Hold<'_>, Error> {
         self.check_not_inside_renewal()?;
         let state = self.lock();
+        self.check_running()?;
         if report.bank != self.items.bank() {
             return Err(Error::NotACommittedQuery);
         }
@@ -694,7 +739,10 @@ impl Bank {
         self.check_not_inside_renewal()?;
         let mut state = self.lock();
         let text = state.engine.script_by(self.items.texts())?;
-        Ok(self.named(&state, text))
+        let text = self.named(&state, text);
+        drop(state);
+        self.wait_for_store()?;
+        Ok(text)
     }
 
     fn named(&self, state: &State, text: String) -> String {
@@ -725,7 +773,10 @@ impl Bank {
     pub fn explain(&self, report: Report) -> Result<String, Error> {
         let mut state = self.lock_with(report)?;
         let text = state.engine.explain_by(report.query, self.items.texts())?;
-        Ok(self.named(&state, text))
+        let text = self.named(&state, text);
+        drop(state);
+        self.wait_for_store()?;
+        Ok(text)
     }
 
     /// Returns the audit of a report as a JSON object, its problem and a certificate of the least distance, which `esr check`
@@ -742,7 +793,10 @@ impl Bank {
     /// Those of [`audit`](Bank::audit).
     pub fn bundle(&self, report: Report) -> Result<Vec<u8>, Error> {
         let mut state = self.lock_with(report)?;
-        state.engine.bundle(report.query)
+        let bundle = state.engine.bundle(report.query)?;
+        drop(state);
+        self.wait_for_store()?;
+        Ok(bundle)
     }
 
     /// Draws the audit of a report as one SVG, in which transactions have their numbers.
@@ -758,7 +812,10 @@ impl Bank {
     /// Those of [`audit`](Bank::audit).
     pub fn picture(&self, report: Report) -> Result<String, Error> {
         let mut state = self.lock_with(report)?;
-        state.engine.picture_by(report.query, self.items.texts())
+        let picture = state.engine.picture_by(report.query, self.items.texts())?;
+        drop(state);
+        self.wait_for_store()?;
+        Ok(picture)
     }
 
     /// Returns the ledger of the history since the last renewal as CSV, a line for each transaction: see
@@ -777,7 +834,10 @@ impl Bank {
         self.check_not_inside_renewal()?;
         let mut state = self.lock();
         let text = state.engine.ledger()?;
-        Ok(self.named(&state, text))
+        let text = self.named(&state, text);
+        drop(state);
+        self.wait_for_store()?;
+        Ok(text)
     }
 
     /// Returns the size of the history since the last renewal, and what is left of it.
@@ -827,7 +887,7 @@ impl Bank {
         })
     }
 
-    /// Returns the committed value of an item, without the lock.
+    /// Returns the committed value of an item, without the lock; with a store, the value that the store has.
     ///
     /// ```
     /// let bank = esr::Bank::builder().item("checking", 500).open()?;
@@ -836,14 +896,18 @@ impl Bank {
     /// ```
     ///
     /// # Errors
-    /// `Refused` if no item has that name.
+    /// `Refused` if no item has that name, `StoreStopped`.
     pub fn value(&self, item: impl ItemKey) -> Result<i64, Error> {
-        Ok(self.mirror.value(item.number(&self.items)?))
+        let number = item.number(&self.items)?;
+        match &self.store {
+            Some(queue) => queue.value(number),
+            None => Ok(self.mirror.value(number)),
+        }
     }
 
-    /// Returns the committed values of all items at one moment, by their names. They are exact and need no limit. Values
-    /// that an active update has written are not among them: a report reads those, and its audit computes by how much it
-    /// is off.
+    /// Returns the committed values of all items at one moment, by their names; with a store, the values that the store has.
+    /// They are exact and need no limit. Values that an active update has written are not among them: a report reads those,
+    /// and its audit computes by how much it is off.
     ///
     /// ```
     /// let bank = esr::Bank::builder().item("checking", 500).item("savings", 1500).open()?;
@@ -853,7 +917,7 @@ impl Bank {
     /// ```
     ///
     /// # Errors
-    /// `NoMemory`.
+    /// `NoMemory`, `StoreStopped`.
     pub fn snapshot(&self) -> Result<HashMap<&str, i64>, Error> {
         let values = self.snapshot_in_order()?;
         Ok(self.items.names().zip(values).collect())
@@ -868,8 +932,11 @@ impl Bank {
     /// ```
     ///
     /// # Errors
-    /// `NoMemory`.
+    /// `NoMemory`, `StoreStopped`.
     pub fn snapshot_in_order(&self) -> Result<Vec<i64>, Error> {
+        if let Some(queue) = &self.store {
+            return queue.values();
+        }
         self.check_not_inside_renewal()?;
         self.lock().engine.values()
     }
@@ -890,6 +957,8 @@ impl Bank {
         metrics.active = state.active.len() as u64;
         let ages = state.active.iter().map(|active| active.since.elapsed());
         metrics.oldest_active = ages.max().unwrap_or_default();
+        let counts = self.store.as_ref().map(StoreQueue::counts);
+        (metrics.store_writes, metrics.store_updates) = counts.unwrap_or_default();
         metrics
     }
 
@@ -935,6 +1004,18 @@ impl Bank {
     pub fn renewal_failure(&self) -> Option<String> {
         let state = self.lock();
         state.failed_renewal.as_ref().map(|(_, why)| why.clone())
+    }
+
+    /// Returns how the values of the store differed from those of the builder when the bank was opened, if it has a store.
+    ///
+    /// ```
+    /// let bank = esr::Bank::builder().item("checking", 500).open()?;
+    /// assert_eq!(bank.store_opening(), None);
+    /// # Ok::<(), esr::Error>(())
+    /// ```
+    #[must_use]
+    pub fn store_opening(&self) -> Option<StoreOpening> {
+        self.store_opening
     }
 
     /// Returns how often the bank has been renewed.
