@@ -62,7 +62,7 @@ every counts turns order is =
     subst (λ w. Contains (first_turns counts turns) w) (take_all turns order (omega (arith, is.0))) (reach counts turns order is turns (omega (arith, is.0)))
 
 -- the numbers up to one more
-range-push : (a n : ℕ) → range_with_len a (n + 1) ≡ range_with_len a n ++ (a + n) ∷ []
+pub range-push : (a n : ℕ) → range_with_len a (n + 1) ≡ range_with_len a n ++ (a + n) ∷ []
 range-push a zero = ap (λ (k : ℕ). k ∷ []) (omega arith)
 range-push a (suc n) = rw add-one (ap (λ (ks : List ℕ). a ∷ ks) (sym (ap (λ (k : ℕ). range_with_len (a + 1) k) (add-one n)) ∙ (range-push (a + 1) n ∙ ap (λ (k : ℕ). range_with_len (a + 1) n ++ k ∷ []) (omega arith))))
 

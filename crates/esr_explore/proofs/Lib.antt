@@ -6,3 +6,7 @@ pub mod Drawn
 pub mod Turning
 pub mod Telling
 pub mod Searching
+pub mod Begun
+pub mod Greatest
+pub mod Ascending
+pub mod Texts

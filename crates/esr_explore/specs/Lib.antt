@@ -3,3 +3,8 @@ pub mod Orders
 pub mod Turns
 pub mod Summaries
 pub mod Searches
+pub mod Queries
+pub mod Sizes
+pub mod Columns
+pub mod Report
+pub mod Worked

@@ -1,5 +1,5 @@
 -- The summary of a run.
-use Rattle.std.specs.Prelude.{◌≡◌, ℕ, ℤ, false, List, [], ◌∷◌, Option, Some, None, map, option_and_then, slice_get, slice_index_or, unwrap_or}
+use Rattle.std.specs.Prelude.{◌≡◌, ℕ, ℤ, false, List, [], ◌∷◌, Option, Some, None, count_by, map, option_and_then, slice_get, slice_index_or, unwrap_or}
 use Rattle.esr_items.specs.Weights.{weighted}
 use Rattle.esr_history.specs.Machine.{Schedule, IsLegal}
 use Rattle.esr_history.specs.Queries.{is_committed_query}
@@ -9,7 +9,7 @@ use Rattle.esr_plan.specs.declared.call.Call.{Call}
 use Rattle.esr_explore.specs.declared.query.Query.{Query}
 use Rattle.esr_explore.specs.declared.run_summary.QueryOutcome.{QueryOutcome}
 use Rattle.esr_explore.specs.declared.run_summary.RunSummary.{RunSummary}
-use Rattle.esr_explore.specs.Turns.{IsRun, RunnerView, Stage, fresh}
+use Rattle.esr_explore.specs.Turns.{IsRun, RunnerView, Stage, fresh, is_blocked}
 
 -- the number that the begin at a place of a block was given
 abbrev pub number_of : List RunnerView → ℕ → ℕ → ℕ
@@ -27,10 +27,15 @@ AreOutcomes h runners [] [] = Unit {0}
 AreOutcomes h runners (q ∷ queries) (outcomes ∷ more) = IsOutcome h (number_of runners q.block q.place) outcomes × AreOutcomes h runners queries more
 AreOutcomes h runners _ _ = ⊥
 
+-- how many lines of a block were given up: their last reply is that they are blocked
+abbrev pub given_up_in : RunnerView → ℕ
+given_up_in runner = count_by is_blocked runner.replies
+
 -- the summary of a run that ended so
 pub record IsSummaryOf (end : Stage) (queries : List Query) (run_summary : RunSummary) : Type 0 where
   pub outcomes : AreOutcomes end.history end.blocks queries run_summary.outcomes.items
   pub blocked : run_summary.blocked.items ≡ map (λ r. r.blocked) end.blocks
+  pub given_up : run_summary.given_up.items ≡ map given_up_in end.blocks
 
 -- The tale is of a run of these blocks: legal, and taken in turns that began with this order.
 pub record IsSummary (opening : List ℤ) (weights : List ℕ) (blocks : List (List Call)) (queries : List Query) (order : List ℕ)

@@ -1,6 +1,6 @@
 //! From a drive file to what is written of its runs.
 
-ghost use Rattle.std.specs.Prelude.{◌≡◌, ◌≤◌, ◌++◌, ◌∷◌, [], ℕ, List, None, false, IfOk, IfSome, OnOk, Some, length, map, sum};
+ghost use Rattle.std.specs.Prelude.{◌≡◌, ◌≤◌, ◌++◌, ◌∷◌, [], ℕ, List, None, Option, false, IfOk, IfSome, OnOk, Some, length, map, sum};
 ghost use Rattle.std.specs.List.{Contains};
 ghost use Rattle.esr_base.specs.declared.limits.TheConstants.{MAX_ENTRIES};
 ghost use Rattle.esr_dump.specs.RoundTrip.{IsDump};
@@ -8,6 +8,8 @@ ghost use Rattle.esr_plan.specs.declared.draft.TheConstants.{MAX_BLOCKS};
 ghost use Rattle.esr_plan.specs.Plan.{weights_of};
 ghost use Rattle.esr_explore.specs.Orders.{IsOrder, first_turns};
 ghost use Rattle.esr_explore.specs.declared.run_summary.RunSummary.{RunSummary};
+ghost use Rattle.esr_explore.specs.Queries.{begun_query};
+ghost use Rattle.esr_explore.specs.Report.{report_text};
 ghost use Rattle.esr_explore.specs.Searches.{AreDrawn, AreRunSummaries, all_orders, drawn_of, line_counts, orders_of};
 ghost use Rattle.esr_explore.specs.Summaries.{IsSummary};
 ghost use Rattle.esr_explore.specs.Turns.{AreDone};
@@ -18,7 +20,7 @@ use crate::count::count_orders;
 use crate::draws::draw_order;
 use crate::measure::Measure;
 use crate::query::{Query, queries_of};
-use crate::report::{push_blocks, push_head, push_query};
+use crate::report::{push_blocks, push_head, push_queries};
 use crate::run::{Run, run_order};
 use crate::run_summary::{RunSummary, summarize};
 use crate::runner::Runner;
@@ -201,19 +203,20 @@ fn search_orders(
     Ok(SearchResult { ways, summaries })
 }
 
-/// What is written of the runs that these tales are of.
+/// Returns the text about the runs with these summaries.
 fn report_of(
     alloc: Global,
     queries: &[Query<'_>],
     summaries: &[RunSummary],
     counts: &[u32],
-) -> Result<Vec<u8>, AllocError> {
+) -> Result<Vec<u8>, AllocError>
+    ensures { IfOk result (λ text. (total : Option ℕ)
+        × (text.items ≡ report_text total (length counts.now) (map begun_query queries.now) summaries.now)) }
+{
     let mut out = Vec::new(alloc);
     push_head(&mut out, summaries.len() as u64, count_orders(counts))?;
     push_blocks(alloc, &mut out, summaries, counts.len())?;
-    for place in 0..queries.len() {
-        push_query(alloc, &mut out, summaries, place, queries[place])?;
-    }
+    push_queries(alloc, &mut out, summaries, queries)?;
     Ok(out)
 }
 

@@ -1,52 +1,61 @@
-//! What is written of many runs: how many there were, a line for each block, and one for each query.
+//! The text about many runs: how many there were, a line for each block, and one for each query.
+
+ghost use Rattle.std.specs.Prelude.{◌≡◌, ◌++◌, OnOk, flat_map, map};
+ghost use Rattle.std.specs.List.{enumerate_from, range_with_len};
+ghost use Rattle.esr_explore.specs.Queries.{begun_query};
+ghost use Rattle.esr_explore.specs.Report.{block_line, count_text, head_line, query_line, spread_text, total_text};
 
 use crate::query::Query;
 use crate::run_summary::RunSummary;
-use crate::summary::{Spread, gather, outcome_at, spread_of};
+use crate::summary::{Column, gather, lost_in, spread_of};
 use std::alloc::{AllocError, Global};
 
-fn push_text(out: &mut Vec<u8>, text: &str) -> Result<(), AllocError> {
+/// Appends a text.
+fn push_text(out: &mut Vec<u8>, text: &str) -> Result<(), AllocError>
+    ensures { OnOk result (out.new.items ≡ out.old.items ++ text.now) }
+{
     out.extend_from_slice(text.as_bytes())
 }
 
 /// Appends a word and a number.
-fn push_count(out: &mut Vec<u8>, word: &str, count: u64) -> Result<(), AllocError> {
+fn push_count(out: &mut Vec<u8>, word: &str, count: u64) -> Result<(), AllocError>
+    ensures { OnOk result (out.new.items ≡ out.old.items ++ count_text word.now count) }
+{
     let mut digits = itoa::Buffer::new();
     push_text(out, word)?;
-    push_text(out, digits.format(count))
+    push_text(out, digits.format(count))?;
+    Ok(())
 }
 
-/// Appends the worst and the middle of some numbers, 0 where there are none.
-fn push_spread(out: &mut Vec<u8>, word: &str, numbers: Vec<u64>) -> Result<(), AllocError> {
-    let none = Spread {
-        worst: 0,
-        middle: 0,
-    };
-    let spread = spread_of(numbers)?.unwrap_or(none);
+/// Appends a word, and the maximum and the median of some numbers, 0 if there are none.
+fn push_spread(out: &mut Vec<u8>, word: &str, numbers: Vec<u64>) -> Result<(), AllocError>
+    ensures { OnOk result (out.new.items ≡ out.old.items ++ spread_text word.now numbers.items) }
+{
+    let spread = spread_of(numbers)?;
     push_text(out, word)?;
     push_count(out, " max ", spread.worst)?;
-    push_count(out, " median ", spread.middle)
+    push_count(out, " median ", spread.middle)?;
+    Ok(())
 }
 
-/// Appends how many orders were gone through, of how many: none where these are more than 10^18.
-pub fn push_head(out: &mut Vec<u8>, done: u64, of: Option<u64>) -> Result<(), AllocError> {
-    push_count(out, "interleavings ", done)?;
-    match of {
-        Some(all) => push_count(out, " of ", all)?,
-        None => push_text(out, " of more than 1000000000000000000")?,
+/// Appends how many interleavings there are, if that is at most 10^18.
+fn push_total(out: &mut Vec<u8>, total: Option<u64>) -> Result<(), AllocError>
+    ensures { OnOk result (out.new.items ≡ out.old.items ++ total_text total) }
+{
+    match total {
+        Some(total) => push_count(out, " of ", total),
+        None => push_text(out, " of more than 1000000000000000000"),
     }
-    push_text(out, "\n")
 }
 
-/// In how many runs a line of the block was given up.
-fn lost_in(summaries: &[RunSummary], block: usize) -> u64 {
-    let mut runs = 0u64;
-    for run_summary in summaries {
-        if run_summary.given_up.get(block).copied().unwrap_or(0) > 0 {
-            runs = runs.saturating_add(1);
-        }
-    }
-    runs
+/// Appends the first line: how many runs there were, and how many interleavings there are.
+pub fn push_head(out: &mut Vec<u8>, runs: u64, total: Option<u64>) -> Result<(), AllocError>
+    ensures { OnOk result (out.new.items ≡ out.old.items ++ head_line runs total) }
+{
+    push_count(out, "interleavings ", runs)?;
+    push_total(out, total)?;
+    push_text(out, "\n")?;
+    Ok(())
 }
 
 /// Appends the line of a block: how often its lines were blocked, and in how many runs one was given up.
@@ -55,25 +64,27 @@ fn push_block(
     out: &mut Vec<u8>,
     summaries: &[RunSummary],
     block: usize,
-) -> Result<(), AllocError> {
-    let blocked = gather(
-        alloc,
-        summaries,
-        |run_summary: &RunSummary| run_summary.blocked.get(block).copied(),
-    )?;
+) -> Result<(), AllocError>
+    ensures { OnOk result (out.new.items ≡ out.old.items ++ block_line summaries.now block) }
+{
+    let blocked = gather(alloc, summaries, Column::Blocked(block))?;
     push_count(out, "session ", block as u64)?;
     push_spread(out, " blocked", blocked)?;
     push_count(out, " gave up ", lost_in(summaries, block))?;
-    push_text(out, "\n")
+    push_text(out, "\n")?;
+    Ok(())
 }
 
-/// Appends the lines of so many blocks.
+/// Appends the lines of the first `blocks` blocks.
 pub fn push_blocks(
     alloc: Global,
     out: &mut Vec<u8>,
     summaries: &[RunSummary],
     blocks: usize,
-) -> Result<(), AllocError> {
+) -> Result<(), AllocError>
+    ensures { OnOk result (out.new.items
+        ≡ out.old.items ++ flat_map (block_line summaries.now) (range_with_len 0 blocks)) }
+{
     for block in 0..blocks {
         push_block(alloc, out, summaries, block)?;
     }
@@ -81,23 +92,39 @@ pub fn push_blocks(
 }
 
 /// Appends the line of a query: in how many runs it committed, and its import and its distance in these.
-pub fn push_query(
+fn push_query(
     alloc: Global,
     out: &mut Vec<u8>,
     summaries: &[RunSummary],
     place: usize,
     query: Query<'_>,
-) -> Result<(), AllocError> {
-    let imports = gather(alloc, summaries, |run_summary: &RunSummary| {
-        outcome_at(run_summary, place).map(|outcomes| outcomes.import)
-    })?;
-    let distances = gather(alloc, summaries, |run_summary: &RunSummary| {
-        outcome_at(run_summary, place).map(|outcomes| outcomes.distance)
-    })?;
+) -> Result<(), AllocError>
+    ensures { OnOk result (out.new.items
+        ≡ out.old.items ++ query_line summaries.now (place, begun_query query.entry)) }
+{
+    let imports = gather(alloc, summaries, Column::Import(place))?;
+    let distances = gather(alloc, summaries, Column::Distance(place))?;
     push_text(out, "query ")?;
     push_text(out, query.name)?;
     push_count(out, " committed ", imports.len() as u64)?;
     push_spread(out, " import", imports)?;
     push_spread(out, " distance", distances)?;
-    push_text(out, "\n")
+    push_text(out, "\n")?;
+    Ok(())
+}
+
+/// Appends the lines of the queries.
+pub fn push_queries(
+    alloc: Global,
+    out: &mut Vec<u8>,
+    summaries: &[RunSummary],
+    queries: &[Query<'_>],
+) -> Result<(), AllocError>
+    ensures { OnOk result (out.new.items ≡ out.old.items
+        ++ flat_map (query_line summaries.now) (enumerate_from 0 (map begun_query queries.now))) }
+{
+    for place in 0..queries.len() {
+        push_query(alloc, out, summaries, place, queries[place])?;
+    }
+    Ok(())
 }

@@ -1,11 +1,10 @@
-//! What is told of one run: the import and the distance of each query that committed, and how often the lines of each
-//! block were blocked.
+//! The summary of one run: the import and the distance of each query that committed, how often the lines of each block
+//! were blocked, and how many of them were given up.
 
 ghost use Rattle.std.specs.Prelude.{◌≡◌, IfOk, map};
 ghost use Rattle.esr_explore.specs.Turns.{stage};
-ghost use Rattle.esr_explore.specs.Summaries.{AreOutcomes, IsOutcome, IsSummaryOf, number_of};
+ghost use Rattle.esr_explore.specs.Summaries.{AreOutcomes, IsOutcome, IsSummaryOf, given_up_in, number_of};
 
-use crate::measure::Measure;
 use crate::query::Query;
 use crate::run::Run;
 use crate::runner::{Runner, is_blocked};
@@ -21,18 +20,7 @@ pub struct QueryOutcome {
     pub distance: u64,
 }
 
-impl QueryOutcome {
-    /// The number that a run is measured by.
-    pub fn by(self, measure: Measure) -> u64 {
-        match measure {
-            Measure::Import => self.import,
-            Measure::Distance => self.distance,
-            Measure::Blocked => 0,
-        }
-    }
-}
-
-/// What is told of a run.
+/// The summary of a run.
 #[derive(Drop)]
 pub struct RunSummary {
     /// Of each query of the file, where it committed.
@@ -101,17 +89,26 @@ fn count_blocked(alloc: Global, runners: &[Runner]) -> Result<Vec<u64>, AllocErr
     Ok(counts)
 }
 
-/// How many lines of each block were given up.
-fn all_given_up(alloc: Global, runners: &[Runner]) -> Result<Vec<u64>, AllocError> {
+/// Returns how many lines of a block were given up: their last reply is that they are blocked.
+fn given_up_in(runner: &Runner) -> u64
+    ensures { result ≡ given_up_in runner.now }
+{
+    let lost = runner.replies().iter().filter(|reply| is_blocked(**reply));
+    lost.count() as u64
+}
+
+/// Returns how many lines of each block were given up.
+fn all_given_up(alloc: Global, runners: &[Runner]) -> Result<Vec<u64>, AllocError>
+    ensures { IfOk result (λ v. v.items ≡ map given_up_in runners.now) }
+{
     let mut counts = Vec::new(alloc);
     for runner in runners {
-        let lost = runner.replies().iter().filter(|reply| is_blocked(**reply));
-        counts.push(lost.count() as u64)?;
+        counts.push(given_up_in(runner))?;
     }
     Ok(counts)
 }
 
-/// What is told of a run.
+/// Returns the summary of a run.
 pub fn summarize(alloc: Global, run: &Run, queries: &[Query<'_>]) -> Result<RunSummary, AllocError>
     ensures { IfOk result (λ run_summary. IsSummaryOf (stage run.now.history.schedule run.now.runners.items) queries.now run_summary) }
 {

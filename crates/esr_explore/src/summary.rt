@@ -1,65 +1,146 @@
-//! The worst and the middle of what many runs tell, and which run is the worst.
+//! The maximum and the median of numbers of many runs, and which run is the worst.
+
+ghost use Rattle.std.specs.Prelude.{◌≡◌, ◌++◌, [], IfOk, OnOk, map, sum};
+ghost use Rattle.std.specs.List.{cons_option};
+ghost use Rattle.esr_explore.specs.Columns.{has_lost, lost_in, median, number_in, numbers_of, outcome_at};
+ghost use Rattle.esr_explore.specs.Sizes.{amount_of, greatest, size_of, worst_of};
+ghost use Rattle.esr_explore.specs.Turns.{capped};
 
 use crate::measure::Measure;
 use crate::run_summary::{QueryOutcome, RunSummary};
 use std::alloc::{AllocError, Global};
 
-/// The greatest of some numbers, and the one in the middle of them in ascending order.
+/// The maximum of some numbers, and the one in the middle of them in ascending order.
 #[derive(Clone, Copy)]
 pub struct Spread {
     pub worst: u64,
     pub middle: u64,
 }
 
-/// The spread of some numbers: of as many below the middle as above it, or one fewer. None of no number.
-pub fn spread_of(numbers: Vec<u64>) -> Result<Option<Spread>, AllocError> {
+/// Returns the maximum and the median of some numbers, 0 and 0 if there are none.
+pub fn spread_of(numbers: Vec<u64>) -> Result<Spread, AllocError>
+    ensures worst { IfOk result (λ spread. spread.worst ≡ greatest numbers.items) }
+    ensures middle { IfOk result (λ spread. spread.middle ≡ median numbers.items) }
+{
     let mut numbers = numbers;
     numbers.sort()?;
-    let Some(worst) = numbers.last().copied() else {
-        return Ok(None);
-    };
-    let middle = numbers.get((numbers.len() - 1) / 2).copied();
-    Ok(Some(Spread {
-        worst,
-        middle: middle.unwrap_or(worst),
-    }))
+    let count = numbers.len();
+    if count == 0 {
+        return Ok(Spread {
+            worst: 0,
+            middle: 0,
+        });
+    }
+    Ok(Spread {
+        worst: numbers[count - 1],
+        middle: numbers[(count - 1) / 2],
+    })
 }
 
-/// One number of each tale that has it.
-pub fn gather<F: Fn(&RunSummary) -> Option<u64>>(
+/// A number that a run may have: how often a block was blocked, or the import or the distance of a query.
+#[derive(Clone, Copy)]
+pub enum Column {
+    Blocked(usize),
+    Import(usize),
+    Distance(usize),
+}
+
+/// Returns the outcome of the query with a place among those of the file, where it committed.
+fn outcome_at(run_summary: &RunSummary, query: usize) -> Option<QueryOutcome>
+    ensures { result ≡ outcome_at query run_summary.now }
+{
+    run_summary.outcomes.get(query).copied().flatten()
+}
+
+/// Returns the number of a run in a column, if it has one.
+fn number_in(run_summary: &RunSummary, column: Column) -> Option<u64>
+    ensures { result ≡ number_in column run_summary.now }
+{
+    match column {
+        Column::Blocked(block) => run_summary.blocked.get(block).copied(),
+        Column::Import(query) => match outcome_at(run_summary, query) {
+            Some(outcome) => Some(outcome.import),
+            None => None,
+        },
+        Column::Distance(query) => match outcome_at(run_summary, query) {
+            Some(outcome) => Some(outcome.distance),
+            None => None,
+        },
+    }
+}
+
+/// Appends a number, if there is one.
+fn push_some(numbers: &mut Vec<u64>, number: Option<u64>) -> Result<(), AllocError>
+    ensures { OnOk result (numbers.new.items ≡ numbers.old.items ++ cons_option number []) }
+{
+    let Some(number) = number else {
+        return Ok(());
+    };
+    numbers.push(number)?;
+    Ok(())
+}
+
+/// Returns the numbers of a column, of the runs that have one.
+pub fn gather(
     alloc: Global,
     summaries: &[RunSummary],
-    number_of: F,
+    column: Column,
 ) -> Result<Vec<u64>, AllocError>
-    requires { F.IsAlwaysCallable number_of }
+    ensures { IfOk result (λ numbers. numbers.items ≡ numbers_of column summaries.now) }
 {
     let mut numbers = Vec::new(alloc);
     for run_summary in summaries {
-        if let Some(number) = number_of(run_summary) {
-            numbers.push(number)?;
-        }
+        push_some(&mut numbers, number_in(run_summary, column))?;
     }
     Ok(numbers)
 }
 
-/// What is told of the query with a place among those of the file, where it committed.
-pub fn outcome_at(run_summary: &RunSummary, query: usize) -> Option<QueryOutcome> {
-    run_summary.outcomes.get(query).copied().flatten()
+/// Returns whether a line of the block was given up.
+fn has_lost(run_summary: &RunSummary, block: usize) -> bool
+    ensures { result ≡ has_lost block run_summary.now }
+{
+    run_summary.given_up.get(block).copied().unwrap_or(0) > 0
 }
 
-/// The greatest number of a query by a measure.
-fn greatest(outcomes: &[Option<QueryOutcome>], measure: Measure) -> u64 {
+/// Returns in how many runs a line of the block was given up.
+pub fn lost_in(summaries: &[RunSummary], block: usize) -> u64
+    ensures { result ≡ lost_in block summaries.now }
+{
+    let runs = summaries
+        .iter()
+        .filter(|run_summary| has_lost(*run_summary, block));
+    runs.count() as u64
+}
+
+/// Returns the import or the distance of a query, 0 if it did not commit.
+fn amount_of(outcome: Option<QueryOutcome>, measure: Measure) -> u64
+    ensures { result ≡ amount_of measure outcome }
+{
+    let Some(outcome) = outcome else {
+        return 0;
+    };
+    match measure {
+        Measure::Import => outcome.import,
+        Measure::Distance => outcome.distance,
+        Measure::Blocked => 0,
+    }
+}
+
+/// Returns the maximum over the queries of a run.
+fn greatest(outcomes: &[Option<QueryOutcome>], measure: Measure) -> u64
+    ensures { result ≡ greatest (map (amount_of measure) outcomes.now) }
+{
     let mut greatest = 0u64;
-    for outcomes in outcomes {
-        if let Some(outcomes) = outcomes {
-            greatest = greatest.max(outcomes.by(measure));
-        }
+    for outcome in outcomes {
+        greatest = greatest.max(amount_of(*outcome, measure));
     }
     greatest
 }
 
-/// How often lines were blocked in all.
-fn sum_of(counts: &[u64]) -> u64 {
+/// Returns the sum of some counts, at most the maximum of 64 bits.
+fn sum_of(counts: &[u64]) -> u64
+    ensures { result ≡ capped (sum counts.now) }
+{
     let mut sum = 0u64;
     for count in counts {
         sum = sum.saturating_add(*count);
@@ -67,16 +148,20 @@ fn sum_of(counts: &[u64]) -> u64 {
     sum
 }
 
-/// How bad a run is by a measure.
-fn size_of(run_summary: &RunSummary, measure: Measure) -> u64 {
+/// Returns how bad a run is by a measure.
+fn size_of(run_summary: &RunSummary, measure: Measure) -> u64
+    ensures { result ≡ size_of measure run_summary.now }
+{
     match measure {
         Measure::Blocked => sum_of(&run_summary.blocked),
         Measure::Import | Measure::Distance => greatest(&run_summary.outcomes, measure),
     }
 }
 
-/// The number of the first run that is the worst by a measure.
-pub fn worst_of(summaries: &[RunSummary], measure: Measure) -> u64 {
+/// Returns the number of the first run whose size is the maximum over the runs.
+pub fn worst_of(summaries: &[RunSummary], measure: Measure) -> u64
+    ensures { result ≡ worst_of measure summaries.now }
+{
     let mut worst = 0u64;
     let mut most = 0u64;
     for i in 0..summaries.len() {

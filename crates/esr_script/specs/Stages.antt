@@ -1,5 +1,5 @@
 -- Either items still being declared, or the running machine.
-use Rattle.std.specs.Prelude.{⊤, ℕ, ℤ, List, [], Bool, true, false}
+use Rattle.std.specs.Prelude.{⊤, [], Bool, true, false}
 use Rattle.esr_history.specs.Machine.{Schedule}
 use Rattle.esr_history.specs.declared.event.Event.{Event}
 use Rattle.esr_history.specs.declared.event.Event.TheVariants as event

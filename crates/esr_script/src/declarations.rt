@@ -3,7 +3,7 @@
 //! Their type keeps that each value and each weight is in range and that there are at most 4,096 of them. So the machine
 //! can be made of them without a check, and only an allocation can fail.
 
-ghost use Rattle.std.specs.Prelude.{◌≡◌, ◌<◌, ◌≤◌, ◌++◌, ◌∷◌, [], length, map, All, IfOk, OnOk, OnErr};
+ghost use Rattle.std.specs.Prelude.{◌≡◌, ◌+◌, ◌<◌, ◌≤◌, ◌++◌, ◌∷◌, [], length, map, All, IfOk, OnOk, OnErr};
 ghost use Rattle.esr_base.specs.declared.limits.TheConstants.{MAX_ITEMS};
 ghost use Rattle.esr_items.specs.Values.{IsValue, both_versions};
 ghost use Rattle.esr_items.specs.Weights.{IsWeight};

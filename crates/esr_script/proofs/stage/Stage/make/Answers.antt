@@ -1,11 +1,18 @@
--- Why `Stage::make` keeps its contract: the goals that are left to a proof of ours.
-use Rattle.std.proofs.Common.{refl, ◌∙◌}
+-- The goals of `Stage::make` that the search does not close.
+use Rattle.std.proofs.Common.{refl, ap, ◌∙◌}
+use Rattle.esr_history.specs.Machine.{Schedule}
 use Rattle.esr_script.proofs.Opens.{opens}
 use Rattle.esr_script.proofs.stage.Stage.make.Goals as goal
 
 pub returns-clause-ok : goal.returns-clause-ok
 returns-clause-ok c = (
   refl,
-  c.in-Ok-new-3.ensures.ok ∙ (c.new-6.ensures ∙ opens c.args.self.now c.in-Open.values c.replace-values.result c.in-Open.weights c.replace-weights.result c.in-Ok.store c.in-Ok-new.metric c.in-Ok-new-2.machine
-      c.in-Open.is c.replace-values.ensures.value c.replace-weights.ensures.value c.in-Ok.ensures.ok c.in-Ok-new.ensures.ok c.in-Ok-new-2.ensures),
+  c.in-Ok-new-2.ensures.ok ∙ (c.new-2.ensures ∙ opens c.args.self.now c.in-Open.items c.in-Ok.store c.take_metric-metric.result c.in-Ok-new.machine
+      c.in-Open.is c.in-Ok.ensures c.take_metric-metric.ensures.metric c.in-Ok-new.ensures),
 )
+
+pub returns-clause-opening : goal.returns-clause-opening
+returns-clause-opening c =
+    ap (λ (h : Schedule). h.opening)
+    (c.in-Ok-new-2.ensures.ok ∙ (c.new-2.ensures ∙ opens c.args.self.now c.in-Open.items c.in-Ok.store c.take_metric-metric.result c.in-Ok-new.machine
+    c.in-Open.is c.in-Ok.ensures c.take_metric-metric.ensures.metric c.in-Ok-new.ensures))

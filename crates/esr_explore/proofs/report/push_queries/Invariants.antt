@@ -1,0 +1,11 @@
+-- What holds at each turn of the loop in `push_queries`.
+use Rattle.std.proofs.Common.{◌≡◌, ◌++◌, flat_map, map, take}
+use Rattle.std.specs.List.{enumerate_from}
+use Rattle.esr_explore.specs.Queries.{begun_query}
+use Rattle.esr_explore.specs.Report.{query_line}
+use Rattle.esr_explore.proofs.report.push_queries.Given as goal
+
+-- the lines of the queries so far are appended
+abbrev pub invariant-loop-place : goal.invariant-loop-place
+invariant-loop-place l =
+    l.out.items ≡ l.initial.out.items ++ flat_map (query_line l.summaries) (enumerate_from 0 (map begun_query (take l.place l.queries)))

@@ -1,0 +1,8 @@
+-- What holds at each turn of the loop in `greatest`.
+use Rattle.std.proofs.Common.{◌≡◌, map, take}
+use Rattle.esr_explore.specs.Sizes.{amount_of, greatest}
+use Rattle.esr_explore.proofs.summary.greatest.Given as goal
+
+-- it is the maximum over the queries so far
+abbrev pub invariant-loop-outcome : goal.invariant-loop-outcome
+invariant-loop-outcome l = l.greatest ≡ greatest (map (amount_of l.measure) (take l.outcome-index l.outcomes))
