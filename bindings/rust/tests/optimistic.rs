@@ -100,7 +100,7 @@ fn refusals_are_the_same() {
         });
         assert_eq!(result, Ok(1501));
         assert_eq!(bank.snapshot_in_order(), Ok(vec![500, 1501]));
-        assert_eq!((bank.counts().active, bank.active().len()), (0, 0));
+        assert_eq!((bank.counts().unwrap().active, bank.active().len()), (0, 0));
     }
 }
 
@@ -204,7 +204,7 @@ fn patience_ends() {
             .map(drop)
     });
     assert!(is_locked(told));
-    assert_eq!(bank.counts().active, 0);
+    assert_eq!(bank.counts().unwrap().active, 0);
     // each run of the outer body had committed the inner one
     assert!(bank.value("checking").is_ok_and(|value| value > 500));
 }
@@ -403,7 +403,7 @@ fn a_slow_update_does_not_hold_a_renewal_off() {
                     threads.spawn(count).join().expect("no panic")
                 });
                 println!("round {round}: longest update {longest:?}");
-                assert_eq!((bank.renewals(), bank.counts().active), (round, 1));
+                assert_eq!((bank.renewals(), bank.counts().unwrap().active), (round, 1));
                 // its locks are there, and its writes are its own
                 let is_locked = |result: Result<(), Error>| {
                     matches!(refusal(&result), Some(Refusal::BlockedByLock(_)))
@@ -450,7 +450,7 @@ fn a_slow_update_does_not_hold_a_renewal_off() {
             .expect("nothing is active");
         assert_eq!(finding.distance, 0);
         let metrics = bank.metrics();
-        assert_eq!((metrics.carried, bank.counts().active), (2, 0));
+        assert_eq!((metrics.carried, bank.counts().unwrap().active), (2, 0));
         assert_eq!(
             metrics.background_audits,
             if background_audits { metrics.audits } else { 0 }
@@ -592,7 +592,7 @@ fn a_soak_loses_nothing() {
         let all = moved.load(Ordering::Relaxed) + slow_ones.load(Ordering::Relaxed);
         assert_eq!(metrics.updates, all);
         assert_eq!(metrics.reports, reports.load(Ordering::Relaxed));
-        assert_eq!((bank.counts().active, metrics.aborts), (0, 0));
+        assert_eq!((bank.counts().unwrap().active, metrics.aborts), (0, 0));
         let beside = if background_audits { metrics.audits } else { 0 };
         assert_eq!(
             (metrics.background_audits, metrics.audits),

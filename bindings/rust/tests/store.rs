@@ -353,7 +353,6 @@ fn a_stopped_bank_says_so_in_each_call() {
         assert_eq!(text.contains("unknown"), may_be_written, "{text}");
         refuse_each_call(&bank, report, &stopped(why, false));
         assert!(bank.active().is_empty());
-        assert_eq!(bank.counts().active, 0);
         drop(bank);
         store.fail(&[], 0);
         let is_kept = fault == Fault::Kept;
@@ -365,7 +364,7 @@ fn a_stopped_bank_says_so_in_each_call() {
 fn refuse_each_call(bank: &Bank, report: esr::Report, expected: &Error) {
     let reads = |update: &mut BankUpdate<'_, '_>| update.read("checking").map(drop);
     let fails = |_: &mut BankUpdate<'_, '_>| -> Result<(), Error> { Err(Error::BadNames) };
-    let calls: [&dyn Fn() -> Result<(), Error>; 15] = [
+    let calls: [&dyn Fn() -> Result<(), Error>; 18] = [
         &|| transfer(bank, 1),
         &|| bank.transact(0, reads),
         &|| bank.transact(0, fails),
@@ -376,6 +375,9 @@ fn refuse_each_call(bank: &Bank, report: esr::Report, expected: &Error) {
         &|| bank.report_unaudited(0, |_| Ok(())).map(drop),
         &|| bank.value("checking").map(drop),
         &|| bank.snapshot().map(drop),
+        &|| bank.counts().map(drop),
+        &|| bank.totals().map(drop),
+        &|| bank.bundle(report).map(drop),
         &|| bank.snapshot_in_order().map(drop),
         &|| bank.audit(report).map(drop),
         &|| {
@@ -417,7 +419,7 @@ fn a_transaction_that_is_active_when_the_bank_stops() {
         matches!(result, Err(Error::StoreStopped { .. })),
         "{result:?}"
     );
-    assert_eq!((bank.active(), bank.counts().active), (vec![], 0));
+    assert_eq!(bank.active(), vec![]);
     drop(bank);
     assert_eq!(store.total(), 2000);
     assert_eq!(store.value("checking"), 500);

@@ -845,25 +845,31 @@ impl Bank {
     /// ```
     /// let bank = esr::Bank::builder().item("checking", 500).open()?;
     /// bank.transact(0, |update| update.add("checking", -100))?;
-    /// let counts = bank.counts();
+    /// let counts = bank.counts()?;
     /// assert_eq!((counts.transactions, counts.active), (1, 0));
     /// # Ok::<(), esr::Error>(())
     /// ```
-    #[must_use]
-    pub fn counts(&self) -> Counts {
-        self.lock().engine.counts()
+    ///
+    /// # Errors
+    /// [`Error::StoreStopped`] if the bank has stopped because its store failed.
+    pub fn counts(&self) -> Result<Counts, Error> {
+        self.check_running()?;
+        Ok(self.lock().engine.counts())
     }
 
     /// Returns the total import since the last renewal, and the number of entries.
     ///
     /// ```
     /// let bank = esr::Bank::builder().item("checking", 500).open()?;
-    /// assert_eq!(bank.totals().import, 0);
+    /// assert_eq!(bank.totals()?.import, 0);
     /// # Ok::<(), esr::Error>(())
     /// ```
-    #[must_use]
-    pub fn totals(&self) -> Totals {
-        self.lock().engine.totals()
+    ///
+    /// # Errors
+    /// [`Error::StoreStopped`] if the bank has stopped because its store failed.
+    pub fn totals(&self) -> Result<Totals, Error> {
+        self.check_running()?;
+        Ok(self.lock().engine.totals())
     }
 }
 

@@ -42,7 +42,11 @@ fn values(bank: &Bank) -> (i64, i64) {
 
 /// Checks the end of a run: nothing is active, and no thread waited for its timeout.
 fn check_end(bank: &Bank, now: Duration, max: Duration) {
-    assert_eq!(bank.counts().active, 0, "a transaction stays active");
+    assert_eq!(
+        bank.counts().unwrap().active,
+        0,
+        "a transaction stays active"
+    );
     assert!(bank.active().is_empty());
     assert!(now < max, "a wake-up was lost: {now:?}");
 }
