@@ -58,7 +58,7 @@ blocks_more blocks i d was new lt was_is new_is =
     ∙ ap (λ l. all_queries (take i blocks) ++ l) (append-nil (queries_in i (get_or blocks i d))) in
     new_is ∙ ap (λ l. l ++ queries_in i (get_or blocks i d)) was_is ∙ sym more
 
--- the same of blocks as they are held: b is what was read at i
+-- blocks as slices: b is the block at i
 pub held_blocks_more : (blocks : List (Vec Call Global)) (i : ℕ) (b : Vec Call Global) (calls : List Call) (was new : List BegunQuery) → i < length blocks
     → b ≡ get_or blocks i b → calls ≡ b.items → was ≡ all_queries (map (λ b. b.items) (take i blocks)) → new ≡ was ++ queries_in i calls
     → new ≡ all_queries (map (λ b. b.items) (take (i + 1) blocks))

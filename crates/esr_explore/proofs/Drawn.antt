@@ -6,7 +6,7 @@ use Rattle.std.proofs.lemmas.List.{get_or_past}
 use Rattle.std.proofs.lemmas.List.Sums.{sum_by-set, sum_by_push, get_or-le-sum_by}
 use Rattle.esr_explore.specs.Orders.{IsOrder, lines_of, turns_of}
 
--- of so many turns: each block has had as many as it has fewer lines left
+-- a list of n turns: each block has had as many turns as it has fewer lines left
 pub record IsDrawn (counts left order : List ℕ) (turns : ℕ) : Type 0 where
   pub same : length left ≡ length counts
   pub count : length order ≡ turns
@@ -22,11 +22,11 @@ drawn_none counts left is = record {
   lines = λ block. omega (arith, ap (λ (l : List ℕ). lines_of l block) is);
 }
 
--- how often a block stands in a list of one
+-- how often a block occurs in a list of one block
 abbrev once : ℕ → ℕ → ℕ
 once block b = cond (b == block) 1 0
 
--- the turns of a block behind one more of another, or of itself
+-- the turns of a block after one more turn, of another block or of itself
 turns_more : (order : List ℕ) (b block : ℕ) → turns_of block (order ++ b ∷ []) ≡ turns_of block order + once block b
 turns_more order b block = sum_by_push (once block) order b
 
@@ -52,7 +52,7 @@ drawn_more counts left new order turns b drawn within some is = record {
   ];
 }
 
--- no line is left of any block where none is left of all
+-- no block has a line left if the blocks together have none
 none_left : (left : List ℕ) (block : ℕ) → sum left ≡ 0 → lines_of left block ≡ 0
 none_left left block none = elim (cases_lt block (length left)) [
   | inl within ↦ omega (arith, none, get_or-le-sum_by (λ x. x) left block 0 within)

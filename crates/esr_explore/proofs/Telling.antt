@@ -1,4 +1,4 @@
--- What is told of one more query.
+-- The outcome of one more query.
 use Rattle.std.proofs.Common.{◌≡◌, ℕ, ◌+◌, ◌<◌, List, [], ◌∷◌, ◌++◌, Option, ◌∙◌, ap, get_or, length, subst, sym, take}
 use Rattle.std.proofs.lemmas.List.{take_more}
 use Rattle.esr_history.specs.Machine.{Schedule}
@@ -14,7 +14,7 @@ one_more h rs [] (u ∷ outcomes) q t are is = absurd are
 one_more h rs (p ∷ queries) [] q t are is = absurd are
 one_more h rs (p ∷ queries) (u ∷ outcomes) q t are is = (are.0, one_more h rs queries outcomes q t are.1 is)
 
--- what is told of the queries so far, and of the next one
+-- the outcomes of the queries so far, and of the next one
 pub outcomes_more : (h : Schedule) (rs seen : List RunnerView) (queries : List Query) (i : ℕ) (d : Query) (number : ℕ) (outcomes new : List (Option QueryOutcome)) (t : Option QueryOutcome)
     → i < length queries → AreOutcomes h rs (take i queries) outcomes → seen ≡ rs → number ≡ number_of seen (get_or queries i d).block (get_or queries i d).place
     → IsOutcome h number t → new ≡ outcomes ++ t ∷ [] → AreOutcomes h rs (take (i + 1) queries) new

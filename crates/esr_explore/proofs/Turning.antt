@@ -9,11 +9,11 @@ use Rattle.esr_plan.specs.declared.call.Call.{Call}
 use Rattle.esr_plan.specs.Calls.{AreAnswered}
 use Rattle.esr_explore.specs.Turns.{AreDone, IsRun, RunnerView, Stage, begun, fresh, stage, turn, turns}
 
--- one turn behind others
+-- one turn after others
 pub then_turn : (blocks : List (List Call)) (s : Stage) (rest : List ℕ) (b : ℕ) → turns blocks s (rest ++ b ∷ []) ≡ turn blocks (turns blocks s rest) b
 then_turn blocks s rest b = fold-append (turn blocks) s rest (b ∷ [])
 
--- turns behind those of an order
+-- turns after those of an order
 pub then_turns : (blocks : List (List Call)) (s : Stage) (order rest : List ℕ) → turns blocks s (order ++ rest) ≡ turns blocks (turns blocks s order) rest
 then_turns blocks s order rest = fold-append (turn blocks) s order rest
 
@@ -25,7 +25,7 @@ done_answered (b ∷ blocks) [] (same, done) = absurd (omega (arith, same))
 done_answered (b ∷ blocks) (r ∷ rs) (same, done) =
     (done 0 (omega arith), done_answered blocks rs (omega (arith, same), λ k lt. done (suc k) (omega (arith, lt))))
 
--- the same of what is lent of the blocks and of their replies
+-- turns over the slices of the blocks and of their replies
 pub borrowed_result : (blocks seen : List (List Call)) (rs : List RunnerView) (replies : List (List Reply))
     → seen ≡ blocks → replies ≡ map (λ r. r.replies) rs → AreDone blocks rs → AreAnswered seen replies
 borrowed_result blocks seen rs replies seen_is replies_is done =
@@ -42,7 +42,7 @@ pub started : (opening : List ℤ) (weights : List ℕ) (blocks : List (List Cal
     → h ≡ (begun opening weights blocks).history → rs ≡ map (λ _. fresh) (range_with_len 0 n) → n ≡ length blocks → stage h rs ≡ begun opening weights blocks
 started opening weights blocks h rs n h_is rs_is n_is = ap₂ stage h_is (rs_is ∙ ap (λ (m : ℕ). map (λ _. fresh) (range_with_len 0 m)) n_is)
 
--- the turns of an order and those behind them are a run, where each block has then given each of its lines
+-- the turns of an order and those after them are a run, if each block has then executed each of its lines
 pub ran : (opening : List ℤ) (weights : List ℕ) (blocks seen : List (List Call)) (order : List ℕ) (start mid : Stage) (h closed : Schedule) (rs : List RunnerView)
     → seen ≡ blocks → start ≡ begun opening weights blocks → mid ≡ turns seen start order → ((rest : List ℕ) × (stage h rs ≡ turns seen mid rest))
     → AreDone seen rs → closed ≡ h → IsRun opening weights blocks order (stage closed rs)

@@ -11,7 +11,7 @@ use Rattle.esr_explore.specs.declared.summary.Column.TheVariants as column
 abbrev pub outcome_at : ℕ → RunSummary → Option QueryOutcome
 outcome_at query run_summary = option_flatten (slice_get run_summary.outcomes.items query)
 
--- the number of a run in a column, where it has one
+-- the number of a run in a column, if it has one
 abbrev pub number_in : Column → RunSummary → Option ℕ
 number_in (column.Blocked block) run_summary = slice_get run_summary.blocked.items block
 number_in (column.Import query) run_summary = option_map (λ o. o.import) (outcome_at query run_summary)

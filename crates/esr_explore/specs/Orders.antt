@@ -2,7 +2,7 @@
 use Rattle.std.specs.Prelude.{◌≡◌, ◌<◌, ◌≤◌, ℕ, zero, suc, ◌==◌, List, [], ◌∷◌, ◌++◌, cond, length, flat_map, count_by, nat_lt, slice_index_or}
 use Rattle.std.specs.List.{range_with_len}
 
--- how often a block stands in an order
+-- how often a block occurs in an order
 abbrev pub turns_of : ℕ → List ℕ → ℕ
 turns_of block order = count_by (λ b. b == block) order
 
@@ -10,7 +10,7 @@ turns_of block order = count_by (λ b. b == block) order
 abbrev pub lines_of : List ℕ → ℕ → ℕ
 lines_of counts block = slice_index_or counts block 0
 
--- so many turns, of which each block has as many as it has lines
+-- n turns, of which each block has as many as it has lines
 abbrev pub IsOrder : List ℕ → ℕ → List ℕ → Type 0
 IsOrder counts turns order =
     (length order ≡ turns) × ((block : ℕ) → turns_of block order ≡ lines_of counts block)
@@ -20,15 +20,15 @@ abbrev pub longer_by : List ℕ → List ℕ → ℕ → List (List ℕ)
 longer_by counts order block =
     cond (nat_lt (turns_of block order) (lines_of counts block)) ((order ++ block ∷ []) ∷ []) []
 
--- the same of each block
+-- longer orders, by each block
 abbrev pub longer : List ℕ → List ℕ → List (List ℕ)
 longer counts order = flat_map (longer_by counts order) (range_with_len 0 (length counts))
 
--- what so many first turns may be
+-- the possible lists of the first n turns
 abbrev pub first_turns : List ℕ → ℕ → List (List ℕ)
 first_turns counts zero = [] ∷ []
 first_turns counts (suc turns) = flat_map (longer counts) (first_turns counts turns)
 
--- after some of so many turns there are more ways to have begun than a bound
+-- after some number of turns there are more beginnings than a bound
 abbrev pub AreMoreThan : List ℕ → ℕ → ℕ → Type 0
 AreMoreThan counts turns most = (k : ℕ) × (k ≤ turns) × (most < length (first_turns counts k))

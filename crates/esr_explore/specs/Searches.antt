@@ -1,4 +1,4 @@
--- What is told of a search through many orders: of each the tale of its run.
+-- The result of a search through many orders: the summary of the run of each.
 use Rattle.std.specs.Prelude.{◌≡◌, ℕ, ℤ, List, [], ◌∷◌, Option, Some, None, All, length, map, sum}
 use Rattle.esr_plan.specs.declared.call.Call.{Call}
 use Rattle.esr_explore.specs.Orders.{IsOrder, first_turns}
@@ -26,14 +26,14 @@ abbrev pub drawn_of : Ways → Option ℕ
 drawn_of (ways.All orders) = None
 drawn_of (ways.Drawn seeds) = Some seeds
 
--- a tale for each order, of a run with it: none is skipped, and none told twice
+-- a summary for each order, of a run with it: none is skipped, and none occurs twice
 abbrev pub AreRunSummaries : List ℤ → List ℕ → List (List Call) → List Query → List (List ℕ) → List RunSummary → Type 0
 AreRunSummaries opening weights blocks queries [] [] = Unit {0}
 AreRunSummaries opening weights blocks queries (order ∷ orders) (run_summary ∷ summaries) =
     IsSummary opening weights blocks queries order run_summary × AreRunSummaries opening weights blocks queries orders summaries
 AreRunSummaries opening weights blocks queries _ _ = ⊥
 
--- so many tales, each of a run with an order in which each block stands as often as it has lines
+-- n summaries, each of a run with an order in which each block occurs as often as it has lines
 pub record AreDrawn (opening : List ℤ) (weights : List ℕ) (blocks : List (List Call)) (queries : List Query) (counts : List ℕ)
     (many : ℕ) (summaries : List RunSummary) : Type 0 where
   pub orders : List (List ℕ)

@@ -28,7 +28,7 @@ fresh = record { replies = []; tries = 0; blocked = 0 }
 abbrev pub capped : ℕ → ℕ
 capped n = min n (2 ^ 64 - 1)
 
--- whether the line is given again: it was blocked, and given fewer than 100 times
+-- whether the line is retried: it was blocked, and tried fewer than 100 times
 abbrev pub is_retried : Reply → RunnerView → Bool
 is_retried reply s = is_blocked reply && nat_lt (s.tries + 1) 100
 

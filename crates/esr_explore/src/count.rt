@@ -1,23 +1,23 @@
 //! How many orders there are: a multinomial coefficient, line by line. Each quotient is a whole number, since it counts
 //! the orders of the lines so far.
 
-/// The largest count that is told.
-const LARGEST: u128 = 1_000_000_000_000_000_000;
+/// The largest count that is reported.
+const MAX_REPORTED: u128 = 1_000_000_000_000_000_000;
 
-/// The count with one more block of so many lines, behind others of so many.
+/// Returns the count with one more block, of `lines` lines, after the others.
 fn count_block(count: u128, before: u64, lines: u32) -> Option<u128> {
     let mut count = count;
     for i in 1..=lines {
         let all = u128::from(before).saturating_add(u128::from(i));
         count = count.saturating_mul(all) / u128::from(i);
-        if count > LARGEST {
+        if count > MAX_REPORTED {
             return None;
         }
     }
     Some(count)
 }
 
-/// How many orders there are of blocks with so many lines each; none where they are more than 10^18.
+/// Returns the number of orders of blocks with these numbers of lines, or `None` if it is above 10^18.
 pub fn count_orders(counts: &[u32]) -> Option<u64> {
     let mut count = 1u128;
     let mut before = 0u64;

@@ -45,7 +45,7 @@ fn sum_of(counts: &[u32]) -> u64
     counts.iter().map(|count| u64::from(*count)).sum()
 }
 
-/// The order that a seed draws. Each block stands in it as often as it has lines.
+/// Returns the order that a seed draws. Each block occurs in it as often as it has lines.
 pub fn draw_order(alloc: Global, counts: &[u32], seed: u64) -> Result<Vec<u8>, AllocError>
     requires { length counts.now ≤ 256 }
     ensures { IfOk result (λ order. IsOrder counts.now (sum counts.now) order.items) }

@@ -9,7 +9,7 @@ use std::alloc::{AllocError, Global};
 /// The most orders that are made.
 pub const MAX_ORDERS: usize = 100_000;
 
-/// How often a block stands in an order.
+/// Returns how often a block occurs in an order.
 fn turns_of(order: &[u8], block: u8) -> usize
     ensures { result ≡ turns_of block order.now }
 {
@@ -90,8 +90,8 @@ fn no_turns(alloc: Global) -> Result<Vec<Vec<u8>>, AllocError>
     Ok(orders)
 }
 
-/// All orders in which blocks of so many lines each take so many turns in all, in ascending order. No order is left out; there
-/// is no list where what orders begin with comes to more than 100,000.
+/// Returns all orders in which blocks with these numbers of lines take `turns` turns in all, in ascending order. Returns
+/// `None` if the orders have more than 100,000 beginnings of some length.
 pub fn all_orders(
     alloc: Global,
     counts: &[u32],

@@ -1,4 +1,4 @@
-//! From a drive file to what is written of its runs.
+//! From a drive file to the text about its runs.
 
 ghost use Rattle.std.specs.Prelude.{◌≡◌, ◌≤◌, ◌++◌, ◌∷◌, [], ℕ, List, None, Option, false, IfOk, IfSome, OnOk, Some, length, map, sum};
 ghost use Rattle.std.specs.List.{Contains};
@@ -32,7 +32,7 @@ use esr_plan::{DriveFault, DrivePlan, begun_names, drive_plan_of, read_all};
 use std::alloc::{AllocError, Global};
 use std::io::{Read, Write};
 
-/// What is looked for: in which orders, and which run is written.
+/// A search: its orders, and the run that is written.
 #[derive(Clone, Copy)]
 pub struct Search {
     /// How many orders are drawn, or none where all are gone through.
@@ -78,7 +78,7 @@ fn ways_of(alloc: Global, counts: &[u32], seeds: Option<u64>) -> Result<Ways, Ex
     }
 }
 
-/// What is told of the run with an order.
+/// Summarizes the run with an order.
 fn summary_of(
     alloc: Global,
     drive_plan: &DrivePlan<'_>,
@@ -94,7 +94,7 @@ fn summary_of(
     Ok(run_summary)
 }
 
-/// Appends what is told of one more run.
+/// Appends the summary of one more run.
 fn push_summary(
     summaries: &mut Vec<RunSummary>,
     run_summary: RunSummary,
@@ -107,7 +107,7 @@ fn push_summary(
     }
 }
 
-/// What is told of the run with each of these orders.
+/// Summarizes the run with each of these orders.
 fn summaries_of(
     alloc: Global,
     drive_plan: &DrivePlan<'_>,
@@ -126,7 +126,7 @@ fn summaries_of(
     Ok(summaries)
 }
 
-/// What is told of the run with each order that these seeds draw.
+/// Summarizes the run with each order that these seeds draw.
 fn drawn_summaries(
     alloc: Global,
     drive_plan: &DrivePlan<'_>,
@@ -148,7 +148,7 @@ fn drawn_summaries(
     Ok(summaries)
 }
 
-/// What is told of the run with each order that is gone through.
+/// Summarizes the run with each order of the search.
 fn all_summaries(
     alloc: Global,
     drive_plan: &DrivePlan<'_>,
@@ -170,15 +170,15 @@ fn all_summaries(
     }
 }
 
-/// What a search finds: the orders that were gone through, and what is told of each run.
+/// The result of a search: its orders, and the summary of each run.
 #[derive(Drop)]
 struct SearchResult {
     ways: Ways,
     summaries: Vec<RunSummary>,
 }
 
-/// Goes through all orders of the blocks, or through so many drawn ones. Where all are gone through, none is left out;
-/// what is drawn are orders of just the blocks' lines.
+/// Runs all orders of the blocks, or a number of random ones. If all are run, none is left out; a random order is an order of
+/// the blocks' lines too.
 fn search_orders(
     alloc: Global,
     drive_plan: &DrivePlan<'_>,

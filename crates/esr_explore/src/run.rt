@@ -1,8 +1,8 @@
-//! A run of the blocks of a plan on one thread: at each turn one of them gives its next line.
+//! Runs the blocks of a plan on one thread: at each turn one of them executes its next line.
 //!
-//! A line that is blocked is given again at a later turn of its block, up to 100 times in all, as a drive does it; then
-//! its last answer counts. An order has as many turns as there are lines, and blocked lines take some of them: what is
-//! left over is given by all blocks in rounds.
+//! A blocked line is retried at a later turn of its block, up to 100 tries in all, as in a drive; then its last reply counts. An
+//! order has as many turns as there are lines, and blocked lines use some of them: the blocks execute the remaining lines in
+//! rounds.
 
 ghost use Rattle.std.specs.Prelude.{◌≡◌, ℕ, List, [], ◌<◌, ◌≤◌, IfOk, IfNone, OnOk, length, map, slice_index_or};
 ghost use Rattle.std.specs.List.{range_with_len};

@@ -31,7 +31,7 @@ pub struct RunSummary {
     pub given_up: Vec<u64>,
 }
 
-/// The number that a query's begin was given, 0 where it was refused.
+/// Returns the number of the transaction that a query's begin created, or 0 if it was refused.
 fn number_of(runners: &[Runner], query: Query<'_>) -> TxnId
     ensures { result.0 ≡ number_of runners.now query.entry.block query.entry.place }
 {
@@ -44,7 +44,7 @@ fn number_of(runners: &[Runner], query: Query<'_>) -> TxnId
     }
 }
 
-/// What is told of a transaction, if it is a query that committed.
+/// Returns the outcome of a transaction, if it is a committed query.
 fn outcome_of(
     alloc: Global,
     history: &History<Weighted>,
@@ -62,7 +62,7 @@ fn outcome_of(
     }
 }
 
-/// What is told of these queries.
+/// Returns the outcomes of these queries.
 fn all_outcomes(
     alloc: Global,
     run: &Run,

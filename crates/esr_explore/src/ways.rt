@@ -1,4 +1,4 @@
-//! The orders that are gone through: all of them, or so many drawn ones.
+//! The orders of a search: all of them, or a number of random ones.
 
 ghost use Rattle.std.specs.Prelude.{◌≡◌, ◌≤◌, Some, IfOk, length, map, sum};
 ghost use Rattle.esr_plan.specs.declared.draft.TheConstants.{MAX_BLOCKS};
@@ -17,12 +17,12 @@ use std::fmt;
 /// The most lines in blocks where all orders are gone through.
 pub const MAX_LINES: usize = 1_000;
 
-/// Why nothing was told.
+/// Why a search has no result.
 #[derive(Clone, Copy)]
 pub enum ExploreFault {
     /// The file is at fault, or the engine, a device or memory, as for a drive.
     Drive(DriveFault),
-    /// There are more orders than are gone through: so many, where they can be told.
+    /// More orders than a search can visit: their number, if it can be reported.
     TooManyOrders(Option<u64>),
     /// There are more lines in blocks than where all orders are gone through.
     TooManyLinesInBlocks,
@@ -93,7 +93,7 @@ fn sum_of(counts: &[u32]) -> usize
     counts.iter().map(|count| *count as usize).sum()
 }
 
-/// Whether all of so many orders are gone through.
+/// Returns whether all orders of this number are visited.
 fn is_few(count: Option<u64>) -> bool {
     match count {
         Some(count) => count <= MAX_ORDERS as u64,
@@ -101,7 +101,7 @@ fn is_few(count: Option<u64>) -> bool {
     }
 }
 
-/// All orders of blocks with so many lines, if they are few enough.
+/// Returns all orders of blocks with these numbers of lines, if they are few enough.
 pub fn all_ways(alloc: Global, counts: &[u32]) -> Result<Ways, ExploreFault>
     requires { length counts.now ≤ MAX_BLOCKS }
     ensures { IfOk result (λ ways. orders_of ways ≡ Some (first_turns counts.now (sum counts.now))) }
