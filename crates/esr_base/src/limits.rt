@@ -1,5 +1,5 @@
-//! The limits of stores and histories, each once: code and definitions name these constants. What follows from several
-//! is made of them where it is used.
+//! Defines the limits of stores and histories, each once: code and specifications use these constants. A limit that
+//! follows from several of them is computed at its place of use.
 
 /// The most items that a store has.
 pub const MAX_ITEMS: usize = 4096;

@@ -1,4 +1,4 @@
-//! Numbers of items and of transactions, as types of their own, so that neither is taken for the other.
+//! Defines newtypes for item and transaction numbers, so that one cannot be passed for the other.
 
 /// The number of an item, from 0.
 #[derive(Clone, Copy, PartialEq, Eq, Default, Debug)]

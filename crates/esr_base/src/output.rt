@@ -1,4 +1,4 @@
-//! Writes all of some bytes, or tells that a prefix was written.
+//! Writes a whole byte slice, or reports that only a prefix was written.
 //!
 //! The standard library's `write_all` says nothing of the bytes after an error, so texts that promise "after a fault
 //! just this was written" need a loop over `write` whose failure leaves a prefix.

@@ -1,9 +1,9 @@
 //! Readers and writers that remember whether one of their calls has failed.
 //!
-//! A run promises that it passes over no failed read or write; a contract can say that only if the device tells. Every
-//! error counts, `Interrupted` too, and so does a write that took none of some bytes: a run that tried again after some
-//! errors and not after others would need a rule for which, and could hide a failure. That the device is asked at all
-//! no clause can say; tests count the calls.
+//! A run promises to overlook no failed read or write. A contract can state that only if the device records failures.
+//! Every error counts, including `Interrupted`, and so does a write that accepts none of a nonempty slice: to retry
+//! after some errors but not others would need a rule, and could hide a failure. No clause can say that the device is
+//! called at all; tests count the calls.
 
 ghost use Rattle.std.specs.Prelude.{◌≡◌, ◌||◌, false, is_err, length};
 ghost use Rattle.std.specs.Io.{ReadsAtMost, WritesAtMost};

@@ -104,7 +104,7 @@ module _ {X : Type 0} (key : X → ℕ) where
   abbrev pub others : ℕ → List X → List X
   others t xs = filter (λ y. not (key y == t)) xs
 
-  -- where no element has the number, dropping it changes nothing
+  -- if no element has the number, dropping it changes nothing
   pub others_gap : (t i : ℕ) (xs : List X) → IsGapFor key xs t i → others t xs ≡ xs
   others_gap t i [] gap = refl
   others_gap t zero (x ∷ xs) gap =
@@ -170,7 +170,7 @@ module _ {X : Type 0} (key : X → ℕ) where
   all_placed P t new change p keeps (x ∷ xs) all =
       grind (arith, cases_eq (key x) t, eq-eqb, ne_eqb, cases_lt t (key x), lt_ltb, le_ltb, all_placed P t new change p keeps xs all.1)
 
-  -- who stands there after one more is placed stood there before, or is the one placed
+  -- the numbers after an insertion are the earlier ones and the inserted one
   pub any_placed : (t : ℕ) (new : X) (change : X → X) → key new ≡ t → ((y : X) → key (change y) ≡ key y) → (u : ℕ) (xs : List X)
       → list_any (λ y. key y == u) (upserted key t new change xs) ≡ (list_any (λ y. key y == u) xs || (t == u))
   any_placed t new change is same u [] = rw is (or_comm (t == u) false)

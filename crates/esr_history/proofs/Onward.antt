@@ -1,4 +1,4 @@
--- What the audit of a committed query rests on stays as its history goes on.
+-- The audit of a committed query depends on nothing that a longer history changes.
 use Rattle.std.proofs.Common.{◌≡◌, ℕ, zero, suc, ℤ, ◌+◌, ◌*◌, List, [], ◌∷◌, ◌++◌, length, Bool, true, false, cond, ◌&&◌, ◌==◌, refl, sym, ◌∙◌, ap, subst, arith, inl, inr, Option, None, Some, if◌then◌else◌, add-zero, zero-add, add-one, ◌⊎◌, append-nil, append_assoc, is_some}
 use Rattle.std.specs.List.{filter_map, list_any, cons_option, slice_get}
 use Rattle.std.proofs.lemmas.Bool.{true≢false, eq-eqb, ne_eqb, and_parts, or_left, or_right}

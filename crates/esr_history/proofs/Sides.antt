@@ -55,7 +55,7 @@ charges_kinds_after d opening before (e ∷ later) =
 pub charges_kinds : (d : ℕ → ℤ → ℤ → ℕ) (opening : List ℤ) (events : List Event) → AllByRecursion (IsOfKinds events) (charges d opening events)
 charges_kinds d opening events = charges_kinds_after d opening [] events
 
--- who is no query imports nothing, who is no update exports nothing
+-- only queries import, and only updates export
 pub no_import : (events : List Event) (cs : List Charge) → AllByRecursion (IsOfKinds events) cs → (t : ℕ) → is_query events t ≡ false → import_in cs t ≡ 0
 no_import events [] all t isnt = refl
 no_import events (c ∷ cs) all t isnt =

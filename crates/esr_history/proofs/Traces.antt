@@ -93,7 +93,7 @@ read_of u x v = record { txn = u; item = x; writes = false; value = v }
 abbrev pub write_of : ℕ → ℕ → ℤ → Operation
 write_of u x v = record { txn = u; item = x; writes = true; value = v }
 
--- the traces of legal histories, with what is charged to each query
+-- the traces of legal histories, with the amount charged to each query
 pub data Reached (s : Setting) : Trace → (ℕ → ℕ) → Type 0 where
   nothing : {b : ℕ → Option Beginning} → Reached s (record { operations = []; commits = []; aborts = []; beginning = b }) (λ _. 0)
   begin : {t : Trace} {m : ℕ → ℕ} → Reached s t m → (b : ℕ → Option Beginning) → Keeps t.beginning b → Reached s (with_begins t b) m

@@ -44,7 +44,7 @@ writers (write {t = t} r v x w n ac up free paid) = In-push (λ o. o.writes ≡ 
 writers (commit r v ac) = writers r
 writers (abort r v ac) = writers r
 
--- where what passes m stands at the end of what passes n
+-- if the elements that pass m are the last of those that pass n, the filter by n splits into the others and them
 pub filter_tail : {X : Type 0} (n m : X → Bool) (xs : List X) → Pairs (λ a b. m a ≡ true → n b ≡ true → m b ≡ true) xs → ((x : X) → m x ≡ true → n x ≡ true) →
     filter n xs ≡ filter (λ x. n x && not (m x)) xs ++ filter m xs
 filter_tail n m [] p f = refl
@@ -140,7 +140,7 @@ committed_after {t = t} r o u x a =
         ∙ sym (and_left (writes_item x w) (is_among t.commits w.txn) nwi))
         (cases_Bool (writes_item x w))
 
--- an ended transaction has not aborted just where it has committed
+-- a transaction that has ended has either committed or aborted
 pub ended_agree : {s : Setting} {t : Trace} {m : ℕ → ℕ} → Reached s t m → (v : ℕ) → ended_in t v ≡ true → not (is_among t.aborts v) ≡ is_among t.commits v
 ended_agree {t = t} r v e =
     ⊎_elim

@@ -78,7 +78,7 @@ read_kept t x (e ∷ es) =
     at (Commit u) r os = omega arith
     at (Abort u) r os = omega arith
 
--- a query is no update
+-- a query is not an update
 pub query_not_update : (events : List Event) (t : ℕ) → is_query events t ≡ true → is_update events t ≡ false
 query_not_update events t is = at (beginning events t) is
   where

@@ -81,7 +81,7 @@ facts_by (Some b) end = Some (record { query = b.query; limit = b.limit; end = e
 abbrev pub facts_of : List Entry → ℕ → Option Facts
 facts_of es t = facts_by (beginning (accepted es) t) (last_place accepted_end t es)
 
--- A place in a table: 0 where there is none, else one more.
+-- Encodes an optional entry index in a table: 0 for none, else the index plus 1.
 abbrev pub coded : Option ℕ → ℕ
 coded None = 0
 coded (Some k) = k + 1
@@ -90,7 +90,7 @@ abbrev pub decoded : ℕ → Option ℕ
 decoded zero = None
 decoded (suc k) = Some k
 
--- what a table has at a key, 0 where there is no key or no such place
+-- the code that a table has at a key; 0 without a key or if the key is out of range
 abbrev pub key_at : List ℕ → Option ℕ → ℕ
 key_at table None = 0
 key_at table (Some k) = slice_index_or table k 0
@@ -123,7 +123,7 @@ pub record IsFit (n : ℕ) (es : List Entry) : Type 0 where
   pub txns : (t : ℕ) → begun_count es < t → last_place accepted_txn t es ≡ None
   pub ends : (t : ℕ) → begun_count es < t → last_place accepted_end t es ≡ None
 
--- there is room for so many more begins, and for so many more entries, whose places have codes of 32 bits
+-- the tables have capacity for k more begins, and for k more entries whose indices have 32-bit codes
 abbrev pub HasCapacityToBegin : ℕ → BackLinks → Type 0
 HasCapacityToBegin k l =
     (length l.txns.items + k ≤ vec_capacity l.txns)

@@ -14,7 +14,7 @@ abbrev pub AreDue : Distance → Schedule → Event → Reply → List (TxnId ×
 AreDue d h event reply charges =
     is_refusal reply ≡ false → (t : ℕ) → imported charges t ≡ import_in (due_in d h event) t
 
--- the imports of the transactions, by their numbers from 0, which is nobody's
+-- the imports of the transactions, indexed by transaction number; number 0 is unused
 abbrev pub AreImports : Distance → Schedule → List ℕ → Type 0
 AreImports d h imports =
     imports ≡ map (λ t. import_in (charges_in d h) t) (range_with_len 0 (begun_count h.entries + 1))

@@ -1,5 +1,5 @@
--- What every legal history keeps of its accepted events: who acts has begun, only updates write, only the last writer
--- of an item can be active, and nobody ends twice.
+-- Invariants of the accepted events of every legal history: each event's transaction has begun, only updates write,
+-- only the last writer of an item can be active, and no transaction ends twice.
 use Rattle.std.specs.Prelude.{◌≡◌, ℕ, List, Bool, true, false, ◌==◌, Option, None, Some, if◌then◌else◌}
 use Rattle.std.specs.List.{filter_map, list_any, last_or}
 use Rattle.esr_history.specs.Events.{writes, is_begun, is_update, is_committed, is_aborted, holds_write, Event, Read, Write, Commit, Abort}

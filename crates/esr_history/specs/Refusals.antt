@@ -1,4 +1,4 @@
--- How refusals are told outside the program.
+-- How refusals are described outside the program: number, message and blocking transaction.
 use Rattle.std.specs.Prelude.{ℕ, List, codes, Option, None, Some}
 use Rattle.esr_history.specs.Events.{TxnId, Refusal, NoSuchTransaction, AlreadyEnded, NoSuchItem, QueryMayNotWrite, ValueOutOfRange, LimitOutOfRange, TooManyTransactions, TooManyReads, BlockedByLock, BlockedByImport, BlockedByExport}
 

@@ -1,11 +1,12 @@
-//! Places of earlier entries: of the same item, and of the same transaction, each found in one step.
+//! Links each entry to earlier entries, of the same item and of the same transaction, each found in one step.
 //!
-//! For each entry two places, for each item and transaction the last one, for each transaction how it began and where
-//! it ended. They are what a scan of the log would find, by the type of `History`, and they are why neither a step nor
-//! an audit grows with what is far away. Links lead to accepted entries alone.
+//! The tables hold two entry indices for each entry, the last one for each item and transaction, and for each
+//! transaction how it began and where it ended. The type of `History` guarantees that a scan of the log would find the
+//! same. Because of them the cost of a step or an audit does not grow with unrelated entries. Links lead to accepted
+//! entries only.
 //!
-//! In a table 0 stands for no place and each place for one more, in 32 bits: `reserve` refuses an entry past
-//! 4,294,967,294, as where allocation fails, far above what a machine's history can have.
+//! A table stores an index plus 1 in 32 bits, and 0 for none. So `reserve` fails for an entry past 4,294,967,294, as if
+//! an allocation failed; a machine's history is far shorter.
 ghost use Rattle.esr_base.specs.declared.limits.TheConstants.{MAX_ITEMS};
 ghost use Rattle.std.specs.Prelude.{◌≡◌, ◌+◌, ◌^◌, ◌<◌, ◌≤◌, ◌++◌, ◌∷◌, [], ℕ, List, length, slice_index_or, slice_set, IfOk, OnOk, vec_capacity};
 ghost use Rattle.esr_history.specs.declared.event.Entry.{Entry};
@@ -87,7 +88,7 @@ fn txn_of(event: Event, reply: Reply) -> Option<u32>
     }
 }
 
-/// What a table has at a key, 0 where there is no key or no such place.
+/// Returns the code that a table has at a key, or 0 without a key or if the key is out of range.
 fn at_key(table: &[u32], key: Option<u32>) -> u32
     ensures { result ≡ key_at table.now key }
 {
@@ -106,7 +107,7 @@ fn set_key(table: &mut [u32], key: u32, code: u32)
     }
 }
 
-/// Sets what a table has at a key, if it has that key, and gives what it had, 0 where there is no such place.
+/// Replaces the code at a key and returns the old one. Returns 0 and changes nothing if the key is out of range.
 #[inline(always)]
 fn exchange(table: &mut [u32], key: u32, code: u32) -> u32
     ensures had { result ≡ slice_index_or table.old key 0 }
@@ -120,7 +121,7 @@ fn exchange(table: &mut [u32], key: u32, code: u32) -> u32
     0
 }
 
-/// The place in a table, where there is one.
+/// Returns the entry index that a code stands for, if any.
 fn place(code: u32) -> Option<u64>
     ensures { result ≡ decoded code }
 {
@@ -131,7 +132,7 @@ fn place(code: u32) -> Option<u64>
     }
 }
 
-/// For how many more elements a list has room.
+/// Returns the spare capacity of a list, in elements.
 pub fn spare<T>(list: &Vec<T>) -> usize
     ensures { length list.now.items + result ≡ vec_capacity list.now }
 {
@@ -158,8 +159,8 @@ impl BackLinks {
         })
     }
 
-    /// Makes room for one more entry, whatever its event. An error leaves the tables as they were;
-    /// it is given too where no further place has a code of 32 bits.
+    /// Reserves capacity for one more entry, whatever its event. Also fails if the next index has no 32-bit code. On an
+    /// error the tables are unchanged.
     pub fn reserve(&mut self) -> Result<(), AllocError>
         ensures same { (n : ℕ) (es : List Entry) → AreLinks n es self.old → AreLinks n es self.new }
         ensures capacity_left { (k : ℕ) → HasCapacity k self.old → HasCapacity k self.new }
@@ -176,7 +177,7 @@ impl BackLinks {
         Ok(())
     }
 
-    /// For how many more entries there is room, whatever their events.
+    /// Returns for how many more entries there is capacity, whatever their events.
     pub fn capacity_left(&self) -> usize
         requires { HasCapacity 0 self.now }
         ensures capacity_left { HasCapacity result self.now }
@@ -269,7 +270,7 @@ impl BackLinks {
         )
     }
 
-    /// Adds the codes of the places that an entry links to, for which there is room.
+    /// Appends the codes of an entry's links. The capacity must be reserved.
     #[inline(always)]
     fn link(&mut self, on_item: u32, of_txn: u32)
         requires item_capacity_left { length self.old.on_item.items < vec_capacity self.old.on_item }
@@ -287,7 +288,7 @@ impl BackLinks {
         self.of_txn.push_reserved(of_txn);
     }
 
-    /// Adds an entry, for which there is room.
+    /// Adds an entry. The capacity must be reserved.
     #[inline(always)]
     pub fn add(&mut self, entry: Entry)
         requires { HasCapacity 1 self.old }

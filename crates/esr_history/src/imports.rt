@@ -21,7 +21,7 @@ pub fn no_imports(alloc: Global) -> Result<Vec<u64>, AllocError>
     Ok(imports)
 }
 
-/// Makes a place for the import of a transaction that begins, where there is room for it.
+/// Adds an import of 0 for a transaction that begins. The capacity must be reserved.
 #[inline(always)]
 fn open(imports: &mut Vec<u64>, event: Event)
     requires { length imports.old.items < vec_capacity imports.old }
@@ -64,7 +64,7 @@ pub fn clear(imports: &mut Vec<u64>)
     imports.fill(0);
 }
 
-/// Adds what an entry imports, with its charges, where there is room for one more transaction.
+/// Adds the charges of an entry to the imports. There must be capacity for one more transaction.
 #[inline(always)]
 pub fn note(imports: &mut Vec<u64>, entry: Entry, charges: &[(TxnId, u64)])
     requires capacity_left { length imports.old.items < vec_capacity imports.old }

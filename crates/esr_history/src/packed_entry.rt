@@ -1,8 +1,8 @@
-//! Entries in 16 bytes: the short form of an accepted or blocked event, and the entry that it stands for.
+//! Packs accepted and blocked events, with their replies, into 16 bytes.
 //!
-//! Transactions and items that exist have numbers that fit 16 bits, and a reply adds one value or number to what the
-//! event has. What does not fit has no short form, and is kept whole by the log. That `entry` gives back what `of` was
-//! given is all that anything rests on: a body that found no short form would cost memory and nothing else.
+//! Numbers of existing transactions and items fit into 16 bits, and a reply adds one value or number to its event. The
+//! log keeps any other entry whole. The only property that other code relies on is that `entry` inverts `of`: a body of
+//! `of` that packed nothing would only cost memory.
 
 ghost use Rattle.std.specs.Prelude.{◌≡◌, List, IfSome};
 ghost use Rattle.esr_history.specs.declared.event.Entry.{Entry};
@@ -20,8 +20,8 @@ pub enum BlockReason {
     Export,
 }
 
-/// An entry in 16 bytes. Numbers of transactions and of items have 16 bits, and each transaction that has begun and
-/// each item that is declared has such a number. What has no form here is in a list of its own, at `place`.
+/// An entry in 16 bytes. Numbers of transactions and of items have 16 bits, which suffices for each transaction that
+/// has begun and each declared item. An entry that does not fit is in a separate list, at `place`.
 #[derive(Clone, Copy)]
 pub enum PackedEntry {
     UpdateBegun {

@@ -14,7 +14,7 @@ IsWeight w = (1 ≤ w) × (w ≤ MAX_WEIGHT)
 abbrev pub is_weight : ℕ → Bool
 is_weight w = nat_le 1 w && nat_le w MAX_WEIGHT
 
--- the weight, or 1 in place of what is none
+-- the number itself if it is a weight, else 1
 abbrev pub weight_or_one : ℕ → ℕ
 weight_or_one w = cond (is_weight w) w 1
 

@@ -1,6 +1,6 @@
-//! A metric that is lent: the machine that makes a history again borrows the history's own.
+//! Implements a metric by reference: a machine that replays a history borrows the history's metric.
 //!
-//! A copy of the weights was rejected, since it could be refused memory, and every caller would have to say so.
+//! Copying the weights was rejected: the allocation could fail, and every caller would have to handle that.
 use crate::metric::{Metric, Weighted};
 use esr_base::ItemId;
 

@@ -94,7 +94,7 @@ module _ (t n : ℕ) where
         | inr ne ↦ rw (ne_eqb (number x) t ne) (all.0, within_raised xs asc.1 all.1 (rw (ne_eqb (number x) t ne) at fits))
       ]
 
-  -- what is added to one account is added to the sum
+  -- raising one account raises the sum by the same amount
   pub imports_raised_query : (xs : List Account) → IsAscendingBy number xs → is_open_query xs t ≡ true → (imports (raised t n xs) ≡ imports xs + n) × (exports (raised t n xs) ≡ exports xs)
   imports_raised_query [] asc is = absurd (false≢true is)
   imports_raised_query (x ∷ xs) asc is =

@@ -29,7 +29,7 @@ fn is_above(accounts: &[Account], t: TxnId) -> bool
     }
 }
 
-/// Where the account of a transaction is, or where it would go. Most are opened last.
+/// Returns the index of a transaction's account, or else the index at which to insert it. Most go to the end.
 pub fn place_of(accounts: &[Account], t: TxnId) -> Result<usize, usize>
     requires { IsAscendingBy number accounts.now }
     ensures found { IfOk result (IsPlaceOf number accounts.now t.0) }

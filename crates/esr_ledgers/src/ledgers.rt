@@ -124,7 +124,7 @@ impl Ledgers {
         }
     }
 
-    /// Makes room for so many accounts at once, as far as memory allows.
+    /// Tries to reserve capacity for `accounts` more accounts. A failed allocation is ignored.
     pub fn prepare(&mut self, accounts: usize)
         ensures { self.new ≡ self.old }
     {

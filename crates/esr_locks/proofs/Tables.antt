@@ -24,13 +24,13 @@ pub set_row : (rows : List RowOf) (x : ℕ) (row new : RowOf) (f : ItemLocks →
     → map (λ r. r.locks) (set rows x new) ≡ set (map (λ r. r.locks) rows) x (f (locks_at (map (λ r. r.locks) rows) x))
 set_row rows x row new f l is new_is = grind (arith, map-set, set, map, get_or-map)
 
--- who holds a lock after one more held one before, or is who took it
+-- the holders after one more lock are the earlier holders and its taker
 pub lock_more : (mode : Mode) (t u : ℕ) (l : ItemLocks) → has_lock (with_lock mode t l) u ≡ true → (has_lock l u ≡ true) ⊎ (t ≡ u)
 lock_more Read t u l is = grind (arith, any_placed (λ v. v) t t (λ v. v) refl (λ v. refl) u l.readers, cases_Bool, or_left, or_right, or_cases, eqb-true)
 lock_more Write t u l is = grind (arith, cases_Bool, or_left, or_right, or_cases, eqb-true)
 lock_more QueryRead t u l is = grind (arith, any_placed (λ (r : ℕ × ℕ). r.0) t (t, 1) (λ (r : ℕ × ℕ). (r.0, r.1 + 1)) refl (λ r. refl) u l.queries, cases_Bool, or_left, or_right, or_cases, eqb-true)
 
--- who holds such a lock on an item holds a lock on it
+-- a transaction that holds a lock in some mode on an item holds a lock on it
 pub such_has : (mode : Mode) (t : ℕ) (l : ItemLocks) → has_lock_in_mode mode l t ≡ true → has_lock l t ≡ true
 such_has Read t l is = grind (arith, or_cases, or_left, or_right)
 such_has Write t l is = grind (arith, or_cases, or_left, or_right)
@@ -167,7 +167,7 @@ set_same_row [] x row new is same = refl
 set_same_row (r ∷ rs) zero row new is same = ap (λ (l : ItemLocks). l ∷ map (λ (q : RowOf). q.locks) rs) (same ∙ ap (λ (q : RowOf). q.locks) is)
 set_same_row (r ∷ rs) (suc x) row new is same = ap (λ ls. r.locks ∷ ls) (set_same_row rs x row new is same)
 
--- who has room for one more item has a list
+-- a transaction with capacity for one more item has a list
 pub has_list : (held : List LockedItemsOf) (t : ℕ) → 0 < slice_index (map (λ h. h.capacity_left) held) t → t < length held
 has_list [] zero l = absurd (omega arith)
 has_list [] (suc t) l = absurd (omega arith)

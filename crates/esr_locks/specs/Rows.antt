@@ -9,12 +9,12 @@ use Rattle.esr_locks.specs.declared.lists.QueryReads.{QueryReads}
 use Rattle.esr_locks.specs.Modes.{Mode, Read, Write, QueryRead}
 use Rattle.esr_locks.specs.Tables.{no_locks, has_lock, has_update_lock, has_query_lock, with_reader, with_writer, with_query_read, contains_item}
 
--- what a row is to contracts: the locks, and for how many more there is room
+-- a row as contracts see it: the locks, and the capacity left for more
 pub record RowOf : Type 0 where
   pub locks : ItemLocks
   pub capacity_left : ℕ
 
--- what making room for one more element of a list does
+-- the effect of reserving capacity for one more element of a list
 pub record Reserves {T A E : Type 0} (old new : SmallVec T) (result : Result A E) : Type 0 where
   pub items : new.items ≡ old.items
   pub capacity : old.capacity ≤ new.capacity
@@ -49,7 +49,7 @@ has_lock_in_mode Read = has_update_lock
 has_lock_in_mode Write = has_update_lock
 has_lock_in_mode QueryRead = has_query_lock
 
--- what the items that a transaction has locked are to contracts: the items, and for how many more there is room
+-- the items that a transaction has locked, as contracts see them: the items, and the capacity left for more
 pub record LockedItemsOf : Type 0 where
   pub items : List ItemId
   pub capacity_left : ℕ

@@ -1,4 +1,4 @@
--- The locks on items: who holds them, and what one more lock and a release change.
+-- The locks on items: their holders, and the effect of one more lock and of a release.
 use Rattle.std.specs.Prelude.{ℕ, ◌+◌, List, [], Bool, false, not, ◌&&◌, ◌||◌, ◌==◌, None, Some, unwrap_or, filter, slice_index_or, slice_index, min, if◌then◌else◌, option_map}
 use Rattle.std.specs.List.{list_any}
 use Rattle.esr_base.specs.declared.numbers.ItemId.{ItemId}
@@ -6,18 +6,18 @@ use Rattle.esr_history.specs.ItemLocks.{ItemLocks}
 use Rattle.esr_history.specs.Ascending.{upserted}
 use Rattle.esr_locks.specs.Modes.{Mode, Read, Write, conflicts}
 
--- what a lock table is to contracts: the locks on each item, for how many more locks there is room on each item, and
--- for how many more items in the list of each transaction
+-- a lock table as contracts see it: the locks on each item, the capacity left for locks on each item, and the
+-- capacity left in each transaction's list of items
 pub record Table : Type 0 where
   pub locks : List ItemLocks
   pub item_capacities : List ℕ
   pub list_capacities : List ℕ
 
--- for how many more locks of transaction t on item x there is room
+-- the capacity left for locks of transaction t on item x
 abbrev pub locks_that_fit : Table → ℕ → ℕ → ℕ
 locks_that_fit table t x = min (slice_index table.item_capacities x) (slice_index table.list_capacities t)
 
--- an item that nobody has locked
+-- an item that no transaction has locked
 abbrev pub no_locks : ItemLocks
 no_locks = record { writer = None; readers = []; queries = [] }
 

@@ -82,7 +82,7 @@ pub type Readers = SmallVec<Reader, 4>;
 /// Up to two queries lie in the list itself, more in an allocation.
 pub type Queries = SmallVec<QueryReads, 2>;
 
-/// Makes room for one more element in a full list.
+/// Reserves capacity for one more element in a full list.
 #[inline(never)]
 fn grow<T: MadeWith<Global> + Drop, const N: usize>(
     list: &mut SmallVec<T, N>,
@@ -92,8 +92,8 @@ fn grow<T: MadeWith<Global> + Drop, const N: usize>(
     list.reserve(1)
 }
 
-/// Makes room for one more element. A full list is rare, and so is one that has left the row: what lies in the row is
-/// told by its length alone.
+/// Reserves capacity for one more element. Full lists and lists that have moved to the heap are rare: for a list inside
+/// the row, comparing the length suffices.
 #[inline(always)]
 pub fn reserve_one<T: MadeWith<Global> + Drop, const N: usize>(
     list: &mut SmallVec<T, N>,
@@ -110,7 +110,7 @@ pub fn reserve_one<T: MadeWith<Global> + Drop, const N: usize>(
     grow(list)
 }
 
-/// Where the row of a transaction is in a list, or where it would go.
+/// Returns the index of a transaction's row in a list, or else the index at which to insert it.
 #[inline(always)]
 fn place_of<R: Numbered + MadeWith<Global>, const N: usize>(
     rows: &SmallVec<R, N>,
@@ -137,7 +137,7 @@ pub fn is_reader(readers: &[Reader], t: TxnId) -> bool
     readers.iter().any(|r| r.update.0 == t.0)
 }
 
-/// Puts an element at a place, for which there is room. Most come last, and then none is moved.
+/// Inserts an element at an index. The capacity must be reserved. Most elements go to the end, so that none is moved.
 #[inline(always)]
 fn put<T: MadeWith<Global> + Drop, const N: usize>(list: &mut SmallVec<T, N>, at: usize, element: T)
     requires place { at ≤ length list.old.items }

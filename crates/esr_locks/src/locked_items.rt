@@ -40,7 +40,7 @@ impl LockedItems {
         &self.list
     }
 
-    /// Makes room for one more item.
+    /// Reserves capacity for one more item.
     #[inline(always)]
     pub fn reserve(&mut self) -> Result<(), AllocError>
         ensures items { self.new.items ≡ self.old.items }
@@ -50,7 +50,7 @@ impl LockedItems {
         reserve_one(&mut self.list)
     }
 
-    /// Adds an item, for which there is room.
+    /// Adds an item. The capacity must be reserved.
     pub fn push(&mut self, x: ItemId)
         requires { 0 < self.old.capacity_left }
         ensures { self.new.items ≡ self.old.items ++ x ∷ [] }

@@ -118,7 +118,7 @@ impl Row {
         }
     }
 
-    /// The writer, where it is another than `t` and writing keeps others from locking in this mode.
+    /// Returns the writer if it is not `t` and its lock conflicts with this mode.
     fn blocking_writer(&self, t: TxnId, asked: Mode) -> Option<TxnId>
         ensures { IsSmallest (λ u. not (u == t.0) && (conflicts Mode.Write asked && is_writer self.now.locks u))
             (option_map (λ u. u.0) result) }
@@ -141,7 +141,7 @@ impl Row {
         )
     }
 
-    /// Makes room for one more lock.
+    /// Reserves capacity for one more lock.
     #[inline(always)]
     pub fn reserve(&mut self) -> Result<(), AllocError>
         ensures locks { self.new.locks ≡ self.old.locks }
