@@ -108,7 +108,7 @@ pub writer_before : (source : ℕ) (writers : List ℕ) (j : ℕ) → 0 < j → 
 writer_before source writers zero l = absurd (omega arith)
 writer_before source writers (suc j) l = ap (λ i. get_or writers i 0) (omega arith)
 
--- the same of a problem's parts, as the code has them
+-- the arcs of a problem's parts, in the code's types
 module _ (updates : List TxnId) (before : List (ℕ × ℕ)) (chains : List code.Chain) (must : List ℕ) (sound : is_sound (problem_of updates before chains must) ≡ true) (starts : List ℕ) (are : starts ≡ starts_from 0 (map chain_of chains)) where
   abbrev parts : Problem
   parts = problem_of updates before chains must

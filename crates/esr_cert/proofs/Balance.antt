@@ -69,7 +69,7 @@ module _ (arcs : List Arc) (flow : List ℕ) (same : length flow ≡ length arcs
 pub balanced_at : (p : Problem) → IsProblem p → (c : Certificate) → IsMatched p c → (v : ℕ) → is_balanced (amounts c) (row_of (network p).arcs v) ≡ is_conserved_at (network p).arcs (amounts c) v
 balanced_at p ok c m v = balanced_is (network p).arcs (amounts c) (amounts_length p ok c m) v
 
--- it is conserved where it is at each update
+-- a flow is conserved if it is conserved at each update
 pub all_conserved : (p : Problem) (flow : List ℕ) → ((v : ℕ) → v < size p → is_conserved_at (network p).arcs flow v ≡ true) → is_conserved (network p) flow ≡ true
 all_conserved p flow h = conserved_from (network p) flow (λ v l ns nt. eqb-true _ _ (h v (inner v l ns nt)))
   where
@@ -80,7 +80,7 @@ all_conserved p flow h = conserved_from (network p) flow (λ v l ns nt. eqb-true
           | inr o ↦ elim o [ inl k ↦ k | inr k ↦ absurd (nt (omega arith)) ]
         ]
 
--- and is not where it is not at one
+-- a flow is not conserved if it is not conserved at some update
 pub one_not : (p : Problem) (flow : List ℕ) (v : ℕ) → v < size p → is_conserved_at (network p).arcs flow v ≡ false → is_conserved (network p) flow ≡ false
 one_not p flow v l h =
     elim (cases_Bool (is_conserved (network p) flow)) [

@@ -120,7 +120,7 @@ carried_at_most has (a ∷ arcs) (x ∷ flow) w l =
       carried_at_most has arcs flow (λ i k. w (suc i) (omega arith)) (λ i k. l (suc i) (omega arith)),
     )
 
--- where nothing more can cross, what crosses is the capacity
+-- if every crossing arc is full, the amount that crosses is the capacity
 pub carried_full : (has : ℕ → Bool) (arcs : List Arc) (flow : List ℕ) → length flow ≡ length arcs → ((i : ℕ) → i < length arcs → crosses has (arc_at arcs i) ≡ true → amount_at flow i ≡ capacity_or_zero (arc_at arcs i).capacity) → carried (crosses has) arcs flow ≡ across has arcs
 carried_full has [] flow e h = refl
 carried_full has (a ∷ arcs) [] e h = absurd (omega arith)
@@ -148,7 +148,7 @@ full_from has (a ∷ arcs) (x ∷ flow) e w l g (suc i) k c =
     (omega (arith, pick_le (crosses has a) x (capacity_or_zero a.capacity) (λ c. at_most_limit a.capacity x (l 0 (omega arith) c) (w 0 (omega arith)))))
     i (omega arith) c
 
--- nothing comes back where nothing is carried back
+-- nothing returns if no returning arc carries anything
 pub nothing_back : (has : ℕ → Bool) (arcs : List Arc) (flow : List ℕ) → ((i : ℕ) → i < length arcs → returns_from has (arc_at arcs i) ≡ true → amount_at flow i ≡ 0) → carried (returns_from has) arcs flow ≡ 0
 nothing_back has [] flow h = refl
 nothing_back has (a ∷ arcs) [] h = refl

@@ -21,7 +21,7 @@ starts_next n [] k d l = absurd (omega arith)
 starts_next n (chain ∷ chains) zero d l = starts_first (n + length chain.costs) chains
 starts_next n (chain ∷ chains) (suc k) d l = starts_next (n + length chain.costs) chains k d (omega arith)
 
--- no chain begins behind the last
+-- no chain begins after the end of the last
 starts_below : (n : ℕ) (chains : List Chain) (k : ℕ) → k ≤ length chains → get_or (starts_from n chains) k 0 ≤ get_or (starts_from n chains) (length chains) 0
 starts_below n [] zero l = omega arith
 starts_below n [] (suc k) l = absurd (omega arith)
@@ -70,7 +70,7 @@ module _ (p : Problem) (sound : is_sound p ≡ true) where
           let next : k + 1 ≡ suc k = omega arith in
           omega (arith, at, starts_next 0 p.chains k (chain_of chain) within_all, ap (λ (c : Chain). length c.costs) chain_is, ap (λ n. get_or starts n 0) next)
 
-      -- no arc of it comes after those of all chains
+      -- its arcs are within those of all chains
       pub inside_all : begin + length chain.costs.items ≤ get_or starts (length p.chains) 0
       inside_all = omega (arith, next_begin, starts_below 0 p.chains (k + 1) (omega (arith, within_all)))
 

@@ -1,4 +1,4 @@
--- Where a certificate has one amount for each arc, its parts are those of the network.
+-- If a certificate has one amount for each arc, its parts are those of the network.
 use Rattle.std.proofs.Common.{Contains, ◌≡◌, ℕ, ◌+◌, List, [], ◌∷◌, ◌++◌, Bool, true, eqb, refl, sym, ◌∙◌, arith, length, true≢false}
 use Rattle.std.specs.List.{flat_map, concat}
 use Rattle.std.proofs.lemmas.Bool.{and_parts, eqb-true}

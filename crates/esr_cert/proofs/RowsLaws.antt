@@ -155,7 +155,7 @@ module _ (arcs : List Arc) (lengths : List ℕ) (done : List ResidualArc) (spans
     ];
   }
 
--- there is room for the steps of an arc that is not laid yet
+-- a row has space for the steps of an arc that is not laid yet
 pub capacity_along : (arcs : List Arc) (nodes : ℕ) (degrees : List ℕ) (i u : ℕ) → AreDegrees arcs nodes degrees → i < length arcs → u < nodes → start arcs (Forward i) ≡ u → length (steps_from arcs u (first_steps i)) < get_or degrees u 0
 capacity_along arcs nodes degrees i u are l m e =
     let here : length (steps_from arcs u (first_steps i)) < length (steps_from arcs u (first_steps (suc i))) = room_for arcs u (first_steps i) (Backward i ∷ []) (Forward i) e in

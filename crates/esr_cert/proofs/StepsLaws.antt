@@ -23,7 +23,7 @@ pub steps_parts : (arcs : List Arc) (v : ℕ) (done rest : List ResidualArc) (s 
 steps_parts arcs v done rest s e =
     filter-append (λ step. eqb (start arcs step) v) done (s ∷ rest) ∙ ap (λ b. steps_from arcs v done ++ cond b (s ∷ steps_from arcs v rest) (steps_from arcs v rest)) (eq-eqb (start arcs s) v e)
 
--- there is room for a step where its row is to have it
+-- the row that is to contain a step has space for it
 pub room_for : (arcs : List Arc) (v : ℕ) (done rest : List ResidualArc) (s : ResidualArc) → start arcs s ≡ v → length (steps_from arcs v done) < length (steps_from arcs v (done ++ s ∷ rest))
 room_for arcs v done rest s e =
     omega (arith, ap length (steps_parts arcs v done rest s e), length-append (steps_from arcs v done) (s ∷ steps_from arcs v rest))

@@ -68,7 +68,7 @@ unlimited_must n [] (a ∷ flow) h = absurd (omega arith)
 unlimited_must n (u ∷ must) [] h = absurd (omega arith)
 unlimited_must n (u ∷ must) (a ∷ flow) h = unlimited_must n must flow (omega arith)
 
--- where there is one amount for each arc
+-- if there is one amount for each arc
 arcs_within : (p : Problem) → IsProblem p → (c : Certificate) → IsMatched p c → are_within (network p).arcs (amounts c) ≡ are_rows_within p.chains c.chain_flow
 arcs_within p ok c m =
     within_append (chain_arcs p ++ back_arcs p) (must_arcs p) (concat c.chain_flow ++ c.back_flow) c.must_flow (first_two_length p ok c m)

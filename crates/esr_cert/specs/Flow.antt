@@ -3,7 +3,7 @@ use Rattle.std.specs.Prelude.{◌≡◌, ◌≢◌, ℕ, ◌+◌, ◌<◌, List,
 use Rattle.std.specs.List.{list_all, range_with_len}
 use Rattle.esr_cert.specs.Network.{Arc, Network, arc_at}
 
--- an amount is within a limit, where there is one
+-- an amount is within an optional limit
 abbrev pub within : ℕ → Option ℕ → Bool
 within amount None = true
 within amount (Some limit) = nat_le amount limit

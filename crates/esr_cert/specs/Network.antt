@@ -31,7 +31,7 @@ links from sink [] (c ∷ costs) = record { from = from; to = sink; capacity = S
 links from sink (w ∷ writers) (c ∷ costs) =
     record { from = from; to = w; capacity = Some c } ∷ links w sink writers costs
 
--- the arcs of a chain, in a network of so many updates
+-- the arcs of a chain, in a network of n updates
 abbrev pub chain_links : ℕ → Chain → List Arc
 chain_links n chain = links n (n + 1) chain.writers chain.costs
 

@@ -65,13 +65,13 @@ longer span = record { begin = span.begin; end = span.end + 1 }
 abbrev pub lengthen : List Span → ℕ → List Span
 lengthen spans v = set spans v (longer (span_at spans v))
 
--- how many of some steps start at each of so many nodes
+-- how many of some steps start at each node
 pub record Counted (arcs : List Arc) (nodes : ℕ) (done : List ResidualArc) (counts : List ℕ) : Type 0 where
   pub count : length counts ≡ nodes
   pub each : (v : ℕ) → v < nodes → get_or counts v 0 ≡ length (steps_from arcs v done)
   pub both : sum counts ≡ length done
 
--- some steps lie in their rows, which have room for these lengths
+-- some steps lie in their rows, which have these lengths
 pub record Filled (arcs : List Arc) (lengths : List ℕ) (done : List ResidualArc) (spans : List Span)
     (steps : List ResidualArc) : Type 0 where
   pub count : length spans ≡ length lengths

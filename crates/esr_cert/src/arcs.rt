@@ -27,7 +27,7 @@ pub fn arc_tail(chain: &Chain, source: u32, j: usize) -> u32
     if j == 0 { source } else { chain.writers[j - 1] }
 }
 
-/// Where it comes to: the next writer, or the sink.
+/// Returns the head of an arc of a chain, by its index there: the next writer, or the sink.
 pub fn arc_head(chain: &Chain, source: u32, j: usize) -> u32
     requires count { length chain.now.costs.items ≡ length chain.now.writers.items + 1 }
     requires place { j < length chain.now.costs.items }

@@ -1,8 +1,8 @@
 //! A certificate, and the faults of one in the order in which they are looked for.
 //!
-//! It may tell how many augmentations led to its flow. A count above nodes times arcs is refused, last of all faults,
-//! since it says nothing of the least cost; a count below cannot be verified, so a bundle for a stranger is better
-//! without.
+//! A certificate may contain the number of augmentations that led to its flow. A count above nodes times arcs is
+//! refused, as the last of all faults, since it does not affect minimality. A smaller count cannot be verified, so a
+//! bundle for a third party should omit it.
 
 ghost use Rattle.std.specs.Prelude.{◌≡◌};
 ghost use Rattle.esr_cert.specs.Faults.{fault_number};
@@ -22,7 +22,7 @@ pub struct Certificate {
     pub must_flow: Vec<u64>,
     /// The value of the flow, which is the cost of the set.
     pub worth: u64,
-    /// How many augmentations led to the flow, where that is told.
+    /// How many augmentations led to the flow, if known.
     pub augmentations: Option<u64>,
 }
 
@@ -32,10 +32,10 @@ pub enum Fault {
     /// The set is not strictly ascending.
     #[error("set not ascending")]
     SetNotAscending = 1,
-    /// The set has a position at which there is no update.
+    /// The set contains a position without an update.
     #[error("unknown update in the set")]
     UnknownUpdate = 2,
-    /// The set lacks an update before one of its own, or one that it must hold.
+    /// The set lacks a predecessor of one of its updates, or an update that it must contain.
     #[error("set not closed")]
     SetNotClosed = 3,
     /// A list of amounts has not one for each arc, or an amount is above its arc's capacity.

@@ -49,7 +49,7 @@ pub enum BundleFault {
     /// The shape is right, and a number is out of its range.
     #[error("number out of range")]
     Range = 3,
-    /// Memory was refused.
+    /// An allocation failed.
     #[error("out of memory")]
     NoMemory = 4,
 }
@@ -148,10 +148,11 @@ impl Model for Problem {
 }
 
 impl Problem {
-    /// A problem of these parts.
+    /// Creates a problem from its parts.
     ///
-    /// `Shape` where a rule of shape is broken, `Range` where only a rule of range is, over all parts. `NoMemory` where
-    /// memory was refused, which may come in place of either.
+    /// # Errors
+    /// `Shape` if the parts break a rule of shape; otherwise `Range` if they break a rule of range. `NoMemory` if an
+    /// allocation failed, possibly instead of either.
     pub fn new(
         alloc: Global,
         updates: Vec<TxnId>,
@@ -177,9 +178,10 @@ impl Problem {
         Problem::of_shape(alloc, parts)
     }
 
-    /// A problem of these parts, which break no rule of shape: it is not tried again.
+    /// Creates a problem from parts whose shape was checked already.
     ///
-    /// `Range` where a rule of range is broken, or `NoMemory` where memory was refused.
+    /// # Errors
+    /// `Range` if the parts break a rule of range; `NoMemory` if an allocation failed.
     pub fn of_shape(alloc: Global, parts: ProblemParts) -> Result<Problem, BundleFault>
         requires shape { has_shape (posed_by parts) ≡ true }
         ensures ok { IfOk result (λ p. p ≡ posed_by parts) }

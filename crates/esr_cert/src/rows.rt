@@ -1,11 +1,11 @@
-//! The steps that start at each node, in rows that lie one after another.
+//! Lays out the steps that start at each node, in consecutive rows.
 //!
-//! A first pass counts the steps of each node, and a second one puts each into its row, so nothing is sorted, and a row
-//! ascends by the numbers of its arcs. Before there was one set of rows the check had an index of its own and the
-//! solver laid out the steps: the same thing twice, and 17 MB beside 19 in the largest audits.
+//! A first pass counts the steps of each node, and a second one puts each into its row, so nothing is sorted, and each
+//! row ascends by arc number. The check and the solver share these rows. Before, each had its own: 17 MB in addition to
+//! 19 in the largest audits.
 //!
-//! `_arcs`, `_nodes` and `_begin` are read by clauses alone, and are no ghost values: one is picked from what a call passes
-//! besides, and that does not tell which arcs are meant.
+//! Only clauses read `_arcs`, `_nodes` and `_begin`. They are not ghost values, since a ghost value is inferred from
+//! the other arguments of a call, which do not determine the arcs.
 ghost use Rattle.std.specs.Prelude.{◌≡◌, ◌+◌, ◌<◌, ◌≤◌, length, set, sum, Contains, IfOk};
 ghost use Rattle.std.specs.List.Sorted.{IsNonDecreasingBy};
 ghost use Rattle.esr_cert.specs.Steps.{arc_of, order_of, step_at};

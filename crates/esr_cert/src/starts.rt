@@ -45,7 +45,7 @@ fn push_owner(owners: &mut Vec<u16>, chain: u16, count: usize) -> Result<(), All
     Ok(())
 }
 
-/// The chain of each arc of the chains, of which there are so many.
+/// Returns the chain of each arc of the chains, which have `count` arcs in total.
 pub fn owners_of(alloc: Global, chains: &[Chain], count: usize) -> Result<Vec<u16>, AllocError>
     requires { length chains.now ≤ MAX_ITEMS }
     ensures { IfOk result (λ owners. owners.items ≡ owners_from 0 (map chain_of chains.now)) }

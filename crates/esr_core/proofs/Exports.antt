@@ -17,6 +17,6 @@ pub kind_of : (es : List Entry) (t : ℕ) (f : Option Facts) → f ≡ facts_of 
     → is_update (accepted es) t ≡ unwrap_or (option_map (λ (g : Facts). not g.query) f) false
 kind_of es t f is = kind_by (beginning (accepted es) t) _ f is
 
--- who is no update has exported nothing
+-- a transaction that is not an update has exported nothing
 pub exports_nothing : (d : Distance) (h : Schedule) (t : ℕ) → is_update (accepted_in h) t ≡ false → 0 ≡ export_in (charges_in d h) t
 exports_nothing d h t isnt = sym (no_export (accepted_in h) (charges_in d h) (charges_kinds (d h.weights) h.opening (accepted_in h)) t isnt)

@@ -1,4 +1,4 @@
--- What one more accepted event does to who is active and who holds which locks.
+-- The effect of one more accepted event on the active transactions and on the held locks.
 use Rattle.std.proofs.Common.{◌≡◌, ℕ, suc, ◌+◌, ◌<◌, ◌≤◌, List, [], ◌∷◌, ◌++◌, length, Bool, true, false, not, ◌&&◌, ◌||◌, ◌==◌, refl, sym, ◌∙◌, ap, arith, inl, inr, Option, None, Some, is_some, unwrap_or, slice_get, option_map}
 use Rattle.std.specs.List.{list_any, range_with_len}
 use Rattle.std.proofs.lemmas.Bool.{cases_Bool, false≢true, and_parts, and_right, or_right, or_left, or_cases, false_from_ne_true, not-true}
@@ -112,7 +112,7 @@ beginning-begin events e t is = at (beginning events t) refl is
 pub beginning-new : (events : List Event) (e : Event) (b : Beginning) → IsBegin e b → beginning (events ++ e ∷ []) (suc (length (beginnings events))) ≡ Some b
 beginning-new events e b is = ap (λ (bs : List Beginning). slice_get bs (length (beginnings events))) (beginnings-begin events e b is) ∙ slice_get_push_last (beginnings events) b
 
--- nobody has named the next transaction
+-- no event names the next transaction number
 pub not_named : (events : List Event) → IsWellFormed events → (p : Event → Bool) → ((e : Event) → p e ≡ true → names (suc (length (beginnings events))) e ≡ true) → list_any p events ≡ false
 not_named events o p names_it =
     false_from_ne_true (list_any p events) (λ did.

@@ -43,7 +43,7 @@ module _ (g : Graph) where
   abbrev begin : ℕ → ℕ
   begin v = (span_at g.rows.now.spans.items v).begin
 
-  -- a step lies behind those of its node that are before it
+  -- a step comes after the earlier steps of its node
   module _ (done rest : List ResidualArc) (s : ResidualArc) (v : ℕ) (known : v < g.nodes) (starts : start (arcs_of g) s ≡ v) (all : first_steps (length (arcs_of g)) ≡ done ++ s ∷ rest) where
     abbrev place : ℕ
     place = length (steps_from (arcs_of g) v done)

@@ -52,7 +52,7 @@ takes_join net first flow n (suc k) after t h =
     let e : suc (n + k) ≡ n + suc k = omega arith in
     subst (λ m. TakesFrom net first m after) e (h.0, takes_join net first flow n k h.0 t h.1, h.2)
 
--- the same, where the second count goes on from the first
+-- augmentations up to a second flow, and from there to a total count
 pub takes_on : (net : Network) (first flow after : List ℕ) (n m : ℕ) → n < m → TakesFrom net first n flow → TakesFrom net flow (m - n) after → TakesFrom net first m after
 takes_on net first flow after n m l t h =
     let whole : n + (m - n) ≡ m = omega arith in

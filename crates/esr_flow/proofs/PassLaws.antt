@@ -39,7 +39,7 @@ module _ (p : Problem) (sound : is_sound p ≡ true) where
       let is : arc_at (network p).arcs i ≡ back_arc (get_or p.before (i - first_back p) (0, 0)) = arc_of_pair p ok i (0, 0) not_before inside in
       kept_equal (network p).arcs flow marks i (ap (λ (a : Arc). is_marked marks a.from) is ∙ same ∙ sym (ap (λ (a : Arc). is_marked marks a.to) is))
 
-  -- the same beside a list that is that of the pairs, and a number that is that of the first
+  -- the same, given a list equal to the pairs, and the number of the first pair's arc
   pub pair_kept_by : (flow : List ℕ) (marks : List Bool) (pairs : List (ℕ × ℕ)) → pairs ≡ p.before → (first : ℕ) → first ≡ first_back p → (i : ℕ) → first ≤ i → i - first < length pairs
       → is_marked marks (get_or pairs (i - first) (0, 0)).1 ≡ is_marked marks (get_or pairs (i - first) (0, 0)).0 → IsKeptOver (network p).arcs flow marks i
   pair_kept_by flow marks pairs ps first fs i not_before inside same =

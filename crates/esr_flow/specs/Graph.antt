@@ -1,5 +1,5 @@
--- A network with the steps that start at each node, which lie together, and entries of the steps that tell which of
--- them have residual capacity.
+-- A network with the steps that start at each node, in consecutive rows, and for each step an entry that shows whether
+-- it has residual capacity.
 use Rattle.std.specs.Prelude.{◌≡◌, ℕ, ◌<◌, false, List, length, get_or, map, Contains}
 use Rattle.esr_flow.specs.Words.{Arc, ResidualArc}
 use Rattle.esr_cert.specs.Network.{Network, network}

@@ -7,7 +7,7 @@ use Rattle.esr_cert.specs.Network.{Network, IsNetwork, network}
 use Rattle.esr_cert.specs.Steps.{order_of, HasSteps}
 use Rattle.esr_cert.specs.Rows.{span_at, row_in, row_of, AreSteps}
 
--- the arcs of a problem between so many nodes
+-- the arcs of a problem, with this number of nodes
 abbrev pub net_with : Problem → ℕ → ℕ → ℕ → Network
 net_with p nodes source sink = record { nodes = nodes; arcs = (network p).arcs; source = source; sink = sink }
 

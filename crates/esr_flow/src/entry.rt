@@ -1,9 +1,9 @@
-//! What a search has to know of a step, in four bytes: the node that it leads to, and whether it and its opposite have
-//! residual capacity.
+//! Packs the data that a search needs of a step into four bytes: the node that it leads to, and whether it and its
+//! opposite have residual capacity.
 //!
-//! A search tests each step that it looks at, and the search back its opposite, so both answers lie beside the node.
-//! Entries of 40 bytes in place of 4 took half as long again for an audit of many updates. An entry does not name its
-//! step: the network has the steps in the same order, and they are looked up only where a search visits a node.
+//! A search tests each step that it reads, and the backward search tests its opposite, so both flags are stored with
+//! the node. With entries of 40 bytes instead of 4, an audit of many updates took half as long again. An entry does not
+//! contain its step: the network has the steps in the same order, and a search looks one up only when it visits a node.
 
 use std::marker::Model;
 

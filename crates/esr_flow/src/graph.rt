@@ -1,9 +1,9 @@
 //! A problem's network, the steps that start at each node, and for each step an adjacency entry: where it leads, and
-//! what has residual capacity.
+//! whether it and its opposite have residual capacity.
 //!
-//! The amounts themselves are in a list by arcs, of which the laws speak, and which is written only in augmentations.
-//! Where one changes which of an arc's two steps have residual capacity, the entries of both are written anew; they lie
-//! where the steps do, in rows that ascend by arcs, so a binary search finds them.
+//! The amounts are in a list by arcs, to which the laws refer; only augmentations change it. If an augmentation changes
+//! which of an arc's two steps have residual capacity, the entries of both are rewritten. They have the same indices as
+//! the steps, in rows that ascend by arcs, so that a binary search finds them.
 ghost use Rattle.std.specs.Prelude.{◌≡◌, ◌+◌, ◌<◌, length, get_or, set, Some};
 ghost use Rattle.esr_cert.specs.Flow.{within};
 ghost use Rattle.esr_cert.specs.Network.{network};
@@ -118,7 +118,7 @@ pub fn have_capacity(capacity: Option<u64>, amount: u64) -> (bool, bool)
     (ahead, 1 <= amount)
 }
 
-/// The residual capacity of a step; none where it is without limit.
+/// Returns the residual capacity of a step, or `None` if it is unlimited.
 pub fn residual_capacity_of(problem: &Problem, flow: &[u64], step: ResidualArc) -> Option<u64>
     requires arc { arc_of step < length (network problem.now).arcs }
     requires flow { length flow.now ≡ length (network problem.now).arcs }
@@ -161,7 +161,7 @@ fn entries_of(arc: Arc, amount: u64) -> (ShortEntry, ShortEntry)
     (ahead, back)
 }
 
-/// Puts an entry into the next place of a node's row, of which so many are taken.
+/// Puts an entry at the next free index of a node's row, after the `counts[node]` entries that it has.
 fn put_next(
     rows: &Rows,
     counts: &mut Vec<usize>,

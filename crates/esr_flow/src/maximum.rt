@@ -260,7 +260,7 @@ pub enum DraftOutcome {
     Maximum,
     /// It was a flow, which was raised to a maximum one.
     Raised,
-    /// It was no flow, and a maximum one was found from the flow of zeros.
+    /// It was not a flow; a maximum flow was found from the zero flow.
     NoFlow,
 }
 

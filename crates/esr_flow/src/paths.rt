@@ -17,8 +17,8 @@ use crate::graph::{Graph, finish_of};
 use esr_cert::{ResidualArc, ShortArc};
 use std::alloc::{AllocError, Global};
 
-/// The first place of a node's adjacency row, from a place on, with a step to a greater label
-/// whose opposite has residual capacity; the row's length where there is none.
+/// Returns the first index of a node's adjacency row, at or after `from`, of a step to a greater label whose opposite
+/// has residual capacity; the row's length if there is none.
 fn next_back(
     graph: &Graph,
     flow: &[u64],
@@ -94,7 +94,7 @@ pub fn put_back(graph: &Graph, next: &mut [usize], path: &[ResidualArc])
     requires next { length next.old ≡ graph.now.nodes }
     ensures { length next.new ≡ length next.old }
 {
-    // each pointer stands behind the step that was taken, and only one step of the path need be full now
+    // each pointer is past the step that was taken, and perhaps only one step of the path is full now
     for step in path {
         let node = finish_of(graph.problem, *step) as usize;
         next[node] = next[node].saturating_sub(1);

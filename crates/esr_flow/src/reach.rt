@@ -1,17 +1,17 @@
-//! What the source reaches in the residual network of a flow.
+//! Finds the nodes that the source reaches in the residual network of a flow.
 //!
-//! Where a draft is a maximum flow already, this is all that is left to find, and it is found by passes over the arcs
-//! until none marks more: over those of the chains on in commit order, which mark nearly all, and over those of the
-//! pairs back, so that an update is marked before those that come before it. Mostly both ends of an arc are marked
-//! already, or neither is: that the lists of the problem show, and the arc itself is looked up only where they differ.
-//! Over all arcs on, and then back, it took up to nine passes in place of five, and each asked for each arc. A
-//! breadth-first search asks for an entry for each step, four bytes each, written into rows that are far from one another,
-//! and it takes the arcs as they come in these rows.
+//! If a draft is already a maximum flow, this is all that remains to be done. It makes passes over the arcs until none
+//! marks a node: forward over those of the chains in commit order, which mark nearly all, and backward over those of
+//! the pairs, so that an update is marked before its predecessors. Usually both ends of an arc are marked already, or
+//! neither is. The problem's lists show that, and the arc itself is looked up only if they differ. Passes over all
+//! arcs, forward and then backward, took up to nine rounds instead of five, and looked up each arc. A breadth-first
+//! search reads a four-byte entry for each step, from rows that are far apart, and visits the arcs in the order of
+//! these rows.
 //!
-//! What is marked is reached at any time; that all is marked is what the last passes tell, which mark nothing. The passes
-//! before these only skim the arcs: what the source reaches is mostly nearly all up to some update, so they leave out
-//! the arcs before the first update that is not marked. Where these have marked what there is, one pass over all arcs
-//! tells; before, each pass was one over all, and they took a fifth of an audit's instructions.
+//! A marked node is reachable at any time; that all reachable nodes are marked follows once a round of full passes
+//! marks nothing. Before each such round, passes only skim the arcs: usually nearly all updates up to some position are
+//! reachable, so they skip the arcs before the first unmarked update. If they have marked everything, one pass over all
+//! arcs confirms it. When each pass covered all arcs, the passes took a fifth of an audit's instructions.
 ghost use Rattle.std.specs.Prelude.{◌≡◌, ℕ, ◌+◌, ◌-◌, ◌<◌, ◌≤◌, true, false, length, get_or, IfOk, IfSome};
 ghost use Rattle.esr_flow.specs.Graph.{arcs_of, net_of};
 ghost use Rattle.esr_flow.specs.Reached.{AreReached, IsKeptOver, IsKept, HasLinks, first_back};
@@ -247,7 +247,7 @@ fn pass_back(graph: &Graph, flow: &[u64], marks: &mut [bool], first: usize) -> b
     more
 }
 
-/// The number of the first arc that is not one of a chain, of so many arcs.
+/// Returns the number of the first arc that is not in a chain; `count` is the number of all arcs.
 fn first_back_of(graph: &Graph, count: usize) -> usize
     requires count { count ≡ length (arcs_of graph.now) }
     ensures { result ≡ first_back graph.now.problem.now }
@@ -255,7 +255,7 @@ fn first_back_of(graph: &Graph, count: usize) -> usize
     count - graph.problem.must().len() - graph.problem.before().len()
 }
 
-/// Marks all that is reached from what is marked, if the passes suffice. Whether they did.
+/// Marks all nodes that are reachable from the marked ones. Returns whether the passes sufficed.
 fn pass_often(graph: &Graph, flow: &[u64], marks: &mut [bool]) -> bool
     requires flow { length flow.now ≡ length (arcs_of graph.now) }
     requires reached { AreReached (net_of graph.now) flow.now marks.old }
@@ -273,7 +273,8 @@ fn pass_often(graph: &Graph, flow: &[u64], marks: &mut [bool]) -> bool
     false
 }
 
-/// Marks of what the source reaches, where that is not the sink and so many passes suffice.
+/// Marks the nodes that the source reaches. Returns `None` if it reaches the sink, or if `MAX_PASSES` passes do not
+/// suffice.
 pub fn reach(alloc: Global, graph: &Graph, flow: &[u64]) -> Result<Option<Vec<bool>>, AllocError>
     requires flow { length flow.now ≡ length (arcs_of graph.now) }
     ensures { IfOk result (λ r. IfSome r (λ marks. ReachesNoSink (net_of graph.now) flow.now marks.items)) }

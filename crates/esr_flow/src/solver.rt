@@ -1,7 +1,7 @@
-//! Problems solved: a certificate with the smallest set of least cost, from a maximum flow.
+//! Solves problems: computes a certificate with the smallest closed set of least cost, from a maximum flow.
 //!
-//! The set is what the source still reaches. Which of several maximum flows is found is not promised, and the set is
-//! the same for all of them.
+//! The set consists of the updates that the source still reaches. Which maximum flow is found is unspecified; all of
+//! them yield the same set.
 ghost use Rattle.std.specs.Prelude.{◌≡◌, ℕ, ◌+◌, ◌*◌, ◌≤◌, true, false, Some, None, length, vec_len, map, take, drop, sum_by, get_or, IfOk, OnOk};
 ghost use Rattle.std.specs.List.{concat};
 ghost use Rattle.esr_base.specs.declared.limits.TheConstants.{MAX_TRANSACTIONS};
@@ -52,7 +52,7 @@ fn chain_rows(alloc: Global, flow: &[u64], chains: &[Chain]) -> Result<Vec<Vec<u
     Ok(rows)
 }
 
-/// Cuts a list of amounts at a place, and answers what came from there on. The list gives back the room of that.
+/// Cuts a list of amounts at an index. Returns the amounts from there on, and releases their capacity in the list.
 fn cut_off(alloc: Global, flow: &mut Vec<u64>, at: usize) -> Result<Vec<u64>, AllocError>
     requires { at ≤ vec_len flow.old }
     ensures rest { IfOk result (λ rest. rest.items ≡ drop at flow.old.items) }
@@ -64,8 +64,9 @@ fn cut_off(alloc: Global, flow: &mut Vec<u64>, at: usize) -> Result<Vec<u64>, Al
     Ok(rest)
 }
 
-/// The certificate of a maximum flow, by the nodes that the source still reaches, with this count of augmentations. The
-/// flow is cut into its parts, so that it is never held twice: beside its problem it takes the most memory of an audit.
+/// Builds the certificate of a maximum flow from the nodes that the source still reaches, with this count of
+/// augmentations. Cuts the flow into its parts, so that it never exists twice: after the problem it takes the most
+/// memory of an audit.
 fn certify(
     alloc: Global,
     problem: &Problem,
@@ -155,9 +156,9 @@ pub struct FromDraft {
     pub draft: DraftOutcome,
 }
 
-/// A certificate of the least cost of a network's problem, which does not tell how many augmentations led to its flow:
-/// that may be any maximum flow, and is found sooner than by shortest paths alone. Beside it there is what became of the
-/// draft of a flow that it began with.
+/// Finds a certificate of the least cost of a network's problem, without the number of augmentations. The flow may be
+/// any maximum flow, which is found faster than by shortest paths alone. Also returns the outcome of the draft of a
+/// flow from which it started.
 ///
 /// The certificate's set is the smallest of the closed sets of least cost.
 pub fn find_from_draft(alloc: Global, net: &Network) -> Result<FromDraft, NoMemory>

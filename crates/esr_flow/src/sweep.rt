@@ -1,14 +1,15 @@
-//! A draft of a maximum flow, by two sweeps over the updates in commit order, from the prefix of them that costs least.
+//! Drafts a maximum flow, by two sweeps over the updates in commit order, starting at the prefix of least cost.
 //!
-//! On each chain the arc that leaves this prefix is filled. One sweep goes back from there: all that comes before the
-//! update at hand stands for the source, and the update has to be given what its later arcs carry. Where the arcs of
-//! chains that come to it can carry that, they share it. Otherwise more is looked for on the residual ways that lead to
-//! it through the updates that are there already; what a search sees in vain is dead, since no later search could find
-//! anything there. What an update is not given, it lets go of at the end. The other sweep goes forward from there in the
-//! same way, with all directions changed, and what comes after the update at hand stands for the sink.
+//! On each chain the arc that leaves this prefix is filled. The first sweep runs backward from there: all updates
+//! before the current one act as the source, and the current update must receive the amounts that its later arcs carry.
+//! If the incoming arcs of chains have enough capacity, they share them. Otherwise searches look for residual paths to
+//! the update through the updates that were swept already. A node that a search visits without success is dead, since
+//! no later search could find anything there. At the end, an update releases the amounts that it did not receive. The
+//! second sweep runs forward in the same way, with all directions reversed; the updates after the current one act as
+//! the sink.
 //!
-//! Nothing is promised of the amounts. Whether they are a flow is a test of its own, and a flow is made a maximum by
-//! augmentations.
+//! Nothing is guaranteed of the amounts. A separate test decides whether they are a flow, and augmentations raise a
+//! flow to a maximum.
 ghost use Rattle.std.specs.Prelude.{◌≡◌, ◌<◌, length, IfOk};
 ghost use Rattle.esr_cert.specs.Network.{network};
 ghost use Rattle.esr_flow.specs.Graph.{arcs_of};
@@ -109,7 +110,7 @@ impl<'a> Field<'a> {
     }
 }
 
-/// The number at a place, 0 where there is none.
+/// Returns the number at an index, or 0 if it is out of range.
 fn number_at(numbers: &[u64], place: usize) -> u64 {
     match numbers.get(place) {
         Some(number) => *number,
@@ -126,7 +127,7 @@ fn add_at(numbers: &mut [u64], place: usize, more: u64)
     }
 }
 
-/// Takes up to so much off the number at a place, and answers how much that was.
+/// Subtracts up to `most` from the number at an index. Returns the amount subtracted.
 fn take_at(numbers: &mut [u64], place: usize, most: u64) -> u64
     ensures { length numbers.new ≡ length numbers.old }
 {
@@ -137,7 +138,7 @@ fn take_at(numbers: &mut [u64], place: usize, most: u64) -> u64
     taken
 }
 
-/// The steps that start at a node, none where there is no such node.
+/// Returns the steps that start at a node, or an empty row if there is no such node.
 fn row_of<'a>(field: &'a Field, node: usize) -> &'a [ShortArc] {
     if node < field.graph.nodes {
         field.graph.steps_at(node)
@@ -146,7 +147,7 @@ fn row_of<'a>(field: &'a Field, node: usize) -> &'a [ShortArc] {
     }
 }
 
-/// The arc with a number; without ends and capacity where there is none.
+/// Returns the arc with a number, or an arc without ends and capacity if there is none.
 fn arc_at(field: &Field, number: u32) -> Arc {
     if (number as usize) < field.graph.rows.steps.len() / 2 {
         field.graph.problem.arc(number)
@@ -225,7 +226,7 @@ fn takes_part(field: &Field, sweep: Sweep, node: u32) -> bool {
 }
 
 impl Searches {
-    /// None yet, in a graph of so many nodes.
+    /// Prepares searches in a graph of `nodes` nodes.
     fn none(alloc: Global, nodes: usize, sweep: Sweep) -> Result<Searches, AllocError> {
         let unseen = NodeLabel {
             round: 0,
@@ -325,7 +326,7 @@ impl Searches {
         Ok(None)
     }
 
-    /// The most that may go on the way that was found, up to what is due; 0 where there is no way.
+    /// Returns the residual capacity of the path that was found, but at most `due`; 0 if there is no path.
     fn least_capacity(
         &self,
         field: &Field,
@@ -390,7 +391,7 @@ impl Searches {
     }
 }
 
-/// Takes up to so much off the arcs of chains that lead from a node to another, and answers what is left of it.
+/// Subtracts up to `amount` from the arcs of chains that lead from one node to another. Returns the rest of `amount`.
 fn take_back(field: &Field, flow: &mut [u64], from: u32, to: u32, amount: u64) -> u64
     ensures { length flow.new ≡ length flow.old }
 {
@@ -477,8 +478,8 @@ fn part_of(weight: u64, ratio: u64) -> u64 {
     }
 }
 
-/// Adds on the arcs of chains on that side of a node parts of what is due, in the ratio of their capacities, and answers
-/// what is left of it.
+/// Distributes the amount due over the arcs of chains on that side of a node, in the ratio of their capacities. Returns
+/// the rest.
 fn share(
     field: &Field,
     flow: &mut [u64],
@@ -505,8 +506,8 @@ fn share(
     left
 }
 
-/// Adds on the arcs of chains on that side of a node what is due, in their order, as far as they have room, and answers
-/// what is left of it.
+/// Adds the amount due to the arcs of chains on that side of a node, in their order, up to their capacities. Returns
+/// the rest.
 fn fill(field: &Field, flow: &mut [u64], sweep: Sweep, node: usize, due: u64) -> u64
     ensures { length flow.new ≡ length flow.old }
 {

@@ -1,4 +1,4 @@
--- Calls that are given again.
+-- Retried calls.
 use Rattle.std.proofs.Common.{◌≡◌, ◌∙◌, ℕ, ◌+◌, true, List, [], ◌∷◌, ◌++◌, All, Result, Ok, Err, IfErr, ℤ, length, length-append, append_assoc, ap, arith}
 use Rattle.std.proofs.lemmas.List.Elements.{All-push}
 use Rattle.esr_history.specs.Machine.{Distance}

@@ -20,6 +20,6 @@ none_of_one = record {
   verdict = (refl, refl, omega arith);
 }
 
--- the two numbers are not told the other way round
+-- the two numbers are not reported in the wrong order
 not_one_of_none : (opening : List ℤ) (weights : List ℕ) → ¬ IsRefusal weighted opening weights [] (SessionMissing 1 0)
 not_one_of_none opening weights refused = absurd (omega (arith, refused.verdict.2))

@@ -28,7 +28,7 @@ pub record DoNotMatch (d : Distance) (opening : List ℤ) (weights : List ℕ) (
   pub most : length history.entries ≤ MAX_ENTRIES
   pub verdict : IsVerdict history.entries lists (Err error)
 
--- Why a close was refused, as far as it can be said of a history that stays behind the lock: out of memory, or so.
+-- The reason for a refused close, as far as it can be stated about a history that remains inside the lock.
 abbrev pub IsRefusal : Distance → List ℤ → List ℕ → List (List Receipt) → CloseError → Type 0
 IsRefusal d opening weights lists NoMemory = Unit {0}
 IsRefusal d opening weights lists (SessionMissing gathered total) =

@@ -95,7 +95,7 @@ IsVerdict entries lists (Err (SessionMissing gathered total)) =
 IsVerdict entries lists (Err (ForeignReceipt r)) = (length entries ≤ count_in lists) × IsFirstForeign entries lists r
 IsVerdict entries lists (Err NoMemory) = length entries ≤ count_in lists
 
--- the refusals that may be other replies when the event is given again
+-- the refusals that may turn into other replies when the event is retried
 abbrev pub is_block : Refusal → Bool
 is_block (BlockedByLock holder) = true
 is_block (BlockedByImport query) = true

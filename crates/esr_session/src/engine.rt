@@ -1,12 +1,11 @@
-//! An engine: one machine behind a lock, opened for its sessions and closed with them.
+//! An engine: a machine protected by a lock, opened for its sessions and closed with them.
 //!
-//! The type of what is behind a lock allows both an open and a closed engine, and a close must not meet a closed one.
-//! So the engine holds a share of a ledger of its own, 1,000,001 while it is open: an open engine's total is above what
-//! a closed one can have, and whoever has that share knows which it is. The ledger is seen by contracts alone and costs
-//! nothing.
+//! The type of the locked data admits open and closed engines, but a close must not find a closed one. So the engine
+//! holds a share of a separate ledger, 1,000,001 while it is open: the total of an open engine exceeds any total of a
+//! closed one, so the share proves which it is. The ledger exists in contracts only and costs nothing.
 //!
-//! A close counts the receipts before it compares them: where there are too few it is refused for that, and needs no
-//! memory to see it. Receipts are compared where they lie; none is copied.
+//! A close counts the receipts before it compares them: if there are too few, it is refused without an allocation.
+//! Receipts are compared in place; none is copied.
 ghost use Rattle.esr_session.specs.declared.engine_name.TheConstants.{LEDGER_PARTS, MAX_SESSIONS};
 ghost use Rattle.std.specs.Prelude.{◌≡◌, ◌+◌, ◌<◌, ◌≤◌, [], true, length, Some, None, All, IfOk, OnOk, IfErr, OnErr, vec_len, map, vec_capacity};
 ghost use Rattle.esr_history.specs.Machine.{IsLegal};
@@ -30,7 +29,7 @@ use std::sync::{Arc, Mutex, Wait};
 /// More than a history can have entries: the amount of an open engine's own share.
 pub(crate) const SEAL: u64 = MAX_ENTRIES as u64 + 1;
 
-/// A machine behind a lock. Contracts see how many sessions were opened.
+/// A machine protected by a lock. Contracts see how many sessions were opened.
 #[derive(Drop)]
 pub struct Engine<M: Metric + Drop, N: Naming> {
     shared: Arc<Mutex<Locked<M, N>>, Global>,
@@ -197,7 +196,7 @@ fn deal<M: Metric + Drop, N: Naming>(
     Ok(sessions)
 }
 
-/// So many references to the lock.
+/// Returns `n` references to the lock.
 fn clones<M: Metric + Drop, N: Naming>(
     alloc: Global,
     shared: &Arc<Mutex<Locked<M, N>>, Global>,

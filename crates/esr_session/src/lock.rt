@@ -1,9 +1,9 @@
 //! What an engine's lock holds, and one call under it.
 //!
-//! The invariant of `Locked` is the whole story of threads: the machine is one over the engine's opening values and
-//! metric, and the total of all shares is the number of its entries. A call steps the machine once and adds one receipt
-//! and one to its share, all in one hold. Answers come in the order closed, full, memory; all memory is taken before
-//! the machine steps, first the room for a receipt, then the machine's own.
+//! The invariant of `Locked` is all that threads rely on: the machine's opening values and metric are the engine's, and
+//! the total of all shares is the number of its entries. A call steps the machine once and adds one receipt and one to
+//! its share, under a single acquisition of the lock. The errors have this order of precedence: closed, full, out of
+//! memory. All memory is allocated before the machine steps, first for the receipt, then for the machine.
 ghost use Rattle.std.specs.Prelude.{◌≡◌, ◌+◌, ◌↔◌, [], ◌∷◌, ◌++◌, length, Some, None, IfOk, OnOk, OnErr, IsErrOf, IsSomeAnd, ◌≤◌, Option, MatchOption, List};
 ghost use Rattle.esr_history.specs.Machine.{IsLegal, reply_to, extended, Schedule};
 ghost use Rattle.esr_session.specs.Receipts.{IsReceipt, receipt};

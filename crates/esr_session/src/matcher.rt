@@ -48,7 +48,7 @@ impl HasReceipts for Vec<Receipt> {
     }
 }
 
-/// The same for whatever has lists of receipts, which are compared where they are.
+/// Like `match_receipts`, but for any type that has receipts. They are compared in place.
 pub(crate) fn match_all<M: Metric, L: HasReceipts>(
     alloc: Global,
     history: &History<M>,

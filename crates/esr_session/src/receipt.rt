@@ -28,7 +28,7 @@ pub enum CloseError {
     NoMemory,
 }
 
-/// Whether the event is blocked, so that it may be answered otherwise when it is given again.
+/// Returns whether the refusal blocks the event, so that a retry may have another reply.
 fn is_block(why: Refusal) -> bool
     ensures { result ≡ is_block why }
 {

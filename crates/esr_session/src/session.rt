@@ -51,11 +51,11 @@ impl<M: Metric + Drop, N: Naming> Session<M, N> {
         receipts
     }
 
-    /// Takes room for the receipts of so many calls, where there are none yet, and writes to it. Memory is slow at its
-    /// first touch, and in a hold of the lock all others would wait for it.
+    /// Reserves capacity for the receipts of `calls` calls if it has none yet, and writes to it. The first access to
+    /// memory is slow, and inside the lock all other sessions would wait for it.
     ///
     /// # Errors
-    /// Where memory was refused.
+    /// `AllocError` if the allocation failed.
     pub fn reserve(&mut self, alloc: Global, calls: usize) -> Result<(), AllocError>
         ensures { self.new ≡ self.old }
     {
@@ -117,11 +117,12 @@ impl<M: Metric + Drop, N: Naming> Session<M, N> {
         Ok(last)
     }
 
-    /// Takes the lock once, and calls for the asker until a call is blocked or it asks nothing more, at most `most`
-    /// times; how many calls were answered. None only where nothing was asked.
+    /// Executes up to `most` events from `source` under a single acquisition of the lock. Stops early when an event is
+    /// blocked or `source` is exhausted. Returns the number of events executed, which is 0 only if `source` was empty
+    /// or `most` is 0.
     ///
     /// # Errors
-    /// Those of `step_on`, at the first call that answers one.
+    /// The first error of `step_on`; earlier events remain executed.
     pub fn call_several<R: Wait, A: EventSource>(
         &mut self,
         rt: &R,

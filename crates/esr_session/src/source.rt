@@ -1,10 +1,10 @@
-//! Several calls in one hold of the lock.
+//! Executes several events under a single acquisition of the lock.
 //!
-//! Where threads have much to ask, a hold for each call costs more than the steps: each time the lock and the machine
-//! go to another processor. So one hold answers several events, and not more than it is told to, since others wait
-//! meanwhile; it ends early at an event that is blocked, which only another session's step can help. A list of events
-//! would not do: a later one names the transaction that an earlier one began. So who asks is asked for each event when
-//! the one before it is answered.
+//! If threads have many events, an acquisition for each costs more than the steps: each time the lock and the machine
+//! move to another processor's cache. So one acquisition covers several events, up to a given number, since other
+//! sessions wait meanwhile. It ends early at a blocked event, which only a step of another session can unblock. A list
+//! of events does not suffice, since a later event names the transaction that an earlier one began. So the source is
+//! asked for each event after the reply to the one before it.
 ghost use Rattle.std.specs.Prelude.{◌≡◌, ◌≤◌, ◌++◌, List, ℕ, None, All, length, IfOk};
 ghost use Rattle.esr_session.specs.Receipts.{IsReceipt};
 ghost use Rattle.esr_session.specs.declared.receipt.Receipt.{Receipt};
@@ -16,7 +16,7 @@ use esr_core::StepError;
 use esr_history::Event;
 use esr_items::Metric;
 
-/// Who asks events, each by what came of those before.
+/// A source of events, each of which may depend on the earlier replies.
 pub trait EventSource {
     ghost use Rattle.std.specs.Prelude.{◌≡◌, ◌++◌, ◌∷◌, [], List, Option, Some};
     ghost use Rattle.esr_history.specs.declared.event.Event.{Event};

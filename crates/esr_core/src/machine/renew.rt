@@ -69,14 +69,14 @@ impl<M: Metric> Machine<M> {
 }
 
 impl<M: Metric + Drop> Machine<M> {
-    /// Goes on with an empty history, by this metric. Its opening values are the committed values
-    /// of the history so far, which is dropped: audit it first. Transactions are numbered from 1
-    /// again. Whatever the new history comes to be, the committed updates of the old one and then
-    /// its own are serializable as one, and a query is in one history alone.
+    /// Replaces the history by an empty one with this metric. Its opening values are the committed values of the old
+    /// history, which is dropped: audit it first. Transactions are numbered from 1 again. However the new history
+    /// continues, its committed updates after those of the old one are serializable as one history; a query belongs to
+    /// one history only.
     ///
     /// # Errors
-    /// `TransactionActive` exactly where a transaction is active, else `NoMemory` if an
-    /// allocation failed. Then nothing has changed.
+    /// `TransactionActive` if and only if a transaction is active; otherwise `NoMemory` if an allocation failed. In
+    /// both cases nothing has changed.
     pub fn renew(&mut self, alloc: Global, metric: M) -> Result<(), RenewError>
         ensures ok { OnOk result (self.new ≡ renewed self.old (M.weights metric)) }
         ensures serializable { OnOk result ((later : List Entry) → IsLegal M.distance_by (along self.new later)
@@ -97,8 +97,8 @@ impl<M: Metric + Drop> Machine<M> {
         }
     }
 
-    /// The state of a history with no entry over the committed values, and these values. It has
-    /// room for as many transactions as there are, so that its lists need not grow again.
+    /// Returns the state of an empty history over the committed values, and these values. The state has capacity for as
+    /// many transactions as before, so that its lists need not grow again.
     fn fresh(&self, alloc: Global) -> Result<(State, Vec<i64>), NoMemory>
         ensures state { IfOk result (λ p. (d : Distance) (h : Schedule) → h.entries ≡ [] → h.opening ≡ p.1.items
             → IsStateOf d h p.0) }

@@ -7,7 +7,7 @@ use Rattle.esr_session.specs.Engine.{is_missing}
 use Rattle.esr_session.specs.Receipts.{IsVerdict, count_in, Receipt}
 use Rattle.esr_session.proofs.engine.match_sessions.Goals as goal
 
--- where a session is missing there are fewer receipts than entries
+-- if a session is missing, there are fewer receipts than entries
 fewer : (es : List Entry) (lists : List (List Receipt)) (r : Result (Unit {0}) CloseError) → IsVerdict es lists r → IfErr r (λ e. is_missing e ≡ true → count_in lists < length es)
 fewer es lists (Ok _) v = tt
 fewer es lists (Err (SessionMissing n total)) v = λ _. omega (arith, v)
