@@ -31,7 +31,7 @@ length_alike T S [] (y ∷ ys) a = absurd a
 length_alike T S (x ∷ xs) [] a = absurd a
 length_alike T S (x ∷ xs) (y ∷ ys) a = omega (arith, length_alike T S xs ys a.1)
 
--- the places from a on of a list that goes on with rest there
+-- the list `us` continues with `rest` from index a on
 abbrev Continues : List ℕ → ℕ → List ℕ → Type 0
 Continues us a rest = (k : ℕ) → slice_get us (a + k) ≡ slice_get rest k
 

@@ -24,7 +24,7 @@ last_from : (a : ℤ) (vs : List ℤ) → last_or (Some a) vs ≡ Some (last_val
 last_from a [] = refl
 last_from a (v ∷ vs) = last_from v vs
 
--- the last of some values, where there is one
+-- the last of some values, if there is one
 last_some : (o : ℤ) (vs : List ℤ) → (vs ≡ [] → ⊥) → last_of vs ≡ Some (last_value o vs)
 last_some o [] ne = absurd (ne refl)
 last_some o (v ∷ vs) ne = last_from v vs

@@ -24,7 +24,7 @@ use Rattle.esr_audit.specs.declared.finding.AuditError.TheVariants as refusals
 use Rattle.esr_audit.specs.Problems.{IsProblemOf}
 use Rattle.esr_audit.specs.Stretches.{listed}
 
--- why an audit gives no answer, where there is no order
+-- the reason for a failed audit if no order was built
 abbrev pub refusal_of : OrderError → AuditError
 refusal_of NotACommittedQuery = refusals.NotACommittedQuery
 refusal_of NoMemory = refusals.NoMemory
@@ -41,7 +41,7 @@ pub record IsAnswer (d : Distance) (h : Schedule) (q distance import : ℕ) (bef
   pub import_is : import ≡ import_in (charges_in d h) q
   pub bounded : distance ≤ import
 
--- the certificate tells how many augmentations lead to its flow, each along a shortest path
+-- the certificate contains the number of augmentations that led to its flow, each along a shortest path
 abbrev pub IsCounted : Problem → Certificate → Type 0
 IsCounted p c = (n : ℕ) × (c.augmentations ≡ Some n) × Takes (network p) n (amounts c)
 

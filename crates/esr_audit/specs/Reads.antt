@@ -15,7 +15,7 @@ pub use Rattle.esr_audit.specs.declared.reads.ItemRead.{ItemRead}
 abbrev pub item_read_of : Operation → ItemRead
 item_read_of o = record { item = o.item; value = o.value }
 
--- the same of a read as it is listed
+-- the item and value of an access that is a read
 abbrev pub item_read_in : Access → ItemRead
 item_read_in a = record { item = a.item.0; value = a.value }
 
@@ -47,7 +47,7 @@ audit_chain_by d opening chain values x = record {
 abbrev pub audit_chain_from : (ℕ → ℤ → ℤ → ℕ) → List ℤ → Option orders.Chain → List ItemRead → ℕ → Chain
 audit_chain_from d opening chain reads x = audit_chain_by d opening chain (values_of reads x) x
 
--- the same of an order
+-- the chain of item x of an order
 abbrev pub audit_chain : (ℕ → ℤ → ℤ → ℕ) → List ℤ → Ordered → List ItemRead → ℕ → Chain
 audit_chain d opening order reads x = audit_chain_from d opening (chain_at order x) reads x
 

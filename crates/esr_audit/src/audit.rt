@@ -56,8 +56,8 @@ fn certify(alloc: Global, problem: &Problem) -> Result<Certificate, NoMemory>
     Ok(certificate)
 }
 
-/// A certificate of the problem, with its smallest closed set of least cost, that tells how many augmentations along
-/// shortest paths led to its flow.
+/// Returns a certificate of the problem, with its smallest closed set of least cost. It contains the number of
+/// augmentations along shortest paths that led to its flow.
 pub fn certify_with_steps(alloc: Global, problem: &Problem) -> Result<Certificate, NoMemory>
     ensures certifies { IfOk result (λ c. Certifies problem.now (certificate_of c)) }
     ensures least { IfOk result (λ c. IsSmallestLeast problem.now (in_set c.set.items)) }
@@ -95,14 +95,14 @@ fn find<M: Metric>(
     })
 }
 
-/// The least distance of what a committed query read from any serial placement, with a
-/// certificate. It stays the answer however the history goes on. The problem has exactly the
-/// near updates of the query: those that wrote an item that it read, those from which a chain of
-/// conflicts leads to such an update, and those that it must have seen.
+/// Returns the least distance between the values that a committed query read and those of any serial placement of it,
+/// with a certificate. The result holds for every continuation of the history. The problem has exactly the near updates
+/// of the query: those that wrote an item that it read, those from which a chain of conflicts leads to such an update,
+/// and those that it must have seen.
 ///
 /// # Errors
-/// `NotACommittedQuery` exactly where the transaction is no query, or has not committed.
-/// `NoMemory` where memory was refused.
+/// `NotACommittedQuery` if and only if the transaction is not a query or has not committed. `NoMemory` if an allocation
+/// failed.
 pub fn audit_query<M: Metric>(
     alloc: Global,
     history: &History<M>,
@@ -122,8 +122,8 @@ pub fn audit_query<M: Metric>(
     Ok(find(alloc, history, order, q)?)
 }
 
-/// The same for a caller who has the list of the transactions that committed, in the order of their commits, so that it
-/// is made once for many queries.
+/// Like `audit_query`, for a caller that has the list of committed transactions in commit order, which can be reused
+/// for many queries.
 ///
 /// # Errors
 /// Those of `audit_query`.
@@ -144,8 +144,8 @@ pub fn audit_query_in<M: Metric>(
     Ok(find(alloc, history, order, q)?)
 }
 
-/// The same for a caller who keeps an index of the history, which has read it whole: then what updates did is not listed
-/// anew for each query.
+/// Like `audit_query`, for a caller that keeps an index of the whole history, so that the accesses of updates are not
+/// listed for each query.
 ///
 /// # Errors
 /// Those of `audit_query`.
@@ -166,7 +166,7 @@ pub fn audit_query_by_index<M: Metric>(
     Ok(find(alloc, history, order, q)?)
 }
 
-/// What is found of a committed query, beside the list of all transactions that committed.
+/// Audits a committed query, given the list of all committed transactions.
 fn find_committed<M: Metric>(
     alloc: Global,
     history: &History<M>,
@@ -183,8 +183,7 @@ fn find_committed<M: Metric>(
     Ok(find(alloc, history, near, q)?)
 }
 
-/// What is found of each of these committed queries, beside the list of all transactions that
-/// committed.
+/// Audits each of these committed queries, given the list of all committed transactions.
 fn findings_of<M: Metric>(
     alloc: Global,
     history: &History<M>,
@@ -225,17 +224,15 @@ fn book_of<M: Metric>(alloc: Global, history: &History<M>) -> Result<Book, Audit
     })
 }
 
-/// The audit of a history: a serial order of its committed updates, and what is found of each
-/// committed query.
+/// Audits a history: returns a serial order of its committed updates, and the finding of each committed query.
 ///
-/// Each reply of the history is the machine's; its committed updates are conflict-serializable,
-/// in the order of their commits; no import and no export has passed its limit; and of each
-/// committed query there is the least distance of what it read from any serial placement, shown
-/// by a closed set and a flow of equal worth, and at most the import charged. What is found stays
-/// the answer however the history goes on.
+/// Each reply of the history is the machine's. Its committed updates are conflict-serializable in commit order. No
+/// import and no export has exceeded its limit. For each committed query the result has the least distance between the
+/// values that it read and those of any serial placement, proved by a closed set and a flow of equal worth; it is at
+/// most the import charged. The findings hold for every continuation of the history.
 ///
 /// # Errors
-/// `NoMemory` where memory was refused.
+/// `NoMemory` if an allocation failed.
 #[tactic(auto, using(esr_history::proofs::Laws::legal_serializable, esr_history::proofs::Charges::legal_within_limits))]
 pub fn audit_history<M: Metric>(alloc: Global, history: &History<M>) -> Result<Book, AuditError>
     ensures legal { IsLegal M.distance_by history.now.schedule }

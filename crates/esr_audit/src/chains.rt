@@ -19,7 +19,7 @@ use esr_items::{ItemId, Metric};
 use esr_order::{Links, Order};
 use std::alloc::{AllocError, Global};
 
-/// So many lists with no value in them.
+/// Returns `count` empty lists.
 fn no_values(alloc: Global, count: u32) -> Result<Vec<Vec<i64>>, AllocError>
     ensures count { IfOk result (λ lists. length lists.items ≡ count) }
     ensures none { IfOk result (λ lists. (x : ℕ) → list_at lists.items x ≡ []) }
@@ -44,8 +44,8 @@ fn put_value(lists: &mut Vec<Vec<i64>>, read: ItemRead) -> Result<(), AllocError
     Ok(())
 }
 
-/// The values that were read of each of so many items. To look for those of one item after another among all reads takes
-/// time that grows with the square of these.
+/// Returns the values that were read of each item. Scanning all reads for one item after another would take quadratic
+/// time.
 fn values_by_item(
     alloc: Global,
     reads: &[ItemRead],
@@ -99,7 +99,7 @@ fn costs_of<M: Metric>(
     Ok(costs)
 }
 
-/// The writers and the values of a chain, none where there is none.
+/// Returns the writers and the values of a chain, or empty lists if there is none.
 fn writers_and_values(alloc: Global, links: Option<Links>) -> (Vec<u32>, Vec<i64>)
     ensures writers { result.0.items ≡ writers_in (option_map seen_links links) }
     ensures values { result.1.items ≡ values_in (option_map seen_links links) }

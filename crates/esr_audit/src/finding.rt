@@ -32,8 +32,8 @@ pub struct Finding {
     pub certificate: Certificate,
 }
 
-/// What is told of a committed query: a finding without its problem and its certificate, which take the most memory, and
-/// with its updates in little room. All of it is fixed by the history.
+/// The summary of a committed query: a finding without its problem and its certificate, which take the most memory, and
+/// with its updates in compressed form. The history determines all of it.
 #[derive(Drop)]
 pub struct Summary {
     pub query: TxnId,
@@ -58,7 +58,7 @@ impl From<Finding> for Summary {
             problem,
             certificate,
         } = finding;
-        // what is kept is to lie where these lay, and not among them
+        // the memory of these is reused for the summary
         drop(problem);
         drop(certificate);
         Summary {
@@ -91,10 +91,10 @@ pub struct Summaries {
 /// Why an audit gives no answer.
 #[derive(Clone, Copy, PartialEq, Eq, Debug, Error)]
 pub enum AuditError {
-    /// The transaction is no query, or has not committed.
+    /// The transaction is not a query, or has not committed.
     #[error("not a committed query")]
     NotACommittedQuery = 1,
-    /// Memory was refused.
+    /// An allocation failed.
     #[error("out of memory")]
     NoMemory = 2,
     /// An audit has 1 to 64 workers.

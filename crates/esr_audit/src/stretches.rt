@@ -32,8 +32,8 @@ fn follows(stretch: TxnRange, t: TxnId) -> bool
     stretch.first <= stretch.end && stretch.end == t.0
 }
 
-/// The last stretch after one more transaction: it is longer, or is put to those before it, and the transaction begins
-/// one. None where memory was refused, or the number has no next.
+/// Returns the last interval after one more transaction: the interval is extended, or it is appended to `stretches` and
+/// the transaction begins a new one. Returns `None` if an allocation failed, or if the number has no successor.
 #[tactic(auto, using(crate::proofs::StretchLaws::continues, crate::proofs::StretchLaws::begins))]
 fn stretch_with(stretches: &mut Vec<TxnRange>, last: TxnRange, t: TxnId) -> Option<TxnRange>
     ensures { IfSome result (λ s. flat_map numbers_in stretches.new.items ++ numbers_in s
@@ -50,7 +50,7 @@ fn stretch_with(stretches: &mut Vec<TxnRange>, last: TxnRange, t: TxnId) -> Opti
     Some(TxnRange { first: t.0, end })
 }
 
-/// The stretches of transactions; none where memory was refused, or a number has no next.
+/// Returns the intervals of transactions, or `None` if an allocation failed or a number has no successor.
 fn stretches_of(alloc: Global, txns: &[TxnId]) -> Option<Vec<TxnRange>>
     ensures { IfSome result (λ v. flat_map numbers_in v.items ≡ map (λ t. t.0) txns.now) }
 {

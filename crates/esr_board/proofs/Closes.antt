@@ -104,7 +104,7 @@ once jobs seats word given st same n =
     (λ (g : word ≤ n). is ∙ times-below-none n word g ∙ sym (ap (λ b. cond {A = ℕ} b 1 0) (le-ltb n word g)))
     (cases_lt n word)
 
--- a number is missing only where a seat is
+-- a number is missing only if a seat is
 pub missing : (jobs seats word : ℕ) (given : List BoardSeat) → IsBoardAt jobs seats (map hand_of given) word → All (λ s. s.seat.me.0.jobs ≡ jobs) given → length (all_claimed given) < word → length given < seats
 missing jobs seats word given st its less = ⊎_elim (λ (l : length given < seats). l)
     (λ (g : seats ≤ length given).

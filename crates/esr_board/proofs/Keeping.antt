@@ -21,7 +21,7 @@ all_zip_push R [] (z ∷ ys) x y a r = absurd a
 all_zip_push R (w ∷ xs) [] x y a r = absurd a
 all_zip_push R (w ∷ xs) (z ∷ ys) x y a r = (a.0, all_zip_push R xs ys x y a.1 r)
 
--- what is kept of each query's finding is kept of findings of these queries
+-- values made from the finding of each query are made from the findings of these queries
 pub keeps_findings : {T : Type 0} (keeps : Finding → T → Type 0) (d : Distance) (h : Schedule) (queries : List TxnId) (kept : List T) → AllZip (IsKeptOf keeps d h) queries kept → KeepsFindings keeps d h (map (λ (t : TxnId). t.0) queries) kept
 keeps_findings keeps d h [] [] a = record { findings = []; queries = refl; found = All-nil (IsFinding d h); kept = tt }
 keeps_findings keeps d h [] (x ∷ kept) a = absurd a

@@ -13,7 +13,7 @@ hand jobs passes claimed = record { jobs = jobs; passes = passes; claimed = clai
 abbrev pub times : ℕ → List ℕ → ℕ
 times n xs = count_by (λ m. nat_eq m n) xs
 
--- how many numbers of the list are no jobs
+-- how many numbers of the list are not jobs
 abbrev pub count_past : ℕ → List ℕ → ℕ
 count_past jobs xs = count_by (λ n. nat_le jobs n) xs
 
@@ -58,8 +58,8 @@ first_hand size = hand size.jobs size.seats []
 abbrev pub with_claim : Hand → ℕ → Hand
 with_claim h n = hand h.jobs (if nat_lt n h.jobs then h.passes else h.passes - 1) (h.claimed ++ n ∷ [])
 
--- what a claim tells: the number found is above all in the seat's list, at least as large as their count,
--- and the word has room
+-- the postcondition of a claim: its number is above all in the seat's list and at least their count, and the word does
+-- not overflow
 abbrev pub Claimed : Step (Unit {0}) → Me (Unit {0}) Hand → ℕ → Me (Unit {0}) Hand → Type 0
 Claimed st m n m' =
     (m' ≡ (with_claim m.0 n, m.1)) × All (λ x. x < n) m.0.claimed × (length m.0.claimed ≤ n)

@@ -25,17 +25,17 @@ IsFindingFor d h queries job f = (f.query ≡ query_of queries job) × IsFinding
 abbrev pub AreCommitted : Schedule → List TxnId → Type 0
 AreCommitted h queries = All (λ t. IsTrue (is_committed_query h t.0)) queries
 
--- each job that was found is one of the board's, with what is found of its query
+-- each job in the list is one of the board's, and its finding is that of its query
 abbrev pub AreFound : Distance → Schedule → List TxnId → ℕ → List (ℕ × Finding) → Type 0
 AreFound d h queries jobs found = All (λ p. (p.0 < jobs) × IsFindingFor d h queries p.0 p.1) found
 
--- What is kept of findings is told by a relation of a finding and what is kept of it.
+-- The relation `keeps` relates a finding to the value that a worker makes of it.
 
--- what is kept of what is found of a query
+-- a value that is made of the finding of query q
 abbrev pub IsKeptOf : {T : Type 0} → (Finding → T → Type 0) → Distance → Schedule → TxnId → T → Type 0
 IsKeptOf keeps d h q kept = (f : Finding) × (f.query ≡ q) × IsFinding d h f × keeps f kept
 
--- of each query, in order, something is kept of what is found of it
+-- the values are made of the findings of the queries, in order
 pub record KeepsFindings {T : Type 0} (keeps : Finding → T → Type 0) (d : Distance) (h : Schedule) (asked : List ℕ)
     (things : List T) : Type 0 where
   pub findings : List Finding
@@ -43,11 +43,12 @@ pub record KeepsFindings {T : Type 0} (keeps : Finding → T → Type 0) (d : Di
   pub found : All (IsFinding d h) findings
   pub kept : AllZip keeps findings things
 
--- each job that was found is one of the board's, with what is kept of what is found of its query
+-- each job in the list is one of the board's, and its value is made of the finding of its query
 abbrev pub AreKept : {T : Type 0} → (Finding → T → Type 0) → Distance → Schedule → List TxnId → ℕ → List (ℕ × T) → Type 0
 AreKept keeps d h queries jobs found = All (λ p. (p.0 < jobs) × IsKeptOf keeps d h (query_of queries p.0) p.1) found
 
--- the jobs of a share are those that the seat drew, each with what is kept of its finding, and the seat drew to the end
+-- the jobs of a share are those that the seat claimed, with values made of their findings, and the seat has claimed to
+-- the end
 abbrev pub IsShareOf : {T : Type 0} → (Finding → T → Type 0) → Distance → Schedule → List TxnId → ℕ → List ℕ → Share T
     → Type 0
 IsShareOf keeps d h queries jobs numbers s =
@@ -64,7 +65,7 @@ IsWorked keeps d h queries board w =
 abbrev pub IsFilled : {T : Type 0} → List (Option T) → ℕ → Type 0
 IsFilled slots k = IsSome (slice_index_or slots k None)
 
--- all that is there is kept of what is found of the query of its job
+-- each value that is present is made of the finding of its job's query
 abbrev pub AreRight : {T : Type 0} → (Finding → T → Type 0) → Distance → Schedule → List TxnId → List (Option T) → Type 0
 AreRight keeps d h queries slots =
     (k : ℕ) → k < length slots → IfSome (slice_index_or slots k None) (IsKeptOf keeps d h (query_of queries k))

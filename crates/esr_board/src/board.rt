@@ -36,7 +36,7 @@ pub struct Board {
     ghost few_seats: { seats ≤ MAX_SEATS },
 }
 
-/// The right to claim numbers of one board, until a claim gave none.
+/// The right to claim numbers of one board, until a claim returns none.
 #[derive(Drop)]
 pub struct BoardSeat {
     seat: Seat<(), Hand>,

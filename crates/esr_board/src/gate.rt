@@ -1,7 +1,7 @@
 //! A gate that each worker calls before each job. It lets the program show how far it is, and a test hold one worker
 //! until another has come: no contract can say that two threads run side by side.
 
-/// What is called before a job of a number is begun, of so many. A call of it returns.
+/// A callback before each job, with the job's number and the number of jobs. A call must return.
 pub trait Gate {
     fn enter(&self, job: u64, jobs: u64);
 }

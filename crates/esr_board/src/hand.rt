@@ -1,4 +1,4 @@
-//! What a seat knows (the numbers that it drew, and whether it has a pass), and what the table is told when it is made.
+//! Defines the state of a seat (its claimed numbers, and whether it has a pass), and the parameters of the table.
 
 use std::collections::LinkedList;
 

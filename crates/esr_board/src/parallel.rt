@@ -63,7 +63,7 @@ fn put_in_order<M: Metric, T: From<Finding> + Drop>(
     }
 }
 
-/// The share of each worker, on a thread of its own.
+/// Runs each worker on a separate thread, and returns their shares.
 fn shares<M: Metric + Sync, R: Threads + Sync, G: Gate + Sync, T: From<Finding> + Send + Drop>(
     rt: &R,
     alloc: Global,
@@ -99,7 +99,7 @@ struct KeptAndSeats<T> {
     seats: Vec<BoardSeat>,
 }
 
-/// So many places with nothing in them.
+/// Returns `count` empty slots.
 fn empty_slots<T: Drop>(alloc: Global, count: usize) -> Result<Vec<Option<T>>, AllocError>
     ensures { IfOk result (λ v. (vec_len v ≡ count) × ((k : ℕ) → slice_index_or v.items k None ≡ None)) }
 {
@@ -146,7 +146,7 @@ fn gather<M: Metric, T: From<Finding> + Drop>(
     Ok(KeptAndSeats { slots, seats })
 }
 
-/// What is kept out of its places, which are all filled.
+/// Takes the values out of their slots, which are all filled.
 fn unwrap_slots<M: Metric, T: From<Finding> + Drop>(
     alloc: Global,
     history: &History<M>,
@@ -173,7 +173,7 @@ fn unwrap_slots<M: Metric, T: From<Finding> + Drop>(
     Ok(kept)
 }
 
-/// What so many workers keep of what they find of each of these committed queries, in order.
+/// Audits these committed queries with `workers` threads, and returns the values made of the findings, in order.
 fn kept_by<M: Metric + Sync, R: Threads + Sync, G: Gate + Sync, T: From<Finding> + Send + Drop>(
     rt: &R,
     alloc: Global,
@@ -210,14 +210,14 @@ fn kept_by<M: Metric + Sync, R: Threads + Sync, G: Gate + Sync, T: From<Finding>
     }
 }
 
-/// The committed updates of a history, and what is kept of what is found of each committed query.
+/// The committed updates of a history, and the values made of the findings of its committed queries.
 #[derive(Drop)]
 struct Pages<T> {
     order: Vec<TxnId>,
     kept: Vec<T>,
 }
 
-/// The committed updates of a history, and what so many workers keep of what they find of its committed queries.
+/// Audits a history with `workers` threads: returns its committed updates, and the values made of the findings.
 fn pages_by<M: Metric + Sync, R: Threads + Sync, G: Gate + Sync, T: From<Finding> + Send + Drop>(
     rt: &R,
     alloc: Global,
@@ -256,13 +256,12 @@ fn pages_by<M: Metric + Sync, R: Threads + Sync, G: Gate + Sync, T: From<Finding
     }
 }
 
-/// The audit of a history by so many workers, each on a thread of its own: what `audit_history`
-/// finds, up to the choice of a flow in the certificates. It calls `enter` of the gate before the
-/// audit of the k-th committed query, with k, counted from 0.
+/// Audits a history with `workers` threads. The result is that of `audit_history`, up to the choice of a flow in the
+/// certificates. Calls `enter` of the gate before the audit of the k-th committed query, with k, counted from 0.
 ///
 /// # Errors
-/// `WorkersOutOfRange` exactly where there are no workers or more than 64. `NoMemory` if allocation
-/// fails or a thread cannot be started.
+/// `WorkersOutOfRange` if and only if `workers` is not from 1 to 64. `NoMemory` if an allocation failed or a thread
+/// cannot be started.
 #[tactic(auto, using(esr_history::proofs::Laws::legal_serializable, esr_history::proofs::Charges::legal_within_limits))]
 pub fn audit_parallel<M: Metric + Sync, R: Threads + Sync, G: Gate + Sync>(
     rt: &R,

@@ -21,7 +21,7 @@ impl Play<(), Hand> for Claim {
     ghost then = { Claimed };
 }
 
-/// A seat gives one of its passes to a new seat.
+/// A seat passes one of its passes to a new seat.
 pub(crate) struct Admit;
 
 impl Split<Hand> for Admit {

@@ -40,11 +40,11 @@ bad bytes f (Err e) is other h = tt
 
 -- ---- the bytes of a reader
 
--- a read that gave nothing
+-- a read that returned no bytes
 pub no_more : (old new more : List ℕ) → new ≡ old ++ more → length more ≡ 0 → new ≡ old
 no_more old new more is none = is ∙ ap (λ l. old ++ l) (nil_from_length more none) ∙ append-nil old
 
--- room for bytes stays, whatever is read into it
+-- a nonempty buffer stays nonempty, whatever is read into it
 pub capacity_kept : (xs ys : List ℕ) (n : ℕ) → 0 < n → 0 < length xs → 0 < length (take n (xs ++ ys))
 capacity_kept xs ys n a b = omega (arith, length-take n (xs ++ ys), length-append xs ys)
 

@@ -36,7 +36,7 @@ rows_of = list_of as_naturals
 
 -- ---- objects, which have each key once
 
--- an object with so many keys
+-- an object with n keys
 abbrev pub has_key_count : ℕ → Data → Bool
 has_key_count n d = option_map_or (λ ms. members_len ms == n) (as_object d) false
 
@@ -48,7 +48,7 @@ key_count (Some d) = 1
 abbrev pub field : {A : Type 0} → (Data → Option A) → List ℕ → Data → Option A
 field f key d = option_and_then f (get key d)
 
--- a list that is empty where it is missing
+-- an optional list, empty if it is missing
 abbrev pub optional_numbers : Option Data → Option (List ℕ)
 optional_numbers None = Some []
 optional_numbers (Some d) = as_naturals d

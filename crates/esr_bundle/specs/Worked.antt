@@ -59,7 +59,7 @@ no_keys = refl
 no_object : problem_in (array no_items) ≡ Err Shape
 no_object = refl
 
--- neighbours of a chain that are no pair
+-- neighbours of a chain that are not a pair
 no_pair : problem_in (bundle_data (record two_updates { before = [] }) after_both) ≡ Err Shape
 no_pair = refl
 

@@ -24,7 +24,7 @@ pub enum Verdict {
     Bad(u8),
 }
 
-/// Why there is no verdict.
+/// The reasons for returning no verdict.
 #[derive(Clone, Copy, Debug, PartialEq, Eq, Error)]
 pub enum JudgeFault {
     /// A read failed, in whatever way.
@@ -46,7 +46,7 @@ const MAX_BYTES: usize = 64_000_000;
 /// The most bytes of one read.
 const ROOM: usize = 65536;
 
-/// Room for the bytes of one read.
+/// Allocates the buffer for one read.
 fn chunk_buffer(alloc: Global) -> Result<Vec<u8>, AllocError>
     ensures { IfOk result (λ v. 0 < length v.items) }
 {
@@ -161,7 +161,7 @@ pub fn judge<R: Read, W: Write>(
         × Appends (W.contents (inner writer.old)) (W.contents (inner writer.new)) written
         × IsJudgedBy input (R.remaining (inner reader.new)) result written }
 
-    // Where a read or a write has failed, there is no verdict.
+    // If a read or a write has failed, no verdict is returned.
     ensures reader { IsTrue (failed reader.new) ↔ IsErrOf result JudgeFault.Read }
     ensures writer { IsTrue (failed writer.new) ↔ IsErrOf result JudgeFault.Write }
 {

@@ -1,5 +1,5 @@
-//! From bytes to a problem and a certificate: the lowest fault over the whole is told, not JSON at all before shape,
-//! and shape before range.
+//! Reads a problem and a certificate from bytes. Reports the lowest fault of the whole bundle: invalid JSON before
+//! shape, and shape before range.
 ghost use Rattle.std.specs.Prelude.{◌≡◌, ◌≢◌, Some, None, IfOk, IfErr};
 ghost use Rattle.serde_json.specs.View.{view};
 ghost use Rattle.esr_bundle.specs.Bundle.{chain_of, problem_of, certificate_of, parts_of};
@@ -127,10 +127,11 @@ fn tree(alloc: Global, bytes: &[u8]) -> Result<Value, BundleFault>
     }
 }
 
-/// The problem and the certificate of a bundle.
+/// Reads the problem and the certificate of a bundle.
 ///
-/// `Json` where the bytes are no JSON, `Shape` where the object is none of a bundle or a rule of shape is broken over
-/// all of it, and `Range` where only a number is out of its range. `NoMemory` may come in place of each.
+/// # Errors
+/// `Json` if the bytes are not valid JSON; `Shape` if the object is not a bundle or breaks a rule of shape anywhere;
+/// `Range` if only numbers are out of range. `NoMemory` if an allocation failed, possibly instead of any of these.
 pub fn from_json(alloc: Global, bytes: &[u8]) -> Result<(Problem, Certificate), BundleFault>
     ensures { IsReadingOf bytes.now result }
 {

@@ -83,7 +83,7 @@ fn list<T: Written>(alloc: Global, list: &[T]) -> Result<Value, AllocError>
     Ok(Value::Array(items))
 }
 
-/// Puts the list at the key, where it is not empty.
+/// Inserts the list at the key, unless it is empty.
 fn put_list<T: Written>(
     members: &mut Map<String, Value>,
     alloc: Global,
@@ -99,7 +99,7 @@ fn put_list<T: Written>(
     put(members, alloc, key, list(alloc, these)?)
 }
 
-/// Puts the number at the key, where there is one.
+/// Inserts the number at the key, if there is one.
 fn put_number(
     members: &mut Map<String, Value>,
     alloc: Global,

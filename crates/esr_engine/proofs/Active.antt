@@ -108,7 +108,7 @@ begin_pair h capacity = pair_of (taken h) (transaction_count h) capacity
 begin_capacity : (h : Schedule) → no_begin h ≡ false → taken h + 1 ≤ 1000000
 begin_capacity h capacity = let more : taken h + 2 ≤ 1000000 = begin_pair h capacity in omega (arith, more)
 
--- where an end is refused, its transaction is not active
+-- if an end is refused, its transaction is not active
 idle : (transaction_count active full : Bool) (why : Refusal) → (active ≡ true → transaction_count ≡ true) → first_reason (when (not transaction_count) NoSuchTransaction ∷ when (not active) AlreadyEnded ∷ []) ≡ Some why → (not active && full) ≡ false → full ≡ false
 idle true true full why is some capacity = absurd (cc)
 idle true false full why is some capacity = capacity
@@ -150,7 +150,7 @@ module _ (d : Distance) (h : Schedule) (o : IsWellFormed (accepted_in h)) where
       at None none = rw none (accepted_counts e none)
       at (Some why) some = counted_refused h e (reply_to d h e) why (rw some refl)
 
-  -- where there is room for the event, there is room for the ends afterwards
+  -- if the history has capacity for the event, it has capacity for the ends afterwards
   capacity_refused : (e : Event) (why : Refusal) → refusal d h e ≡ Some why → is_full h e ≡ false → taken h ≤ 1000000 → taken h + 1 ≤ 1000000
   capacity_refused (BeginUpdate l) why some capacity most = begin_capacity h capacity
   capacity_refused (BeginQuery l s) why some capacity most = begin_capacity h capacity

@@ -1,4 +1,5 @@
--- Whether a transaction is active, by the place of its end; and that there is always room for the end of one that is.
+-- A transaction is active depending on the index of its end; there is always capacity for the end of an active
+-- transaction.
 use Rattle.std.proofs.Common.{◌≡◌, ◌+◌, ℕ, List, [], ◌∷◌, ◌++◌, length-append, Bool, true, false, not, ◌&&◌, ◌||◌, ◌==◌, refl, sym, subst, ◌∙◌, ap, arith, Option, None, Some, is_some, map, filter, if◌then◌else◌}
 use Rattle.std.specs.List.{last_or, list_any, filter_map}
 use Rattle.std.proofs.lemmas.List.{take-append-le}

@@ -1,5 +1,5 @@
--- Why the ends of all that is active always have room, and accounts, reads for update and renewals are what they
--- are said to be.
+-- Proves that the ends of all active transactions always fit, and the contracts of counts, reads for update and
+-- renewals.
 
 pub mod Active
 pub mod Ends

@@ -35,7 +35,7 @@ settles true false false b none once = absurd (false≢true (sym none))
 settles false committed aborted b none once = absurd (false≢true b)
 
 module _ (h : Schedule) (o : IsWellFormed (accepted_in h)) (x : ItemId) where
-  -- where nobody who is active has written an item, its values are one
+  -- if no active transaction has written an item, its committed and current values are equal
   committed_is_current : ((u : ℕ) → holds_write (accepted_in h) u x.0 ≡ false) → committed_value h.opening (accepted_in h) x.0 ≡ current_value h.opening (accepted_in h) x.0
   committed_is_current no_one = last_written_agree (is_committed (accepted_in h)) (stays (accepted_in h)) (value_at h.opening x.0) x.0 (accepted_in h) (λ u wrote.
       let idle : (is_active (accepted_in h) u && true) ≡ false = rw wrote at (no_one u) in
@@ -52,7 +52,7 @@ module _ (h : Schedule) (o : IsWellFormed (accepted_in h)) (x : ItemId) where
         let found : unwrap_or (option_map (λ u. u == t.0) (writer (accepted_in h) x.0)) false ≡ true = (and_parts (nat_lt x.0 (length h.opening)) (unwrap_or (option_map (λ u. u == t.0) (writer (accepted_in h) x.0)) false) has).1 in
         and_parts (is_update (accepted_in h) t.0) (holds_write (accepted_in h) t.0 x.0) (sym (writer_is (accepted_in h) o x.0 t.0) ∙ found)
 
-    -- and where it has none, it holds none on an item that there is
+    -- if it has no lock, it holds no write on an existing item
     lock_not_held : nat_lt x.0 (length h.opening) ≡ true → has_lock h t.0 x.0 ≡ false → holds_write (accepted_in h) t.0 x.0 ≡ false
     lock_not_held inside none =
         let not_found : unwrap_or (option_map (λ u. u == t.0) (writer (accepted_in h) x.0)) false ≡ false = rw inside at none in
@@ -60,7 +60,7 @@ module _ (h : Schedule) (o : IsWellFormed (accepted_in h)) (x : ItemId) where
         let wrote : list_any (writes t.0 x.0) (accepted_in h) ≡ true = (and_parts (is_active (accepted_in h) t.0) (list_any (writes t.0 x.0) (accepted_in h)) held).1 in
         false≢true (sym not_found ∙ (writer_is (accepted_in h) o x.0 t.0 ∙ and_from (is_update (accepted_in h) t.0) (holds_write (accepted_in h) t.0 x.0) (o.writers t.0 x.0 wrote) held)))
 
-    -- a read leaves who holds the write lock
+    -- a read keeps the holder of the write lock
     read_keeps : (done' : List Event) → holds_write done' t.0 x.0 ≡ true → holds_write (done' ++ Read t x ∷ []) t.0 x.0 ≡ true
     read_keeps done' held = rw (active-kept done' (Read t x) refl (λ u. refl) (λ u. refl) t.0, any_push_no (writes t.0 x.0) done' (Read t x) refl) held
 

@@ -15,11 +15,11 @@ module _ (h : Schedule) (legal : IsLegal weighted h) (e : Event) (r : Reply) (is
   count_of : Counted h e r
   count_of = subst (Counted h e) (sym is) (counted weighted h (legal_orderly weighted h legal) e)
 
-  -- where a reply is an end, something was active
+  -- if a reply is an end, some transaction was active
   pub some_active : is_end r ≡ true → 0 < active
   some_active ends = let some : 0 < active_count (accepted_in h) = count_of.some ends in omega (arith, some, count)
 
-  -- the count goes by the reply, and there is room for the ends of what is active then
+  -- the count follows from the reply, and there is capacity for the ends of the transactions active then
   pub count_after : (g : Schedule) → g ≡ extended h e r → (after : ℕ) → after ≡ active_after active r → after ≡ active_count (accepted_in g)
   count_after g added after by_reply =
       by_reply ∙ (ap (λ n. active_after n r) count ∙ (sym count_of.count ∙ sym (ap (λ (k : Schedule). active_count (accepted_in k)) added)))

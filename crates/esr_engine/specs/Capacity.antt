@@ -1,4 +1,5 @@
--- When a history has room for an event beside the ends of what is active, and that it is never stuck.
+-- When a history has capacity for an event in addition to the ends of the active transactions, and that it is never
+-- stuck.
 use Rattle.std.specs.Prelude.{◌≡◌, ◌+◌, ◌-◌, ◌≤◌, ℕ, Bool, true, false, not, ◌&&◌, ◌||◌, nat_le, nat_lt, List, length, count_by}
 use Rattle.esr_base.specs.declared.limits.TheConstants.{MAX_ENTRIES, MAX_TRANSACTIONS}
 use Rattle.esr_base.specs.declared.numbers.TxnId.{TxnId}
@@ -26,7 +27,7 @@ transaction_count h = length (beginnings (accepted_in h))
 abbrev pub no_begin : Schedule → Bool
 no_begin h = nat_lt MAX_ENTRIES (taken h + 2) || nat_le MAX_TRANSACTIONS (transaction_count h)
 
--- whether there is no room for an event: the end of an active transaction always has some
+-- whether the history has no capacity for an event; it always has for the end of an active transaction
 abbrev pub is_full : Schedule → Event → Bool
 is_full h (BeginUpdate limit) = no_begin h
 is_full h (BeginQuery limit strict) = no_begin h

@@ -21,7 +21,7 @@ after h e = extended h e (reply_to weighted h e)
 abbrev pub has_lock : Schedule → ℕ → ℕ → Bool
 has_lock h t x = nat_lt x (length h.opening) && unwrap_or (option_map (λ u. u == t) (writer (accepted_in h) x)) false
 
--- the write that takes the lock: of the committed value, which is the current one where nobody holds it
+-- the write that takes the lock, with the committed value, which is the current one if no transaction holds the lock
 abbrev pub lock_event : Schedule → TxnId → ItemId → Event
 lock_event h t x = Write t x (if nat_lt x.0 (length h.opening) then committed_value h.opening (accepted_in h) x.0 else pos 0)
 
@@ -33,7 +33,7 @@ locked h t x = if has_lock h t.0 x.0 then h else after h (lock_event h t x)
 abbrev pub lock_refused : Schedule → TxnId → ItemId → Bool
 lock_refused h t x = if has_lock h t.0 x.0 then false else is_refusal (reply_to weighted h (lock_event h t x))
 
--- the reply: that of the write where it is refused, else that of the read
+-- the reply to the write if it is refused, else to the read
 abbrev pub reply_for_update : Schedule → TxnId → ItemId → Reply
 reply_for_update h t x =
     if lock_refused h t x then reply_to weighted h (lock_event h t x) else reply_to weighted (locked h t x) (Read t x)
@@ -47,10 +47,10 @@ abbrev pub IsHeldValue : Schedule → Schedule → TxnId → ItemId → Reply �
 IsHeldValue old new t x (Value v) = (v ≡ current_value old.opening (accepted_in old) x.0) × (holds_write (accepted_in new) t.0 x.0 ≡ true)
 IsHeldValue old new t x _ = ⊤
 
--- there are not two entries left beside the ends
+-- fewer than two entries are left in addition to the reserved ends
 abbrev pub no_pair : Schedule → Bool
 no_pair h = nat_lt MAX_ENTRIES (taken h + 2)
 
--- where memory was refused nothing has changed, but that the lock may have been taken
+-- after a failed allocation nothing has changed, except that the lock may have been taken
 abbrev pub IsPartlyDone : Schedule → Schedule → TxnId → ItemId → Type 0
 IsPartlyDone old new t x = (new ≡ old) ⊎ (new ≡ locked old t x)

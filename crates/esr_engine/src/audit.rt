@@ -1,5 +1,6 @@
-//! Audits by an index that lives with the engine: who committed and what updates did is read once, and extended by what is new, so that an
-//! audit of a long history costs what is near its query.
+//! Audits queries with an index that the engine owns. The index reads commits and the accesses of updates once, and is
+//! extended by the new entries, so that the cost of an audit depends on the entries near its query, not on the length
+//! of the history.
 
 ghost use Rattle.std.specs.Prelude.{◌≡◌, ◌↔◌, false, IfOk, IsErrOf};
 ghost use Rattle.esr_items.specs.Weights.{weighted};
@@ -12,11 +13,11 @@ use esr_history::TxnId;
 use std::alloc::Global;
 
 impl EmbeddedEngine {
-    /// The audit of a committed query.
+    /// Audits a committed query.
     ///
     /// # Errors
-    /// `NotACommittedQuery` exactly where the transaction is no query or has not committed, `NoMemory` if an allocation
-    /// failed.
+    /// `NotACommittedQuery` if and only if the transaction is not a query or has not committed; `NoMemory` if an
+    /// allocation failed.
     pub fn audit(&mut self, alloc: Global, q: TxnId) -> Result<Finding, AuditError>
         ensures same { self.new ≡ self.old }
         ensures query { IfOk result (λ f. f.query ≡ q) }

@@ -1,9 +1,9 @@
-//! The engine's events and its counts.
+//! Executes the engine's events, and counts its entries and transactions.
 //!
-//! Beside the machine it keeps the weights, since a history owns its metric and a renewal needs it anew; how many
-//! transactions are active; and the index that audits share. The active ones are counted by replies: a `Begun` is one
-//! more, a `Committed` or an `Aborted` one less. Whether an event has room is a sum and a comparison; only an end that
-//! comes where nothing is left is looked up.
+//! In addition to the machine, the engine keeps the weights, since a history owns its metric and a renewal needs a new
+//! one; the number of active transactions; and the index that audits share. The number follows from the replies: a
+//! `Begun` adds one, a `Committed` or an `Aborted` subtracts one. The test of the capacity for an event is a sum and a
+//! comparison. Only for an end in a full history the engine looks up whether its transaction is active.
 
 ghost use Rattle.std.specs.Prelude.{◌≡◌, ◌+◌, ◌<◌, ◌≤◌, ◌↔◌, true, length, All, IfOk, OnErr, IsErrOf};
 ghost use Rattle.esr_base.specs.declared.limits.TheConstants.{MAX_ENTRIES, MAX_ITEMS, MAX_TRANSACTIONS};
@@ -27,7 +27,7 @@ use thiserror::Error;
 /// Why an event is not answered. No entry was made then, and nothing has changed.
 #[derive(Clone, Copy, PartialEq, Eq, Debug, Error)]
 pub enum Unanswered {
-    /// There is no room for the event beside the ends of what is active, or no number for a begin.
+    /// The history has no entry left for the event in addition to the reserved ends, or no number for a begin.
     #[error("history full")]
     Full = 12,
     /// An allocation failed.
@@ -35,7 +35,8 @@ pub enum Unanswered {
     NoMemory = 13,
 }
 
-/// What a history has, and how much there may still be of it beside the ends of what is active. C reads it as it is.
+/// The size of a history, and the capacity left in addition to the reserved ends of active transactions. C reads it
+/// directly.
 #[repr(C)]
 #[derive(Clone, Copy, PartialEq, Eq, Debug)]
 pub struct Counts {
@@ -92,7 +93,7 @@ impl EmbeddedEngine {
         }
     }
 
-    /// Whether there is no room for an event beside the ends of what is active.
+    /// Returns whether the history has no capacity for an event in addition to the ends of the active transactions.
     #[inline(always)]
     fn is_full(&self, event: Event) -> bool
         ensures { result ≡ is_full self.now event }
@@ -116,11 +117,12 @@ impl EmbeddedEngine {
         }
     }
 
-    /// Answers an event as the machine does, and adds both to the history. Every answer adds one entry, refusals too.
+    /// Executes an event and adds it with its reply to the history: one entry, also for a refusal.
     ///
     /// # Errors
-    /// `Full` exactly where there is no room for the event beside the ends of what is active, and never for an end of
-    /// an active transaction; `NoMemory` if an allocation failed. Then nothing has changed.
+    /// `Full` if and only if the history has no capacity for the event in addition to the ends of the active
+    /// transactions; never for an end of an active transaction. `NoMemory` if an allocation failed. In both cases
+    /// nothing has changed.
     #[inline(always)]
     pub fn step(&mut self, event: Event) -> Result<Reply, Unanswered>
         ensures reply { IfOk result (λ reply. reply ≡ reply_to weighted self.old event) }
@@ -141,7 +143,7 @@ impl EmbeddedEngine {
         }
     }
 
-    /// Answers a read as `step` does, in a call of its own that is compiled into its callers down to the log.
+    /// Executes a read, like `step`. This separate method is inlined into its callers down to the log.
     ///
     /// # Errors
     /// Those of `step`.
@@ -165,7 +167,7 @@ impl EmbeddedEngine {
         }
     }
 
-    /// Answers a write as `step` does, likewise.
+    /// Executes a write, like `step`. This separate method is inlined into its callers down to the log.
     ///
     /// # Errors
     /// Those of `step`.

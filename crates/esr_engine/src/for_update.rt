@@ -1,8 +1,8 @@
-//! A read by an update that is going to write what it read.
+//! Reads an item for an update that is going to write it.
 //!
-//! Two updates that both read an item and then write it are blocked by each other for good, since a read takes a lock
-//! that a write of the other waits for. So the write lock is taken first, by a write of the value that the item has,
-//! which is charged nothing; then the read tells it. Both are entries, as if they had been given one by one.
+//! Two updates that both read an item and then write it block each other forever: each write waits for the lock that
+//! the other's read took. So this operation takes the write lock first, by a write of the item's value, which incurs no
+//! charge, and then reads the value. Both are entries, as if they were separate events.
 
 ghost use Rattle.std.specs.Prelude.{◌≡◌, ◌↔◌, true, IfOk, IfErr, OnOk, IsErrOf};
 ghost use Rattle.esr_engine.specs.ForUpdate.{reply_for_update, after_for_update, has_lock, lock_event, IsHeldValue, IsPartlyDone, no_pair};
@@ -25,7 +25,7 @@ impl EmbeddedEngine {
         }
     }
 
-    /// The write that takes the lock: of the value that committed transactions left, 0 where there is no such item.
+    /// Returns the write that takes the lock: of the item's committed value, or of 0 if there is no such item.
     fn lock_event(&self, t: TxnId, x: ItemId) -> Event
         ensures { result ≡ lock_event self.now t x }
     {

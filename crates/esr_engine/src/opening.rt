@@ -1,5 +1,5 @@
-//! How an engine opens. Values and weights are looked at before memory is asked for, so that each fault of theirs comes
-//! exactly where it is.
+//! Opens engines. Values and weights are checked before anything is allocated, so that each of their errors is returned
+//! if and only if it is present.
 
 ghost use Rattle.std.specs.Prelude.{◌≡◌, ◌<◌, ◌≤◌, ◌↔◌, ◌⊎◌, [], length, map, All, Any, IsTrue, IfOk, IfErr, IsErrOf};
 ghost use Rattle.esr_base.specs.declared.limits.TheConstants.{MAX_ITEMS};

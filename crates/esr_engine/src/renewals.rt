@@ -1,7 +1,7 @@
-//! Going on from the committed values with an empty history.
+//! Continues from the committed values with an empty history.
 //!
-//! Where nothing is active the machine is renewed, and keeps its memory. Where something is, a new engine takes its
-//! place: what is active ends with the history, and so the call needs no entry, and an error leaves all as it was.
+//! If no transaction is active, the machine is renewed and keeps its memory. Otherwise a new engine replaces it: active
+//! transactions end with the history. So the call needs no entry, and an error changes nothing.
 
 ghost use Rattle.std.specs.Prelude.{◌≡◌, ◌↔◌, true, List, IfOk, OnOk, OnErr, IsErrOf};
 ghost use Rattle.esr_items.specs.Weights.{weighted};
@@ -25,13 +25,13 @@ impl EmbeddedEngine {
         self.machine.committed_values(alloc)
     }
 
-    /// Goes on with an empty history, whose opening values are the committed values of the old one, and the weights
-    /// those of the old one. Transactions are numbered from 1 again. Whatever the new history comes to be, the committed
-    /// updates of the old one and then its own are serializable as one.
+    /// Replaces the history by an empty one, with the committed values as opening values and the same weights.
+    /// Transactions are numbered from 1 again. However the new history continues, its committed updates after those of
+    /// the old one are serializable as one history.
     ///
     /// # Errors
-    /// `TransactionActive` exactly where a transaction is active, else `NoMemory` if an allocation failed. Then nothing
-    /// has changed.
+    /// `TransactionActive` if and only if a transaction is active; otherwise `NoMemory` if an allocation failed. In
+    /// both cases nothing has changed.
     pub fn renew(&mut self, alloc: Global) -> Result<(), RenewError>
         ensures ok { OnOk result (self.new ≡ renewed self.old self.old.weights) }
         ensures serializable { OnOk result ((later : List Entry) → IsLegal weighted (along self.new later)

@@ -326,7 +326,7 @@ impl Searches {
         Ok(None)
     }
 
-    /// Returns the residual capacity of the path that was found, but at most `due`; 0 if there is no path.
+    /// Returns the residual capacity of the path that was found, but at most `due`; 0 without a path.
     fn least_capacity(
         &self,
         field: &Field,

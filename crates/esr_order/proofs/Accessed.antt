@@ -75,7 +75,7 @@ accesses_kept t (e ∷ es) =
 accesses_along : (t : ℕ) (es : List Entry) → filter_map access_in (filter_map (slice_get es) (places_from accepted_txn t 0 es)) ≡ accesses_in es t
 accesses_along t es = ap (filter_map access_in) (entries_from accepted_txn t [] es) ∙ accesses_kept t es
 
--- on the way back along a transaction: what the places behind gave, the last first
+-- on the way back along a transaction: the accesses of the entries visited so far, in reverse order
 pub record IsBackTo (es : List Entry) (t : ℕ) (accesses : List Access) (next : Option ℕ) : Type 0 where
   pub places : List ℕ
   pub walk : IsWalk accepted_txn t es places next

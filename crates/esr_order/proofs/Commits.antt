@@ -82,7 +82,7 @@ commit_key e u is = at (is_refusal e.reply) e.event is
     at false (Commit t) f = eq-eqb t.0 u.0 (ap (λ (t : TxnId). t.0) (same_Some t u f))
     at false (Abort t) f = absurd (cc)
 
--- an entry that ends a transaction commits it, or commits nobody
+-- an entry that ends a transaction commits it, or commits none
 end_commit : (e : Entry) (t : ℕ) → is_key (accepted_end e) t ≡ true → is_some (commit_in e) ≡ true → (u : TxnId) × (commit_in e ≡ Some u) × (u.0 ≡ t)
 end_commit e t key some = at (is_refusal e.reply) e.event key some
   where

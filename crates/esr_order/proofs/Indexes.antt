@@ -1,4 +1,4 @@
--- What an index tells of the history whose entries it has read.
+-- What an index contains of the history whose entries it has read.
 use Rattle.std.proofs.Common.{◌≡◌, ℕ, zero, suc, ◌+◌, ◌-◌, ◌<◌, refl, inl, inr, subst, true, drop, List, [], ◌∷◌, ◌++◌, length, get_or, take, map, filter_map, slice_get, Some, sym, ap, ◌∙◌, arith}
 use Rattle.std.proofs.lemmas.Option.{slice_get_within, get_or_from_slice_get}
 use Rattle.std.proofs.lemmas.List.{take_more, take_all, length-take, get_or-take, get_or-drop}

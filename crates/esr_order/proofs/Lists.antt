@@ -1,4 +1,4 @@
--- Lists: what is in those that are made of others, where an element is, and two that pass a test together.
+-- Lists: the members of lists built from others, the index of an element, and pairs of elements that pass a test.
 use Rattle.std.proofs.Common.{◌≡◌, ℕ, zero, suc, ◌<◌, ◌≤◌, slice_set, arith, Bool, true, false, List, [], ◌∷◌, ◌++◌, take, drop, append-nil, length, get_or, refl, sym, ◌∙◌, ap, inl, inr, ⊎_elim, filter, map, cond, subst, Option, Some, None}
 use Rattle.std.specs.Prelude.{⊤}
 use Rattle.std.specs.List.{list_any, filter_map, cons_option, slice_get, AllByRecursion}

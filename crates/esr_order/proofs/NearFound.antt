@@ -19,7 +19,7 @@ map_agree : (f g : ℕ → ℕ) (xs : List ℕ) → ((x : ℕ) → In x xs → f
 map_agree f g [] same = refl
 map_agree f g (x ∷ xs) same = ap (λ y. y ∷ map f xs) (same x (inl refl)) ∙ ap (λ ys. g x ∷ ys) (map_agree f g xs (λ y j. same y (inr j)))
 
--- what passes from the beginning on stays where it is
+-- an initial segment of elements that pass keeps its indices in the filtered list
 first_kept : (p : ℕ → Bool) (n : ℕ) (xs : List ℕ) → n ≤ length xs → ((i : ℕ) → i < n → p (nth xs i) ≡ true) → (n ≤ length (filter p xs)) × ((i : ℕ) → i < n → nth (filter p xs) i ≡ nth xs i)
 first_kept p zero xs l pass = (omega arith, λ i m. absurd (omega arith))
 first_kept p (suc n) [] l pass = absurd (omega arith)

@@ -76,7 +76,7 @@ module _ (d : Distance) (h : Schedule) (q : ℕ) (legal : IsLegal d h) where
       }),
     )
 
-    -- all writers of what was read are among them
+    -- they include all writers of the items that were read
     pub near_writers : (o : Operation) → In o (reads_by h q) → filter (has_written h o.item) us ≡ filter (has_written h o.item) (updates_of h q)
     near_writers o i = ap (filter (has_written h o.item)) near.in_order ∙ twice (updates_of h q) (λ u j. In-Contains (updates_of h q) u j)
       where

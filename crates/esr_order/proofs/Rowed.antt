@@ -16,7 +16,7 @@ length-dropped zero xs l = omega arith
 length-dropped (suc n) [] l = absurd (omega arith)
 length-dropped (suc n) (x ∷ xs) l = let rest = length-dropped n xs (omega arith) in omega (arith, rest)
 
--- a row stays where more is put behind all rows
+-- a row is unchanged if the list grows at its end
 row_stays : (list more : List Access) (s : RowSpan) → IsWithin (length list) s → row_in (list ++ more) s ≡ row_in list s
 row_stays list more s in_list =
     let rest = length-dropped s.begin list (omega (arith, in_list.ordered, in_list.inside)) in
@@ -37,16 +37,16 @@ row_last list more n is = ap (take (n - length list)) (drop-append_seam list mor
 abbrev pub put : List RowSpan → ℕ → ℕ → ℕ → List RowSpan
 put spans t b n = slice_set spans t (record { begin = b; end = n })
 
--- a list that more was put behind, with rows in what it was
+-- a list that has grown at its end, with rows in its old part
 module _ (list more grown : List Access) (grew : grown ≡ list ++ more) (spans : List RowSpan) (all : All (IsWithin (length list)) spans) (rows : List (List Access)) (seen : map (row_in list) spans ≡ rows) where
   rows_in : map (row_in grown) spans ≡ rows
   rows_in = ap (λ l. map (row_in l) spans) grew ∙ (rows_stay list more spans all ∙ seen)
 
-  -- no row of what is more
+  -- no new row
   pub row_unput : (u : ℕ) → row_at (map (row_in grown) spans) u ≡ row_at rows u
   row_unput u = ap (λ rs. row_at rs u) rows_in
 
-  -- a row of it
+  -- one new row
   module _ (t b n : ℕ) (starts : b ≡ length list) (ends : n ≡ length grown) (there : t < length rows) where
     last : row_in grown (record { begin = b; end = n }) ≡ more
     last = ap (λ l. take (n - b) (drop b l)) grew ∙ (ap (λ k. take (n - k) (drop k (list ++ more))) starts ∙ row_last list more n (ends ∙ ap length grew))

@@ -1,4 +1,4 @@
--- What a transaction did that has committed does not change as the history goes on.
+-- The accesses of a committed transaction do not change as the history grows.
 use Rattle.std.proofs.Common.{◌≡◌, ◌⊎◌, ◌≤◌, ℕ, Bool, true, false, List, [], ◌∷◌, ◌++◌, refl, sym, ◌∙◌, ap, subst, inl, inr, filter, map, eqb, append-nil, take, drop}
 use Rattle.std.proofs.lemmas.Bool.{true≢false, ne_eqb, or_left}
 use Rattle.std.proofs.lemmas.List.{take-take, take-append-drop}
@@ -74,7 +74,7 @@ settled : (d : Distance) (h : Schedule) (rest : List Entry) (t : ℕ) → IsLega
 settled d h rest t legal over =
     legal_induction_after d (IsSettled h t) (λ g e r is was. settled_step d h t g was e r is) h rest (legal_parts d (empty_schedule h) h.entries rest legal).1 (record { over = over; same = refl })
 
--- what was done by t, which has committed in the first entries, stands in these
+-- if t has committed within the first n entries, these contain all its accesses
 settled_first : (d : Distance) (h : Schedule) → IsLegal d h → (n t : ℕ) → is_committed (accepted (take n h.entries)) t ≡ true
     → (is_committed (accepted_in h) t ≡ true) × (accesses_in h.entries t ≡ accesses_in (take n h.entries) t)
 settled_first d h legal n t over =

@@ -87,7 +87,7 @@ single [] i l j = absurd j
 single (x ∷ []) i l j = ⊎_elim (λ e. ap Some e) (λ b. absurd b) j
 single (x ∷ y ∷ xs) i l j = absurd (omega arith)
 
--- the end of a transaction is where it has an entry that ends it
+-- the entry that ends a transaction is the one at which the transaction ends
 pub end_is : (d : Distance) (h : Schedule) → IsLegal d h → (t i : ℕ) (e : Entry) → slice_get h.entries i ≡ Some e → is_key (accepted_end e) t ≡ true → last_place accepted_end t h.entries ≡ Some i
 unfolding HasOneEnd
 end_is d h legal t i e at key =

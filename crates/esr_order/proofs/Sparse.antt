@@ -22,7 +22,7 @@ twice g f (x ∷ xs) = at (g x) (twice g f xs)
     at None rest = rest
     at (Some y) rest = ap (cons_option (f y)) rest
 
--- a rising list has all that a range gives, where what it lacks gives nothing
+-- an ascending list in a range yields the same as the range if the numbers that it lacks yield nothing
 sub_range : {Y : Type 0} (g : ℕ → Option Y) (a m : ℕ) (xs : List ℕ) → Pairs (λ i j. i < j) xs → ((i : ℕ) → In i xs → a ≤ i) → ((i : ℕ) → In i xs → i < a + m) → ((i : ℕ) → a ≤ i → i < a + m → (In i xs → ⊥) → g i ≡ None)
     → filter_map g xs ≡ filter_map g (range_with_len a m)
 sub_range g a zero [] rise low high none = refl

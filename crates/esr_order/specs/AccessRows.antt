@@ -5,7 +5,7 @@ use Rattle.esr_history.specs.Events.{accepted, is_committed}
 use Rattle.esr_order.specs.Scans.{Access, accesses_in}
 use Rattle.esr_order.specs.declared.rows.RowSpan.{RowSpan}
 
--- where a row lies, in a list of so many
+-- the bounds of a row, in a list of n accesses
 pub record IsWithin (n : ℕ) (span : RowSpan) : Type 0 where
   pub ordered : span.begin ≤ span.end
   pub inside : span.end ≤ n
@@ -14,7 +14,7 @@ pub record IsWithin (n : ℕ) (span : RowSpan) : Type 0 where
 abbrev pub row_in : List Access → RowSpan → List Access
 row_in accesses span = take (span.end - span.begin) (drop span.begin accesses)
 
--- the row of transaction t, empty where there is none
+-- the row of transaction t, empty if there is none
 abbrev pub row_at : List (List Access) → ℕ → List Access
 row_at rows t = slice_index_or rows t []
 

@@ -45,7 +45,7 @@ update_at h q i = slice_index_or (updates_of h q) i 0
 abbrev pub last_written : Schedule → ℕ → ℕ → ℕ → Option ℤ
 last_written h q x i = last_of (values_by h x (update_at h q i))
 
--- the same of a list of updates
+-- the update at a position in a list of updates
 abbrev pub nth : List ℕ → ℕ → ℕ
 nth us i = slice_index_or us i 0
 
@@ -63,13 +63,13 @@ chain_of h q x = some_chain (chain_from (last_written h q x) (length (updates_of
 abbrev pub last_in : List UpdateOperation → ℕ → Option ℤ
 last_in writes i = last_of (map (λ s. s.value) (filter (λ s. s.place == i) writes))
 
--- the same of the operations of updates
+-- the last value that the update at position i wrote to item x
 abbrev pub last_by_update : List UpdateOperation → ℕ → ℕ → Option ℤ
 last_by_update operations x i = last_in (filter (λ s. s.writes && (s.item == x)) operations) i
 
 -- A chain that goes back, from the last writer to the first.
 
--- the writer that it came by last
+-- the writer that was added last
 abbrev pub latest_writer : Chain → Option ℕ
 latest_writer c = slice_get c.writers (length c.writers - 1)
 

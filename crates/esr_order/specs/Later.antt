@@ -1,5 +1,5 @@
--- What is kept of some operations while those before them are gone through, from the last to the first: the chain of
--- each item, and the readers of each item until its next write.
+-- The state of a scan of operations from the last to the first: the chain of each item, and the readers of each item
+-- before its next write.
 use Rattle.std.specs.Prelude.{◌≡◌, ◌<◌, ◌==◌, ℕ, List, [], ◌∷◌, ◌++◌, Option, None, Some, length, slice_index_or, if◌then◌else◌}
 use Rattle.esr_order.specs.UpdateOperations.{UpdateOperation}
 use Rattle.esr_order.specs.Chains.{Chain, latest_writer, with_write}
@@ -20,7 +20,7 @@ chain_back x [] = no_one
 chain_back x (s ∷ operations) =
     if s.item == x then with_operation (chain_back x operations) s else chain_back x operations
 
--- the positions of the reads of item x that no write of it comes before, back from the last to the first
+-- the positions of the reads of item x that precede all its writes, from the last to the first
 abbrev pub readers_of : ℕ → List UpdateOperation → List ℕ
 readers_of x [] = []
 readers_of x (s ∷ operations) =

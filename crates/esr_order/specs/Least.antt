@@ -6,7 +6,7 @@ use Rattle.esr_history.specs.Serial.{is_before}
 use Rattle.esr_history.specs.Queries.{updates_of, must, cost}
 use Rattle.esr_order.specs.Placements.{is_among}
 
--- what is left of a list where some of its members are dropped
+-- all sublists of a list
 abbrev pub parts : List ℕ → List (List ℕ)
 parts [] = [] ∷ []
 parts (u ∷ us) = map (λ part. u ∷ part) (parts us) ++ parts us

@@ -1,4 +1,4 @@
--- What an order tells of a query.
+-- The contents of the order of a query.
 use Rattle.std.specs.Prelude.{◌≡◌, ◌↔◌, ◌<◌, ◌≤◌, ◌+◌, ℕ, Bool, IsTrue, List, Option, None, Some, All, AllPairs, Contains, length, filter, map, slice_get, slice_index_or}
 use Rattle.esr_base.specs.declared.numbers.TxnId.{TxnId}
 use Rattle.esr_base.specs.declared.limits.TheConstants.{MAX_TRANSACTIONS}
@@ -53,7 +53,7 @@ pub record IsOrderOf (h : Schedule) (q : ℕ) (o : Ordered) : Type 0 where
   pub neighbours : (x i : ℕ) (c : Chain) → chain_at o x ≡ Some c → i + 1 < length c.writers
       → Contains o.before (slice_index_or c.writers i 0, slice_index_or c.writers (i + 1) 0)
 
--- The same of some updates, us, of which all that q must see are among them.
+-- The same definitions for a subset `us` of the updates that includes all that q must see.
 
 pub record IsClosedOn (h : Schedule) (q : ℕ) (us : List ℕ) (S : ℕ → Bool) : Type 0 where
   pub downward : (u v : ℕ) → Contains us u → Contains us v → IsTrue (is_before h u v) → IsTrue (S v) → IsTrue (S u)

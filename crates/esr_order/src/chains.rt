@@ -18,8 +18,8 @@ impl Links {
         }
     }
 
-    /// The same, with room for so many writers: the chains of many items are filled side by side, and what each has
-    /// more than it needs adds up.
+    /// Returns an empty chain with capacity for this many writers. The chains of many items grow in turns, and the
+    /// unused capacity of each would add up.
     pub(crate) fn with_capacity_for(alloc: Global, writers: usize) -> Result<Links, AllocError>
         ensures { IfOk result (λ links. seen_links links ≡ record { writers = []; values = [] }) }
     {

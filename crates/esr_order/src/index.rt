@@ -1,11 +1,10 @@
-//! Who committed in a history, and what the updates among them did, kept while it grows.
+//! Indexes the commits of a growing history, and the accesses of the committed updates.
 //!
-//! An audit needs the transactions that committed, in the order of their commits, and what the updates among them read and
-//! wrote. To list the first anew is to look at how each transaction ended, and to put the ends in order; to list the
-//! second is a walk along the links of each. So who audits one query after another keeps an index, which reads
-//! each entry of the log once, lends it to each audit, and extends it by the entries that are new. It does not hold the
-//! history: that it is the index of the entries that it has read is a relation (`IsIndexOf`), which longer logs keep,
-//! since nothing of it depends on what is done later.
+//! An audit needs the committed transactions in the order of their commits, and the accesses of the updates among them.
+//! Without an index it looks at the end of each transaction and sorts the ends, and it walks along the links of each
+//! update. A caller that audits several queries keeps an index instead. The index reads each entry of the log once, is
+//! lent to each audit, and is extended by the new entries. It does not hold the history: `IsIndexOf` relates it to the
+//! entries that it has read. The relation holds for longer logs too, since later entries do not affect it.
 use crate::rows::AccessRows;
 use crate::scan::push_committer;
 use esr_history::{History, TxnId};

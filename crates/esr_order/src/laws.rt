@@ -1,5 +1,5 @@
-//! Laws of placements and closed sets. A law is the contract of a function with an empty body, since what stands in
-//! `specs/` alone is not proved.
+//! Proves laws of placements and closed sets. A law is the contract of a function with an empty body, since files in
+//! `specs/` only define and prove nothing.
 
 ghost use Rattle.esr_order.specs.Statements.{LawOfLeastSets, LawOfListedSets, LawOfLongerHistories, LawOfPlacements};
 

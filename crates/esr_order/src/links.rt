@@ -1,11 +1,10 @@
 //! The chain of an item as it is kept.
 ghost use Rattle.std.specs.Prelude.{◌≡◌, ◌-◌, length, slice_get};
 
-/// The updates that wrote an item, by their positions in commit order, and the
-/// values that they wrote last.
+/// The updates that wrote an item, by their positions in commit order, and the last value that each wrote.
 ///
-/// The last of the writers stands beside the list too: whoever gathers chains asks for it at each operation, and the
-/// ends of a thousand lists are not at hand in a processor, where these few bytes are.
+/// `latest` repeats the last writer: the scan that gathers chains reads it for each operation, and the ends of a
+/// thousand lists are rarely in a processor's cache, whereas these few bytes are.
 #[derive(Drop)]
 pub struct Links {
     pub writers: Vec<u32>,

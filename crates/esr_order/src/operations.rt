@@ -1,13 +1,14 @@
-//! What updates did, gone through from the last update to the first: the pairs that tie them, and the chains.
+//! Scans the operations of updates from the last update to the first, and gathers the pairs of conflicting updates and
+//! the chains.
 //!
-//! It keeps for each item its writers so far and the readers until the next of them. An operation is paired with the
-//! next write of its item, and a write with the reads until then. Two operations that conflict are in the log in the
-//! order in which their updates are in commit order, so update by update gives the pairs of the whole log. On the way
-//! back an update's pairs are those in which it comes first: they are made together, only they are sorted, and in the
-//! end the list is turned round; forward, all pairs would have to be sorted.
+//! For each item the scan keeps the writers so far and the readers before the next of them. An operation is paired with
+//! the next write of its item, and a write with the reads before that write. Two conflicting operations are in the log
+//! in the commit order of their updates, so a scan by updates yields the pairs of the whole log. A backward scan yields
+//! all pairs with the same first update together: only these are sorted, and at the end the list is reversed. A forward
+//! scan would have to sort all pairs.
 //!
-//! Room is made once, by counts of the search: where a thousand lists grew side by side, each smaller list that one had
-//! been was left behind in the heap. Nothing rests on the counts.
+//! Capacity is reserved once, by the counts of the search: when a thousand lists grew in turns, each growth left an
+//! unused block in the heap. The counts do not affect the result.
 ghost use Rattle.std.specs.Prelude.{◌≡◌, ◌<◌, ◌≤◌, ◌++◌, [], ℕ, List, IfOk, OnOk, All, AllPairs, filter, length, map};
 ghost use Rattle.std.specs.List.{range_with_len};
 ghost use Rattle.esr_base.specs.declared.limits.TheConstants.{MAX_TRANSACTIONS};
@@ -89,7 +90,7 @@ fn put_turn(
     Ok(())
 }
 
-/// A chain without writers for each item, with room for so many, and none that reads it.
+/// Returns an empty chain for each item, with the given capacity for writers, and an empty list of readers.
 fn nothing_later(
     alloc: Global,
     items: u32,
@@ -168,8 +169,8 @@ fn gather_into<M: Metric>(
     Ok(())
 }
 
-/// Gathers what is needed of updates in one pass back over them. For each item there may be
-/// a count of writers to make room for.
+/// Gathers the pairs and chains of updates in one backward scan. `writers` has the capacities to reserve for the chains
+/// of the items, or is empty.
 pub fn gather<M: Metric>(
     alloc: Global,
     history: &History<M>,
@@ -201,7 +202,7 @@ pub fn gather<M: Metric>(
         &mut readers,
         &mut pairs,
     )?;
-    // the list stays as long as the order does, beside those of other workers
+    // the list lives as long as the order, together with those of other workers
     pairs.shrink_to_fit();
     Ok(PairsAndChains { pairs, chains })
 }

@@ -37,10 +37,10 @@ use thiserror::Error;
 /// Why there is no order of a query.
 #[derive(Clone, Copy, PartialEq, Eq, Debug, Error)]
 pub enum OrderError {
-    /// The transaction is no query, or has not committed.
+    /// The transaction is not a query, or has not committed.
     #[error("not a committed query")]
     NotACommittedQuery,
-    /// Memory was refused.
+    /// An allocation failed.
     #[error("out of memory")]
     NoMemory,
 }
@@ -83,8 +83,8 @@ fn first_positions(alloc: Global, n: usize) -> Result<Vec<u32>, AllocError>
     (0..n).map(|i| i as u32).collect(alloc)
 }
 
-/// The order among these updates, of which the first must be seen. For each item there may be a count of writers to
-/// make room for.
+/// Builds the order of these updates, of which the query must have seen the first ones. `writers` has the capacities to
+/// reserve for the chains of the items, or is empty.
 fn among<M: Metric>(
     alloc: Global,
     history: &History<M>,
@@ -115,7 +115,7 @@ fn among<M: Metric>(
     })
 }
 
-/// The order among the near updates of a query, beside the list of all that committed and rows of what they did.
+/// Builds the order of the near updates of a query, given all committed transactions and the rows of their accesses.
 fn near_with<M: Metric>(
     alloc: Global,
     history: &History<M>,
@@ -181,8 +181,8 @@ impl Order {
         Order::near_in(alloc, history, &committed, q)
     }
 
-    /// The same for a caller who has the list of the transactions that committed, in the order of
-    /// their commits (`committed`), so that it is made once for many queries.
+    /// Like `near`, for a caller that has the list of committed transactions in commit order, `committed`, which can
+    /// be reused for many queries.
     pub fn near_in<M: Metric>(
         alloc: Global,
         history: &History<M>,
@@ -198,7 +198,7 @@ impl Order {
         near_with(alloc, history, committed, &AccessRows::new(alloc), q)
     }
 
-    /// The same for a caller who keeps an index of the history, which has read it whole.
+    /// Like `near`, for a caller that keeps an index of the whole history.
     #[tactic(auto, using(crate::proofs::Indexes::index_whole, crate::proofs::Indexes::index_rows))]
     pub fn near_by_index<M: Metric>(
         alloc: Global,

@@ -1,15 +1,16 @@
-//! What updates that have committed read and wrote, kept while the history grows.
+//! Records the reads and writes of committed updates while the history grows.
 //!
-//! An update does nothing more once it has committed. So what it did is settled then: it is listed once, along the links
-//! of the log, and kept in a row by the update's number. An audit takes it from there, once to find who is near and once
-//! for pairs and chains, where 251 audits of one script walked along the links of 65,000 updates 251 times, from entry to
-//! entry. The rows lie in one list, one after another in the order of commits, which is the order in which audits go over
-//! them.
+//! An update does nothing after it has committed. So its accesses are fixed then: they are listed once, along the links
+//! of the log, and stored in a row by the update's number. An audit reads the row twice, to find the near updates and
+//! to gather pairs and chains. Without rows, 251 audits of one script walked along the links of 65,000 updates 251
+//! times, from entry to entry. The rows are consecutive in one list, in commit order, which is the order in which
+//! audits read them.
 //!
-//! A row that is not there, as that of a query, is listed along the links. So nothing rests on which rows there are, and
-//! with no rows at all (`AccessRows::new`) the same is found. Rejected: the pairs into each update, with a chain for each
-//! item, which are settled too. They take more room (4 bytes for a pair and 12 for a write, where a row takes 16 for an
-//! operation, and pairs have to be put in order anew for each query, since they are listed by their first update).
+//! A missing row, for example that of a query, is listed along the links. So the result does not depend on which rows
+//! exist, and an audit without any rows (`AccessRows::new`) finds the same. Rejected: storing the pairs into each
+//! update, with a chain for each item, which are fixed too. They take 4 bytes for a pair and 12 for a write, where a
+//! row takes 16 for an operation, and the pairs would have to be sorted for each query, since they are listed by their
+//! first update.
 use crate::accesses::{Access, list_accesses};
 use crate::scan::is_update;
 use esr_history::{History, TxnId};
@@ -61,7 +62,7 @@ impl AccessRows {
         }
     }
 
-    /// No rows, with room for so many accesses: a list that grows leaves each smaller list that it had been behind in
+    /// Returns no rows, with capacity for this many accesses. A growing list would leave each of its earlier blocks in
     /// the heap.
     pub fn with_capacity_for(alloc: Global, accesses: usize) -> Result<AccessRows, AllocError>
         ensures { IfOk result (λ rows. rows ≡ []) }
@@ -72,7 +73,7 @@ impl AccessRows {
         })
     }
 
-    /// The row of a transaction, empty where there is none.
+    /// Returns the row of a transaction, or an empty one if there is none.
     fn row(&self, t: TxnId) -> &[Access]
         ensures { result.now ≡ row_at self.now t.0 }
     {

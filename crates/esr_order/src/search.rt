@@ -1,13 +1,13 @@
-//! The search for the near updates of a query, back from what it read.
+//! Searches for the near updates of a query, backward from its reads.
 //!
-//! Whoever is before an update has a lower position, so one pass back over the query's updates serves. It keeps which
-//! items the query and the near updates found so far have read, and which these updates have written: an update is near
-//! where one of its operations conflicts with one of those.
+//! An update that precedes another has a lower position, so one backward scan of the query's updates suffices. The scan
+//! keeps the items that the query and the near updates found so far have read, and those that these updates have
+//! written: an update is near if one of its operations conflicts with one of those.
 //!
-//! Rejected: to follow the links of items from those that the query read (it looks at less where few updates are near,
-//! but comes by the entries of queries too, all over the log, and where all are near takes several times as long); and
-//! the connected part of the history first, of which an order is then cut (a second order, and a list of what is still
-//! to be visited).
+//! Rejected: following the links of items from those that the query read (it visits less if few updates are near, but
+//! it also visits the entries of queries, all over the log, and if all updates are near it takes several times as
+//! long); and finding the connected part of the history first and cutting an order out of it (it needs a second order
+//! and a worklist).
 ghost use Rattle.std.specs.Prelude.{◌≡◌, ◌<◌, ◌||◌, ℕ, true, false, IfOk, All, length, map};
 ghost use Rattle.std.specs.List.{list_any};
 ghost use Rattle.esr_history.specs.Queries.{updates_of, must};
@@ -83,7 +83,8 @@ impl Items {
         Ok(Items { read, written })
     }
 
-    /// Whether one of these accesses conflicts with what has been done: both are of one item, and one of them writes.
+    /// Returns whether one of these accesses conflicts with an earlier one: both access one item, and one of them
+    /// writes.
     fn conflict(&self, accesses: &[Access]) -> bool
         ensures { result ≡ list_any (conflicts_with (seen_items self.now)) accesses.now }
     {

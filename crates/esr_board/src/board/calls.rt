@@ -1,9 +1,9 @@
-//! What can be done with a board: making one, a claim, and a close that shows that each number was drawn once.
+//! Operations of a board: creation, claims, and a close that proves that each number was claimed once.
 //!
-//! No field tells the board's word, and a clause can name no value that nothing holds. So `close` says that there is a
-//! word, with lists of seats that were not given back, at which the rule holds, and that the answer is Ok where as many
-//! numbers were drawn as this word tells. Who has no pass has an empty list: with that fact it can be said where a
-//! close may refuse, only where fewer seats are given than the board has.
+//! No field contains the board's word, and a clause cannot name a value that no field holds. So `close` states that
+//! there is a word, with lists of seats that were not returned, for which the rule holds, and that the result is `Ok`
+//! if and only if as many numbers were claimed as this word counts. A seat without a pass has an empty list. So a close
+//! can be refused only if fewer seats are passed than the board has.
 ghost use Rattle.std.specs.Prelude.{◌≡◌, ℕ, ◌+◌, ◌<◌, ◌≤◌, ◌↔◌, ◌⊎◌, [], ◌∷◌, ◌++◌, map, All, IfSome, IfNone, IfOk, OnOk, OnErr, MatchResult, length, vec_len};
 ghost use Rattle.esr_board.specs.Claims.{count_past, HasClaimed, hand, EachOnceBelow, IsBoardAt};
 ghost use Rattle.esr_board.specs.Boards.{IsSeatOf, claimed, hand_of, all_claimed, jobs_of, seats_of};
@@ -48,11 +48,11 @@ fn split_seats(
 }
 
 impl Board {
-    /// A board of so many jobs, and its seats, of which no more are made later.
+    /// Creates a board of `jobs` jobs and all its seats.
     ///
     /// # Errors
-    /// `TooManyJobs` exactly where there are more than 65,535 jobs, and else `SeatsOutOfRange` exactly
-    /// where there are no seats or more than 64. `NoMemory` if allocation fails.
+    /// `TooManyJobs` if and only if there are more than 65,535 jobs; otherwise `SeatsOutOfRange` if and only if `seats`
+    /// is not from 1 to 64. `NoMemory` if an allocation failed.
     pub fn new(alloc: Global, jobs: u64, seats: u64) -> Result<(Board, Vec<BoardSeat>), BoardError>
         ensures board { IfOk result (λ made. (jobs_of made.0 ≡ jobs) × (seats_of made.0 ≡ seats)) }
         ensures seats { IfOk result (λ made. (vec_len made.1 ≡ seats)

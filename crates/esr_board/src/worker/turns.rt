@@ -1,9 +1,10 @@
-//! What one worker does: claims a job, audits its query, until no job is left. A worker that draws a job which is no
-//! committed query stops, and keeps what it drew; `audit_parallel` gives it none, but `work` is a public call with a
-//! list of its own.
+//! Runs one worker: it claims a job and audits its query, until no job is left. If a claimed job is not a committed
+//! query, the worker stops and keeps its claims. `audit_parallel` has no such jobs, but `work` is public and takes any
+//! list.
 //!
-//! A finding is large, since its problem and its certificate are, and who audits a whole history may want a line of each.
-//! So there is one loop of claims and audits, `claim_all`, for all that may be kept of a finding: what `T::from` makes of it.
+//! A finding is large because of its problem and its certificate, and a caller that audits a whole history may need
+//! only one line of each. So one loop, `claim_all`, claims and audits for every type that can be made of a finding by
+//! `T::from`.
 
 ghost use Rattle.std.specs.Prelude.{[], ◌≡◌, ◌≢◌, ℕ, ◌<◌, length, map, IfOk, IfErr, List, Any, false};
 ghost use Rattle.esr_history.specs.Queries.{is_committed_query};
@@ -21,8 +22,8 @@ use esr_items::Metric;
 use esr_order::Index;
 use std::alloc::Global;
 
-/// Claims jobs and audits their queries until no job is left, and keeps of each finding what `T` is of it. An index of the
-/// history is given, so that no audit reads it anew.
+/// Claims jobs and audits their queries until no job is left, and makes a `T` of each finding. The audits share the
+/// index of the history.
 fn claim_all<M: Metric, G: Gate, T: From<Finding> + Drop>(
     alloc: Global,
     history: &History<M>,
@@ -62,13 +63,12 @@ fn claim_all<M: Metric, G: Gate, T: From<Finding> + Drop>(
     Ok(Share { found })
 }
 
-/// Claims jobs and audits their queries until no job is left. The share has exactly the jobs that
-/// the seat drew in this call, in order, each with what is found of its query. It calls `enter` of
-/// the gate before each audit.
+/// Claims jobs and audits their queries until no job is left. The share has exactly the jobs that the seat claimed in
+/// this call, in order, each with the finding of its query. Calls `enter` of the gate before each audit.
 ///
 /// # Errors
-/// `NotACommittedQuery` only where a job was drawn that is no committed query. `NoMemory` if
-/// allocation fails. After an error the seat keeps what it drew.
+/// `NotACommittedQuery` only if a claimed job is not a committed query. `NoMemory` if an allocation failed. After an
+/// error the seat keeps its claims.
 pub fn work<M: Metric, G: Gate>(
     alloc: Global,
     history: &History<M>,

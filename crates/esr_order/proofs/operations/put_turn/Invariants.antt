@@ -6,7 +6,7 @@ use Rattle.esr_order.specs.Chains.{seen_links}
 use Rattle.esr_order.specs.Later.{turn_conflicts, AreLater}
 use Rattle.esr_order.proofs.operations.put_turn.Given as goal
 
--- what is kept with the accesses so far, and what they are tied to
+-- the chains and readers with the accesses so far, and the conflicts found for these
 abbrev pub invariant-loop-i : goal.invariant-loop-i
 invariant-loop-i l = (length l.chains ≡ length l.fn.chains) × (length l.readers ≡ length l.fn.readers)
     × ((steps : List UpdateOperation) → AreLater (map seen_links l.fn.chains) (map (λ r. r.items) l.fn.readers) steps
