@@ -1,4 +1,3 @@
--- Why `audit_history` keeps its contract: the goals that are left to a proof of ours.
 use Rattle.esr_audit.proofs.Stays.{findings_stay}
 use Rattle.esr_audit.proofs.audit.audit_history.Goals as goal
 

@@ -1,4 +1,3 @@
--- Why `audit_query` keeps its contract: the goals that are left to a proof of ours.
 use Rattle.std.proofs.Common.{◌≡◌, true, map, inl, inr}
 use Rattle.std.proofs.lemmas.Bool.{cases_Bool, and_parts}
 use Rattle.esr_base.specs.declared.numbers.TxnId.{TxnId}

@@ -1,4 +1,3 @@
--- Why `book_of` keeps its contract: the goals that are left to a proof of ours.
 use Rattle.std.proofs.Common.{rules, ◌≡◌, ◌∙◌, ap, map, List, [], ◌∷◌, refl}
 use Rattle.esr_base.specs.declared.numbers.TxnId.{TxnId}
 use Rattle.esr_audit.specs.Findings.{committed_queries, Finding}

@@ -1,4 +1,3 @@
--- Why `certify_with_steps` keeps its contract: the goals that are left to a proof of ours.
 use Rattle.std.proofs.Common.{subst, rules}
 use Rattle.esr_cert.specs.Problem.{Problem}
 use Rattle.esr_cert.specs.Network.{network}

@@ -1,4 +1,3 @@
--- Why `find` keeps its contract: the goals that are left to a proof of ours.
 use Rattle.std.proofs.Common.{◌≡◌, ◌∙◌, sym, subst, refl, ap, ℕ, map, filter_map, slice_get}
 use Rattle.esr_base.specs.declared.numbers.TxnId.{TxnId}
 use Rattle.esr_history.proofs.Laws.{import_bounds_distance}

@@ -1,4 +1,3 @@
--- Why `findings_of` keeps its contract: the goals that are left to a proof of ours.
 use Rattle.std.proofs.Common.{◌++◌, ◌∷◌, [], List, map, take, ap, ◌∙◌, sym, subst, All}
 use Rattle.std.proofs.lemmas.List.{map-append, take_more}
 use Rattle.std.proofs.lemmas.List.Elements.{All-push}

@@ -1,4 +1,3 @@
--- Why `chains_of` keeps its contract: the goals that are left to a proof of ours.
 use Rattle.std.proofs.Common.{◌≡◌, ◌<◌, ℕ, ℤ, List, Bool, All, true, map, length, option_map, ap, ◌∙◌, sym, subst, eqb, eq-eqb, true≢false, vec_len, arith}
 use Rattle.std.specs.List.{list_any}
 use Rattle.std.proofs.lemmas.Bool.{eqb-true}

@@ -1,4 +1,3 @@
--- Why `costs_of` keeps its contract: the goals that are left to a proof of ours.
 use Rattle.std.proofs.Common.{◌≡◌, ℕ, ℤ, pos, ◌∷◌, take, get_or, map, arith, ap, ◌∙◌, w64, to_z, of_z, take_all}
 use Rattle.std.proofs.lemmas.Int.{to_z-of_z}
 use Rattle.esr_audit.specs.Reads.{distance_sum}

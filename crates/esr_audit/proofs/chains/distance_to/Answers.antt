@@ -1,4 +1,3 @@
--- Why `distance_to` keeps its contract: the goals that are left to a proof of ours.
 use Rattle.std.proofs.Common.{◌≡◌, ℕ, ℤ, pos, ◌+◌, ◌≤◌, take, get_or, arith, ap, ◌∙◌, sym, sum_by, w64, to_z, of_z, take_all}
 use Rattle.std.proofs.lemmas.Int.{to_z-of_z}
 use Rattle.std.proofs.lemmas.List.Sums.{sum_by_more}

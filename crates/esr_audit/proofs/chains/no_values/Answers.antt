@@ -1,4 +1,3 @@
--- Why `no_values` keeps its contract: the goals that are left to a proof of ours.
 use Rattle.std.proofs.Common.{◌+◌, ◌∙◌, ap, length}
 use Rattle.std.proofs.lemmas.List.{length_push}
 use Rattle.esr_audit.specs.Reads.{list_at}

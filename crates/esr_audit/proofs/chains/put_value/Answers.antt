@@ -1,4 +1,3 @@
--- Why `put_value` keeps its contract: the goals that are left to a proof of ours.
 use Rattle.std.proofs.Common.{rules, arith, ◌≡◌, ◌<◌, ◌∙◌, ◌++◌, ◌∷◌, [], ap, length, length-set, w64, to_z-of_z}
 use mir.Val.{to_z, of_z}
 use Rattle.esr_audit.proofs.Gathered.{put_at}

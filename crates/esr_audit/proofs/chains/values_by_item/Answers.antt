@@ -1,4 +1,3 @@
--- Why `values_by_item` keeps its contract: the goals that are left to a proof of ours.
 use Rattle.std.proofs.Common.{pos, ◌∙◌, ◌++◌, [], ◌∷◌, ap, arith, get_or, sym}
 use Rattle.esr_audit.specs.Reads.{values_of, ItemRead}
 use Rattle.esr_audit.proofs.Gathered.{values_more}

@@ -1,4 +1,3 @@
--- Why `lists_among` keeps its contract: the goals that are left to a proof of ours.
 use Rattle.std.proofs.Common.{◌≡◌, ◌∙◌, [], ◌∷◌, ◌++◌, Bool, true, false, not, List, get_or, append-nil, refl, sym, ap}
 use Rattle.std.proofs.lemmas.List.Elements.{filter_more}
 use Rattle.esr_base.specs.declared.numbers.TxnId.{TxnId}

@@ -1,4 +1,3 @@
--- Why `item_reads` keeps its contract: the goals that are left to a proof of ours.
 use Rattle.std.proofs.Common.{◌∙◌, ap, filter, map, not}
 use Rattle.std.proofs.lemmas.Result.{IfOk-weaker}
 use Rattle.esr_order.specs.declared.accesses.Access.{Access}

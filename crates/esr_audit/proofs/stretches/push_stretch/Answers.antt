@@ -1,4 +1,3 @@
--- Why `push_stretch` keeps its contract: the goals that are left to a proof of ours.
 use Rattle.std.proofs.Common.{◌+◌, refl, arith, map}
 use Rattle.esr_audit.proofs.StretchLaws.{number_more}
 use Rattle.esr_audit.proofs.stretches.push_stretch.Goals as goal

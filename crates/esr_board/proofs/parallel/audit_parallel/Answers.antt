@@ -1,4 +1,3 @@
--- Why `audit_parallel` keeps its contract: the goals that are left to a proof of ours.
 use Rattle.std.proofs.Common.{Ok}
 use Rattle.esr_audit.proofs.Stays.{findings_stay}
 use Rattle.esr_board.proofs.Keeping.{book_kept}

@@ -1,4 +1,3 @@
--- Why `gather` keeps its contract: the goals that are left to a proof of ours.
 use Rattle.std.proofs.Common.{rules, ℕ, ◌≡◌, ◌<◌, ◌++◌, [], ◌∷◌, map, ⊎_elim, subst, sym, ◌∙◌, MatchResult}
 use Rattle.esr_audit.specs.declared.finding.AuditError.TheVariants.{NoMemory}
 use Rattle.esr_board.specs.Claims.{count_past, times}

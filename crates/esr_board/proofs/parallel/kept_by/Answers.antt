@@ -1,4 +1,3 @@
--- Why `kept_by` keeps its contract: the goals that are left to a proof of ours.
 use Rattle.std.proofs.Common.{rules, ◌<◌, length}
 use Rattle.esr_board.proofs.Whole.{all_filled}
 use Rattle.esr_board.proofs.parallel.kept_by.Goals as goal

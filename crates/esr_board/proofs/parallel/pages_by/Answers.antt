@@ -1,4 +1,3 @@
--- Why `pages_by` keeps its contract: the goals that are left to a proof of ours.
 use Rattle.std.proofs.Common.{rules, subst, List, ℕ}
 use Rattle.esr_board.specs.Shares.{KeepsFindings}
 use Rattle.esr_board.proofs.Keeping.{keeps_findings}

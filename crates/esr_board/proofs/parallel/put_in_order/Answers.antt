@@ -1,4 +1,3 @@
--- Why `put_in_order` keeps its contract: the goals that are left to a proof of ours.
 use Rattle.std.proofs.Common.{rules, ℕ, ◌<◌, length, refl, inr, subst, arith}
 use Rattle.esr_board.specs.Shares.{IsKeptOf, AreKept, query_of}
 use Rattle.esr_board.proofs.Closes.{all_popped}

@@ -1,4 +1,3 @@
--- Why `summarize_parallel` keeps its contract: the goals that are left to a proof of ours.
 use Rattle.std.proofs.Common.{Ok}
 use Rattle.esr_audit.proofs.Stays.{summaries_stay}
 use Rattle.esr_board.proofs.Keeping.{summaries_kept}

@@ -1,4 +1,3 @@
--- Why `unwrap_slots` keeps its contract: the goals that are left to a proof of ours.
 use Rattle.std.proofs.Common.{rules, arith, ◌≡◌, ◌+◌, ◌++◌, [], ◌∷◌, List, take, get_or, get_or-set_other, None, Some, sym, ◌∙◌, subst, Option, IfSome}
 use Rattle.std.specs.List.{AllZip}
 use Rattle.std.proofs.lemmas.List.{take_more, take_all, get_or_default}

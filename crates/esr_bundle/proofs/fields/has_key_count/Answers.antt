@@ -1,4 +1,3 @@
--- Why `has_key_count` keeps its contract: the goals that are left to a proof of ours.
 use Rattle.std.proofs.Common.{◌∙◌, ◌==◌, sym, ap}
 use Rattle.serde_json.proofs.Views.{members_len-members_view}
 use Rattle.esr_bundle.proofs.fields.has_key_count.Goals as goal

@@ -1,4 +1,3 @@
--- Why `list` keeps its contract: the goals that are left to a proof of ours.
 use Rattle.std.proofs.Common.{rules, ◌≡◌, ◌≢◌, ◌+◌, ◌∷◌, [], ◌++◌, append-nil, List, Option, Some, None, drop, map, option_map, option_and_then, refl, sym, ap, ◌∙◌, arith}
 use Rattle.std.proofs.lemmas.List.{append_assoc, drop_more, drop_all, map_push}
 use Rattle.esr_cert.specs.declared.problem.BundleFault.{BundleFault}

@@ -1,4 +1,3 @@
--- Why `pair` keeps its contract: the goals that are left to a proof of ours.
 use Rattle.std.proofs.Common.{◌≡◌, ◌≤◌, ◌<◌, None, List, ◌∷◌, length, refl, sym, arith}
 use Rattle.serde_json.specs.declared.value.Value.{Value}
 use Rattle.serde_json.specs.View.{items_view}

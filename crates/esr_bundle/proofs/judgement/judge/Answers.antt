@@ -1,4 +1,3 @@
--- Why `judge` keeps its contract: the goals that are left to a proof of ours.
 use Rattle.std.proofs.Common.{◌≤◌, ℕ, List, Some, length, sym, ◌∙◌, subst}
 use Rattle.std.specs.Io.KnownBytes.{Consumes}
 use Rattle.esr_base.specs.Watch.{inner}

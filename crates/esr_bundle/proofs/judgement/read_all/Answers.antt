@@ -1,4 +1,3 @@
--- Why `read_all` keeps its contract: the goals that are left to a proof of ours.
 use Rattle.std.proofs.Common.{rules, ◌≡◌, [], length, drop, arith, ◌∙◌, ap}
 use Rattle.std.proofs.KnownBytes.{Consumes-trans, Consumes-nil}
 use Rattle.esr_bundle.proofs.Verdicts.{no_more, capacity_kept}

@@ -1,4 +1,3 @@
--- Why `verdict_of` keeps its contract: the goals that are left to a proof of ours.
 use Rattle.esr_cert.specs.Views.{certificate_of}
 use Rattle.esr_bundle.proofs.Verdicts.{valid, invalid, bad}
 use Rattle.esr_bundle.proofs.judgement.verdict_of.Goals as goal

@@ -1,4 +1,3 @@
--- Why `from_json` keeps its contract: the goals that are left to a proof of ours.
 use Rattle.serde_json.specs.View.{view}
 use Rattle.esr_cert.specs.Drafts.{drafted_problem}
 use Rattle.esr_bundle.specs.Drafts.{drafted_certificate}

@@ -1,4 +1,3 @@
--- Why `parts_of` keeps its contract: the goals that are left to a proof of ours.
 use Rattle.std.proofs.Common.{◌≡◌, ◌≢◌, ℕ, List, Bool, true, false, Some, Result, IfErr, map, sym, ap, ◌∙◌, IsErrAnd, map-id}
 use Rattle.std.specs.List.{list_all}
 use Rattle.esr_cert.specs.Problem.{Chain, Problem, has_shape}

@@ -1,4 +1,3 @@
--- Why `positions` keeps its contract: the goals that are left to a proof of ours.
 use Rattle.std.proofs.Common.{rules, map-id}
 use Rattle.esr_bundle.proofs.sound.positions.Goals as goal
 

@@ -1,4 +1,3 @@
--- Why `as_positions` keeps its contract: the goals that are left to a proof of ours.
 use Rattle.esr_bundle.proofs.Wide.{all_positions}
 use Rattle.esr_bundle.proofs.writer.as_positions.Goals as goal
 

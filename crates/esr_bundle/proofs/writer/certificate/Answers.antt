@@ -1,4 +1,3 @@
--- Why `certificate` keeps its contract: the goals that are left to a proof of ours.
 use Rattle.std.proofs.Common.{◌≡◌, ap, ◌∙◌}
 use Rattle.serde_json.specs.Data.{object, no_members}
 use Rattle.serde_json.specs.View.{view, members_view}

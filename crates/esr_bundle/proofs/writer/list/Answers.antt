@@ -1,4 +1,3 @@
--- Why `list` keeps its contract: the goals that are left to a proof of ours.
 use Rattle.std.proofs.Common.{[], ◌∷◌, ◌++◌, ◌∙◌, map, take, sym, ap}
 use Rattle.std.proofs.lemmas.List.{map_more, map_push}
 use Rattle.serde_json.specs.View.{view}

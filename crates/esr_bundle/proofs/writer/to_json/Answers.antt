@@ -1,4 +1,3 @@
--- Why `to_json` keeps its contract: the goals that are left to a proof of ours.
 use Rattle.std.proofs.Common.{◌≤◌, Some, sym, ap, ◌∙◌, subst}
 use Rattle.std.specs.List.{list_all}
 use Rattle.serde_json.specs.Data.{Data, depth}

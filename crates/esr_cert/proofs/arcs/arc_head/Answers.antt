@@ -1,4 +1,3 @@
--- Why `arc_head` keeps its contract: the goals that are left to a proof of ours.
 use Rattle.std.proofs.Common.{arith, ◌∷◌, [], ◌+◌, ◌<◌, ◌∙◌, length, sym}
 use Rattle.std.proofs.lemmas.List.{get_or_append_left, get_or_push, get_or_read}
 use Rattle.esr_cert.proofs.arcs.arc_head.Goals as goal

@@ -1,4 +1,3 @@
--- Why `arc_tail` keeps its contract: the goals that are left to a proof of ours.
 use Rattle.std.proofs.Common.{arith, ◌∷◌, ◌-◌, ◌∙◌, get_or, ap, sym}
 use Rattle.std.proofs.lemmas.List.{get_or_read}
 use Rattle.esr_cert.proofs.ArcsLaws.{writer_before}

@@ -1,4 +1,3 @@
--- Why `link_at` keeps its contract: the goals that are left to a proof of ours.
 use Rattle.std.proofs.Common.{◌≡◌, ◌∷◌, ◌++◌, [], ◌+◌, ◌∙◌, Some, get_or, ap, sym, ℕ}
 use Rattle.std.proofs.lemmas.List.{get_or_read}
 use Rattle.esr_cert.specs.Network.{Arc}

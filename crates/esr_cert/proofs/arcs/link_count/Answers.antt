@@ -1,4 +1,3 @@
--- Why `link_count` keeps its contract: the goals that are left to a proof of ours.
 use Rattle.std.proofs.Common.{◌∙◌, length, arith}
 use Rattle.esr_cert.specs.Views.{chain_of}
 use Rattle.esr_cert.proofs.Steps.{sum_step}

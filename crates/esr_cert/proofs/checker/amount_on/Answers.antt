@@ -1,4 +1,3 @@
--- Why `amount_on` keeps its contract: the goals that are left to a proof of ours.
 use Rattle.std.proofs.Common.{arith, ◌≡◌, ◌∙◌, ◌-◌, ◌+◌, ◌<◌, ◌++◌, suc, [], length, get_or, ap, sym, List, ℕ}
 use Rattle.std.proofs.lemmas.List.{length-map, get_or-map}
 use Rattle.esr_cert.specs.declared.certificate.Certificate.{Certificate}

@@ -1,4 +1,3 @@
--- Why `are_rows_within` keeps its contract: the goals that are left to a proof of ours.
 use Rattle.std.proofs.Common.{◌≡◌, ◌+◌, ◌&&◌, ◌≢◌, false, true, map, drop, length, sym, ap, ◌∙◌, arith}
 use Rattle.std.proofs.lemmas.List.{length-map}
 use Rattle.esr_cert.specs.Parts.{is_row_within, are_rows_within}

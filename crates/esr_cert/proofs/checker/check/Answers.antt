@@ -1,4 +1,3 @@
--- Why `check` keeps its contract: the goals that are left to a proof of ours.
 use Rattle.std.proofs.Common.{◌≡◌, Option, Some, None, IsOk, refl, subst}
 use Rattle.esr_cert.specs.Certificate.{or_fault}
 use Rattle.esr_cert.specs.Views.{certificate_of}

@@ -1,4 +1,3 @@
--- Why `first_amounts` keeps its contract: the goals that are left to a proof of ours.
 use Rattle.std.proofs.Common.{◌∙◌, ap, get_or, arith}
 use Rattle.esr_cert.proofs.Steps.{sum_step}
 use Rattle.esr_cert.proofs.checker.first_amounts.Goals as goal

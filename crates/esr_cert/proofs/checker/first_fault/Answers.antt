@@ -1,4 +1,3 @@
--- Why `first_fault` keeps its contract: the goals that are left to a proof of ours.
 use Rattle.std.proofs.Common.{rules}
 use Rattle.esr_cert.proofs.checker.first_fault.Goals as goal
 

@@ -1,4 +1,3 @@
--- Why `is_conserved` keeps its contract: the goals that are left to a proof of ours.
 use Rattle.std.proofs.Common.{arith, length, ap, sym, ◌∙◌}
 use Rattle.std.proofs.lemmas.List.{length-map}
 use Rattle.esr_cert.specs.Certificate.{amounts}

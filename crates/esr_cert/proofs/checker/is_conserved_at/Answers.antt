@@ -1,4 +1,3 @@
--- Why `is_conserved_at` keeps its contract: the goals that are left to a proof of ours.
 use Rattle.std.proofs.Common.{arith, ◌∙◌, ap, sym, subst}
 use Rattle.esr_cert.specs.Problem.{Problem}
 use Rattle.esr_cert.specs.Certificate.{Certificate, amounts}

@@ -1,4 +1,3 @@
--- Why `is_count_in_bound` keeps its contract: the goals that are left to a proof of ours.
 use Rattle.std.proofs.Common.{◌≡◌, ◌∙◌, ◌+◌, ◌*◌, nat_le, sym, ap, length, sum_by, arith}
 use Rattle.std.proofs.lemmas.List.{length-map}
 use Rattle.esr_cert.specs.Network.{network}

@@ -1,4 +1,3 @@
--- Why `is_row_within` keeps its contract: the goals that are left to a proof of ours.
 use Rattle.std.proofs.Common.{sym}
 use Rattle.esr_cert.proofs.Steps.{row_within_apart}
 use Rattle.esr_cert.proofs.checker.is_row_within.Goals as goal

@@ -1,4 +1,3 @@
--- Why `is_within` keeps its contract: the goals that are left to a proof of ours.
 use Rattle.std.proofs.Common.{◌≡◌, ◌∙◌, ◌&&◌, eqb, sym, ap, length, arith, eq-eqb}
 use Rattle.esr_cert.specs.Parts.{are_rows_within}
 use Rattle.esr_cert.specs.Views.{rows_of, certificate_of}

@@ -1,4 +1,3 @@
--- Why `set_cost` keeps its contract: the goals that are left to a proof of ours.
 use Rattle.std.proofs.Common.{◌≡◌, ◌∙◌, ap, get_or, arith}
 use Rattle.esr_cert.specs.Problem.{in_set, version, chain_cost}
 use Rattle.esr_cert.specs.Views.{chain_of}

@@ -1,4 +1,3 @@
--- Why `version` keeps its contract: the goals that are left to a proof of ours.
 use Rattle.std.proofs.Common.{◌≡◌, ◌+◌, ◌-◌, ◌∙◌, ℕ, suc, sym, ap, length, take, arith}
 use Rattle.esr_cert.specs.Problem.{in_set, version}
 use Rattle.esr_cert.proofs.Steps.{version_last, version_less}

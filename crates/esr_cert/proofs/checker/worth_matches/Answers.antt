@@ -1,4 +1,3 @@
--- Why `worth_matches` keeps its contract: the goals that are left to a proof of ours.
 use Rattle.std.proofs.Common.{◌≡◌, ◌+◌, ◌∙◌, ◌&&◌, eqb, sym, ap, get_or, map, sum, sum_by, arith, eq-eqb, ne_eqb}
 use Rattle.std.proofs.lemmas.Bool.{and_left}
 use Rattle.esr_cert.specs.Problem.{in_set, chain_cost, cost}

@@ -1,4 +1,3 @@
--- Why `contains` keeps its contract: the goals that are left to a proof of ours.
 use Rattle.std.proofs.Common.{◌∙◌}
 use Rattle.esr_cert.proofs.Search.{found_in_set}
 use Rattle.esr_cert.proofs.lists.contains.Goals as goal

@@ -1,4 +1,3 @@
--- Why `is_ascending` keeps its contract: the goals that are left to a proof of ours.
 use Rattle.std.proofs.Common.{arith, ◌-◌}
 use Rattle.esr_cert.proofs.Steps.{ascending_end}
 use Rattle.esr_cert.proofs.lists.is_ascending.Goals as goal

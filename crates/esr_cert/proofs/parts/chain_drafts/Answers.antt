@@ -1,4 +1,3 @@
--- Why `chain_drafts` keeps its contract: the goals that are left to a proof of ours.
 use Rattle.std.proofs.Common.{◌++◌, ◌∷◌, [], map, take, ap, ◌∙◌, sym, arith, get_or}
 use Rattle.std.proofs.lemmas.List.{map_push, take_all, take_more}
 use Rattle.esr_cert.specs.Views.{chain_of}

@@ -1,4 +1,3 @@
--- Why `wide` keeps its contract: the goals that are left to a proof of ours.
 use Rattle.std.proofs.Common.{[], ◌∷◌, ◌++◌, ◌∙◌, ap, sym, take}
 use Rattle.std.proofs.lemmas.List.{take_more}
 use Rattle.esr_cert.proofs.parts.wide.Goals as goal

@@ -1,4 +1,3 @@
--- Why `network_of` keeps its contract: the goals that are left to a proof of ours.
 use Rattle.std.proofs.Common.{arith, ◌≡◌, ◌+◌, ◌∙◌, ap, sym, subst, length, map, sum_by}
 use Rattle.std.proofs.lemmas.List.{length-map}
 use Rattle.esr_cert.specs.Problem.{Problem}

@@ -1,4 +1,3 @@
--- Why `are_chains_in_range` keeps its contract: the goals that are left to a proof of ours.
 use Rattle.std.proofs.Common.{◌∙◌, sym, arith}
 use Rattle.esr_cert.specs.Problem.{chain_is_in_range}
 use Rattle.esr_cert.specs.Views.{chain_of}

@@ -1,4 +1,3 @@
--- Why `are_updates_in_range` keeps its contract: the goals that are left to a proof of ours.
 use Rattle.std.proofs.Common.{◌&&◌, ◌∙◌, sym, get_or, nat_lt, nat_le, arith}
 use Rattle.std.proofs.lemmas.List.{get_or_default}
 use Rattle.esr_base.specs.declared.limits.TheConstants.{MAX_TRANSACTIONS}

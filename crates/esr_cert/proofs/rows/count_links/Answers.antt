@@ -1,4 +1,3 @@
--- Why `count_links` keeps its contract: the goals that are left to a proof of ours.
 use Rattle.std.proofs.Common.{arith, ◌≡◌, ◌+◌, ◌<◌, ◌∙◌, length, sym, subst}
 use Rattle.esr_cert.specs.Rows.{first_steps, Counted}
 use Rattle.esr_cert.proofs.RowsLaws.{along_small, against_small, counted_arc}

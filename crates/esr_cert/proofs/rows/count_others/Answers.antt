@@ -1,4 +1,3 @@
--- Why `count_others` keeps its contract: the goals that are left to a proof of ours.
 use Rattle.std.proofs.Common.{arith, ◌≡◌, ◌+◌, ◌<◌, length, refl, ap, subst}
 use Rattle.esr_cert.specs.Network.{Arc}
 use Rattle.esr_cert.specs.Rows.{first_steps, Counted}

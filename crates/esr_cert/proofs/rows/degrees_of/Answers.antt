@@ -1,4 +1,3 @@
--- Why `degrees_of` keeps its contract: the goals that are left to a proof of ours.
 use Rattle.std.proofs.Common.{arith, ◌≡◌, length, map, refl, sym}
 use Rattle.esr_cert.specs.Views.{chain_of}
 use Rattle.esr_cert.proofs.LinksLaws.{links_here, links_after, starts_first}

@@ -1,4 +1,3 @@
--- Why `lay_others` keeps its contract: the goals that are left to a proof of ours.
 use Rattle.std.proofs.Common.{arith, subst}
 use Rattle.esr_cert.specs.Rows.{Laid}
 use Rattle.esr_cert.proofs.Laid.{within_along, within_against, laid_more}

@@ -1,4 +1,3 @@
--- Why `rows_of` keeps its contract: the goals that are left to a proof of ours.
 use Rattle.std.proofs.Common.{arith, ◌≡◌, length, refl}
 use Rattle.esr_cert.proofs.LinksLaws.{links_here, links_after}
 use Rattle.esr_cert.proofs.Laid.{laid_rows, laid_steps}

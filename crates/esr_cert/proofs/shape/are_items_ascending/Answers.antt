@@ -1,4 +1,3 @@
--- Why `are_items_ascending` keeps its contract: the goals that are left to a proof of ours.
 use Rattle.std.proofs.Common.{◌≡◌, ℕ, ◌+◌, ◌-◌, ◌<◌, ◌∙◌, List, sym, ap, map, length, get_or, arith}
 use Rattle.std.proofs.lemmas.List.{length-map}
 use Rattle.esr_cert.specs.declared.draft.ChainDraft.{ChainDraft}

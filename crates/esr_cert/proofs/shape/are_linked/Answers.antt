@@ -1,4 +1,3 @@
--- Why `are_linked` keeps its contract: the goals that are left to a proof of ours.
 use Rattle.std.proofs.Common.{◌-◌, ◌∙◌, sym, arith}
 use Rattle.esr_cert.proofs.Steps.{linked_end}
 use Rattle.esr_cert.proofs.shape.are_linked.Goals as goal

@@ -1,4 +1,3 @@
--- Why `are_pairs_ascending` keeps its contract: the goals that are left to a proof of ours.
 use Rattle.std.proofs.Common.{◌≡◌, ◌+◌, ◌-◌, ◌&&◌, ◌∙◌, sym, ap, drop, get_or, true, refl, arith}
 use Rattle.esr_cert.specs.Problem.{are_pairs_ascending, pair_lt}
 use Rattle.esr_cert.proofs.Steps.{pairs_ascending_end, pairs_ascending_step}

@@ -1,4 +1,3 @@
--- Why `chains_have_shape` keeps its contract: the goals that are left to a proof of ours.
 use Rattle.std.proofs.Common.{◌∙◌, sym, arith}
 use Rattle.esr_cert.specs.Problem.{chain_has_shape}
 use Rattle.esr_cert.specs.Drafts.{drafted_chain}

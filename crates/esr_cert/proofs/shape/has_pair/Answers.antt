@@ -1,4 +1,3 @@
--- Why `has_pair` keeps its contract: the goals that are left to a proof of ours.
 use Rattle.std.proofs.Common.{◌∙◌}
 use Rattle.esr_cert.proofs.Search.{found_pair}
 use Rattle.esr_cert.proofs.shape.has_pair.Goals as goal

@@ -1,4 +1,3 @@
--- Why `is_distinct` keeps its contract: the goals that are left to a proof of ours.
 use Rattle.std.proofs.Common.{◌∙◌, ap}
 use Rattle.std.proofs.lemmas.List.Sorted.{IsNonDecreasingBy-from_sort}
 use Rattle.esr_cert.specs.Problem.{is_ascending, is_distinct}

@@ -1,4 +1,3 @@
--- Why `owner_at` keeps its contract: the goals that are left to a proof of ours.
 use Rattle.esr_cert.proofs.StartsLaws.{has_owner, owner_row}
 use Rattle.esr_cert.proofs.starts.owner_at.Goals as goal
 

@@ -1,4 +1,3 @@
--- Why `owners_of` keeps its contract: the goals that are left to a proof of ours.
 use Rattle.std.proofs.Common.{arith, ◌≡◌, ◌+◌, ◌∙◌, ◌∷◌, ◌++◌, ap, sym, drop, map, length, replicate}
 use Rattle.std.proofs.lemmas.List.{append_assoc, drop_more}
 use Rattle.esr_cert.specs.Starts.{owners_from}

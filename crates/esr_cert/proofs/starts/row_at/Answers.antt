@@ -1,4 +1,3 @@
--- Why `row_at` keeps its contract: the goals that are left to a proof of ours.
 use Rattle.std.proofs.Common.{arith, rules, ◌-◌, ◌+◌, ◌≡◌, get_or, ap, leb}
 use Rattle.std.proofs.lemmas.List.Sorted.{IsPartitionedBy-leb, IsPartitionPoint-from_clause}
 use Rattle.esr_cert.proofs.StartsLaws.{IsFound, found}

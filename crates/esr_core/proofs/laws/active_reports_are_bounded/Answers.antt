@@ -1,4 +1,3 @@
--- Why `active_reports_are_bounded` keeps its contract: the goals that are left to a proof of ours.
 use Rattle.esr_core.proofs.Carried.{law_of_active_queries}
 use Rattle.esr_core.proofs.laws.active_reports_are_bounded.Goals as goal
 

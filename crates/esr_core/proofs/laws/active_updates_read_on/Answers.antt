@@ -1,4 +1,3 @@
--- Why `active_updates_read_on` keeps its contract: the goals that are left to a proof of ours.
 use Rattle.esr_core.proofs.Running.{law_of_active_updates}
 use Rattle.esr_core.proofs.laws.active_updates_read_on.Goals as goal
 

@@ -1,4 +1,3 @@
--- Why `active_writes_are_current` keeps its contract: the goals that are left to a proof of ours.
 use Rattle.esr_core.proofs.Running.{law_of_current_values}
 use Rattle.esr_core.proofs.laws.active_writes_are_current.Goals as goal
 

@@ -1,4 +1,3 @@
--- Why `carried_histories_fit` keeps its contract: the goals that are left to a proof of ours.
 use Rattle.esr_core.proofs.Fits.{law_of_carried_length}
 use Rattle.esr_core.proofs.laws.carried_histories_fit.Goals as goal
 

@@ -1,4 +1,3 @@
--- Why `committed_values` keeps its contract: the goals that are left to a proof of ours.
 use Rattle.std.proofs.Common.{◌≡◌, ◌++◌, ◌∷◌, [], ◌∙◌, ap, sym, take, map, pos, FitsSigned, w64, to_z, of_z, ◌<◌, length, rules}
 use Rattle.std.proofs.lemmas.Int.{to_z-of_z}
 use Rattle.std.proofs.lemmas.List.{map_more}

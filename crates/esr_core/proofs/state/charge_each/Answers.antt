@@ -1,4 +1,3 @@
--- Why `charge_each` keeps its contract: the goals that are left to a proof of ours.
 use Rattle.std.proofs.Common.{arith}
 use Rattle.std.proofs.lemmas.Grind.{common_steps}
 use Rattle.esr_core.proofs.state.charge_each.Goals as goal

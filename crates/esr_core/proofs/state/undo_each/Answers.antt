@@ -1,4 +1,3 @@
--- Why `undo_each` keeps its contract: the goals that are left to a proof of ours.
 use Rattle.std.proofs.Common.{rules}
 use Rattle.esr_core.proofs.state.undo_each.Goals as goal
 

@@ -1,4 +1,3 @@
--- Why `sum_arcs` keeps its contract: the goals that are left to a proof of ours.
 use Rattle.std.proofs.Common.{rules, arith, ◌≡◌, ℕ, ◌+◌, ◌∙◌, ◌<◌, true, get_or, length, set, sym, ap, subst, below_more, Option, Some, None, refl}
 use Rattle.esr_cert.specs.Network.{arc_at}
 use Rattle.esr_cert.specs.Flow.{within, amount_at}

@@ -1,4 +1,3 @@
--- Why `augment` keeps its contract: the goals that are left to a proof of ours.
 use Rattle.std.proofs.Common.{◌≡◌, Some, ◌∙◌, ap}
 use Rattle.esr_cert.specs.Network.{Network}
 use Rattle.esr_cert.specs.Flow.{worth}

@@ -1,4 +1,3 @@
--- Why `find_maximum` keeps its contract: the goals that are left to a proof of ours.
 use Rattle.std.proofs.Common.{arith, ◌≡◌, length, replicate, rules, sym, subst, ap, ◌∙◌}
 use Rattle.esr_cert.specs.Flow.{worth}
 use Rattle.esr_flow.specs.Augmentation.{TakesFrom}

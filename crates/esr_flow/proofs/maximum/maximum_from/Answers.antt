@@ -1,4 +1,3 @@
--- Why `maximum_from` keeps its contract: the goals that are left to a proof of ours.
 use Rattle.std.proofs.Common.{arith, ◌≡◌, ◌∙◌, ◌++◌, append-nil, length, take, drop, sym, ap, subst}
 use Rattle.std.proofs.lemmas.List.{drop_all, take_all}
 use Rattle.esr_cert.specs.Flow.{amount_at, IsFlow}

@@ -1,4 +1,3 @@
--- Why `raise_along` keeps its contract: the goals that are left to a proof of ours.
 use Rattle.std.proofs.Common.{◌≡◌, ◌+◌, get_or, set, take, sym, ◌∙◌, ap}
 use Rattle.esr_flow.specs.Words.{ResidualArc, Forward}
 use Rattle.esr_flow.specs.Residual.{raise, shift}

@@ -1,4 +1,3 @@
--- Why `run_phases` keeps its contract: the goals that are left to a proof of ours.
 use Rattle.std.proofs.Common.{arith, ◌*◌, ◌≤◌, length, refl}
 use Rattle.esr_flow.specs.Augmentation.{TakesFrom}
 use Rattle.esr_flow.specs.Graph.{arcs_of, net_of}

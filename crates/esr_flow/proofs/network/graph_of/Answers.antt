@@ -1,4 +1,3 @@
--- Why `graph_of` keeps its contract: the goals that are left to a proof of ours.
 use Rattle.std.proofs.Common.{arith, ◌≡◌, ℕ, ◌+◌, ◌∙◌, ap, sym, length}
 use Rattle.std.proofs.lemmas.List.{length-map}
 use Rattle.esr_cert.specs.Problem.{size}

@@ -1,4 +1,3 @@
--- Why `next_path` keeps its contract: the goals that are left to a proof of ours.
 use Rattle.std.proofs.Common.{arith, ◌≡◌, ℕ, ◌+◌, ◌-◌, ◌<◌, ◌≤◌, [], ◌∷◌, ◌++◌, List, length, set, drop, sym, ◌∙◌, ap, subst, suc, true, false, length-set, length-take}
 use Rattle.std.proofs.lemmas.List.{length_push, get_or_read}
 use Rattle.esr_flow.specs.Words.{Arc, ResidualArc, Forward}

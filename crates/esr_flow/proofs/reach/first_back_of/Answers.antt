@@ -1,4 +1,3 @@
--- Why `first_back_of` keeps its contract: the goals that are left to a proof of ours.
 use Rattle.std.proofs.Common.{arith, ap, length}
 use Rattle.esr_flow.proofs.PassLaws.{count_is}
 use Rattle.esr_flow.proofs.reach.first_back_of.Goals as goal

@@ -1,4 +1,3 @@
--- Why `path_to_last` keeps its contract: the goals that are left to a proof of ours.
 use Rattle.std.proofs.Common.{arith, ◌<◌, subst, sym}
 use Rattle.esr_flow.specs.Search.{visit_at}
 use Rattle.esr_flow.proofs.PathLaws.{Back, back_more}

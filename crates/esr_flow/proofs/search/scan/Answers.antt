@@ -1,4 +1,3 @@
--- Why `scan` keeps its contract: the goals that are left to a proof of ours.
 use Rattle.std.proofs.Common.{arith, ◌≡◌, ℕ, ◌+◌, ◌<◌, true, false, List, [], ◌∷◌, ◌++◌, length, get_or, set, sym, ap, ◌∙◌, subst}
 use Rattle.std.proofs.lemmas.List.{get_or_read}
 use Rattle.esr_flow.specs.ShortEntry.{AdjacencyEntry}

@@ -1,4 +1,3 @@
--- Why `search` keeps its contract: the goals that are left to a proof of ours.
 use Rattle.std.proofs.Common.{◌≡◌, true, false, set, replicate, [], ◌∷◌, subst, sym, ◌∙◌, ap, ◌++◌}
 use Rattle.esr_flow.specs.Words.{Forward}
 use Rattle.esr_flow.specs.Graph.{net_of}

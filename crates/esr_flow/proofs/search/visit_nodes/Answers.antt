@@ -1,4 +1,3 @@
--- Why `visit_nodes` keeps its contract: the goals that are left to a proof of ours.
 use Rattle.std.proofs.Common.{arith, ◌≡◌, ℕ, false, subst, ◌∙◌, ap}
 use Rattle.esr_flow.specs.Words.{Forward}
 use Rattle.std.proofs.lemmas.List.{get_or_default}

@@ -1,4 +1,3 @@
--- Why `find_from_draft` keeps its contract: the goals that are left to a proof of ours.
 use Rattle.std.proofs.Common.{◌≤◌, List, ℕ, sym, subst}
 use Rattle.esr_cert.specs.declared.range.TheConstants.{MAX_COST}
 use Rattle.esr_cert.specs.Network.{Network}

@@ -1,4 +1,3 @@
--- Why `add_charges` keeps its contract: the goals that are left to a proof of ours.
 use Rattle.std.proofs.Common.{◌≡◌, ◌+◌, ◌<◌, ◌≤◌, ◌^◌, ℕ, length, take, get_or, ap, refl, arith, slice_index_or, ◌==◌, if◌then◌else◌, eq-eqb}
 use Rattle.std.proofs.lemmas.List.Sums.{sum_by_more, sum_by-take-le}
 use Rattle.esr_history.specs.Events.{TxnId}

@@ -1,4 +1,3 @@
--- Why `note` keeps its contract: the goals that are left to a proof of ours.
 use Rattle.std.proofs.Common.{◌≡◌, length, sym, subst, ap, ◌∙◌, arith}
 use Rattle.esr_history.specs.Imports.{AreImports, with_number}
 use Rattle.esr_history.specs.Machine.{extended}

@@ -1,4 +1,3 @@
--- Why `find_account` keeps its contract: the goals that are left to a proof of ours.
 use Rattle.std.proofs.Common.{false}
 use Rattle.esr_history.proofs.Ascending.{found_at}
 use Rattle.esr_history.specs.Events.{kind_of}

@@ -1,4 +1,3 @@
--- Why `index_of` keeps its contract: the goals that are left to a proof of ours.
 use Rattle.std.proofs.Common.{sym, ◌∙◌}
 use Rattle.std.proofs.lemmas.Bool.{false≢true}
 use Rattle.esr_history.proofs.Ascending.{any_gap}

@@ -1,4 +1,3 @@
--- Why `is_above` keeps its contract: the goals that are left to a proof of ours.
 use Rattle.std.proofs.lemmas.Bool.{ltb-true}
 use Rattle.esr_ledgers.specs.Books.{number}
 use Rattle.esr_ledgers.proofs.Finds.{gap_last}

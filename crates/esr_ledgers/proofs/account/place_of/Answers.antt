@@ -1,4 +1,3 @@
--- Why `place_of` keeps its contract: the goals that are left to a proof of ours.
 use Rattle.std.proofs.Common.{rules}
 use Rattle.std.proofs.lemmas.List.Sorted.{answers_always}
 use Rattle.esr_history.proofs.Ascending.{searched}

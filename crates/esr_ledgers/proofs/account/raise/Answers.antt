@@ -1,4 +1,3 @@
--- Why `raise` keeps its contract: the goals that are left to a proof of ours.
 use Rattle.std.proofs.Common.{◌≡◌, ◌+◌, ◌<◌, ◌^◌, ◌∙◌, sym, ap, arith, set, Option, Some, unwrap_or, option_map}
 use Rattle.esr_history.specs.Ascending.{IsPlaceOf}
 use Rattle.esr_history.proofs.Ascending.{found_at}

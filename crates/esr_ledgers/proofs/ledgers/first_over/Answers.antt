@@ -1,4 +1,3 @@
--- Why `first_over` keeps its contract: the goals that are left to a proof of ours.
 use Rattle.std.proofs.Common.{◌∙◌, sym, ap, ℕ, get_or}
 use Rattle.esr_base.specs.declared.numbers.TxnId.{TxnId}
 use Rattle.esr_ledgers.specs.Books.{would_pass}

@@ -1,4 +1,3 @@
--- Why `import_each` keeps its contract: the goals that are left to a proof of ours.
 use Rattle.std.proofs.Common.{◌≡◌, ◌+◌, ◌<◌, ◌^◌, ◌∙◌, subst, sym, ap, ℕ, get_or, take, Option, unwrap_or, option_map}
 use Rattle.std.proofs.lemmas.List.{take_more}
 use Rattle.esr_base.specs.declared.numbers.TxnId.{TxnId}

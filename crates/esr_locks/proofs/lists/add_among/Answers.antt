@@ -1,4 +1,3 @@
--- Why `add_among` keeps its contract: the goals that are left to a proof of ours.
 use Rattle.std.proofs.Common.{sym, ap, not, arith}
 use Rattle.esr_history.proofs.Ascending.{placed_same, placed_gap, any_place, any_gap}
 use Rattle.esr_locks.specs.Rows.{reader}

@@ -1,4 +1,3 @@
--- Why `count_read` keeps its contract: the goals that are left to a proof of ours.
 use Rattle.std.proofs.Common.{◌∙◌, sym, ap, not, set, get_or, List, arith}
 use Rattle.std.proofs.Math.ListN.{length-set}
 use Rattle.smallvec.proofs.SmallVecLemmas.{items-with_items}

@@ -1,4 +1,3 @@
--- Why `drop_among` keeps its contract: the goals that are left to a proof of ours.
 use Rattle.std.proofs.Common.{◌∙◌, sym}
 use Rattle.esr_history.proofs.Ascending.{others_at, others_gap}
 use Rattle.esr_locks.proofs.lists.drop_among.Goals as goal

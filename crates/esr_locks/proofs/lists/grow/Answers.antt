@@ -1,4 +1,3 @@
--- Why `grow` keeps its contract: the goals that are left to a proof of ours.
 use Rattle.std.proofs.Common.{rules}
 use Rattle.esr_locks.proofs.lists.grow.Goals as goal
 

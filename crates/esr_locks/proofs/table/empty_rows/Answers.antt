@@ -1,4 +1,3 @@
--- Why `empty_rows` keeps its contract: the goals that are left to a proof of ours.
 use Rattle.std.proofs.Common.{arith, map}
 use Rattle.std.proofs.lemmas.Grind.{common_steps}
 use Rattle.esr_locks.proofs.Tables.{empty_more}

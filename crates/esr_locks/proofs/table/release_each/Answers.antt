@@ -1,4 +1,3 @@
--- Why `release_each` keeps its contract: the goals that are left to a proof of ours.
 use Rattle.std.proofs.Common.{arith}
 use Rattle.std.proofs.Math.ListN.{length-set}
 use Rattle.esr_locks.proofs.Tables.{release_more}

@@ -1,4 +1,3 @@
--- Why `list_accesses` keeps its contract: the goals that are left to a proof of ours.
 use Rattle.std.proofs.Common.{◌≡◌, sym, ◌∙◌, ap, subst, reverse, List, ◌∷◌, []}
 use Rattle.std.specs.List.{cons_option}
 use Rattle.std.proofs.lemmas.List.{reverse-append}

@@ -1,4 +1,3 @@
--- Why `turn_all` keeps its contract: the goals that are left to a proof of ours.
 use Rattle.std.proofs.Common.{◌≡◌, ◌<◌, ◌+◌, suc, sym, ◌∙◌, ap, arith, map, length, get_or, slice_set}
 use Rattle.std.proofs.lemmas.List.{length-map, get_or-map, map-set}
 use Rattle.esr_order.specs.Chains.{turned, seen_links}

@@ -1,4 +1,3 @@
--- Why `conflict_back` keeps its contract: the goals that are left to a proof of ours.
 use Rattle.std.proofs.Common.{◌≡◌, ℕ, ◌+◌, ◌-◌, [], ◌∷◌, ◌++◌, Bool, true, false, cond, eqb, drop, get_or, reverse, refl, sym, ap, ◌∙◌, append_assoc, arith}
 use Rattle.std.proofs.lemmas.List.{drop_more, reverse-append}
 use Rattle.esr_order.specs.Conflicts.{pair_of, pairs_from}

@@ -1,4 +1,3 @@
--- Why `put_in_order` keeps its contract: the goals that are left to a proof of ours.
 use Rattle.std.proofs.Common.{◌<◌, AllPairs, Contains, eqb, sym, subst, eqb-true}
 use Rattle.std.proofs.lemmas.Cmp.{nat_eq_equiv}
 use Rattle.std.proofs.lemmas.List.Filters.{dedup_is}

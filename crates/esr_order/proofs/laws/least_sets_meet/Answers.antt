@@ -1,4 +1,3 @@
--- Why `least_sets_meet` keeps its contract: the goals that are left to a proof of ours.
 use Rattle.esr_order.proofs.Meets.{least_meet}
 use Rattle.esr_order.proofs.laws.least_sets_meet.Goals as goal
 

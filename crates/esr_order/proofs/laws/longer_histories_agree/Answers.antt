@@ -1,4 +1,3 @@
--- Why `longer_histories_agree` keeps its contract: the goals that are left to a proof of ours.
 use Rattle.esr_history.proofs.Laws.{audit_stays}
 use Rattle.esr_order.proofs.laws.longer_histories_agree.Goals as goal
 

@@ -1,4 +1,3 @@
--- Why `parts_are_closed_sets` keeps its contract: the goals that are left to a proof of ours.
 use Rattle.esr_order.proofs.Ordered.{law_of_placements}
 use Rattle.esr_order.proofs.laws.parts_are_closed_sets.Goals as goal
 

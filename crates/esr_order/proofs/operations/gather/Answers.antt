@@ -1,4 +1,3 @@
--- Why `gather` keeps its contract: the goals that are left to a proof of ours.
 use Rattle.std.proofs.Common.{◌∙◌, ap, length, map}
 use Rattle.esr_order.specs.Chains.{seen_links}
 use Rattle.esr_order.proofs.Lists.{written_back}

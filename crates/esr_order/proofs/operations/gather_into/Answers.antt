@@ -1,4 +1,3 @@
--- Why `gather_into` keeps its contract: the goals that are left to a proof of ours.
 use Rattle.std.proofs.Common.{◌≡◌, ◌<◌, ◌-◌, ◌++◌, suc, sym, subst, ◌∙◌, ap, length, map, reverse, All, AllPairs, filter, arith}
 use Rattle.std.specs.List.{range_with_len}
 use Rattle.std.proofs.lemmas.List.{length-map}

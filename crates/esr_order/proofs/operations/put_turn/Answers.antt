@@ -1,4 +1,3 @@
--- Why `put_turn` keeps its contract: the goals that are left to a proof of ours.
 use Rattle.std.proofs.Common.{◌≡◌, ◌<◌, ◌-◌, suc, ◌∙◌, [], ◌++◌, append-nil, refl, sym, subst, map, drop, length, get_or, arith}
 use Rattle.std.proofs.lemmas.List.{drop_all, length-set}
 use Rattle.esr_order.specs.Turns.{operation_at}

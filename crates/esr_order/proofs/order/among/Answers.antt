@@ -1,4 +1,3 @@
--- Why `among` keeps its contract: the goals that are left to a proof of ours.
 use Rattle.std.proofs.Common.{length, map, ◌∙◌, ap, filter, subst}
 use Rattle.std.specs.List.{range_with_len}
 use Rattle.esr_history.specs.Operations.{operations}

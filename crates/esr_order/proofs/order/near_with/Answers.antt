@@ -1,4 +1,3 @@
--- Why `near_with` keeps its contract: the goals that are left to a proof of ours.
 use Rattle.std.proofs.Common.{◌∙◌, map, sym, ap, subst}
 use Rattle.esr_base.specs.declared.numbers.TxnId.{TxnId}
 use Rattle.esr_order.specs.Near.{AreNear}

@@ -1,4 +1,3 @@
--- Why `begin_place` keeps its contract: the goals that are left to a proof of ours.
 use Rattle.std.proofs.Common.{◌≡◌, ◌∙◌, ap, take, reverse, slice_get}
 use Rattle.esr_order.specs.Scans.{is_strict_begin}
 use Rattle.esr_order.proofs.Spans.{before_begin_is}

@@ -1,4 +1,3 @@
--- Why `committed` keeps its contract: the goals that are left to a proof of ours.
 use Rattle.std.proofs.Common.{◌∙◌, ap, map, filter_map, slice_get}
 use Rattle.esr_base.specs.declared.numbers.TxnId.{TxnId}
 use Rattle.esr_order.specs.Scans.{commit_in}

@@ -1,4 +1,3 @@
--- Why `count_must` keeps its contract: the goals that are left to a proof of ours.
 use Rattle.std.proofs.Common.{◌∙◌, sym}
 use Rattle.esr_order.proofs.Commits.{must_counted, not_strict}
 use Rattle.esr_order.proofs.scan.count_must.Goals as goal

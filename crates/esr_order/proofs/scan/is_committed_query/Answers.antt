@@ -1,4 +1,3 @@
--- Why `is_committed_query` keeps its contract: the goals that are left to a proof of ours.
 use Rattle.std.proofs.Common.{◌≡◌, ◌∙◌, ap, sym, ◌&&◌, true}
 use Rattle.esr_history.specs.Events.{is_query, is_committed}
 use Rattle.esr_history.specs.Machine.{accepted_in}

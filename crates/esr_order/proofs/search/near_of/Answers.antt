@@ -1,4 +1,3 @@
--- Why `near_of` keeps its contract: the goals that are left to a proof of ours.
 use Rattle.std.proofs.Common.{◌≡◌, ◌<◌, ◌-◌, ◌⊎◌, suc, true, sym, ◌∙◌, subst, inl, inr, length, map, reverse, All, arith}
 use Rattle.std.specs.List.{list_any}
 use Rattle.esr_history.specs.Queries.{updates_of}

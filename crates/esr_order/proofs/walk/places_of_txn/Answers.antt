@@ -1,4 +1,3 @@
--- Why `places_of_txn` keeps its contract: the goals that are left to a proof of ours.
 use Rattle.std.proofs.Common.{sym, subst}
 use Rattle.esr_history.specs.BackLinks.{accepted_txn, txn_in}
 use Rattle.esr_order.proofs.Linked.{IsWalk, walk_none, walk_done, walk_next, walk_smaller, accepted_owns}

@@ -1,4 +1,3 @@
--- Why `close_on` keeps its contract: the goals that are left to a proof of ours.
 use Rattle.std.proofs.Common.{rules}
 use Rattle.esr_session.proofs.engine.close_on.Goals as goal
 

@@ -1,4 +1,3 @@
--- Why `match_sessions` keeps its contract: the goals that are left to a proof of ours.
 use Rattle.std.proofs.Common.{◌≡◌, ◌<◌, List, length, true, Result, Ok, Err, arith, map-id, IfErr}
 use Rattle.esr_history.specs.declared.event.Entry.{Entry}
 use Rattle.esr_session.specs.declared.receipt.CloseError.{CloseError}

@@ -1,4 +1,3 @@
--- Why `step_in` keeps its contract: the goals that are left to a proof of ours.
 use Rattle.std.proofs.Common.{rules}
 use Rattle.esr_session.proofs.lock.step_in.Goals as goal
 

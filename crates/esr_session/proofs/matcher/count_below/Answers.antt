@@ -1,4 +1,3 @@
--- Why `count_below` keeps its contract: the goals that are left to a proof of ours.
 use Rattle.std.proofs.Common.{ap, length, arith}
 use Rattle.esr_session.proofs.Lists.{count_more}
 use Rattle.esr_session.proofs.matcher.count_below.Goals as goal

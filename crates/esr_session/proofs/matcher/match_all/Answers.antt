@@ -1,4 +1,3 @@
--- Why `match_all` keeps its contract: the goals that are left to a proof of ours.
 use Rattle.std.proofs.Common.{◌≡◌, ◌+◌, ◌≤◌, ◌<◌, ◌++◌, ◌∷◌, [], List, length, map, take, drop, suc, sym, subst, ap, ◌∙◌, arith, rules}
 use Rattle.std.proofs.lemmas.List.{take_more, take_all, take-map, length-map}
 use Rattle.esr_session.specs.Receipts.{GoodFrom, AllGood, IsForeignIn, count_in, receipts_in, Receipt}

@@ -1,4 +1,3 @@
--- Why `match_list` keeps its contract: the goals that are left to a proof of ours.
 use Rattle.std.proofs.Common.{◌≡◌, ◌+◌, ◌≤◌, ◌++◌, ◌∷◌, [], true, false, List, get_or, length, map, take, drop, set, suc, sym, subst, ap, ◌∙◌, append_assoc, arith}
 use Rattle.std.proofs.lemmas.List.{take_more}
 use Rattle.esr_history.specs.declared.event.Event.TheVariants.{BeginUpdate}

@@ -1,4 +1,3 @@
--- Why `step_several` keeps its contract: the goals that are left to a proof of ours.
 use Rattle.std.proofs.Common.{arith, sym, subst, List}
 use Rattle.esr_session.specs.Receipts.{IsReceipt, Receipt}
 use Rattle.esr_session.proofs.Calls.{one_more}

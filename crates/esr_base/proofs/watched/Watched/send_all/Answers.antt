@@ -1,4 +1,3 @@
--- Why `Watched::send_all` keeps its contract: the goals that are left to a proof of ours.
 use Rattle.std.proofs.Common.{ℕ, List, [], Option, None, Some, sym, ◌∙◌, append-nil}
 use Rattle.std.specs.Io.KnownBytes.{Appends, Keeps}
 use Rattle.esr_base.proofs.watched.Watched.send_all.Goals as goal

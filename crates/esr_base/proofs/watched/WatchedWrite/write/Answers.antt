@@ -1,4 +1,3 @@
--- Why `WatchedWrite::write` keeps its contract: the goals that are left to a proof of ours.
 use Rattle.std.proofs.Common.{rules}
 use Rattle.esr_base.proofs.watched.WatchedWrite.write.Goals as goal
 

@@ -1,4 +1,3 @@
--- Why `Board::claim` keeps its contract: the goals that are left to a proof of ours.
 use Rattle.std.proofs.Common.{rules, arith, ◌∙◌}
 use Rattle.esr_board.proofs.Keeps.{claims, counted-claim, one_pass-claim, ended-claim, not_ended}
 use Rattle.esr_board.proofs.board.Board.claim.Goals as goal

@@ -1,4 +1,3 @@
--- Why `Board::settle` keeps its contract: the goals that are left to a proof of ours.
 use Rattle.std.proofs.Common.{◌≡◌, rules, arith, sym, sum_by, List, [], map, subst}
 use Rattle.esr_board.specs.Boards.{IsSeatOf, claimed, hand_of, BoardSeat}
 use Rattle.esr_board.specs.Claims.{passes_of, IsBoardAt}

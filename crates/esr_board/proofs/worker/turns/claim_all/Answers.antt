@@ -1,4 +1,3 @@
--- Why `claim_all` keeps its contract: the goals that are left to a proof of ours.
 use Rattle.std.proofs.Common.{rules, false, sym, subst, ◌∙◌, ◌≡◌, ◌<◌, ◌++◌, [], ◌∷◌, ℕ, map, length, arith}
 use Rattle.std.proofs.lemmas.List.{get_or_default}
 use Rattle.esr_history.specs.Queries.{is_committed_query}

@@ -1,4 +1,3 @@
--- Why `take_turns` keeps its contract: the goals that are left to a proof of ours.
 use Rattle.std.proofs.Common.{arith}
 use Rattle.esr_board.proofs.Slots.{worked_is}
 use Rattle.esr_board.proofs.worker.turns.take_turns.Goals as goal

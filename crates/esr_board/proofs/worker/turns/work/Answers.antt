@@ -1,4 +1,3 @@
--- Why `work` keeps its contract: the goals that are left to a proof of ours.
 use Rattle.std.proofs.Common.{Result, Ok, Err, IfOk}
 use Rattle.esr_board.proofs.Keeping.{found_if_ok}
 use Rattle.esr_board.proofs.worker.turns.work.Goals as goal

@@ -1,4 +1,3 @@
--- Why `Arcs::at` keeps its contract: the goals that are left to a proof of ours.
 use Rattle.std.proofs.Common.{arith, ◌∙◌, ◌<◌, get_or, length, ap, sym, subst}
 use Rattle.esr_cert.specs.Network.{arc_at}
 use Rattle.esr_cert.proofs.ArcsLaws.{updates_few, count_is, chains_few, row_in_chains, chain_whole, place_in_chain, link_of, pair_is, must_inside, must_is}

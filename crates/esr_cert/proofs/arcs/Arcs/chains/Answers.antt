@@ -1,4 +1,3 @@
--- Why `Arcs::chains` keeps its contract: the goals that are left to a proof of ours.
 use Rattle.std.proofs.Common.{arith, sym, subst, refl, length}
 use Rattle.std.proofs.lemmas.List.{length-map}
 use Rattle.esr_cert.specs.Links.{HaveLinks}

@@ -1,4 +1,3 @@
--- Why `Arcs::len` keeps its contract: the goals that are left to a proof of ours.
 use Rattle.std.proofs.Common.{arith, ◌∙◌, length, ap}
 use Rattle.esr_cert.proofs.ArcsLaws.{count_is, arcs_are}
 use Rattle.esr_cert.proofs.arcs.Arcs.len.Goals as goal

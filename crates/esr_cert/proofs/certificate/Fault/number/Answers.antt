@@ -1,4 +1,3 @@
--- Why `Fault::number` keeps its contract: the goals that are left to a proof of ours.
 use Rattle.std.proofs.Common.{rules}
 use Rattle.esr_cert.proofs.certificate.Fault.number.Goals as goal
 

@@ -1,4 +1,3 @@
--- Why `Problem::of_sound` keeps its contract: the goals that are left to a proof of ours.
 use Rattle.std.proofs.Common.{rules}
 use Rattle.esr_cert.proofs.problem.Problem.of_sound.Goals as goal
 

@@ -1,4 +1,3 @@
--- Why `Problem::updates` keeps its contract: the goals that are left to a proof of ours.
 use Rattle.std.proofs.Common.{◌≡◌, ◌∙◌, true, sym, ap}
 use Rattle.esr_cert.specs.Problem.{is_sound}
 use Rattle.esr_cert.proofs.Sound.{few}

@@ -1,4 +1,3 @@
--- Why `ShortArc::of` keeps its contract: the goals that are left to a proof of ours.
 use Rattle.std.proofs.Common.{rules}
 use Rattle.esr_cert.proofs.residual.ShortArc.of.Goals as goal
 

@@ -1,4 +1,3 @@
--- Why `Rows::place_of` keeps its contract: the goals that are left to a proof of ours.
 use Rattle.std.proofs.Common.{rules, ltb, ◌≡◌, ◌+◌, ◌<◌, ◌∙◌, length, ap, sym, subst}
 use Rattle.std.specs.List.Sorted.{IsNonDecreasingBy}
 use Rattle.std.proofs.lemmas.List.{get_or_read}

@@ -1,4 +1,3 @@
--- Why `Machine::committed_values` keeps its contract: the goals that are left to a proof of ours.
 use Rattle.std.proofs.Common.{ap, ◌∙◌}
 use Rattle.std.proofs.lemmas.Result.{IfOk-weaker}
 use Rattle.esr_history.specs.Machine.{accepted_in}

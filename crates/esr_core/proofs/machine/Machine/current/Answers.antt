@@ -1,4 +1,3 @@
--- Why `Machine::current` keeps its contract: the goals that are left to a proof of ours.
 use Rattle.std.proofs.Common.{ap, ◌∙◌, ◌<◌, subst, sym, length, w64}
 use Rattle.std.proofs.lemmas.Int.{to_z-of_z}
 use Rattle.esr_history.specs.Events.{current_value}

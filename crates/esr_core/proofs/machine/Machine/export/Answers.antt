@@ -1,4 +1,3 @@
--- Why `Machine::export` keeps its contract: the goals that are left to a proof of ours.
 use Rattle.std.proofs.Common.{◌≡◌, ◌∙◌, ℕ, ap, false, true, not, Bool, Option, Some, arith, unwrap_or, option_map}
 use Rattle.esr_history.specs.declared.back_links.Facts.{Facts}
 use Rattle.esr_history.specs.Events.{is_update}

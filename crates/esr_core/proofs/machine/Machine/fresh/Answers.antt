@@ -1,4 +1,3 @@
--- Why `Machine::fresh` keeps its contract: the goals that are left to a proof of ours.
 use Rattle.std.proofs.Common.{sym, ◌∙◌}
 use Rattle.esr_core.proofs.machine.Machine.fresh.Goals as goal
 

@@ -1,4 +1,3 @@
--- Why `Machine::new` keeps its contract: the goals that are left to a proof of ours.
 use Rattle.std.proofs.Common.{◌≡◌, ◌≤◌, ◌∙◌, ap, map, arith, [], length}
 use Rattle.esr_core.specs.Words.{Versions}
 use Rattle.esr_history.specs.Machine.{Schedule}

@@ -1,4 +1,3 @@
--- Why `Machine::query_reads` keeps its contract: the goals that are left to a proof of ours.
 use Rattle.std.proofs.Common.{arith}
 use Rattle.esr_core.proofs.Locks.{locks_at_item}
 use Rattle.esr_core.proofs.machine.Machine.query_reads.Goals as goal

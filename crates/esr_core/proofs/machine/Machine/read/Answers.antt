@@ -1,4 +1,3 @@
--- Why `Machine::read` keeps its contract: the goals that are left to a proof of ours.
 use Rattle.std.proofs.Common.{sym, subst}
 use Rattle.esr_history.specs.Machine.{Schedule}
 use Rattle.esr_core.specs.States.{IsStateOf}

@@ -1,4 +1,3 @@
--- Why `Machine::totals` keeps its contract: the goals that are left to a proof of ours.
 use Rattle.std.proofs.Common.{arith}
 use Rattle.esr_history.proofs.Charges.{legal_within_limits}
 use Rattle.esr_history.proofs.Sums.{imports_are_exports}

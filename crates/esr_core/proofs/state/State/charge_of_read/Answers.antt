@@ -1,4 +1,3 @@
--- Why `State::charge_of_read` keeps its contract: the goals that are left to a proof of ours.
 use Rattle.std.proofs.Common.{rules}
 use Rattle.esr_core.proofs.state.State.charge_of_read.Goals as goal
 

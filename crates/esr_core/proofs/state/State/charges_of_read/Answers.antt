@@ -1,4 +1,3 @@
--- Why `State::charges_of_read` keeps its contract: the goals that are left to a proof of ours.
 use Rattle.std.proofs.Common.{◌≡◌, ◌∙◌, sym, ap, true, false}
 use Rattle.esr_items.specs.Values.{versions_at}
 use Rattle.esr_history.specs.Events.{is_query}

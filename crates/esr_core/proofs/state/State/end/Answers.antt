@@ -1,4 +1,3 @@
--- Why `State::end` keeps its contract: the goals that are left to a proof of ours.
 use Rattle.std.proofs.Common.{◌≡◌, ◌-◌, ◌<◌, ◌≤◌, ◌∷◌, [], refl, sym, arith, None, length, true}
 use Rattle.esr_core.specs.Words.{Reply, Committed, Aborted}
 use Rattle.esr_history.specs.Events.{is_active}

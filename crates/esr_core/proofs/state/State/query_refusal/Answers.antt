@@ -1,4 +1,3 @@
--- Why `State::query_refusal` keeps its contract: the goals that are left to a proof of ours.
 use Rattle.std.proofs.Common.{◌≡◌, ◌<◌, ◌≤◌, ◌∙◌, sym, ap, None, Some}
 use Rattle.esr_items.specs.Values.{versions_at}
 use Rattle.esr_history.specs.Events.{all_reads_of}

@@ -1,4 +1,3 @@
--- Why `State::read_as_query` keeps its contract: the goals that are left to a proof of ours.
 use Rattle.std.proofs.Common.{◌≡◌, ℕ, ◌+◌, ◌-◌, ◌<◌, ◌≤◌, ◌∙◌, sym, ap, arith, refl, None, Some, Option, length, get_or, true, IfSome}
 use Rattle.esr_items.specs.Values.{versions_at}
 use Rattle.esr_core.specs.Words.{TxnId, Read}

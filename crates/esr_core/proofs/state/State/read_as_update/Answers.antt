@@ -1,4 +1,3 @@
--- Why `State::read_as_update` keeps its contract: the goals that are left to a proof of ours.
 use Rattle.std.proofs.Common.{◌≡◌, ◌<◌, length, true}
 use Rattle.esr_core.specs.Words.{Read}
 use Rattle.esr_history.specs.Events.{is_active, is_update}

@@ -1,4 +1,3 @@
--- Why `EmbeddedEngine::close` keeps its contract: the goals that are left to a proof of ours.
 use Rattle.std.proofs.Common.{subst}
 use Rattle.esr_items.specs.Weights.{weighted}
 use Rattle.esr_history.specs.Queries.{ImportBoundsDistance}

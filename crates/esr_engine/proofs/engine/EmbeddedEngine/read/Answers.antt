@@ -1,4 +1,3 @@
--- Why `EmbeddedEngine::read` keeps its contract: the goals that are left to a proof of ours.
 use Rattle.std.proofs.Common.{◌≡◌, ◌∙◌, sym, subst, false}
 use Rattle.esr_history.specs.declared.event.Event.TheVariants.{Read}
 use Rattle.esr_items.specs.Weights.{weighted}

@@ -1,4 +1,3 @@
--- Why `EmbeddedEngine::renew` keeps its contract: the goals that are left to a proof of ours.
 use Rattle.std.proofs.Common.{◌≡◌, ◌∙◌, ap, sym, true, false, true≢false, refl}
 use Rattle.esr_core.specs.Renewed.{has_active}
 use Rattle.esr_engine.proofs.Renewal.{has_some, has_none}

@@ -1,4 +1,3 @@
--- Why `EmbeddedEngine::step` keeps its contract: the goals that are left to a proof of ours.
 use Rattle.std.proofs.Common.{◌≡◌, ◌∙◌, sym, subst, false}
 use Rattle.esr_history.specs.Machine.{Schedule}
 use Rattle.esr_engine.specs.Capacity.{is_full}

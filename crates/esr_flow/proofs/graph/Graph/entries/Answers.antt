@@ -1,4 +1,3 @@
--- Why `Graph::entries` keeps its contract: the goals that are left to a proof of ours.
 use Rattle.std.proofs.Common.{◌≡◌, arith, get_or, length, refl, subst}
 use Rattle.esr_cert.specs.Rows.{first_steps}
 use Rattle.esr_flow.specs.Graph.{arcs_of}

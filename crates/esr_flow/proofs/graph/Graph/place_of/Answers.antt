@@ -1,4 +1,3 @@
--- Why `Graph::place_of` keeps its contract: the goals that are left to a proof of ours.
 use Rattle.std.proofs.Common.{◌≡◌, Contains, ◌∙◌, ap, sym, subst}
 use Rattle.esr_cert.specs.Steps.{start}
 use Rattle.esr_cert.specs.Rows.{row_in, span_at}

@@ -1,4 +1,3 @@
--- Why `Graph::set_amount` keeps its contract: the goals that are left to a proof of ours.
 use Rattle.std.proofs.Common.{◌≡◌, ℕ, List, arith, get_or, get_or-set_same, set, sym, ◌∙◌}
 use Rattle.std.specs.Cmp.{booleans_Decides}
 use Rattle.esr_flow.specs.Graph.{arcs_of}

@@ -1,4 +1,3 @@
--- Why `BackLinks::add` keeps its contract: the goals that are left to a proof of ours.
 use Rattle.std.proofs.Common.{◌≡◌, ◌+◌, ◌++◌, ◌∷◌, [], length, sym, ◌∙◌, ap, arith, vec_capacity, length-append}
 use Rattle.esr_history.specs.BackLinks.{accepted_item, item_in}
 use Rattle.esr_history.proofs.Linking.{accepted_more, refused_more, links_length}

@@ -1,4 +1,3 @@
--- Why `BackLinks::clear` keeps its contract: the goals that are left to a proof of ours.
 use Rattle.std.proofs.Common.{replicate, arith}
 use Rattle.esr_history.proofs.Linking.{zeros, lasts_length}
 use Rattle.esr_history.proofs.back_links.BackLinks.clear.Goals as goal

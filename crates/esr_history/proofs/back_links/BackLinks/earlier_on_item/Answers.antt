@@ -1,4 +1,3 @@
--- Why `BackLinks::earlier_on_item` keeps its contract: the goals that are left to a proof of ours.
 use Rattle.std.proofs.Common.{arith}
 use Rattle.esr_history.proofs.Linking.{link_at}
 use Rattle.esr_history.proofs.back_links.BackLinks.earlier_on_item.Goals as goal

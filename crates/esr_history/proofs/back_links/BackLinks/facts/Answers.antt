@@ -1,4 +1,3 @@
--- Why `BackLinks::facts` keeps its contract: the goals that are left to a proof of ours.
 use Rattle.std.proofs.Common.{◌<◌, ◌-◌, ◌∙◌, sym, ap, Some, ◌+◌, arith, length, ltb-true}
 use Rattle.esr_history.specs.BackLinks.{decoded, key_at, accepted_end, last_place, begun_count}
 use Rattle.esr_history.proofs.Linking.{at_key_is, decoded_coded, facts_are}

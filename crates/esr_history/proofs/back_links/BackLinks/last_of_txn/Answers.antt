@@ -1,4 +1,3 @@
--- Why `BackLinks::last_of_txn` keeps its contract: the goals that are left to a proof of ours.
 use Rattle.std.proofs.Common.{◌∙◌, ap, Some, ◌+◌, ◌<◌, arith}
 use Rattle.esr_history.specs.BackLinks.{decoded, key_at, accepted_txn, last_place, begun_count}
 use Rattle.esr_history.proofs.Linking.{at_key_is, decoded_coded}

@@ -1,4 +1,3 @@
--- Why `BackLinks::last_on_item` keeps its contract: the goals that are left to a proof of ours.
 use Rattle.std.proofs.Common.{◌∙◌, ap, Some}
 use Rattle.esr_history.specs.BackLinks.{decoded, key_at, accepted_item, last_place}
 use Rattle.esr_history.proofs.Linking.{at_key_is, decoded_coded}

@@ -1,4 +1,3 @@
--- Why `BackLinks::new` keeps its contract: the goals that are left to a proof of ours.
 use Rattle.std.proofs.Common.{arith}
 use Rattle.esr_history.proofs.Linking.{zeros}
 use Rattle.esr_history.proofs.back_links.BackLinks.new.Goals as goal

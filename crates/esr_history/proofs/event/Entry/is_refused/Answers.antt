@@ -1,4 +1,3 @@
--- Why `Entry::is_refused` keeps its contract: the goals that are left to a proof of ours.
 use Rattle.std.proofs.Common.{rules}
 use Rattle.esr_history.proofs.event.Entry.is_refused.Goals as goal
 

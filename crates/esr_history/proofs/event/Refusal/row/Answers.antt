@@ -1,4 +1,3 @@
--- Why `Refusal::row` keeps its contract: the goals that are left to a proof of ours.
 use Rattle.std.proofs.Common.{rules}
 use Rattle.esr_history.proofs.event.Refusal.row.Goals as goal
 

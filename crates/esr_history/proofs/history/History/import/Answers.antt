@@ -1,4 +1,3 @@
--- Why `History::import` keeps its contract: the goals that are left to a proof of ours.
 use Rattle.std.proofs.Common.{arith}
 use Rattle.esr_history.proofs.Importing.{import_at}
 use Rattle.esr_history.proofs.history.History.import.Goals as goal

@@ -1,4 +1,3 @@
--- Why `History::last_of_txn` keeps its contract: the goals that are left to a proof of ours.
 use Rattle.std.proofs.Common.{◌∙◌, ap}
 use Rattle.esr_history.specs.Machine.{HistoryView}
 use Rattle.esr_history.specs.BackLinks.{last_place, accepted_txn}

@@ -1,4 +1,3 @@
--- Why `PlainMetric::distance` keeps its contract: the goals that are left to a proof of ours.
 use Rattle.std.proofs.Common.{rules}
 use Rattle.esr_items.proofs.metric.PlainMetric.distance.Goals as goal
 

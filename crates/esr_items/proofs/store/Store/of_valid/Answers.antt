@@ -1,4 +1,3 @@
--- Why `Store::of_valid` keeps its contract: the goals that are left to a proof of ours.
 use Rattle.std.proofs.Common.{◌≡◌, ℤ, List, [], ◌∷◌, map, refl, ap, ◌∙◌}
 use Rattle.esr_items.specs.declared.store.Versions.{Versions}
 use Rattle.esr_items.specs.Values.{both_versions}

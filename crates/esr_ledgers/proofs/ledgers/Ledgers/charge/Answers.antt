@@ -1,4 +1,3 @@
--- Why `Ledgers::charge` keeps its contract: the goals that are left to a proof of ours.
 use Rattle.std.proofs.Common.{◌≡◌, ◌+◌, ◌<◌, ◌^◌, arith, length, ◌∙◌, refl}
 use Rattle.std.proofs.Math.Nat.{mul-le-mul_right}
 use Rattle.esr_ledgers.specs.Books.{AreCharges, AreBooks, quote_of, charged, Fits}

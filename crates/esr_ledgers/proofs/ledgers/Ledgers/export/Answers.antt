@@ -1,4 +1,3 @@
--- Why `Ledgers::export` keeps its contract: the goals that are left to a proof of ours.
 use Rattle.esr_ledgers.proofs.Books.{update_open}
 use Rattle.esr_ledgers.proofs.ledgers.Ledgers.export.Goals as goal
 

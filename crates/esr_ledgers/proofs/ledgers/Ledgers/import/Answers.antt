@@ -1,4 +1,3 @@
--- Why `Ledgers::import` keeps its contract: the goals that are left to a proof of ours.
 use Rattle.esr_ledgers.proofs.Books.{query_open}
 use Rattle.esr_ledgers.proofs.ledgers.Ledgers.import.Goals as goal
 

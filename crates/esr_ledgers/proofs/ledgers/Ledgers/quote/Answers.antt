@@ -1,4 +1,3 @@
--- Why `Ledgers::quote` keeps its contract: the goals that are left to a proof of ours.
 use Rattle.esr_ledgers.specs.Books.{AreCharges}
 use Rattle.esr_ledgers.proofs.Books.{all_open, update_open}
 use Rattle.esr_ledgers.proofs.ledgers.Ledgers.quote.Goals as goal

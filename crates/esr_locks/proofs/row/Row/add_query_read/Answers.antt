@@ -1,4 +1,3 @@
--- Why `Row::add_query_read` keeps its contract: the goals that are left to a proof of ours.
 use Rattle.std.proofs.Common.{◌≡◌, ◌∙◌, sym, ap, subst, refl, not, ℕ, map, ◌<◌, arith, All}
 use Rattle.esr_history.proofs.Ascending.{placed_ascends, map-upserted, any-map}
 use Rattle.esr_locks.specs.Rows.{RowOf, query_and_count}

@@ -1,4 +1,3 @@
--- Why `Row::add_reader` keeps its contract: the goals that are left to a proof of ours.
 use Rattle.std.proofs.Common.{◌≡◌, ◌∙◌, ◌==◌, ◌||◌, sym, ap, subst, refl, not, map, arith, option_map}
 use Rattle.std.specs.List.{list_any}
 use Rattle.esr_history.specs.Ascending.{upserted}

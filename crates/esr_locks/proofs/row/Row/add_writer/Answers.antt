@@ -1,4 +1,3 @@
--- Why `Row::add_writer` keeps its contract: the goals that are left to a proof of ours.
 use Rattle.std.proofs.Common.{rules, ◌≡◌, ◌∙◌, ◌||◌, ◌==◌, sym, ap, subst, refl, not}
 use Rattle.std.specs.List.{list_any}
 use Rattle.esr_history.proofs.Ascending.{any-map}

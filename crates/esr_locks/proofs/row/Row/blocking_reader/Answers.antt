@@ -1,4 +1,3 @@
--- Why `Row::blocking_reader` keeps its contract: the goals that are left to a proof of ours.
 use Rattle.std.proofs.Common.{◌≡◌, ◌∙◌, sym, ap, refl, not, ◌==◌, true, ◌&&◌, Option, None, Some, find, option_map, arith}
 use Rattle.std.specs.List.{list_any}
 use Rattle.esr_history.proofs.Ascending.{any-map}

@@ -1,4 +1,3 @@
--- Why `Row::blocking_update` keeps its contract: the goals that are left to a proof of ours.
 use Rattle.std.proofs.Common.{◌≡◌, ℕ, refl, not, ◌==◌, Bool, true, false, ◌&&◌, ◌||◌}
 use Rattle.esr_locks.specs.Modes.{Read, Write, conflicts}
 use Rattle.esr_locks.specs.Tables.{is_reader, is_writer, blocks}

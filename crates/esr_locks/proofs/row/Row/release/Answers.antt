@@ -1,4 +1,3 @@
--- Why `Row::release` keeps its contract: the goals that are left to a proof of ours.
 use Rattle.std.proofs.Common.{◌≡◌, ◌∙◌, ap, subst, refl, not, ℕ, map, ◌==◌, false, Option, None, Some, if◌then◌else◌, arith, filter, unwrap_or, option_map}
 use Rattle.esr_base.specs.declared.numbers.TxnId.{TxnId}
 use Rattle.esr_history.proofs.Ascending.{filter_ascends, all_filter, map-others}

@@ -1,4 +1,3 @@
--- Why `LockTable::add` keeps its contract: the goals that are left to a proof of ours.
 use Rattle.std.proofs.Common.{◌≡◌, ℕ, ◌<◌, ◌∙◌, sym, ap, subst, length, map, true, min, arith, ◌⊎◌, set, slice_index}
 use Rattle.std.proofs.lemmas.Bool.{not-false}
 use Rattle.std.proofs.lemmas.List.{length-map}

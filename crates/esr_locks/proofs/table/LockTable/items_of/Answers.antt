@@ -1,4 +1,3 @@
--- Why `LockTable::items_of` keeps its contract: the goals that are left to a proof of ours.
 use Rattle.std.proofs.Common.{map, arith}
 use Rattle.esr_locks.proofs.Tables.{table_listed, table_within}
 use Rattle.esr_locks.proofs.table.LockTable.items_of.Goals as goal

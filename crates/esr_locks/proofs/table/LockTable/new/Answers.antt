@@ -1,4 +1,3 @@
--- Why `LockTable::new` keeps its contract: the goals that are left to a proof of ours.
 use Rattle.esr_locks.proofs.Tables.{IsTable-empty}
 use Rattle.esr_locks.proofs.table.LockTable.new.Goals as goal
 

@@ -1,4 +1,3 @@
--- Why `LockTable::release` keeps its contract: the goals that are left to a proof of ours.
 use Rattle.std.proofs.Common.{◌≡◌, ℕ, ◌<◌, subst, map, length, if◌then◌else◌, arith}
 use Rattle.esr_locks.specs.Rows.{RowOf, row_at, held_at}
 use Rattle.esr_locks.specs.Tables.{Table, released, contains_item}

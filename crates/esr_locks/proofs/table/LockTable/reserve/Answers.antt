@@ -1,4 +1,3 @@
--- Why `LockTable::reserve` keeps its contract: the goals that are left to a proof of ours.
 use Rattle.std.proofs.Common.{◌≡◌, ◌<◌, ◌∙◌, sym, ap, subst, length, map, set, arith, rules, min, slice_index}
 use Rattle.std.proofs.lemmas.List.{length-map}
 use Rattle.esr_locks.specs.Rows.{RowOf, LockedItemsOf}

@@ -1,4 +1,3 @@
--- Why `Index::extend` keeps its contract: the goals that are left to a proof of ours.
 use Rattle.std.proofs.Common.{◌≡◌, ◌-◌, ◌∙◌, [], ◌∷◌, true, slice_get, Some, sym, ap, subst, length, take, drop, filter_map, All, arith}
 use Rattle.std.proofs.lemmas.List.{length-append}
 use Rattle.esr_base.specs.declared.numbers.TxnId.{TxnId}

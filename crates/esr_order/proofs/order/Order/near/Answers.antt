@@ -1,4 +1,3 @@
--- Why `Order::near` keeps its contract: the goals that are left to a proof of ours.
 use Rattle.std.proofs.Common.{◌∙◌, map, ap}
 use Rattle.esr_order.proofs.order.Order.near.Goals as goal
 

@@ -1,4 +1,3 @@
--- Why `Order::of` keeps its contract: the goals that are left to a proof of ours.
 use Rattle.std.proofs.Common.{◌≡◌, ◌≢◌, ◌*◌, ◌≤◌, length, map, filter, sym, ◌∙◌, ap, subst, AllPairs, false}
 use Rattle.std.specs.List.{range_with_len}
 use Rattle.esr_history.specs.Queries.{updates_of}

@@ -1,4 +1,3 @@
--- Why `Order::take_chain` keeps its contract: the goals that are left to a proof of ours.
 use Rattle.std.proofs.Common.{◌≡◌, ◌≢◌, ◌<◌, ℕ, zero, suc, List, [], ◌∷◌, false, Some, refl, sym, ap, ◌∙◌, length, get_or, set, map, arith, eqb, slice_get, option_map}
 use Rattle.std.proofs.lemmas.Option.{slice_get-map, slice_get-get_or}
 use Rattle.esr_order.specs.declared.links.Links.{Links}

@@ -1,4 +1,3 @@
--- Why `AccessRows::extend` keeps its contract: the goals that are left to a proof of ours.
 use Rattle.std.proofs.Common.{◌∙◌, sym, subst}
 use Rattle.esr_order.specs.AccessRows.{AreRowsOf}
 use Rattle.esr_order.proofs.Rowed.{rows_more}

@@ -1,4 +1,3 @@
--- Why `AccessRows::put` keeps its contract: the goals that are left to a proof of ours.
 use Rattle.std.proofs.Common.{inl, inr, ⊎_elim, ◌∙◌}
 use Rattle.esr_order.proofs.Rowed.{row_put, row_others, row_unput}
 use Rattle.esr_order.proofs.rows.AccessRows.put.Goals as goal

@@ -1,4 +1,3 @@
--- Why `Items::of_query` keeps its contract: the goals that are left to a proof of ours.
 use Rattle.std.proofs.Common.{◌≡◌, ℕ, zero, suc, ◌<◌, ◌||◌, false, refl, sym, ◌∙◌, ap, subst, length, replicate, All}
 use Rattle.std.specs.List.{list_any}
 use Rattle.esr_order.specs.Scans.{Access}

@@ -1,4 +1,3 @@
--- Why `Engine::open_sessions` keeps its contract: the goals that are left to a proof of ours.
 use Rattle.std.proofs.Common.{rules}
 use Rattle.esr_session.proofs.engine.Engine.open_sessions.Goals as goal
 

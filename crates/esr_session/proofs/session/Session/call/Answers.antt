@@ -1,4 +1,3 @@
--- Why `Session::call` keeps its contract: the goals that are left to a proof of ours.
 use Rattle.std.proofs.Common.{rules}
 use Rattle.esr_session.proofs.session.Session.call.Goals as goal
 

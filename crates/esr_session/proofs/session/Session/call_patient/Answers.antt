@@ -1,4 +1,3 @@
--- Why `Session::call_patient` keeps its contract: the goals that are left to a proof of ours.
 use Rattle.std.proofs.Common.{rules, ◌≡◌, ◌<◌, length, ◌++◌, ◌∷◌, [], true, List, ap, sym, ◌∙◌, append_assoc, length-append, arith}
 use Rattle.esr_session.specs.Receipts.{AreBlocked, is_blocked, Receipt}
 use Rattle.esr_session.proofs.Calls.{blocked_more, if_err}
