@@ -29,14 +29,14 @@ use esr_items::Metric;
 use esr_order::{Index, Order};
 use std::alloc::{AllocError, Global};
 
-/// The update at a position.
+/// Returns the update at a position.
 fn update_at(updates: &[TxnId], i: u32) -> Option<TxnId>
     ensures { result ≡ slice_get updates.now i }
 {
     updates.get(i as usize).copied()
 }
 
-/// The updates at these positions.
+/// Returns the updates at these positions.
 fn updates_at(alloc: Global, updates: &[TxnId], set: &[u32]) -> Result<Vec<TxnId>, AllocError>
     ensures { IfOk result (λ v. v.items ≡ filter_map (slice_get updates.now) set.now) }
 {
@@ -45,7 +45,8 @@ fn updates_at(alloc: Global, updates: &[TxnId], set: &[u32]) -> Result<Vec<TxnId
         .collect(alloc)
 }
 
-/// A certificate of the problem, with its smallest closed set of least cost, and with no count of augmentations.
+/// Returns a certificate of the problem, with its smallest closed set of least cost, and without a count of
+/// augmentations.
 fn certify(alloc: Global, problem: &Problem) -> Result<Certificate, NoMemory>
     ensures certifies { IfOk result (λ c. Certifies problem.now (certificate_of c)) }
     ensures least { IfOk result (λ c. IsSmallestLeast problem.now (in_set c.set.items)) }
@@ -67,7 +68,7 @@ pub fn certify_with_steps(alloc: Global, problem: &Problem) -> Result<Certificat
     Ok(solve(alloc, &network)?.certificate)
 }
 
-/// What is found of a query, of the order among its near updates.
+/// Returns the finding of a query, given the order of its near updates.
 fn find<M: Metric>(
     alloc: Global,
     history: &History<M>,
@@ -207,7 +208,7 @@ fn findings_of<M: Metric>(
     Ok(findings)
 }
 
-/// The committed updates of a history, and what is found of its committed queries.
+/// Returns the committed updates of a history, and the findings of its committed queries.
 fn book_of<M: Metric>(alloc: Global, history: &History<M>) -> Result<Book, AuditError>
     ensures book { IfOk result (IsBook M.distance_by history.now.schedule) }
     ensures err { IfErr result (λ e. e ≡ AuditError.NoMemory) }

@@ -61,7 +61,7 @@ fn values_by_item(
     Ok(lists)
 }
 
-/// The distance of the values from a version of the item, summed.
+/// Returns the sum of the distances of the values from a version of the item.
 fn distance_to<M: Metric>(metric: &M, x: ItemId, values: &[i64], version: i64) -> u64
     requires few { length values.now ≤ MAX_READS }
     requires values { All IsValue values.now }
@@ -75,7 +75,7 @@ fn distance_to<M: Metric>(metric: &M, x: ItemId, values: &[i64], version: i64) -
     sum
 }
 
-/// The cost of each version: of the opening value, and of what each writer left.
+/// Returns the cost of each version: of the opening value, and of the value that each writer left.
 fn costs_of<M: Metric>(
     alloc: Global,
     metric: &M,
@@ -116,7 +116,7 @@ fn writers_and_values(alloc: Global, links: Option<Links>) -> (Vec<u32>, Vec<i64
     }
 }
 
-/// The chain of an item, of those who wrote it and the values that they left, and of the values that were read of it.
+/// Returns the chain of an item, given its writers with the values that they left, and the values that were read of it.
 fn chain_of<M: Metric>(
     alloc: Global,
     history: &History<M>,
@@ -147,7 +147,7 @@ fn chain_of<M: Metric>(
     })
 }
 
-/// The chains of the items that were read, ascending. They are taken out of the order, each when its turn comes.
+/// Returns the chains of the items that were read, ascending. Takes them out of the order one by one.
 pub fn chains_of<M: Metric>(
     alloc: Global,
     history: &History<M>,

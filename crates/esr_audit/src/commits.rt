@@ -23,7 +23,7 @@ pub struct CommitLists {
     pub queries: Vec<TxnId>,
 }
 
-/// The transactions that are queries, and the others.
+/// Separates the transactions into queries and updates.
 fn lists_among<M: Metric>(
     alloc: Global,
     history: &History<M>,
@@ -51,8 +51,7 @@ fn lists_among<M: Metric>(
     })
 }
 
-/// The transactions that committed in a history, its committed updates and its committed queries,
-/// each in commit order.
+/// Returns the committed transactions of a history, and among them the updates and the queries, each in commit order.
 pub fn commit_lists<M: Metric>(alloc: Global, history: &History<M>) -> Result<CommitLists, NoMemory>
     ensures all { IfOk result (λ lists. map (λ t. t.0) lists.all.items ≡ commit_order (accepted_in history.now.schedule)) }
     ensures updates { IfOk result (λ lists. map (λ t. t.0) lists.updates.items

@@ -15,7 +15,7 @@ use esr_items::Metric;
 use esr_order::Order;
 use std::alloc::{AllocError, Global};
 
-/// The problem of a query, of an order among its near updates.
+/// Builds the problem of a query from the order of its near updates.
 pub fn problem_of<M: Metric>(
     alloc: Global,
     history: &History<M>,

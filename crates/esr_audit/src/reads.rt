@@ -17,7 +17,7 @@ pub struct ItemRead {
     pub value: i64,
 }
 
-/// The reads among these accesses.
+/// Returns the reads among these accesses.
 fn item_reads_among(alloc: Global, accesses: &[Access]) -> Result<Vec<ItemRead>, AllocError>
     ensures { IfOk result (λ v. v.items ≡ map item_read_in (filter (λ a. not a.writes) accesses.now)) }
 {
@@ -31,7 +31,7 @@ fn item_reads_among(alloc: Global, accesses: &[Access]) -> Result<Vec<ItemRead>,
         .collect(alloc)
 }
 
-/// What the query read, in order.
+/// Returns the reads of the query, in order.
 pub fn item_reads<M: Metric>(
     alloc: Global,
     history: &History<M>,
@@ -43,7 +43,7 @@ pub fn item_reads<M: Metric>(
     item_reads_among(alloc, &accesses)
 }
 
-/// Whether the transaction is a query.
+/// Returns whether the transaction is a query.
 pub fn is_query<M: Metric>(history: &History<M>, t: TxnId) -> bool
     ensures { result ≡ is_query (accepted_in history.now.schedule) t.0 }
 {

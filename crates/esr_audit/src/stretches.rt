@@ -24,7 +24,7 @@ pub enum TxnList {
     Stretches(Vec<TxnRange>),
 }
 
-/// Whether a transaction follows a stretch.
+/// Returns whether a transaction follows an interval.
 fn follows(stretch: TxnRange, t: TxnId) -> bool
     ensures begun { result ≡ true → stretch.first ≤ stretch.end }
     ensures next { result ≡ true → stretch.end ≡ t.0 }
@@ -73,7 +73,7 @@ fn push_stretch(txns: &mut Vec<TxnId>, stretch: TxnRange) -> Result<(), AllocErr
     Ok(())
 }
 
-/// The transactions of stretches.
+/// Returns the transactions of intervals.
 fn txns_of(alloc: Global, stretches: &[TxnRange]) -> Result<Vec<TxnId>, AllocError>
     ensures { IfOk result (λ v. map (λ t. t.0) v.items ≡ flat_map numbers_in stretches.now) }
 {
@@ -85,7 +85,7 @@ fn txns_of(alloc: Global, stretches: &[TxnRange]) -> Result<Vec<TxnId>, AllocErr
 }
 
 impl TxnList {
-    /// The same transactions, in stretches where that takes less room and there is memory for it.
+    /// Compresses the transactions to intervals if that takes less memory and the allocation succeeds.
     pub fn of(txns: Vec<TxnId>) -> TxnList
         ensures { listed result ≡ map (λ t. t.0) txns.items }
     {
@@ -97,7 +97,7 @@ impl TxnList {
         TxnList::Each(txns)
     }
 
-    /// The transactions, each by itself.
+    /// Returns the transactions as an uncompressed list.
     pub fn to_vec(&self, alloc: Global) -> Result<Vec<TxnId>, AllocError>
         ensures { IfOk result (λ v. map (λ t. t.0) v.items ≡ listed self.now) }
     {

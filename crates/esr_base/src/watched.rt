@@ -37,7 +37,7 @@ impl<T> Watched<T> {
         &self.inner
     }
 
-    /// Whether a call has answered an error, or taken none of some bytes.
+    /// Returns whether a call has returned an error, or has accepted none of a nonempty slice.
     pub fn failed(&self) -> bool
         ensures { result ≡ failed self.now }
     {

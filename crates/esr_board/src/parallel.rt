@@ -290,8 +290,8 @@ pub fn audit_parallel<M: Metric + Sync, R: Threads + Sync, G: Gate + Sync>(
     }
 }
 
-/// The same in summaries, for which each worker keeps no problem and no certificate: they take the most memory of a
-/// finding.
+/// Like `audit_parallel`, but returns summaries: workers drop the problems and certificates, which take the most memory
+/// of a finding.
 ///
 /// # Errors
 /// Those of `audit_parallel`.

@@ -104,7 +104,7 @@ fn read_all<R: Read>(alloc: Global, reader: &mut Watched<R>) -> Result<Vec<u8>, 
     }
 }
 
-/// The verdict on bytes of such a fault, which out of memory is not.
+/// Returns the verdict on bytes with this fault, unless it is out of memory.
 fn bad(fault: BundleFault) -> Result<Verdict, AllocError>
     ensures ok { IfOk result (λ v. v ≡ Verdict.Bad (bundle_fault_number fault)) }
     ensures memory { IsOk result → fault ≢ BundleFault.NoMemory }
@@ -115,7 +115,7 @@ fn bad(fault: BundleFault) -> Result<Verdict, AllocError>
     Ok(Verdict::Bad(fault.number()))
 }
 
-/// The verdict on the bytes.
+/// Returns the verdict on the bytes.
 pub fn verdict_of(alloc: Global, bytes: &[u8]) -> Result<Verdict, AllocError>
     ensures { IfOk result (IsVerdictOf bytes.now) }
 {
@@ -128,7 +128,7 @@ pub fn verdict_of(alloc: Global, bytes: &[u8]) -> Result<Verdict, AllocError>
     }
 }
 
-/// The line of a verdict.
+/// Returns the line of a verdict.
 fn verdict_line(alloc: Global, verdict: Verdict) -> Result<Vec<u8>, AllocError>
     ensures { IfOk result (λ v. v.items ≡ verdict_line verdict) }
 {

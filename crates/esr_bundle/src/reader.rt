@@ -96,7 +96,7 @@ impl FromJson for CertificateDraft {
     }
 }
 
-/// The numbers of a bundle.
+/// Reads the numbers of a bundle.
 fn parts(alloc: Global, value: &Value) -> Result<(ProblemDraft, CertificateDraft), BundleFault>
     ensures ok { IfOk result (λ b. parts_of (view value.now) ≡ Some (drafted_problem b.0, drafted_certificate b.1)) }
     ensures err { IfErr result (λ e. e ≢ BundleFault.NoMemory → (e ≡ BundleFault.Shape)
@@ -110,7 +110,7 @@ fn parts(alloc: Global, value: &Value) -> Result<(ProblemDraft, CertificateDraft
     Ok((problem, certificate))
 }
 
-/// The tree of the bytes.
+/// Parses the bytes as JSON.
 fn tree(alloc: Global, bytes: &[u8]) -> Result<Value, BundleFault>
     ensures ok { IfOk result (λ v. IsTree bytes.now (view v)) }
     ensures err { IfErr result (λ e. e ≢ BundleFault.NoMemory → (e ≡ BundleFault.Json) × HasNoTree bytes.now) }

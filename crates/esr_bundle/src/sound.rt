@@ -17,7 +17,7 @@ use std::alloc::Global;
 
 const MAX_NUMBER: u64 = 4_294_967_295;
 
-/// A number as one of 32 bits, where it fits.
+/// Converts a number to 32 bits, if it fits.
 fn position(number: u64) -> Result<u32, BundleFault>
     ensures ok { IfOk result (λ n. n ≡ number) }
     ensures fits { IsOk result → is_position number ≡ true }
@@ -119,7 +119,7 @@ impl Fitted for Chain {
     }
 }
 
-/// What a list of drafts stands for.
+/// Converts a list of drafts.
 fn list<T: Fitted>(alloc: Global, drafts: &[T::Draft]) -> Result<Vec<T>, BundleFault>
     ensures ok { IfOk result (λ v. map T.shown v.items ≡ map T.drafted drafts.now) }
     ensures fits { IsOk result → list_all T.is_fit (map T.drafted drafts.now) ≡ true }
@@ -145,8 +145,8 @@ fn positions(alloc: Global, numbers: &[u64]) -> Result<Vec<u32>, BundleFault>
     list(alloc, numbers)
 }
 
-/// The parts of a problem, of a draft that breaks no rule of shape. A number that does not fit its type is out of its
-/// range, since a problem in range has at most 65,535 updates.
+/// Converts the draft of a problem, which satisfies the rules of shape, to parts. A number that does not fit its type
+/// is out of range, since a problem in range has at most 65,535 updates.
 fn parts_of(alloc: Global, draft: &ProblemDraft) -> Result<ProblemParts, BundleFault>
     requires { spec.has_shape (drafted_problem draft.now) ≡ true }
     ensures ok { IfOk result (λ parts. views.posed_by parts ≡ drafted_problem draft.now) }
@@ -164,7 +164,7 @@ fn parts_of(alloc: Global, draft: &ProblemDraft) -> Result<ProblemParts, BundleF
     })
 }
 
-/// The problem of a draft.
+/// Converts a draft to a problem.
 fn problem(alloc: Global, draft: &ProblemDraft) -> Result<Problem, BundleFault>
     ensures ok { IfOk result (λ p. p ≡ drafted_problem draft.now) }
     ensures sound { IsOk result → problem_fault (drafted_problem draft.now) ≡ None }
@@ -177,7 +177,7 @@ fn problem(alloc: Global, draft: &ProblemDraft) -> Result<Problem, BundleFault>
     Problem::of_shape(alloc, parts)
 }
 
-/// The problem and the certificate of the numbers of a bundle.
+/// Converts the numbers of a bundle to a problem and a certificate.
 pub fn finish(
     alloc: Global,
     draft: ProblemDraft,

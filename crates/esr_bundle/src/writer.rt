@@ -72,7 +72,7 @@ impl Written for Chain {
     }
 }
 
-/// The tree of a list.
+/// Returns the JSON value of a list.
 fn list<T: Written>(alloc: Global, list: &[T]) -> Result<Value, AllocError>
     ensures { IfOk result (λ v. view v ≡ array (items_of (map T.shown list.now))) }
 {
@@ -169,7 +169,7 @@ fn certificate(alloc: Global, certificate: &Certificate) -> Result<Value, AllocE
     Ok(Value::Object(members))
 }
 
-/// A list of numbers of 32 bits, each of which is a position.
+/// Returns the list unchanged; its numbers of 32 bits are positions.
 fn as_positions(list: &[u32]) -> &[u32]
     ensures list { result.now ≡ list.now }
     ensures fits { list_all is_position list.now ≡ true }
@@ -177,7 +177,7 @@ fn as_positions(list: &[u32]) -> &[u32]
     list
 }
 
-/// The tree of a bundle.
+/// Returns the JSON value of a bundle.
 fn tree(alloc: Global, shown: &Problem, by: &Certificate) -> Result<Value, AllocError>
     ensures { IfOk result (λ v. view v ≡ bundle_data shown.now (views.certificate_of by.now)) }
 {
@@ -186,7 +186,7 @@ fn tree(alloc: Global, shown: &Problem, by: &Certificate) -> Result<Value, Alloc
     json!(in alloc; {"certificate": certificate, "problem": problem})
 }
 
-/// The bundle of a problem and a certificate: one JSON object with no space, its keys ascending.
+/// Returns the bundle of a problem and a certificate: one JSON object without spaces, its keys ascending.
 pub fn to_json(
     alloc: Global,
     problem: &Problem,

@@ -18,7 +18,7 @@ use crate::starts::owner_at;
 use esr_base::TxnId;
 use std::marker::Model;
 
-/// Where an arc of a chain leaves, by its place there: the source or a writer.
+/// Returns the tail of an arc of a chain, by its index there: the source or a writer.
 pub fn arc_tail(chain: &Chain, source: u32, j: usize) -> u32
     requires count { length chain.now.costs.items ≡ length chain.now.writers.items + 1 }
     requires place { j < length chain.now.costs.items }
@@ -41,7 +41,7 @@ pub fn arc_head(chain: &Chain, source: u32, j: usize) -> u32
     }
 }
 
-/// An arc of a chain, by its place there.
+/// Returns an arc of a chain, by its index there.
 fn link_at(chain: &Chain, source: u32, j: usize) -> Arc
     requires count { length chain.now.costs.items ≡ length chain.now.writers.items + 1 }
     requires place { j < length chain.now.costs.items }
@@ -78,14 +78,14 @@ impl<'a> Model for Arcs<'a> {
 }
 
 impl<'a> Arcs<'a> {
-    /// How many there are.
+    /// Returns the number of arcs.
     pub fn len(&self) -> usize
         ensures { result ≡ length self.now }
     {
         self.starts[self.chains.len()] as usize + self.before.len() + self.must.len()
     }
 
-    /// The chains, whose arcs come first, and the source.
+    /// Returns the chains, whose arcs come first, and the source.
     pub fn chains(&self) -> (&'a [Chain], u32)
         ensures links { HaveLinks self.now result.1 result.0.now }
         ensures few { result.1 ≤ MAX_TRANSACTIONS }
@@ -94,7 +94,7 @@ impl<'a> Arcs<'a> {
         (self.chains, source)
     }
 
-    /// The arc with a number.
+    /// Returns the arc with a number.
     pub fn at(&self, number: u32) -> Arc
         requires { number < length self.now }
         ensures { result ≡ arc_at self.now number }
@@ -120,7 +120,7 @@ impl<'a> Arcs<'a> {
     }
 }
 
-/// How many arcs the chains have.
+/// Returns the number of arcs of the chains.
 fn link_count(chains: &[Chain]) -> u128
     requires { length chains.now ≤ MAX_ITEMS }
     ensures value { result ≡ sum_by (λ chain. length chain.costs) (map chain_of chains.now) }
@@ -133,7 +133,7 @@ fn link_count(chains: &[Chain]) -> u128
     count
 }
 
-/// How many arcs the network of a problem of these parts has.
+/// Returns the number of arcs in the network of a problem of these parts.
 pub fn arc_count(before: &[(u32, u32)], chains: &[Chain], must: &[u32]) -> u128
     requires { length chains.now ≤ MAX_ITEMS }
     ensures value { result

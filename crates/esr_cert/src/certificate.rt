@@ -53,7 +53,7 @@ pub enum Fault {
 }
 
 impl Fault {
-    /// The number of the fault.
+    /// Returns the number of the fault.
     pub fn number(self) -> u8
         ensures { result ≡ fault_number self }
     {

@@ -22,7 +22,7 @@ use crate::problem::{Chain, Problem};
 use crate::residual::{ResidualArc, ShortArc};
 use crate::starts::row_at;
 
-/// Whether there is an update at each position of a set.
+/// Returns whether there is an update at each position of a set.
 fn is_known(problem: &Problem, set: &[u32]) -> bool
     ensures { result ≡ is_known problem.now set.now }
 {
@@ -83,7 +83,8 @@ fn are_rows_within(chains: &[Chain], rows: &[Vec<u64>]) -> bool
     true
 }
 
-/// Whether there is one amount for each arc, within its capacity. Back arcs and the arcs to `must` are unlimited.
+/// Returns whether there is one amount for each arc, within its capacity. Back arcs and the arcs to `must` are
+/// unlimited.
 fn is_within(problem: &Problem, certificate: &Certificate) -> bool
     ensures { result ≡ is_within problem.now (certificate_of certificate.now) }
 {
@@ -105,8 +106,8 @@ fn amount_or_zero(amounts: &[u64], i: usize) -> u64
     }
 }
 
-/// The amount on an arc, by its number: the arcs of the chains come first, then those of the pairs, then those into
-/// what a set must hold.
+/// Returns the amount on an arc, by its number: first the arcs of the chains, then those of the pairs, then those to
+/// the updates that a set must contain.
 fn amount_on(certificate: &Certificate, starts: &[u32], arc: u32) -> u64
     requires starts { AreStarts starts.now (rows_of certificate.now.chain_flow.items) }
     ensures { result ≡ amount_at (amounts (certificate_of certificate.now)) arc }
@@ -124,7 +125,7 @@ fn amount_on(certificate: &Certificate, starts: &[u32], arc: u32) -> u64
     }
 }
 
-/// Whether as much comes to a node as leaves it, by the steps that start there.
+/// Returns whether inflow and outflow of a node are equal, by the steps that start there.
 fn is_balanced(certificate: &Certificate, starts: &[u32], steps: &[ShortArc]) -> bool
     requires starts { AreStarts starts.now (rows_of certificate.now.chain_flow.items) }
     ensures { result ≡ is_balanced (amounts (certificate_of certificate.now)) steps.now }
@@ -140,7 +141,7 @@ fn is_balanced(certificate: &Certificate, starts: &[u32], steps: &[ShortArc]) ->
     into == from
 }
 
-/// Whether as much comes to an update as leaves it.
+/// Returns whether inflow and outflow of an update are equal.
 fn is_conserved_at(problem: &Problem, certificate: &Certificate, v: usize) -> bool
     requires within { is_within problem.now (certificate_of certificate.now) ≡ true }
     requires update { v < size problem.now }
@@ -162,7 +163,7 @@ fn is_conserved(problem: &Problem, certificate: &Certificate) -> bool
     true
 }
 
-/// How many writers there are up to and with the last one in the set.
+/// Returns the number of writers up to and including the last one in the set.
 fn version(writers: &[u32], set: &[u32]) -> usize
     requires { is_ascending set.now ≡ true }
     ensures { result ≡ version (in_set set.now) writers.now }
@@ -210,7 +211,7 @@ fn total(amounts: &[u64]) -> u128
     sum
 }
 
-/// Whether the worth is the flow's, which is all that leaves the source, and the cost of the set.
+/// Returns whether the worth is both the flow's, which is the outflow of the source, and the cost of the set.
 fn worth_matches(problem: &Problem, certificate: &Certificate) -> bool
     requires ascending { is_ascending certificate.now.set.items ≡ true }
     requires within { is_within problem.now (certificate_of certificate.now) ≡ true }
@@ -224,7 +225,7 @@ fn worth_matches(problem: &Problem, certificate: &Certificate) -> bool
     worth == set_cost(chains, &certificate.set)
 }
 
-/// Whether a count of augmentations that is given is at most nodes times arcs.
+/// Returns whether a count of augmentations, if present, is at most nodes times arcs.
 fn is_count_in_bound(problem: &Problem, augmentations: Option<u64>) -> bool
     ensures { result ≡ is_count_in_bound problem.now augmentations }
 {
@@ -236,7 +237,7 @@ fn is_count_in_bound(problem: &Problem, augmentations: Option<u64>) -> bool
     u128::from(count) <= nodes * arcs
 }
 
-/// The first fault of a certificate, if it has one.
+/// Returns the first fault of a certificate, if it has one.
 fn first_fault(problem: &Problem, certificate: &Certificate) -> Result<(), Fault>
     ensures { result ≡ or_fault (fault problem.now (certificate_of certificate.now)) }
 {
@@ -264,10 +265,10 @@ fn first_fault(problem: &Problem, certificate: &Certificate) -> Result<(), Fault
     Ok(())
 }
 
-/// The first fault of a certificate, if it has one.
+/// Returns the first fault of a certificate, if it has one.
 ///
-/// An answer of `Ok` means that no closed set costs less than the certificate's worth, and that its set is closed and
-/// costs just that: the flow shows the one (weak duality), and the cost of the set is compared.
+/// `Ok` means that no closed set costs less than the certificate's worth, and that its set is closed and costs exactly
+/// that: the flow proves the bound (weak duality), and the cost of the set is compared.
 pub fn check(problem: &Problem, certificate: &Certificate) -> Result<(), Fault>
     ensures answer { result ≡ or_fault (fault problem.now (certificate_of certificate.now)) }
     ensures least { IsOk result → (has : ℕ → Bool) → is_closed problem.now has ≡ true

@@ -3,7 +3,7 @@ ghost use Rattle.std.specs.Prelude.{◌≡◌, nat_lt, true};
 ghost use Rattle.std.specs.List.{list_all};
 ghost use Rattle.esr_cert.specs.Problem.{in_set, is_ascending};
 
-/// Whether each number is below the next.
+/// Returns whether each number is below the next.
 pub fn is_ascending(numbers: &[u32]) -> bool
     ensures { result ≡ is_ascending numbers.now }
 {
@@ -15,14 +15,14 @@ pub fn is_ascending(numbers: &[u32]) -> bool
     true
 }
 
-/// Whether all numbers are below n.
+/// Returns whether all numbers are below n.
 pub fn are_below(numbers: &[u32], n: usize) -> bool
     ensures { result ≡ list_all (λ u. nat_lt u n) numbers.now }
 {
     numbers.iter().all(|u| (*u as usize) < n)
 }
 
-/// Whether an ascending list has a number.
+/// Returns whether an ascending list contains a number.
 pub fn contains(set: &[u32], number: u32) -> bool
     requires { is_ascending set.now ≡ true }
     ensures { result ≡ in_set set.now number }

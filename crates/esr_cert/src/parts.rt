@@ -58,7 +58,7 @@ fn chain_drafts(alloc: Global, chains: &[Chain]) -> Result<Vec<ChainDraft>, Allo
     Ok(drafts)
 }
 
-/// The numbers of parts.
+/// Returns the numbers of parts.
 fn draft_of(alloc: Global, parts: &ProblemParts) -> Result<ProblemDraft, AllocError>
     ensures { IfOk result (λ d. drafted_problem d ≡ posed_by parts.now) }
 {
@@ -70,7 +70,7 @@ fn draft_of(alloc: Global, parts: &ProblemParts) -> Result<ProblemDraft, AllocEr
     })
 }
 
-/// Whether parts break no rule of shape.
+/// Returns whether parts satisfy the rules of shape.
 pub fn have_shape(alloc: Global, parts: &ProblemParts) -> Result<bool, AllocError>
     ensures { IfOk result (λ b. b ≡ has_shape (posed_by parts.now)) }
 {

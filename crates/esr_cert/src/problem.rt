@@ -55,7 +55,7 @@ pub enum BundleFault {
 }
 
 impl BundleFault {
-    /// The number of the fault.
+    /// Returns the number of the fault.
     pub fn number(self) -> u8
         ensures { result ≡ bundle_fault_number self }
     {
@@ -98,7 +98,7 @@ pub struct Problem {
     rows: Rows,
 }
 
-/// The arcs of the network of parts that break no rule.
+/// Returns the arcs of the network of valid parts.
 fn arcs_of<'a>(parts: &'a ProblemParts, starts: &'a [u32], owners: &'a [u16]) -> Arcs<'a>
     requires sound { is_sound (posed_by parts.now) ≡ true }
     requires starts { starts.now ≡ starts_from 0 (posed_by parts.now).chains }
@@ -115,8 +115,8 @@ fn arcs_of<'a>(parts: &'a ProblemParts, starts: &'a [u32], owners: &'a [u16]) ->
     }
 }
 
-/// Where the arcs of each chain begin, the chain of each of them, and the steps of each node, of parts that break no
-/// rule.
+/// Returns the index of each chain's first arc, the chain of each of the chains' arcs, and the steps of each node, for
+/// valid parts.
 fn network_of(alloc: Global, parts: &ProblemParts) -> Result<(Vec<u32>, Vec<u16>, Rows), AllocError>
     requires sound { is_sound (posed_by parts.now) ≡ true }
     ensures starts { IfOk result (λ n. n.0.items ≡ starts_from 0 (posed_by parts.now).chains) }
@@ -195,7 +195,7 @@ impl Problem {
         Ok(problem)
     }
 
-    /// A problem of these parts, which break no rule: they are not tried again.
+    /// Creates a problem from valid parts, without checking them again.
     pub fn of_sound(alloc: Global, parts: ProblemParts) -> Result<Problem, AllocError>
         requires sound { is_sound (posed_by parts) ≡ true }
         ensures { IfOk result (λ p. p ≡ posed_by parts) }
@@ -209,7 +209,7 @@ impl Problem {
         })
     }
 
-    /// The numbers of the updates. Elsewhere an update is named by its position here.
+    /// Returns the numbers of the updates. Elsewhere an update is named by its position here.
     pub fn updates(&self) -> &[TxnId]
         ensures list { map (λ t. t.0) result.now ≡ self.now.updates }
         ensures few { size self.now ≤ MAX_TRANSACTIONS }
@@ -218,7 +218,7 @@ impl Problem {
         &self.parts.updates
     }
 
-    /// The pairs of updates of which the first comes before the second.
+    /// Returns the pairs of updates of which the first comes before the second.
     pub fn before(&self) -> &[(u32, u32)]
         ensures list { result.now ≡ self.now.before }
         ensures sound { is_sound self.now ≡ true }
@@ -226,7 +226,7 @@ impl Problem {
         &self.parts.before
     }
 
-    /// The items, ascending.
+    /// Returns the chains, ascending by item.
     pub fn chains(&self) -> &[Chain]
         ensures list { map chain_of result.now ≡ self.now.chains }
         ensures sound { is_sound self.now ≡ true }
@@ -234,7 +234,7 @@ impl Problem {
         &self.parts.chains
     }
 
-    /// The updates that a closed set has to hold, ascending.
+    /// Returns the updates that a closed set must contain, ascending.
     pub fn must(&self) -> &[u32]
         ensures list { result.now ≡ self.now.must }
         ensures sound { is_sound self.now ≡ true }
@@ -242,19 +242,19 @@ impl Problem {
         &self.parts.must
     }
 
-    /// The number of the first arc of each chain, and of the first arc after them all.
+    /// Returns the number of the first arc of each chain, and of the first arc after them all.
     pub(crate) fn starts(&self) -> &[u32]
         ensures list { result.now ≡ starts_from 0 self.now.chains }
     {
         &self.starts
     }
 
-    /// An arc of the network, by its number.
+    /// Returns an arc of the network, by its number.
     ///
-    /// A read item gives a chain of arcs from the source through its writers to the sink, each with the cost of a
+    /// A read item yields a chain of arcs from the source through its writers to the sink, each with the cost of a
     /// version as its capacity; each pair of updates an unlimited arc from the later back to the earlier; and each
-    /// update that a set must hold an unlimited arc from the source. They are numbered in this order. Updates are nodes
-    /// by their positions, and the source and the sink come after them.
+    /// update that a set must contain an unlimited arc from the source. They are numbered in this order. Updates are
+    /// nodes by their positions, followed by the source and the sink.
     pub fn arc(&self, number: u32) -> Arc
         requires { number < length (network self.now).arcs }
         ensures { result ≡ arc_at (network self.now).arcs number }
@@ -262,7 +262,7 @@ impl Problem {
         arcs_of(&self.parts, &self.starts, &self.owners).at(number)
     }
 
-    /// For each node of the network the steps that start there.
+    /// Returns for each node of the network the steps that start there.
     pub fn rows(&self) -> &Rows
         ensures laid { AreLaid (network self.now) result.now }
         ensures sound { is_sound self.now ≡ true }

@@ -80,7 +80,7 @@ fn greatest_costs(chains: &[Chain]) -> u128
     sum
 }
 
-/// Whether no rule of range is broken.
+/// Returns whether the rules of range are satisfied.
 pub fn is_in_range(parts: &ProblemParts) -> bool
     ensures { result ≡ is_in_range (posed_by parts.now) }
 {

@@ -16,7 +16,7 @@ pub enum ResidualArc {
 }
 
 impl ResidualArc {
-    /// The number of the arc that it goes over.
+    /// Returns the number of the arc that it goes over.
     pub fn arc(self) -> u32
         ensures { result ≡ arc_of self }
     {
@@ -36,7 +36,7 @@ impl ResidualArc {
         }
     }
 
-    /// The residual arc in the other direction.
+    /// Returns the residual arc in the other direction.
     pub fn opposite(self) -> ResidualArc
         ensures { result ≡ opposite self }
     {
@@ -64,7 +64,7 @@ impl Model for ShortArc {
 }
 
 impl ShortArc {
-    /// The same residual arc in four bytes.
+    /// Packs a residual arc into four bytes.
     pub fn of(step: ResidualArc) -> ShortArc
         requires { arc_of step < 2147483648 }
         ensures { result ≡ step }
@@ -76,7 +76,7 @@ impl ShortArc {
         ShortArc { number }
     }
 
-    /// The step itself.
+    /// Unpacks the residual arc.
     pub fn step(self) -> ResidualArc
         ensures { result ≡ self }
     {

@@ -71,8 +71,8 @@ fn count_others(arcs: &Arcs, _nodes: usize, first: usize, degrees: &mut Vec<u32>
     }
 }
 
-/// How many steps start at each node: the arcs that leave it, and those that come to it. The ends of a chain's arcs are
-/// read off the chain, since an arc that is asked for by its number is looked up.
+/// Returns how many steps start at each node: its outgoing and its incoming arcs. The ends of a chain's arcs are read
+/// off the chain, since finding an arc by its number needs a look-up.
 fn degrees_of(alloc: Global, nodes: usize, arcs: &Arcs) -> Result<Vec<u32>, AllocError>
     requires few { length arcs.now ≤ MAX_ARCS }
     requires ends { HaveEnds arcs.now nodes }
@@ -89,7 +89,7 @@ fn degrees_of(alloc: Global, nodes: usize, arcs: &Arcs) -> Result<Vec<u32>, Allo
     Ok(degrees)
 }
 
-/// Where rows of some lengths begin, one after another. So far nothing lies in them.
+/// Returns empty, consecutive spans for rows of these lengths.
 fn begin_rows(alloc: Global, lengths: &[u32]) -> Result<Vec<Span>, AllocError>
     requires { sum lengths.now ≤ 4294967294 }
     ensures { IfOk result (λ spans. AreBegun lengths.now spans.items) }
@@ -111,7 +111,7 @@ pub struct Rows {
 }
 
 impl Rows {
-    /// What a node has in a list with one thing for each step, in the order of `steps`.
+    /// Returns a node's part of a list that has one element for each step, in the order of `steps`.
     pub fn row<'a, T>(&self, list: &'a [T], v: usize) -> &'a [T]
         requires node { v < length self.now.spans.items }
         requires ordered { (span_at self.now.spans.items v).begin ≤ (span_at self.now.spans.items v).end }
@@ -122,7 +122,7 @@ impl Rows {
         &list[span.begin as usize..span.end as usize]
     }
 
-    /// Where a step lies that starts at a node.
+    /// Returns the index of a step that starts at a node.
     pub fn place_of(&self, v: usize, step: ResidualArc) -> usize
         requires node { v < length self.now.spans.items }
         requires ordered { (span_at self.now.spans.items v).begin ≤ (span_at self.now.spans.items v).end }
@@ -186,7 +186,7 @@ fn lay_others(arcs: &Arcs, _nodes: usize, first: usize, rows: &mut Rows)
     }
 }
 
-/// For each node the steps that start at it: first they are counted, then each is put into its row.
+/// Returns for each node the steps that start at it: counts them, then puts each into its row.
 #[tactic(auto, using(crate::proofs::LinksLaws::starts_first))]
 pub fn rows_of(alloc: Global, nodes: usize, arcs: &Arcs) -> Result<Rows, AllocError>
     requires few { length arcs.now ≤ MAX_ARCS }

@@ -7,7 +7,7 @@ ghost use Rattle.esr_cert.specs.Drafts.{drafted_chain, drafted_problem};
 use crate::draft::{ChainDraft, ProblemDraft};
 use std::alloc::{AllocError, Global};
 
-/// Whether each number is below the next.
+/// Returns whether each number is below the next.
 fn is_ascending(numbers: &[u64]) -> bool
     ensures { result ≡ is_ascending numbers.now }
 {
@@ -19,7 +19,7 @@ fn is_ascending(numbers: &[u64]) -> bool
     true
 }
 
-/// Whether no number occurs twice.
+/// Returns whether no number occurs twice.
 fn is_distinct(alloc: Global, updates: &[u64]) -> Result<bool, AllocError>
     ensures { IfOk result (λ b. b ≡ is_distinct updates.now) }
 {
@@ -34,7 +34,7 @@ fn pair_lt(a: (u64, u64), b: (u64, u64)) -> bool
     a.0 < b.0 || (a.0 == b.0 && a.1 < b.1)
 }
 
-/// Whether each pair comes before the next, by its first and then by its second.
+/// Returns whether each pair is before the next in lexicographic order.
 fn are_pairs_ascending(pairs: &[(u64, u64)]) -> bool
     ensures { result ≡ are_pairs_ascending pairs.now }
 {
@@ -63,7 +63,7 @@ fn are_items_ascending(chains: &[ChainDraft]) -> bool
     true
 }
 
-/// Whether an ascending list of pairs has a pair.
+/// Returns whether an ascending list of pairs contains a pair.
 fn has_pair(pairs: &[(u64, u64)], u: u64, v: u64) -> bool
     requires { are_pairs_ascending pairs.now ≡ true }
     ensures { result ≡ has_pair pairs.now u v }
@@ -71,7 +71,7 @@ fn has_pair(pairs: &[(u64, u64)], u: u64, v: u64) -> bool
     pairs.binary_search(&(u, v)).is_ok()
 }
 
-/// Whether each two neighbours are a pair.
+/// Returns whether each two neighbours are a pair.
 fn are_linked(before: &[(u64, u64)], writers: &[u64]) -> bool
     requires { are_pairs_ascending before.now ≡ true }
     ensures { result ≡ are_linked before.now writers.now }
@@ -109,7 +109,7 @@ fn chains_have_shape(before: &[(u64, u64)], chains: &[ChainDraft]) -> bool
     true
 }
 
-/// Whether no rule of shape is broken.
+/// Returns whether the rules of shape are satisfied.
 pub fn has_shape(alloc: Global, draft: &ProblemDraft) -> Result<bool, AllocError>
     ensures { IfOk result (λ b. b ≡ has_shape (drafted_problem draft.now)) }
 {

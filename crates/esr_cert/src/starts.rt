@@ -9,7 +9,7 @@ ghost use Rattle.esr_cert.specs.Views.{chain_of};
 use crate::problem::Chain;
 use std::alloc::{AllocError, Global};
 
-/// The number of the first arc of each chain, and of the first arc after them all.
+/// Returns the number of the first arc of each chain, and of the first arc after them all.
 pub fn starts_of(alloc: Global, chains: &[Chain]) -> Result<Vec<u32>, AllocError>
     requires { sum_by (λ chain. length chain.costs.items) chains.now ≤ 4294967295 }
     ensures { IfOk result (λ starts. starts.items ≡ starts_from 0 (map chain_of chains.now)) }
@@ -24,7 +24,7 @@ pub fn starts_of(alloc: Global, chains: &[Chain]) -> Result<Vec<u32>, AllocError
     Ok(starts)
 }
 
-/// The last of some rows to begin at or before a number.
+/// Returns the last of some rows that begins at or before a number.
 pub fn row_at(starts: &[u32], number: u32) -> usize
     requires some { 0 < length starts.now }
     requires zero { get_or starts.now 0 0 ≡ 0 }
@@ -57,7 +57,7 @@ pub fn owners_of(alloc: Global, chains: &[Chain], count: usize) -> Result<Vec<u1
     Ok(owners)
 }
 
-/// The chain of an arc of the chains, by the arc's number: the last to begin at or before the number.
+/// Returns the chain of an arc of the chains, by the arc's number: the last that begins at or before the number.
 pub fn owner_at(_chains: &[Chain], _starts: &[u32], owners: &[u16], number: u32) -> usize
     requires starts { _starts.now ≡ starts_from 0 (map chain_of _chains.now) }
     requires owners { owners.now ≡ owners_from 0 (map chain_of _chains.now) }

@@ -3,30 +3,30 @@
 
 ghost use Rattle.esr_core.specs.Carried.{LawOfActiveQueries, LawOfActiveUpdates, LawOfCurrentValues, LawOfReports, LawOfCarriedLength};
 
-/// What an active query has read is no farther from the committed values, or from any mixture of committed and current
-/// ones, than its import so far; and no more of that is open than was charged.
+/// Proves that the values that an active query has read are within its import so far of the committed values, and of
+/// any mixture of committed and current ones, and that no more of its import is open than was charged.
 pub fn active_reports_are_bounded()
     ensures { LawOfActiveQueries }
 {}
 
-/// Over any number of renewals that carry it, the distance of a report's reads is within what it imported in all its histories
-/// together, and that is within the limit that it began with.
+/// Proves that over any number of renewals that carry a report, the distance of its reads is within its imports in all
+/// its histories together, and these are within the limit that it began with.
 pub fn carried_reports_are_bounded()
     ensures { LawOfReports }
 {}
 
-/// A history that carries another has at most as many entries.
+/// Proves that a history that carries another has at most as many entries.
 pub fn carried_histories_fit()
     ensures { LawOfCarriedLength }
 {}
 
-/// What an active update has read still holds, whatever committed since: so its reads can be replayed, with the
-/// replies that they had.
+/// Proves that the values that an active update has read are unchanged, whatever has committed since: so its reads can
+/// be replayed with the same replies.
 pub fn active_updates_read_on()
     ensures { LawOfActiveUpdates }
 {}
 
-/// The current values are the committed ones with what active updates have written.
+/// Proves that the current values are the committed ones overwritten by the writes of active updates.
 pub fn active_writes_are_current()
     ensures { LawOfCurrentValues }
 {}

@@ -35,14 +35,14 @@ fn kind_of(query: bool) -> Kind
     if query { Kind::Query } else { Kind::Update }
 }
 
-/// Whether an entry is an accepted commit.
+/// Returns whether an entry is an accepted commit.
 fn is_commit(entry: Entry) -> bool
     ensures { result ≡ is_some (commit_in entry) }
 {
     !entry.is_refused() && matches!(entry.event, Event::Commit { txn: _ })
 }
 
-/// How a transaction stands whose end is at a place, or none.
+/// Returns the status of a transaction, given the index of its end, if it has ended.
 fn status_at(log: &Log, end: Option<u64>) -> TxnStatus
     ensures { result ≡ status_at log.now.entries end }
 {
@@ -54,7 +54,7 @@ fn status_at(log: &Log, end: Option<u64>) -> TxnStatus
 }
 
 impl EmbeddedEngine {
-    /// What a query has imported so far, or an update exported.
+    /// Returns the amount that a query has imported so far, or an update exported.
     fn charge_of(&self, query: bool, t: TxnId) -> u64
         ensures { result ≡ charged_to weighted self.now query t.0 }
     {

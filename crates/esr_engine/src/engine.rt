@@ -67,7 +67,7 @@ impl Model for EmbeddedEngine {
 }
 
 impl EmbeddedEngine {
-    /// How many entries there are, with one for the end of each active transaction.
+    /// Returns the number of entries, plus one for the end of each active transaction.
     pub(crate) fn demand(&self) -> usize
         ensures taken { result ≡ taken self.now }
         ensures most { result ≤ MAX_ENTRIES }
@@ -75,14 +75,14 @@ impl EmbeddedEngine {
         self.machine.log().len() + self.active
     }
 
-    /// How many transactions have begun.
+    /// Returns how many transactions have begun.
     fn count_begun(&self) -> usize
         ensures { result ≡ transaction_count self.now }
     {
         self.machine.history().begun_count()
     }
 
-    /// Whether a transaction is active.
+    /// Returns whether a transaction is active.
     #[tactic(auto, using(crate::proofs::Ends::active_is))]
     fn is_active(&self, t: TxnId) -> bool
         ensures { result ≡ is_active (accepted_in self.now) t.0 }
@@ -196,7 +196,8 @@ impl EmbeddedEngine {
         }
     }
 
-    /// What the history has, and what is left of it. It is never stuck: whatever is active can be committed or aborted.
+    /// Returns the size of the history and the capacity left. The engine is never stuck: each active transaction can be
+    /// committed or aborted.
     pub fn counts(&self) -> Counts
         ensures counts { result ≡ counts_of self.now }
         ensures never_stuck { NeverStuck weighted self.now }
@@ -211,7 +212,7 @@ impl EmbeddedEngine {
         }
     }
 
-    /// What has been imported and exported, and how many entries there are. No limit has been passed.
+    /// Returns the total imports and exports, and the number of entries. No limit has been exceeded.
     pub fn totals(&self) -> Totals
         ensures import { result.import ≡ all_imports weighted self.now }
         ensures export { result.export ≡ all_exports weighted self.now }
@@ -221,8 +222,8 @@ impl EmbeddedEngine {
         self.machine.totals()
     }
 
-    /// The history, of which all holds that a machine's history has: it is legal, its committed updates are serializable,
-    /// no limit has been passed, and no query was off by more than it imported.
+    /// Returns the history, which is legal. Its committed updates are serializable, no limit has been exceeded, and no
+    /// query was off by more than its import.
     pub fn close(self) -> History<Weighted>
         ensures schedule { result.schedule ≡ self }
         ensures legal { IsLegal weighted self }
@@ -239,7 +240,7 @@ impl EmbeddedEngine {
         machine.close()
     }
 
-    /// The history so far.
+    /// Returns the history so far.
     pub fn history(&self) -> &History<Weighted>
         ensures schedule { result.now.schedule ≡ self.now }
         ensures legal { IsLegal weighted self.now }
@@ -248,7 +249,7 @@ impl EmbeddedEngine {
     }
 }
 
-/// How many are active after a reply.
+/// Returns the number of active transactions after a reply.
 #[inline(always)]
 fn active_after(active: usize, reply: Reply) -> usize
     requires some { is_end reply ≡ true → 0 < active }

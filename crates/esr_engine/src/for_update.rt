@@ -12,7 +12,7 @@ use esr_history::{Event, MAX_ENTRIES, Reply, TxnId};
 use esr_items::ItemId;
 
 impl EmbeddedEngine {
-    /// Whether a transaction holds the write lock on an item.
+    /// Returns whether a transaction holds the write lock on an item.
     fn has_lock(&self, t: TxnId, x: ItemId) -> bool
         ensures { result ≡ has_lock self.now t.0 x.0 }
     {

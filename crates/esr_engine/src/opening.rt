@@ -68,7 +68,7 @@ fn check(opening: &[i64], weights: &[u32]) -> Result<(), OpenError>
     Ok(())
 }
 
-/// The metric of these weights.
+/// Creates the metric with these weights.
 pub(crate) fn metric_of(alloc: Global, weights: &[u32]) -> Result<Weighted, AllocError>
     requires few { length weights.now ≤ MAX_ITEMS }
     requires range { All IsWeight weights.now }
@@ -80,7 +80,7 @@ pub(crate) fn metric_of(alloc: Global, weights: &[u32]) -> Result<Weighted, Allo
     Ok(metric)
 }
 
-/// An engine of these values and weights.
+/// Creates an engine with these values and weights.
 pub(crate) fn engine_of(
     alloc: Global,
     opening: &[i64],
@@ -103,11 +103,11 @@ pub(crate) fn engine_of(
 }
 
 impl EmbeddedEngine {
-    /// An engine of items with these opening values and weights; an item past the weights has weight 1.
+    /// Creates an engine of items with these opening values and weights; an item past the weights has weight 1.
     ///
     /// # Errors
-    /// `TooManyItems`, `ValueOutOfRange` and `WeightOutOfRange` exactly where that is so, the first of them; else
-    /// `NoMemory` if an allocation failed.
+    /// `TooManyItems`, `ValueOutOfRange` or `WeightOutOfRange` if and only if the arguments are invalid in this way,
+    /// the first that applies; otherwise `NoMemory` if an allocation failed.
     pub fn new(alloc: Global, opening: &[i64], weights: &[u32]) -> Result<EmbeddedEngine, OpenError>
         ensures ok { IfOk result (λ e. e ≡ schedule_of opening.now weights.now []) }
         ensures many { IsErrOf result OpenError.TooManyItems

@@ -18,7 +18,7 @@ use esr_order::Index;
 use std::alloc::{AllocError, Global};
 
 impl EmbeddedEngine {
-    /// The committed values of the items, in their order.
+    /// Returns the committed values of the items, in their order.
     pub fn committed_values(&self, alloc: Global) -> Result<Vec<i64>, AllocError>
         ensures { IfOk result (λ v. v.items ≡ committed_values self.now) }
     {
@@ -50,10 +50,10 @@ impl EmbeddedEngine {
         Ok(())
     }
 
-    /// The same in every state: what is active is aborted, and ends with the history.
+    /// Like `renew`, but allows active transactions: they are aborted and end with the history.
     ///
     /// # Errors
-    /// `NoMemory` if an allocation failed. Then nothing has changed, and what was active still is.
+    /// `NoMemory` if an allocation failed. Then nothing has changed, and active transactions stay active.
     pub fn renew_aborting(&mut self, alloc: Global) -> Result<(), NoMemory>
         ensures ok { OnOk result (self.new ≡ renewed self.old self.old.weights) }
         ensures serializable { OnOk result ((later : List Entry) → IsLegal weighted (along self.new later)
@@ -81,7 +81,7 @@ impl EmbeddedEngine {
         Ok(())
     }
 
-    /// A new engine over the committed values.
+    /// Creates a new engine over the committed values.
     fn successor(&self, alloc: Global) -> Result<EmbeddedEngine, NoMemory>
         ensures { IfOk result (λ e. e ≡ renewed self.now self.now.weights) }
     {

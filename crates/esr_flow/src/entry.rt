@@ -40,7 +40,7 @@ impl Model for ShortEntry {
 impl ShortEntry {
     ghost use Rattle.std.specs.Prelude.{◌≡◌, ◌<◌};
 
-    /// The same entry in four bytes.
+    /// Packs an entry into four bytes.
     pub fn of(entry: AdjacencyEntry) -> ShortEntry
         requires { entry.to < 1073741824 }
         ensures { result ≡ entry }
@@ -52,7 +52,7 @@ impl ShortEntry {
         }
     }
 
-    /// The entry itself.
+    /// Unpacks the entry.
     pub fn entry(self) -> AdjacencyEntry
         ensures { result ≡ self }
     {

@@ -33,7 +33,7 @@ impl<'a> Graph<'a> {
     ghost use Rattle.esr_cert.specs.Rows.{span_at, row_in};
     ghost use Rattle.esr_flow.specs.Graph.{AreEntries, arcs_of};
 
-    /// The steps that start at a node.
+    /// Returns the steps that start at a node.
     pub fn steps_at(&self, v: usize) -> &[ShortArc]
         requires node { v < self.now.nodes }
         ensures { result.now ≡ row_in self.now.rows.now.steps.items (span_at self.now.rows.now.spans.items v) }
@@ -41,7 +41,7 @@ impl<'a> Graph<'a> {
         self.rows.row(&self.rows.steps, v)
     }
 
-    /// The entries of a node.
+    /// Returns the entries of a node.
     pub fn row<'b>(&self, entries: &'b [ShortEntry], v: usize) -> &'b [ShortEntry]
         requires entries { length entries.now ≡ length self.now.rows.now.steps.items }
         requires node { v < self.now.nodes }
@@ -50,8 +50,8 @@ impl<'a> Graph<'a> {
         self.rows.row(entries, v)
     }
 
-    /// The entries of all steps, with the residual capacities of a flow. They are put into their rows arc by arc, as
-    /// the steps were, since the arcs of a chain lie together.
+    /// Returns the entries of all steps, with the residual capacities of a flow. They are put into their rows arc by
+    /// arc, like the steps, since the arcs of a chain are consecutive.
     pub fn entries(&self, alloc: Global, flow: &[u64]) -> Result<Vec<ShortEntry>, AllocError>
         requires flow { length flow.now ≡ length (arcs_of self.now) }
         ensures { IfOk result (λ entries. AreEntries self.now flow.now entries.items) }
@@ -72,7 +72,7 @@ impl<'a> Graph<'a> {
         Ok(entries)
     }
 
-    /// Where the entry of a step lies.
+    /// Returns the index of a step's entry.
     fn place_of(&self, step: ResidualArc) -> usize
         requires arc { arc_of step < length (arcs_of self.now) }
         ensures inside { result < length self.now.rows.now.steps.items }
@@ -105,8 +105,8 @@ impl<'a> Graph<'a> {
     }
 }
 
-/// Whether the forward step over an arc of a capacity has residual capacity, and whether the backward step has, where
-/// the arc carries an amount.
+/// Returns whether the forward step and the backward step over an arc with this capacity have residual capacity if the
+/// arc carries this amount.
 pub fn have_capacity(capacity: Option<u64>, amount: u64) -> (bool, bool)
     ensures ahead { result.0 ≡ within 1 (left_of capacity amount) }
     ensures back { result.1 ≡ within 1 (Some amount) }
@@ -133,7 +133,7 @@ pub fn residual_capacity_of(problem: &Problem, flow: &[u64], step: ResidualArc) 
     }
 }
 
-/// The entries of the two steps of an arc that carries an amount.
+/// Returns the entries of the two steps of an arc that carries this amount.
 fn entries_of(arc: Arc, amount: u64) -> (ShortEntry, ShortEntry)
     requires nodes { (arc.from < 1073741824) × (arc.to < 1073741824) }
     ensures along { result.0 ≡ record {
@@ -184,7 +184,7 @@ fn put_next(
     counts[node] = count + 1;
 }
 
-/// The node that a step leads to.
+/// Returns the node that a step leads to.
 pub fn finish_of(problem: &Problem, step: ResidualArc) -> u32
     requires { arc_of step < length (network problem.now).arcs }
     ensures { result ≡ finish (network problem.now).arcs step }

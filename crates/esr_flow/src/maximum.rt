@@ -37,7 +37,7 @@ fn smaller_of(a: Option<u64>, b: Option<u64>) -> Option<u64>
     }
 }
 
-/// The bottleneck of a path: the least residual capacity on it.
+/// Returns the bottleneck of a path: the least residual capacity on it.
 fn bottleneck_of(problem: &Problem, flow: &[u64], path: &[ResidualArc]) -> Option<u64>
     requires flow { length flow.now ≡ length (network problem.now).arcs }
     requires path { InArcs (network problem.now).arcs path.now }
@@ -50,7 +50,7 @@ fn bottleneck_of(problem: &Problem, flow: &[u64], path: &[ResidualArc]) -> Optio
     least
 }
 
-/// What the arc of a step carries once an amount more is pushed over the step.
+/// Returns the amount on the arc of a step after an additional amount is pushed over the step.
 fn amount_after(flow: &[u64], amount: u64, step: ResidualArc) -> u64
     requires arc { arc_of step < length flow.now }
     requires fits { amount_at flow.now (arc_of step) + amount < 2 ^ 64 }
@@ -83,7 +83,7 @@ fn raise_along(
     }
 }
 
-/// One augmentation, along a path that a search found, by the amount that it returns.
+/// Augments along a path that a search found. Returns the amount.
 fn augment(graph: &Graph, flow: &mut [u64], entries: &mut [ShortEntry], path: &[ResidualArc]) -> u64
     requires flow { IsFlow (net_of graph.now) flow.old }
     requires entries { AreEntries graph.now flow.old entries.old }
@@ -113,7 +113,7 @@ pub struct FlowSoFar {
     pub worth: u64,
 }
 
-/// One phase, a blocking flow: augments along `first` and along each further path of its length that is found.
+/// Runs one phase, a blocking flow: augments along `first` and along each further path of its length that is found.
 fn run_phase(
     alloc: Global,
     graph: &Graph,
@@ -264,8 +264,8 @@ pub enum DraftOutcome {
     NoFlow,
 }
 
-/// A maximum flow, and what became of the draft that it began with: a draft that is a maximum flow is taken, another
-/// flow is raised by augmentations, and else the search begins from the flow of zeros.
+/// Finds a maximum flow, and returns it with the outcome of the initial draft: a draft that is a maximum flow is used,
+/// any other flow is raised by augmentations, and otherwise the search begins from the zero flow.
 pub fn find_swiftly(alloc: Global, graph: &Graph) -> Result<(MaximumFlow, DraftOutcome), AllocError>
     requires small { (f : List ℕ) → IsFlow (net_of graph.now) f → worth (net_of graph.now) f ≤ MAX_COST }
     requires limited { HasLimit (net_of graph.now) }

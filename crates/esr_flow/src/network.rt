@@ -9,7 +9,7 @@ use esr_base::NoMemory;
 use esr_cert::Problem;
 use std::alloc::Global;
 
-/// The graph of a problem's network.
+/// Builds the graph of a problem's network.
 fn graph_of<'a>(problem: &'a Problem) -> Graph<'a>
     ensures { net_of result ≡ networks.network problem.now }
 {
@@ -35,7 +35,7 @@ pub struct Network<'a> {
 }
 
 impl<'a> Network<'a> {
-    /// The network of the problem, which allocates nothing.
+    /// Builds the network of the problem, without an allocation.
     pub fn build(_alloc: Global, problem: &'a Problem) -> Result<Network<'a>, NoMemory>
         ensures { IfOk result (λ n. n.problem.now ≡ problem.now) }
     {

@@ -50,7 +50,7 @@ fn next_back(
     if from < row.len() { row.len() } else { from }
 }
 
-/// Depth-first search from the sink along rising labels, which backtracks at dead ends; each node resumes at its
+/// Searches depth-first from the sink along rising labels, and backtracks at dead ends. Each node resumes at its
 /// pointer.
 pub fn next_path(
     alloc: Global,

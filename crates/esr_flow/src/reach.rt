@@ -52,14 +52,14 @@ fn spread(graph: &Graph, flow: &[u64], marks: &mut [bool], i: usize) -> bool
     false
 }
 
-/// Whether a node is marked.
+/// Returns whether a node is marked.
 fn is_marked(marks: &[bool], node: usize) -> bool
     ensures { result ≡ is_marked marks.now node }
 {
     marks.get(node).copied().unwrap_or(false)
 }
 
-/// Whether there is an arc of a chain from a writer to the next at a place, of which both are marked, or none is.
+/// Returns whether the arc at an index of a chain leads from a writer to a writer, both of which are marked or neither.
 fn is_link_alike(chain: &Chain, marks: &[bool], place: usize) -> bool
     ensures place { result ≡ true → (0 < place) × (place < length chain.now.writers.items) }
     ensures ends { result ≡ true → is_marked marks.now (get_or chain.now.writers.items (place - 1) 0)
@@ -73,7 +73,7 @@ fn is_link_alike(chain: &Chain, marks: &[bool], place: usize) -> bool
     is_marked(marks, from as usize) == is_marked(marks, to as usize)
 }
 
-/// Whether there is a pair at a place, of which both updates are marked, or none is.
+/// Returns whether there is a pair at an index, both updates of which are marked or neither.
 fn is_pair_alike(pairs: &[(u32, u32)], marks: &[bool], place: usize) -> bool
     ensures place { result ≡ true → place < length pairs.now }
     ensures ends { result ≡ true → is_marked marks.now (get_or pairs.now place (0, 0)).1
@@ -86,7 +86,7 @@ fn is_pair_alike(pairs: &[(u32, u32)], marks: &[bool], place: usize) -> bool
     is_marked(marks, second as usize) == is_marked(marks, first as usize)
 }
 
-/// The first node that is not marked.
+/// Returns the first node that is not marked.
 fn first_unmarked(marks: &[bool]) -> u32 {
     let mut low = 0u32;
     for mark in marks {
@@ -188,7 +188,7 @@ fn skim(graph: &Graph, flow: &[u64], marks: &mut [bool], first: usize)
     }
 }
 
-/// One pass over the arcs of a chain, which begin at a number, from the first to the last. Whether it marked anything.
+/// Passes over the arcs of a chain, from `begin` on, from the first to the last. Returns whether it marked anything.
 fn pass_chain(graph: &Graph, flow: &[u64], marks: &mut [bool], chain: &Chain, begin: usize) -> bool
     requires flow { length flow.now ≡ length (arcs_of graph.now) }
     requires chain { HasLinks (arcs_of graph.now) chain.now begin }
@@ -207,7 +207,7 @@ fn pass_chain(graph: &Graph, flow: &[u64], marks: &mut [bool], chain: &Chain, be
     more
 }
 
-/// One pass over the arcs of all chains, from the first to the last. Whether it marked anything.
+/// Passes over the arcs of all chains, from the first to the last. Returns whether it marked anything.
 fn pass_chains(graph: &Graph, flow: &[u64], marks: &mut [bool]) -> bool
     requires flow { length flow.now ≡ length (arcs_of graph.now) }
     requires reached { AreReached (net_of graph.now) flow.now marks.old }
@@ -227,7 +227,7 @@ fn pass_chains(graph: &Graph, flow: &[u64], marks: &mut [bool]) -> bool
     more
 }
 
-/// One pass over the arcs from that of the first pair on, from the last to the first. Whether it marked anything.
+/// Passes over the arcs from that of the first pair on, from the last to the first. Returns whether it marked anything.
 fn pass_back(graph: &Graph, flow: &[u64], marks: &mut [bool], first: usize) -> bool
     requires flow { length flow.now ≡ length (arcs_of graph.now) }
     requires first { first ≡ first_back graph.now.problem.now }

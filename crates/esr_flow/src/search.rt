@@ -59,7 +59,7 @@ fn scan(
     Ok(false)
 }
 
-/// The steps from the first visit to the last: where that is of the sink, a shortest path.
+/// Returns the steps from the first visit to the last: if the last is the sink, a shortest path.
 fn path_to_last(alloc: Global, visits: &[Visit]) -> Result<Vec<ResidualArc>, AllocError>
     requires some { 0 < length visits.now }
     requires earlier { ComeFromEarlier visits.now }
@@ -79,7 +79,7 @@ fn path_to_last(alloc: Global, visits: &[Visit]) -> Result<Vec<ResidualArc>, All
     Ok(path)
 }
 
-/// Each node's distance to the sink in levels of this search; 0 for nodes that it did not reach.
+/// Returns each node's distance to the sink in levels of this search; 0 for nodes that it did not reach.
 fn labels_of(
     alloc: Global,
     graph: &Graph,

@@ -20,7 +20,7 @@ use esr_base::NoMemory;
 use esr_cert::{Certificate, Chain, Problem};
 use std::alloc::{AllocError, Global};
 
-/// The marked positions, ascending.
+/// Returns the marked positions, ascending.
 fn members(alloc: Global, marks: &[bool], count: usize) -> Result<Vec<u32>, AllocError>
     requires capacity_left { count ≤ length marks.now }
     requires few { count ≤ MAX_TRANSACTIONS }
@@ -35,7 +35,7 @@ fn members(alloc: Global, marks: &[bool], count: usize) -> Result<Vec<u32>, Allo
     Ok(set)
 }
 
-/// The amounts of each chain, cut from the amounts of all chains.
+/// Returns the amounts of each chain, cut from the amounts of all chains.
 fn chain_rows(alloc: Global, flow: &[u64], chains: &[Chain]) -> Result<Vec<Vec<u64>>, AllocError>
     requires { sum_by (λ chain. length chain.costs.items) chains.now ≡ length flow.now }
     ensures all { IfOk result (λ rows. concat (rows_of rows.items) ≡ flow.now) }
@@ -173,7 +173,7 @@ pub fn find_from_draft(alloc: Global, net: &Network) -> Result<FromDraft, NoMemo
     Ok(FromDraft { certificate, draft })
 }
 
-/// The same certificate alone.
+/// Finds the certificate of `find_from_draft`, without the outcome of the draft.
 pub fn find_certificate(alloc: Global, net: &Network) -> Result<Certificate, NoMemory>
     ensures certifies { IfOk result (λ c. Certifies net.now.problem.now (certificate_of c)) }
     ensures least { IfOk result (λ c. IsSmallestLeast net.now.problem.now (in_set c.set.items)) }

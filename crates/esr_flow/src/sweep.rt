@@ -57,7 +57,7 @@ struct Searches {
     node_labels: Vec<NodeLabel>,
 }
 
-/// What may still be added on an arc of a capacity.
+/// Returns the capacity left on an arc that carries an amount.
 fn capacity_on(capacity: Option<u64>, amount: u64) -> u64 {
     match capacity {
         None => u64::MAX.saturating_sub(amount),
@@ -95,7 +95,7 @@ impl<'a> Field<'a> {
         Ok(Field { graph, limits })
     }
 
-    /// The capacity of an arc; none where that is not one of a chain.
+    /// Returns the capacity of an arc, or `None` if the arc is not in a chain.
     fn limit(&self, number: u32) -> Option<u64> {
         let short = self.limits.get(number as usize).copied()?;
         if short == u32::MAX {
@@ -104,7 +104,7 @@ impl<'a> Field<'a> {
         Some(u64::from(short))
     }
 
-    /// Whether an arc is one of a chain.
+    /// Returns whether an arc is in a chain.
     fn is_of_chain(&self, number: u32) -> bool {
         (number as usize) < self.limits.len()
     }
@@ -160,7 +160,7 @@ fn arc_at(field: &Field, number: u32) -> Arc {
     }
 }
 
-/// The node of a step that is nearer to where a search of a sweep began, and the most that the step may carry.
+/// Returns the end of a step that is nearer to the start of the search, and the residual capacity of the step.
 fn end_and_capacity(field: &Field, flow: &[u64], sweep: Sweep, step: ResidualArc) -> (u32, u64) {
     let number = step.arc();
     let arc = arc_at(field, number);
@@ -175,8 +175,8 @@ fn end_and_capacity(field: &Field, flow: &[u64], sweep: Sweep, step: ResidualArc
     }
 }
 
-/// Whether a search of a sweep goes over a step from a node: the way is the step itself, or the one in the other
-/// direction where more is to come to the node.
+/// Returns the direction in which a sweep's search uses a step from a node: the step itself, or its opposite if the
+/// node is to receive more.
 fn way_of(sweep: Sweep, step: ResidualArc) -> ResidualArc {
     match sweep {
         Sweep::Back(_) => step.opposite(),
@@ -184,8 +184,8 @@ fn way_of(sweep: Sweep, step: ResidualArc) -> ResidualArc {
     }
 }
 
-/// The other end of the arc of a step from a node, and the way over it, if there is one in a sweep. Amounts are taken off
-/// back arcs alone, since for each arc of a chain there is a back arc the other way.
+/// Returns the other end of the arc of a step from a node, and the way over it, if a sweep may use it. Amounts are
+/// subtracted from back arcs only, since each arc of a chain has a back arc in the opposite direction.
 fn way_over(
     field: &Field,
     flow: &[u64],
@@ -209,7 +209,7 @@ fn way_over(
     }
 }
 
-/// Whether a node stands for what a sweep comes to last, seen from an update.
+/// Returns whether a node acts as the source of a backward sweep, or as the sink of a forward sweep, at an update.
 fn is_outside(field: &Field, sweep: Sweep, update: u32, node: u32) -> bool {
     match sweep {
         Sweep::Back(_) => node < update || node as usize == field.graph.source,
@@ -217,7 +217,7 @@ fn is_outside(field: &Field, sweep: Sweep, update: u32, node: u32) -> bool {
     }
 }
 
-/// Whether a node takes part in a sweep.
+/// Returns whether a node takes part in a sweep.
 fn takes_part(field: &Field, sweep: Sweep, node: u32) -> bool {
     match sweep {
         Sweep::Back(middle) => node < middle,
@@ -266,7 +266,7 @@ impl Searches {
         Ok(())
     }
 
-    /// The step by which the latest search came to a node.
+    /// Returns the step by which the latest search came to a node.
     fn way_from(&self, node: usize) -> ResidualArc {
         match self.node_labels.get(node) {
             Some(node_label) => node_label.way,
@@ -430,8 +430,7 @@ fn bring_over(field: &Field, flow: &mut [u64], step: ResidualArc, amount: u64)
     }
 }
 
-/// Whether a sweep asks for more on the arc of a step from a node: on those that come to the node, or those that leave
-/// it.
+/// Returns whether a sweep needs more on the arc of a step from a node: on its incoming arcs, or on its outgoing ones.
 fn asks(sweep: Sweep, step: ResidualArc) -> bool {
     match step {
         ResidualArc::Forward(_) => sweep == Sweep::Forward,
@@ -439,7 +438,7 @@ fn asks(sweep: Sweep, step: ResidualArc) -> bool {
     }
 }
 
-/// What the arcs of chains on the one side of a node carry, and the most that those on the other may.
+/// Returns the amount that the arcs of chains on one side of a node carry, and the capacity of those on the other side.
 fn due_and_capacity(field: &Field, flow: &[u64], sweep: Sweep, node: usize) -> (u64, u64) {
     let mut due: u64 = 0;
     let mut capacity_left: u64 = 0;
@@ -457,7 +456,7 @@ fn due_and_capacity(field: &Field, flow: &[u64], sweep: Sweep, node: usize) -> (
     (due, capacity_left)
 }
 
-/// An amount in the ratio to a larger one, in parts of 2^31, rounded down.
+/// Returns the ratio of an amount to a larger one, in units of 2^-31, rounded down.
 fn ratio_of(amount: u64, sum: u64) -> u64 {
     let down = 32u32.saturating_sub(sum.leading_zeros());
     let parts = (amount >> down).saturating_mul(1 << 31);
@@ -468,7 +467,7 @@ fn ratio_of(amount: u64, sum: u64) -> u64 {
     parts / whole
 }
 
-/// A part of a weight, in a ratio, rounded down.
+/// Returns the product of a weight and a ratio, rounded down.
 fn part_of(weight: u64, ratio: u64) -> u64 {
     // the product has 64 bits either way; a large weight loses its last 31
     if weight < 1 << 32 {
@@ -528,7 +527,7 @@ fn fill(field: &Field, flow: &mut [u64], sweep: Sweep, node: usize, due: u64) ->
     left
 }
 
-/// The arc from the source by which a set has to hold a node: the last of those at the node.
+/// Returns the arc from the source to a node that a set must contain, which is the last of those at the node.
 fn must_arc(field: &Field, node: usize) -> Option<u32> {
     if field.graph.problem.must().is_empty() {
         return None;
@@ -692,8 +691,8 @@ fn add_costs(changes: &mut [u64], chain: &Chain, source: u32)
     }
 }
 
-/// How much more the prefix of the updates up to and with each costs than the one before it, modulo 2^64, and at the
-/// source's place what the empty prefix costs.
+/// Returns for each update how much more the prefix up to and including it costs than the one before it, modulo 2^64,
+/// and at the index of the source the cost of the empty prefix.
 fn cost_changes(alloc: Global, field: &Field) -> Result<Vec<u64>, AllocError> {
     let mut changes = vec![in alloc; 0u64; field.graph.nodes]?;
     for chain in field.graph.problem.chains() {
@@ -702,8 +701,8 @@ fn cost_changes(alloc: Global, field: &Field) -> Result<Vec<u64>, AllocError> {
     Ok(changes)
 }
 
-/// The count of updates in the prefix that costs least, of those that hold what each set must; all of them where few
-/// come after it.
+/// Returns the length of the cheapest prefix that contains the updates that each set must contain; or the number of all
+/// updates if few follow it.
 fn find_middle(alloc: Global, field: &Field) -> Result<u32, AllocError> {
     let changes = cost_changes(alloc, field)?;
     let mut cost = number_at(&changes, field.graph.source);

@@ -140,7 +140,7 @@ pub fn spare<T>(list: &Vec<T>) -> usize
 }
 
 impl BackLinks {
-    /// The tables of no entries.
+    /// Creates the tables of an empty log.
     pub fn new(alloc: Global, items: usize) -> Result<BackLinks, AllocError>
         requires { items ≤ MAX_ITEMS }
         ensures { IfOk result (λ l. AreLinks items [] l) }
@@ -259,7 +259,7 @@ impl BackLinks {
         (0, begun)
     }
 
-    /// The codes of the places that an entry links to.
+    /// Returns the codes of the entries that a new entry links to.
     fn last(&self, entry: Entry) -> (u32, u32)
         ensures item { result.0 ≡ key_at self.now.items.items (item_in entry) }
         ensures txn { result.1 ≡ key_at self.now.txns.items (txn_in entry) }
@@ -306,21 +306,21 @@ impl BackLinks {
         self.link(on_item, of_txn);
     }
 
-    /// The place of the accepted operation before the one at a place, on the same item.
+    /// Returns the index of the previous accepted operation on the same item as the entry at an index.
     pub fn earlier_on_item(&self, i: u64) -> Option<u64>
         ensures { (n : ℕ) (es : List Entry) → AreLinks n es self.now → result ≡ earlier accepted_item item_in es i }
     {
         place(at(&self.on_item, i))
     }
 
-    /// The place of the accepted entry before the one at a place, of the same transaction.
+    /// Returns the index of the previous accepted entry of the same transaction as the entry at an index.
     pub fn earlier_of_txn(&self, i: u64) -> Option<u64>
         ensures { (n : ℕ) (es : List Entry) → AreLinks n es self.now → result ≡ earlier accepted_txn txn_in es i }
     {
         place(at(&self.of_txn, i))
     }
 
-    /// The place of the last accepted operation on an item.
+    /// Returns the index of the last accepted operation on an item.
     pub fn last_on_item(&self, x: u32) -> Option<u64>
         ensures { (n : ℕ) (es : List Entry) → AreLinks n es self.now → IsFit n es
             → result ≡ last_place accepted_item x es }
@@ -328,7 +328,7 @@ impl BackLinks {
         place(at_key(&self.items, Some(x)))
     }
 
-    /// The place of the last accepted entry of a transaction.
+    /// Returns the index of the last accepted entry of a transaction.
     pub fn last_of_txn(&self, t: u32) -> Option<u64>
         ensures { (n : ℕ) (es : List Entry) → AreLinks n es self.now → IsFit n es
             → result ≡ last_place accepted_txn t es }
@@ -336,14 +336,14 @@ impl BackLinks {
         place(at_key(&self.txns, Some(t)))
     }
 
-    /// How many transactions have begun.
+    /// Returns how many transactions have begun.
     pub fn begun_count(&self) -> usize
         ensures { (n : ℕ) (es : List Entry) → AreLinks n es self.now → result ≡ begun_count es }
     {
         self.begins.len()
     }
 
-    /// What is known of a transaction, if it has begun.
+    /// Returns how a transaction began and where it ended, if it has begun.
     pub fn facts(&self, t: u32) -> Option<Facts>
         ensures { (n : ℕ) (es : List Entry) → AreLinks n es self.now → IsFit n es → result ≡ facts_of es t }
     {
@@ -361,7 +361,7 @@ impl BackLinks {
     }
 }
 
-/// What a table has at a place, 0 past its end.
+/// Returns the number at an index of a table, or 0 past its end.
 fn at(table: &[u32], i: u64) -> u32
     ensures { result ≡ slice_index_or table.now i 0 }
 {

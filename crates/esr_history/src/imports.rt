@@ -12,7 +12,7 @@ use crate::event::{Entry, Event};
 use esr_base::TxnId;
 use std::alloc::{AllocError, Global};
 
-/// The table before the first transaction.
+/// Creates the table before the first transaction.
 pub fn no_imports(alloc: Global) -> Result<Vec<u64>, AllocError>
     ensures { IfOk result (λ v. v.items ≡ 0 ∷ []) }
 {
@@ -54,7 +54,7 @@ fn add_charges(imports: &mut [u64], charges: &[(TxnId, u64)])
     }
 }
 
-/// The table before the first transaction again. Its room stays.
+/// Resets the table to its state before the first transaction. Its capacity stays.
 pub fn clear(imports: &mut Vec<u64>)
     requires { 0 < length imports.old.items }
     ensures table { imports.new.items ≡ 0 ∷ [] }
@@ -83,7 +83,7 @@ pub fn note(imports: &mut Vec<u64>, entry: Entry, charges: &[(TxnId, u64)])
     add_charges(imports, charges);
 }
 
-/// What the table has for a transaction, 0 past its end.
+/// Returns the import of a transaction in the table, or 0 past its end.
 pub fn import_of(imports: &[u64], t: TxnId) -> u64
     ensures { result ≡ slice_index_or imports.now t.0 0 }
 {

@@ -67,14 +67,14 @@ pub enum PackedEntry {
     },
 }
 
-/// A number in 16 bits, if it fits.
+/// Converts a number to 16 bits, if it fits.
 fn to_u16(number: u32) -> Option<u16>
     ensures { IfSome result (λ n. n ≡ number) }
 {
     u16::try_from(number).ok()
 }
 
-/// What is in the way where a reply says so, and the transaction whose lock or limit it is.
+/// Returns what blocks an event by its reply, if the reply says so, and the transaction whose lock or limit it is.
 fn block_reason(reply: Reply) -> Option<(BlockReason, u16)>
     ensures { IfSome result (λ b. blocked b.0 b.1 ≡ reply) }
 {
@@ -87,7 +87,7 @@ fn block_reason(reply: Reply) -> Option<(BlockReason, u16)>
     Some((reason, to_u16(other.0)?))
 }
 
-/// The reply that says what is in the way.
+/// Returns the reply for a blocked event.
 fn reply_of(reason: BlockReason, other: u16) -> Reply
     ensures { result ≡ blocked reason other }
 {
@@ -99,7 +99,7 @@ fn reply_of(reason: BlockReason, other: u16) -> Reply
     })
 }
 
-/// The short form of a read with its reply, if it has one.
+/// Packs a read with its reply, if they fit.
 #[inline(always)]
 fn packed_read(txn: TxnId, item: ItemId, reply: Reply) -> Option<PackedEntry>
     ensures { IfSome result (λ s. (long : List Entry)
@@ -119,7 +119,7 @@ fn packed_read(txn: TxnId, item: ItemId, reply: Reply) -> Option<PackedEntry>
     })
 }
 
-/// The short form of a write with its reply, if it has one.
+/// Packs a write with its reply, if they fit.
 #[inline(always)]
 fn packed_write(txn: TxnId, item: ItemId, value: i64, reply: Reply) -> Option<PackedEntry>
     ensures { IfSome result (λ s. (long : List Entry)
@@ -166,7 +166,7 @@ fn write(txn: u16, item: u16, value: i64) -> Event
 }
 
 impl PackedEntry {
-    /// The short form of an entry, if it has one.
+    /// Packs an entry, if it fits.
     #[inline(always)]
     pub fn of(entry: Entry) -> Option<PackedEntry>
         ensures { IfSome result (λ s. (long : List Entry) → (unpacked long s ≡ entry) × IsWithin long s) }
@@ -195,7 +195,7 @@ impl PackedEntry {
         }
     }
 
-    /// The entry, given the list of those that have no short form.
+    /// Unpacks the entry, given the list of those that did not fit.
     pub fn entry(self, long: &[Entry]) -> Entry
         requires { IsWithin long.now self }
         ensures { result ≡ unpacked long.now self }

@@ -55,7 +55,7 @@ impl Model for Store {
 }
 
 impl Store {
-    /// A store in which each item has the value given, as its committed and its current value.
+    /// Creates a store in which each item has the given value, as its committed and its current value.
     pub fn new(alloc: Global, values: Vec<i64>) -> Result<Store, ItemsError>
         ensures ok { IfOk result (λ s. s ≡ map both_versions values.items) }
         ensures many { IsErrOf result ItemsError.TooManyItems ↔ (MAX_ITEMS < length values.items) }
@@ -81,7 +81,7 @@ impl Store {
         Ok(Store { items })
     }
 
-    /// How many items there are.
+    /// Returns the number of items.
     pub fn len(&self) -> usize
         ensures len { result ≡ length self.now }
         ensures most { result ≤ MAX_ITEMS }
@@ -89,7 +89,7 @@ impl Store {
         self.items.len()
     }
 
-    /// The current value of an item.
+    /// Returns the current value of an item.
     pub fn read(&self, x: ItemId) -> i64
         requires { x.0 < length self.now }
         ensures value { result ≡ current_at self.now x.0 }
@@ -98,7 +98,7 @@ impl Store {
         self.items[x.0 as usize].current
     }
 
-    /// The committed value of an item.
+    /// Returns the committed value of an item.
     pub fn committed(&self, x: ItemId) -> i64
         requires { x.0 < length self.now }
         ensures value { result ≡ committed_at self.now x.0 }
@@ -150,14 +150,14 @@ fn versions_of(alloc: Global, values: &[i64]) -> Result<Vec<Versions>, AllocErro
     versions.collect(alloc)
 }
 
-/// Whether an item may have the value.
+/// Returns whether an item may have the value.
 fn is_value(v: i64) -> bool
     ensures { IsTrue result ↔ IsValue v }
 {
     v.unsigned_abs() <= MAX_VALUE
 }
 
-/// Whether a store may have the values, and else why not.
+/// Checks whether a store may have the values, and returns the reason if not.
 fn check(values: &[i64]) -> Result<(), ItemsError>
     ensures ok { OnOk result ((length values.now ≤ MAX_ITEMS) × All IsValue values.now) }
     ensures err { IfErr result (λ e. ((e ≡ ItemsError.TooManyItems) × (MAX_ITEMS < length values.now))

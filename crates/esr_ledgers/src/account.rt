@@ -18,7 +18,7 @@ pub struct Account {
     pub amount: u64,
 }
 
-/// Whether a number is above those of all accounts.
+/// Returns whether a number is above those of all accounts.
 fn is_above(accounts: &[Account], t: TxnId) -> bool
     requires { IsAscendingBy number accounts.now }
     ensures { IsTrue result → IsGapFor number accounts.now t.0 (length accounts.now) }
@@ -41,8 +41,8 @@ pub fn place_of(accounts: &[Account], t: TxnId) -> Result<usize, usize>
     accounts.binary_search_by_key(&t.0, |a| a.number.0)
 }
 
-/// Where the account of a transaction is. Accounts are opened for 1, 2, 3 and so on, so
-/// it is looked for there first.
+/// Returns the index of a transaction's account. Accounts are usually opened for 1, 2, 3 and so on, so it looks there
+/// first.
 fn index_of(accounts: &[Account], t: TxnId) -> usize
     requires ascending { IsAscendingBy number accounts.now }
     requires open { is_open accounts.now t.0 ≡ true }
@@ -59,7 +59,7 @@ fn index_of(accounts: &[Account], t: TxnId) -> usize
     }
 }
 
-/// The account of a transaction.
+/// Returns the account of a transaction.
 pub fn find_account(accounts: &[Account], t: TxnId) -> Account
     requires ascending { IsAscendingBy number accounts.now }
     requires open { is_open accounts.now t.0 ≡ true }

@@ -44,7 +44,7 @@ impl Model for Ledgers {
     ghost invariant = { λ l. AreBooks l.accounts.items l.total };
 }
 
-/// The sum of some charges.
+/// Returns the sum of some charges.
 fn total_charge(charges: &[(TxnId, u64)]) -> u128
     ensures sum { result ≡ total_of charges.now }
     ensures most { result < 2 ^ 127 }
@@ -56,7 +56,7 @@ fn total_charge(charges: &[(TxnId, u64)]) -> u128
     total
 }
 
-/// Whether one more amount would pass the limit of a transaction.
+/// Returns whether an additional amount would exceed the limit of a transaction.
 fn passes(accounts: &[Account], t: TxnId, amount: u128) -> bool
     requires ascending { IsAscendingBy number accounts.now }
     requires open { is_open accounts.now t.0 ≡ true }
@@ -67,7 +67,7 @@ fn passes(accounts: &[Account], t: TxnId, amount: u128) -> bool
     u128::from(account.amount) + amount > u128::from(account.limit)
 }
 
-/// The first query whose limit would be passed.
+/// Returns the first query whose limit would be exceeded.
 fn first_over(accounts: &[Account], charges: &[(TxnId, u64)]) -> Option<(TxnId, u64)>
     requires ascending { IsAscendingBy number accounts.now }
     requires queries { All (λ c. is_open accounts.now c.0.0 ≡ true) charges.now }
@@ -173,7 +173,7 @@ impl Ledgers {
         Ok(())
     }
 
-    /// Whether an account is a query's.
+    /// Returns whether an account belongs to a query.
     pub fn is_query(&self, t: TxnId) -> bool
         requires { is_open self.now t.0 ≡ true }
         ensures { result ≡ is_open_query self.now t.0 }
@@ -181,7 +181,7 @@ impl Ledgers {
         find_account(&self.accounts, t).kind.is_query()
     }
 
-    /// Whether the charges of an update fit all limits.
+    /// Returns whether the charges of an update fit all limits, or else the transaction whose limit they exceed.
     pub fn quote(&self, u: TxnId, charges: &[(TxnId, u64)]) -> Quote
         requires { AreCharges self.now u charges.now }
         ensures { result ≡ quote_of self.now u charges.now }
@@ -208,7 +208,7 @@ impl Ledgers {
         self.total += total;
     }
 
-    /// What a query has imported.
+    /// Returns the amount that a query has imported.
     pub fn import(&self, q: TxnId) -> u64
         requires { is_open_query self.now q.0 ≡ true }
         ensures { result ≡ account_amount self.now q.0 }
@@ -216,7 +216,7 @@ impl Ledgers {
         find_account(&self.accounts, q).amount
     }
 
-    /// What an update has exported.
+    /// Returns the amount that an update has exported.
     pub fn export(&self, u: TxnId) -> u64
         requires { is_open_update self.now u.0 ≡ true }
         ensures { result ≡ account_amount self.now u.0 }
@@ -224,7 +224,7 @@ impl Ledgers {
         find_account(&self.accounts, u).amount
     }
 
-    /// What all queries have imported, and all updates exported.
+    /// Returns the total imports of all queries, and the total exports of all updates.
     pub fn totals(&self) -> (u128, u128)
         ensures import { result.0 ≡ imports self.now }
         ensures export { result.1 ≡ exports self.now }

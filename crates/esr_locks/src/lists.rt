@@ -123,14 +123,14 @@ fn place_of<R: Numbered + MadeWith<Global>, const N: usize>(
     rows.binary_search_by_key(&t.0, |r| r.number())
 }
 
-/// The first reader other than `t`.
+/// Returns the first reader other than `t`.
 pub fn other_reader(readers: &[Reader], t: TxnId) -> Option<TxnId>
     ensures { result ≡ option_map (λ r. r.update) (find (λ r. not (r.update.0 == t.0)) readers.now) }
 {
     readers.iter().find(|r| r.update.0 != t.0).map(|r| r.update)
 }
 
-/// Whether `t` is a reader.
+/// Returns whether `t` is a reader.
 pub fn is_reader(readers: &[Reader], t: TxnId) -> bool
     ensures { result ≡ list_any (λ r. r.update.0 == t.0) readers.now }
 {

@@ -20,7 +20,7 @@ pub enum Mode {
     QueryRead,
 }
 
-/// Whether a lock that one transaction holds keeps another from one that it asks for.
+/// Returns whether a held lock of one mode conflicts with a request of another transaction for the other mode.
 #[inline(always)]
 pub fn conflicts(held: Mode, asked: Mode) -> bool
     ensures { result ≡ conflicts held asked }

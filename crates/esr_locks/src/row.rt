@@ -46,7 +46,7 @@ impl Model for Row {
         × IsAscendingBy (λ q. q.query.0) r.queries.items × AllByRecursion (λ q. q.count ≤ MAX_READS) r.queries.items };
 }
 
-/// Whether the item's writer is `t`.
+/// Returns whether the item's writer is `t`.
 fn writer_is(writer: Option<TxnId>, t: TxnId) -> bool
     ensures { result ≡ unwrap_or (option_map (λ u. u.0 == t.0) writer) false }
 {
@@ -56,7 +56,7 @@ fn writer_is(writer: Option<TxnId>, t: TxnId) -> bool
     }
 }
 
-/// The writer, unless it is `t`.
+/// Returns the writer, unless it is `t`.
 fn writer_unless(writer: Option<TxnId>, t: TxnId) -> Option<TxnId>
     ensures { result ≡ (if unwrap_or (option_map (λ u. u.0 == t.0) writer) false then None else writer) }
 {
@@ -66,7 +66,7 @@ fn writer_unless(writer: Option<TxnId>, t: TxnId) -> Option<TxnId>
     }
 }
 
-/// The smaller of two ids, either of which may be absent.
+/// Returns the smaller of two ids, either of which may be absent.
 fn smaller_of(a: Option<TxnId>, b: Option<TxnId>) -> Option<TxnId>
     ensures { (p q : ℕ → Bool) → IsSmallest p (option_map (λ u. u.0) a) → IsSmallest q (option_map (λ u. u.0) b)
         → IsSmallest (λ u. p u || q u) (option_map (λ u. u.0) result) }
@@ -79,7 +79,7 @@ fn smaller_of(a: Option<TxnId>, b: Option<TxnId>) -> Option<TxnId>
 }
 
 impl Row {
-    /// A row with no locks.
+    /// Creates a row without locks.
     pub fn new(alloc: Global) -> Row
         ensures { result.locks ≡ no_locks }
     {
@@ -90,14 +90,14 @@ impl Row {
         }
     }
 
-    /// The update that has written the item.
+    /// Returns the update that has written the item.
     pub fn writer(&self) -> Option<TxnId>
         ensures { option_map (λ u. u.0) result ≡ self.now.locks.writer }
     {
         self.writer
     }
 
-    /// The queries that have read the item, with their counts.
+    /// Returns the queries that have read the item, with their counts.
     pub fn queries(&self) -> &[QueryReads]
         ensures reads { map query_and_count result.now ≡ self.now.locks.queries }
         ensures ascending { IsAscendingBy (λ r. r.query.0) result.now }
@@ -106,7 +106,7 @@ impl Row {
         &self.queries
     }
 
-    /// The smallest reader other than `t`, where reading keeps others from locking in this mode.
+    /// Returns the smallest reader other than `t` if read locks conflict with this mode.
     fn blocking_reader(&self, t: TxnId, asked: Mode) -> Option<TxnId>
         ensures { IsSmallest (λ u. not (u == t.0) && (conflicts Mode.Read asked && is_reader self.now.locks u))
             (option_map (λ u. u.0) result) }
@@ -130,7 +130,7 @@ impl Row {
         }
     }
 
-    /// The smallest update that keeps `t` from locking the item in this mode.
+    /// Returns the smallest update whose lock on the item conflicts with a lock of `t` in this mode.
     #[inline(always)]
     pub fn blocking_update(&self, t: TxnId, asked: Mode) -> Option<TxnId>
         ensures { IsSmallest (blocks asked self.now.locks t.0) (option_map (λ u. u.0) result) }

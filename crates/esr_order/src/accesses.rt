@@ -17,7 +17,7 @@ pub struct Access {
     pub writes: bool,
 }
 
-/// The value that a reply answers.
+/// Returns the value in a reply.
 fn answer_of(reply: Reply) -> i64
     ensures { result ≡ answer reply }
 {
@@ -27,7 +27,7 @@ fn answer_of(reply: Reply) -> i64
     }
 }
 
-/// What was done in an entry, if that is an accepted read or write.
+/// Returns the access of an entry, if it is an accepted read or write.
 pub fn access_in(entry: Entry) -> Option<Access>
     ensures { result ≡ access_in entry }
 {
@@ -53,7 +53,7 @@ pub fn access_in(entry: Entry) -> Option<Access>
     }
 }
 
-/// What was done in the entry at a place.
+/// Returns the access of the entry at an index.
 fn access_at(log: &Log, i: u64) -> Option<Access>
     ensures { result ≡ access_at log.now.entries i }
 {
@@ -82,7 +82,7 @@ pub fn list_accesses<M: Metric>(
     Ok(())
 }
 
-/// What a transaction read and wrote, in order.
+/// Returns the reads and writes of a transaction, in order.
 pub fn accesses_of<M: Metric>(
     alloc: Global,
     history: &History<M>,

@@ -7,7 +7,7 @@ use crate::links::Links;
 use std::alloc::{AllocError, Global};
 
 impl Links {
-    /// The chain of an item that no update wrote.
+    /// Creates the chain of an item that no update wrote.
     pub(crate) fn empty(alloc: Global) -> Links
         ensures { seen_links result ≡ record { writers = []; values = [] } }
     {
@@ -31,7 +31,7 @@ impl Links {
     }
 }
 
-/// The writer that a chain came by last.
+/// Returns the writer that was added last to a chain.
 pub fn latest_writer(links: &Links) -> Option<u32>
     ensures { result ≡ latest_writer (seen_links links.now) }
 {

@@ -33,7 +33,7 @@ impl Index {
     ghost use Rattle.std.specs.Prelude.{◌≡◌, [], IfOk, OnOk, length};
     ghost use Rattle.esr_order.specs.Index.{IsIndexOf, IsWholeIndexOf};
 
-    /// The index of no entries.
+    /// Creates the index of an empty log.
     pub fn new(alloc: Global) -> Index
         ensures { result ≡ record { read = 0; commits = []; rows = [] } }
     {
@@ -44,7 +44,7 @@ impl Index {
         }
     }
 
-    /// The index of a history.
+    /// Creates the index of a history.
     pub fn of<M: Metric>(alloc: Global, history: &History<M>) -> Result<Index, AllocError>
         ensures { IfOk result (IsWholeIndexOf history.now.schedule.entries) }
     {
@@ -76,14 +76,14 @@ impl Index {
         self.rows.extend(history, &self.commits[first..])
     }
 
-    /// The transactions that committed.
+    /// Returns the committed transactions in commit order.
     pub fn commits(&self) -> &[TxnId]
         ensures { result.now ≡ self.now.commits }
     {
         &self.commits
     }
 
-    /// What committed updates did.
+    /// Returns the accesses of the committed updates.
     pub(crate) fn rows(&self) -> &AccessRows
         ensures { result.now ≡ self.now.rows }
     {

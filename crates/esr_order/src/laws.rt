@@ -3,24 +3,24 @@
 
 ghost use Rattle.esr_order.specs.Statements.{LawOfLeastSets, LawOfListedSets, LawOfLongerHistories, LawOfPlacements};
 
-/// The closed sets of a query's updates are the parts before its placements, so that
-/// the least distance of a placement is the least cost of a closed set.
+/// Proves that the closed sets of a query's updates are the prefixes before its placements, so that the least distance
+/// of a placement is the least cost of a closed set.
 pub fn parts_are_closed_sets()
     ensures { LawOfPlacements }
 {}
 
-/// What the audit of a committed query rests on stays in every longer legal history.
+/// Proves that the audit of a committed query depends on nothing that a longer legal history changes.
 pub fn longer_histories_agree()
     ensures { LawOfLongerHistories }
 {}
 
-/// The meet of two closed sets of least cost is one: where there are such sets, one
-/// is contained in all.
+/// Proves that the intersection of two closed sets of least cost is one: if such sets exist, all contain a smallest
+/// one.
 pub fn least_sets_meet()
     ensures { LawOfLeastSets }
 {}
 
-/// The smallest of them is the one that is found by listing all closed sets.
+/// Proves that the smallest of them is the one that is found by listing all closed sets.
 pub fn least_sets_are_listed()
     ensures { LawOfListedSets }
 {}

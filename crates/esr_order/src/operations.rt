@@ -111,7 +111,7 @@ fn nothing_later(
     Ok((chains, readers))
 }
 
-/// The sum of counts, by which room is made.
+/// Returns the sum of counts, for reserving capacity.
 fn total_of(counts: &[u32]) -> usize {
     let mut total = 0usize;
     for count in counts {

@@ -75,7 +75,7 @@ impl Model for Order {
     } };
 }
 
-/// The positions 0 to n - 1.
+/// Returns the positions 0 to n - 1.
 fn first_positions(alloc: Global, n: usize) -> Result<Vec<u32>, AllocError>
     requires { n < 2 ^ 32 }
     ensures { IfOk result (λ v. v.items ≡ range_with_len 0 n) }
@@ -142,7 +142,7 @@ fn near_with<M: Metric>(
 }
 
 impl Order {
-    /// The order of a committed query of a legal history.
+    /// Builds the order of a committed query of a legal history.
     pub fn of<M: Metric>(alloc: Global, history: &History<M>, q: TxnId) -> Result<Order, OrderError>
         ensures ok { IfOk result (λ o. IsOrderOf history.now.schedule q.0 o) }
         ensures sparse { IfOk result (λ o. length o.before ≤ 2 * length (operations_of history.now.schedule q.0)) }
@@ -161,9 +161,8 @@ impl Order {
         Ok(order)
     }
 
-    /// The order among the near updates of a committed query of a legal history: those that
-    /// wrote an item that it read, those from which a chain of conflicts leads to
-    /// such an update, and those that it must have seen.
+    /// Builds the order of the near updates of a committed query of a legal history: those that wrote an item that it
+    /// read, those from which a chain of conflicts leads to such an update, and those that it must have seen.
     pub fn near<M: Metric>(
         alloc: Global,
         history: &History<M>,
@@ -215,8 +214,8 @@ impl Order {
         near_with(alloc, history, index.commits(), index.rows(), q)
     }
 
-    /// The updates of the order, in commit order: those that committed before the query
-    /// did, or the near ones among them.
+    /// Returns the updates of the order, in commit order: those that committed before the query, or the near ones among
+    /// them.
     pub fn commits(&self) -> &[TxnId]
         ensures { result.now ≡ self.now.commits }
     {
@@ -232,15 +231,15 @@ impl Order {
         &self.before
     }
 
-    /// The positions of the updates that a strict query must have seen: those that
-    /// committed before it began. None for another query.
+    /// Returns the positions of the updates that a strict query must have seen: those that committed before it began.
+    /// Empty for any other query.
     pub fn must(&self) -> &[u32]
         ensures { result.now ≡ self.now.must }
     {
         &self.must
     }
 
-    /// The parts of the order: its updates, the pairs, and the positions that must be seen.
+    /// Returns the parts of the order: its updates, the pairs, and the positions that must be seen.
     pub fn into_parts(self) -> (Vec<TxnId>, Vec<(u32, u32)>, Vec<u32>)
         ensures commits { result.0.items ≡ self.commits }
         ensures before { result.1.items ≡ self.before }
@@ -249,7 +248,7 @@ impl Order {
         (self.commits, self.before, self.must)
     }
 
-    /// The updates that wrote the item, if there is one.
+    /// Returns the updates that wrote the item, if there are any.
     pub fn chain(&self, x: ItemId) -> Option<&Links>
         ensures { option_map (λ l. seen_links l.now) result ≡ chain_at self.now x.0 }
     {

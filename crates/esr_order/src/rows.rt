@@ -52,7 +52,7 @@ impl AccessRows {
     ghost use Rattle.esr_order.specs.Scans.{accesses_in};
     ghost use Rattle.esr_order.specs.AccessRows.{row_at, AreRowsOf};
 
-    /// No rows.
+    /// Returns no rows.
     pub fn new(alloc: Global) -> AccessRows
         ensures { result ≡ [] }
     {
@@ -134,8 +134,8 @@ impl AccessRows {
         Ok(())
     }
 
-    /// What a transaction read and wrote, in order: its row, or what is found along the links of the transaction, for which
-    /// there is a list.
+    /// Returns the reads and writes of a transaction, in order: its row, or if it has none, the accesses found along
+    /// its links, which are collected in `list`.
     pub fn accesses_of<'a, M: Metric>(
         &'a self,
         history: &History<M>,

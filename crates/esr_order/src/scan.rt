@@ -15,7 +15,7 @@ use esr_history::{Entry, Event, History, Log, TxnId};
 use esr_items::Metric;
 use std::alloc::{AllocError, Global};
 
-/// The transaction that commits in an entry, if that is accepted.
+/// Returns the transaction that commits in an entry, if the entry is an accepted commit.
 fn committer_of(entry: Entry) -> Option<TxnId>
     ensures { result ≡ commit_in entry }
 {
@@ -39,7 +39,7 @@ pub fn push_committer(commits: &mut Vec<TxnId>, entry: Entry) -> Result<(), Allo
     Ok(())
 }
 
-/// The transactions that commit in the entries at these places.
+/// Returns the transactions that commit in the entries at these indices.
 fn committers_at(alloc: Global, log: &Log, at: &[u64]) -> Result<Vec<TxnId>, AllocError>
     ensures { IfOk result (λ v. v.items ≡ filter_map commit_in (filter_map (slice_get log.now.entries) at.now)) }
 {
@@ -58,7 +58,7 @@ fn push_end(ends: &mut Vec<u64>, end: Option<u64>) -> Result<(), AllocError>
     Ok(())
 }
 
-/// The places at which transactions ended, ascending.
+/// Returns the indices at which transactions ended, ascending.
 fn ends_of<M: Metric>(alloc: Global, history: &History<M>) -> Result<Vec<u64>, AllocError>
     ensures rises { IfOk result (λ v. IsStrictlyIncreasing v.items) }
     ensures ends { IfOk result (λ v. AreEnds history.now.schedule v.items) }
@@ -75,8 +75,7 @@ fn ends_of<M: Metric>(alloc: Global, history: &History<M>) -> Result<Vec<u64>, A
     Ok(ends)
 }
 
-/// The transactions that committed, in the order of their commits. It goes over the numbers of
-/// the transactions, not over the log.
+/// Returns the committed transactions in commit order. Iterates over the transaction numbers, not over the log.
 pub fn committed<M: Metric>(alloc: Global, history: &History<M>) -> Result<Vec<TxnId>, AllocError>
     ensures { IfOk result (λ v. map (λ t. t.0) v.items ≡ commit_order (accepted_in history.now.schedule)) }
 {
@@ -85,7 +84,7 @@ pub fn committed<M: Metric>(alloc: Global, history: &History<M>) -> Result<Vec<T
     Ok(committed)
 }
 
-/// Whether the transaction is an update.
+/// Returns whether the transaction is an update.
 pub fn is_update<M: Metric>(history: &History<M>, t: TxnId) -> bool
     ensures { result ≡ is_update (accepted_in history.now.schedule) t.0 }
 {
@@ -95,7 +94,7 @@ pub fn is_update<M: Metric>(history: &History<M>, t: TxnId) -> bool
     }
 }
 
-/// Whether the entry at a place, if there is one, is an accepted commit.
+/// Returns whether the entry at an index, if there is one, is an accepted commit.
 fn is_commit_at(log: &Log, place: Option<u64>) -> bool
     ensures { result ≡ is_commit_at log.now.entries place }
 {
@@ -107,7 +106,7 @@ fn is_commit_at(log: &Log, place: Option<u64>) -> bool
     }
 }
 
-/// Whether the transaction is a query that has committed.
+/// Returns whether the transaction is a query that has committed.
 pub fn is_committed_query<M: Metric>(history: &History<M>, q: TxnId) -> bool
     ensures { result ≡ is_committed_query history.now.schedule q.0 }
 {
@@ -117,7 +116,7 @@ pub fn is_committed_query<M: Metric>(history: &History<M>, q: TxnId) -> bool
     }
 }
 
-/// The updates that committed before the query did, among those that committed.
+/// Returns the updates that committed before the query, among the committed transactions.
 pub fn updates_before<M: Metric>(
     alloc: Global,
     history: &History<M>,
@@ -142,7 +141,7 @@ struct BeginPlace {
     strict: bool,
 }
 
-/// Whether an entry, if there is one, is the begin of a strict query.
+/// Returns whether an entry, if there is one, is the begin of a strict query.
 fn is_strict_begin(entry: Option<Entry>) -> bool
     ensures { result ≡ is_strict_begin entry }
 {
@@ -157,7 +156,7 @@ fn is_strict_begin(entry: Option<Entry>) -> bool
     }
 }
 
-/// The first of the places that a walk back found.
+/// Returns the first of the indices that a backward walk found.
 fn first_of(places: &[u64]) -> u64
     ensures { (p : ℕ) (rest : List ℕ) → reverse places.now ≡ p ∷ rest → result ≡ p }
 {
@@ -167,7 +166,7 @@ fn first_of(places: &[u64]) -> u64
     }
 }
 
-/// The begin of a transaction that has begun.
+/// Returns the begin of a transaction that has begun.
 fn begin_place<M: Metric>(
     alloc: Global,
     history: &History<M>,
@@ -185,7 +184,7 @@ fn begin_place<M: Metric>(
     Ok(BeginPlace { place, strict })
 }
 
-/// Whether the transaction ended before a place.
+/// Returns whether the transaction ended before an index.
 fn has_ended_before<M: Metric>(history: &History<M>, t: TxnId, place: u64) -> bool
     ensures { result ≡ has_ended_before history.now.schedule t.0 place }
 {
@@ -195,7 +194,7 @@ fn has_ended_before<M: Metric>(history: &History<M>, t: TxnId, place: u64) -> bo
     }
 }
 
-/// How many of these transactions ended before a place.
+/// Returns how many of these transactions ended before an index.
 fn count_before<M: Metric>(history: &History<M>, txns: &[TxnId], place: u64) -> usize
     ensures { result ≡ count_by (λ t. has_ended_before history.now.schedule t.0 place) txns.now }
 {
@@ -204,7 +203,7 @@ fn count_before<M: Metric>(history: &History<M>, txns: &[TxnId], place: u64) -> 
         .count()
 }
 
-/// How many of its updates a query must have seen.
+/// Returns how many of its updates a query must have seen.
 pub fn count_must<M: Metric>(
     alloc: Global,
     history: &History<M>,

@@ -62,7 +62,7 @@ struct Items {
 }
 
 impl Items {
-    /// The items that a query read.
+    /// Returns the items that a query read.
     fn of_query<M: Metric>(
         alloc: Global,
         history: &History<M>,
@@ -118,8 +118,8 @@ pub struct Near {
     pub writes: Vec<u32>,
 }
 
-/// The near ones among the updates of a query, of which it must have seen the first. The search goes back in commit
-/// order: an update is near where what it did conflicts with what the query, or a near update after it, did.
+/// Returns the near ones among the updates of a query, of which it must have seen the first ones. Searches backward in
+/// commit order: an update is near if it conflicts with the query or with a near update after it.
 pub fn near_of<M: Metric>(
     alloc: Global,
     history: &History<M>,

@@ -6,7 +6,7 @@ use esr_history::{History, TxnId};
 use esr_items::Metric;
 use std::alloc::{AllocError, Global};
 
-/// The places of the accepted entries of a transaction, the last first.
+/// Returns the indices of the accepted entries of a transaction, from the last to the first.
 pub fn places_of_txn<M: Metric>(
     alloc: Global,
     history: &History<M>,

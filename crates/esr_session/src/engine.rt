@@ -65,7 +65,7 @@ pub struct CloseRefused<M: Metric + Drop, N: Naming> {
 }
 
 impl<M: Metric + Drop, N: Naming> Engine<M, N> {
-    /// An engine over these items, whose committed values are the opening values.
+    /// Creates an engine over these items, whose committed values are the opening values.
     ///
     /// # Errors
     /// `NoMemory` if an allocation failed.
@@ -211,7 +211,7 @@ fn clones<M: Metric + Drop, N: Naming>(
     Ok(all)
 }
 
-/// A close, but for taking the machine and the sessions apart. It takes the lock once.
+/// Closes the engine, except for taking the machine and the sessions apart. Takes the lock once.
 fn close_shared<M: Metric + Drop, N: Naming, R: Wait>(
     rt: &R,
     alloc: Global,
@@ -232,7 +232,7 @@ fn close_shared<M: Metric + Drop, N: Naming, R: Wait>(
     close_on(alloc, &mut *locked, rest, sessions)
 }
 
-/// A close under the lock.
+/// Closes the engine inside the lock.
 fn close_on<M: Metric + Drop, N: Naming>(
     alloc: Global,
     locked: &mut Locked<M, N>,
@@ -313,7 +313,7 @@ fn match_sessions<M: Metric + Drop, N: Naming>(
     match_all(alloc, history, sessions)
 }
 
-/// The receipts of all sessions, in order.
+/// Returns the receipts of all sessions, in order.
 fn take_apart<M: Metric + Drop, N: Naming>(
     lists: Vec<Vec<Receipt>>,
     sessions: Vec<Session<M, N>>,

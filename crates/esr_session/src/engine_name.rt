@@ -42,7 +42,7 @@ impl<N: Naming> Cut<N> {
         Cut { of: PhantomData }
     }
 
-    /// The number of parts, which brings what the type keeps into a proof.
+    /// Returns the number of parts, which brings the type's invariant into a proof.
     pub(crate) fn parts(&self) -> u64
         ensures count { result ≡ LEDGER_PARTS }
         ensures parts { N.parts ≡ LEDGER_PARTS }

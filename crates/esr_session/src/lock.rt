@@ -54,7 +54,7 @@ impl<N: Naming> Model for Pocket<N> {
     ghost invariant = { λ p. (p.share.parts ≡ 1) × (p.share.amount ≡ length p.receipts.items) };
 }
 
-/// The receipt of the entry at a place.
+/// Returns the receipt of the entry at an index.
 fn receipt(place: usize, event: Event, reply: Reply) -> Receipt
     ensures { result ≡ receipt place event reply }
 {
@@ -65,10 +65,10 @@ fn receipt(place: usize, event: Event, reply: Reply) -> Receipt
     }
 }
 
-/// One call under the lock: one step of the machine, whose receipt is added to the pocket.
+/// Executes one event inside the lock: steps the machine once, and adds the receipt to the pocket.
 ///
 /// # Errors
-/// `EngineClosed` exactly where the engine is closed, `HistoryFull` exactly where the history has 1,000,000 entries,
+/// `EngineClosed` if and only if the engine is closed, `HistoryFull` if and only if the history has 1,000,000 entries,
 /// `NoMemory` if an allocation failed. After an error nothing has changed.
 pub fn step_on<M: Metric, N: Naming>(
     locked: &mut Locked<M, N>,
@@ -91,7 +91,7 @@ pub fn step_on<M: Metric, N: Naming>(
     }
 }
 
-/// The same at an open engine.
+/// Executes one event on an open engine, for `step_on`.
 fn step_in<M: Metric, N: Naming>(
     machine: &mut Machine<M>,
     total: &mut Book<N>,

@@ -77,7 +77,7 @@ pub(crate) fn match_all<M: Metric, L: HasReceipts>(
     Ok(())
 }
 
-/// A mark for each of n places, none of which is set.
+/// Creates n cleared marks.
 fn no_marks(alloc: Global, n: usize) -> Result<Vec<bool>, AllocError>
     ensures len { IfOk result (λ marks. vec_len marks ≡ n) }
     ensures none { IfOk result (λ marks. AreMarked [] marks.items) }
@@ -85,7 +85,7 @@ fn no_marks(alloc: Global, n: usize) -> Result<Vec<bool>, AllocError>
     Vec::from_elem(alloc, false, n)
 }
 
-/// The first receipt of a list that is not good, after the lists that are done.
+/// Returns the first bad receipt of a list, after the lists that are done.
 fn match_list<M: Metric, L: HasReceipts>(
     history: &History<M>,
     marks: &mut Vec<bool>,
@@ -113,7 +113,7 @@ fn match_list<M: Metric, L: HasReceipts>(
     None
 }
 
-/// Whether the receipt names an entry, at a place from `low` on that is not marked.
+/// Returns whether the receipt names an entry at an unmarked index from `low` on.
 fn is_good<M: Metric>(history: &History<M>, marks: &[bool], low: u64, r: &Receipt) -> bool
     requires { length marks.now ≡ length history.now.schedule.entries }
     ensures { IsTrue result ↔ (Names history.now.schedule.entries r.now × (low ≤ r.now.at)
@@ -125,7 +125,7 @@ fn is_good<M: Metric>(history: &History<M>, marks: &[bool], low: u64, r: &Receip
     !marks[r.at as usize]
 }
 
-/// Whether the receipt has the event and the reply of the entry at its place.
+/// Returns whether the receipt has the event and the reply of the entry at its index.
 fn names<M: Metric>(history: &History<M>, r: &Receipt) -> bool
     ensures { IsTrue result ↔ Names history.now.schedule.entries r.now }
 {
@@ -135,14 +135,14 @@ fn names<M: Metric>(history: &History<M>, r: &Receipt) -> bool
     }
 }
 
-/// Whether an entry has the event and the reply.
+/// Returns whether an entry has the event and the reply.
 fn is_answer(entry: Entry, event: Event, reply: Reply) -> bool
     ensures { IsTrue result ↔ ((entry.event ≡ event) × (entry.reply ≡ reply)) }
 {
     entry.event == event && entry.reply == reply
 }
 
-/// How many receipts there are, if fewer than `total`.
+/// Returns the number of receipts, if it is below `total`.
 fn count_below<L: HasReceipts>(lists: &[L], total: usize) -> Option<usize>
     ensures { MatchOption result (total ≤ count_in (map L.receipts lists.now))
         (λ n. (n ≡ count_in (map L.receipts lists.now)) × (n < total)) }

@@ -40,7 +40,7 @@ fn is_block(why: Refusal) -> bool
     }
 }
 
-/// Whether the reply is that the event is blocked, by a lock or a limit.
+/// Returns whether the reply says that the event is blocked, by a lock or a limit.
 pub fn is_blocked(reply: Reply) -> bool
     ensures { result ≡ is_blocked reply }
 {

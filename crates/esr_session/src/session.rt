@@ -42,7 +42,7 @@ impl<M: Metric + Drop, N: Naming> HasReceipts for Session<M, N> {
 }
 
 impl<M: Metric + Drop, N: Naming> Session<M, N> {
-    /// The session's receipts; its share of the total goes with it.
+    /// Returns the session's receipts, and drops its share of the total.
     pub(crate) fn into_receipts(self) -> Vec<Receipt>
         ensures { result.items ≡ self }
     {

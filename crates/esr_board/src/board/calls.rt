@@ -14,7 +14,7 @@ use crate::rule::{Admit, Claim, Fair, Gather};
 use atomic_table::{Seat, Table};
 use std::alloc::{AllocError, Global};
 
-/// A seat that has drawn nothing.
+/// Creates a seat that has claimed nothing.
 fn fresh(seat: Seat<(), Hand>) -> BoardSeat
     requires { (seat.me.0.passes ≡ 1) × (seat.me.0.claimed ≡ []) × (seat.me.1 ≡ []) }
     ensures { result.seat ≡ seat }
@@ -26,7 +26,7 @@ fn fresh(seat: Seat<(), Hand>) -> BoardSeat
     }
 }
 
-/// The seats of a table whose only seat so far has all passes.
+/// Splits the only seat of a table, which has all passes, into seats with one pass each.
 fn split_seats(
     alloc: Global,
     table: &Table<(), Hand, BoardSize, Fair, Global>,
@@ -78,9 +78,8 @@ impl Board {
         Ok((board, made))
     }
 
-    /// The next number, if it is that of a job: no other claim of any seat has it. `None` says that no
-    /// job is left, and a seat that had none makes no further step. One step on one word, with no lock
-    /// and no memory.
+    /// Claims the next number, which no other claim of any seat has. Returns `None` if no job is left; a seat that got
+    /// `None` makes no further step. A claim is one atomic step on one word, without locks and allocations.
     pub fn claim(&self, seat: &mut BoardSeat) -> Option<u64>
         requires { IsSeatOf self.now seat.old }
         ensures seat { IsSeatOf self.now seat.new }
@@ -103,12 +102,12 @@ impl Board {
         None
     }
 
-    /// Whether the seats hold every number that was claimed: then each number below their count is in
-    /// their lists exactly once, and no other number is.
+    /// Checks that the seats have every number that was claimed: then each number below their count is in their lists
+    /// exactly once, and no other number is.
     ///
     /// # Errors
-    /// `ClaimsMissing` exactly where the seats drew fewer numbers than the board handed out; never where
-    /// all seats of the board are given.
+    /// `ClaimsMissing` if and only if the seats have claimed fewer numbers than the board has given out; never if all
+    /// seats of the board are passed.
     pub fn close(self, seats: Vec<BoardSeat>) -> Result<(), ClaimsMissing>
         requires { All (IsSeatOf self) seats.items }
         ensures once { OnOk result (EachOnceBelow (length (all_claimed seats.items)) (all_claimed seats.items)) }
@@ -125,7 +124,7 @@ impl Board {
         }
     }
 
-    /// How many numbers the seats drew, and the word.
+    /// Returns how many numbers the seats have claimed, and the word.
     fn settle(self, mut seats: Vec<BoardSeat>) -> (u128, u64)
         requires { All (IsSeatOf self) seats.items }
         ensures count { result.0 ≡ length (all_claimed seats.items) }

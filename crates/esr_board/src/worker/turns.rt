@@ -97,7 +97,7 @@ pub fn work<M: Metric, G: Gate>(
     claim_all::<M, G, Finding>(alloc, history, &index, jobs, board, seat, gate)
 }
 
-/// All turns of one worker, with a seat that has drawn nothing.
+/// Runs one worker to its end, with a seat that has claimed nothing.
 pub(crate) fn take_turns<M: Metric, G: Gate, T: From<Finding> + Drop>(
     alloc: Global,
     history: &History<M>,

@@ -14,7 +14,7 @@ use esr_items::{ItemId, Metric};
 use esr_locks::QueryReads;
 
 impl<M: Metric> Machine<M> {
-    /// The update that has written an item and has not ended, if there is one.
+    /// Returns the active update that has written an item, if there is one.
     #[tactic(auto, using(crate::proofs::Locks::locks_len))]
     pub fn writer(&self, x: ItemId) -> Option<TxnId>
         requires { x.0 < length self.now.opening }
@@ -23,7 +23,7 @@ impl<M: Metric> Machine<M> {
         self.state.locks.write_holder(x)
     }
 
-    /// The current value of an item.
+    /// Returns the current value of an item.
     pub fn current(&self, x: ItemId) -> i64
         requires { x.0 < length self.now.opening }
         ensures value { result ≡ current_value self.now.opening (accepted_in self.now) x.0 }
@@ -32,7 +32,7 @@ impl<M: Metric> Machine<M> {
         self.state.items.read(x)
     }
 
-    /// The active queries that have read an item, each with how often.
+    /// Returns the active queries that have read an item, each with the number of its reads.
     #[tactic(auto, using(crate::proofs::Locks::locks_len))]
     pub fn query_reads(&self, x: ItemId) -> &[QueryReads]
         requires { x.0 < length self.now.opening }
@@ -42,7 +42,7 @@ impl<M: Metric> Machine<M> {
         self.state.locks.query_reads(x)
     }
 
-    /// What an update has exported so far; 0 for another transaction.
+    /// Returns the amount that an update has exported so far; 0 for any other transaction.
     pub fn export(&self, u: TxnId) -> u64
         ensures { result ≡ export_in (charges_in M.distance_by self.now) u.0 }
     {

@@ -33,7 +33,7 @@ pub enum RenewError {
     TransactionActive = 16,
 }
 
-/// Whether a row is active.
+/// Returns whether a row is active.
 fn any_active(rows: &[Transaction]) -> bool
     ensures { result ≡ list_any (λ r. r.active) rows.now }
 {
@@ -41,7 +41,7 @@ fn any_active(rows: &[Transaction]) -> bool
 }
 
 impl<M: Metric> Machine<M> {
-    /// The value that the committed transactions left an item.
+    /// Returns the committed value of an item.
     pub fn committed(&self, x: ItemId) -> i64
         requires { x.0 < length self.now.opening }
         ensures value { result ≡ committed_value self.now.opening (accepted_in self.now) x.0 }
@@ -50,7 +50,7 @@ impl<M: Metric> Machine<M> {
         self.state.items.committed(x)
     }
 
-    /// The committed values of the items, in their order.
+    /// Returns the committed values of the items, in their order.
     pub fn committed_values(&self, alloc: Global) -> Result<Vec<i64>, AllocError>
         ensures values { IfOk result (λ v. v.items ≡ committed_values self.now) }
         ensures range { IfOk result (λ v. All IsValue v.items) }
@@ -59,7 +59,7 @@ impl<M: Metric> Machine<M> {
         committed_values(alloc, &self.state.items)
     }
 
-    /// Whether a transaction is active.
+    /// Returns whether a transaction is active.
     #[tactic(auto, using(crate::proofs::Renewed::active_rows))]
     pub fn has_active(&self) -> bool
         ensures { result ≡ has_active self.now }
