@@ -11,24 +11,24 @@ use esr_history::{NoMemory, TxnId};
 use esr_order::OrderError;
 use thiserror::Error;
 
-/// What an audit finds of a committed query.
+/// The result of auditing a committed query.
 ///
-/// A placement of the query is a serial order of the updates that committed before it,
-/// and a position in that order. Its distance is the sum, over the query's reads, of
-/// the distance of the value read from the value there.
+/// A placement of the query is a serial order of the updates that committed before it, and a position in that order.
+/// Its distance is the sum, over the query's reads, of the distance between the value read and the value at that
+/// position.
 #[derive(Drop)]
 pub struct Finding {
     pub query: TxnId,
     /// The least distance of all placements.
     pub distance: u64,
-    /// What the query was charged: at least the distance.
+    /// The amount charged to the query, which is at least the distance.
     pub import: u64,
     /// The smallest set of updates before the position of a placement of that
     /// distance, in commit order.
     pub before: Vec<TxnId>,
     /// The problem of which the distance is the least cost.
     pub problem: Problem,
-    /// A closed set and a flow whose equal worth shows it.
+    /// A closed set and a flow of equal worth, which prove the distance.
     pub certificate: Certificate,
 }
 
@@ -39,7 +39,7 @@ pub struct Summary {
     pub query: TxnId,
     /// The least distance of all placements.
     pub distance: u64,
-    /// What the query was charged: at least the distance.
+    /// The amount charged to the query, which is at least the distance.
     pub import: u64,
     /// The smallest set of updates before the position of a placement of that
     /// distance, in commit order.
@@ -70,16 +70,16 @@ impl From<Finding> for Summary {
     }
 }
 
-/// What the audit of a history finds.
+/// The result of auditing a history.
 #[derive(Drop)]
 pub struct Book {
     /// The committed updates, in the order of their commits, which is a serial order of them.
     pub order: Vec<TxnId>,
-    /// What is found of each committed query, in the order of their commits.
+    /// The finding of each committed query, in commit order.
     pub findings: Vec<Finding>,
 }
 
-/// What the audit of a history finds, in summaries.
+/// The result of auditing a history, as summaries.
 #[derive(Drop)]
 pub struct Summaries {
     /// The committed updates, in the order of their commits, which is a serial order of them.
@@ -88,7 +88,7 @@ pub struct Summaries {
     pub summaries: Vec<Summary>,
 }
 
-/// Why an audit gives no answer.
+/// The reasons for a failed audit.
 #[derive(Clone, Copy, PartialEq, Eq, Debug, Error)]
 pub enum AuditError {
     /// The transaction is not a query, or has not committed.

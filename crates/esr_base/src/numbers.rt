@@ -4,6 +4,6 @@
 #[derive(Clone, Copy, PartialEq, Eq, Default, Debug)]
 pub struct ItemId(pub u32);
 
-/// The number of a transaction: its place among the accepted begins, from 1.
+/// The number of a transaction: its index among the accepted begins, counted from 1.
 #[derive(Clone, Copy, PartialEq, Eq, Debug)]
 pub struct TxnId(pub u32);

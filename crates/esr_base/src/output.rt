@@ -1,7 +1,7 @@
 //! Writes a whole byte slice, or reports that only a prefix was written.
 //!
-//! The standard library's `write_all` says nothing of the bytes after an error, so texts that promise "after a fault
-//! just this was written" need a loop over `write` whose failure leaves a prefix.
+//! The standard library's `write_all` guarantees nothing of the bytes written before an error. So a program that
+//! guarantees its exact output before a fault needs a loop over `write` whose failure leaves a prefix.
 ghost use Rattle.std.specs.Prelude.{◌≡◌, ℕ, List, OnOk, OnErr, ◌||◌, is_err};
 ghost use Rattle.std.specs.Io.KnownBytes.{Appends};
 ghost use Rattle.esr_base.specs.Watch.{inner, failed, BeginsWith};
@@ -33,10 +33,10 @@ fn send<W: Write>(bytes: &[u8], writer: &mut Watched<W>) -> Result<(), WriteFail
 }
 
 impl<W: Write> Watched<W> {
-    /// Writes all of the bytes and hands them on.
+    /// Writes all of the bytes and flushes.
     ///
     /// # Errors
-    /// `WriteFailed` where a write or the flush failed. Then a prefix of the bytes was written.
+    /// `WriteFailed` if a write or the flush failed. Then a prefix of the bytes was written.
     pub fn send_all(&mut self, bytes: &[u8]) -> Result<(), WriteFailed>
         ensures ok { OnOk result (Appends (W.contents (inner self.old)) (W.contents (inner self.new)) bytes.now) }
         ensures err { OnErr result ((sent : List ℕ) × BeginsWith bytes.now sent

@@ -1,8 +1,8 @@
-//! The board and its seats.
+//! Defines the board and its seats.
 //!
-//! The rule of the board speaks of how many jobs and seats there are. Two words of the table hold them as well, but no
-//! clause can read a word without a step on it; the key of a table is fixed when it is made and can be read in a proof
-//! at any time, so it is what ties the rule to the board's own fields.
+//! The board's rule refers to the numbers of jobs and seats. Two words of the table contain them too, but a clause
+//! cannot read a word without a step on it. The key of a table is fixed at creation, and proofs can read it at any
+//! time, so it relates the rule to the board's fields.
 ghost use Rattle.std.specs.Prelude.{◌≡◌, ◌≤◌, [], length, nat_eq};
 ghost use Rattle.esr_board.specs.declared.board.TheConstants.{MAX_JOBS, MAX_SEATS};
 ghost use Rattle.esr_board.specs.Claims.{passes_of};
@@ -62,7 +62,7 @@ pub enum BoardError {
     NoMemory = 3,
 }
 
-/// A seat that drew a number was not given back.
+/// A seat with claimed numbers was not returned.
 #[derive(Clone, Copy, PartialEq, Eq, Debug, Error)]
 #[error("a seat was not given back")]
 pub struct ClaimsMissing;

@@ -1,5 +1,5 @@
-//! A gate that each worker calls before each job. It lets the program show how far it is, and a test hold one worker
-//! until another has come: no contract can say that two threads run side by side.
+//! Calls back before each job. The program uses it to show progress, and a test to hold one worker until another has
+//! arrived, since no contract can state that two threads run concurrently.
 
 /// A callback before each job, with the job's number and the number of jobs. A call must return.
 pub trait Gate {

@@ -2,8 +2,8 @@
 
 use std::collections::LinkedList;
 
-/// What a seat knows: how many jobs the board has, how many passes the seat holds, and the
-/// numbers that it drew, in order. It is spoken of in proofs alone: no value of it is made.
+/// The state of a seat: the number of the board's jobs, the number of passes of the seat, and the numbers that it
+/// claimed, in order. It exists in proofs only.
 pub struct Hand {
     pub jobs: u64,
     pub passes: u64,

@@ -1,12 +1,12 @@
-//! The audit of a whole history by several workers.
+//! Audits a whole history with several workers.
 //!
-//! A board hands out one job for each committed query. Each worker keeps of each finding what `T` is of it (`From`): the
-//! finding itself for a book, or its summary, a line of it. All functions up to `pages_by` are about any such `T`, and
-//! what they promise is said by the relation of the conversion, `from_gives`.
+//! A board hands out one job for each committed query. Each worker converts each finding to a `T` (`From`): the finding
+//! itself for a book, or its summary. All functions up to `pages_by` are generic in `T`, and their contracts use the
+//! relation of the conversion, `from_gives`.
 //!
-//! The history and an index of it are shared by reference, and nothing else but the word of the board. Each finding is put at the place of
-//! its job, so the book is in the order of the jobs. The workers are joined and give all seats back, so the board
-//! always closes: `unreachable!()` says so, and is proved, in place of a second audit that never runs.
+//! Workers share only the history, its index and the word of the board. Each result is stored at the index of its job,
+//! so the book is in the order of the jobs. The workers are joined and return all seats, so the board always closes:
+//! `unreachable!()` states that, and is proved; no fallback audit is needed.
 
 ghost use Rattle.std.specs.Prelude.{◌≡◌, ℕ, ◌<◌, ◌≤◌, ◌↔◌, ◌⊎◌, [], length, map, All, IfOk, IfErr, List, vec_len, slice_index_or, slice_set, Some, None};
 ghost use Rattle.std.specs.List.{AllZip};
@@ -34,7 +34,7 @@ use std::alloc::{AllocError, Global};
 use std::thread;
 use std::thread::Threads;
 
-/// Puts what is kept of a finding at the place of its job.
+/// Stores the result of a job at the job's index.
 fn put<T: Drop>(slots: &mut Vec<Option<T>>, job: usize, kept: T)
     requires { job < vec_len slots.old }
     ensures { slots.new.items ≡ slice_set slots.old.items job (Some kept) }
@@ -42,7 +42,7 @@ fn put<T: Drop>(slots: &mut Vec<Option<T>>, job: usize, kept: T)
     slots[job] = Some(kept);
 }
 
-/// Puts all of a share at the places of its jobs.
+/// Stores the results of a share at the indices of their jobs.
 fn put_in_order<M: Metric, T: From<Finding> + Drop>(
     history: &History<M>,
     jobs: &[TxnId],
@@ -92,7 +92,7 @@ fn shares<M: Metric + Sync, R: Threads + Sync, G: Gate + Sync, T: From<Finding> 
     )
 }
 
-/// What is kept of findings at the places of their jobs, and the seats.
+/// The results at the indices of their jobs, and the seats.
 #[derive(Drop)]
 struct KeptAndSeats<T> {
     slots: Vec<Option<T>>,
@@ -110,7 +110,7 @@ fn empty_slots<T: Drop>(alloc: Global, count: usize) -> Result<Vec<Option<T>>, A
     Ok(slots)
 }
 
-/// Puts all shares at the places of their jobs, and collects the seats.
+/// Stores the results of all shares at the indices of their jobs, and collects the seats.
 fn gather<M: Metric, T: From<Finding> + Drop>(
     alloc: Global,
     history: &History<M>,
@@ -162,7 +162,7 @@ fn unwrap_slots<M: Metric, T: From<Finding> + Drop>(
 {
     let mut kept = Vec::new(alloc);
     for k in 0..slots.len() {
-        // each job was drawn by a seat, and what was found of it was put here
+        // a seat has claimed each job, and its result was stored here
         let Some(one) = slots[k].take() else {
             unreachable!()
         };

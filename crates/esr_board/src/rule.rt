@@ -1,5 +1,5 @@
-//! The rule of a board's table, and what its steps tell: the word is the count of numbers handed out, and each number
-//! below it is in one seat's list.
+//! Defines the rule of a board's table, and the postconditions of its steps: the word is the count of numbers handed
+//! out, and each number below it is in exactly one seat's list.
 ghost use Rattle.esr_board.specs.Claims.{IsKept, first_hand, Claimed, with_one_less, one_pass, joined, spent};
 
 use crate::hand::{BoardSize, Hand};
@@ -30,7 +30,7 @@ impl Split<Hand> for Admit {
     ghost right = { one_pass };
 }
 
-/// A seat takes over what another knows.
+/// A seat takes over the claims and passes of another.
 pub(crate) struct Gather;
 
 impl Join<Hand> for Gather {

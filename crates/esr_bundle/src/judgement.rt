@@ -1,5 +1,5 @@
-//! The judgement of a bundle: bytes in, one line out. `valid` comes just where the check finds no fault, so it says
-//! what the check says, of the file's own problem; which report that is, it does not say.
+//! Judges bundles: reads bytes, writes one line. The line is `valid` if and only if the check finds no fault. So it
+//! says that the certificate proves the problem in the file, not which report the problem belongs to.
 ghost use Rattle.std.specs.Prelude.{◌≡◌, ◌≢◌, ◌⊎◌, ◌↔◌, ◌+◌, ◌++◌, ◌≤◌, ◌<◌, ℕ, List, IsOk, IfOk, IfErr, IsErrOf, IsTrue, false, length, Some};
 ghost use Rattle.std.specs.Io.KnownBytes.{Appends, Consumes, IsAtEnd};
 ghost use Rattle.esr_base.specs.Watch.{inner, failed};
@@ -13,7 +13,7 @@ use std::alloc::{AllocError, Global};
 use std::io::{Read, Write};
 use thiserror::Error;
 
-/// What is judged of a bundle.
+/// The verdict on a bundle.
 #[derive(Clone, Copy, PartialEq, Eq)]
 pub enum Verdict {
     /// The certificate shows that this is the least cost.
@@ -145,10 +145,11 @@ fn verdict_line(alloc: Global, verdict: Verdict) -> Result<Vec<u8>, AllocError>
     Ok(line)
 }
 
-/// Reads a bundle to its end and writes one line: `valid W` where the certificate shows that W is the least cost,
+/// Reads a bundle to its end and writes one line: `valid W` if the certificate proves that W is the least cost,
 /// `invalid K` with the number of its first fault, or `bad K` with the number of the bundle's fault.
 ///
-/// After a fault other than `Write` nothing was written, after `Write` a prefix of the line was.
+/// # Errors
+/// After a fault other than `Write` nothing was written; after `Write`, a prefix of the line.
 #[tactic(auto, using(crate::proofs::Exits::handed_on))]
 pub fn judge<R: Read, W: Write>(
     alloc: Global,

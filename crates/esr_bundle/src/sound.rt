@@ -29,7 +29,7 @@ fn position(number: u64) -> Result<u32, BundleFault>
     Ok(number as u32)
 }
 
-/// What numbers of a draft stand for, where they fit 32 bits.
+/// A type to which the numbers of a draft convert, if they fit 32 bits.
 trait Fitted: Drop + Sized {
     type Draft;
 

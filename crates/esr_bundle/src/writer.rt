@@ -14,7 +14,7 @@ use esr_cert::{Certificate, Chain, Problem};
 use serde_json::{Map, Value, json, put};
 use std::alloc::{AllocError, Global};
 
-/// What is written as a tree.
+/// A type that is written as a JSON value.
 trait Written {
     ghost shown: { Self → Data };
 

@@ -1,8 +1,8 @@
-//! The arcs of a problem's network by their numbers: first those of the chains, then those of the pairs, then those
-//! into what a set must hold.
+//! Numbers the arcs of a problem's network: first those of the chains, then those of the pairs, then those to the
+//! updates that a set must contain.
 //!
-//! Where the arcs of each chain begin is a list; the chain of an arc is kept in two bytes an arc, since the solver asks
-//! often: with a binary search there too a solve took 1.4 to 1.7 times as long.
+//! A list has the first arc of each chain. The chain of an arc is stored, in two bytes an arc, since the solver needs
+//! it often: with a binary search instead, a solve took 1.4 to 1.7 times as long.
 ghost use Rattle.std.specs.Prelude.{◌≡◌, ◌+◌, ◌^◌, ◌<◌, ◌≤◌, [], ◌∷◌, ◌++◌, length, get_or, map, sum_by, List, true};
 ghost use Rattle.esr_base.specs.declared.limits.TheConstants.{MAX_ITEMS, MAX_TRANSACTIONS};
 ghost use Rattle.esr_cert.specs.Views.{chain_of, problem_of};
@@ -55,8 +55,8 @@ fn link_at(chain: &Chain, source: u32, j: usize) -> Arc
     }
 }
 
-/// The arcs of the network of a problem of these parts, each made when it is asked for: where those of each chain
-/// start, and the chain of each of them, are given.
+/// The arcs of the network of a problem of these parts, each computed on request from the first arc of each chain and
+/// the chain of each arc.
 #[derive(Drop)]
 pub struct Arcs<'a> {
     pub updates: &'a [TxnId],

@@ -1,4 +1,4 @@
-//! A certificate, and the faults of one in the order in which they are looked for.
+//! Defines certificates, and their faults in the order in which they are checked.
 //!
 //! A certificate may contain the number of augmentations that led to its flow. A count above nodes times arcs is
 //! refused, as the last of all faults, since it does not affect minimality. A smaller count cannot be verified, so a

@@ -1,9 +1,9 @@
-//! The check of a certificate. It goes over each arc a fixed number of times, and allocates nothing; members of the
-//! set, and amounts by the arcs' numbers, are found by binary search.
+//! Checks certificates. The check visits each arc a fixed number of times, and allocates nothing; it finds members of
+//! the set, and amounts by arc numbers, by binary search.
 //!
-//! Its answer is the first fault in a fixed order, exactly, so that two checkers can be compared; a yes means that the
-//! set is closed, costs the worth, and that no closed set costs less. Conservation is tested along the rows of steps
-//! that the problem keeps. Sums are taken in 128 bits.
+//! The result is the first fault in a fixed order, so that two checkers can be compared. `Ok` means that the set is
+//! closed and costs the worth, and that no closed set costs less. Conservation is tested along the rows of steps that
+//! the problem contains. Sums have 128 bits.
 ghost use Rattle.std.specs.Prelude.{◌≡◌, ℕ, ◌*◌, ◌<◌, ◌≤◌, ◌||◌, not, length, get_or, map, Bool, true, IsOk};
 ghost use Rattle.std.specs.List.{list_all, sum, sum_by};
 ghost use Rattle.esr_cert.specs.Problem.{size, in_set, is_ascending, is_closed, version, chain_cost, cost};

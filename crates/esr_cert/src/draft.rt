@@ -1,6 +1,6 @@
-//! The numbers of a problem, of any size that fits 64 bits. A bundle's numbers are judged in shape before range, and a
-//! position above 32 bits is out of range, the higher fault; so the rules of shape go over these, in one place for
-//! bundles and for parts.
+//! Holds the numbers of a problem as 64-bit numbers. A bundle is checked for shape before range, and a position above
+//! 32 bits is out of range, the later fault. So the rules of shape apply to drafts, which are shared by bundles and
+//! parts.
 
 /// The numbers of a chain.
 #[derive(Drop)]

@@ -1,7 +1,7 @@
-//! An arc of a network. There is no list of them, which would take 19 MB in an audit of a million: an arc is made from
-//! the problem's lists when its number is asked for (`arcs`).
+//! Defines the arc of a network. A list of arcs would take 19 MB in an audit of a million, so an arc is computed from
+//! the problem's lists on request (`arcs`).
 
-/// An arc of a network: its ends, and the most that it may carry, None where that is unlimited.
+/// An arc of a network: its ends, and its capacity, or `None` if it is unlimited.
 #[derive(Clone, Copy)]
 pub struct Arc {
     pub from: u32,

@@ -1,4 +1,4 @@
-//! The shape of parts, which are copied to numbers of any size and judged as those: `Problem::new` alone asks.
+//! Checks the shape of parts, as numbers of any size, for `Problem::new`.
 ghost use Rattle.std.specs.Prelude.{◌≡◌, map, IfOk};
 ghost use Rattle.esr_cert.specs.Problem.{has_shape};
 ghost use Rattle.esr_cert.specs.Views.{chain_of, posed_by};

@@ -1,10 +1,10 @@
-//! A problem: updates, pairs, what a set must hold, and a chain of costs for each item, with the rows of its network.
+//! Defines problems: updates, pairs, the updates that a set must contain, and a chain of costs for each item, with the
+//! rows of the network.
 //!
-//! `new` tries the rules of shape and then of range over the whole, so that who learns "range" knows that the shape is
-//! right; `of_sound` asks its caller that they hold, since an audit's own problem keeps them by the limits of the
-//! engine, and to try them again took a fifth of an audit. The rows are made with the problem, so the check needs no
-//! memory. A problem of more than 2,147,483,647 arcs is out of memory: a step is one number of 32 bits, its arc and its
-//! direction.
+//! `new` checks the rules of shape before those of range, over the whole problem, so `Range` implies that the shape is
+//! right. `of_sound` requires both, since the limits of the engine guarantee them for an audit's problem, and checking
+//! them again took a fifth of an audit. The rows are built with the problem, so the check needs no memory. A problem of
+//! more than 2,147,483,647 arcs is out of memory: a step is one number of 32 bits, its arc and its direction.
 
 ghost use Rattle.std.specs.Prelude.{◌≡◌, ◌≢◌, ◌<◌, ◌≤◌, length, map, true, IsOk, IfOk, IfErr, Some, None};
 ghost use Rattle.esr_base.specs.declared.limits.TheConstants.{MAX_TRANSACTIONS};
@@ -33,7 +33,7 @@ pub struct Chain {
     pub item: ItemId,
     /// The positions of the updates that wrote the item, ascending.
     pub writers: Vec<u32>,
-    /// What the query's reads cost with the opening value, and with the value of each writer.
+    /// The cost of the query's reads with the opening value, and with the value of each writer.
     pub costs: Vec<u64>,
 }
 
@@ -73,7 +73,7 @@ impl From<AllocError> for BundleFault {
     }
 }
 
-/// Updates, the order that a closed set keeps among them, and the items whose versions a closed set decides.
+/// The updates, the order among them that a closed set respects, and the items whose versions a closed set determines.
 #[derive(Drop)]
 pub struct ProblemParts {
     pub updates: Vec<TxnId>,

@@ -20,14 +20,14 @@ use crate::problem::Chain;
 use crate::residual::{ResidualArc, ShortArc};
 use std::alloc::{AllocError, Global};
 
-/// Where the steps of a node lie.
+/// The bounds of a node's row.
 #[derive(Clone, Copy, Debug)]
 pub struct Span {
     pub begin: u32,
     pub end: u32,
 }
 
-/// The most arcs whose steps numbers of 32 bits count.
+/// The largest number of arcs whose steps have numbers of 32 bits.
 pub const MAX_ARCS: usize = 2_147_483_647;
 
 /// Counts the steps of the arcs of a chain, which begin at a number.
@@ -103,7 +103,7 @@ fn begin_rows(alloc: Global, lengths: &[u32]) -> Result<Vec<Span>, AllocError>
     Ok(spans)
 }
 
-/// The steps of all nodes, and where those of each lie.
+/// The steps of all nodes, and the bounds of each node's row.
 #[derive(Debug, Drop)]
 pub struct Rows {
     pub spans: Vec<Span>,
@@ -199,7 +199,7 @@ pub fn rows_of(alloc: Global, nodes: usize, arcs: &Arcs) -> Result<Rows, AllocEr
     let mut rows = Rows { spans, steps };
     let (chains, source) = arcs.chains();
     let mut begin = 0;
-    // arcs come in ascending order, so each row has its steps in order, and `place_of` may halve it
+    // arcs are added in ascending order, so each row is sorted, and `place_of` can use binary search
     for chain in chains {
         lay_links(arcs, nodes, source, chain, begin, &mut rows);
         begin += chain.costs.len();

@@ -1,5 +1,5 @@
-//! Where the arcs of each chain begin, and which chain an arc is of. A certificate has a list of amounts for each
-//! chain, and the check finds an arc's amount by these starts.
+//! Computes the first arc of each chain, and the chain of an arc. A certificate has a list of amounts for each chain,
+//! and the check finds an arc's amount by these numbers.
 ghost use Rattle.std.specs.Prelude.{◌≡◌, ◌+◌, ◌<◌, ◌≤◌, ◌++◌, length, get_or, map, replicate, sum_by, IfOk};
 ghost use Rattle.std.specs.List.Sorted.{IsNonDecreasingBy};
 ghost use Rattle.esr_base.specs.declared.limits.TheConstants.{MAX_ITEMS};

@@ -1,4 +1,4 @@
-//! What is known of one transaction, at any time: its kind and limit, what it was charged so far, and how it stands.
+//! Returns the account of one transaction at any time: its kind and limit, the amount charged so far, and its status.
 
 ghost use Rattle.std.specs.Prelude.{◌≡◌, is_some};
 ghost use Rattle.esr_items.specs.Weights.{weighted};
@@ -19,8 +19,8 @@ pub enum TxnStatus {
     Aborted,
 }
 
-/// What a query has imported of its limit so far, or an update exported, and how it stands. A report that is active may
-/// be shown so: it is off by at most what it was charged.
+/// The amount that a query has imported so far, or an update exported, with its limit, and its status. The values that
+/// an active report has read may be shown with it: they are off by at most the amount charged.
 #[derive(Clone, Copy, PartialEq, Eq, Debug)]
 pub struct AccountView {
     pub kind: Kind,
@@ -65,8 +65,9 @@ impl EmbeddedEngine {
         }
     }
 
-    /// Returns the account of a transaction, or None if it has not begun. What an active report has read so far is off by at
-    /// most what it was charged, from the committed values and from any mixture of these and the current ones.
+    /// Returns the account of a transaction, or `None` if it has not begun. The values that an active report has read
+    /// so far are off by at most the amount charged, from the committed values and from any mixture of these and the
+    /// current ones.
     #[tactic(auto, using(crate::proofs::Statuses::no_account, crate::proofs::Reports::active_bounded))]
     pub fn account(&self, t: TxnId) -> Option<AccountView>
         ensures account { result ≡ account_of weighted self.now t.0 }

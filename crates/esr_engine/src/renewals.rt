@@ -69,7 +69,7 @@ impl EmbeddedEngine {
         self.restart(alloc)
     }
 
-    /// Puts a new engine over the committed values in the place of this one.
+    /// Replaces this engine by a new one over the committed values.
     fn restart(&mut self, alloc: Global) -> Result<(), NoMemory>
         ensures ok { OnOk result (self.new ≡ renewed self.old self.old.weights) }
         ensures serializable { OnOk result ((later : List Entry) → IsLegal weighted (along self.new later)

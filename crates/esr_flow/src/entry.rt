@@ -15,8 +15,8 @@ pub struct AdjacencyEntry {
     pub back: bool,
 }
 
-/// An entry in four bytes, since a search looks at each: four times the node, with 2 more where the opposite has
-/// residual capacity and 1 more where the step has.
+/// An entry in four bytes, since a search reads one for each step: four times the node, plus 2 if the opposite has
+/// residual capacity, plus 1 if the step has.
 #[derive(Clone, Copy)]
 pub struct ShortEntry {
     number: u32,

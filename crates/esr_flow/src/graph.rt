@@ -82,7 +82,8 @@ impl<'a> Graph<'a> {
         self.rows.place_of(node as usize, step)
     }
 
-    /// Sets the amount on an arc, and the entries of its two steps where another of them has residual capacity then.
+    /// Sets the amount on an arc. Rewrites the entries of its two steps if this changes which of them have residual
+    /// capacity.
     pub fn set_amount(&self, flow: &mut [u64], entries: &mut [ShortEntry], arc: u32, amount: u64)
         requires arc { arc < length (arcs_of self.now) }
         requires flow { length flow.old ≡ length (arcs_of self.now) }

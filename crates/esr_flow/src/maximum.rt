@@ -1,9 +1,9 @@
-//! A maximum flow by augmentations along shortest paths, from the flow of zeros or from a flow that is given.
+//! Computes a maximum flow by augmentations along shortest paths, from the zero flow or from a given flow.
 //!
-//! The law is over labels and not over phases: labels that fall by at most one along each residual arc guide to
-//! shortest paths, and stay so after an augmentation along one. So "takes n augmentations along shortest paths" is said
-//! as if each had been searched for alone, and the bound by nodes times arcs follows. Every path to the sink has an arc
-//! with a limit, so each has a bottleneck, and no amount passes the value of the flow.
+//! The law is stated for labels, not for phases: labels that fall by at most one along each residual arc lead to
+//! shortest paths, and still do after an augmentation along one. So the contract is the same as if each shortest path
+//! had been searched separately, and the bound by nodes times arcs follows. Every path to the sink has an arc with a
+//! limit, so each has a bottleneck, and no amount exceeds the value of the flow.
 ghost use Rattle.std.specs.Prelude.{◌≡◌, ℕ, ◌+◌, ◌-◌, ◌*◌, ◌^◌, ◌<◌, ◌≤◌, false, length, set, take, IfOk, List};
 ghost use Rattle.esr_cert.specs.declared.range.TheConstants.{MAX_COST};
 ghost use Rattle.esr_cert.specs.Network.{network};
@@ -158,8 +158,8 @@ fn run_phase(
     }
 }
 
-/// Augments a flow along shortest paths until there is none. It answers how many augmentations that took, the worth, and
-/// marks of what the source reaches then.
+/// Augments a flow along shortest paths until there is none. Returns the number of augmentations, the worth, and the
+/// marks of the nodes that the source then reaches.
 fn run_phases(
     alloc: Global,
     graph: &Graph,
@@ -192,7 +192,7 @@ fn run_phases(
     }
 }
 
-/// A flow that no augmentation can raise, how many augmentations it took, and marks of what the source reaches.
+/// A maximum flow, the number of augmentations that led to it, and the marks of the nodes that the source reaches.
 #[derive(Drop)]
 pub struct MaximumFlow {
     pub flow: Vec<u64>,
@@ -202,7 +202,7 @@ pub struct MaximumFlow {
     pub marks: Vec<bool>,
 }
 
-/// Augments a flow, of which the worth is given, along shortest paths until there is none.
+/// Augments a flow with this worth along shortest paths until there is none.
 fn maximum_from(
     alloc: Global,
     graph: &Graph,
@@ -253,7 +253,7 @@ pub fn find_maximum(alloc: Global, graph: &Graph) -> Result<MaximumFlow, AllocEr
     Ok(maximum)
 }
 
-/// What became of a draft of a flow.
+/// The outcome of a draft of a flow.
 #[derive(Clone, Copy, PartialEq, Eq, Debug)]
 pub enum DraftOutcome {
     /// It was a maximum flow.

@@ -23,7 +23,7 @@ fn graph_of<'a>(problem: &'a Problem) -> Graph<'a>
     }
 }
 
-/// The network of a problem, whose rows of steps the problem keeps.
+/// The network of a problem, with the rows of steps that the problem contains.
 ///
 /// Its cuts without unlimited arcs are the closed sets, and their capacities are the costs.
 #[derive(Drop)]

@@ -1,9 +1,9 @@
-//! Further shortest paths of a phase, searched depth-first from the sink back to the source.
+//! Finds further shortest paths of a phase, by depth-first search from the sink back to the source.
 //!
-//! Each node that the search has labelled can be reached from the source, but from many of them the sink cannot be
-//! reached: a search for paths from the source runs into these, and one back from the sink seldom meets a dead end.
-//! Each node has a pointer to the next step to try in a phase. Nothing promised rests on finding a path here: that the
-//! flow is a maximum rests on the last breadth-first search.
+//! Every labelled node is reachable from the source, but many of them do not reach the sink: a search from the source
+//! runs into these, and one from the sink seldom meets a dead end. Each node has a pointer to the next step to try in a
+//! phase. The guarantee of a maximum flow does not depend on paths found here: it follows from the last breadth-first
+//! search.
 ghost use Rattle.std.specs.Prelude.{◌≡◌, ◌<◌, ◌≤◌, true, length, IfOk, IfSome};
 ghost use Rattle.esr_cert.specs.Flow.{within};
 ghost use Rattle.esr_flow.specs.Residual.{residual_capacity};
@@ -46,7 +46,7 @@ fn next_back(
             }
         }
     }
-    // a pointer may stand past the row already, and it never goes back
+    // a pointer may be past the row already, and it never goes back
     if from < row.len() { row.len() } else { from }
 }
 
@@ -88,7 +88,7 @@ pub fn next_path(
     Ok(Some(path))
 }
 
-/// Puts the pointers back by one at the nodes of a path, whose steps may have residual capacity left.
+/// Moves the pointers at the nodes of a path back by one, since their steps may have residual capacity left.
 pub fn put_back(graph: &Graph, next: &mut [usize], path: &[ResidualArc])
     requires path { InArcs (arcs_of graph.now) path.now }
     requires next { length next.old ≡ graph.now.nodes }

@@ -24,8 +24,7 @@ use std::alloc::{AllocError, Global};
 /// How many passes are made there and back.
 const MAX_PASSES: usize = 100;
 
-/// Marks the end of an arc to which a residual step leads from its other end, where that is marked. Whether it marked
-/// anything.
+/// Marks the end of an arc that a residual step reaches from its marked other end. Returns whether it marked anything.
 fn spread(graph: &Graph, flow: &[u64], marks: &mut [bool], i: usize) -> bool
     requires flow { length flow.now ≡ length (arcs_of graph.now) }
     requires arc { i < length (arcs_of graph.now) }
@@ -149,8 +148,8 @@ fn skim_chains(graph: &Graph, flow: &[u64], marks: &mut [bool], low: u32) -> boo
     more
 }
 
-/// Skims the arcs of pairs, back from the last to those whose earlier update comes before a node. The first of all of
-/// them has a number. Whether it marked anything.
+/// Skims the arcs of pairs, backward from the last to those whose earlier update comes before a node. The arc of the
+/// first pair has the number `first`. Returns whether it marked anything.
 fn skim_pairs(graph: &Graph, flow: &[u64], marks: &mut [bool], first: usize, low: u32) -> bool
     requires flow { length flow.now ≡ length (arcs_of graph.now) }
     requires reached { AreReached (net_of graph.now) flow.now marks.old }
@@ -169,8 +168,8 @@ fn skim_pairs(graph: &Graph, flow: &[u64], marks: &mut [bool], first: usize, low
     more
 }
 
-/// Marks what must be held, and skims arcs until that marks nothing more. The arcs of pairs begin at a number. That all is
-/// marked then is not said.
+/// Marks the updates that must be in the set, and skims arcs until that marks nothing more. The arcs of pairs begin at
+/// `first`. It need not mark every reachable node.
 fn skim(graph: &Graph, flow: &[u64], marks: &mut [bool], first: usize)
     requires flow { length flow.now ≡ length (arcs_of graph.now) }
     requires reached { AreReached (net_of graph.now) flow.now marks.old }

@@ -1,6 +1,5 @@
-//! Breadth-first search of the residual network, the nearest nodes first, until the sink is visited. It answers a
-//! shortest path with labels that guide to further ones of its length, or marks of what the source reaches: the
-//! smallest least set.
+//! Searches the residual network breadth-first until it visits the sink. Returns a shortest path with labels that lead
+//! to further ones of its length, or marks of the nodes that the source reaches: the smallest set of least cost.
 ghost use Rattle.std.specs.Prelude.{◌≡◌, ℕ, List, ◌-◌, ◌<◌, ◌≤◌, false, length, IfOk};
 ghost use Rattle.esr_cert.specs.Network.{Network};
 ghost use Rattle.esr_flow.specs.Graph.{arcs_of, net_of, AreEntries, Lists};
@@ -102,15 +101,15 @@ fn labels_of(
     Ok(labels)
 }
 
-/// What a search found: a shortest path and labels that guide to further ones of its length, or marks of the nodes that
-/// the source reaches.
+/// The result of a search: a shortest path and labels that lead to further ones of its length, or marks of the nodes
+/// that the source reaches.
 #[derive(Drop)]
 pub enum Found {
     Path(Vec<ResidualArc>, Vec<u32>),
     Reach(Vec<bool>),
 }
 
-/// Visits what the source reaches, the nearest nodes first, until the sink is visited.
+/// Visits the nodes that the source reaches, the nearest first, until the sink is visited.
 fn visit_nodes(
     graph: &Graph,
     flow: &[u64],

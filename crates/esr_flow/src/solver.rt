@@ -149,7 +149,7 @@ pub fn solve(alloc: Global, net: &Network) -> Result<Solved, NoMemory>
     })
 }
 
-/// A certificate, and what became of the draft of its flow.
+/// A certificate, and the outcome of the draft of its flow.
 #[derive(Drop)]
 pub struct FromDraft {
     pub certificate: Certificate,

@@ -21,10 +21,10 @@ use std::alloc::{AllocError, Global};
 /// How many rows all searches look at, for each node.
 const MAX_LOOKS: u64 = 120;
 
-/// How often what was let go of may go to an earlier update.
+/// The maximum number of rounds in which released amounts pass to earlier updates.
 const MAX_ROUNDS: usize = 1000;
 
-/// Which way a sweep goes.
+/// The direction of a sweep.
 #[derive(Clone, Copy, PartialEq, Eq)]
 enum Sweep {
     /// To earlier updates, from a position on, of which none after it takes part.
@@ -32,18 +32,18 @@ enum Sweep {
     Forward,
 }
 
-/// What is known of a node.
+/// The state of a node.
 #[derive(Clone, Copy)]
 struct NodeLabel {
     /// The latest search that saw it.
     round: u32,
-    /// A step between it and a node nearer to where that search began.
+    /// A step between it and a node nearer to the start of that search.
     way: ResidualArc,
     /// Whether a search saw it in vain.
     is_dead: bool,
 }
 
-/// What searches know.
+/// The state of the searches of a sweep.
 #[derive(Drop)]
 struct Searches {
     sweep: Sweep,
@@ -53,7 +53,7 @@ struct Searches {
     round: u32,
     /// The nodes that the latest saw, in order.
     seen: Vec<u32>,
-    /// What is known of each node.
+    /// The state of each node.
     node_labels: Vec<NodeLabel>,
 }
 
@@ -65,8 +65,8 @@ fn capacity_on(capacity: Option<u64>, amount: u64) -> u64 {
     }
 }
 
-/// A graph, and the capacities of the arcs of chains, by number: these are numbered first, and looked at most. In four
-/// bytes each: one that does not fit stands as the largest number, and the arc is asked.
+/// A graph, and the capacities of the arcs of chains, by number: these arcs have the first numbers, and are read most.
+/// Each capacity takes four bytes: one that does not fit is the largest number, and the arc is looked up.
 #[derive(Drop)]
 struct Field<'a> {
     graph: &'a Graph<'a>,
@@ -118,7 +118,7 @@ fn number_at(numbers: &[u64], place: usize) -> u64 {
     }
 }
 
-/// Adds to the number at a place.
+/// Adds to the number at an index.
 fn add_at(numbers: &mut [u64], place: usize, more: u64)
     ensures { length numbers.new ≡ length numbers.old }
 {
@@ -249,7 +249,7 @@ impl Searches {
         self.see(node, ResidualArc::Forward(0))
     }
 
-    /// Notes that a node was come to, and the way, unless that is known or the node is dead.
+    /// Records the path to a node, unless the search has visited it or the node is dead.
     fn see(&mut self, node: u32, way: ResidualArc) -> Result<(), AllocError> {
         let place = node as usize;
         if place < self.node_labels.len() {
@@ -306,7 +306,7 @@ impl Searches {
         Ok(None)
     }
 
-    /// Searches for a way between an update and what is outside: the step there.
+    /// Searches for a path between an update and the outside. Returns the step at the outside.
     fn search(
         &mut self,
         field: &Field,
@@ -363,7 +363,7 @@ impl Searches {
         }
     }
 
-    /// Brings to an update what is due to it, on the ways that are found, and answers what is still due then.
+    /// Brings the amount due to an update, along the paths that are found. Returns the amount still due.
     fn supply(
         &mut self,
         field: &Field,
@@ -409,8 +409,8 @@ fn take_back(field: &Field, flow: &mut [u64], from: u32, to: u32, amount: u64) -
     left
 }
 
-/// Adds an amount on the arc of a step, or takes it off where the step goes against the arc. What goes over a back arc
-/// is taken off the arcs of chains the other way first, which keeps ways short.
+/// Adds an amount on the arc of a step, or subtracts it if the step goes against the arc. An amount over a back arc is
+/// first subtracted from the arcs of chains in the opposite direction, which keeps paths short.
 fn bring_over(field: &Field, flow: &mut [u64], step: ResidualArc, amount: u64)
     ensures { length flow.new ≡ length flow.old }
 {
@@ -540,7 +540,7 @@ fn must_arc(field: &Field, node: usize) -> Option<u32> {
     }
 }
 
-/// Brings to an update what its later arcs carry away, as far as that can be had, and answers what is still due.
+/// Brings to an update the amount that its later arcs carry away, as far as possible. Returns the amount still due.
 fn add_update(
     field: &Field,
     flow: &mut [u64],
@@ -568,8 +568,8 @@ fn add_update(
     searches.supply(field, flow, update, left)
 }
 
-/// Takes off the arcs on the other side of a node what it was not given, which the nodes there are not given then.
-/// Whether one of those was gone over before it.
+/// Subtracts the amount that a node did not receive from the arcs on its other side, so that the nodes there lack it.
+/// Returns whether this round has already passed one of those nodes.
 fn released(field: &Field, flow: &mut [u64], owed: &mut [u64], sweep: Sweep, node: u32) -> bool
     ensures flow { length flow.new ≡ length flow.old }
     ensures owed { length owed.new ≡ length owed.old }
@@ -599,7 +599,8 @@ fn released(field: &Field, flow: &mut [u64], owed: &mut [u64], sweep: Sweep, nod
     is_back
 }
 
-/// Lets go of what each update was not given, those that the sweep came to last first. Whether more is to be let go of.
+/// Releases the amounts that updates did not receive, in reverse order of the sweep. Returns whether another round is
+/// needed.
 fn release_all(field: &Field, flow: &mut [u64], owed: &mut [u64], sweep: Sweep) -> bool
     ensures flow { length flow.new ≡ length flow.old }
     ensures owed { length owed.new ≡ length owed.old }
@@ -619,7 +620,7 @@ fn release_all(field: &Field, flow: &mut [u64], owed: &mut [u64], sweep: Sweep) 
     is_back
 }
 
-/// Adds the updates before a position, from the last to the first, and answers what each was not given.
+/// Adds the updates before a position, from the last to the first. Returns the amount that each did not receive.
 fn add_back(
     alloc: Global,
     field: &Field,
@@ -637,7 +638,7 @@ fn add_back(
     Ok(owed)
 }
 
-/// Adds the updates from a position on, from the first to the last, and answers what each could not give.
+/// Adds the updates from a position on, from the first to the last. Returns the amount that each could not pass on.
 fn add_forward(
     alloc: Global,
     field: &Field,
@@ -666,7 +667,7 @@ fn settle(field: &Field, flow: &mut [u64], mut owed: Vec<u64>, sweep: Sweep)
     }
 }
 
-/// Adds to a number at a place, modulo 2^64.
+/// Adds to the number at an index, modulo 2^64.
 fn wrap_at(numbers: &mut [u64], place: usize, more: u64)
     ensures { length numbers.new ≡ length numbers.old }
 {
@@ -675,7 +676,7 @@ fn wrap_at(numbers: &mut [u64], place: usize, more: u64)
     }
 }
 
-/// Adds what the versions of a chain cost to what prefixes that end with their writers cost more than those before.
+/// Adds the costs of a chain's versions to the changes of cost between consecutive prefixes, at the ends of its arcs.
 fn add_costs(changes: &mut [u64], chain: &Chain, source: u32)
     ensures { length changes.new ≡ length changes.old }
 {

@@ -15,7 +15,7 @@ ghost use Rattle.esr_history.specs.BackLinks.{with_key, txns_after, ends_after, 
 use crate::event::{Entry, Event, Kind, Reply};
 use std::alloc::{AllocError, Global};
 
-/// What is known of a transaction: how it began, and the place of its accepted commit or abort.
+/// How a transaction began, and the index of its accepted commit or abort.
 #[derive(Clone, Copy, PartialEq, Eq, Debug)]
 pub struct Facts {
     pub query: bool,
@@ -29,10 +29,9 @@ struct Begin {
     limit: u64,
 }
 
-/// For each entry the place of the accepted operation before it on the same item, and of the
-/// accepted entry before it of the same transaction; for each item and each transaction the
-/// last such place; and how each transaction began and where it ended. In a table, 0 stands
-/// for no place, and each place for one more.
+/// For each entry the index of the previous accepted operation on the same item, and of the previous accepted entry of
+/// the same transaction; for each item and each transaction the last such index; and how each transaction began and
+/// where it ended. A table stores 0 for none, and each index plus 1.
 #[derive(Drop)]
 pub struct BackLinks {
     on_item: Vec<u32>,
@@ -43,7 +42,7 @@ pub struct BackLinks {
     begins: Vec<Begin>,
 }
 
-/// The most codes of 32 bits: as many places have one.
+/// The number of entry indices that have a 32-bit code.
 const MAX_CODES: usize = 4_294_967_295;
 
 fn item_of(event: Event) -> Option<u32>
@@ -98,7 +97,7 @@ fn at_key(table: &[u32], key: Option<u32>) -> u32
     }
 }
 
-/// Sets what a table has at a key, if it has that key.
+/// Sets the code at a key, if the key is in range.
 fn set_key(table: &mut [u32], key: u32, code: u32)
     ensures { table.new ≡ slice_set table.old key code }
 {
@@ -223,8 +222,8 @@ impl BackLinks {
         self.begins.push_reserved(Begin { kind, limit });
     }
 
-    /// Notes an accepted event, whose place has the code, and gives the codes of the places that it links to: one look-up
-    /// for each table.
+    /// Records an accepted event with the code of its index, and returns the codes of the entries that it links to.
+    /// Accesses each table once.
     #[inline(always)]
     fn note(&mut self, event: Event, reply: Reply, code: u32) -> (u32, u32)
         requires { HasCapacityToBegin 1 self.old }

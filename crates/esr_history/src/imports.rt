@@ -1,8 +1,8 @@
-//! What each transaction has imported, summed as charges come.
+//! Sums the imports of each transaction as they are charged.
 //!
-//! The machine has computed an event's charges when it hands the event to the history, so the sums cost nothing more.
-//! The other way, to add up distances along the links of the items that a query read, would cost each audit the
-//! operations on these items.
+//! The machine has computed an event's charges when it adds the event to the history, so the sums cost nothing more.
+//! Adding up distances along the links of the items that a query read would make each audit visit the operations on
+//! these items.
 ghost use Rattle.std.specs.Prelude.{◌≡◌, ◌+◌, ◌<◌, ◌≤◌, ◌^◌, ◌∷◌, [], ℕ, false, length, slice_index_or, vec_capacity, IfOk};
 ghost use Rattle.esr_history.specs.Events.{is_refusal};
 ghost use Rattle.esr_history.specs.Imports.{imported, with_number, AreImports, AreDue};
@@ -39,7 +39,7 @@ fn open(imports: &mut Vec<u64>, event: Event)
     }
 }
 
-/// Adds to the import of each transaction what the charges import to it.
+/// Adds the charges to the imports of their transactions.
 fn add_charges(imports: &mut [u64], charges: &[(TxnId, u64)])
     requires { (t : ℕ) → slice_index_or imports.old t 0 + imported charges.now t < 2 ^ 64 }
     ensures len { length imports.new ≡ length imports.old }

@@ -12,7 +12,7 @@ ghost use Rattle.esr_history.specs.PackedEntry.{blocked, unpacked, item_id, txn_
 use crate::event::{Entry, Event, Refusal, Reply};
 use esr_base::{ItemId, TxnId};
 
-/// What is in the way of a read or a write: the lock of an update, or a limit.
+/// The reason why a read or a write is blocked: the lock of an update, or a limit.
 #[derive(Clone, Copy)]
 pub enum BlockReason {
     Lock,

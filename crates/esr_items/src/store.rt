@@ -1,9 +1,8 @@
-//! The committed and the current value of each item.
+//! Stores the committed and the current value of each item.
 //!
-//! Both values of an item lie side by side, so a read, a write, a commit and an abort of an item touch one place. A
-//! write changes the current value in place: there is one copy of each value that reports and updates share, and that
-//! is the point of the whole engine. Who may call when is not decided here: the store keeps values, and the machine the
-//! rules.
+//! Both values of an item are adjacent, so a read, a write, a commit and an abort of an item access one place. A write
+//! changes the current value in place: updates and reports share one copy of each value, which is the purpose of the
+//! engine. The store only holds values; the machine decides which calls are allowed.
 
 ghost use Rattle.std.specs.Prelude.{◌≡◌, ◌<◌, ◌≤◌, ◌⊎◌, length, map, IfOk, OnOk, IfErr, IsErrOf, All, Any, IsTrue, ◌↔◌, List};
 ghost use Rattle.esr_items.specs.Values.{IsValue, both_versions, committed_at, current_at, current_set, kept, undone, AreValues};
@@ -136,7 +135,7 @@ impl Store {
     }
 }
 
-/// Items whose committed and current values are these.
+/// Creates items with these committed and current values.
 fn versions_of(alloc: Global, values: &[i64]) -> Result<Vec<Versions>, AllocError>
     requires { All IsValue values.now }
     ensures both { IfOk result (λ items. items.items ≡ map both_versions values.now) }

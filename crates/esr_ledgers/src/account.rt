@@ -1,7 +1,7 @@
-//! One row for each transaction: its limit, what it has been charged, and which side it is on.
+//! Defines the account of a transaction: its limit, the amount charged to it, and its kind.
 //!
-//! Accounts carry their numbers and ascend, and are found by them and not by their places, so ledgers need not be
-//! opened for 1, 2, 3 without gaps. Where they are, as in the machine, the first look finds the account.
+//! Accounts contain their numbers, by which they ascend and are found. So the numbers may have gaps. If they are 1, 2,
+//! 3 and so on, as in the machine, the first look-up finds the account.
 
 ghost use Rattle.std.specs.Prelude.{◌≡◌, ◌+◌, ◌<◌, ◌^◌, true, Some, IfOk, IfErr, IsTrue, length};
 ghost use Rattle.esr_history.specs.Ascending.{IsAscendingBy, IsPlaceOf, IsGapFor};
@@ -9,7 +9,7 @@ ghost use Rattle.esr_ledgers.specs.Books.{number, account_of, is_open, account_a
 
 use esr_history::{Kind, TxnId};
 
-/// What a query has imported, or an update exported, and its limit.
+/// The amount that a query has imported, or an update exported, and its limit.
 #[derive(Clone, Copy, PartialEq, Eq, Debug)]
 pub struct Account {
     pub number: TxnId,
@@ -52,7 +52,7 @@ fn index_of(accounts: &[Account], t: TxnId) -> usize
     if dense < accounts.len() && accounts[dense].number == t {
         return dense;
     }
-    // whoever opens accounts may leave numbers out
+    // the caller may have left numbers out
     match place_of(accounts, t) {
         Ok(at) => at,
         Err(_) => unreachable!(),

@@ -81,7 +81,7 @@ fn first_over(accounts: &[Account], charges: &[(TxnId, u64)]) -> Option<(TxnId, 
     None
 }
 
-/// Puts an account at its place. Most come last, and then none is moved.
+/// Inserts an account in ascending order. Most go to the end, so that none is moved.
 #[inline(always)]
 fn put_account(accounts: &mut Vec<Account>, at: usize, account: Account) -> Result<(), AllocError>
     requires { at ≤ length accounts.old.items }

@@ -1,9 +1,9 @@
-//! Lists that ascend by the numbers of transactions, found by binary search.
+//! Lists in ascending order of transaction numbers, searched by binary search.
 //!
-//! Most items never have more than a few readers, and the first lock on each item would otherwise ask for memory twice:
-//! so up to four readers and two queries lie in the row itself, which takes no more place than what would point to an
-//! allocation. Most lists are empty, or have one element, which is the one that is asked for: that comes first, and the
-//! search stands apart, since a call of it costs each event the registers that it saves.
+//! Most items never have more than a few readers, and otherwise the first lock on each item would need two allocations.
+//! So the row itself stores up to four readers and two queries, in the space that pointers to allocations would take.
+//! Most lists are empty or have one element, which is the one looked for. So that case is tested first, and the search
+//! is a separate function, since an inlined search would make each event save more registers.
 
 ghost use Rattle.std.specs.Prelude.{◌≡◌, ℕ, ◌<◌, ◌≤◌, ◌==◌, length, filter, find, not, All, IfOk, IfErr, option_map};
 ghost use Rattle.std.specs.List.{list_any, insert, AllByRecursion};
@@ -30,7 +30,7 @@ pub struct QueryReads {
     pub count: u32,
 }
 
-/// A row of a list that goes by the numbers of transactions.
+/// An element of a list that is ordered by transaction numbers.
 pub trait Numbered {
     ghost number: { Self → ℕ };
 
@@ -54,7 +54,7 @@ impl Numbered for QueryReads {
     }
 }
 
-/// The number of no transaction, since they count from 1. It fills unused places.
+/// The number of no transaction, since numbers start at 1. It fills unused elements.
 const NOBODY: TxnId = TxnId(0);
 
 impl Default for Reader {
@@ -76,10 +76,10 @@ impl Default for QueryReads {
     }
 }
 
-/// Up to four readers lie in the list itself, more in an allocation.
+/// Up to four readers are stored inline, more in an allocation.
 pub type Readers = SmallVec<Reader, 4>;
 
-/// Up to two queries lie in the list itself, more in an allocation.
+/// Up to two queries are stored inline, more in an allocation.
 pub type Queries = SmallVec<QueryReads, 2>;
 
 /// Reserves capacity for one more element in a full list.
@@ -151,7 +151,7 @@ fn put<T: MadeWith<Global> + Drop, const N: usize>(list: &mut SmallVec<T, N>, at
     }
 }
 
-/// Adds a reader to a list that may have others, and answers whether it was not there.
+/// Adds a reader to a list that may have others. Returns whether it is new.
 #[inline(never)]
 fn add_among(readers: &mut Readers, t: TxnId) -> bool
     requires ascending { IsAscendingBy (λ r. r.update.0) readers.old.items }
@@ -168,7 +168,7 @@ fn add_among(readers: &mut Readers, t: TxnId) -> bool
     }
 }
 
-/// Adds a reader, and answers whether it was not there. Most are the first, and then there is nothing to search.
+/// Adds a reader. Returns whether it is new. Usually it is the first, and then no search is needed.
 #[inline(always)]
 pub fn add_reader(readers: &mut Readers, t: TxnId) -> bool
     requires ascending { IsAscendingBy (λ r. r.update.0) readers.old.items }
@@ -183,7 +183,7 @@ pub fn add_reader(readers: &mut Readers, t: TxnId) -> bool
     add_among(readers, t)
 }
 
-/// Counts one more read of a query, and answers whether it had none.
+/// Counts one more read of a query. Returns whether it is the first.
 pub fn count_read(queries: &mut Queries, q: TxnId) -> bool
     requires ascending { IsAscendingBy (λ r. r.query.0) queries.old.items }
     requires capacity_left { HasRoomFor queries.old 1 }

@@ -1,5 +1,5 @@
-//! The items that one transaction has locked, in the order of its locks: what a release goes over. Up to six lie in the
-//! list itself.
+//! Lists the items that one transaction has locked, in the order of its locks, for their release. Up to six are stored
+//! inline.
 
 ghost use Rattle.std.specs.Prelude.{◌≡◌, ◌<◌, [], ◌∷◌, ◌++◌, OnOk, OnErr};
 
@@ -9,8 +9,7 @@ use smallvec::SmallVec;
 use std::alloc::{AllocError, Global};
 use std::marker::Model;
 
-/// The items that a transaction has locked. Up to six lie in the list itself, more in an
-/// allocation.
+/// The items that a transaction has locked. Up to six are stored inline, more in an allocation.
 #[derive(Drop)]
 pub struct LockedItems {
     list: SmallVec<ItemId, 6>,

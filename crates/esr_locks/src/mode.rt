@@ -1,14 +1,14 @@
-//! In which modes an item is locked, and which of them exclude each other:
+//! Defines the modes of locks on items, and their compatibility:
 //!
-//! | held by another | asked: `Read` | `Write` | `QueryRead` |
+//! | held by another | requested: `Read` | `Write` | `QueryRead` |
 //! |---|---|---|---|
-//! | `Read` | given | kept back | given |
-//! | `Write` | kept back | kept back | given |
-//! | `QueryRead` | given | given | given |
+//! | `Read` | granted | blocked | granted |
+//! | `Write` | blocked | blocked | granted |
+//! | `QueryRead` | granted | granted | granted |
 //!
-//! The first two are the modes of two-phase locking. A query's read excludes nothing and is excluded by nothing: what
-//! lies between it and a write is charged instead, to the query's import and to the update's export. So a row keeps
-//! queries for their charges, and looks for conflicts among updates alone.
+//! The first two are the modes of two-phase locking. A query's read conflicts with nothing: its distance from a
+//! concurrent write is charged instead, to the query's import and to the update's export. So a row records queries for
+//! their charges, and only updates conflict.
 ghost use Rattle.std.specs.Prelude.{◌≡◌};
 ghost use Rattle.esr_locks.specs.Modes.{conflicts};
 

@@ -153,8 +153,7 @@ impl Row {
         Ok(())
     }
 
-    /// Adds a read by an update, and answers whether the update had neither read nor written the
-    /// item.
+    /// Adds a read by an update. Returns whether the update had neither read nor written the item.
     #[inline(always)]
     fn add_reader(&mut self, t: TxnId) -> bool
         requires { 0 < self.old.capacity_left }
@@ -166,7 +165,7 @@ impl Row {
         !(has_written | has_read)
     }
 
-    /// Adds a write, and answers whether the update had neither read nor written the item.
+    /// Adds a write. Returns whether the update had neither read nor written the item.
     #[inline(always)]
     fn add_writer(&mut self, t: TxnId) -> bool
         ensures locks { self.new.locks ≡ with_writer t.0 self.old.locks }
@@ -178,7 +177,7 @@ impl Row {
         !(has_written | has_read)
     }
 
-    /// Adds a read by a query, and answers whether the query had not read the item.
+    /// Adds a read by a query. Returns whether the query had not read the item.
     fn add_query_read(&mut self, q: TxnId) -> bool
         requires capacity_left { 0 < self.old.capacity_left }
         requires few { All (λ r. r.0 ≡ q.0 → r.1 < MAX_READS) self.old.locks.queries }
@@ -188,7 +187,7 @@ impl Row {
         count_read(&mut self.queries, q)
     }
 
-    /// Adds a lock, and answers whether the transaction held none on the item yet.
+    /// Adds a lock. Returns whether the transaction held none on the item.
     #[inline(always)]
     pub fn add(&mut self, t: TxnId, mode: Mode) -> bool
         requires capacity_left { 0 < self.old.capacity_left }

@@ -1,5 +1,5 @@
-//! What transactions read and wrote, found along the links of the transaction and never by a scan of the log. The
-//! search for near updates, the audit and explanations each take from this one list what they need.
+//! Lists the reads and writes of transactions, along their links instead of by a scan of the log. The search for near
+//! updates, the audit and explanations all use this list.
 ghost use Rattle.std.specs.Prelude.{◌≡◌, IfOk, OnOk};
 ghost use Rattle.esr_history.specs.Operations.{answer};
 ghost use Rattle.esr_order.specs.Scans.{access_in, access_at, accesses_in};
@@ -8,8 +8,8 @@ use esr_history::{Entry, Event, History, Log, Reply, TxnId};
 use esr_items::{ItemId, Metric};
 use std::alloc::{AllocError, Global};
 
-/// An accepted read or write of an item. The value is the one that was read, or the one that was
-/// written. It stands first: fields lie in their order, and so the three take 16 bytes and not 24.
+/// An accepted read or write of an item, with the value read or written. The value is the first field, so that the
+/// three fields take 16 bytes instead of 24.
 #[derive(Clone, Copy)]
 pub struct Access {
     pub value: i64,
@@ -60,8 +60,8 @@ fn access_at(log: &Log, i: u64) -> Option<Access>
     log.get(i as usize).and_then(access_in)
 }
 
-/// Lists what a transaction read and wrote, in order, in place of what the list had. It goes along the links of the
-/// transaction.
+/// Replaces the contents of the list by the reads and writes of a transaction, in order. Follows the transaction's
+/// links.
 pub fn list_accesses<M: Metric>(
     history: &History<M>,
     t: TxnId,

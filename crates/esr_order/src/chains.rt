@@ -38,7 +38,7 @@ pub fn latest_writer(links: &Links) -> Option<u32>
     links.latest
 }
 
-/// Adds a write of the update at a position to a chain that goes back, unless a later one of that update is there.
+/// Adds a write of the update at a position to a chain in reverse order, unless it has a later write of that update.
 pub fn put_write(links: &mut Links, place: u32, value: i64) -> Result<(), AllocError>
     ensures { OnOk result (seen_links links.new ≡ with_write (seen_links links.old) place value) }
 {

@@ -1,5 +1,5 @@
-//! Few pairs of updates that tie them like the whole conflict order: two for each operation at most, where all
-//! conflicting pairs grow with the square of the writers of an item.
+//! A sparse set of conflicting pairs of updates, with the same closed sets as the whole conflict order: at most two
+//! pairs for each operation, whereas the number of all conflicting pairs is quadratic in the writers of an item.
 ghost use Rattle.std.specs.Prelude.{◌≡◌, ◌≤◌, ◌<◌, ◌++◌, ℕ, OnOk, AllPairs, Contains, length, reverse};
 ghost use Rattle.esr_order.specs.Conflicts.{pair_of, pairs_from};
 

@@ -12,8 +12,8 @@ use esr_items::Metric;
 use std::alloc::{AllocError, Global};
 use std::marker::Model;
 
-/// The transactions that committed in the entries that were read, in the order of their commits, and what the updates
-/// among them did.
+/// The transactions that committed in the entries read so far, in commit order, and the accesses of the updates among
+/// them.
 #[derive(Drop)]
 pub struct Index {
     read: usize,

@@ -29,8 +29,8 @@ use esr_history::{History, TxnId};
 use esr_items::Metric;
 use std::alloc::{AllocError, Global};
 
-/// Puts an operation of the update at a position before the later ones of its item, of which the chain and the readers
-/// until the next write are kept, and adds the positions of those to which it is tied.
+/// Prepends an operation of the update at a position to the later ones of its item, given as the chain and the readers
+/// before the next write. Adds the positions of the updates with which it conflicts.
 fn put_operation(
     links: &mut Links,
     readers: &mut Vec<u32>,
@@ -56,8 +56,8 @@ fn put_operation(
     Ok(())
 }
 
-/// Puts what the update at a position did before what later ones did, of which the chain and the readers of each item
-/// are kept, and adds the positions of the operations to which it is tied.
+/// Prepends the accesses of the update at a position to the later operations, given as the chain and the readers of
+/// each item. Adds the positions of the updates with which it conflicts.
 fn put_turn(
     chains: &mut [Links],
     readers: &mut [Vec<u32>],
@@ -127,8 +127,8 @@ pub struct PairsAndChains {
     pub chains: Vec<Links>,
 }
 
-/// Goes back over updates: adds what they did to the chains and the readers of each item, in which
-/// nothing is yet, and the pairs that tie them. At the end it turns the pairs and the chains round.
+/// Scans updates backward: adds their accesses to the chains and the readers of each item, which are empty at first,
+/// and collects the conflicting pairs. Finally reverses the pairs and the chains.
 fn gather_into<M: Metric>(
     alloc: Global,
     history: &History<M>,

@@ -1,10 +1,10 @@
-//! The order of a query's updates: who they are, few pairs that tie them, and the writers of each item with the values
-//! that they left.
+//! Builds the order of a query's updates: the updates, a sparse set of conflicting pairs, and the writers of each item
+//! with the values that they left.
 //!
-//! `of` has all updates that committed before the query, for tests and for whoever wants them; `near` those alone that
-//! matter to what it read, which have the same closed sets of least cost; the audit takes that. The pairs have the same
-//! closed sets as the whole conflict order, and there are at most two for each operation. Chains leave an order one by
-//! one (`take_chain`), so that an audit's costs may lie where the values lay.
+//! `of` contains all updates that committed before the query, for tests and other callers. `near` contains only those
+//! that can affect the query's reads; both have the same closed sets of least cost, and the audit uses `near`. The
+//! pairs have the same closed sets as the whole conflict order, with at most two pairs for each operation. `take_chain`
+//! moves chains out of an order one by one, so that an audit's costs can reuse the memory of the values.
 
 ghost use Rattle.std.specs.Prelude.{◌≡◌, ◌↔◌, ◌<◌, ◌≤◌, ◌*◌, ◌^◌, length, map, filter, ℕ, AllPairs, ◌≢◌, false, IfOk, IsErrOf, option_map};
 ghost use Rattle.std.specs.List.{range_with_len};
@@ -53,9 +53,8 @@ impl From<AllocError> for OrderError {
     }
 }
 
-/// The updates that committed before a query did, the conflict order among them, and
-/// the versions of the items that they leave. Updates are given by their positions in
-/// commit order, which is a serial order of them.
+/// The updates that committed before a query, the conflict order among them, and the versions of the items that they
+/// leave. Updates are identified by their positions in commit order, which is a serial order of them.
 #[derive(Drop)]
 pub struct Order {
     commits: Vec<TxnId>,

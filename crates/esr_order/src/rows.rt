@@ -18,17 +18,17 @@ use esr_items::Metric;
 use std::alloc::{AllocError, Global};
 use std::marker::Model;
 
-/// Where a row lies.
+/// The bounds of a row.
 #[derive(Clone, Copy)]
 struct RowSpan {
     begin: u32,
     end: u32,
 }
 
-/// What committed updates read and wrote, in a row each.
+/// The reads and writes of committed updates, one row for each update.
 #[derive(Drop)]
 pub struct AccessRows {
-    /// Where each row lies, by the number of the transaction.
+    /// The bounds of each row, by transaction number.
     spans: Vec<RowSpan>,
     accesses: Vec<Access>,
 }
@@ -83,7 +83,7 @@ impl AccessRows {
         }
     }
 
-    /// Makes places for the rows of the transactions up to a number.
+    /// Extends the spans to the transactions up to a number.
     fn make_places(&mut self, last: usize) -> Result<(), AllocError>
         ensures rows { (u : ℕ) → row_at self.new u ≡ row_at self.old u }
         ensures place { OnOk result (last < length self.new) }
@@ -114,7 +114,8 @@ impl AccessRows {
         Ok(())
     }
 
-    /// Puts down what those of these committed transactions did that are updates. An error leaves rows of the history.
+    /// Adds rows of the updates among these committed transactions. After an error the rows are still rows of the
+    /// history.
     pub fn extend<M: Metric>(
         &mut self,
         history: &History<M>,

@@ -1,4 +1,4 @@
-//! What the entries of a history give, found by its links: who committed, which of them before a query, and what a
+//! Finds transactions by a history's links: those that committed, those that committed before a query, and those that a
 //! strict query must have seen.
 
 ghost use Rattle.std.specs.Prelude.{◌≡◌, ◌++◌, ◌∷◌, ℕ, List, [], true, ◌==◌, IfOk, OnOk, OnErr, slice_get, length, map, filter, count_by, reverse, take};
@@ -134,7 +134,7 @@ pub fn updates_before<M: Metric>(
         .collect(alloc)
 }
 
-/// Where a transaction began, and whether as a strict query.
+/// The index at which a transaction began, and whether as a strict query.
 #[derive(Clone, Copy)]
 struct BeginPlace {
     place: u64,

@@ -110,8 +110,8 @@ impl Items {
     }
 }
 
-/// The near updates of a query, and how often they wrote each item, by which room is made for chains. Of these counts
-/// nothing is promised: a chain that needs more room takes it.
+/// The near updates of a query, and how often they wrote each item, as capacities for chains. The counts need not be
+/// exact: a chain grows if necessary.
 #[derive(Drop)]
 pub struct Near {
     pub updates: Vec<TxnId>,

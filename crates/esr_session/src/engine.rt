@@ -48,7 +48,7 @@ impl<M: Metric + Drop, N: Naming> Model for Engine<M, N> {
         × (e.rest.amount ≡ SEAL) };
 }
 
-/// What a closed engine leaves: its history with its totals, and the receipts of each session.
+/// The result of closing an engine: its history with its totals, and the receipts of each session.
 #[derive(Drop)]
 pub struct Closed<M: Metric + Drop> {
     pub history: History<M>,
@@ -118,11 +118,12 @@ impl<M: Metric + Drop, N: Naming> Engine<M, N> {
         Ok(sessions)
     }
 
-    /// Gathers the receipts, compares them with the history and takes the machine, all in one hold of the lock.
+    /// Gathers the receipts, compares them with the history and takes the machine, under a single acquisition of the
+    /// lock.
     ///
     /// # Errors
-    /// `SessionMissing` only where fewer sessions came than were opened; `ForeignReceipt` and `NoMemory` as
-    /// `match_receipts` answers them. Engine and sessions come back as they were, and the engine can still be used.
+    /// `SessionMissing` only if fewer sessions are passed than were opened; `ForeignReceipt` and `NoMemory` like
+    /// `match_receipts`. The error returns the engine and the sessions unchanged, and they can still be used.
     pub fn close<R: Wait>(
         self,
         rt: &R,
@@ -266,8 +267,8 @@ fn close_on<M: Metric + Drop, N: Naming>(
     }
 }
 
-/// Shows that a share and those of the sessions are within the total, and are all of it where they have all parts:
-/// lends each session's part to the share in turn, audits the share, and gives all back.
+/// Proves that a share together with those of the sessions is within the total, and equals it if they have all parts:
+/// adds each session's part to the share in turn, audits the share, and returns all parts.
 fn audit_from<M: Metric + Drop, N: Naming>(
     total: &mut Book<N>,
     seen: &mut Share<N>,

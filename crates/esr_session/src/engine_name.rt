@@ -1,7 +1,7 @@
-//! The name of an engine, which only contracts see: a type parameter whose members are the opening values, the numbers
-//! of the metric and a ledger.
+//! Names an engine in contracts: a type parameter whose members are the opening values, the numbers of the metric and a
+//! ledger.
 //!
-//! So a session of one engine cannot be given to another, and no condition has to say it.
+//! So the type system rejects a session of another engine, and no precondition is needed.
 ghost use Rattle.std.specs.Prelude.{◌≡◌, ℕ, ℤ, List, []};
 ghost use Rattle.esr_session.specs.declared.engine_name.TheConstants.{LEDGER_PARTS};
 

@@ -1,4 +1,4 @@
-//! What an engine's lock holds, and one call under it.
+//! Defines the data that an engine's lock protects, and one call inside the lock.
 //!
 //! The invariant of `Locked` is all that threads rely on: the machine's opening values and metric are the engine's, and
 //! the total of all shares is the number of its entries. A call steps the machine once and adds one receipt and one to
@@ -19,11 +19,11 @@ use esr_items::Metric;
 use std::marker::Model;
 use std::sync::ledger::{Book, Share};
 
-/// What an engine's lock holds: the machine until the engine is closed, and the total of the answered calls.
-/// Contracts see the machine's history.
+/// The data that an engine's lock protects: the machine until the engine is closed, and the total of the executed
+/// calls. Contracts see the machine's history.
 ///
-/// While the engine is open the total is the length of the history and `SEAL` more, the engine's own share; after a
-/// close it is at most `MAX_ENTRIES`. So whoever has the engine's share knows that the engine is open.
+/// While the engine is open, the total is the length of the history plus `SEAL`, the engine's own share; after a close
+/// it is at most `MAX_ENTRIES`. So the engine's share proves that the engine is open.
 #[derive(Drop)]
 pub struct Locked<M: Metric, N: Naming> {
     pub(crate) machine: Option<Machine<M>>,

@@ -1,7 +1,7 @@
-//! Receipts against a history: each entry is named by just one receipt, with its event and reply.
+//! Compares receipts with a history: each entry must be named by exactly one receipt, with its event and reply.
 //!
-//! Lists are gone over in order with a mark for each place, so the time is that of the receipts. What has lists of
-//! receipts is a trait, so that a close compares those of its sessions where they are.
+//! The lists are scanned in order, with a mark for each entry, so the time is linear in the number of receipts. The
+//! trait `HasReceipts` lets a close compare the receipts of its sessions in place.
 ghost use Rattle.std.specs.Prelude.{◌≡◌, List, ◌+◌, ◌<◌, ◌≤◌, ◌↔◌, ◌++◌, [], false, IsTrue, length, map, slice_index_or, vec_len, MatchOption, OnOk, IfOk, IfErr, IfSome, IfNone};
 ghost use Rattle.esr_session.specs.Receipts.{IsVerdict, count_in, receipts_in, GoodFrom, IsForeignIn, Matches, Names};
 ghost use Rattle.esr_session.specs.declared.receipt.Receipt.{Receipt};
@@ -12,12 +12,12 @@ use esr_history::{Entry, Event, History, Reply};
 use esr_items::Metric;
 use std::alloc::{AllocError, Global};
 
-/// Compares receipts with a history: Ok exactly where each entry is named by exactly one receipt, each receipt has its
-/// entry's event and reply, and within each list the places rise.
+/// Compares receipts with a history. Returns `Ok` if and only if each entry is named by exactly one receipt, each
+/// receipt has its entry's event and reply, and within each list the entry indices ascend.
 ///
 /// # Errors
-/// `SessionMissing` exactly where there are fewer receipts than entries; else `ForeignReceipt` with the first receipt,
-/// list by list, that does not fit; `NoMemory` if an allocation failed.
+/// `SessionMissing` if and only if there are fewer receipts than entries; otherwise `ForeignReceipt` with the first
+/// receipt, list by list, that does not match; `NoMemory` if an allocation failed.
 pub fn match_receipts<M: Metric>(
     alloc: Global,
     history: &History<M>,
@@ -32,7 +32,7 @@ pub fn match_receipts<M: Metric>(
     match_all(alloc, history, lists)
 }
 
-/// What has a list of receipts.
+/// A type that has a list of receipts.
 pub trait HasReceipts {
     ghost receipts: { Self → List Receipt };
 

@@ -5,7 +5,7 @@ ghost use Rattle.esr_session.specs.Receipts.{is_block, is_blocked};
 use esr_history::{Event, Refusal, Reply};
 use thiserror::Error;
 
-/// That a call was answered: its place in the history (counted from 0), its event and its reply.
+/// The proof of an executed event: the index of its entry in the history (counted from 0), the event and the reply.
 #[derive(Clone, Copy, Debug, PartialEq, Eq)]
 pub struct Receipt {
     pub at: u64,
@@ -19,8 +19,8 @@ pub enum CloseError {
     /// There are fewer receipts than the history has entries.
     #[error("{gathered} of {total} receipts were gathered")]
     SessionMissing { gathered: u64, total: u64 },
-    /// The first receipt, list by list, that names no entry of the history, or another event or reply than the
-    /// entry's, or a place that an earlier receipt has, or one not above that of the receipt before it in its list.
+    /// The first receipt, list by list, that names no entry of the history, or has another event or reply than the
+    /// entry, or an index that an earlier receipt has or that is not above the previous one in its list.
     #[error("a receipt is not of this history")]
     ForeignReceipt(Receipt),
     /// An allocation failed.

@@ -88,11 +88,11 @@ impl<M: Metric + Drop, N: Naming> Session<M, N> {
         step_on(&mut *locked, &mut self.pocket, event)
     }
 
-    /// Calls until the reply is not that the event is blocked (by a lock or a limit), at most `turns` times in all.
-    /// Each call is an entry of the history and leaves a receipt. The last receipt is the answer.
+    /// Retries an event until it is not blocked (by a lock or a limit), with at most `turns` calls in total. Each call
+    /// is an entry of the history and adds a receipt. Returns the last receipt.
     ///
     /// # Errors
-    /// Those of `step_on`, at the first call that answers one.
+    /// The first error of `step_on`.
     pub fn call_patient<R: Wait>(
         &mut self,
         rt: &R,

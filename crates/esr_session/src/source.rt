@@ -25,20 +25,20 @@ pub trait EventSource {
     /// Whether an asker that has heard these receipts is now this one.
     ghost Became: { Self → List Receipt → Self → Type 0 };
 
-    /// The event that is asked next.
+    /// The next event.
     ghost next: { Self → Option Event };
 
     fn next(&self) -> Option<Event>
         ensures { result ≡ next self.now };
 
-    /// Hears what came of it.
+    /// Receives the receipt of the event.
     fn on_reply(&mut self, receipt: Receipt)
         requires { next self.old ≡ Some receipt.event }
         ensures { (first : Self) (receipts : List Receipt)
             → Became first receipts self.old → Became first (receipts ++ receipt ∷ []) self.new };
 }
 
-/// Steps for an asker until one is blocked or it asks nothing more, at most `most` of them; how many.
+/// Executes up to `most` events of a source, until one is blocked or the source is exhausted. Returns how many.
 pub(crate) fn step_several<M: Metric, N: Naming, A: EventSource>(
     locked: &mut Locked<M, N>,
     pocket: &mut Pocket<N>,
