@@ -1,4 +1,4 @@
--- What an audit finds of a committed query.
+-- The result of auditing a committed query.
 use Rattle.std.specs.Prelude.{◌≡◌, ◌≤◌, ℕ, true, List, All, filter, map, Some, None, filter_map, slice_get}
 use Rattle.esr_history.specs.Events.{is_query}
 use Rattle.esr_history.specs.Machine.{Distance, Schedule, accepted_in, charges_in, import_in}
@@ -45,7 +45,7 @@ pub record IsAnswer (d : Distance) (h : Schedule) (q distance import : ℕ) (bef
 abbrev pub IsCounted : Problem → Certificate → Type 0
 IsCounted p c = (n : ℕ) × (c.augmentations ≡ Some n) × Takes (network p) n (amounts c)
 
--- The distance is shown by a closed set and a flow of equal worth, of a problem that stands for q. The set is the smallest
+-- A closed set and a flow of equal worth, of a problem that represents q, prove the distance. The set is the smallest
 -- of those of least cost.
 pub record IsShown (d : Distance) (h : Schedule) (q distance : ℕ) (before : List ℕ) (problem : Problem)
     (certificate : Certificate) : Type 0 where
@@ -56,13 +56,13 @@ pub record IsShown (d : Distance) (h : Schedule) (q distance : ℕ) (before : Li
   pub smallest : IsSmallestLeast problem (in_set certificate.set)
   pub without_count : certificate.augmentations ≡ None
 
--- what is found of query q
+-- the finding of query q
 pub record IsFindingOf (d : Distance) (h : Schedule) (q : ℕ) (f : Finding) : Type 0 where
   pub answer : IsAnswer d h q f.distance f.import (map (λ t. t.0) f.before.items)
   pub shown : IsShown d h q f.distance (map (λ t. t.0) f.before.items) f.problem (certificate_of f.certificate)
   pub near : AreNear h q f.problem.updates
 
--- what is found of the query that it names
+-- the finding of the query that it names
 abbrev pub IsFinding : Distance → Schedule → Finding → Type 0
 IsFinding d h f = IsFindingOf d h f.query.0 f
 
@@ -74,7 +74,7 @@ committed_queries h = filter (is_query (accepted_in h)) (commit_order (accepted_
 abbrev pub summary : Finding → ℕ × ℕ × ℕ × List ℕ
 summary f = (f.query.0, f.distance, f.import, map (λ t. t.0) f.before.items)
 
--- the same, as it is kept
+-- the contents of a stored summary
 abbrev pub seen_summary : Summary → ℕ × ℕ × ℕ × List ℕ
 seen_summary s = (s.query.0, s.distance, s.import, listed s.before)
 
@@ -82,16 +82,16 @@ seen_summary s = (s.query.0, s.distance, s.import, listed s.before)
 abbrev pub summary_of : Distance → Schedule → ℕ → ℕ × ℕ × ℕ × List ℕ
 summary_of d h q = (q, least_cost d h q, import_in (charges_in d h) q, least_set d h q)
 
--- what is found of a history: its committed updates, in commit order, and a finding of each committed query, whose
--- summary is the query's
+-- the result of auditing a history: its committed updates, in commit order, and a finding of each committed query,
+-- whose summary is the query's
 pub record IsBook (d : Distance) (h : Schedule) (b : Book) : Type 0 where
   pub order : map (λ t. t.0) b.order.items ≡ committed_updates h
   pub queries : map (λ f. f.query.0) b.findings.items ≡ committed_queries h
   pub findings : All (IsFinding d h) b.findings.items
   pub summaries : map summary b.findings.items ≡ map (summary_of d h) (committed_queries h)
 
--- what is found of a history, in summaries: its committed updates, in commit order, and the summaries of findings of the
--- committed queries, as a book has them, which are the queries'
+-- the result of auditing a history, as summaries: its committed updates, in commit order, and the summaries of the
+-- findings that a book has of the committed queries
 pub record AreSummaries (d : Distance) (h : Schedule) (s : Summaries) : Type 0 where
   pub order : map (λ t. t.0) s.order.items ≡ committed_updates h
   pub findings : List Finding

@@ -1,4 +1,4 @@
--- What an audit promises: the problem that stands for a query, and what a finding says of it.
+-- The contract of an audit: the problem that represents a query, and the contents of a finding.
 
 pub mod Problems
 pub mod Findings

@@ -1,4 +1,4 @@
--- The problem that stands for a committed query of a history: what an auditor solves.
+-- The problem that represents a committed query of a history, which an audit solves.
 use Rattle.std.specs.Prelude.{◌≡◌, ◌↔◌, ℕ, ℤ, suc, Bool, true, false, ◌&&◌, ◌==◌, List, length, filter, map, take, sum_by, slice_get, All, Some, None, if◌then◌else◌}
 use Rattle.std.specs.List.{list_any, range_with_len}
 use Rattle.esr_history.specs.Machine.{Distance, Schedule, distance_in}
@@ -23,7 +23,7 @@ items_read h q = filter (λ x. list_any (λ o. o.item == x) (reads_by h q)) (ran
 abbrev pub writers_of : Schedule → ℕ → ℕ → List ℕ
 writers_of h q x = filter (has_written h x) (updates_of h q)
 
--- the distance of what q read of item x from a value, summed over its reads
+-- the sum of the distances between a value and the values that q read of item x
 abbrev pub read_distance : Distance → Schedule → ℕ → ℕ → ℤ → ℕ
 read_distance d h q x v = sum_by (λ o. if o.item == x then distance_in d h x o.value v else 0) (reads_by h q)
 
@@ -39,7 +39,7 @@ chain_for d h q us x = record {
   costs = map (version_cost d h q x) (range_with_len 0 (suc (length (writers_of h q x))));
 }
 
--- The problem stands for query q: its updates are some of the query's, in commit order, with all writers of the items
+-- The problem represents query q: its updates are some of the query's, in commit order, with all writers of the items
 -- that q read; its chains are those of these items; and it has the same closed sets among its updates.
 pub record IsProblemOf (d : Distance) (h : Schedule) (q : ℕ) (p : Problem) : Type 0 where
   pub updates : p.updates ≡ filter (is_among p.updates) (updates_of h q)

@@ -1,4 +1,4 @@
--- What an auditor gathers: the values that a query read, and their distances from the versions of an item.
+-- The data that an audit gathers: the values that a query read, and their distances from the versions of an item.
 use Rattle.std.specs.Prelude.{ℕ, ℤ, ◌==◌, List, [], ◌∷◌, Option, Some, None, Vec, filter, map, slice_index_or, sum_by}
 use Rattle.std.specs.List.{list_any, range_with_len}
 use Rattle.std.specs.declared.alloc.Global.{Global}
@@ -11,7 +11,7 @@ use Rattle.esr_order.specs.Orders.{Ordered, chain_at}
 use Rattle.esr_cert.specs.Problem.{Chain}
 pub use Rattle.esr_audit.specs.declared.reads.ItemRead.{ItemRead}
 
--- a read, as what was read of an item
+-- the item and value of a read
 abbrev pub item_read_of : Operation → ItemRead
 item_read_of o = record { item = o.item; value = o.value }
 
@@ -23,7 +23,7 @@ item_read_in a = record { item = a.item.0; value = a.value }
 abbrev pub values_of : List ItemRead → ℕ → List ℤ
 values_of reads x = map (λ r. r.value) (filter (λ r. r.item == x) reads)
 
--- what a list of lists has at a place, nothing past its end
+-- the list at an index of a list of lists, empty past its end
 abbrev pub list_at : List (Vec ℤ Global) → ℕ → List ℤ
 list_at lists x = slice_index_or (map (λ v. v.items) lists) x []
 
@@ -35,7 +35,7 @@ abbrev pub values_in : Option orders.Chain → List ℤ
 values_in None = []
 values_in (Some c) = c.values
 
--- the chain of item x, from those who wrote it with the values that they left, and the values that were read of it
+-- the chain of item x, given its writers with the values that they left, and the values that were read of it
 abbrev pub audit_chain_by : (ℕ → ℤ → ℤ → ℕ) → List ℤ → Option orders.Chain → List ℤ → ℕ → Chain
 audit_chain_by d opening chain values x = record {
   item = x;
@@ -43,7 +43,7 @@ audit_chain_by d opening chain values x = record {
   costs = map (distance_sum d x values) (value_at opening x ∷ values_in chain);
 }
 
--- the same from all that was read
+-- the same, given all reads
 abbrev pub audit_chain_from : (ℕ → ℤ → ℤ → ℕ) → List ℤ → Option orders.Chain → List ItemRead → ℕ → Chain
 audit_chain_from d opening chain reads x = audit_chain_by d opening chain (values_of reads x) x
 

@@ -1,4 +1,4 @@
--- Lists of transactions in little room.
+-- Compressed lists of transactions.
 use Rattle.std.specs.Prelude.{ℕ, ◌-◌, List, map, flat_map}
 use Rattle.std.specs.List.{range_with_len}
 use Rattle.esr_audit.specs.declared.stretches.TxnRange.{TxnRange}

@@ -1,3 +1,3 @@
--- What contracts see of a reader or writer that remembers a failure.
+-- Readers and writers that remember a failure, as contracts see them.
 
 pub mod Watch

@@ -1,4 +1,4 @@
--- What a clause reads of a watched reader or writer.
+-- The properties of a watched reader or writer that clauses refer to.
 use Rattle.std.specs.Prelude.{Bool, true, not, ◌&&◌, ◌≡◌, ◌++◌, List, ℕ, nat_eq, Result, Ok, Err}
 use Rattle.esr_base.specs.declared.watched.Watched.{Watched}
 

@@ -1,4 +1,4 @@
--- What callers see of a board and its seats.
+-- A board and its seats as callers see them.
 use Rattle.std.specs.Prelude.{◌≡◌, ℕ, List, flat_map}
 use Rattle.esr_board.specs.Claims.{Hand}
 use Rattle.esr_board.specs.declared.board.Board.{Board}
@@ -11,7 +11,7 @@ jobs_of b = b.jobs
 abbrev pub seats_of : Board → ℕ
 seats_of b = b.seats
 
--- what a seat knows, and the numbers that it drew, in order
+-- the state of a seat, and the numbers that it claimed, in order
 abbrev pub hand_of : BoardSeat → Hand
 hand_of s = s.seat.me.0
 

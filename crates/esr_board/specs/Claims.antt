@@ -1,4 +1,4 @@
--- What the seats of a board know, what is true of all of them between two steps, and what each kind of step does.
+-- The states of a board's seats, their invariant between two steps, and the effect of each kind of step.
 use Rattle.std.specs.Prelude.{◌≡◌, ℕ, zero, suc, ◌+◌, ◌-◌, ◌<◌, ◌≤◌, List, [], ◌∷◌, ◌++◌, length, slice_index, if◌then◌else◌, nat_eq, nat_lt, nat_le, All, sum_by, count_by, filter}
 use mathlib.Core.Option.{some}
 use lib.ListN.{get_elem?}
@@ -26,8 +26,8 @@ abbrev pub below : ℕ → List ℕ
 below zero = []
 below (suc n) = below n ++ n ∷ []
 
--- The numbers below the word were drawn, each once, and no other: however numbers are weighed,
--- those in the lists weigh what these weigh.
+-- The numbers below the word were claimed, each once, and no other: for every weighting of numbers, the sum over the
+-- lists is the sum over these.
 abbrev pub HoldsEachOnce : ℕ → List Hand → Type 0
 HoldsEachOnce word hands = (weight : ℕ → ℕ) → sum_by (λ h. sum_by weight h.claimed) hands ≡ sum_by weight (below word)
 
@@ -35,11 +35,11 @@ HoldsEachOnce word hands = (weight : ℕ → ℕ) → sum_by (λ h. sum_by weigh
 abbrev pub passes_of : ℕ → Hand → ℕ
 passes_of jobs h = h.passes + count_past jobs h.claimed
 
--- who never had a pass has drawn nothing
+-- a seat that never had a pass has claimed nothing
 abbrev pub IdleIsEmpty : ℕ → List Hand → Type 0
 IdleIsEmpty jobs hands = (id : ℕ) (h : Hand) → get_elem? hands id ≡ some h → passes_of jobs h ≡ 0 → h.claimed ≡ []
 
--- what holds of all hands of a board between two steps
+-- the invariant of all hands of a board between two steps
 abbrev pub IsFair : ℕ → ℕ → ℕ → List Hand → Type 0
 IsFair jobs seats word hands =
     HoldsEachOnce word hands × (sum_by (passes_of jobs) hands ≡ seats) × IdleIsEmpty jobs hands
@@ -72,14 +72,14 @@ with_one_less h = hand h.jobs (h.passes - 1) h.claimed
 abbrev pub one_pass : Hand → Hand
 one_pass h = hand h.jobs 1 []
 
--- a join: two hands in one, and what is left of the second
+-- a join: two hands in one, and the rest of the second
 abbrev pub joined : Hand → Hand → Hand
 joined h k = hand h.jobs (h.passes + k.passes) (h.claimed ++ k.claimed)
 
 abbrev pub spent : Hand
 spent = hand 0 0 []
 
--- at this word, these hands and those of the seats that were not given are all hands of the board
+-- at this word, these hands together with those of the seats that were not returned are all hands of the board
 abbrev pub IsBoardAt : ℕ → ℕ → List Hand → ℕ → Type 0
 IsBoardAt jobs seats hands word = (kept : List Hand) × IsFair jobs seats word (hands ++ kept)
 

@@ -1,5 +1,5 @@
--- What callers see of a board and its seats, what each step of a seat may change (`Claims`), and how findings come
--- back in the order of their jobs.
+-- A board and its seats as callers see them, the effect of each step of a seat (`Claims`), and the order of findings by
+-- their jobs.
 
 pub mod Claims
 pub mod Boards

@@ -1,4 +1,4 @@
--- What workers find, what they keep of it, and how that is put back in the order of the jobs.
+-- The findings of workers, the values that they make of these, and their order by jobs.
 use Rattle.std.specs.Prelude.{◌≡◌, ℕ, ◌<◌, List, length, slice_index_or, map, All, Option, None, IsSome, IfSome, IsTrue, MatchResult, []}
 use Rattle.std.specs.List.{AllZip}
 use Rattle.esr_base.specs.declared.numbers.TxnId.{TxnId}
@@ -17,7 +17,7 @@ use Rattle.esr_board.specs.Boards.{IsSeatOf, claimed, jobs_of}
 abbrev pub query_of : List TxnId → ℕ → TxnId
 query_of queries job = slice_index_or queries job (record { 0 = 0 })
 
--- what is found of the query of a job
+-- the finding of the query of a job
 abbrev pub IsFindingFor : Distance → Schedule → List TxnId → ℕ → Finding → Type 0
 IsFindingFor d h queries job f = (f.query ≡ query_of queries job) × IsFinding d h f
 
@@ -55,7 +55,7 @@ IsShareOf keeps d h queries jobs numbers s =
     HasClaimed jobs [] numbers (map (λ p. p.0) s.found.items) × AreKept keeps d h queries jobs s.found.items
     × (0 < count_past jobs numbers)
 
--- a worker gave its seat back, with its share, or out of memory
+-- a worker returned its seat with its share, or is out of memory
 abbrev pub IsWorked : {T : Type 0} → (Finding → T → Type 0) → Distance → Schedule → List TxnId → Board → Worked T → Type 0
 IsWorked keeps d h queries board w =
     IsSeatOf board w.seat × MatchResult w.share (IsShareOf keeps d h queries (jobs_of board) (claimed w.seat))

@@ -1,4 +1,4 @@
--- Bundles: the tree of a problem with its certificate, its text, and what a tree stands for.
+-- Bundles: the JSON tree of a problem with its certificate, its text, and the meaning of a tree.
 use Rattle.std.specs.Prelude.{ℕ, ◌+◌, List, [], ◌∷◌, map, Bool, ◌&&◌, nat_le, codes, if◌then◌else◌, Option, Some, None, option_and_then, Result, Ok, Err}
 use Rattle.std.specs.List.{list_all}
 use Rattle.serde_json.specs.Data.{Data, number, unsigned, array, object, Members, no_members, member}
@@ -38,7 +38,7 @@ chain_data chain = object (
 abbrev pub chains_data : List Chain → Data
 chains_data chains = array (items_of (map chain_data chains))
 
--- an empty list is not written, nor a number that there is not; the others by what joins a member to the rest
+-- an empty list or a missing number is not written; the others are, by the function that adds a member to the rest
 abbrev pub list_by : (List ℕ → Data → Members → Members) → List ℕ → List Data → Members → Members
 list_by join key [] rest = rest
 list_by join key (d ∷ ds) rest = join key (array (items_of (d ∷ ds))) rest
@@ -78,7 +78,7 @@ bundle_data p c = object (
 abbrev pub bundle : Problem → Certificate → List ℕ
 bundle p c = compact_text (bundle_data p c)
 
--- ---- what a tree stands for
+-- ---- the meaning of a tree
 
 infixl 10 ◌>>=◌
 abbrev pub ◌>>=◌ : {A B : Type 0} → Option A → (A → Option B) → Option B
@@ -133,12 +133,12 @@ is_pair_of_positions e = is_position e.0 && is_position e.1
 abbrev pub is_chain_of_positions : Chain → Bool
 is_chain_of_positions chain = is_position chain.item && list_all is_position chain.writers
 
--- what numbers stand for, where the problem has this fault
+-- the meaning of numbers if the problem has this fault
 abbrev pub judged_with : Option BundleFault → Problem × Certificate → Result (Problem × Certificate) BundleFault
 judged_with (Some fault) b = Err fault
 judged_with None b = if list_all is_position b.1.set then Ok b else Err Range
 
--- what numbers stand for: shape comes before range, over the whole bundle, and a certificate has no rule of shape
+-- the meaning of numbers: shape precedes range, over the whole bundle, and a certificate has no rule of shape
 abbrev pub judged : Problem × Certificate → Result (Problem × Certificate) BundleFault
 judged b = judged_with (problem_fault b.0) b
 
@@ -146,6 +146,6 @@ abbrev pub judged_parts : Option (Problem × Certificate) → Result (Problem ×
 judged_parts None = Err Shape
 judged_parts (Some b) = judged b
 
--- what a tree stands for
+-- the meaning of a tree
 abbrev pub problem_in : Data → Result (Problem × Certificate) BundleFault
 problem_in d = judged_parts (parts_of d)

@@ -1,4 +1,4 @@
--- What contracts see of a certificate as it was read.
+-- A certificate as it was read, as contracts see it.
 use Rattle.esr_cert.specs.Certificate as certificates
 use Rattle.esr_cert.specs.Views.{certificate_from}
 use Rattle.esr_bundle.specs.declared.draft.CertificateDraft.{CertificateDraft}

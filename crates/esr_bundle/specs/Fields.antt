@@ -1,4 +1,4 @@
--- How a JSON tree stands for numbers, lists of them, and the members of an object.
+-- Conversions of a JSON tree to numbers, lists of them, and the members of an object.
 use Rattle.std.specs.Prelude.{ℕ, List, [], ◌∷◌, Option, Some, None, option_map, option_and_then, Bool, false, ◌==◌}
 use Rattle.std.specs.Option.{option_map_or}
 use Rattle.serde_json.specs.Data.{Data, Items, no_items, item}

@@ -25,7 +25,7 @@ abbrev pub verdict_on : Result (Problem × Certificate) BundleFault → Verdict
 verdict_on (Ok b) = verdict_for b.1.worth (fault b.0 b.1)
 verdict_on (Err f) = Bad (bundle_fault_number f)
 
--- the verdict on what the bytes mean
+-- the verdict on the meaning of the bytes
 abbrev pub IsVerdictOf : List ℕ → Verdict → Type 0
 IsVerdictOf bytes v = (b : Result (Problem × Certificate) BundleFault) × Means bytes b × (v ≡ verdict_on b)
 
@@ -36,7 +36,7 @@ verdict_line (Bad fault) = codes "bad " ++ decimal fault ++ 10 ∷ []
 
 -- ---- how it ends
 
--- A judgement that was given the input, left these bytes of it and ended so wrote this.
+-- The output of a judgement, given its input, the bytes that it left unread, and its result.
 abbrev pub IsJudgedBy : List ℕ → Option (List ℕ) → Result Verdict JudgeFault → List ℕ → Type 0
 -- the input was read to its end, and the line of its verdict was written
 IsJudgedBy input left (Ok v) written =

@@ -1,4 +1,4 @@
--- What the bytes of a bundle mean, by their JSON tree, and the verdict on them.
+-- The meaning of the bytes of a bundle, by their JSON tree, and the verdict on them.
 
 pub mod Fields
 pub mod Bundle

@@ -1,4 +1,4 @@
--- Members that are put into an object only where there is something to put.
+-- Optional members of an object.
 use Rattle.std.specs.Prelude.{ℕ, List, Option}
 use Rattle.serde_json.specs.Data.{Data, Members, put}
 use Rattle.esr_bundle.specs.Bundle.{list_by, number_by}

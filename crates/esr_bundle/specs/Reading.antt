@@ -1,4 +1,4 @@
--- What the bytes of a bundle stand for.
+-- The meaning of the bytes of a bundle.
 use Rattle.std.specs.Prelude.{◌≡◌, ℕ, List, Some, Result, Ok, Err, IsUtf8, ⊤}
 use Rattle.serde_json.specs.Data.{Data}
 use Rattle.serde_json.specs.Read.{read}
@@ -18,11 +18,11 @@ IsTree bytes d = IsUtf8 bytes × (read bytes ≡ Some d)
 abbrev pub HasNoTree : List ℕ → Type 0
 HasNoTree bytes = (d : Data) → IsTree bytes d → ⊥
 
--- what the bytes stand for
+-- the problem and certificate that the bytes encode, or the fault
 abbrev pub Encodes : List ℕ → Result (spec.Problem × certificates.Certificate) BundleFault → Type 0
 Encodes bytes b = (d : Data) × IsTree bytes d × (problem_in d ≡ b)
 
--- what the bytes mean: what their tree stands for, or that they are no JSON
+-- the meaning of the bytes: that of their tree, or that they are not valid JSON
 abbrev pub Means : List ℕ → Result (spec.Problem × certificates.Certificate) BundleFault → Type 0
 Means bytes (Ok b) = Encodes bytes (Ok b)
 Means bytes (Err Json) = HasNoTree bytes
@@ -30,7 +30,7 @@ Means bytes (Err Shape) = Encodes bytes (Err Shape)
 Means bytes (Err Range) = Encodes bytes (Err Range)
 Means bytes (Err NoMemory) = ⊥
 
--- out of memory says nothing, and every other answer is the one of the bytes
+-- `NoMemory` is always allowed, and every other result is the meaning of the bytes
 abbrev pub IsReadingOf : List ℕ → Result (spec.Problem × Certificate) BundleFault → Type 0
 IsReadingOf bytes (Ok b) = Encodes bytes (Ok (b.0, certificate_of b.1))
 IsReadingOf bytes (Err Json) = HasNoTree bytes

@@ -1,4 +1,4 @@
--- Trees of bundles with what they stand for.
+-- Examples of bundle trees and their meanings.
 use Rattle.std.specs.Prelude.{◌≡◌, [], ◌∷◌, Some, None, Ok, Err, refl}
 use Rattle.serde_json.specs.Data.{object, no_members, array, no_items}
 use Rattle.esr_cert.specs.Problem.{Problem}
@@ -66,7 +66,7 @@ no_pair = refl
 no_transaction : problem_in (bundle_data (record two_updates { updates = 2 ∷ 0 ∷ [] }) after_both) ≡ Err Range
 no_transaction = refl
 
--- the shape comes first
+-- shape precedes range
 both_broken : problem_in (bundle_data (record two_updates { before = []; updates = 2 ∷ 0 ∷ [] }) after_both) ≡ Err Shape
 both_broken = refl
 

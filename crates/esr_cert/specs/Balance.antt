@@ -3,7 +3,7 @@ use Rattle.std.specs.Prelude.{ℕ, List, Bool, ◌==◌, sum_by}
 use Rattle.esr_cert.specs.Steps.{ResidualArc, Forward, Backward}
 use Rattle.esr_cert.specs.Flow.{amount_at}
 
--- the amount that comes to a node on the arc of a step that starts there
+-- the amount that enters a node on the arc of a step that starts there
 abbrev pub amount_in : List ℕ → ResidualArc → ℕ
 amount_in flow (Forward i) = 0
 amount_in flow (Backward i) = amount_at flow i
@@ -13,6 +13,6 @@ abbrev pub amount_out : List ℕ → ResidualArc → ℕ
 amount_out flow (Forward i) = amount_at flow i
 amount_out flow (Backward i) = 0
 
--- as much comes to a node as leaves it, by the steps that start there
+-- inflow and outflow of a node are equal, by the steps that start there
 abbrev pub is_balanced : List ℕ → List ResidualArc → Bool
 is_balanced flow steps = sum_by (amount_in flow) steps == sum_by (amount_out flow) steps

@@ -40,7 +40,7 @@ is_within p c =
 abbrev pub worth_matches : Problem → Certificate → Bool
 worth_matches p c = (c.worth == worth (network p) (amounts c)) && (c.worth == cost p (in_set c.set))
 
--- a count that is given is at most nodes times arcs
+-- a count, if present, is at most nodes times arcs
 abbrev pub is_count_in_bound : Problem → Option ℕ → Bool
 is_count_in_bound p None = true
 is_count_in_bound p (Some count) = nat_le count ((network p).nodes * length (network p).arcs)

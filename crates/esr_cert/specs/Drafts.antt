@@ -1,4 +1,4 @@
--- What contracts see of drafts.
+-- Drafts as contracts see them.
 use Rattle.std.specs.Prelude.{map}
 use Rattle.esr_cert.specs.Problem as spec
 use Rattle.esr_cert.specs.declared.draft.ChainDraft.{ChainDraft}

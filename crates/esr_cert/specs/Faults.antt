@@ -6,7 +6,7 @@ pub use Rattle.esr_cert.specs.declared.certificate.Fault.TheVariants.{SetNotAsce
 use Rattle.esr_cert.specs.declared.problem.BundleFault.{BundleFault}
 use Rattle.esr_cert.specs.declared.problem.BundleFault.TheVariants.{Json, Shape, Range, NoMemory}
 
--- shape comes before range
+-- shape precedes range
 abbrev pub problem_fault : Problem → Option BundleFault
 problem_fault p = if not (has_shape p) then Some Shape else (if not (is_in_range p) then Some Range else None)
 

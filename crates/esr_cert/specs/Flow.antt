@@ -11,7 +11,7 @@ within amount (Some limit) = nat_le amount limit
 abbrev pub amount_at : List ℕ → ℕ → ℕ
 amount_at flow i = get_or flow i 0
 
--- what the arcs that pass a test carry together
+-- the total amount on the arcs that pass a test
 abbrev pub carried : (Arc → Bool) → List Arc → List ℕ → ℕ
 carried p [] flow = 0
 carried p (arc ∷ arcs) [] = 0
@@ -23,7 +23,7 @@ inflow arcs flow v = carried (λ arc. arc.to == v) arcs flow
 abbrev pub outflow : List Arc → List ℕ → ℕ → ℕ
 outflow arcs flow v = carried (λ arc. arc.from == v) arcs flow
 
--- what leaves the source
+-- the outflow of the source
 abbrev pub worth : Network → List ℕ → ℕ
 worth net flow = outflow net.arcs flow net.source
 
@@ -34,7 +34,7 @@ are_within [] (amount ∷ flow) = false
 are_within (arc ∷ arcs) [] = false
 are_within (arc ∷ arcs) (amount ∷ flow) = within amount arc.capacity && are_within arcs flow
 
--- as much goes into a node as out of it
+-- inflow and outflow of a node are equal
 abbrev pub is_conserved_at : List Arc → List ℕ → ℕ → Bool
 is_conserved_at arcs flow v = inflow arcs flow v == outflow arcs flow v
 
@@ -43,7 +43,7 @@ abbrev pub is_conserved : Network → List ℕ → Bool
 is_conserved net flow =
     list_all (λ v. v == net.source || (v == net.sink || is_conserved_at net.arcs flow v)) (range_with_len 0 net.nodes)
 
--- what the two tests say, arc by arc and node by node
+-- the meaning of the two tests, arc by arc and node by node
 pub record IsFlow (net : Network) (flow : List ℕ) : Type 0 where
   pub same_length : length flow ≡ length net.arcs
   pub within_capacity : (i : ℕ) → i < length net.arcs → within (amount_at flow i) (arc_at net.arcs i).capacity ≡ true

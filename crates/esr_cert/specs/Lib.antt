@@ -1,5 +1,5 @@
--- Problems, networks, flows and cuts in the textbook's words, and what a certificate has to be. `Views`, `Drafts`,
--- `Rows`, `Starts` and `Links` say what contracts see of the lists that hold them.
+-- Problems, networks, flows and cuts in the textbook's terms, and the conditions on a certificate. `Views`, `Drafts`,
+-- `Rows`, `Starts` and `Links` define how contracts see the lists that contain them.
 
 pub mod Problem
 pub mod Network

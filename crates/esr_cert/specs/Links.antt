@@ -1,4 +1,4 @@
--- The arcs of chains among those of a network: they come first, those of each chain one after another.
+-- The arcs of chains among those of a network: they have the first numbers, chain by chain.
 use Rattle.std.specs.Prelude.{◌≡◌, ℕ, ◌+◌, ◌<◌, ◌≤◌, List, [], ◌∷◌, ◌++◌, length, get_or, map}
 use Rattle.esr_cert.specs.declared.problem.Chain.{Chain}
 use Rattle.esr_cert.specs.Network.{arc_at, Arc}

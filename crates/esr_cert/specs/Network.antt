@@ -17,7 +17,7 @@ arc_at arcs i = get_or arcs i (record { from = 0; to = 0; capacity = Some 0 })
 abbrev pub HaveEnds : List Arc → ℕ → Type 0
 HaveEnds arcs nodes = (i : ℕ) → i < length arcs → ((arc_at arcs i).from < nodes) × ((arc_at arcs i).to < nodes)
 
--- arcs join nodes, and none goes into the source
+-- arcs join nodes, and none enters the source
 pub record IsNetwork (net : Network) : Type 0 where
   pub ends : HaveEnds net.arcs net.nodes
   pub no_way_back : (i : ℕ) → i < length net.arcs → (arc_at net.arcs i).to ≢ net.source
@@ -51,7 +51,7 @@ back_arcs p = map back_arc p.before
 abbrev pub must_arcs : Problem → List Arc
 must_arcs p = map (must_arc (size p)) p.must
 
--- updates are nodes by their positions; the source and the sink come after them
+-- updates are nodes by their positions, followed by the source and the sink
 abbrev pub network : Problem → Network
 network p = record {
   nodes = size p + 2;

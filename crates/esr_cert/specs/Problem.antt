@@ -1,5 +1,5 @@
--- What a problem is, when a set of its updates is closed, and what the set costs.
--- Updates are named by their positions, and a set of them is a test of positions.
+-- Problems, closed sets of their updates, and the cost of a set. Updates are identified by their positions, and a set
+-- of them is a test of positions.
 use Rattle.std.specs.Prelude.{◌≡◌, ℕ, suc, ◌<◌, ◌≤◌, max, List, [], ◌∷◌, length, get_or, Bool, true, not, ◌&&◌, ◌||◌, ◌==◌, nat_lt, nat_le, if◌then◌else◌, map}
 use Rattle.std.specs.List.{list_all, list_any, sum_by}
 use Rattle.esr_base.specs.declared.limits.TheConstants.{MAX_ITEMS, MAX_TRANSACTIONS}
@@ -11,8 +11,8 @@ pub record Chain : Type 0 where
   pub writers : List ℕ
   pub costs : List ℕ
 
--- the numbers of the updates, the pairs of which the first comes before the second, the items, and what each set has to
--- hold
+-- the numbers of the updates, the pairs of which the first precedes the second, the items, and the updates that each
+-- set must contain
 pub record Problem : Type 0 where
   pub updates : List ℕ
   pub before : List (ℕ × ℕ)
@@ -39,7 +39,7 @@ version has (w ∷ writers) = if list_any has (w ∷ writers) then suc (version 
 abbrev pub chain_cost : (ℕ → Bool) → Chain → ℕ
 chain_cost has chain = get_or chain.costs (version has chain.writers) 0
 
--- what a set costs
+-- the cost of a set
 abbrev pub cost : Problem → (ℕ → Bool) → ℕ
 cost p has = sum_by (chain_cost has) p.chains
 

@@ -1,4 +1,4 @@
--- For each node the steps that start at it, in rows that lie one after another.
+-- For each node the steps that start at it, in consecutive rows.
 use Rattle.std.specs.Prelude.{◌≡◌, ℕ, zero, suc, ◌+◌, ◌*◌, ◌-◌, ◌<◌, ◌≤◌, ◌==◌, List, [], ◌∷◌, ◌++◌, length, get_or, set, take, drop, filter, sum}
 pub use Rattle.esr_cert.specs.declared.rows.Span.{Span}
 use Rattle.esr_cert.specs.declared.rows.Rows.{Rows}
@@ -9,7 +9,7 @@ use Rattle.esr_cert.specs.Steps.{arc_of, start, step_at, AreOnce, ResidualArc, F
 abbrev pub span_at : List Span → ℕ → Span
 span_at spans v = get_or spans v (record { begin = 0; end = 0 })
 
--- what lies in a span
+-- the elements in a span
 abbrev pub row_in : {X : Type 0} → List X → Span → List X
 row_in list span = take (span.end - span.begin) (drop span.begin list)
 
@@ -32,7 +32,7 @@ pub record AreDegrees (arcs : List Arc) (nodes : ℕ) (degrees : List ℕ) : Typ
   pub degree : (v : ℕ) → v < nodes → get_or degrees v 0 ≡ length (row_of arcs v)
   pub both : sum degrees ≡ 2 * length arcs
 
--- where rows of some lengths begin, one after another, with nothing in them
+-- the beginnings of consecutive empty rows of these lengths
 pub record AreBegun (lengths : List ℕ) (spans : List Span) : Type 0 where
   pub count : length spans ≡ length lengths
   pub begun : (v : ℕ) → v < length lengths
@@ -52,7 +52,7 @@ pub record AreSteps (arcs : List Arc) (steps : List ResidualArc) : Type 0 where
   pub in_arcs : (k : ℕ) → k < length steps → arc_of (step_at steps k) < length arcs
   pub once : AreOnce steps
 
--- the rows of a network, in which no step lies twice
+-- the rows of a network, in which no step occurs twice
 pub record AreLaid (net : Network) (r : Rows) : Type 0 where
   pub rows : AreRows net.arcs net.nodes r.spans.items r.steps.items
   pub steps : AreSteps net.arcs r.steps.items
@@ -61,7 +61,7 @@ pub record AreLaid (net : Network) (r : Rows) : Type 0 where
 abbrev pub longer : Span → Span
 longer span = record { begin = span.begin; end = span.end + 1 }
 
--- the spans where the row of a node has one more
+-- the spans after the row of a node has grown by one
 abbrev pub lengthen : List Span → ℕ → List Span
 lengthen spans v = set spans v (longer (span_at spans v))
 
@@ -71,7 +71,7 @@ pub record Counted (arcs : List Arc) (nodes : ℕ) (done : List ResidualArc) (co
   pub each : (v : ℕ) → v < nodes → get_or counts v 0 ≡ length (steps_from arcs v done)
   pub both : sum counts ≡ length done
 
--- some steps lie in their rows, which have these lengths
+-- some steps are in their rows, which have these lengths
 pub record Filled (arcs : List Arc) (lengths : List ℕ) (done : List ResidualArc) (spans : List Span)
     (steps : List ResidualArc) : Type 0 where
   pub count : length spans ≡ length lengths

@@ -1,4 +1,4 @@
--- Where the arcs of each chain begin, which come first among the arcs of a network.
+-- The number of each chain's first arc; the arcs of chains have the first numbers in a network.
 use Rattle.std.specs.Prelude.{◌≡◌, ℕ, suc, ◌+◌, ◌<◌, ◌≤◌, List, [], ◌∷◌, ◌++◌, length, get_or, take, replicate}
 use Rattle.esr_cert.specs.Problem.{Chain}
 
@@ -17,7 +17,7 @@ abbrev pub joined : {X : Type 0} → List (List X) → List X
 joined [] = []
 joined (row ∷ rows) = row ++ joined rows
 
--- where each of some rows begins when they are joined, none of them empty, and where the last ends
+-- the beginnings of some nonempty rows when they are joined, and the end of the last
 pub record AreStarts {X : Type 0} (starts : List ℕ) (rows : List (List X)) : Type 0 where
   pub count : length starts ≡ suc (length rows)
   pub at : (k : ℕ) → k ≤ length rows → get_or starts k 0 ≡ length (joined (take k rows))

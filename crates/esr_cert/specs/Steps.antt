@@ -18,7 +18,7 @@ abbrev pub start : List Arc → ResidualArc → ℕ
 start arcs (Forward i) = (arc_at arcs i).from
 start arcs (Backward i) = (arc_at arcs i).to
 
--- the step back over the same arc
+-- the step in the other direction over the same arc
 abbrev pub opposite : ResidualArc → ResidualArc
 opposite (Forward i) = Backward i
 opposite (Backward i) = Forward i

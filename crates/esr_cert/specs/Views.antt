@@ -1,4 +1,4 @@
--- What contracts see of the values of the code: lists in place of vectors.
+-- The values of the code as contracts see them: lists instead of vectors.
 use Rattle.std.specs.Prelude.{ℕ, List, map, Option, Vec}
 use Rattle.std.specs.declared.alloc.Global.{Global}
 use Rattle.esr_base.specs.declared.numbers.TxnId.{TxnId}

@@ -18,8 +18,8 @@ active_numbers h = filter (is_active (accepted_in h)) (numbers (accepted_in h))
 abbrev pub new_number : Schedule → ℕ → TxnId
 new_number h t = record { 0 = count_by (λ u. nat_lt u t) (active_numbers h) + 1 }
 
--- What a transaction was charged goes by conflicts. A conflict is open while both are active: then it would be charged
--- again, by the distance of the current and the committed value, if the query made its read again now.
+-- The charges of a transaction come from conflicts. A conflict is open while both transactions are active: the query
+-- would be charged again, by the distance of the current and the committed value, if it repeated its read now.
 abbrev pub open_charges_of : Distance → Schedule → ℕ → List Charge
 open_charges_of d h q =
     flat_map (λ o. charge_of_read (distance_in d h) h.opening (accepted_in h) q o.item (writer (accepted_in h) o.item)) (reads_by h q)
@@ -31,11 +31,11 @@ open_charges d h = flat_map (open_charges_of d h) (filter (is_query (accepted_in
 abbrev pub charged_in : Schedule → List Charge → ℕ → ℕ
 charged_in h cs t = if is_query (accepted_in h) t then import_in cs t else export_in cs t
 
--- what is settled: charged, and not open
+-- the settled charges: those that are not open
 abbrev pub settled : Distance → Schedule → ℕ → ℕ
 settled d h t = charged_in h (charges_in d h) t - charged_in h (open_charges d h) t
 
--- Each active transaction begins again, with its limit less what is settled.
+-- Each active transaction begins again, with its limit minus its settled charges.
 abbrev pub carried_begin : Distance → Schedule → ℕ → Entry
 carried_begin d h t = record {
   event = begin_event (is_query (accepted_in h) t) (limit_of (accepted_in h) t - settled d h t) (is_strict (accepted_in h) t);
@@ -52,7 +52,7 @@ carried_operation h reply (Write t x v) =
     then Some (record { event = Write (new_number h t.0) x v; reply = reply }) else None
 carried_operation h reply _ = None
 
--- Then each read of an active query, which answers the current value now, and not the value that it got.
+-- Then each read of an active query, which now returns the current value instead of the value that it returned before.
 abbrev pub carried_read : Schedule → Event → Option Entry
 carried_read h (Read t x) =
     if is_active_query h t.0
@@ -65,11 +65,11 @@ carried_entries d h =
     ++ (filter_map (λ e. carried_operation h e.reply e.event) (filter (λ e. not (is_refusal e.reply)) h.entries)
     ++ filter_map (carried_read h) (accepted_in h))
 
--- the history with which a renewal that carries goes on
+-- the history with which a carrying renewal continues
 abbrev pub carried : Distance → Schedule → Schedule
 carried d h = record (renewed h h.weights) { entries = carried_entries d h }
 
--- what the account of t is in two histories: `part` of its limit and of its charge are in the first alone
+-- the account of t in two histories: `part` of its limit and of its charges are in the first only
 pub record IsCarriedAs (d : Distance) (h : Schedule) (t : ℕ) (k : Schedule) (u : ℕ) (part : ℕ) : Type 0 where
   pub active : is_active (accepted_in k) u ≡ true
   pub query : is_query (accepted_in k) u ≡ is_query (accepted_in h) t
@@ -79,8 +79,8 @@ pub record IsCarriedAs (d : Distance) (h : Schedule) (t : ℕ) (k : Schedule) (u
   pub limit : part + limit_of (accepted_in k) u ≡ limit_of (accepted_in h) t
   pub charge : part + charged_in k (charges_in d k) u ≡ charged_in h (charges_in d h) t
 
--- No part of an active transaction is lost: each item has its two values, each active transaction its reads, its locks, and
--- the rest of its limit.
+-- An active transaction loses nothing: each item keeps its two values, and each active transaction its reads, its
+-- locks, and the rest of its limit.
 pub record IsCarriedOver (d : Distance) (h k : Schedule) : Type 0 where
   pub opens : k.opening ≡ committed_values h
   pub weights : k.weights ≡ h.weights
@@ -100,17 +100,16 @@ pub data IsReport (d : Distance) (limit : ℕ) : Schedule → ℕ → List Opera
       → (k : Schedule) → IsCarriedOver d h k
       → IsReport d limit k (new_number h q).0 read_before (part + settled d h q)
 
--- Whatever history a report is in by now: while it is active, its reads are no farther from any mixture of committed
--- and current values than what it has imported in all its histories together, and that is within the limit that it began
--- with.
+-- Whatever history a report is in: while it is active, its reads are within the sum of its imports in all its histories
+-- of any mixture of committed and current values, and this sum is within the limit with which it began.
 abbrev pub ReportsAreBounded : Distance → Type 0
 ReportsAreBounded d =
     (limit : ℕ) (h : Schedule) (q : ℕ) (read_before : List Operation) (part : ℕ) → IsReport d limit h q read_before part
     → ((w : ℕ → ℤ) → IsMixture h w → distance_of_reads d h read_before w ≤ part + import_in (charges_in d h) q)
     × (part + import_in (charges_in d h) q ≤ limit)
 
--- Once it has committed, the same holds of the values that the updates left which committed before it, in the history in
--- which it ends, run one after another from that history's opening values.
+-- Once it has committed, the same holds for the values after the updates that committed before it, in the history in
+-- which it ends, run in sequence from that history's opening values.
 abbrev pub ReportsAreBoundedAtCommit : Distance → Type 0
 ReportsAreBoundedAtCommit d =
     (limit : ℕ) (h : Schedule) (q : ℕ) (read_before : List Operation) (part : ℕ) → IsReport d limit h q read_before part
@@ -131,7 +130,8 @@ LawOfReports = (d : Distance) → AreDistances d → ReportsAreBounded d × Repo
 abbrev pub LawOfCarriedLength : Type 0
 LawOfCarriedLength = (d : Distance) (h : Schedule) → length (carried d h).entries ≤ length h.entries
 
--- What an active update has read still holds: its own last write before, or else the committed value as it is now.
+-- The values that an active update has read are unchanged: its own last earlier write, or else the present committed
+-- value.
 abbrev pub LawOfActiveUpdates : Type 0
 LawOfActiveUpdates =
     (d : Distance) (h : Schedule) → IsLegal d h
@@ -141,8 +141,8 @@ LawOfActiveUpdates =
     → v ≡ last_value (committed_value h.opening (accepted_in h) x.0)
     (filter_map (written (λ u. u == t.0) x.0) (accepted before))
 
--- The current value of an item is what the writes of active updates leave of its committed value: so their writes, made
--- again over the committed values, give the current ones.
+-- The current value of an item is its committed value overwritten by the writes of active updates: so replaying these
+-- writes over the committed values yields the current ones.
 abbrev pub LawOfCurrentValues : Type 0
 LawOfCurrentValues =
     (d : Distance) (h : Schedule) → IsLegal d h → (x : ℕ)

@@ -23,9 +23,8 @@ renewed h weights = schedule_of (committed_values h) weights []
 abbrev pub state_over : Schedule → List ℕ → Schedule → List ℕ → ℕ → ℤ
 state_over h us k vs x = last_value (state h us x) (flat_map (values_by k x) vs)
 
--- Two histories, one after the other, are serializable as one: the committed updates of the first in the order of their
--- commits, then those of the second in theirs, run one after another from the opening values of the first, read and
--- leave the same values.
+-- Two consecutive histories are serializable as one: the committed updates of the first in commit order, then those of
+-- the second in theirs, run in sequence from the opening values of the first, read and leave the same values.
 pub record AreSerializableAsOne (h k : Schedule) : Type 0 where
   pub first : IsSerializable h
   pub serial : IsSerialOrder k (committed_updates k) (committed_updates k)

@@ -1,4 +1,4 @@
--- What the parts of a machine are, by the accepted events.
+-- The parts of a machine, by the accepted events.
 use Rattle.std.specs.Prelude.{◌≡◌, ℕ, ℤ, ◌<◌, List, length, map, if◌then◌else◌}
 use Rattle.esr_items.specs.Values.{current_at, committed_at}
 use Rattle.esr_core.specs.Words.{Versions, Event}

@@ -44,15 +44,15 @@ its_replies = refl
 charged_after_carry : import_in (charges_in plain (carried plain two_active)) 1 ≡ 7
 charged_after_carry = refl
 
--- With what was left of its limit alone, 2, it could not be carried: the 7 would be charged twice.
+-- With only the rest of its limit, 2, it could not be carried: the 7 would be charged twice.
 left_alone : replies (played (started_from (pos 103 ∷ pos 50 ∷ [])) (
     BeginQuery 2 false ∷ BeginUpdate 9 ∷ Read (txn 2) (item 1) ∷ Write (txn 2) (item 1) (pos 57)
     ∷ Read (txn 1) (item 0) ∷ Read (txn 1) (item 1) ∷ []))
     ≡ Begun (txn 1) ∷ Begun (txn 2) ∷ Value (pos 50) ∷ Wrote ∷ Value (pos 103) ∷ Refused (BlockedByImport (txn 1)) ∷ []
 left_alone = refl
 
--- An update that writes to and fro: its reads and writes come again before the reads of reports, which are charged where
--- it stands now. The other way round, its way would be charged, 100 to a report that imported nothing.
+-- An update that writes back and forth: its reads and writes are replayed before the reads of reports, which are
+-- charged by the present values. In the other order its way would be charged, 100 to a report that imported nothing.
 abbrev pub to_and_fro : Schedule
 to_and_fro =
     played (started_from (pos 0 ∷ [])) (

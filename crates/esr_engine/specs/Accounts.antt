@@ -1,4 +1,4 @@
--- What a history says of one transaction.
+-- The account of one transaction in a history.
 use Rattle.std.specs.Prelude.{ℕ, Bool, true, false, List, Option, option_map, if◌then◌else◌}
 use Rattle.esr_history.specs.declared.event.Event.{Event}
 use Rattle.esr_history.specs.Events.{Beginning, kind_of, beginning, is_active, is_committed}
@@ -11,7 +11,7 @@ use Rattle.esr_engine.specs.declared.account.TxnStatus.TheVariants.{Active, Comm
 abbrev pub status_of : List Event → ℕ → TxnStatus
 status_of events t = if is_active events t then Active else (if is_committed events t then Committed else Aborted)
 
--- what a query has imported, or an update exported
+-- the amount that a query has imported, or an update exported
 abbrev pub charged_to : Distance → Schedule → Bool → ℕ → ℕ
 charged_to d h true t = import_in (charges_in d h) t
 charged_to d h false t = export_in (charges_in d h) t

@@ -42,7 +42,7 @@ pub record NeverStuck (d : Distance) (h : Schedule) : Type 0 where
   pub commits : (t : TxnId) → is_active (accepted_in h) t.0 ≡ true → reply_to d h (Commit t) ≡ Committed
   pub aborts : (t : TxnId) → is_active (accepted_in h) t.0 ≡ true → reply_to d h (Abort t) ≡ Aborted
 
--- what a history has, and what is left of it
+-- the size of a history, and the capacity left
 abbrev pub counts_of : Schedule → Counts
 counts_of h = record {
   entries = length h.entries;

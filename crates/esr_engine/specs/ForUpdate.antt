@@ -25,7 +25,7 @@ has_lock h t x = nat_lt x (length h.opening) && unwrap_or (option_map (λ u. u =
 abbrev pub lock_event : Schedule → TxnId → ItemId → Event
 lock_event h t x = Write t x (if nat_lt x.0 (length h.opening) then committed_value h.opening (accepted_in h) x.0 else pos 0)
 
--- the history before the read, or where it ends if the lock is refused
+-- the history before the read, or at the end if the lock is refused
 abbrev pub locked : Schedule → TxnId → ItemId → Schedule
 locked h t x = if has_lock h t.0 x.0 then h else after h (lock_event h t x)
 

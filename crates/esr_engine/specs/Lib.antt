@@ -1,4 +1,4 @@
--- What an engine to embed promises: that it is never stuck, and what it says of each transaction.
+-- The contract of an embedded engine: it is never stuck, and it reports the status of each transaction.
 
 pub mod Capacity
 pub mod Accounts

@@ -1,4 +1,4 @@
--- How a transaction stands, by the place of its end in a log.
+-- The status of a transaction, by the index of its end in a log.
 use Rattle.std.specs.Prelude.{ℕ, List, Option, None, Some, if◌then◌else◌}
 use Rattle.esr_history.specs.declared.event.Entry.{Entry}
 use Rattle.esr_order.specs.Scans.{is_commit_at}

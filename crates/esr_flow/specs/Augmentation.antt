@@ -1,4 +1,5 @@
--- Augmentations along shortest paths (Edmonds and Karp, 1972), and what the source reaches in the residual network.
+-- Augmentations along shortest paths (Edmonds and Karp, 1972), and the nodes that the source reaches in the residual
+-- network.
 use Rattle.std.specs.Prelude.{◌≡◌, ℕ, zero, suc, ◌≤◌, Bool, true, List, length, replicate, Some}
 use Rattle.esr_cert.specs.Network.{Network}
 use Rattle.esr_flow.specs.Words.{ResidualArc}
@@ -25,7 +26,7 @@ abbrev pub TakesFrom : Network → List ℕ → ℕ → List ℕ → Type 0
 TakesFrom net first zero flow = flow ≡ first
 TakesFrom net first (suc n) flow = (before : List ℕ) × TakesFrom net first n before × Augments net before flow
 
--- the nodes that the source reaches in the residual network: the source, what a residual step leads to, and no others
+-- the nodes that the source reaches in the residual network: the source, the ends of residual steps, and no others
 pub record IsReach (net : Network) (flow : List ℕ) (has : ℕ → Bool) : Type 0 where
   pub source : has net.source ≡ true
   pub kept : (step : ResidualArc) → IsResidual net.arcs flow step → has (start net.arcs step) ≡ true

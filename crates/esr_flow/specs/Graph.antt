@@ -31,7 +31,8 @@ entry_at entries k = get_or entries k (record { to = 0; ahead = false; back = fa
 abbrev pub AreEntries : Graph → List ℕ → List AdjacencyEntry → Type 0
 AreEntries g flow entries = entries ≡ map (adjacency_entry (arcs_of g) flow) g.rows.now.steps.items
 
--- a step that starts at a node and its entry: where the step leads, and what has residual capacity
+-- a step that starts at a node, and its entry: the end of the step, and whether it and its opposite have residual
+-- capacity
 pub record IsEntry (arcs : List Arc) (flow : List ℕ) (v : ℕ) (step : ResidualArc) (e : AdjacencyEntry) : Type 0 where
   pub in_arcs : arc_of step < length arcs
   pub starts : start arcs step ≡ v

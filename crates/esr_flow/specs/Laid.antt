@@ -1,4 +1,4 @@
--- A network with the steps that start at each node, which lie together.
+-- A network with the steps that start at each node, in consecutive rows.
 use Rattle.std.specs.Prelude.{◌≡◌, ℕ, ◌<◌, ◌≤◌, length, ◌^◌}
 use Rattle.std.specs.List.Sorted.{IsNonDecreasingBy}
 use Rattle.esr_cert.specs.Problem.{Problem}

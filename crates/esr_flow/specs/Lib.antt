@@ -1,5 +1,5 @@
--- What a solver speaks of: residual networks, augmentations, and the graph of a problem with its entries. `Maximum`
--- says what it needs of a network, and nothing else of the problem is known to it.
+-- The terms of a solver: residual networks, augmentations, and the graph of a problem with its entries. `Maximum`
+-- states the conditions on a network; the solver knows nothing else of the problem.
 
 pub mod Words
 pub mod Residual

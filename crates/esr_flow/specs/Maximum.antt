@@ -1,4 +1,4 @@
--- What a solver needs of a network: its flows are small, and each path to the sink is limited.
+-- The conditions of a solver on a network: its flows are small, and each path to the sink is limited.
 use Rattle.std.specs.Prelude.{◌≡◌, ℕ, ◌<◌, ◌≤◌, List, length, get_or, None}
 use Rattle.esr_flow.specs.Words.{Arc, ResidualArc}
 use Rattle.esr_cert.specs.Network.{Network}

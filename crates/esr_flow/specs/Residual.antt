@@ -5,7 +5,7 @@ use Rattle.esr_cert.specs.Network.{arc_at}
 use Rattle.esr_cert.specs.Flow.{within, amount_at}
 use Rattle.esr_cert.specs.Steps.{arc_of, start}
 
--- what is left of a limit
+-- the rest of a limit
 abbrev pub left_of : Option ℕ → ℕ → Option ℕ
 left_of None amount = None
 left_of (Some limit) amount = Some (limit - amount)

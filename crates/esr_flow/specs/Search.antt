@@ -1,4 +1,4 @@
--- What a breadth-first search of the residual network has found.
+-- The state and the result of a breadth-first search of the residual network.
 use Rattle.std.specs.Prelude.{◌≡◌, ℕ, suc, ◌+◌, ◌-◌, ◌<◌, ◌≤◌, Bool, true, false, if◌then◌else◌, List, [], ◌∷◌, length, get_or}
 use Rattle.esr_flow.specs.Words.{ResidualArc, Forward, Arc}
 pub use Rattle.esr_flow.specs.declared.search.Visit.{Visit}
@@ -19,13 +19,13 @@ abbrev pub unmarked : List Bool → ℕ
 unmarked [] = 0
 unmarked (b ∷ marks) = (if b then 0 else 1) + unmarked marks
 
--- a visit of where a step leads, one level further at most
+-- a visit of the end of a step, at most one level further
 abbrev pub EndsVisited : List Arc → List Visit → ℕ → ResidualArc → Type 0
 EndsVisited arcs visits level step =
     (j : ℕ) × (j < length visits) × ((visit_at visits j).node ≡ finish arcs step)
     × ((visit_at visits j).level ≤ suc level)
 
--- a visit comes from an earlier one
+-- a visit results from an earlier one
 pub record IsReached (arcs : List Arc) (flow : List ℕ) (visits : List Visit) (j : ℕ) : Type 0 where
   pub earlier : (visit_at visits j).parent < j
   pub residual : IsResidual arcs flow (visit_at visits j).step
@@ -33,7 +33,7 @@ pub record IsReached (arcs : List Arc) (flow : List ℕ) (visits : List Visit) (
   pub begins : start arcs (visit_at visits j).step ≡ (visit_at visits (visit_at visits j).parent).node
   pub next_level : (visit_at visits j).level ≡ suc (visit_at visits (visit_at visits j).parent).level
 
--- each visit but the first comes from an earlier one
+-- each visit but the first results from an earlier one
 abbrev pub ComeFromEarlier : List Visit → Type 0
 ComeFromEarlier visits = (j : ℕ) → 0 < j → j < length visits → (visit_at visits j).parent < j
 
@@ -73,7 +73,7 @@ pub record FoundSink (net : Network) (flow : List ℕ) (visits : List Visit) : T
   pub nearest : (other : List ResidualArc) → IsPath net.arcs flow net.source other net.sink
       → (visit_at visits (length visits - 1)).level ≤ length other
 
--- what a scan of the steps from one visit leaves
+-- the state after a scan of the steps from one visit
 abbrev pub AfterScan : Network → List ℕ → List Visit → List Bool → ℕ → Bool → Type 0
 AfterScan net flow visits marks head true = FoundSink net flow visits
 AfterScan net flow visits marks head false =
@@ -84,7 +84,7 @@ abbrev pub ReachesNoSink : Network → List ℕ → List Bool → Type 0
 ReachesNoSink net flow marks =
     IsReach net flow (is_marked marks) × (is_marked marks net.sink ≡ false) × (length marks ≡ net.nodes)
 
--- what a search leaves
+-- the state after a search
 abbrev pub AfterSearch : Network → List ℕ → List Visit → List Bool → Bool → Type 0
 AfterSearch net flow visits marks true = FoundSink net flow visits
 AfterSearch net flow visits marks false = ReachesNoSink net flow marks
@@ -104,7 +104,7 @@ pub record IsGuided (net : Network) (flow labels : List ℕ) (path : List Residu
   pub is_shortest_path : IsShortestPath net flow path
   pub steps : length path ≤ label_at labels net.source
 
--- a shortest path and labels that guide to more of its length, or what the source reaches
+-- a shortest path and labels that lead to more of its length, or the nodes that the source reaches
 abbrev pub IsFound : Network → List ℕ → Found → Type 0
 IsFound net flow (Path path labels) = IsGuided net flow labels.items path.items × Guides net flow labels.items
 IsFound net flow (Reach marks) = ReachesNoSink net flow marks.items

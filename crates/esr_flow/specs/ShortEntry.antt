@@ -1,5 +1,4 @@
--- Entries as numbers: four times the node, with 2 more where the opposite has residual capacity and 1 more where
--- the step has.
+-- Entries as numbers: four times the node, plus 2 if the opposite has residual capacity, plus 1 if the step has.
 use Rattle.std.proofs.Common.{ap, ◌∙◌, inl, inr, arith, cond, eq-eqb, ne_eqb, ◌≡◌, ℕ, ◌+◌, ◌*◌, ◌/◌, ◌%◌, ◌==◌, nat_lt, if◌then◌else◌}
 use Rattle.std.proofs.lemmas.Bool.{cases_eq, cases_lt, lt-ltb, le-ltb}
 pub use Rattle.esr_flow.specs.declared.entry.AdjacencyEntry.{AdjacencyEntry}

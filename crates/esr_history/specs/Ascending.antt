@@ -1,4 +1,4 @@
--- Numbers in order: the smallest of some, and lists whose elements have a number each, ascending.
+-- Ordered numbers: the smallest of some, and lists whose elements have ascending numbers.
 use Rattle.std.specs.Prelude.{◌≡◌, ℕ, ◌<◌, ◌≤◌, Bool, true, false, Option, MatchOption, List, [], ◌∷◌, length, ◌==◌, nat_lt, if◌then◌else◌, slice_index_or, ⊤}
 use Rattle.std.specs.List.{AllByRecursion}
 
@@ -6,12 +6,12 @@ use Rattle.std.specs.List.{AllByRecursion}
 abbrev pub IsSmallest : (ℕ → Bool) → Option ℕ → Type 0
 IsSmallest p r = MatchOption r ((u : ℕ) → p u ≡ false) (λ u. (p u ≡ true) × ((v : ℕ) → v < u → p v ≡ false))
 
--- each number is below those after it, so none comes twice
+-- each number is below those after it, so none occurs twice
 abbrev pub IsAscendingBy : {X : Type 0} → (X → ℕ) → List X → Type 0
 IsAscendingBy key [] = ⊤
 IsAscendingBy key (x ∷ xs) = AllByRecursion (λ y. key x < key y) xs × IsAscendingBy key xs
 
--- the element of number t changed, or a new one put where it belongs
+-- the list with the element of number t changed, or a new one inserted in order
 abbrev pub upserted : {X : Type 0} → (X → ℕ) → ℕ → X → (X → X) → List X → List X
 upserted key t new change [] = new ∷ []
 upserted key t new change (x ∷ xs) =

@@ -1,4 +1,4 @@
--- The places of earlier entries of a log, as a scan of it gives them.
+-- The indices of earlier entries of a log, as a scan of it finds them.
 use Rattle.std.specs.Prelude.{◌≡◌, ℕ, zero, suc, ◌+◌, ◌^◌, ◌<◌, ◌≤◌, Bool, false, ◌==◌, List, [], ◌∷◌, ◌++◌, Option, None, Some, map, take, slice_get, slice_index_or, slice_set, length, ⊤, vec_capacity, if◌then◌else◌, option_map}
 use Rattle.std.specs.List.{last_or, range_with_len}
 pub use Rattle.esr_history.specs.declared.back_links.Facts.{Facts}
@@ -73,7 +73,7 @@ earlier_at key (Some own) es = last_of_key key own es
 abbrev pub earlier : (Entry → Option ℕ) → (Entry → Option ℕ) → List Entry → ℕ → Option ℕ
 earlier key own es i = earlier_at key (option_map own (slice_get es i)) (take i es)
 
--- what is known of a transaction
+-- how a transaction began and where it ended
 abbrev pub facts_by : Option Beginning → Option ℕ → Option Facts
 facts_by None end = None
 facts_by (Some b) end = Some (record { query = b.query; limit = b.limit; end = end })
@@ -137,7 +137,7 @@ HasCapacity k l =
     × (length l.of_txn.items + k ≤ vec_capacity l.of_txn)
     × HasCapacityToBegin k l
 
--- What an accepted event leaves of the tables, where its place has the code.
+-- The tables after an accepted event whose index has this code.
 
 abbrev pub with_key : List ℕ → Option ℕ → ℕ → List ℕ
 with_key table None code = table

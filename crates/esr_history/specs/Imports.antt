@@ -1,15 +1,15 @@
--- What the transactions of a history have imported, by their numbers.
+-- The imports of a history's transactions, by their numbers.
 use Rattle.std.specs.Prelude.{◌≡◌, ℕ, false, ◌+◌, ◌==◌, List, [], ◌∷◌, ◌++◌, map, sum_by, if◌then◌else◌}
 use Rattle.std.specs.List.{range_with_len}
 use Rattle.esr_history.specs.Events.{is_refusal, TxnId, Event, BeginUpdate, BeginQuery, Reply}
 use Rattle.esr_history.specs.Machine.{Distance, Schedule, charges_in, due_in, import_in}
 use Rattle.esr_history.specs.BackLinks.{begun_count}
 
--- what these charges import to transaction t
+-- the import of transaction t by these charges
 abbrev pub imported : List (TxnId × ℕ) → ℕ → ℕ
 imported charges t = sum_by (λ c. if c.0.0 == t then c.1 else 0) charges
 
--- where the event is accepted, the charges import what is due for it
+-- if the event is accepted, the charges have the imports that the specification defines
 abbrev pub AreDue : Distance → Schedule → Event → Reply → List (TxnId × ℕ) → Type 0
 AreDue d h event reply charges =
     is_refusal reply ≡ false → (t : ℕ) → imported charges t ≡ import_in (due_in d h event) t

@@ -1,4 +1,4 @@
--- What the transactions of a history did to its items.
+-- The operations of a history's transactions on its items.
 use Rattle.std.specs.Prelude.{ℕ, ℤ, pos, List, Bool, true, false, not, Option, None, Some, filter, filter_map}
 use Rattle.esr_history.specs.Events.{is_refusal, Event, Read, Write, Commit, Reply, Value, Entry}
 use Rattle.esr_history.specs.Machine.{Schedule}
@@ -10,7 +10,7 @@ pub record Operation : Type 0 where
   pub writes : Bool
   pub value : ℤ
 
--- the value that a reply answers
+-- the value in a reply
 abbrev pub answer : Reply → ℤ
 answer (Value v) = v
 answer _ = pos 0

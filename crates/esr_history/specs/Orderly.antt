@@ -12,12 +12,12 @@ names t (Commit u) = u.0 == t
 names t (Abort u) = u.0 == t
 names t _ = false
 
--- who wrote an item
+-- the transaction that wrote an item by an event
 abbrev pub writer_of : ℕ → Event → Option ℕ
 writer_of x (Write u y v) = if y.0 == x then Some u.0 else None
 writer_of x _ = None
 
--- who wrote it last
+-- the last transaction that wrote an item
 abbrev pub last_writer : List Event → ℕ → Option ℕ
 last_writer events x = last_or None (filter_map (writer_of x) events)
 

@@ -12,7 +12,7 @@ txn_id t = record { 0 = t }
 abbrev pub item_id : ℕ → ItemId
 item_id x = record { 0 = x }
 
--- the reply that says what is in the way
+-- the reply for a blocked event
 abbrev pub blocked : BlockReason → ℕ → Reply
 blocked Lock other = Refused (BlockedByLock (txn_id other))
 blocked Import other = Refused (BlockedByImport (txn_id other))
@@ -22,7 +22,7 @@ blocked Export other = Refused (BlockedByExport (txn_id other))
 abbrev pub no_entry : Entry
 no_entry = record { event = Abort (txn_id 0); reply = Aborted }
 
--- the entry of a short form, given the list of those that have none
+-- the entry of a packed form, given the list of those that have none
 abbrev pub unpacked : List Entry → PackedEntry → Entry
 unpacked long (UpdateBegun t limit) = record { event = BeginUpdate limit; reply = Begun (txn_id t) }
 unpacked long (QueryBegun strict t limit) = record { event = BeginQuery limit strict; reply = Begun (txn_id t) }

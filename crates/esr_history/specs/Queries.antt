@@ -1,5 +1,5 @@
--- What the audit of a committed query rests on: its updates, its reads, and their distances from the values that sets
--- of updates leave.
+-- The data of the audit of a committed query: its updates, its reads, and their distances from the values that sets of
+-- updates leave.
 use Rattle.std.specs.Prelude.{◌≡◌, ℕ, ℤ, Bool, true, false, not, ◌&&◌, ◌==◌, ◌≤◌, IsTrue, List, [], filter, Contains, sum_by, unwrap_or, if◌then◌else◌, option_map}
 use Rattle.std.specs.List.{before_first}
 use Rattle.esr_history.specs.Events.{beginning, is_query, is_update, is_committed, accepted, Reply, Begun, Event, Entry}
@@ -33,7 +33,7 @@ must h q = if is_strict (accepted_in h) q then filter (is_committed (accepted (b
 abbrev pub reads_by : Schedule → ℕ → List Operation
 reads_by h q = filter (λ o. not o.writes && (o.txn == q)) (operations h)
 
--- the distance of what q read from the values w of the items
+-- the distance between the values that q read and the values w of the items
 abbrev pub distance_from : Distance → Schedule → ℕ → (ℕ → ℤ) → ℕ
 distance_from d h q w = sum_by (λ o. distance_in d h o.item o.value (w o.item)) (reads_by h q)
 
@@ -41,17 +41,17 @@ distance_from d h q w = sum_by (λ o. distance_in d h o.item o.value (w o.item))
 abbrev pub members : Schedule → ℕ → (ℕ → Bool) → List ℕ
 members h q S = filter S (updates_of h q)
 
--- the distance of what q read from the version that S leaves: its members run in commit order
+-- the distance between the values that q read and the version that S leaves: its members run in commit order
 abbrev pub cost : Distance → Schedule → ℕ → (ℕ → Bool) → ℕ
 cost d h q S = distance_from d h q (state h (members h q S))
 
--- With all its updates before it, a committed query is no farther from what it read than the import charged to it.
+-- With all its updates before it, the reads of a committed query are within the import charged to it.
 abbrev pub ImportBoundsDistance : Distance → Schedule → Type 0
 ImportBoundsDistance d h =
     (q : ℕ) → IsTrue (is_committed_query h q) → cost d h q (λ _. true) ≤ import_in (charges_in d h) q
 
--- What the audit of q rests on is the same in two histories: its updates, what it must see, their order, the cost of
--- each set, and the import.
+-- Two histories agree on the data of the audit of q: its updates, those that it must see, their order, the cost of each
+-- set, and the import.
 pub record IsAlike (d : Distance) (h longer : Schedule) (q : ℕ) : Type 0 where
   pub committed : is_committed_query longer q ≡ is_committed_query h q
   pub updates : updates_of longer q ≡ updates_of h q

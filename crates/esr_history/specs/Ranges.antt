@@ -1,4 +1,4 @@
--- How many there are of what a history keeps, and in what range.
+-- Bounds on the sizes and values of a history.
 use Rattle.std.specs.Prelude.{ℕ, ◌≤◌, ◌<◌, length, All, IsTrue}
 use Rattle.esr_items.specs.Values.{IsValue}
 use Rattle.esr_base.specs.declared.limits.TheConstants.{MAX_READS, MAX_TRANSACTIONS}

@@ -2,7 +2,7 @@
 use Rattle.std.specs.Prelude.{ℕ, List, codes, Option, None, Some}
 use Rattle.esr_history.specs.Events.{TxnId, Refusal, NoSuchTransaction, AlreadyEnded, NoSuchItem, QueryMayNotWrite, ValueOutOfRange, LimitOutOfRange, TooManyTransactions, TooManyReads, BlockedByLock, BlockedByImport, BlockedByExport}
 
--- a number, words, and the transaction that blocks the event, where one does
+-- a number, a message, and the transaction that blocks the event, if any
 pub record RefusalInfo : Type 0 where
   pub number : ℕ
   pub words : List ℕ
@@ -11,7 +11,7 @@ pub record RefusalInfo : Type 0 where
 abbrev pub info : ℕ → List ℕ → Option TxnId → RefusalInfo
 info number words blocker = record { number = number; words = words; blocker = blocker }
 
--- each refusal in turn; of the last three, what blocks the event, and whose it is
+-- the refusals in order; the message of the last three is what blocks the event
 abbrev pub refusal_info : Refusal → RefusalInfo
 refusal_info NoSuchTransaction = info 1 (codes "no such transaction") None
 refusal_info AlreadyEnded = info 2 (codes "already ended") None

@@ -8,7 +8,7 @@ use Rattle.esr_history.specs.Operations.{Operation, operations_in}
 use Rattle.esr_history.specs.Serial.{state}
 use Rattle.esr_history.specs.Queries.{is_committed_query, updates_of, reads_by, distance_from}
 
--- The distances are a metric of each item: what the laws of active queries rest on.
+-- The distances are a metric of each item, on which the laws of active queries are based.
 pub record AreDistances (d : Distance) : Type 0 where
   pub same : (w : List ℕ) (x : ℕ) (a : ℤ) → d w x a a ≡ 0
   pub symmetric : (w : List ℕ) (x : ℕ) (a b : ℤ) → d w x a b ≡ d w x b a
@@ -39,11 +39,11 @@ pub record AreReadsWithinBound (d : Distance) (h : Schedule) (q : ℕ) (read_ops
   pub held : (x : ℕ) → count_by (λ o. o.item == x) read_ops ≤ reads_of (accepted_in h) q x
   pub within : (w : ℕ → ℤ) → IsMixture h w → distance_of_reads d h read_ops w ≤ bound
 
--- what q reads in further entries
+-- the reads of q in further entries
 abbrev pub reads_in : List Entry → ℕ → List Operation
 reads_in entries q = filter (λ o. not o.writes && (o.txn == q)) (operations_in entries)
 
--- As its history continues, the bound of an active query grows by what it imports, and by no more.
+-- As its history continues, the bound of an active query grows by its further imports only.
 abbrev pub BoundGrowsByImport : Distance → Schedule → Type 0
 BoundGrowsByImport d h =
     (q : ℕ) (read_ops : List Operation) (bound : ℕ) → AreReadsWithinBound d h q read_ops bound
@@ -51,7 +51,7 @@ BoundGrowsByImport d h =
     → (more : ℕ) → import_in (charges_in d h) q + more ≡ import_in (charges_in d (along h later)) q
     → AreReadsWithinBound d (along h later) q (read_ops ++ reads_in later q) (bound + more)
 
--- Once it has committed, it is within its bound, with what it imported since, of the values that its updates left.
+-- Once it has committed, its reads are within its bound, plus its further imports, of the values that its updates left.
 abbrev pub BoundHoldsAtCommit : Distance → Schedule → Type 0
 BoundHoldsAtCommit d h =
     (q : ℕ) (read_ops : List Operation) (bound : ℕ) → AreReadsWithinBound d h q read_ops bound
@@ -59,7 +59,7 @@ BoundHoldsAtCommit d h =
     → (more : ℕ) → import_in (charges_in d h) q + more ≡ import_in (charges_in d (along h later)) q
     → distance_of_reads d h (read_ops ++ reads_in later q) (state (along h later) (updates_of (along h later) q)) ≤ bound + more
 
--- what the reads of q would be charged if each were repeated now: the charges that are open
+-- the charges of the reads of q if each were repeated now: the open charges
 abbrev pub open_import : Distance → Schedule → ℕ → ℕ
 open_import d h q =
     sum_by (λ o. distance_in d h o.item (current_value h.opening (accepted_in h) o.item)

@@ -1,4 +1,4 @@
--- The conflict order of the transactions of a history, serial orders, and what a serial run leaves (textbook).
+-- The conflict order of a history's transactions, serial orders, and the state after a serial run (textbook).
 use Rattle.std.specs.Prelude.{◌≡◌, ◌≢◌, ◌↔◌, ℕ, ℤ, Bool, false, not, ◌&&◌, ◌||◌, ◌==◌, IsTrue, List, [], ◌∷◌, ◌++◌, filter, flat_map, AllPairs, Contains}
 use Rattle.std.specs.List.{before_first, filter_map, list_any}
 use Rattle.esr_items.specs.Values.{value_at}
@@ -41,8 +41,8 @@ state h us x = last_value (value_at h.opening x) (flat_map (values_by h x) us)
 -- same values.
 pub record IsSerializable (h : Schedule) : Type 0 where
   pub serial : IsSerialOrder h (committed_updates h) (committed_updates h)
-  -- a read of x by a committed update answers its own last write of x before it, else the state after the updates ahead
-  -- of it
+  -- a read of x by a committed update returns its own last earlier write of x, or else the value in the state after the
+  -- updates before it
   pub reads : (before after : List Entry) (t : TxnId) (x : ItemId) (v : ℤ)
       → h.entries ≡ before ++ record { event = Read t x; reply = Value v } ∷ after
       → IsTrue (is_update (accepted_in h) t.0 && is_committed (accepted_in h) t.0)

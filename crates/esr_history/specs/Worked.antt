@@ -26,7 +26,7 @@ txn t = record { 0 = t }
 abbrev pub item : ℕ → ItemId
 item x = record { 0 = x }
 
--- a query reads what an active update has written, within its limit
+-- a query reads a value that an active update has written, within its limit
 abbrev report_concurrent_with_writer : Schedule
 report_concurrent_with_writer =
     played (started_from (pos 100 ∷ []))

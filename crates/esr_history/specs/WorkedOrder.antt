@@ -6,7 +6,7 @@ use Rattle.esr_history.specs.Worked.{plain, started_from, played, replies, txn, 
 use Rattle.esr_history.specs.Serial.{is_before, committed_updates, state}
 use Rattle.esr_history.specs.Queries.{updates_of, must, cost}
 
--- One update wrote what the next read, so that a query which saw the second has seen the first.
+-- One update wrote a value that the next read, so that a query which saw the second has seen the first.
 abbrev pub order_through_a_third_item : Schedule
 order_through_a_third_item =
     played (started_from (pos 0 ∷ pos 0 ∷ pos 0 ∷ [])) (
@@ -44,7 +44,7 @@ third_item_costs = refl
 third_item_import : import_in (charges_in plain order_through_a_third_item) 1 ≡ 6
 third_item_import = refl
 
--- Two updates write what a report has read.
+-- Two updates write items that a report has read.
 abbrev pub two_updates_over_a_report : Schedule
 two_updates_over_a_report =
     played (started_from (pos 0 ∷ pos 0 ∷ [])) (
@@ -60,7 +60,7 @@ two_updates_costs = refl
 two_updates_import : import_in (charges_in plain two_updates_over_a_report) 1 ≡ 19
 two_updates_import = refl
 
--- What committed before a strict query began is before it.
+-- Updates that committed before a strict query began are before it.
 abbrev pub strict_report : Bool → Schedule
 strict_report strict =
     played (started_from (pos 0 ∷ [])) (

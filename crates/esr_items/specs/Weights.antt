@@ -1,4 +1,4 @@
--- Weights of items, and the distance that they give, with its laws.
+-- Weights of items, the distance that they define, and its laws.
 use Rattle.std.proofs.Common.{◌∙◌, sym, ap, arith, ◌≡◌, ℕ, ℤ, ◌+◌, ◌*◌, ◌≤◌, Bool, ◌&&◌, cond, nat_le, List, slice_index_or}
 use Rattle.std.proofs.lemmas.Bool.Decides.{nat_tests}
 use Rattle.std.proofs.Math.Nat.{mul-add, mul-zero, mul-le-mul, mul-le-mul_left, eq_of_mul-eq-mul_left}
@@ -10,7 +10,7 @@ use Rattle.esr_items.specs.Gaps.{gap-zero, gap-same, gap_comm, gap-triangle, gap
 abbrev pub IsWeight : ℕ → Type 0
 IsWeight w = (1 ≤ w) × (w ≤ MAX_WEIGHT)
 
--- the same as a test
+-- the same predicate as a test
 abbrev pub is_weight : ℕ → Bool
 is_weight w = nat_le 1 w && nat_le w MAX_WEIGHT
 

@@ -1,4 +1,4 @@
--- The accounts of transactions: what queries have imported and updates have exported.
+-- The accounts of transactions: the imports of queries and the exports of updates.
 use Rattle.std.specs.Prelude.{◌≡◌, ℕ, ◌+◌, ◌<◌, ◌≤◌, ◌^◌, List, [], ◌∷◌, Bool, true, false, not, ◌==◌, nat_lt, Option, None, Some, unwrap_or, find, map, sum_by, All, if◌then◌else◌, option_map}
 use Rattle.std.specs.List.{list_any, AllByRecursion}
 use Rattle.esr_base.specs.declared.numbers.TxnId.{TxnId}
@@ -52,7 +52,7 @@ quoted (Some c) over u = Import c.0
 quoted None true u = Export u
 quoted None false u = Fits
 
--- the first query whose limit would be passed, else the update if the sum would pass its limit
+-- the first query whose limit would be exceeded, else the update if the sum would exceed its limit
 abbrev pub quote_of : List Account → TxnId → List (TxnId × ℕ) → Quote
 quote_of accounts u charges =
     quoted (find (λ c. would_pass accounts c.0.0 c.1) charges) (would_pass accounts u.0 (total_of charges)) u
@@ -76,7 +76,7 @@ pub record AreCharges (accounts : List Account) (u : TxnId) (charges : List (Txn
   pub queries : All (λ c. is_open_query accounts c.0.0 ≡ true) charges
   pub ascending : IsAscendingBy (λ c. c.0.0) charges
 
--- what all queries have imported, and all updates exported
+-- the total imports of all queries, and the total exports of all updates
 abbrev pub imports : List Account → ℕ
 imports accounts = sum_by (λ a. if is_query_kind a.kind then a.amount else 0) accounts
 

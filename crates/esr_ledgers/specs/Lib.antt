@@ -1,3 +1,3 @@
--- What the accounts of transactions are to their callers.
+-- The accounts of transactions, as their callers see them.
 
 pub mod Books

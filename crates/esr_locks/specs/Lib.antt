@@ -1,4 +1,4 @@
--- What a lock table is to its callers: modes, the row of an item, and what one more lock or a release changes.
+-- Lock tables as their callers see them: modes, the row of an item, and the effect of one more lock and of a release.
 
 pub mod Modes
 pub mod Tables

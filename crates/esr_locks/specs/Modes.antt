@@ -3,7 +3,7 @@ use Rattle.std.specs.Prelude.{Bool, true, false}
 pub use Rattle.esr_locks.specs.declared.mode.Mode.{Mode}
 pub use Rattle.esr_locks.specs.declared.mode.Mode.TheVariants.{Read, Write, QueryRead}
 
--- whether a lock that one transaction holds keeps another from one that it asks for
+-- whether a held lock of one mode conflicts with a request of another transaction for the other mode
 abbrev pub conflicts : Mode → Mode → Bool
 conflicts Read Write = true
 conflicts Write Read = true

@@ -63,7 +63,7 @@ with_writer t l = record l { writer = Some t }
 abbrev pub with_query_read : ℕ → ItemLocks → ItemLocks
 with_query_read q l = record l { queries = upserted (λ r. r.0) q (q, 1) (λ r. (r.0, r.1 + 1)) l.queries }
 
--- the locks where transaction t holds none any more
+-- the locks after transaction t has released its own
 abbrev pub released : ℕ → ItemLocks → ItemLocks
 released t l = record {
   writer = if is_writer l t then None else l.writer;

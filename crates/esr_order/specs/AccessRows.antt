@@ -1,4 +1,4 @@
--- Rows of what transactions did, by their numbers.
+-- Rows of transactions' accesses, by transaction number.
 use Rattle.std.specs.Prelude.{◌≡◌, ◌≤◌, ◌⊎◌, ◌-◌, ℕ, IsTrue, List, [], take, drop, slice_index_or}
 use Rattle.esr_history.specs.declared.event.Entry.{Entry}
 use Rattle.esr_history.specs.Events.{accepted, is_committed}
@@ -10,7 +10,7 @@ pub record IsWithin (n : ℕ) (span : RowSpan) : Type 0 where
   pub ordered : span.begin ≤ span.end
   pub inside : span.end ≤ n
 
--- what lies there
+-- the accesses in these bounds
 abbrev pub row_in : List Access → RowSpan → List Access
 row_in accesses span = take (span.end - span.begin) (drop span.begin accesses)
 

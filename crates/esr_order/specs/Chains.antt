@@ -67,7 +67,7 @@ last_in writes i = last_of (map (λ s. s.value) (filter (λ s. s.place == i) wri
 abbrev pub last_by_update : List UpdateOperation → ℕ → ℕ → Option ℤ
 last_by_update operations x i = last_in (filter (λ s. s.writes && (s.item == x)) operations) i
 
--- A chain that goes back, from the last writer to the first.
+-- A chain in reverse order, from the last writer to the first.
 
 -- the writer that was added last
 abbrev pub latest_writer : Chain → Option ℕ

@@ -1,11 +1,11 @@
--- What an index of a history has.
+-- The contents of an index of a history.
 use Rattle.std.specs.Prelude.{◌≡◌, ◌≤◌, ℕ, List, length, take, filter_map}
 use Rattle.esr_base.specs.declared.numbers.TxnId.{TxnId}
 use Rattle.esr_history.specs.declared.event.Entry.{Entry}
 use Rattle.esr_order.specs.Scans.{Access, commit_in}
 use Rattle.esr_order.specs.AccessRows.{AreRowsOf}
 
--- how many entries were read, who committed in them, and what updates among these did
+-- the number of entries read, the transactions that committed in them, and the accesses of the updates among these
 pub record Indexed : Type 0 where
   pub read : ℕ
   pub commits : List TxnId

@@ -11,7 +11,7 @@ abbrev pub parts : List ℕ → List (List ℕ)
 parts [] = [] ∷ []
 parts (u ∷ us) = map (λ part. u ∷ part) (parts us) ++ parts us
 
--- whether a part has, with each member, all updates of q that are before it, and what q must see
+-- whether a part contains, with each member, all updates of q that precede it, and those that q must see
 abbrev pub is_closed_part : Schedule → ℕ → List ℕ → Bool
 is_closed_part h q part =
     list_all (λ v. list_all (λ u. not (is_before h u v) || is_among part u) (updates_of h q)) part
@@ -30,10 +30,10 @@ is_least_part d h q part =
 abbrev pub least_parts : Distance → Schedule → ℕ → List (List ℕ)
 least_parts d h q = filter (is_least_part d h q) (closed_parts h q)
 
--- what all of them have, in commit order
+-- their intersection, in commit order
 abbrev pub least_set : Distance → Schedule → ℕ → List ℕ
 least_set d h q = filter (λ u. list_all (λ part. is_among part u) (least_parts d h q)) (updates_of h q)
 
--- and what that costs
+-- and its cost
 abbrev pub least_cost : Distance → Schedule → ℕ → ℕ
 least_cost d h q = cost d h q (is_among (least_set d h q))

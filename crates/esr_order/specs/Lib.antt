@@ -1,5 +1,5 @@
--- Placements of a query and the order that they keep. `Placements`, `Near` and `Statements` are what audits rest
--- on; the other modules say what is found on the way through a log.
+-- Placements of a query and the order that they respect. Audits are based on `Placements`, `Near` and `Statements`; the
+-- other modules describe intermediate results of scanning a log.
 
 pub mod Placements
 pub mod Least

@@ -1,4 +1,4 @@
--- Which updates of a query matter to what it read.
+-- The updates of a query that can affect its reads.
 use Rattle.std.specs.Prelude.{◌≡◌, ◌↔◌, ◌⊎◌, ℕ, Bool, IsTrue, List, [], ◌∷◌, Contains, filter}
 use Rattle.std.specs.List.{list_any}
 use Rattle.esr_history.specs.Events.{writes}

@@ -10,7 +10,7 @@ use Rattle.esr_order.specs.Placements.{is_among, IsClosed}
 use Rattle.esr_order.specs.Chains.{Chain, some_chain, update_at, chain_of, nth, chain_among}
 use Rattle.esr_order.specs.ConflictPairs.{IsLexLess}
 
--- what an order is to contracts
+-- an order as contracts see it
 pub record Ordered : Type 0 where
   pub commits : List TxnId
   pub before : List (ℕ × ℕ)
@@ -25,7 +25,7 @@ written_chain (Some c) = some_chain c
 abbrev pub chain_at : Ordered → ℕ → Option Chain
 chain_at o x = written_chain (slice_get o.chains x)
 
--- as the order has it, S has what q must see, and with an update all that are before it
+-- S is closed by the pairs of the order, and contains the updates that q must see
 pub record IsClosedIn (h : Schedule) (q : ℕ) (o : Ordered) (S : ℕ → Bool) : Type 0 where
   pub downward : All (λ p. IsTrue (S (update_at h q p.1)) → IsTrue (S (update_at h q p.0))) o.before
   pub holds_must : All (λ i. IsTrue (S (update_at h q i))) o.must
@@ -34,8 +34,8 @@ pub record IsClosedIn (h : Schedule) (q : ℕ) (o : Ordered) (S : ℕ → Bool) 
 abbrev pub operations_of : Schedule → ℕ → List Operation
 operations_of h q = filter (λ o. is_among (updates_of h q) o.txn) (operations h)
 
--- The updates that committed before q did, and what is needed of their conflict order and their versions. Updates are
--- given by their positions in commit order.
+-- The updates that committed before q, with the necessary parts of their conflict order and their versions. Updates are
+-- identified by their positions in commit order.
 pub record IsOrderOf (h : Schedule) (q : ℕ) (o : Ordered) : Type 0 where
   pub commits : map (λ t. t.0) o.commits ≡ updates_of h q
   pub serial : IsSerialOrder h (updates_of h q) (updates_of h q)

@@ -1,5 +1,4 @@
--- Where a committed query could have read: the placements in serial orders of its updates, and the closed sets of its
--- updates.
+-- The placements of a committed query in serial orders of its updates, and the closed sets of its updates.
 use Rattle.std.specs.Prelude.{◌≡◌, ◌≤◌, ℕ, Bool, IsTrue, List, ◌==◌, take, length, Contains, All}
 use Rattle.std.specs.List.{list_any}
 use Rattle.esr_history.specs.Machine.{Distance, Schedule}
@@ -10,13 +9,14 @@ use Rattle.esr_history.specs.Queries.{updates_of, must, distance_from, cost}
 abbrev pub is_among : List ℕ → ℕ → Bool
 is_among us u = list_any (λ v. v == u) us
 
--- a serial order of the updates of q, and a position in it; the part before the position has what q must see
+-- a serial order of the updates of q, and a position in it; the prefix before the position contains those that q must
+-- see
 pub record IsPlacement (h : Schedule) (q : ℕ) (order : List ℕ) (position : ℕ) : Type 0 where
   pub serial : IsSerialOrder h (updates_of h q) order
   pub within : position ≤ length order
   pub holds_must : (u : ℕ) → Contains (must h q) u → Contains (take position order) u
 
--- the distance of what q read from the serial state at the position
+-- the distance between the values that q read and the serial state at the position
 abbrev pub placement_distance : Distance → Schedule → ℕ → List ℕ → ℕ → ℕ
 placement_distance d h q order position = distance_from d h q (state h (take position order))
 
@@ -28,7 +28,7 @@ pub record IsLeastDistance (d : Distance) (h : Schedule) (q : ℕ) (n : ℕ) : T
   pub has : placement_distance d h q order position ≡ n
   pub none_less : (other : List ℕ) (k : ℕ) → IsPlacement h q other k → n ≤ placement_distance d h q other k
 
--- with an update of q, S has all updates of q that are before it; and it has what q must see
+-- S contains, with an update of q, all updates of q that precede it, and those that q must see
 pub record IsClosed (h : Schedule) (q : ℕ) (S : ℕ → Bool) : Type 0 where
   pub downward : (u v : ℕ) → Contains (updates_of h q) u → Contains (updates_of h q) v → IsTrue (is_before h u v)
       → IsTrue (S v) → IsTrue (S u)

@@ -1,4 +1,4 @@
--- What the entries of a log give, where they are accepted.
+-- The contents of accepted entries of a log.
 use Rattle.std.specs.Prelude.{◌≡◌, ℕ, List, [], ◌∷◌, Bool, true, false, ◌==◌, Option, None, Some, Contains, is_some, filter, map, nat_lt, slice_get, if◌then◌else◌, option_map}
 use Rattle.esr_base.specs.declared.numbers.TxnId.{TxnId}
 use Rattle.esr_history.specs.declared.event.Event.{Event}
@@ -62,14 +62,14 @@ abbrev pub is_strict_begin : Option Entry → Bool
 is_strict_begin None = false
 is_strict_begin (Some e) = begins_strictly e.event
 
--- what was done in an entry, if that is an accepted read or write
+-- the access of an operation
 abbrev pub access_of : Operation → Access
 access_of o = record { item = record { 0 = o.item }; writes = o.writes; value = o.value }
 
 abbrev pub access_in : Entry → Option Access
 access_in e = if_accepted (λ n. option_map access_of (operation_of n)) e
 
--- what was done in the entry at a place, if there is one
+-- the access of an entry, if there is one and it is an accepted read or write
 abbrev pub access_by : Option Entry → Option Access
 access_by None = None
 access_by (Some e) = access_in e
@@ -77,6 +77,6 @@ access_by (Some e) = access_in e
 abbrev pub access_at : List Entry → ℕ → Option Access
 access_at es i = access_by (slice_get es i)
 
--- what t read and wrote, in order
+-- the reads and writes of t, in order
 abbrev pub accesses_in : List Entry → ℕ → List Access
 accesses_in entries t = map access_of (filter (λ o. o.txn == t) (operations_in entries))

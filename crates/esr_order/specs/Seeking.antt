@@ -1,4 +1,4 @@
--- What a search back from a query has come by: the items that the query and the near updates read, and those that these
+-- The state of a backward search from a query: the items that the query and the near updates read, and those that these
 -- updates wrote.
 use Rattle.std.specs.Prelude.{ℕ, Bool, false, not, ◌&&◌, ◌||◌, ◌==◌, List, slice_index_or, if◌then◌else◌}
 use Rattle.esr_order.specs.Scans.{Access}

@@ -22,7 +22,7 @@ pub record ClosedSetsAreParts (d : Distance) (h : Schedule) (q : ℕ) : Type 0 w
 abbrev pub LawOfPlacements : Type 0
 LawOfPlacements = (d : Distance) (h : Schedule) (q : ℕ) → IsLegal d h → ClosedSetsAreParts d h q
 
--- What the audit of a committed query rests on is the same in every longer legal history.
+-- The data of the audit of a committed query are the same in every longer legal history.
 abbrev pub LawOfLongerHistories : Type 0
 LawOfLongerHistories =
     (d : Distance) (h : Schedule) (rest : List Entry) (q : ℕ) → IsLegal d (along h rest)

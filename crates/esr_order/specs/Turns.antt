@@ -1,4 +1,4 @@
--- What updates did, one update after another in commit order.
+-- The operations of updates, one update after another in commit order.
 use Rattle.std.specs.Prelude.{ℕ, List, [], ◌∷◌, ◌++◌, ◌+◌, ◌==◌, filter, map}
 use Rattle.esr_base.specs.declared.numbers.TxnId.{TxnId}
 use Rattle.esr_history.specs.Machine.{Schedule}
@@ -22,6 +22,6 @@ abbrev pub turns : List Operation → ℕ → List ℕ → List UpdateOperation
 turns os i [] = []
 turns os i (t ∷ ts) = turn os i t ++ turns os (i + 1) ts
 
--- what some updates did
+-- the operations of some updates
 abbrev pub update_operations : Schedule → List TxnId → List UpdateOperation
 update_operations h updates = turns (operations h) 0 (map (λ t. t.0) updates)

@@ -1,5 +1,5 @@
--- An accepted read or write of an update, which is given by its position in commit order. The value is the one that was
--- read, or the one that was written.
+-- An accepted read or write of an update, which is identified by its position in commit order, with the value read or
+-- written.
 use Rattle.std.specs.Prelude.{ℕ, ℤ, Bool}
 
 pub record UpdateOperation : Type 0 where

@@ -45,8 +45,8 @@ two_updates_cost = refl
 strict_least : least_set plain (strict_report true) 2 ≡ 1 ∷ []
 strict_least = refl
 
--- What an update has written while it runs, when it has committed, and in the whole history: once it has committed, which
--- is when it gets a row, nothing is added.
+-- The writes of an update while it runs, when it has committed, and in the whole history: after its commit, when it
+-- gets a row, none is added.
 abbrev wrote : ℕ → ℤ → Access
 wrote x v = record { item = record { 0 = x }; writes = true; value = v }
 

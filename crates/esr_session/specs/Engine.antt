@@ -1,4 +1,4 @@
--- What contracts see of an engine.
+-- An engine as contracts see it.
 use Rattle.std.specs.Prelude.{◌≡◌, ◌≤◌, ℕ, ℤ, Bool, true, false, List, Err, length}
 use Rattle.esr_base.specs.declared.limits.TheConstants.{MAX_ENTRIES}
 use Rattle.esr_history.specs.Machine.{Distance, Schedule, IsLegal}

@@ -87,7 +87,7 @@ pub record IsFirstForeign (entries : List Entry) (lists : List (List Receipt)) (
   pub before : AllGood entries [] done
   pub foreign : IsForeignIn entries (receipts_in done) list r
 
--- what a comparison of receipts with a history answers
+-- the result of comparing receipts with a history
 abbrev pub IsVerdict : List Entry → List (List Receipt) → Result (Unit {0}) CloseError → Type 0
 IsVerdict entries lists (Ok _) = Matches entries lists
 IsVerdict entries lists (Err (SessionMissing gathered total)) =
