@@ -98,6 +98,6 @@ few_queries d h legal =
     shorter : (us : List ℕ) (n : ℕ) → length (0 ∷ us) ≤ 1 + n → n ≤ 65535 → length us ≤ 65535
     shorter us n l m = omega arith
 
--- who is among the committed queries has committed
+-- a transaction among the committed queries has committed
 pub query_committed : (h : Schedule) (q : ℕ) → In q (committed_queries h) → is_committed (accepted_in h) q ≡ true
 query_committed h q i = committed_among (accepted_in h) q ∙ any-from_number (commit_order (accepted_in h)) q (In-of_filter (is_query (accepted_in h)) (commit_order (accepted_in h)) q i).0

@@ -1,4 +1,4 @@
--- The costs of the sets of a problem are those of the query that it stands for.
+-- The costs of the sets of a problem are those of the query that it represents.
 use Rattle.std.proofs.Common.{◌≡◌, ℕ, zero, suc, ℤ, ◌+◌, ◌<◌, ◌≤◌, Bool, true, false, cond, ◌||◌, eqb, List, [], ◌∷◌, length, filter, map, get_or, sum_by, refl, sym, ap, ◌∙◌, subst, inl, inr, arith}
 use Rattle.std.specs.List.{list_any, range_with_len, AllByRecursion}
 use Rattle.std.proofs.lemmas.Bool.{cases_eq, eq-eqb, ne_eqb}
@@ -76,7 +76,7 @@ by_item g P n (o ∷ os) a =
     let rest = by_item g P n os a.1 in
     omega (arith, first, rest, sum_by-cons (λ (o : Operation). g o.item o) o os))
 
--- Where the items that q read are below the count of items, the distance of its reads is the sum over these items.
+-- If the items that q read are below the count of items, the distance of its reads is the sum over these items.
 pub distance_by_item : (d : Distance) (h : Schedule) (q : ℕ) (w : ℕ → ℤ) → AllByRecursion (λ (o : Operation). o.item < length h.opening) (reads_by h q)
     → sum_by (λ x. read_distance d h q x (w x)) (items_read h q) ≡ distance_from d h q w
 distance_by_item d h q w inside =

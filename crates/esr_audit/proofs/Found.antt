@@ -1,4 +1,4 @@
--- A solved problem of a query gives the audit's answer.
+-- A solved problem of a query yields the audit's result.
 use Rattle.std.proofs.Common.{◌≡◌, ℕ, zero, suc, [], ◌∷◌, map, Option, Some, None, ◌<◌, ◌≤◌, true, not, eqb, ◌&&◌, List, length, refl, sym, ap, ◌∙◌, arith, All, IsTrue, option_map}
 use Rattle.esr_base.specs.declared.numbers.TxnId.{TxnId}
 use Rattle.std.specs.List.{cons_option, filter_map, slice_get, AllByRecursion}
@@ -76,7 +76,7 @@ module _ (d : Distance) (h : Schedule) (q : ℕ) (opened : All IsValue h.opening
       let parts : ClosedSetsAreParts d h q = law_of_placements d h q legal in
       (parts.least c.worth).1 (is_among before, least, sym (cost_is p c f ∙ costs ∙ cost_is_distance d h q p of_query inside (is_among before)))
 
--- what is found, with its list of updates
+-- the finding, with its list of updates
 pub found_of : (p : Problem) (us vs : List TxnId) → map (λ (t : TxnId). t.0) us ≡ p.updates → (set : List ℕ) → vs ≡ filter_map (slice_get us) set → map (λ (t : TxnId). t.0) vs ≡ filter_map (slice_get p.updates) set
 found_of p us vs a set b = ap (map (λ (t : TxnId). t.0)) b ∙ each set ∙ ap (λ (ns : List ℕ). filter_map (slice_get ns) set) a
   where

@@ -103,7 +103,7 @@ values_append (r ∷ before) after x = at (eqb r.item x) (values_append before a
 pub values_more : (reads : List ItemRead) (i x : ℕ) (d : ItemRead) → i < length reads → values_of (take (i + 1) reads) x ≡ values_of (take i reads) x ++ values_of (get_or reads i d ∷ []) x
 values_more reads i x d l = ap (λ rs. values_of rs x) (take_more reads i d l) ∙ values_append (take i reads) (get_or reads i d ∷ []) x
 
--- an item was read where there is a value
+-- an item was read if there is a value
 pub none_read : (reads : List ItemRead) (x : ℕ) → length (values_of reads x) ≡ 0 → list_any (λ (r : ItemRead). eqb r.item x) reads ≡ false
 none_read [] x e = refl
 none_read (r ∷ reads) x e = at (eqb r.item x) e (none_read reads x)

@@ -1,4 +1,4 @@
--- What is gathered are the reads of the query.
+-- The gathered reads are the reads of the query.
 use Rattle.std.proofs.Common.{◌≡◌, ℕ, ◌≤◌, ◌<◌, not, List, [], ◌∷◌, length, filter, map, refl, ap, ◌∙◌, arith, All, IsTrue}
 use Rattle.std.specs.List.{AllByRecursion}
 use Rattle.std.proofs.lemmas.List.{length-map}

@@ -1,5 +1,5 @@
--- Why the problem that is gathered stands for its query (`ProblemOf`, `BuiltProblem`), and its answer is the audit's, also
--- in longer histories (`Found`, `Stays`).
+-- The problem that is gathered represents its query (`ProblemOf`, `BuiltProblem`), and its solution is the audit's
+-- result, also in longer histories (`Found`, `Stays`).
 
 pub mod Values
 pub mod Places

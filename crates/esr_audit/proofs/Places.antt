@@ -55,7 +55,7 @@ alike_from us S W (u ∷ rest) a g =
     at true e false f more = let bad : true ≡ false = sym e ∙ passes_here us a u rest W g ∙ f in cc
     at false e true f more = let bad : false ≡ true = sym e ∙ passes_here us a u rest W g ∙ f in cc
 
--- the places of those that pass W stand for them
+-- the indices of those that pass W represent them
 pub places_alike : (us : List ℕ) (S W : ℕ → Bool) → Alike (passes_at us S) S (places us W) (filter W us)
 places_alike us S W = alike_from us S W us 0 (λ k. ap (slice_get us) (let e : 0 + k ≡ k = omega arith in e))
 

@@ -13,7 +13,7 @@ in_set_at [] i u e = absurd (cc)
 in_set_at (w ∷ us) zero u e = or_left (eqb w u) (in_set us u) (eq-eqb w u (same_Some w u e))
 in_set_at (w ∷ us) (suc i) u e = or_right (eqb w u) (in_set us u) (in_set_at us i u e)
 
--- where no number occurs twice, it has one place
+-- if no number occurs twice, it has one index
 same_place : (us : List ℕ) (i j u : ℕ) → is_distinct us ≡ true → slice_get us i ≡ Some u → slice_get us j ≡ Some u → i ≡ j
 same_place [] i j u dist a b = absurd (cc)
 same_place (w ∷ us) zero zero u dist a b = refl
@@ -25,7 +25,7 @@ same_place (w ∷ us) (suc i) zero u dist a b =
     absurd (true≢false (sym (in_set_at us i u a) ∙ ap (in_set us) (sym (same_Some w u b)) ∙ not-true (in_set us w) new))
 same_place (w ∷ us) (suc i) (suc j) u dist a b = ap suc (same_place us i j u (and_parts (not (in_set us w)) (is_distinct us) dist).1 a b)
 
--- a transaction is among those at some positions where its own position is one of them
+-- a transaction is among those at some positions if and only if its own position is one of them
 pub among_at : (us : List ℕ) → is_distinct us ≡ true → (set : List ℕ) → list_all (λ x. nat_lt x (length us)) set ≡ true → (i u : ℕ) → slice_get us i ≡ Some u → is_among (filter_map (slice_get us) set) u ≡ in_set set i
 among_at us dist [] known i u e = refl
 among_at us dist (j ∷ set) known i u e =

@@ -1,4 +1,4 @@
--- The problem gathered from an order of a query stands for the query.
+-- The problem gathered from an order of a query represents the query.
 use Rattle.std.proofs.Common.{◌≡◌, ◌≢◌, ℕ, zero, suc, ◌+◌, ◌<◌, ◌≤◌, ◌↔◌, Bool, true, ◌&&◌, ◌||◌, eqb, List, [], ◌∷◌, length, filter, map, refl, sym, ap, ◌∙◌, subst, inl, inr, arith, Some, Contains, All, AllPairs, IsTrue, nat_lt}
 use Rattle.std.specs.List.{list_any, slice_get, range_with_len, AllByRecursion}
 use Rattle.std.proofs.lemmas.Bool.{cases_eq, eqb-true, eq-eqb, ne_eqb, and_from, lt-ltb}

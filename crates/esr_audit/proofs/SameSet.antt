@@ -32,7 +32,7 @@ head_least x xs h u t =
 head_in : (x : ℕ) (xs : List ℕ) → in_set (x ∷ xs) x ≡ true
 head_in x xs = or_left (eqb x x) (in_set xs x) (eq-eqb x x refl)
 
--- where two ascending lists have the same members, so have their rests
+-- if two ascending lists have the same members, so have their tails
 rests_same : (x : ℕ) (xs ys : List ℕ) → is_ascending (x ∷ xs) ≡ true → ((u : ℕ) → in_set (x ∷ xs) u ≡ true → in_set (x ∷ ys) u ≡ true) → (u : ℕ) → in_set xs u ≡ true → in_set ys u ≡ true
 rests_same x xs ys h same u t =
     let above : x < u = tail_above x xs h u t in

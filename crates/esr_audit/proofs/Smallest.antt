@@ -1,4 +1,4 @@
--- The smallest least set of a problem is that of the query that it stands for.
+-- The smallest set of least cost of a problem is that of the query that it represents.
 use Rattle.std.proofs.Common.{◌≡◌, ℕ, zero, suc, ◌<◌, ◌≤◌, Bool, true, false, ◌&&◌, ◌||◌, eqb, List, [], ◌∷◌, length, refl, sym, ap, ◌∙◌, subst, inl, inr, arith, Option, Some, None, IsTrue}
 use Rattle.std.specs.List.{filter_map, cons_option, slice_get, AllByRecursion}
 use Rattle.std.proofs.Math.Path.{fun_ext}

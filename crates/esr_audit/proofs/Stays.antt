@@ -1,4 +1,4 @@
--- The answer of an audit stays in longer histories.
+-- The result of an audit holds in longer histories.
 use Rattle.std.proofs.Common.{◌≡◌, ℕ, ◌≤◌, Bool, true, List, [], ◌∷◌, sym, ap, ◌∙◌, subst, arith, filter, map, Contains, Ok, Err, inl, inr, ⊎_elim, All, IsTrue, Result, IfOk}
 use Rattle.std.proofs.lemmas.List.Elements.{All-from_recursion, recursion_from_All, All-nil, All-cons, All-head, All-tail, All-same, All-map}
 use Rattle.esr_base.specs.declared.numbers.TxnId.{TxnId}
@@ -68,7 +68,7 @@ module _ (d : Distance) (h longer : Schedule) (q : ℕ) (alike : IsAlike d h lon
         bounded = a.bounded;
       }
 
--- the answer to a query that has committed
+-- the result for a query that has committed
 pub stays : (d : Distance) (h : Schedule) (q distance import : ℕ) (before : List ℕ) → is_committed (accepted_in h) q ≡ true → IsAnswer d h q distance import before
     → (rest : List Entry) → IsLegal d (along h rest) → IsAnswer d (along h rest) q distance import before
 stays d h q distance import before committed a = λ rest legal. answer_stays d h (along h rest) q (audit_stays d h rest q legal committed) legal distance import before a
@@ -92,7 +92,7 @@ pub findings_stay : (d : Distance) (h : Schedule) (r : Result Book AuditError)
 findings_stay d h (Err e) book = tt
 findings_stay d h (Ok b) book = findings_answer d h b.findings.items book.queries book.findings
 
--- the answers of summaries are those of the findings
+-- the results of summaries are those of the findings
 abbrev IsAnswerIn : Distance → Schedule → ℕ × ℕ × ℕ × List ℕ → Type 0
 IsAnswerIn d h t = IsAnswer d h t.0 t.1 t.2 t.3
 

@@ -23,7 +23,7 @@ longer first end le =
 pub one_more : (ss : List TxnRange) (s : TxnRange) → flat_map numbers_in (ss ++ s ∷ []) ≡ flat_map numbers_in ss ++ numbers_in s
 one_more ss s = flat_map-append numbers_in ss (s ∷ []) ∙ ap (λ l. flat_map numbers_in ss ++ l) (append-nil (numbers_in s))
 
--- the last stretch goes on
+-- the last interval is extended
 pub continues : (ss : List TxnRange) (s : TxnRange) (n end : ℕ) → s.first ≤ s.end → s.end ≡ n → end ≡ n + 1
     → flat_map numbers_in ss ++ range_with_len s.first (end - s.first) ≡ flat_map numbers_in ss ++ numbers_in s ++ n ∷ []
 continues ss s n end le is next =

@@ -59,7 +59,7 @@ version_leaves w S (u ∷ ws) v a =
           ∙ sym (ap (λ xs. last_value v (flat_map w xs)) (none_pass S (u ∷ ws) none))
     ]
 
--- who did not write the item left no value, and who did left one
+-- an update leaves a value of the item if and only if it wrote the item
 pub values_none : (x u : ℕ) (es : List Event) → list_any (writes u x) es ≡ false → filter_map (written (λ t. eqb t u) x) es ≡ []
 values_none x u [] h = refl
 values_none x u (BeginUpdate l ∷ es) h = values_none x u es h

@@ -40,7 +40,7 @@ module _ (h : Schedule) (x : ℕ) where
       at true e = ap is_some (last_some (value_at h.opening x) (values_by h x u) (values_some x u (accepted_in h) e))
       at false e = ap (λ vs. is_some (last_of vs)) (values_none x u (accepted_in h) e)
 
-  -- the last values of those who wrote
+  -- the last values of the writers
   values_of_writers : (o : ℤ) (us : List ℕ) → filter_map (λ u. last_of (values_by h x u)) us ≡ map (λ u. last_value o (values_by h x u)) (filter (has_written h x) us)
   values_of_writers o [] = refl
   values_of_writers o (u ∷ us) = at (has_written h x u) refl (values_of_writers o us)
@@ -75,7 +75,7 @@ after_each w o (u ∷ ws) a all =
     fresh [] b = refl
     fresh (t ∷ vs) b = ap (λ v. v ∷ map (λ t. last_value (last_value o (w u)) (w t)) vs) (last_value-some (w t) (last_value o (w u)) o b.0) ∙ ap (λ ys. last_value o (w t) ∷ ys) (fresh vs b.1)
 
--- what holds of the elements of a list holds at its places
+-- a property of the elements of a list holds at its indices
 given_places : {Y : Type 0} (f : ℕ → Option Y) (us rest : List ℕ) (a : ℕ) → ((k : ℕ) → slice_get us (a + k) ≡ slice_get rest k) → filter_map (λ i. f (slice_index_or us i 0)) (range_with_len a (length rest)) ≡ filter_map f rest
 given_places f us [] a g = refl
 given_places f us (u ∷ rest) a g =
@@ -156,7 +156,7 @@ versions_from f n = ap (λ ys. f 0 ∷ ys) (moved 0 n)
     moved a zero = refl
     moved a (suc n) = let e : suc a ≡ a + 1 = omega arith in ap (λ v. f v ∷ map (λ j. f (suc j)) (range_with_len (a + 1) n)) e ∙ ap (λ ys. f (a + 1) ∷ ys) (moved (a + 1) n)
 
--- the values in an order are what the first writers leave
+-- the values in an order are those that the first writers leave
 pub versions_are : (h : Schedule) (us : List ℕ) (o : Ordered) (x : ℕ) → chain_at o x ≡ chain_among h us x
     → values_in (chain_at o x) ≡ map (λ j. state h (take (suc j) (filter (has_written h x) us)) x) (range_with_len 0 (length (filter (has_written h x) us)))
 versions_are h us o x is =
@@ -165,7 +165,7 @@ versions_are h us o x is =
     ap length (chain_values h us x) ∙ length-map-range_with_len (λ j. state h (take (suc j) (filter (has_written h x) us)) x) 0 (length (filter (has_written h x) us)) ∙ sym (ap length (chain_writers h us x) ∙ length-places us (has_written h x)) in
     ap values_in is ∙ written_values c equal ∙ chain_values h us x
 
--- the chain that is gathered of an item is that of the problem that stands for the query, where all its writers are listed
+-- the chain that is gathered of an item is that of the problem that represents the query, if all its writers are listed
 pub gathered_is_chain : (d : Distance) (h : Schedule) (q : ℕ) (us : List ℕ) (o : Ordered) (x : ℕ) → chain_at o x ≡ chain_among h us x → filter (has_written h x) us ≡ writers_of h q x
     → audit_chain (distance_in d h) h.opening o (map item_read_of (reads_by h q)) x ≡ chain_for d h q us x
 gathered_is_chain d h q us o x is all =

@@ -74,7 +74,7 @@ each_mapped P f [] all = tt
 each_mapped P f (x ∷ xs) all = (all x, each_mapped P f xs all)
 
 module _ (h : Schedule) (range : IsWithinRanges h) (opened : All IsValue h.opening) where
-  -- what updates leave is a value
+  -- updates leave values in range
   pub state_in_range : (us : List ℕ) (x : ℕ) → IsValue (state h us x)
   state_in_range us x = last_in_range (value_at h.opening x) (flat_map (values_by h x) us) (opening_in_range h.opening x (recursion_from_All IsValue h.opening opened)) (all us)
     where
@@ -93,7 +93,7 @@ module _ (h : Schedule) (range : IsWithinRanges h) (opened : All IsValue h.openi
           (subst (AllByRecursion IsValue) (sym (values_trace h x u)) (given (filter (wrote_by x u) (operations h)) (λ o i. each_at (λ (o : Operation). IsValue o.value) (operations h) o (recursion_from_All (λ (o : Operation). IsValue o.value) (operations h) range.values) (In-of_filter (wrote_by x u) (operations h) o i).0)))
           (all us)
 
-  -- what a query read are values of items that there are
+  -- the reads of a query are values in range of existing items
   pub reads_in_range : (q : ℕ) → AllByRecursion (λ (o : Operation). IsValue o.value × (o.item < length h.opening)) (reads_by h q)
   reads_in_range q = each_in (λ (o : Operation). IsValue o.value × (o.item < length h.opening)) (reads_by h q) (λ o i.
       let j = (In-of_filter (λ (o : Operation). not o.writes && eqb o.txn q) (operations h) o i).0 in (

@@ -1,4 +1,4 @@
--- What is known of a board that no thread shares any more.
+-- Facts about a board that no thread shares any longer.
 use Rattle.std.proofs.Common.{◌≡◌, ℕ, zero, suc, ◌+◌, ◌<◌, ◌≤◌, ◌≢◌, cond, eqb, leb, List, [], ◌∷◌, ◌++◌, map, length, get_or, set, sym, refl, ap, ◌∙◌, subst, ⊎_elim, arith, sum_by, All, flat_map, lt-ltb, le-ltb, length-append, slice_index}
 use mathlib.Core.Option.{some, some-injective, some-ne-none}
 use lib.ListN.{get_elem?}
@@ -77,7 +77,7 @@ given_at jobs seats word given views id v r at numbers passes its = let kept : L
 count_all : (given : List BoardSeat) → length (all_claimed given) ≡ sum_by (λ s. sum_by (λ _. 1) (claimed s)) given
 count_all given = sym (ones (all_claimed given)) ∙ sum_flat (λ _. 1) claimed given
 
--- the count of what the seats drew, and of what the others drew, is the word
+-- the number of claims of these seats and of the others is the word
 count_parts : (jobs seats word : ℕ) (given : List BoardSeat) (st : IsBoardAt jobs seats (map hand_of given) word) → length (all_claimed given) + sum_by (λ (h : Hand). sum_by (λ _. 1) h.claimed) st.0 ≡ word
 count_parts jobs seats word given st =
     grind (arith, sum_by-append, sum_by, map hand_of given, sum_mapped, count_all given, ones (below word), length-below word)
@@ -89,7 +89,7 @@ empty_if : (weight : ℕ → ℕ) (xs : List ℕ) → sum_by (λ _. 1) xs ≡ 0 
 empty_if weight [] h = refl
 empty_if weight (x ∷ xs) h = absurd (let p = sum_by-cons (λ (_ : ℕ). 1) x xs in omega arith)
 
--- where the counts agree, the seats hold each number below the word once
+-- if the counts agree, the seats have each number below the word once
 pub once : (jobs seats word : ℕ) (given : List BoardSeat) → IsBoardAt jobs seats (map hand_of given) word → length (all_claimed given) ≡ word → EachOnceBelow word (all_claimed given)
 once jobs seats word given st same n =
     let p = count_parts jobs seats word given st in
@@ -125,7 +125,7 @@ missing jobs seats word given st its less = ⊎_elim (λ (l : length given < sea
     at_end : (t : IsBoardAt jobs seats (map hand_of given) word) → IdleIsEmpty jobs t.0
     at_end t = shift (map hand_of given) t.0 t.1.2
 
--- what the table says as it is closed
+-- the state of the table when it is closed
 pub settles : (size : BoardSize) (jobs seats word : ℕ) (words : List ℕ) (s : State (Unit {0}) Hand) → IsKept size s → size.jobs ≡ jobs → size.seats ≡ seats → s.words ≡ words → get_elem? words 0 ≡ some word → IsFair jobs seats word s.views
 settles size jobs seats word words s st j k e at =
     let w : slice_index s.words 0 ≡ word = ap (λ l. slice_index l 0) e ∙ first words word at in

@@ -1,4 +1,4 @@
--- What is kept of the findings of queries: the findings themselves, or their summaries.
+-- The values made of the findings of queries: the findings themselves, or their summaries.
 use Rattle.std.proofs.Common.{◌≡◌, ℕ, ◌<◌, List, [], ◌∷◌, ◌++◌, map, refl, sym, ap, ◌∙◌, subst, All, Result, Ok, Err, IfOk}
 use Rattle.std.specs.List.{AllZip}
 use Rattle.std.proofs.lemmas.List.Elements.{All-nil, All-cons, All-weaker, same_from_all_zip}
@@ -34,7 +34,7 @@ keeps_findings keeps d h (q ∷ queries) (x ∷ kept) a =
       kept = (a.0.3, rest.kept);
     }
 
--- where the findings themselves are kept, they are a book's
+-- if the values are the findings, they are a book's
 pub book_kept : (d : Distance) (h : Schedule) (b : Book) → map (λ (t : TxnId). t.0) b.order.items ≡ committed_updates h → KeepsFindings (λ (f x : Finding). x ≡ f) d h (committed_queries h) b.findings.items → IsBook d h b
 book_kept d h b order k =
     let same : b.findings.items ≡ k.findings = same_from_all_zip (λ (f x : Finding). x ≡ f) k.findings b.findings.items k.kept (λ f x e. e) in
@@ -46,7 +46,7 @@ book_kept d h b order k =
       summaries = all_summaries d h b.findings.items (committed_queries h) found queries;
     }
 
--- where their summaries are kept, they are those of the queries
+-- if the values are summaries, they are those of the queries
 pub summaries_kept : (d : Distance) (h : Schedule) (s : Summaries) → map (λ (t : TxnId). t.0) s.order.items ≡ committed_updates h → KeepsFindings (λ (f : Finding) (x : Summary). seen_summary x ≡ summary f) d h (committed_queries h) s.summaries.items → AreSummaries d h s
 summaries_kept d h s order k =
     let same = mapped k.findings s.summaries.items k.kept in record {
@@ -64,7 +64,7 @@ summaries_kept d h s order k =
     mapped (f ∷ fs) [] a = absurd a
     mapped (f ∷ fs) (x ∷ ss) a = λ i. a.0 i ∷ mapped fs ss a.1 i
 
--- where a share keeps the findings themselves, each is that of its job's query
+-- if a share has the findings, each is that of its job's query
 pub found_kept : (d : Distance) (h : Schedule) (queries : List TxnId) (jobs : ℕ) (found : List (ℕ × Finding)) → AreKept (λ (f x : Finding). x ≡ f) d h queries jobs found → AreFound d h queries jobs found
 found_kept d h queries jobs found a =
     All-weaker (λ (p : ℕ × Finding). (p.0 < jobs) × IsKeptOf (λ (f x : Finding). x ≡ f) d h (query_of queries p.0) p.1) (λ (p : ℕ × Finding). (p.0 < jobs) × IsFindingFor d h queries p.0 p.1)

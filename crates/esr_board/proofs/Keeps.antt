@@ -69,12 +69,12 @@ claims size slots id me its few_jobs few_seats some_pass s r _ at fits =
 pub splits : (size : BoardSize) (id : ℕ) (v : Hand) → v.jobs ≡ size.jobs → 0 < v.passes → v.claimed ≡ [] → Splits (IsKept size) id v (with_one_less v) (one_pass v)
 splits size id v its some_pass nothing s r at = grind (arith, sum_set, sum_by, sum_by_push, set, ⊎_elim, at_set, at_snoc)
 
--- a seat gets what another has
+-- a seat takes over the hand of another
 pub joins : (size : BoardSize) (id : ℕ) (v : Hand) (other : ℕ) (w : Hand) → Joins (IsKept size) id v other w (joined v w) spent
 joins size id v other w s r at apart there =
     grind (arith, set, set_else, sum_by, sum_by-append, sum_set, cond, leb, ⊎_elim, at_set)
 
--- what a claim leaves in its seat
+-- the state of a seat after its claim
 abbrev pub M : Type 0
 M = Me (Unit {0}) Hand
 

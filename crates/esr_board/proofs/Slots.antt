@@ -1,4 +1,4 @@
--- What is kept of findings put back at the places of its jobs.
+-- The results of workers stored at the indices of their jobs.
 use Rattle.std.proofs.Common.{◌≡◌, ℕ, ◌<◌, ◌≢◌, ◌⊎◌, cond, eqb, List, [], ◌∷◌, ◌++◌, map, length, get_or, set, sym, refl, ap, ◌∙◌, subst, ⊎_elim, arith, Any, Option, Some, None, IfSome, inl, inr, Result, Ok, Err, IfOk, IfErr, MatchResult, length-set, get_or-set_same, get_or-set_other, ne_eqb, false, true≢false}
 use Rattle.std.proofs.lemmas.Bool.{cases_eq}
 use Rattle.std.proofs.lemmas.List.{map-append}
@@ -17,7 +17,7 @@ use Rattle.esr_board.proofs.Closes.{all_popped}
 any_holds : (P : ℕ → Type 0) (xs : List ℕ) (a : Any P xs) → P a.1
 any_holds P xs a = a.4
 
--- what a worker ends with
+-- the result of a worker
 pub worked_is : {T : Type 0} (keeps : Finding → T → Type 0) (d : Distance) (h : Schedule) (queries : List TxnId) (jobs : ℕ) (old new : List ℕ) (r : Result (Share T) AuditError) → old ≡ [] → length queries ≡ jobs → AreCommitted h queries
     → IfOk r (λ s. HasClaimed jobs old new (map (λ p. p.0) s.found.items)) → IfOk r (λ s. AreKept keeps d h queries jobs s.found.items) → IfOk r (λ _. 0 < count_past jobs new)
     → IfErr r (λ e. (js : List ℕ) × HasClaimed jobs old new js × (e ≡ NotACommittedQuery → Any (λ n. (n < jobs) × (is_committed_query h (query_of queries n).0 ≡ false)) js)) → IfErr r (λ e. e ≢ WorkersOutOfRange)

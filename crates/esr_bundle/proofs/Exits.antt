@@ -1,4 +1,4 @@
--- What is known where a call's error is handed on, and of a list one element of which fails a test.
+-- Facts at a call whose error is propagated, and about a list one element of which fails a test.
 use Rattle.std.proofs.Common.{◌≡◌, ℕ, ◌+◌, ◌<◌, List, [], ◌∷◌, ◌++◌, Bool, true, false, Result, Ok, Err, IfErr, map, take, length, get_or, refl, sym, ap, ◌∙◌, subst, true≢false, IsErrAnd}
 use Rattle.std.specs.List.{list_all}
 use Rattle.std.proofs.lemmas.Bool.{false_from_ne_true, and_from, and_parts}
@@ -13,7 +13,7 @@ pub passes : {T E : Type 0} (P : E → Type 0) (r : Result T E) (x : E) → IsEr
 passes P (Ok t) x h p = tt
 passes P (Err e) x h p = subst P (sym h) p
 
--- what `?` hands on: the error itself, since it converts to itself
+-- the result of `?`: the error itself, since it converts to itself
 pub handed_on : {T E : Type 0} (r : Result T E) (e : E) → IsErrAnd r (λ f. f ≡ e) → r ≡ Err e
 handed_on (Ok value) e h = absurd h
 handed_on (Err f) e h = ap (λ x. Err x) h
@@ -30,6 +30,6 @@ pub all_push : {Y : Type 0} (p : Y → Bool) (ys : List Y) (y : Y) → list_all 
 all_push p [] y all is = and_from (p y) true is refl
 all_push p (z ∷ ys) y all is = let both = and_parts (p z) (list_all p ys) all in and_from (p z) (list_all p (ys ++ y ∷ [])) both.0 (all_push p ys y both.1 is)
 
--- a list each of whose elements is written as what it stands for
+-- a list whose elements are written as their meanings
 pub list_written : {X Y : Type 0} (f : X → Y) (g : Y → Data) (v : Data) (xs : List X) (ys : List Y) → v ≡ array (items_of (map (λ x. g (f x)) xs)) → map f xs ≡ ys → v ≡ array (items_of (map g ys))
 list_written f g v xs ys h e = h ∙ ap (λ ds. array (items_of ds)) (sym (map-map g f xs) ∙ ap (map g) e)

@@ -1,4 +1,4 @@
--- What numbers are judged to be.
+-- The judgement of numbers.
 use Rattle.std.proofs.Common.{◌≡◌, ◌≢◌, ℕ, List, Bool, true, false, not, cond, Option, Some, None, Result, Ok, Err, IfOk, IfErr, ap, ◌∙◌}
 use Rattle.std.specs.List.{list_all}
 use Rattle.std.proofs.lemmas.Bool.{and_parts}

@@ -1,4 +1,4 @@
--- Why the text of a bundle is read back as what it was made of, and each verdict is the one that its bytes deserve.
+-- Reading the text of a bundle returns its problem and certificate, and each verdict is the one that its bytes deserve.
 
 pub mod Wide
 pub mod Exits

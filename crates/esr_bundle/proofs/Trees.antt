@@ -1,4 +1,4 @@
--- The tree of a bundle: it has no float, it is not deep, and it stands for what it was made of.
+-- The tree of a bundle: it has no float, its depth is small, and its meaning is its problem and certificate.
 use Rattle.std.proofs.Common.{◌≡◌, ℕ, ◌≤◌, max, List, [], ◌∷◌, true, false, Option, Some, None, Ok, map, refl, ap, ◌∙◌, arith, codes}
 use Rattle.std.specs.List.{list_all}
 use Rattle.serde_json.specs.Data.{Data, Members, no_members, member, depth, items_depth, members_depth}
@@ -11,7 +11,7 @@ use Rattle.esr_bundle.specs.Fields.{as_natural, each, as_naturals, pair_of}
 use Rattle.esr_bundle.specs.Bundle.{number_data, numbers_data, pair_data, rows_data, chain_data, list_member, number_member, problem_data, certificate_data, bundle_data, chain_of, problem_of, certificate_of, parts_of, problem_in, judged_parts, is_position}
 use Rattle.esr_bundle.proofs.Judged.{judged_ok}
 
--- ---- it stands for what it was made of
+-- ---- its meaning is its problem and certificate
 
 each_of : {A : Type 0} (f : Data → Option A) (g : A → Data) → ((a : A) → f (g a) ≡ Some a) → (xs : List A) → each f (items_of (map g xs)) ≡ Some xs
 each_of f g h [] = refl

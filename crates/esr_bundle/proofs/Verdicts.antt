@@ -1,4 +1,4 @@
--- Verdicts on bytes, and what bytes a reader gave.
+-- Verdicts on bytes, and the bytes that a reader returned.
 use Rattle.std.proofs.Common.{◌≡◌, ◌≢◌, ℕ, ◌<◌, take, length-take, length-append, List, ◌++◌, length, refl, sym, ap, ◌∙◌, arith, Option, Some, None, Result, Ok, Err, IfOk, IsOk, append-nil}
 use Rattle.std.specs.Io.KnownBytes.{Consumes, IsAtEnd}
 use Rattle.std.specs.declared.alloc.AllocError.{AllocError}

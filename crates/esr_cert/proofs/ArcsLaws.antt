@@ -140,7 +140,7 @@ module _ (updates : List TxnId) (before : List (ℕ × ℕ)) (chains : List code
   pub arcs_are : links_end + length before + length must ≡ length (network parts).arcs
   arcs_are = omega (arith, end_is, arcs_long parts ok)
 
-  -- what a search for the row of an arc of the chains gives
+  -- the result of a search for the row of an arc of the chains
   module _ (number k : ℕ) (early : number < links_end) (bound : k < length starts) (begun : get_or starts k 0 ≤ number) (last : k + 1 < length starts → number < get_or starts (k + 1) 0) where
     pub row_in_chains : k < length chains
     row_in_chains =

@@ -1,4 +1,4 @@
--- The steps that start at each node tell whether a flow is conserved there.
+-- The steps that start at each node determine whether a flow is conserved there.
 use Rattle.std.proofs.Common.{◌≡◌, ◌≢◌, ℕ, zero, suc, ◌+◌, ◌<◌, ◌≤◌, List, [], ◌∷◌, ◌++◌, Bool, true, cond, eqb, refl, sym, ap, ◌∙◌, arith, length, take, sum_by, Some, append_assoc, add-one, false, inl, inr, true≢false, eq-eqb}
 use Rattle.std.proofs.lemmas.Bool.{cases_order, cases_Bool, eqb-true}
 use Rattle.std.proofs.lemmas.List.{take_more, take_all, length-take-le}
@@ -65,7 +65,7 @@ module _ (arcs : List Arc) (flow : List ℕ) (same : length flow ≡ length arcs
   pub balanced_is : is_balanced flow (row_of arcs v) ≡ is_conserved_at arcs flow v
   balanced_is = ap (λ n. eqb n (sum_by (amount_out flow) (row_of arcs v))) in_is ∙ ap (eqb (inflow arcs flow v)) out_is
 
--- where the steps at a node are balanced, the flow of a certificate is conserved there
+-- if the steps at a node are balanced, the flow of a certificate is conserved there
 pub balanced_at : (p : Problem) → IsProblem p → (c : Certificate) → IsMatched p c → (v : ℕ) → is_balanced (amounts c) (row_of (network p).arcs v) ≡ is_conserved_at (network p).arcs (amounts c) v
 balanced_at p ok c m v = balanced_is (network p).arcs (amounts c) (amounts_length p ok c m) v
 

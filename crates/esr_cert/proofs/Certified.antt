@@ -1,4 +1,4 @@
--- What it says of a certificate that it has no fault.
+-- The consequences of a certificate without a fault.
 use Rattle.std.proofs.Common.{◌≡◌, ℕ, ◌≤◌, Bool, true, false, not, ◌&&◌, cond, eqb, length, Option, Some, None, refl, arith}
 use Rattle.std.proofs.lemmas.Bool.{and_parts, eqb-true}
 use Rattle.esr_cert.specs.Problem.{Problem, in_set, is_ascending, is_closed, cost, is_sound}

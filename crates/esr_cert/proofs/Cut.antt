@@ -1,4 +1,4 @@
--- What a flow carries out of a set of nodes that has the source and not the sink.
+-- The amount that a flow carries out of a set of nodes that contains the source but not the sink.
 use Rattle.std.proofs.Common.{◌≡◌, ℕ, zero, suc, ◌+◌, ◌<◌, ◌≤◌, Bool, true, false, cond, not, ◌&&◌, eqb, List, [], ◌∷◌, length, Option, Some, None, refl, sym, ap, ◌∙◌, inl, inr, arith, leb-true, eq-eqb, ne_eqb, true≢false}
 use Rattle.std.proofs.lemmas.Bool.{cases_eq}
 use Rattle.esr_cert.specs.Network.{Arc, arc_at, Network, IsNetwork}
@@ -81,7 +81,7 @@ carried_split has (a ∷ arcs) (x ∷ flow) = omega (arith, one (has a.from) (ha
     one false true = omega arith
     one false false = refl
 
--- the worth, and what comes back, is what crosses
+-- the worth plus the amount that returns is the amount that crosses
 pub cut : (net : Network) → IsNetwork net → (flow : List ℕ) → IsFlow net flow → (has : ℕ → Bool) → has net.source ≡ true → has net.sink ≡ false → worth net flow + carried (returns_from has) net.arcs flow ≡ carried (crosses has) net.arcs flow
 cut net ok flow f has at_source at_sink =
     let out_sum : node_sum has (λ v. outflow net.arcs flow v) net.nodes ≡ carried (λ arc. has arc.from) net.arcs flow = node_sum_carried has (λ arc. arc.from) net.nodes net.arcs flow (λ i l. (ok.ends i l).0) in

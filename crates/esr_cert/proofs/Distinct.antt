@@ -87,7 +87,7 @@ distinct_moved xs ys p =
     (λ h. times_distinct ys (λ u. omega (arith, same u, distinct_times xs h u)))
     (λ h. times_distinct xs (λ u. omega (arith, same u, distinct_times ys h u)))
 
--- a sorted copy ascends exactly where no number occurs twice
+-- a sorted copy ascends strictly if and only if no number occurs twice
 pub sorted_copy : (xs ys : List ℕ) → IsPermutation xs ys → IsNonDecreasingBy (λ x. x) ys → is_ascending ys ≡ is_distinct xs
 sorted_copy xs ys p r = same_tests (is_ascending ys) (is_distinct ys) (ascending_distinct ys) (distinct_ascending ys r) ∙ sym (distinct_moved xs ys p)
 

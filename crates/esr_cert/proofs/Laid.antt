@@ -1,4 +1,4 @@
--- The rows as the arcs are laid one after another, and where a step lies in them.
+-- The rows while the arcs are laid one after another, and the index of a step in them.
 use Rattle.std.proofs.Common.{◌≡◌, refl, ℕ, ◌+◌, ◌-◌, ◌*◌, ◌<◌, ◌≤◌, true, false, ltb, List, [], ◌∷◌, ◌++◌, Contains, length, get_or, set, take, sum, sym, ap, ◌∙◌, subst, inl, inr, arith}
 use Rattle.std.specs.List.Sorted.{IsNonDecreasingBy, IsPartitionPoint}
 use Rattle.std.proofs.lemmas.Bool.{cases_lt, ltb-true, ltb-false}
@@ -64,7 +64,7 @@ laid_rows {arcs} {nodes} {i} {spans} {steps} e laid =
     let h : Laid arcs nodes (length arcs) spans steps = subst (λ n. Laid arcs nodes n spans steps) e laid in
     filled_all arcs nodes h.degrees spans steps h.are h.filled
 
--- a step lies in the row of the node where it starts, and there once
+-- a step is in the row of the node where it starts, exactly once
 pub laid_steps : {arcs : List Arc} {nodes i : ℕ} {spans : List Span} {steps : List ResidualArc} → length arcs ≤ MAX_ARCS → i ≡ length arcs → Laid arcs nodes i spans steps → AreSteps arcs steps
 laid_steps {arcs} {nodes} {i} {spans} {steps} few e laid = record { few = few; count = laid_long laid; in_arcs = in_arcs; once = once }
   where
@@ -91,7 +91,7 @@ same_order (Forward i) (Backward j) e = absurd (omega arith)
 same_order (Backward i) (Forward j) e = absurd (omega arith)
 same_order (Backward i) (Backward j) e = ap (λ n. Backward n) (omega arith)
 
--- where the steps before a step end, there the step lies
+-- the step is at the index after the steps before it
 found_at : (row : List ResidualArc) (step : ResidualArc) (k : ℕ) → IsNonDecreasingBy order_of row → Contains row step → IsPartitionPoint (λ t. ltb (order_of t) (order_of step) ≡ true) (λ t. ltb (order_of t) (order_of step) ≡ false) row k → (k < length row) × (step_at row k ≡ step)
 found_at row step k rise (j, l, at) (before, after) =
     let is : order_of (step_at row j) ≡ order_of step = ap order_of (get_or_default row j (Forward 0) step l ∙ at) in
@@ -103,7 +103,7 @@ found_at row step k rise (j, l, at) (before, after) =
     let at_least : order_of step ≤ order_of (step_at row k) = ltb-false (order_of (step_at row k)) (order_of step) (after k (Forward 0) (omega arith) (omega arith)) in
     (omega arith, same_order (step_at row k) step (omega arith))
 
--- what the search for a step in the row of its node finds
+-- the result of the search for a step in the row of its node
 pub found_place : (steps row : List ResidualArc) (span : Span) (step : ResidualArc) (k : ℕ) → row ≡ row_in steps span → span.end ≤ length steps → IsNonDecreasingBy order_of (row_in steps span) → Contains (row_in steps span) step → IsPartitionPoint (λ t. ltb (order_of t) (order_of step) ≡ true) (λ t. ltb (order_of t) (order_of step) ≡ false) row k → (span.begin + k < length steps) × (step_at steps (span.begin + k) ≡ step)
 found_place steps row span step k e inside rise has point =
     let (l, at) = found_at (row_in steps span) step k rise has (subst (λ list. IsPartitionPoint (λ t. ltb (order_of t) (order_of step) ≡ true) (λ t. ltb (order_of t) (order_of step) ≡ false) list k) e point) in

@@ -1,4 +1,5 @@
--- The cuts of a problem's network are its closed sets, and their capacities the costs: a flow is worth at most what a closed set costs.
+-- The cuts of a problem's network are its closed sets, and their capacities are the costs. So the worth of a flow is at
+-- most the cost of any closed set.
 use Rattle.std.proofs.Common.{◌≡◌, ◌≢◌, ℕ, zero, suc, ◌+◌, ◌<◌, ◌≤◌, Bool, true, false, cond, not, ◌&&◌, ◌||◌, eqb, List, [], ◌∷◌, ◌++◌, length, get_or, map, flat_map, sum_by, Contains, Some, refl, sym, ap, ◌∙◌, inl, inr, arith, lt-ltb, le-ltb, eq-eqb, ne_eqb, true≢false}
 use Rattle.std.specs.List.{list_any}
 use Rattle.std.proofs.lemmas.Bool.{cases_Bool, and_left, or_left, or_from, cond-true, cond-false}
@@ -10,7 +11,7 @@ use Rattle.esr_cert.specs.Cut.{crosses, across, IsLimited, AreLimited, with_sour
 use Rattle.esr_cert.proofs.Cut.{pick, weak}
 use Rattle.esr_cert.proofs.Sound.{here, there, Neighbours, IsChain, IsProblem, IsClosed, closed_facts}
 
--- what holds of each arc of a list
+-- a property of each arc of a list
 abbrev pub Each : (Arc → Type 0) → List Arc → Type 0
 Each P [] = Unit {0}
 Each P (a ∷ arcs) = P a × Each P arcs

@@ -1,5 +1,5 @@
--- Why a certificate shows the least cost (`Least`, `Cut`), and why the tests that look at lists find just what the
--- definitions say. Solver, audits and bundles use `Sound`, `Least` and `Certified`.
+-- A certificate proves the least cost (`Least`, `Cut`), and the tests of lists agree with the definitions. Solver,
+-- audits and bundles use `Sound`, `Least` and `Certified`.
 
 mod Worked
 pub mod Sound

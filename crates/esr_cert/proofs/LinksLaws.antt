@@ -1,4 +1,4 @@
--- Where the arcs of each chain lie among those of a problem's network, and which ends they have.
+-- The indices of each chain's arcs among those of a problem's network, and their ends.
 use Rattle.std.proofs.Common.{◌≡◌, ℕ, zero, suc, Some, ◌+◌, ◌-◌, ◌<◌, ◌≤◌, true, List, [], ◌∷◌, ◌++◌, length, get_or, map, refl, sym, ap, ◌∙◌, subst, arith}
 use Rattle.std.proofs.lemmas.List.{length-map, get_or-map}
 use Rattle.esr_cert.specs.declared.problem.Chain as code
@@ -10,12 +10,12 @@ use Rattle.esr_cert.specs.Views.{chain_of}
 use Rattle.esr_cert.proofs.Sound.{facts, IsProblem}
 use Rattle.esr_cert.proofs.ArcsLaws.{arcs_long, arc_in_chain, link_is}
 
--- where the first chain begins
+-- the beginning of the first chain
 pub starts_first : (n : ℕ) (chains : List Chain) → get_or (starts_from n chains) 0 0 ≡ n
 starts_first n [] = refl
 starts_first n (chain ∷ chains) = refl
 
--- a chain begins where the arcs of the one before it end
+-- a chain begins at the end of the arcs of the one before it
 starts_next : (n : ℕ) (chains : List Chain) (k : ℕ) (d : Chain) → k < length chains → get_or (starts_from n chains) (suc k) 0 ≡ get_or (starts_from n chains) k 0 + length (get_or chains k d).costs
 starts_next n [] k d l = absurd (omega arith)
 starts_next n (chain ∷ chains) zero d l = starts_first (n + length chain.costs) chains
@@ -28,14 +28,14 @@ starts_below n [] (suc k) l = absurd (omega arith)
 starts_below n (chain ∷ chains) zero l = omega (arith, starts_below (n + length chain.costs) chains 0 (omega arith), starts_first (n + length chain.costs) chains)
 starts_below n (chain ∷ chains) (suc k) l = starts_below (n + length chain.costs) chains k (omega arith)
 
--- the arcs of the next of the code's chains begin where those of one end
+-- the arcs of the next of the code's chains begin at the end of those of one
 begin_next : (chains : List code.Chain) (k : ℕ) (chain : code.Chain) → k < length chains → chain ≡ get_or chains k chain → get_or (starts_from 0 (map chain_of chains)) k 0 + length chain.costs.items ≡ get_or (starts_from 0 (map chain_of chains)) (k + 1) 0
 begin_next chains k chain inside is =
     let next : k + 1 ≡ suc k = omega arith in
     let here : get_or (map chain_of chains) k (chain_of chain) ≡ chain_of chain = get_or-map chain_of chains k chain (chain_of chain) inside ∙ ap chain_of (sym is) in
     omega (arith, starts_next 0 (map chain_of chains) k (chain_of chain) (omega (arith, length-map chains chain_of, inside)), ap (λ (c : Chain). length c.costs) here, ap (λ n. get_or (starts_from 0 (map chain_of chains)) n 0) next)
 
--- a loop over the chains comes to the next one, whose arcs begin where those before it end
+-- a loop over the chains reaches the next one, whose arcs begin at the end of those before it
 module _ {arcs : List Arc} {source : ℕ} (chains : List code.Chain) {k begin : ℕ} {chain : code.Chain} (links : HaveLinks arcs source chains) (at : begin ≡ get_or (starts_from 0 (map chain_of chains)) k 0) (inside : k < length chains) (is : chain ≡ get_or chains k chain) where
   pub links_here : HasLinks arcs source chain begin
   links_here = subst (HasLinks arcs source chain) (sym at) (links k chain inside is)
@@ -64,7 +64,7 @@ module _ (p : Problem) (sound : is_sound p ≡ true) where
       whole : length chain.costs.items ≡ length chain.writers.items + 1
       whole = (ok.chains (chain_of chain) (k, within_all, chain_is)).one_more
 
-      -- the arcs of the next begin where those of this one end
+      -- the arcs of the next begin at the end of those of this one
       pub next_begin : begin + length chain.costs.items ≡ get_or starts (k + 1) 0
       next_begin =
           let next : k + 1 ≡ suc k = omega arith in

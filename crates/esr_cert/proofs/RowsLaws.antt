@@ -1,4 +1,4 @@
--- Rows that lie one after another, as they are counted and filled.
+-- Consecutive rows, as they are counted and filled.
 use Rattle.std.proofs.Common.{◌≡◌, ◌≢◌, ℕ, suc, ◌+◌, ◌-◌, ◌*◌, ◌<◌, ◌≤◌, List, [], ◌∷◌, ◌++◌, length, get_or, set, take, drop, replicate, sum, sym, ap, ◌∙◌, subst, inl, inr, arith, length-drop, length-take, length-set, get_or-set_same, get_or-set_other}
 use Rattle.std.proofs.lemmas.Bool.{cases_eq, cases_lt}
 use Rattle.std.proofs.lemmas.List.Folds.{sum_by-replicate}
@@ -63,14 +63,14 @@ counted_all {arcs} {nodes} i {counts} e h =
     let all : Counted arcs nodes (first_steps (length arcs)) counts = subst (λ n. Counted arcs nodes (first_steps n) counts) e h in
     record { count = all.count; degree = all.each; both = omega (arith, all.both, first_count (length arcs)) }
 
--- a row ends where those after it begin
+-- a row ends before those after it begin
 row_before : (lengths : List ℕ) (v u : ℕ) → v < u → u ≤ length lengths → sum (take v lengths) + get_or lengths v 0 ≤ sum (take u lengths)
 row_before lengths v u l m =
     let more : sum (take (v + 1) lengths) ≡ sum (take v lengths) + get_or lengths v 0 = sum_by_more (λ x. x) lengths v 0 (omega arith) in
     let part : sum (take (v + 1) (take u lengths)) ≤ sum (take u lengths) = sum_by-take-le (λ x. x) (take u lengths) (v + 1) in
     omega (arith, more, part, ap sum (take-take (v + 1) u lengths (omega arith)))
 
--- the row in which a place lies
+-- the row that contains an index
 pub row_with : (lengths : List ℕ) (k : ℕ) → k < sum lengths → (v : ℕ) × (v < length lengths) × (sum (take v lengths) ≤ k) × (k < sum (take v lengths) + get_or lengths v 0)
 row_with [] k l = absurd (omega arith)
 row_with (n ∷ lengths) k l =

@@ -1,4 +1,4 @@
--- What a binary search of an ascending list finds.
+-- The results of a binary search of an ascending list.
 use Rattle.std.proofs.Common.{◌≡◌, ℕ, zero, suc, ◌+◌, ◌≤◌, ◌<◌, List, [], ◌∷◌, true, false, ◌&&◌, cond, eqb, ltb, refl, sym, ap, ◌∙◌, subst, inl, inr, arith, length, get_or, Result, Ok, Err, MatchResult, ltb-true, le-ltb, lt-ltb, eq-eqb, ne_eqb, is_ok}
 use Rattle.std.specs.declared.cmp.Ordering.{Ordering}
 use Rattle.std.specs.declared.cmp.Ordering.TheVariants.{Less, Equal, Greater}
@@ -96,7 +96,7 @@ then_equal Less b h = cc
 then_equal Equal b h = (refl, h)
 then_equal Greater b h = cc
 
--- another answer than `Equal`
+-- a result other than `Equal`
 no_match : (x : ℕ × ℕ) (u v : ℕ) (o : Ordering) → pair_cmp x (u, v) ≡ o → (o ≡ Equal → ⊥) → (eqb x.0 u && eqb x.1 v) ≡ false
 no_match x u v o e ne = false_from_ne_true (eqb x.0 u && eqb x.1 v) yes
   where

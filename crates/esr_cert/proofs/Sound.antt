@@ -1,4 +1,4 @@
--- What the tests of a problem say, of its parts and of a closed set.
+-- The meaning of the tests of a problem, for its parts and for a closed set.
 use Rattle.std.proofs.Common.{◌*◌, ◌≡◌, ℕ, zero, suc, ◌+◌, ◌<◌, ◌≤◌, Bool, true, false, not, ◌&&◌, ◌||◌, eqb, ltb, leb, List, [], ◌∷◌, length, get_or, map, sum_by, Contains, refl, sym, ap, ◌∙◌, subst, arith, true≢false, inl, inr}
 use Rattle.std.specs.List.{list_all, list_any}
 use Rattle.std.proofs.lemmas.Bool.{and_parts, and_from, or_cases, ltb-true, leb-true, eqb-true, lt-ltb}
@@ -118,7 +118,7 @@ pub record IsChain (p : Problem) (chain : Chain) : Type 0 where
   pub writers : (u : ℕ) → Contains chain.writers u → u < size p
   pub neighbours : Neighbours p.before chain.writers
 
--- what the type of a problem keeps
+-- the invariant of the type of problems
 pub record IsProblem (p : Problem) : Type 0 where
   pub pairs : (u v : ℕ) → Contains p.before (u, v) → (u < size p) × (v < size p)
   pub musts : (u : ℕ) → Contains p.must u → u < size p

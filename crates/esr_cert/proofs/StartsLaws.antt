@@ -1,4 +1,4 @@
--- Amounts found by where the rows of their chains begin.
+-- Amounts found by the beginnings of their chains' rows.
 use Rattle.std.proofs.Common.{◌≡◌, ℕ, zero, suc, ◌+◌, ◌-◌, ◌<◌, ◌≤◌, List, [], ◌∷◌, ◌++◌, true, refl, sym, ap, ◌∙◌, arith, length, get_or, map, take, replicate, true≢false, eqb, leb, false, inl, inr, length-append}
 use Rattle.std.specs.List.{concat}
 use Rattle.std.proofs.lemmas.Bool.{and_parts, eqb-true, cases_lt, leb-true, leb-false, le-leb}
@@ -52,7 +52,7 @@ are_starts p ok c m = record {
   filled = rows_filled p.chains c.chain_flow (are_whole p ok c m) m.rows;
 }
 
--- ---- what a list has at a place of rows that are joined
+-- ---- the element at an index of joined rows
 
 read_row : {X : Type 0} (d : X) (rows : List (List X)) (k j : ℕ) → k < length rows → j < length (get_or rows k []) → get_or (joined rows) (length (joined (take k rows)) + j) d ≡ get_or (get_or rows k []) j d
 read_row d [] k j l m = absurd (omega arith)
@@ -84,11 +84,11 @@ module _ {X : Type 0} (starts : List ℕ) (rows : List (List X)) (are : AreStart
   pub starts_rise : IsNonDecreasingBy (λ n. n) starts
   starts_rise = IsNonDecreasingBy-from_default (λ n. n) starts 0 (λ i j l m. omega (arith, are.count, are.at i (omega (arith, are.count)), are.at j (omega (arith, are.count)), rising rows i j l))
 
-  -- a row ends where the next begins
+  -- a row ends at the beginning of the next
   pub row_ends : (k : ℕ) → k < length rows → get_or starts (suc k) 0 ≡ get_or starts k 0 + length (get_or rows k [])
   row_ends k l = omega (arith, are.at k (omega arith), are.at (suc k) (omega arith), longer rows k l)
 
-  -- what a row has, and two lists that follow the rows
+  -- the elements of a row, and two lists that follow the rows
   pub in_row : (d : X) (backs musts : List X) (k arc : ℕ) → k < length rows → get_or starts k 0 ≤ arc → arc < get_or starts (suc k) 0 → get_or (joined rows ++ backs ++ musts) arc d ≡ get_or (get_or rows k []) (arc - get_or starts k 0) d
   in_row d backs musts k arc l m n =
       let begun : get_or starts k 0 ≡ length (joined (take k rows)) = are.at k (omega arith) in
@@ -119,7 +119,7 @@ pub joined_amounts : (rows : List (List ℕ)) → concat rows ≡ joined rows
 joined_amounts [] = refl
 joined_amounts (row ∷ rows) = ap (λ xs. row ++ xs) (joined_amounts rows)
 
--- what a search for the last row that begins at or before a number finds
+-- the result of a search for the last row that begins at or before a number
 pub record IsFound (starts : List ℕ) (number begun : ℕ) : Type 0 where
   pub some : 1 ≤ begun
   pub at : get_or starts (begun - 1) 0 ≤ number
@@ -183,7 +183,7 @@ owner k m (chain ∷ chains) i l =
           }
     ]
 
--- what holds of the chain that is read, as of one that is searched for
+-- the properties of the chain that is read, like those of one that is searched for
 pub record IsRow (starts : List ℕ) (number k : ℕ) : Type 0 where
   pub bound : k < length starts
   pub begun : get_or starts k 0 ≤ number

@@ -10,7 +10,7 @@ use Rattle.esr_cert.specs.Network.{Arc}
 use Rattle.esr_cert.specs.Steps.{arc_of, order_of, start, HasSteps, AreOnce, step_at, same_step, has_step, ResidualArc, Forward, Backward}
 use Rattle.esr_cert.specs.Rows.{first_steps, steps_from, row_of}
 
--- a step more, at the node where it starts and at another
+-- one more step, at the node where it starts and at another
 pub steps_here : (arcs : List Arc) (v : ℕ) (done : List ResidualArc) (s : ResidualArc) → start arcs s ≡ v → steps_from arcs v (done ++ s ∷ []) ≡ steps_from arcs v done ++ s ∷ []
 steps_here arcs v done s e =
     filter-append (λ step. eqb (start arcs step) v) done (s ∷ []) ∙ ap (λ b. steps_from arcs v done ++ cond b (s ∷ []) []) (eq-eqb (start arcs s) v e)
@@ -94,7 +94,7 @@ not_last row s k l = get_or_append_left row (s ∷ []) (Forward 0) k l
 pub at_last : (row : List ResidualArc) (s : ResidualArc) (k : ℕ) → k ≡ length row → step_at (row ++ s ∷ []) k ≡ s
 at_last row s k e = get_or_push row s (Forward 0) k (sym e)
 
--- what holds of the steps of a row and of one more
+-- a property of the steps of a row and of one more
 each_push : (P : ResidualArc → Type 0) (row : List ResidualArc) (s : ResidualArc) → P s → ((k : ℕ) → k < length row → P (step_at row k)) → (k : ℕ) → k < length (row ++ s ∷ []) → P (step_at (row ++ s ∷ []) k)
 each_push P row s p h k l =
     elim (last_or_not row s k l) [

@@ -135,7 +135,7 @@ twenty_augmentations = refl
 too_many_augmentations : fault smaller_of_two (record before_all { augmentations = Some 21 }) ≡ Some TooManyAugmentations
 too_many_augmentations = refl
 
--- the count is looked at last
+-- the count is checked last
 worth_is_first : fault smaller_of_two (record before_all { worth = 3; augmentations = Some 21 }) ≡ Some WorthNotCost
 worth_is_first = refl
 
@@ -158,7 +158,7 @@ nothing_takes_one = refl
 no_writer : fault (record nothing { chains = record { item = 0; writers = []; costs = 4 ∷ [] } ∷ [] }) (record of_nothing { chain_flow = (4 ∷ []) ∷ []; worth = 4 }) ≡ None
 no_writer = refl
 
--- a query that has to come after its update
+-- a query that must be after its update
 abbrev strict : Problem
 strict = record { updates = 1 ∷ []; before = []; chains = record { item = 0; writers = 0 ∷ []; costs = 0 ∷ 5 ∷ [] } ∷ []; must = 0 ∷ [] }
 

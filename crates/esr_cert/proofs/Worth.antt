@@ -1,4 +1,5 @@
--- The worth of a certificate's flow is the sum of the first amounts of its chains and of the amounts into what a set must hold.
+-- The worth of a certificate's flow is the sum of the first amounts of its chains and of the amounts on the arcs to the
+-- updates that a set must contain.
 use Rattle.std.proofs.Common.{Contains, ◌≡◌, ◌≢◌, ℕ, ◌+◌, ◌<◌, List, [], ◌∷◌, ◌++◌, Bool, true, eqb, refl, sym, ap, arith, length, get_or, map, sum, sum_by, eq-eqb, ne_eqb, true≢false}
 use Rattle.std.specs.List.{flat_map, concat}
 use Rattle.std.proofs.lemmas.List.{length-append, length-map}

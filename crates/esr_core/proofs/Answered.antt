@@ -1,4 +1,4 @@
--- An answer goes on to the state of the longer history.
+-- Executing an event yields the state of the longer history.
 use Rattle.std.proofs.Common.{◌≡◌, [], ◌∷◌, ◌++◌, ◌∙◌, ap, None, Some, arith}
 use Rattle.esr_core.specs.Words.{Event, Reply, Refused, Refusal}
 use Rattle.esr_history.specs.Events.{is_refusal}

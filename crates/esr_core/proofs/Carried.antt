@@ -15,7 +15,7 @@ use Rattle.esr_history.proofs.Orderly.{active_parts}
 use Rattle.esr_history.proofs.Charges.{legal_within_limits}
 use Rattle.esr_history.proofs.ReportBoundsLaws.{begin_stays, import_grows, bound_grows, bound_at_commit, reads_are_within, import_bounds_active, open_is_imported}
 
--- what a report rests on in the history in which it is
+-- the data of a report's bound in its present history
 record IsBounded (d : Distance) (limit : ℕ) (h : Schedule) (q : ℕ) (read_before : List Operation) (part : ℕ) : Type 0 where
   legal : IsLegal d h
   is_within : AreReadsWithinBound d h q read_before (part + import_in (charges_in d h) q)

@@ -43,7 +43,7 @@ total_by : (u : ℕ) (cs : List (TxnId × ℕ)) → total (charges_by u cs) ≡ 
 total_by u [] = refl
 total_by u (c ∷ cs) = sum_by-cons (λ (g : Charge). g.amount) (charge_to u c) (charges_by u cs) ∙ (ap (λ n. c.1 + n) (total_by u cs) ∙ sym (sum_by-cons (λ (g : TxnId × ℕ). g.1) c cs))
 
--- what an update exports to all
+-- the total export of an update
 export_by : (u t : ℕ) (cs : List (TxnId × ℕ)) → export_in (charges_by u cs) t ≡ (if u == t then total_of cs else 0)
 export_by u t [] = grind (arith, common_steps)
 export_by u t (c ∷ cs) =
@@ -192,7 +192,7 @@ module _ (d : Distance) (h : Schedule) where
   export_over u (c ∷ cs) n true is = rw is refl
   export_over u (c ∷ cs) n false is = grind (arith, export_over u cs n false is)
 
-  -- a quote asks for the refusal that the history has
+  -- a quote requires the same refusal as the history
   pub quote_reason : (u : TxnId) (c : TxnId × ℕ) (cs : List (TxnId × ℕ)) → is_update (accepted_in h) u.0 ≡ true → AllByRecursion (λ (g : TxnId × ℕ). is_query (accepted_in h) g.0.0 ≡ true) (c ∷ cs)
       → first_reason (import_full d h (charges_by u.0 (c ∷ cs)) ∷ export_full d h (charges_by u.0 (c ∷ cs)) ∷ []) ≡ reason_of (quote_of (books_of (d h.weights) h.opening (accepted_in h)) u (c ∷ cs))
   quote_reason u c cs update all =

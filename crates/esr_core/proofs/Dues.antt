@@ -1,4 +1,4 @@
--- The charges of an event import what is due for it.
+-- The charges of an event have the imports that the specification defines.
 use Rattle.std.proofs.Common.{◌≡◌, ℕ, ℤ, ◌+◌, ◌<◌, List, [], ◌∷◌, length, true, false, refl, sym, ◌∙◌, ap, Bool, Option, None, Some, ◌==◌, if◌then◌else◌}
 use Rattle.std.proofs.lemmas.List.Sums.{sum_by-cons}
 use Rattle.esr_items.specs.Values.{versions_at}

@@ -1,4 +1,4 @@
--- What is known of a transaction, and what it has exported.
+-- The facts of a transaction, and its export.
 use Rattle.std.proofs.Common.{◌≡◌, ℕ, List, false, not, refl, sym, Option, None, Some, unwrap_or, option_map}
 use Rattle.esr_core.specs.Words.{Entry}
 use Rattle.esr_history.specs.declared.back_links.Facts.{Facts}
@@ -12,7 +12,7 @@ kind_by : (b : Option Beginning) (end : Option ℕ) (f : Option Facts) → f ≡
 kind_by None end f is = rw is refl
 kind_by (Some b) end f is = rw is refl
 
--- whether a transaction is an update, as the facts tell
+-- whether a transaction is an update, by its facts
 pub kind_of : (es : List Entry) (t : ℕ) (f : Option Facts) → f ≡ facts_of es t
     → is_update (accepted es) t ≡ unwrap_or (option_map (λ (g : Facts). not g.query) f) false
 kind_of es t f is = kind_by (beginning (accepted es) t) _ f is

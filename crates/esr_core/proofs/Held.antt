@@ -9,7 +9,7 @@ use Rattle.esr_history.specs.Orderly.{IsWellFormed, names}
 use Rattle.esr_history.proofs.Orderly.{beginning-kept, beginning-push, is_begun-push}
 use Rattle.esr_history.proofs.Lawful.{begun_in_range}
 
--- an event that begins and ends nothing leaves who is active
+-- an event that begins and ends nothing does not change which transactions are active
 pub active-kept : (events : List Event) (e : Event) → beginning_of e ≡ None → ((t : ℕ) → commits t e ≡ false) → ((t : ℕ) → aborts t e ≡ false) → (t : ℕ) → is_active (events ++ e ∷ []) t ≡ is_active events t
 active-kept events e begins c a t = rw (beginning-kept events e t begins, any_push_no (commits t) events e (c t), any_push_no (aborts t) events e (a t)) refl
 

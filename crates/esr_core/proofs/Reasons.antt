@@ -103,7 +103,7 @@ module _ (d : Distance) (h : Schedule) (items : List Versions) (table : List Tra
       ∙ sym (ap (λ (r : Option Refusal). first_reason (r ∷ import_full d h (due_in d h (Read t x)) ∷ export_full d h (due_in d h (Read t x)) ∷ [])) (many_none t.0 l)
       ∙ ap (λ (cs : List Charge). first_reason (None ∷ import_full d h cs ∷ export_full d h cs ∷ [])) owed))
 
-  -- why a read is refused, where the transaction is active and the item is there
+  -- the reason for refusing a read if the transaction is active and the item exists
   pub read_query : (t : TxnId) (x : ItemId) → is_query (accepted_in h) t.0 ≡ true → None ≡ first_reason (not_begun h t.0 ∷ ended h t.0 ∷ []) → None ≡ no_item h x.0
       → first_reason (many_reads h t.0 ∷ import_full d h (due_in d h (Read t x)) ∷ export_full d h (due_in d h (Read t x)) ∷ []) ≡ refusal d h (Read t x)
   read_query t x query active item = grind (arith, skip, without)
@@ -140,7 +140,7 @@ module _ (d : Distance) (h : Schedule) (items : List Versions) (table : List Tra
       → Some why ≡ first_reason (not_begun h t.0 ∷ ended h t.0 ∷ no_item h x.0 ∷ query_writes h t.0 ∷ out_of_range v ∷ write_blocked h t.0 x.0 ∷ [])
   write_range t x v why no_query range active item = grind (arith, skip)
 
--- the reasons before the charges of a write come first
+-- the other reasons precede the charges of a write
 pub write_split : (a b c e f g i j : Option Refusal) → first_reason (a ∷ b ∷ c ∷ e ∷ f ∷ g ∷ []) ≡ None → first_reason (a ∷ b ∷ c ∷ e ∷ f ∷ g ∷ i ∷ j ∷ []) ≡ first_reason (i ∷ j ∷ [])
 write_split None None None None None None i j none = refl
 write_split None None None None None (Some w) i j none = absurd (cc)

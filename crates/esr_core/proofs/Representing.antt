@@ -22,7 +22,7 @@ use Rattle.esr_core.proofs.Rows.{rows-begin, rows-kept, rows-read, rows-end}
 use Rattle.esr_core.proofs.Locks.{locks_at_item, writer_is, all-begin, all-read, all-query, all-write, all-end}
 use Rattle.esr_core.proofs.Accounts.{books-kept, books-begin}
 
--- what holds of a commit and of an abort holds of an end
+-- a property of a commit and of an abort holds of an end
 pub by : (P : Event → Type 0) (commits : Bool) (t : TxnId) → P (Commit t) → P (Abort t) → P (end_event commits t)
 by P true t commit abort = commit
 by P false t commit abort = abort
@@ -100,7 +100,7 @@ module _ (d : ℕ → ℤ → ℤ → ℕ) (opening : List ℤ) (events : List E
         orderly = orderly_then;
       }
 
-  -- who has written an item, as the locks have it
+  -- the transactions that have written an item, by the locks
   pub writes_here : (t x : ℕ) → x < length opening → is_writer (locks_at locks x) t ≡ (is_update events t && holds_write events t x)
   writes_here t x l = ap (λ (ls : List ItemLocks). is_writer (locks_at ls x) t) rep.locked ∙ (ap (λ (g : ItemLocks). is_writer g t) (locks_at_item events (length opening) x l) ∙ writer_is events rep.orderly x t)
 

@@ -38,7 +38,7 @@ reason_at true true b = refl
 reason_at true false b = refl
 reason_at false act b = absurd (false≢true b)
 
--- what the table says of a transaction
+-- the table's row of a transaction
 module _ (h : Schedule) (table : List Transaction) (is : table ≡ transactions_after (accepted_in h)) where
   pub row_reason : (k : ℕ) (r : Transaction) → k < length table → r ≡ get_or table k r → first_reason (not_begun h (suc k) ∷ ended h (suc k) ∷ []) ≡ (if r.active then None else Some AlreadyEnded)
   row_reason k r l at =

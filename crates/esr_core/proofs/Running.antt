@@ -1,4 +1,4 @@
--- What an active update has read still holds: its history, with its commit, is a legal one.
+-- The reads of an active update still hold: its history extended by its commit is legal.
 use Rattle.std.proofs.Common.{◌≡◌, ℕ, ℤ, true, false, cond, not, ◌||◌, ◌==◌, List, [], ◌∷◌, ◌++◌, refl, sym, ◌∙◌, ap, filter, flat_map, append-nil, append_assoc, unwrap_or, option_map}
 use Rattle.std.specs.List.{filter_map, list_any, before_first}
 use Rattle.std.proofs.Math.Path.{fun_ext}

@@ -19,7 +19,7 @@ use Rattle.esr_core.proofs.Locks.{locks_at_item}
 use Rattle.esr_core.proofs.Charges.{charges_by, quote_reason, due-write, are_charges-write, books-charged}
 use Rattle.esr_core.proofs.Reasons.{write_split, write_first}
 
--- the reasons to refuse a write, its charges aside
+-- the reasons to refuse a write, apart from its charges
 abbrev pub barred : Schedule → TxnId → ItemId → ℤ → Option Refusal
 barred h t x v = first_reason (not_begun h t.0 ∷ ended h t.0 ∷ no_item h x.0 ∷ query_writes h t.0 ∷ out_of_range v ∷ write_blocked h t.0 x.0 ∷ [])
 

@@ -1,4 +1,4 @@
--- What one more entry does to the count of active transactions.
+-- The effect of one more entry on the count of active transactions.
 use Rattle.std.proofs.Common.{◌≡◌, ◌≤◌, ◌<◌, ℕ, zero, suc, ◌+◌, ◌-◌, List, [], ◌∷◌, ◌++◌, length, ℤ, Bool, true, false, cond, not, ◌&&◌, ◌||◌, ◌==◌, refl, sym, ◌∙◌, ap, subst, arith, Option, None, Some, map, get_or, set, count_by, nat_le, nat_lt}
 use Rattle.std.proofs.Math.Path.{fun_ext}
 use Rattle.std.proofs.lemmas.Bool.{false≢true, or_parts}
@@ -73,7 +73,8 @@ count-end events e (suc k) none ends by act =
     let old : count_by (λ (q : Transaction). q.active) table ≡ active_count events = rows_count events in
     omega (arith, sums, one, new, old)
 
--- what an entry with the machine's reply leaves: the count by that reply, and an end only where one was active
+-- the state after an entry with the machine's reply: the count by that reply, and an end only if a transaction was
+-- active
 pub record Counted (h : Schedule) (e : Event) (r : Reply) : Type 0 where
   pub some : is_end r ≡ true → 0 < active_count (accepted_in h)
   pub count : active_count (accepted_in (extended h e r)) ≡ active_after (active_count (accepted_in h)) r

@@ -1,4 +1,4 @@
--- What a read for update reads is the current value, and its reader holds the write lock.
+-- A read for update returns the current value, and its reader holds the write lock.
 use Rattle.std.proofs.Common.{◌≡◌, ℕ, ℤ, pos, List, [], ◌∷◌, ◌++◌, length, Bool, true, false, not, ◌&&◌, ◌==◌, refl, sym, ◌∙◌, ap, subst, arith, inl, inr, Option, None, Some, if◌then◌else◌, option_map, unwrap_or, nat_lt, nat_le}
 use Rattle.std.specs.Prelude.{Result, Ok, Err, IfOk, OnOk}
 use Rattle.std.specs.List.{list_any}
@@ -46,7 +46,7 @@ module _ (h : Schedule) (o : IsWellFormed (accepted_in h)) (x : ItemId) where
       unless false is = is
 
   module _ (t : TxnId) where
-    -- who has the lock holds it
+    -- a transaction for which `has_lock` is true holds the lock
     lock_held : has_lock h t.0 x.0 ≡ true → (is_update (accepted_in h) t.0 ≡ true) × (holds_write (accepted_in h) t.0 x.0 ≡ true)
     lock_held has =
         let found : unwrap_or (option_map (λ u. u == t.0) (writer (accepted_in h) x.0)) false ≡ true = (and_parts (nat_lt x.0 (length h.opening)) (unwrap_or (option_map (λ u. u == t.0) (writer (accepted_in h) x.0)) false) has).1 in
@@ -121,7 +121,7 @@ module _ (h : Schedule) (t : TxnId) (x : ItemId) where
       → (locked h t x ≡ extended h (lock_event h t x) Wrote) × (reply_for_update h t x ≡ reply_to weighted (extended h (lock_event h t x) Wrote) (Read t x)) × (after_for_update h t x ≡ after (extended h (lock_event h t x) Wrote) (Read t x))
   taken_steps has wrote = (rw (has, wrote) refl, rw (has, wrote) refl, rw (has, wrote) refl)
 
--- the ok answers of two facts
+-- the contract of a read for update with an `Ok` result
 pub record Finished (h : Schedule) (t : TxnId) (x : ItemId) (r : Result Reply Unanswered) (new : Schedule) : Type 0 where
   pub reply : IfOk r (λ a. a ≡ reply_for_update h t x)
   pub added : OnOk r (new ≡ after_for_update h t x)

@@ -1,4 +1,4 @@
--- What an active report has read is within its import.
+-- The reads of an active report are within its import.
 use Rattle.std.proofs.Common.{List, ℕ}
 use Rattle.esr_items.specs.Weights.{weighted, weighted-same, weighted_comm, weighted-triangle}
 use Rattle.esr_history.specs.Machine.{Schedule, IsLegal}

@@ -1,4 +1,4 @@
--- What facts tell of a transaction, as its account.
+-- The account of a transaction, by its facts.
 use Rattle.std.proofs.Common.{◌≡◌, ℕ, true, false, not, ◌&&◌, refl, sym, ◌∙◌, ap, Option, None, Some, is_some, if◌then◌else◌, option_map}
 use Rattle.esr_history.specs.declared.back_links.Facts.{Facts}
 use Rattle.esr_history.specs.BackLinks.{accepted_end, last_place, facts_by, facts_of}
@@ -13,7 +13,7 @@ use Rattle.esr_engine.specs.Statuses.{status_at}
 use Rattle.esr_engine.proofs.Ends.{active_is}
 
 module _ (d : Distance) (h : Schedule) (legal : IsLegal d h) (t : ℕ) where
-  -- the place of its end says how it stands
+  -- the index of its end determines its status
   status_is : is_begun (accepted_in h) t ≡ true → status_at h.entries (last_place accepted_end t h.entries) ≡ status_of (accepted_in h) t
   status_is begun = at (last_place accepted_end t h.entries) refl
     where

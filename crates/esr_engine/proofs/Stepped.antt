@@ -1,4 +1,4 @@
--- An engine whose machine has answered an event is an engine still: whichever call it was that gave the event.
+-- An engine whose machine has executed an event still satisfies its invariant, whichever call executed it.
 use Rattle.std.proofs.Common.{◌≡◌, ◌<◌, ◌≤◌, ◌∙◌, ◌+◌, ℕ, List, All, ap, sym, subst, arith, true, false, length}
 use Rattle.esr_base.specs.declared.limits.TheConstants.{MAX_ENTRIES, MAX_ITEMS}
 use Rattle.esr_items.specs.Weights.{IsWeight, weighted}

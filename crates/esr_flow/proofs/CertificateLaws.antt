@@ -37,7 +37,7 @@ chains_length p n (c ∷ chains) h =
       sum_by-cons (λ chain. length chain.costs) c chains,
     )
 
--- as many amounts as costs, pairs and what a set must have
+-- there are as many amounts as costs, pairs, and updates that a set must contain
 pub flow_length : (p : Problem) → IsProblem p → (flow : List ℕ) → IsFlow (network p) flow → length flow ≡ sum_by (λ chain. length chain.costs) p.chains + length p.before + length p.must
 flow_length p ok flow f =
     omega (
@@ -86,7 +86,7 @@ sum_take chains n =
 pub row_long : (row flow : List ℕ) (at n : ℕ) → row ≡ take ((at + n) - at) (drop at flow) → at + n ≤ length flow → length row ≡ n
 row_long row flow at n e l = omega (arith, ap length e, length-take ((at + n) - at) (drop at flow), length-drop at flow)
 
--- amounts that were cut at one place, and what came before it at another
+-- amounts that were cut at one index, and their prefix at another
 pub whole : (xs bs ms flow : List ℕ) (k n : ℕ) → xs ≡ take k (take n flow) → bs ≡ drop k (take n flow) → ms ≡ drop n flow → (xs ++ bs) ++ ms ≡ flow
 whole xs bs ms flow k n a b c =
     ap (λ l. (l ++ bs) ++ ms) a
@@ -95,7 +95,8 @@ whole xs bs ms flow k n a b c =
     ∙ ap (λ l. take n flow ++ l) c
     ∙ take-append-drop n flow
 
--- the first part of the amounts is as long as the costs, the second as the pairs, the third as what a set must hold
+-- the first part of the amounts is as long as the costs, the second as the pairs, the third as the updates that a set
+-- must contain
 pub record Parts (p : Problem) (flow xs bs ms : List ℕ) : Type 0 where
   pub backs : length bs ≡ length p.before
   pub musts : length ms ≡ length p.must

@@ -10,7 +10,7 @@ use Rattle.esr_flow.proofs.Count.{count_below, count_fewer, first_below, first_l
 use Rattle.esr_flow.proofs.Labels.{Levels}
 
 module _ (arcs : List Arc) (flow : List ℕ) (sink : ℕ) where
-  -- a residual step from v to a node from where the test passes
+  -- a residual step from v to a node that passes the test
   abbrev leads : (ℕ → Bool) → ℕ → ResidualArc → Bool
   leads test v s = within 1 (residual_capacity arcs flow s) && (eqb (start arcs s) v && test (finish arcs s))
 

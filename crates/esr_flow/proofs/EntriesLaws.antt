@@ -1,4 +1,4 @@
--- The entries of a graph's steps: the row of a node, and what an arc's new amount changes.
+-- The entries of a graph's steps: the row of a node, and the changes by an arc's new amount.
 use Rattle.std.proofs.Common.{◌≡◌, ◌≢◌, ℕ, suc, Bool, true, Contains, ◌-◌, ◌<◌, List, [], ◌∷◌, length, get_or, set, take, drop, map, refl, sym, ap, ◌∙◌, subst, inl, inr, arith, Some, length-set, get_or-set_other, get_or-set_same}
 use Rattle.std.proofs.lemmas.Bool.{cases_eq, eqb-true, or_cases}
 use Rattle.std.proofs.lemmas.List.{ext_get_or, get_or-map, length-map, take-map, drop-map}
@@ -40,7 +40,7 @@ lists_from arcs flow v steps h = record {
   all = λ step l e. contains_from steps step (h.all step l e);
 }
 
--- a mapped list with two of its places written over, where the others keep their values
+-- a mapped list with two of its elements overwritten, if the others keep their values
 module _ {S E : Type 0} (f h : S → E) (steps : List S) (entries : List E) (p q : ℕ) (a b d : S) (z : E) where
   each_written : entries ≡ map f steps → p < length steps → q < length steps → get_or steps p d ≡ a → get_or steps q d ≡ b → ((k : ℕ) → k < length steps → k ≢ p → k ≢ q → h (get_or steps k d) ≡ f (get_or steps k d)) → (k : ℕ) → k < length steps → get_or (set (set entries p (h a)) q (h b)) k z ≡ h (get_or steps k d)
   each_written are lp lq at_p at_q others k l =
@@ -93,7 +93,7 @@ map_same f h e [] = refl
 map_same f h e (s ∷ steps) = ap (λ x. x ∷ map f steps) (e s) ∙ ap (λ xs. h s ∷ xs) (map_same f h e steps)
 
 module _ (g : Graph) where
-  -- the row of the node where a step starts has it
+  -- a step is in the row of the node where it starts
   pub in_row : (s : ResidualArc) → arc_of s < length (arcs_of g) → Contains (row_in g.rows.now.steps.items (span_at g.rows.now.spans.items (start (arcs_of g) s))) s
   in_row s l =
       contains_from (row_in g.rows.now.steps.items (span_at g.rows.now.spans.items (start (arcs_of g) s))) s
@@ -112,7 +112,7 @@ module _ (g : Graph) where
       subst (λ list. Lists (arcs_of g) flow v list row) (sym steps_are)
       (subst (Lists (arcs_of g) flow v (row_in g.rows.now.steps.items (span_at g.rows.now.spans.items v))) (sym row_is) (row_lists flow entries are v l))
 
-  -- a step that lies at no place of an arc's two steps is of another arc
+  -- a step at neither index of an arc's two steps belongs to another arc
   other_arc : (i k p q : ℕ) → k < length g.rows.now.steps.items → p < length g.rows.now.steps.items → q < length g.rows.now.steps.items → step_at g.rows.now.steps.items p ≡ Forward i → step_at g.rows.now.steps.items q ≡ Backward i → k ≢ p → k ≢ q
       → (t : ResidualArc) → step_at g.rows.now.steps.items k ≡ t → arc_of t ≢ i
   other_arc i k p q l lp lq at_p at_q np nq (Forward j) is e = np (g.kept.steps.once k p l lp (is ∙ ap (λ n. Forward n) e ∙ sym at_p))
@@ -128,7 +128,7 @@ module _ (g : Graph) where
       ∙ written f h g.rows.now.steps.items entries p q (Forward i) (Backward i) (Forward 0) (entry_at [] 0) are lp lq at_p at_q
       (λ k l np nq. same_entry (arcs_of g) flow i x (step_at g.rows.now.steps.items k) (other_arc i k p q l lp lq at_p at_q np nq (step_at g.rows.now.steps.items k) refl))
 
-  -- where an arc's two steps have residual capacity as before, so do all steps
+  -- if the same steps of an arc have residual capacity as before, so do all steps
   pub unchanged : (flow : List ℕ) (entries : List AdjacencyEntry) (i x : ℕ) (arc : Arc) → i < length flow → arc ≡ arc_at (arcs_of g) i → AreEntries g flow entries
       → within 1 (left_of arc.capacity (amount_at flow i)) ≡ within 1 (left_of arc.capacity x) → within 1 (Some (amount_at flow i)) ≡ within 1 (Some x) → AreEntries g (set flow i x) entries
   unchanged flow entries i x arc l is are same_ahead same_back =

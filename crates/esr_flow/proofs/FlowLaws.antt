@@ -1,4 +1,5 @@
--- What an augmentation does to a flow: it stays a flow, its worth rises by the amount, and no arc gets more than that.
+-- The effect of an augmentation on a flow: it stays a flow, its worth rises by the amount, and no arc gets more than
+-- that.
 use Rattle.std.proofs.Common.{◌≡◌, ℕ, zero, suc, ◌+◌, ◌-◌, ◌<◌, ◌≤◌, Bool, true, false, eqb, List, [], ◌∷◌, length, set, replicate, Option, Some, None, refl, sym, ap, ◌∙◌, subst, inl, inr, arith, le-leb, leb-true, eq-eqb, ne_eqb, get_or-set_same}
 use Rattle.std.proofs.lemmas.Bool.{cases_eq}
 use Rattle.std.proofs.lemmas.List.{length-replicate, get_or-replicate}
@@ -41,7 +42,7 @@ abbrev pub Linked : List Arc → ℕ → List ResidualArc → ℕ → Type 0
 Linked arcs a [] b = a ≡ b
 Linked arcs a (s ∷ path) b = (start arcs s ≡ a) × Linked arcs (finish arcs s) path b
 
--- along a path from a to b, x more leaves a and comes to b
+-- along a path from a to b, x more leaves a and enters b
 path_balance : (d : ℕ → ℕ) (arcs : List Arc) (flow : List ℕ) (x : ℕ) (path : List ResidualArc) (k a b v : ℕ) → length flow ≡ length arcs → Levels d arcs k path → ResidualCapacities arcs flow x path → Linked arcs a path b → outflow arcs (raise flow x path) v + inflow arcs flow v + pick (eqb b v) x ≡ outflow arcs flow v + inflow arcs (raise flow x path) v + pick (eqb a v) x
 path_balance d arcs flow x [] k a b v e h r c = omega (arith, ap (λ n. pick (eqb n v) x) c)
 path_balance d arcs flow x (s ∷ path) k a b v e h r c =
@@ -108,7 +109,7 @@ linked_from : (arcs : List Arc) (flow : List ℕ) (path : List ResidualArc) (a b
 linked_from arcs flow [] a b h = h
 linked_from arcs flow (s ∷ path) a b h = (h.0, linked_from arcs flow path (finish arcs s) b h.2)
 
--- what an augmentation leaves
+-- the state after an augmentation
 pub record After (net : Network) (flow after : List ℕ) (x : ℕ) : Type 0 where
   pub is_flow : IsFlow net after
   pub raised : worth net after ≡ worth net flow + x

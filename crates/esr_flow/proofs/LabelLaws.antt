@@ -1,4 +1,4 @@
--- The labels that a search gives: by how many levels a node's first visit comes before the sink's.
+-- The labels of a search: by how many levels a node's first visit precedes the sink's.
 use Rattle.std.proofs.Common.{◌≡◌, ℕ, ◌+◌, ◌-◌, ◌<◌, ◌≤◌, ◌⊎◌, max, List, length, set, sym, ap, ◌∙◌, subst, inl, inr, arith, length-set, get_or-set_other, get_or-set_same}
 use Rattle.std.proofs.lemmas.Bool.{cases_eq, cases_lt}
 use Rattle.esr_cert.specs.Steps.{start}
@@ -6,7 +6,7 @@ use Rattle.esr_flow.specs.Residual.{finish, Falls}
 use Rattle.esr_cert.specs.Network.{Network}
 use Rattle.esr_flow.specs.Search.{visit_at, label_at, EndsVisited, FoundSink, Guides, Visit}
 
--- the first k visits have given their labels
+-- the labels of the first k visits are set
 pub record Labelled (visits : List Visit) (nodes last : ℕ) (labels : List ℕ) (k : ℕ) : Type 0 where
   pub count : length labels ≡ nodes
   pub some_visit : (v : ℕ) → (label_at labels v ≡ 0) ⊎ ((i : ℕ) × (i < length visits) × ((visit_at visits i).node ≡ v) × (label_at labels v ≡ last - (visit_at visits i).level))

@@ -1,5 +1,5 @@
--- Labels of the nodes that fall by at most one along each residual arc, and what an augmentation along a path
--- on which they fall by one at each step does to them.
+-- Labels of the nodes that fall by at most one along each residual arc, and the effect on them of an augmentation along
+-- a path on which they fall by one at each step.
 use Rattle.std.proofs.Common.{◌≡◌, ◌≢◌, ℕ, suc, ◌+◌, ◌-◌, ◌<◌, ◌≤◌, Bool, true, false, ◌&&◌, ◌||◌, ◌⊎◌, leb, eqb, List, [], ◌∷◌, length, Option, Some, None, refl, sym, ap, ◌∙◌, subst, inl, inr, arith, length-set, eq-eqb, ne_eqb, eqb-true, le-leb, leb-true, get_or-set_other, get_or-set_same}
 use Rattle.std.proofs.lemmas.Bool.{or_left, or_right, or_cases, and_parts, and_from, and_left, or_from, lt-leb, cases_eq, and_right}
 use Rattle.esr_flow.specs.Words.{Arc, ResidualArc, Forward, Backward}

@@ -1,6 +1,6 @@
--- Why phases of shortest augmentations end, within the bound, at a maximum flow, and what the source reaches then
--- is the smallest least set. `SolveLaws`, `MaximumLaws` and `CertificateLaws` are the ends of it; the other modules
--- carry the search, its labels and its entries.
+-- Phases of shortest augmentations end, within the bound, at a maximum flow, and the nodes that the source then reaches
+-- are the smallest set of least cost. `SolveLaws`, `MaximumLaws` and `CertificateLaws` are the results; the other
+-- modules are lemmas about the search, its labels and its entries.
 
 pub mod Count
 pub mod Distance

@@ -1,4 +1,4 @@
--- What the lists of a problem tell of the ends of its network's arcs.
+-- The ends of a network's arcs, by the lists of the problem.
 use Rattle.std.proofs.Common.{◌≡◌, ℕ, ◌+◌, ◌-◌, ◌<◌, ◌≤◌, Bool, true, List, [], ◌∷◌, length, get_or, map, sym, ap, ◌∙◌, arith}
 use Rattle.std.proofs.lemmas.List.{get_or_append_left}
 use Rattle.esr_cert.specs.declared.problem.Chain as code
@@ -28,7 +28,7 @@ module _ (p : Problem) (sound : is_sound p ≡ true) where
   ok : IsProblem p
   ok = facts p sound
 
-  -- the arcs that are not of a chain come last
+  -- the arcs that are not of a chain have the last numbers
   pub count_is : length (network p).arcs ≡ first_back p + length p.before + length p.must
   count_is = arcs_long p ok
 

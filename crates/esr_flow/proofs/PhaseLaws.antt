@@ -1,4 +1,4 @@
--- What an augmentation along a guided path keeps.
+-- The invariants of an augmentation along a guided path.
 use Rattle.std.proofs.Common.{◌≡◌, ℕ, ◌+◌, ◌-◌, ◌*◌, ◌≤◌, List, length, sym, subst, arith}
 use Rattle.esr_flow.specs.Words.{ResidualArc}
 use Rattle.esr_cert.specs.Network.{Network, IsNetwork}

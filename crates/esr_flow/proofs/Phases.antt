@@ -20,7 +20,7 @@ smaller_parts (Some a) (Some b) x h =
     let split : (a ≡ x) ⊎ (b ≡ x) = grind arith in
     (le-leb x a (omega arith), le-leb x b (omega arith), elim split [ inl q ↦ inl (ap (λ n. Some n) q) | inr q ↦ inr (ap (λ n. Some n) q) ])
 
--- what the bottleneck of a path says of each step and of one of them
+-- the relation of a path's bottleneck to each step and to one of them
 within_capacity : (x : ℕ) (b : Option ℕ) → within x b ≡ true → (r : ℕ) → b ≡ Some r → x ≤ r
 within_capacity x None h r e = cc
 within_capacity x (Some s) h r e = let q : s ≡ r = cc in omega (arith, leb-true x s h)
@@ -66,7 +66,7 @@ fewer_tight d arcs flow x path k l len h r b =
     still : (i : ℕ) → i < length arcs → tight d arcs (raise flow x path) i ≡ true → tight d arcs flow i ≡ true
     still i m t = elim (outcome d arcs flow x path k i l h r) [ inl e ↦ ap (tight_at d (arc_at arcs i)) (sym e) ∙ t | inr q ↦ q ]
 
--- what holds after n augmentations, for some labels
+-- the invariant after n augmentations, for some labels
 pub record Phase (net : Network) (n : ℕ) (flow : List ℕ) : Type 0 where
   pub label : ℕ → ℕ
   pub at_sink : label net.sink ≡ 0
@@ -103,7 +103,7 @@ within_phase net ok n flow after p a l =
       same_length = length-raise flow a.amount a.path ∙ p.same_length;
     })
 
--- where the path is longer, a phase begins
+-- if the path is longer, a phase begins
 next_phase : (net : Network) → IsNetwork net → (n : ℕ) (flow after : List ℕ) (p : Phase net n flow) (a : Augments net flow after) → p.label net.source < length a.path → (q : Phase net n flow) × (length a.path ≤ q.label net.source)
 next_phase net ok n flow after p a l =
     let d : ℕ → ℕ = distance net.arcs flow net.sink (length a.path) in

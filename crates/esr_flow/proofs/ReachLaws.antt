@@ -1,4 +1,4 @@
--- How marks of what the source reaches begin, go on and end.
+-- How the marks of the nodes that the source reaches begin, grow and end.
 use Rattle.std.proofs.Common.{◌≡◌, ℕ, ◌<◌, Bool, true, false, List, [], ◌∷◌, ◌++◌, length, set, refl, sym, ap, ◌∙◌, subst, inl, inr, arith, length-set, get_or-set_other, get_or-set_same, Some}
 use Rattle.std.proofs.lemmas.Bool.{cases_eq}
 use Rattle.esr_cert.specs.Network.{Network, IsNetwork, arc_at}

@@ -72,7 +72,7 @@ module _ (net : Network) (ok : IsNetwork net) (flow : List ℕ) (steps : List Re
       let q : IsEntry net.arcs flow (visit_at visits head).node (step_at steps k) e = entry_in e h l is in
       scan_on h (λ r. absurd (true≢false (sym r.1 ∙ sym q.ahead ∙ f)))
 
-  -- a step to a node that was visited; the node is in range, so it does not matter what is past the end
+  -- a step to a node that was visited; the node is in range, so elements past the end do not matter
   pub scan_marked : (e : AdjacencyEntry) → Scanning net flow steps row visits marks head level k → k < length row → e ≡ get_or row k none_at → get_or marks e.to true ≡ true → Scanning net flow steps row visits marks head level (k + 1)
   scan_marked e h l is m =
       let q : IsEntry net.arcs flow (visit_at visits head).node (step_at steps k) e = entry_in e h l is in

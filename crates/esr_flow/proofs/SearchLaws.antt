@@ -20,7 +20,7 @@ abbrev label : List Visit → ℕ → ℕ → ℕ
 label [] top v = top
 label (x ∷ visits) top v = cond (eqb x.node v) x.level (label visits top v)
 
--- it is the level of some visit of the node, or top where the node has none
+-- it is the level of some visit of the node, or top if the node has none
 label_cases : (visits : List Visit) (top v : ℕ) → ((i : ℕ) × (i < length visits) × ((visit_at visits i).node ≡ v) × (label visits top v ≡ (visit_at visits i).level)) ⊎ ((label visits top v ≡ top) × ((i : ℕ) → i < length visits → (visit_at visits i).node ≢ v))
 label_cases [] top v = inr (refl, λ i l. absurd (omega arith))
 label_cases (x ∷ visits) top v =
@@ -39,7 +39,7 @@ label_cases (x ∷ visits) top v =
     not_there f none zero l e = true≢false (sym (eq-eqb x.node v e) ∙ f)
     not_there f none (suc i) l e = none i (omega arith) e
 
--- where levels rise along the list, it is at most the level of each visit of the node
+-- if levels rise along the list, it is at most the level of each visit of the node
 label_least : (visits : List Visit) (top : ℕ) → ((i j : ℕ) → i ≤ j → j < length visits → (visit_at visits i).level ≤ (visit_at visits j).level) → (j : ℕ) → j < length visits → label visits top (visit_at visits j).node ≤ (visit_at visits j).level
 label_least [] top s j l = absurd (omega arith)
 label_least (x ∷ visits) top s zero l =
@@ -227,7 +227,7 @@ module _ (net : Network) (flow : List ℕ) where
       reached_more : (j : ℕ) → 0 < j → j < length (visits ++ extra ∷ []) → IsReached net.arcs flow (visits ++ extra ∷ []) j
       reached_more j a b = elim (place j b) [ inl jl ↦ reached_old j jl (h.is_reached j a jl) | inr je ↦ reached_new j je ]
 
-  -- the next visit, where each step from this one is done
+  -- the next visit, once each step from this one is done
   pub next_head : (visits : List Visit) (marks : List Bool) (head : ℕ) → Searched net flow visits marks head → head < length visits → ((s : ResidualArc) → IsResidual net.arcs flow s → start net.arcs s ≡ (visit_at visits head).node → EndsVisited net.arcs visits (visit_at visits head).level s) → Searched net flow visits marks (head + 1)
   next_head visits marks head h l each = record {
     marks_length = h.marks_length;
@@ -261,7 +261,7 @@ module _ (net : Network) (flow : List ℕ) where
             (path_append net.arcs flow p.0 net.source (visit_at visits (visit_at visits (suc j)).parent).node (visit_at visits (suc j)).step p.1 c.begins c.residual),
       )
 
-  -- at the end the marks are what the source reaches
+  -- at the end the marked nodes are those that the source reaches
   pub all_reached : (visits : List Visit) (marks : List Bool) (head : ℕ) → Searched net flow visits marks head → length visits ≤ head → IsReach net flow (is_marked marks)
   all_reached visits marks head h l = record {
     source = sym (ap (is_marked marks) h.first_node) ∙ h.marked 0 h.some;

@@ -1,4 +1,5 @@
--- Where the source does not reach the sink, what it reaches is the smallest least set, and its cost is the worth.
+-- If the source does not reach the sink, the updates that it reaches are the smallest set of least cost, which is the
+-- worth.
 use Rattle.std.proofs.Common.{◌≡◌, ℕ, zero, suc, ◌+◌, ◌<◌, ◌≤◌, Bool, true, false, cond, eqb, List, [], ◌∷◌, ◌++◌, length, get_or, sum_by, Some, None, refl, sym, ap, ◌∙◌, inl, inr, arith, lt-ltb, le-ltb, eq-eqb, ne_eqb, length-append, get_or-append-add}
 use Rattle.std.proofs.lemmas.Bool.{cases_eq, cases_lt}
 use Rattle.std.proofs.lemmas.List.{get_or_append_left, length-map, get_or-map}
@@ -59,7 +60,7 @@ module _ (p : Problem) (ok : IsProblem p) (flow : List ℕ) (has : ℕ → Bool)
         follow (network p) flow has r i.0 (record { from = count; to = u; capacity = None }) i.1 i.2 refl r.source;
   }
 
-  -- on the nodes, what is reached is the updates that are reached, with the source
+  -- among the nodes, the reached ones are the reached updates and the source
   same_nodes : IsReach (network p) flow has → has (count + 1) ≡ false → (v : ℕ) → v < count + 2 → with_source count has v ≡ has v
   same_nodes r s v l =
       elim (cases_lt v count) [

@@ -98,7 +98,7 @@ positions_past has (suc n) v l =
     last true = or_from (eqb n v) false (ne_eqb n v (λ (e : n ≡ v). omega arith)) refl
     last false = refl
 
--- the list has just the positions that pass
+-- the list contains exactly the positions that pass
 pub positions_at : (has : ℕ → Bool) (n v : ℕ) → v < n → in_set (positions has n) v ≡ has v
 positions_at has zero v l = absurd (omega arith)
 positions_at has (suc n) v l =

@@ -1,4 +1,4 @@
--- The current value of an item is what the writes of active updates leave of its committed value.
+-- The current value of an item is its committed value overwritten by the writes of active updates.
 use Rattle.std.proofs.Common.{◌≡◌, ℕ, ℤ, Bool, true, false, not, ◌&&◌, ◌==◌, List, [], ◌∷◌, refl, sym, ◌∙◌, ap, Option, None, Some, if◌then◌else◌}
 use Rattle.std.specs.List.{filter_map, list_any, cons_option, last_or}
 use Rattle.std.proofs.lemmas.Bool.{true≢false, and_parts, and_from, or_left, or_right, eq-eqb, false_from_ne_true}
@@ -11,7 +11,7 @@ same_number : (a b : ℕ) → Some a ≡ Some b → a ≡ b
 same_number a b e = cc
 
 module _ (x : ℕ) where
-  -- where the last of all writes is by one who passes the test, those who pass leave what all leave
+  -- if the last writer passes the test, the writes of those that pass leave the same value as all writes
   last_passes : (p : ℕ → Bool) (es : List Event) (o : Option ℕ) (v w : ℤ) → ((s : ℕ) → o ≡ Some s → p s ≡ true → v ≡ w)
       → (t : ℕ) → last_or o (filter_map (writer_of x) es) ≡ Some t → p t ≡ true
       → last_value v (filter_map (written p x) es) ≡ last_value w (filter_map (written (λ _. true) x) es)
@@ -32,7 +32,7 @@ module _ (x : ℕ) where
       at later true true own is = later (Some u.0) z z (λ s e q. refl) is
       at later true false own is = later (Some u.0) v z (λ s e q. absurd (true≢false (sym q ∙ (ap p (sym (same_number u.0 s e)) ∙ own)))) is
 
-  -- tests that agree on who wrote the item find the same writes
+  -- tests that agree on all writers of the item find the same writes
   agree : (p q : ℕ → Bool) (es : List Event) → ((u : ℕ) → list_any (writes u x) es ≡ true → p u ≡ q u)
       → filter_map (written p x) es ≡ filter_map (written q x) es
   agree p q [] same = refl
@@ -76,7 +76,7 @@ module _ (opening : List ℤ) (es : List Event) (o : IsWellFormed es) (x : ℕ) 
   abbrev kept : ℕ → Bool
   kept u = not (is_aborted es u)
 
-  -- who is not active, and has begun, has committed or has aborted
+  -- a transaction that has begun and is not active has committed or aborted
   ended_kept : (u : ℕ) → is_begun es u ≡ true → is_active es u ≡ false → kept u ≡ is_committed es u
   ended_kept u begun over = at (is_committed es u) (is_aborted es u) refl refl (sym (ap (λ b. b && (not (is_committed es u) && not (is_aborted es u))) begun) ∙ over)
     where
@@ -86,7 +86,7 @@ module _ (opening : List ℤ) (es : List Event) (o : IsWellFormed es) (x : ℕ) 
       at false true c a h = ap not a ∙ sym c
       at false false c a h = absurd (true≢false (sym (ap (λ b. not b && not (is_aborted es u)) c ∙ ap not a) ∙ h))
 
-  -- where no active update has written the item
+  -- if no active update has written the item
   none_active : ((u : ℕ) → list_any (writes u x) es ≡ true → active_update es u ≡ false)
       → current_value opening es x ≡ last_value (committed_value opening es x) (filter_map (written (active_update es) x) es)
   none_active idle =

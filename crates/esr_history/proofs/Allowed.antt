@@ -1,4 +1,4 @@
--- What holds of a read, a write and an end that are not refused, each reason by its name.
+-- Consequences of a read, a write and an end that are not refused, one for each reason to refuse.
 use Rattle.std.proofs.Common.{◌≡◌, ℤ, List, [], ◌∷◌, Option, None, Some, refl, arith}
 use Rattle.esr_history.specs.Events.{ItemId, TxnId, Read, Write, Refusal}
 use Rattle.esr_history.specs.Machine.{Distance, Schedule, not_begun, ended, no_item, query_writes, out_of_range, many_reads, read_blocked, write_blocked, import_full, export_full, due_in, first_reason, reasons}
@@ -22,7 +22,7 @@ pub record ReadAllowed (d : Distance) (h : Schedule) (t : TxnId) (x : ItemId) : 
   pub imports : import_full d h (due_in d h (Read t x)) ≡ None
   pub exports : export_full d h (due_in d h (Read t x)) ≡ None
 
--- the charges of a write aside
+-- apart from the charges of a write
 pub record WriteOpen (h : Schedule) (t : TxnId) (x : ItemId) (v : ℤ) : Type 0 where
   pub begun : not_begun h t.0 ≡ None
   pub active : ended h t.0 ≡ None

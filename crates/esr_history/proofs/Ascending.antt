@@ -1,4 +1,4 @@
--- What a search finds in a list that ascends, and what an edit there does.
+-- The results of a search in an ascending list, and the effect of an edit there.
 use Rattle.std.proofs.Common.{◌≡◌, ℕ, zero, suc, ◌<◌, ◌≤◌, List, [], ◌∷◌, length, Bool, true, false, not, ◌==◌, refl, sym, ap, subst, arith, inl, inr, get_or, set, map, Result, Ok, Err, IfOk, IfErr, ◌||◌, Some, filter, find, nat_lt}
 use Rattle.std.specs.List.{AllByRecursion, insert, remove, list_any}
 use Rattle.std.specs.List.Sorted.{IsSearchInRange, IsBinarySearchResult, IsNonDecreasingBy}
@@ -51,7 +51,7 @@ module _ {X : Type 0} (key : X → ℕ) where
   place_tail x xs t i place = record { in_range = omega (arith, place.in_range); has_number = place.has_number }
 
   module _ (t : ℕ) (new : X) (change : X → X) where
-    -- where the number is, its element is changed
+    -- at the index of the number, the element is changed
     pub placed_at : (xs : List X) → IsAscendingBy key xs → (i : ℕ) (d : X) → IsPlaceOf key xs t i → set xs i (change (get_or xs i d)) ≡ upserted key t new change xs
     placed_at [] asc i d place = absurd (omega (arith, place.in_range))
     placed_at (x ∷ xs) asc zero d place = rw (eq-eqb (key x) t (place.has_number d)) refl
@@ -100,7 +100,7 @@ module _ {X : Type 0} (key : X → ℕ) where
   filter_ascends p [] asc = tt
   filter_ascends p (x ∷ xs) asc = grind (arith, cases_Bool (p x), all_filter, filter_ascends p xs asc.1)
 
-  -- who have another number than t
+  -- the elements with a number other than t
   abbrev pub others : ℕ → List X → List X
   others t xs = filter (λ y. not (key y == t)) xs
 
@@ -120,7 +120,7 @@ module _ {X : Type 0} (key : X → ℕ) where
       let l : t < key x = all.0 in
       rw (ne_eqb (key x) t (λ (e : key x ≡ t). omega arith)) (ap (λ ys. x ∷ ys) (others_above t xs all.1))
 
-  -- where the number is, its element alone is dropped
+  -- at the index of the number, only this element is dropped
   pub others_at : (t i : ℕ) (xs : List X) (d : X) → IsAscendingBy key xs → IsPlaceOf key xs t i → others t xs ≡ remove xs i
   others_at t i [] d asc place = absurd (omega (arith, place.in_range))
   others_at t zero (x ∷ xs) d asc place =
@@ -131,7 +131,7 @@ module _ {X : Type 0} (key : X → ℕ) where
       let r : key x < key (get_or xs i d) = All-from_recursion (λ y. key x < key y) xs asc.0 i d (omega (arith, place.in_range)) in
       rw (ne_eqb (key x) t (λ (e : key x ≡ t). omega arith)) (ap (λ ys. x ∷ ys) (others_at t i xs d asc.1 (place_tail x xs t i place)))
 
-  -- where the number is, some element has it
+  -- if the number has an index, some element has the number
   pub any_place : (t i : ℕ) (xs : List X) (d : X) → IsPlaceOf key xs t i → list_any (λ y. key y == t) xs ≡ true
   any_place t i [] d place = absurd (omega (arith, place.in_range))
   any_place t zero (x ∷ xs) d place = or_left (key x == t) (list_any (λ y. key y == t) xs) (eq-eqb (key x) t (place.has_number d))
@@ -146,7 +146,7 @@ module _ {X : Type 0} (key : X → ℕ) where
       let l : key x < t = gap.smaller_before 0 x (omega arith) in
       rw (ne_eqb (key x) t (λ (e : key x ≡ t). omega arith)) (any_gap t i xs (gap_tail x xs t i gap))
 
-  -- where the number is, and its element is not changed, nothing changes
+  -- if the number has an index, and the change keeps its element, nothing changes
   pub placed_same : (t i : ℕ) (new : X) (xs : List X) → IsAscendingBy key xs → IsPlaceOf key xs t i → upserted key t new (λ y. y) xs ≡ xs
   placed_same t i new [] asc place = absurd (omega (arith, place.in_range))
   placed_same t zero new (x ∷ xs) asc place = rw (eq-eqb (key x) t (place.has_number x)) refl
@@ -155,7 +155,7 @@ module _ {X : Type 0} (key : X → ℕ) where
       let r : key x < key (get_or xs i x) = All-from_recursion (λ y. key x < key y) xs asc.0 i x (omega (arith, place.in_range)) in
       rw (ne_eqb (key x) t (λ (e : key x ≡ t). omega arith), le_ltb t (key x) (omega arith)) (ap (λ ys. x ∷ ys) (placed_same t i new xs asc.1 (place_tail x xs t i place)))
 
-  -- where the number is, a search by number finds the element
+  -- if the number has an index, a search by number finds the element there
   pub found_at : (t i : ℕ) (xs : List X) (d : X) → IsAscendingBy key xs → IsPlaceOf key xs t i → find (λ y. key y == t) xs ≡ Some (get_or xs i d)
   found_at t i [] d asc place = absurd (omega (arith, place.in_range))
   found_at t zero (x ∷ xs) d asc place = rw (eq-eqb (key x) t (place.has_number d)) refl
@@ -164,7 +164,7 @@ module _ {X : Type 0} (key : X → ℕ) where
       let r : key x < key (get_or xs i d) = All-from_recursion (λ y. key x < key y) xs asc.0 i d (omega (arith, place.in_range)) in
       rw (ne_eqb (key x) t (λ (e : key x ≡ t). omega arith)) (found_at t i xs d asc.1 (place_tail x xs t i place))
 
-  -- what holds of each element, the new one and the changed ones holds where one is placed
+  -- a property of each element, of the new one and of changed ones holds after an insertion
   pub all_placed : (P : X → Type 0) (t : ℕ) (new : X) (change : X → X) → P new → ((y : X) → P y → P (change y)) → (xs : List X) → AllByRecursion P xs → AllByRecursion P (upserted key t new change xs)
   all_placed P t new change p keeps [] all = (p, tt)
   all_placed P t new change p keeps (x ∷ xs) all =

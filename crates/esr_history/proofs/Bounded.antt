@@ -1,4 +1,4 @@
--- The distance of a committed query from the version at its commit is at most what it was charged.
+-- The distance of a committed query from the version at its commit is at most the amount charged to it.
 use Rattle.std.proofs.Common.{◌≡◌, ℕ, ◌+◌, ◌≤◌, ℤ, Bool, true, false, cond, not, List, [], ◌∷◌, ◌++◌, take, drop, refl, sym, ◌∙◌, ap, subst, inl, ⊎_elim, arith, filter, eqb, sum_by, take-append-drop}
 use Rattle.std.specs.List.{list_any, before_first, position_or_len}
 use Rattle.std.proofs.Math.Path.{fun_ext}

@@ -1,4 +1,4 @@
--- What a query has been charged is at least the distance of its reads to any mixture of committed and current values.
+-- The amount charged to a query is at least the distance of its reads to any mixture of committed and current values.
 use Rattle.std.proofs.Common.{◌≡◌, ℕ, ◌+◌, ◌*◌, ◌≤◌, ℤ, Bool, true, false, cond, not, ◌&&◌, ◌⊎◌, List, [], ◌∷◌, ◌++◌, refl, sym, ◌∙◌, ap, subst, inl, inr, ⊎_elim, arith, filter, eqb, Option, Some, None, count_by, sum_by, is_some}
 use Rattle.std.proofs.lemmas.List.Sums.{sum_by-cons, sum_by_push}
 use Rattle.std.proofs.lemmas.Bool.{true≢false, cases_Bool, cases_eq, and_parts, and_from, eqb-true, eq-eqb, ne_eqb, not-true, not_from_false, not-false, false_from_ne_true, cond-true, cond-false}
@@ -29,7 +29,7 @@ reads_with t o q h = filter_push_false (read_by q) t.operations o h
 read_parts : (q : ℕ) (o : Operation) → read_by q o ≡ true → (o.writes ≡ false) × (o.txn ≡ q)
 read_parts q o h = let p = and_parts (not o.writes) (eqb o.txn q) h in (not-true o.writes p.0, eqb-true o.txn q p.1)
 
--- where single distances grow by at most k at the elements that c counts, so do the sums
+-- if single distances grow by at most k at the elements that c counts, so do the sums
 pub sums_within : (p c : Operation → Bool) (f g : Operation → ℕ) (k : ℕ) (xs : List Operation) →
     ((o : Operation) → In o xs → p o ≡ true → f o ≤ g o + cond (c o) k 0) →
     sum_by f (filter p xs) ≤ sum_by g (filter p xs) + count_by c xs * k

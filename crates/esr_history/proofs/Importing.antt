@@ -64,7 +64,7 @@ module _ (d : Distance) (h : Schedule) (legal : IsLegal d h) where
       let low : limit_of (accepted_in h) t ≤ 10 ^ 18 = low_limits (accepted_in h) (legal_induction d (λ g. AreLow (accepted_in g)) (low_next d) h tt legal) t in
       omega arith
 
-  -- who has not begun has imported nothing
+  -- a transaction that has not begun has imported nothing
   import_none : (t : ℕ) → begun_count h.entries < t → import_in (charges_in d h) t ≡ 0
   import_none t past =
       let within : import_in (charges_in d h) t ≤ limit_of (accepted_in h) t = (legal_within_limits d h legal).imports t in

@@ -1,4 +1,4 @@
--- The kind of a transaction, and whether it is a query, tell each other.
+-- The kind of a transaction and the test for a query determine each other.
 use Rattle.std.proofs.Common.{◌≡◌, Bool, true, false, refl}
 use Rattle.esr_history.specs.Events.{Kind, Update, Query, kind_of, is_query_kind}
 

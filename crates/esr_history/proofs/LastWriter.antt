@@ -1,4 +1,4 @@
--- Two lists of the same updates, each of which keeps the conflict order, leave the same value of an item.
+-- Two lists of the same updates that both respect the conflict order leave the same value of an item.
 use Rattle.std.proofs.Common.{◌≡◌, ℕ, ℤ, Bool, true, false, ◌⊎◌, List, [], ◌∷◌, ◌++◌, refl, sym, ◌∙◌, ap, subst, inl, inr, ⊎_elim, flat_map, arith}
 use Rattle.std.proofs.lemmas.Bool.{true≢false, cases_eq}
 use Rattle.esr_history.specs.Events.{last_value}
@@ -8,7 +8,7 @@ pub last_value-append : (v : ℤ) (xs ys : List ℤ) → last_value v (xs ++ ys)
 last_value-append v [] ys = refl
 last_value-append v (x ∷ xs) ys = last_value-append x xs ys
 
--- what some writes leave does not depend on the value before
+-- the value after some writes does not depend on the value before
 pub last_value-some : (xs : List ℤ) (v u : ℤ) → (xs ≡ [] → ⊥) → last_value v xs ≡ last_value u xs
 last_value-some [] v u h = absurd (h refl)
 last_value-some (x ∷ xs) v u h = refl
@@ -17,7 +17,7 @@ pub empty_or_not : {X : Type 0} (xs : List X) → (xs ≡ []) ⊎ (xs ≡ [] →
 empty_or_not [] = inl refl
 empty_or_not (x ∷ xs) = inr (λ e. cc)
 
--- u is the last of the updates us that writes, so its last write is what they leave of v
+-- u is the last of the updates us that writes, so its last write is the value that they leave
 pub record LastWriter (before : ℕ → ℕ → Bool) (w : ℕ → List ℤ) (us : List ℕ) (v : ℤ) (u : ℕ) : Type 0 where
   pub is_in : In u us
   pub writes : w u ≡ [] → ⊥

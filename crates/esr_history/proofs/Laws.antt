@@ -74,7 +74,7 @@ import_bounds_distance d metric h legal q is =
     subst (λ (w : ℕ → ℤ). distance_from d h q w ≤ import_in (charges_in d h) q) (sym values)
     (bounded (metric h.weights) (legal_reached d h legal) q (sym (committed_among (accepted_in h) q) ∙ p.1) (query_not_update (accepted_in h) q p.0))
 
--- the audit of a committed query finds the same in every longer legal history
+-- the audit of a committed query has the same result in every longer legal history
 pub audit_stays : (d : Distance) (h : Schedule) (rest : List Entry) (q : ℕ) → IsLegal d (along h rest) → is_committed (accepted_in h) q ≡ true → IsAlike d h (along h rest) q
 audit_stays d h rest q legal over =
     let longer : Schedule = along h rest in

@@ -111,7 +111,7 @@ links_length key own es = at 0 (length es)
     at a zero = refl
     at a (suc n) = ap suc (at (a + 1) n)
 
--- ---- what one more entry changes
+-- ---- the changes by one more entry
 pub accepted_push : (es : List Entry) (e : Entry) → is_refusal e.reply ≡ false → accepted (es ++ e ∷ []) ≡ accepted es ++ e.event ∷ []
 accepted_push es e is = grind (arith, map, filter-append, filter, cond, map-append)
 
@@ -229,7 +229,7 @@ module _ (n : ℕ) (es : List Entry) (l : BackLinks) (are : AreLinks n es l) (fi
     begins = g ∙ (ap (λ t. begins_after t e.event) are.begins ∙ sym (begins_after_entry es e.event e.reply is));
   }
 
--- what is known of a transaction that has begun
+-- the facts of a transaction that has begun
 found : (bs : List Beginning) (k : ℕ) (b : Begin) (end : Option ℕ) → k < length bs → b ≡ get_or (map begin_of bs) k b → Some (record { query = is_query_kind b.kind; limit = b.limit; end = end }) ≡ facts_by (slice_get bs k) end
 found [] k b end l is = absurd (omega arith)
 found (c ∷ bs) zero b end l is =

@@ -1,4 +1,5 @@
--- What two-phase locking keeps: who conflicts has ended first, so commits keep the conflict order.
+-- The invariant of two-phase locking: a conflicting transaction has ended before, so commits respect the conflict
+-- order.
 use Rattle.std.proofs.Common.{◌≡◌, ℕ, Bool, true, false, not, ◌&&◌, ◌||◌, ◌⊎◌, List, [], ◌∷◌, ◌++◌, refl, sym, ◌∙◌, ap, subst, inl, inr, ⊎_elim, filter, eqb, Option, arith}
 use Rattle.std.specs.List.{list_any}
 use Rattle.std.proofs.lemmas.List.Folds.{list_any-append}

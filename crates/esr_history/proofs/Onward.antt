@@ -55,7 +55,7 @@ module _ (d : Distance) (h : Schedule) (q : ℕ) (over : is_committed (accepted_
       at false = refl
       at true = unnamed charge q other (numbers (accepted_in h))
 
--- the history h so far has what the audit of q in g rests on
+-- the history h so far has the data of the audit of q in g
 pub record IsAfter (d : Distance) (g : Schedule) (q : ℕ) (h : Schedule) : Type 0 where
   pub reached : IsReached d h
   pub same : SameFor q (trace g) (trace h)
@@ -123,7 +123,7 @@ legal_after d h rest q legal over =
       imported = refl;
     })
 
--- each transaction that has begun has the entry that answers its number
+-- each transaction that has begun has the entry whose reply is its number
 abbrev pub HasBegins : Schedule → Type 0
 HasBegins h = (u : ℕ) → is_begun (accepted_in h) u ≡ true → list_any (λ (n : Entry). begins u n.reply) h.entries ≡ true
 

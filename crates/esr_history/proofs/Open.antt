@@ -1,4 +1,4 @@
--- What is open of a query's charges is no more than it has imported.
+-- The open charges of a query are at most its import.
 use Rattle.std.proofs.Common.{◌≡◌, ℕ, ◌+◌, ◌*◌, ◌≤◌, ℤ, Bool, true, false, cond, not, ◌&&◌, ◌⊎◌, List, [], ◌∷◌, ◌++◌, refl, sym, ◌∙◌, ap, subst, ⊎_elim, arith, filter, eqb, Option, Some, None, count_by, sum_by, is_some}
 use Rattle.std.proofs.Math.Nat.{le_trans}
 use Rattle.std.proofs.Math.Path.{fun_ext}

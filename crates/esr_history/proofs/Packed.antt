@@ -1,4 +1,4 @@
--- What a log's short forms stand for as its list of long entries grows.
+-- The packed entries of a log keep their meaning as its list of long entries grows.
 use Rattle.std.proofs.Common.{◌≡◌, List, [], ◌∷◌, ◌++◌, map, All, refl, ap}
 use Rattle.std.proofs.lemmas.List.{get_or_append_left}
 use Rattle.std.proofs.lemmas.List.Elements.{All-head, All-tail}
@@ -7,7 +7,7 @@ use Rattle.esr_history.specs.declared.packed_entry.PackedEntry.{PackedEntry}
 use Rattle.esr_history.specs.declared.packed_entry.PackedEntry.TheVariants.{Long}
 use Rattle.esr_history.specs.PackedEntry.{unpacked, IsWithin, no_entry}
 
--- the same entry with one more in the list
+-- the entry is unchanged by one more in the list
 entry_stays : (long : List Entry) (e : Entry) (s : PackedEntry) → IsWithin long s → unpacked (long ++ e ∷ []) s ≡ unpacked long s
 entry_stays long e (Long place) w = get_or_append_left long (e ∷ []) no_entry place w
 entry_stays long e _ w = refl

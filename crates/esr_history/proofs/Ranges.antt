@@ -95,7 +95,7 @@ pub find_same : (p q : ℕ → Bool) → ((t : ℕ) → p t ≡ q t) → (us : L
 find_same p q same [] = refl
 find_same p q same (u ∷ us) = grind (arith, cases_Bool (p u), find_same p q same us)
 
--- who is among those that pass, in a row
+-- a number among those of a range that pass a test
 pub any_in_filter : (p : ℕ → Bool) (u : ℕ) (us : List ℕ) → list_any (λ v. v == u) (filter p us) ≡ true → p u ≡ true
 any_in_filter p u [] is = absurd (false≢true is)
 any_in_filter p u (v ∷ us) is =
@@ -139,7 +139,7 @@ module _ {X : Type 0} (key : X → ℕ) (f : ℕ → X) (own : (u : ℕ) → key
       let k : key (f a) ≡ a = own a in
       rw (ne_eqb (key (f a)) (key new) (λ (h : key (f a) ≡ key new). omega arith), le_ltb (key new) (key (f a)) (omega arith)) (ap (λ ys. f a ∷ ys) (placed_end new change (a + 1) n (omega arith)))
 
--- what numbers in a row give ascends
+-- the elements that a range of numbers yields ascend
 pub filter_map_ascends : {X : Type 0} (key : X → ℕ) (f : ℕ → Option X) → ((u : ℕ) (y : X) → f u ≡ Some y → key y ≡ u) → (a n : ℕ) → IsAscendingBy key (filter_map f (range_with_len a n))
 filter_map_ascends key f own a zero = tt
 filter_map_ascends {X} key f own a (suc n) = at (f a) refl (filter_map_ascends key f own (a + 1) n)

@@ -49,7 +49,7 @@ import-cons c cs q = sum_by-cons (λ (c : Charge). cond (eqb c.query q) c.amount
 first_amount : (c : Charge) (cs : List Charge) → c.amount ≤ import_in (c ∷ cs) c.query
 first_amount c cs = rw (import-cons c cs c.query, eq-eqb c.query c.query refl) (omega arith)
 
--- what one of the numbers is charged
+-- the charge of one of the numbers
 amount_listed : (f : ℕ → Option Charge) (c : Charge) (q a n : ℕ) → f q ≡ Some c → c.query ≡ q → a ≤ q → q < a + n → c.amount ≤ import_in (filter_map f (range_with_len a n)) q
 amount_listed f c q a zero is own low high = absurd (omega arith)
 amount_listed f c q a (suc n) is own low high =
@@ -69,7 +69,7 @@ and_right_false true b is fails = fails
 and_right_false false b is fails = absurd (true≢false (sym is))
 
 module _ (d : Distance) (h : Schedule) where
-  -- the trace after an accepted event, from what the event adds
+  -- the trace after an accepted event, from its additions
   grown : (e : Event) (r : Reply) → is_refusal r ≡ false → (os : List Operation) (cs rs : List ℕ) (b : ℕ → Option Beginning)
       → operations h ++ cons_option (operation_by e r) [] ≡ os → commit_order (accepted_in h) ++ cons_option (committer e) [] ≡ cs → filter_map aborter (accepted_in h) ++ cons_option (aborter e) [] ≡ rs → beginning (accepted_in h ++ e ∷ []) ≡ b
       → trace (extended h e r) ≡ record { operations = os; commits = cs; aborts = rs; beginning = b }
@@ -96,7 +96,7 @@ module _ (d : Distance) (h : Schedule) where
   pub refused_imports : (e : Event) (why : Refusal) → imports d (extended h e (Refused why)) ≡ imports d h
   refused_imports e why = ap (λ (es : List Event). import_in (charges (distance_in d h) h.opening es)) (done-refused h e why)
 
-  -- where no update holds a lock, all who used the item have ended
+  -- if no update holds a lock, all that used the item have ended
   active_user : (u : ℕ) → is_update (accepted_in h) u ≡ true → ended_in (trace h) u ≡ false → is_active (accepted_in h) u ≡ true
   active_user u update running = trace_active h u (record { begun = update_begun (accepted_in h) u update; open_ended = running })
 
@@ -126,7 +126,7 @@ module _ (d : Distance) (h : Schedule) where
         ];
   }
 
-  -- who is not found fails the test
+  -- a number that is not found fails the test
   unfound : (p : ℕ → Bool) → find (λ u. is_update (accepted_in h) u && p u) (numbers (accepted_in h)) ≡ None → (u : ℕ) → is_update (accepted_in h) u ≡ true → p u ≡ false
   unfound p none u update =
       let n = begun_in_range (accepted_in h) u (update_begun (accepted_in h) u update) in
@@ -166,7 +166,7 @@ module _ (d : Distance) (h : Schedule) where
       at None was is_it = absurd (true≢false (sym is_it))
       at (Some b) was is_it = beginning-push (accepted_in h) e u b was ∙ sym was
 
--- what the steps keep is kept by each entry of the machine
+-- each entry of the machine preserves a property that the steps preserve
 module _ (d : Distance) (h : Schedule) (P : Trace → (ℕ → ℕ) → Type 0) (kept : IsKept (setting d h) P) where
   linked : (e : Event) (r : Reply) (t : Trace) (m : ℕ → ℕ) → trace (extended h e r) ≡ t → imports d (extended h e r) ≡ m → P t m → P (trace (extended h e r)) (imports d (extended h e r))
   linked e r t m same sums reached =

@@ -1,4 +1,4 @@
--- The committed updates read what they would read one after another in the order of their commits.
+-- The committed updates read the same values as in a serial run in commit order.
 use Rattle.std.proofs.Common.{◌≡◌, ℕ, zero, suc, ℤ, true, false, not, ◌&&◌, ◌⊎◌, List, [], ◌∷◌, ◌++◌, take, refl, sym, ◌∙◌, ap, subst, inl, inr, ⊎_elim, filter, eqb, Some, slice_get, arith}
 use Rattle.std.specs.List.{before_first}
 use Rattle.std.proofs.lemmas.List.Elements.{filter-append}
@@ -10,7 +10,7 @@ use Rattle.esr_history.proofs.Locking.{known, locks, Locked, update_stays, among
 use Rattle.esr_history.proofs.Versions.{writers, item_parts, wrote_by, wrote_parts, conflict_of, pairs_either, ended_agree, current_split, committed_after, committed_with, state_in, state_with, committed_version, commit_among}
 use Rattle.esr_history.proofs.Bounded.{before_first-kept, before_first-all, In-before_first}
 
--- where the other writers of x have ended, without u's writes the current value is the committed one
+-- if the other writers of x have ended, the current value without u's writes is the committed one
 abort_settled : {s : Setting} {t : Trace} {m : ℕ → ℕ} → Reached s t m → (o : ℕ → ℤ) (u x : ℕ) → Active t u → NoOtherWriter t u x → current_in o (with_abort t u) x ≡ committed_in o t x
 abort_settled {t = t} r o u x a free =
     ap (after_writes (o x))
@@ -45,12 +45,12 @@ get_push [] y (suc k) x h = absurd (cc)
 get_push (z ∷ zs) y zero x h = inl (h, refl)
 get_push (z ∷ zs) y (suc k) x h = grind (arith, ⊎_elim, get_push zs y k x h)
 
--- what a read of an update that has not ended answered
+-- the value that a read of an update that has not ended returned
 abbrev pub ReadsCommitted : (ℕ → ℤ) → Trace → Type 0
 ReadsCommitted o t = (k : ℕ) (r : Operation) → slice_get t.operations k ≡ Some r → r.writes ≡ false → update_in t r.txn ≡ true → ended_in t r.txn ≡ false →
     r.value ≡ after_writes (committed_in o t r.item) (filter (wrote_by r.item r.txn) (take k t.operations))
 
--- the same after one more operation, which itself may be a read
+-- the same after one more operation, which may itself be a read
 reads_with : (o : ℕ → ℤ) (t : Trace) (w : Operation) → ended_in t w.txn ≡ false → ReadsCommitted o t →
     (w.writes ≡ false → update_in t w.txn ≡ true → w.value ≡ after_writes (committed_in o t w.item) (filter (wrote_by w.item w.txn) t.operations)) → ReadsCommitted o (with_operation t w)
 reads_with o t w open_w was new k r g rd ur er =
@@ -62,7 +62,7 @@ reads_with o t w open_w was new k r g rd ur er =
     ∙ ap (λ l. after_writes (committed_in o t r.item) (filter (wrote_by r.item r.txn) l)) (sym p.1))
     (get_push t.operations w k r g))
 
--- a commit of another leaves the committed value of what an active update has read
+-- a commit of another transaction keeps the committed value of an item that an active update has read
 read_locked : {s : Setting} {t : Trace} {m : ℕ → ℕ} → Reached s t m → (o : ℕ → ℤ) (u : ℕ) → Active t u → (r : Operation) → In r t.operations → r.writes ≡ false →
     update_in t r.txn ≡ true → ended_in t r.txn ≡ false → (r.txn ≡ u → ⊥) → committed_in o (with_commit t u) r.item ≡ committed_in o t r.item
 read_locked {t = t} re o u a r ir rd ur er ne =
@@ -96,7 +96,7 @@ reads_committed {s = s} (commit {t = t} re u a) = λ k r g rd ur er.
 reads_committed (abort {t = t} re u a) = λ k r g rd ur er.
     reads_committed re k r g rd ur (false_from_ne_true (ended_in t r.txn) (λ h. true≢false (sym (ended_kept_abort t u r.txn h) ∙ er)))
 
--- what a read of a committed update answered
+-- the value that a read of a committed update returned
 abbrev pub ReadsAhead : (ℕ → ℤ) → Trace → Type 0
 ReadsAhead o t = (k : ℕ) (r : Operation) → slice_get t.operations k ≡ Some r → r.writes ≡ false → is_among (committed_updates_in t) r.txn ≡ true →
     r.value ≡ after_writes (state_in o t (before_first (λ u. eqb u r.txn) (committed_updates_in t)) r.item) (filter (wrote_by r.item r.txn) (take k t.operations))

@@ -184,7 +184,7 @@ module _ (s : Setting) (d : IsMetric s.distance) (q : ℕ) (before : List Operat
   query_no_update None h k = true≢false (sym h)
   query_no_update (Some b) h k = true≢false (sym k ∙ ap not h)
 
-  -- both values of an item that q reads are within what it is charged
+  -- both values of an item that q reads are within its charge
   read_paid : {t : Trace} {m : ℕ → ℕ} → Reached s t m → (u x c : ℕ) → update_in t u ≡ false →
       NoOtherWriter t u x ⊎ (s.distance x (current_in s.opening t x) (committed_in s.opening t x) ≤ c) →
       (w : ℕ → ℤ) → IsMixture s.opening t w → s.distance x (current_in s.opening t x) (w x) ≤ c
@@ -203,7 +203,7 @@ module _ (s : Setting) (d : IsMetric s.distance) (q : ℕ) (before : List Operat
           let up : update_in t o.txn ≡ true = writers r o i p.0 in
           free.none o i p.0 p.1 (λ e. true≢false (sym up ∙ (ap (update_in t) e ∙ nup))) up
 
-  -- an operation of an active transaction leaves what the updates before a committed query left
+  -- an operation of an active transaction does not change the state after the updates before a committed query
   then_with : (t : Trace) (w : Operation) → ended_in t w.txn ≡ false → is_among t.commits q ≡ true → state_in s.opening (with_operation t w) (updates_of_in t q) ≡ state_in s.opening t (updates_of_in t q)
   then_with t w running c =
       let open_committed : is_among t.commits w.txn ≡ false = (or_parts (is_among t.commits w.txn) (is_among t.aborts w.txn) running).0 in

@@ -1,4 +1,4 @@
--- The laws of active queries: what they read in one history, and over several.
+-- The laws of active queries: their reads in one history, and over several.
 use Rattle.std.proofs.Common.{◌≡◌, ℕ, ◌+◌, ◌≤◌, ℤ, Bool, true, false, not, ◌&&◌, ◌==◌, IsTrue, List, [], ◌++◌, refl, sym, ◌∙◌, ap, subst, inl, inr, ⊎_elim, arith, filter, append-nil, add-zero, ◌∷◌, cond, eqb, count_by, sum_by, Option, None, Some, is_some}
 use Rattle.std.proofs.lemmas.Bool.{and_parts, or_parts, true≢false}
 use Rattle.std.proofs.lemmas.List.Sums.{sum_by-cons}

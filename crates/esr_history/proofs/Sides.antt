@@ -1,4 +1,4 @@
--- Who is charged: queries import, updates export.
+-- Which side a charge is on: queries import, updates export.
 use Rattle.std.proofs.Common.{◌≡◌, ℕ, ℤ, ◌*◌, List, [], ◌∷◌, ◌++◌, Bool, true, false, ◌&&◌, ◌==◌, refl, sym, ◌∙◌, ap, subst, Option, None, Some, if◌then◌else◌, append_assoc, append-nil, arith, unwrap_or, option_map}
 use Rattle.std.specs.List.{filter_map, AllByRecursion}
 use Rattle.std.proofs.lemmas.Bool.{false≢true, ne_eqb, and_parts}

@@ -1,4 +1,4 @@
--- What a finding of a committed query rests on does not move in a longer legal history.
+-- The data of a finding of a committed query do not change in a longer legal history.
 use Rattle.std.proofs.Common.{◌≡◌, ℕ, Bool, true, false, not, ◌&&◌, List, [], ◌∷◌, ◌++◌, refl, sym, ◌∙◌, ap, subst, ⊎_elim, filter, eqb, Option, arith}
 use Rattle.std.specs.List.{list_any, before_first}
 use Rattle.std.proofs.lemmas.List.Folds.{list_any-append}

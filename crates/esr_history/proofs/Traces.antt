@@ -1,4 +1,5 @@
--- What a legal history accepts, step by step: its operations, ends and begins, and what each step may rest on.
+-- The events that a legal history accepts, step by step: its operations, ends and begins, and the preconditions of each
+-- step.
 use Rattle.std.proofs.Common.{◌≡◌, ℕ, ◌+◌, ◌*◌, ◌≤◌, ℤ, Bool, true, false, not, ◌&&◌, ◌||◌, ◌⊎◌, List, [], ◌∷◌, ◌++◌, filter, eqb, Option, count_by, map, is_some, unwrap_or, option_map}
 use Rattle.std.specs.List.{list_any}
 use Rattle.esr_history.specs.Events.{Beginning, last_value}
@@ -21,7 +22,7 @@ writes_item x o = o.writes && eqb o.item x
 abbrev pub reads_item : ℕ → Operation → Bool
 reads_item x o = not o.writes && eqb o.item x
 
--- what writes, one after another, leave of the value v
+-- the value after a sequence of writes over v
 abbrev pub after_writes : ℤ → List Operation → ℤ
 after_writes v ws = last_value v (map (λ w. w.value) ws)
 
@@ -108,7 +109,7 @@ pub data Reached (s : Setting) : Trace → (ℕ → ℕ) → Type 0 where
   commit : {t : Trace} {m : ℕ → ℕ} → Reached s t m → (u : ℕ) → Active t u → Reached s (with_commit t u) m
   abort : {t : Trace} {m : ℕ → ℕ} → Reached s t m → (u : ℕ) → Active t u → Reached s (with_abort t u) m
 
--- what each accepted step keeps
+-- each accepted step preserves P
 pub record IsKept (s : Setting) (P : Trace → (ℕ → ℕ) → Type 0) : Type 0 where
   pub begins : (t : Trace) (m : ℕ → ℕ) → P t m → (b : ℕ → Option Beginning) → Keeps t.beginning b → P (with_begins t b) m
   pub update_reads : (t : Trace) (m : ℕ → ℕ) → P t m → (u x : ℕ) → Active t u → update_in t u ≡ true → NoOtherWriter t u x →

@@ -148,7 +148,7 @@ ended_agree {t = t} r v e =
     (λ nc. ⊎_elim (λ c. absurd (true≢false (sym c ∙ nc))) (λ a. not_from_true (is_among t.aborts v) a ∙ sym nc) (or_cases (is_among t.commits v) (is_among t.aborts v) e))
     (cases_Bool (is_among t.commits v))
 
--- where each writer of an item has ended, its current value is the committed one
+-- if each writer of an item has ended, its current value is the committed one
 pub settled : {s : Setting} {t : Trace} {m : ℕ → ℕ} → Reached s t m → (o : ℕ → ℤ) (x : ℕ) →
     ((w : Operation) → In w t.operations → writes_item x w ≡ true → ended_in t w.txn ≡ true) → current_in o t x ≡ committed_in o t x
 settled {t = t} r o x f =
@@ -191,7 +191,7 @@ pairs_either R (x ∷ xs) p a b ia ib ne =
     (λ ja. ⊎_elim (λ eb. inr (subst (λ z. R z a) eb (each_at (R x) xs a p.0 ja))) (λ jb. pairs_either R xs p.1 a b ja jb ne) ib)
     ia
 
--- where an active update wrote the item, every other writer of it has ended
+-- if an active update wrote the item, every other writer of it has ended
 others_ended : {s : Setting} {t : Trace} {m : ℕ → ℕ} → Reached s t m → (u x : ℕ) → Active t u →
     (a : Operation) → In a t.operations → wrote_by x u a ≡ true → (w : Operation) → In w t.operations → writes_item x w ≡ true → (w.txn ≡ u → ⊥) → ended_in t w.txn ≡ true
 others_ended {t = t} r u x ac a ia ma w iw hw ne =

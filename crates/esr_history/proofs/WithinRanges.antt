@@ -28,7 +28,7 @@ after_writes-range : (v : ℤ) (ws : List Operation) → IsValue v → ((o : Ope
 after_writes-range v [] first all = first
 after_writes-range v (w ∷ ws) first all = after_writes-range w.value ws (all w (inl refl)) (λ o i. all o (inr i))
 
--- the counts and ranges, in a form that goes on
+-- the counts and ranges, in a form that suits induction
 record InRanges (h : Schedule) : Type 0 where
   begins : length (beginnings (accepted_in h)) ≤ 65535
   reads : (t : ℕ) → is_update (accepted_in h) t ≡ false → all_reads_of (accepted_in h) t ≤ 1000
@@ -45,7 +45,7 @@ module _ (d : Distance) (h : Schedule) (was : InRanges h) where
       let one : count_by (reads_any t) (e ∷ []) ≡ cond (reads_any t e) 1 0 + 0 = sum_by-cons (λ f. cond (reads_any t f) 1 0) e [] in
       sum_by-append (λ f. cond (reads_any t f) 1 0) (accepted_in h) (e ∷ []) ∙ (ap (λ n. all_reads_of (accepted_in h) t + n) one ∙ omega arith)
 
-  -- who is no update after an event was none before
+  -- a transaction that is not an update after an event was not one before
   no_update_before : (e : Event) (t : ℕ) → is_update (accepted_in h ++ e ∷ []) t ≡ false → is_update (accepted_in h) t ≡ false
   no_update_before e t fails = false_from_ne_true (is_update (accepted_in h) t) (λ is. true≢false (sym (is_update-push (accepted_in h) e t is) ∙ fails))
 

@@ -1,4 +1,4 @@
--- The words of a history and those of its trace say the same.
+-- The definitions over a history and those over its trace agree.
 use Rattle.std.proofs.Common.{◌≡◌, ℕ, ◌+◌, Bool, true, false, cond, not, ◌&&◌, ◌||◌, ◌==◌, List, [], ◌∷◌, refl, sym, ◌∙◌, ap, arith, filter, eqb, Option, Some, None, count_by, map, flat_map, unwrap_or, option_map}
 use Rattle.std.specs.List.{list_any, filter_map, cons_option}
 use Rattle.std.proofs.Math.Path.{fun_ext}
@@ -34,7 +34,7 @@ any-cons_option : {Y : Type 0} (q : Y → Bool) (o : Option Y) (ys : List Y) →
 any-cons_option q None ys = refl
 any-cons_option q (Some y) ys = refl
 
--- a test of some element, and one of what the elements give
+-- a test of some element, and one of the results of the elements
 pub any_given : {X Y : Type 0} (f : X → Option Y) (p : X → Bool) (q : Y → Bool) → ((x : X) → p x ≡ any_of q (f x)) → (xs : List X) → list_any p xs ≡ list_any q (filter_map f xs)
 any_given f p q same [] = refl
 any_given f p q same (x ∷ xs) = ap (λ b. b || list_any p xs) (same x) ∙ (ap (λ b. any_of q (f x) || b) (any_given f p q same xs) ∙ sym (any-cons_option q (f x) (filter_map f xs)))
@@ -50,7 +50,7 @@ written_kept : (k : ℕ → Bool) (x : ℕ) (es : List Entry) → filter_map (wr
 written_kept k x [] = refl
 written_kept k x (e ∷ es) = grind (arith, written_kept k x es, map, cond, filter, writes_item)
 
--- who used an item, and who read it how often
+-- the transactions that used an item, and how often each read it
 any_kept : (p : Event → Bool) (q : Operation → Bool) → ((e : Event) (r : Reply) → p e ≡ any_of q (operation_by e r)) → (es : List Entry) → list_any p (map (λ e. e.event) es) ≡ list_any q (filter_map operation_of es)
 any_kept p q same es = over es ∙ any_given operation_of (λ e. p e.event) q (λ e. same e.event e.reply) es
   where

@@ -1,4 +1,4 @@
--- What charges do to accounts.
+-- The effect of charges on accounts.
 use Rattle.std.proofs.Common.{◌≡◌, ℕ, zero, suc, ◌+◌, ◌<◌, ◌≤◌, ◌^◌, ◌*◌, List, [], ◌∷◌, ◌++◌, length, Bool, true, false, not, ◌==◌, refl, sym, ◌∙◌, ap, subst, arith, inl, inr, Option, None, Some, if◌then◌else◌, get_or, set, take, is_some, find, sum_by, unwrap_or, All, option_map}
 use Rattle.std.specs.List.{AllByRecursion, insert}
 use Rattle.std.proofs.lemmas.Bool.{cases_Bool, cases_eq, eq-eqb, ne_eqb, false≢true, ltb-false, not-true, or_left, or_right}
@@ -136,7 +136,7 @@ pub imported_ascends : (cs : List (TxnId × ℕ)) (xs : List Account) → IsAsce
 imported_ascends [] xs asc = asc
 imported_ascends (c ∷ cs) xs asc = imported_ascends cs (raised c.0.0 c.1 xs) (raised_ascends c.0.0 c.1 xs asc)
 
--- who is charged nothing keeps the account
+-- a transaction that is not charged keeps its account
 pub account_imported_other : (s : ℕ) (cs : List (TxnId × ℕ)) (xs : List Account) → AllByRecursion (λ c. s ≡ c.0.0 → ⊥) cs → account_of (charged_to_queries xs cs) s ≡ account_of xs s
 account_imported_other s [] xs others = refl
 account_imported_other s (c ∷ cs) xs others = account_imported_other s cs (raised c.0.0 c.1 xs) others.1 ∙ account_raised_other c.0.0 c.1 s others.0 xs
@@ -153,7 +153,7 @@ pub account_at_turn : (xs : List Account) (cs : List (TxnId × ℕ)) → IsAscen
     → account_of (charged_to_queries xs (take i cs)) (get_or cs i d).0.0 ≡ account_of xs (get_or cs i d).0.0
 account_at_turn xs cs asc i d l = account_imported_other (get_or cs i d).0.0 (take i cs) xs (others_before cs asc i d l)
 
--- charges whose queries were opened and stay within their limits
+-- charges whose queries have accounts and stay within their limits
 pub record AreImports (xs : List Account) (cs : List (TxnId × ℕ)) : Type 0 where
   pub ascending : IsAscendingBy (λ (c : TxnId × ℕ). c.0.0) cs
   pub queries : AllByRecursion (λ (c : TxnId × ℕ). is_open_query xs c.0.0 ≡ true) cs
@@ -312,7 +312,7 @@ AreBooks-with_account xs total a books zero_is small i is = record {
     none : (f : Account → ℕ) → f a ≡ 0 → sum_by f xs + f a ≡ sum_by f xs
     none f z = omega (arith, z)
 
--- an account is open where a search finds it
+-- an account is open if and only if a search finds it
 open_found : (t : ℕ) (xs : List Account) → is_open xs t ≡ is_some (account_of xs t)
 open_found t [] = refl
 open_found t (x ∷ xs) =

@@ -19,7 +19,7 @@ find_first p (x ∷ xs) (suc i) d l none is =
 pub find_none_more : {X : Type 0} (p : X → Bool) (xs : List X) (i : ℕ) (d : X) → i < length xs → find p (take i xs) ≡ None → p (get_or xs i d) ≡ false → find p (take (i + 1) xs) ≡ None
 find_none_more p xs i d l none is = rw (take_more xs i d l, find-append, none, is) refl
 
--- a number above the last one of a list that ascends goes at its end
+-- a number above the last one of an ascending list belongs at its end
 pub gap_last : {X : Type 0} (key : X → ℕ) (xs : List X) → IsAscendingBy key xs → (t : ℕ) (x : X) → x ≡ get_or xs (length xs - 1) x → key x < t → IsGapFor key xs t (length xs)
 gap_last key xs ascends t x is below = record {
   in_range = omega arith;

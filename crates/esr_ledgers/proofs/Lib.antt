@@ -1,4 +1,4 @@
--- What a charge does to both of its sides, and how an account is found. Only the bodies of this crate use them.
+-- The effect of a charge on both sides, and the search for an account. Only functions of this crate use them.
 
 pub mod Finds
 pub mod Books

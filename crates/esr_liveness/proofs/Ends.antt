@@ -47,7 +47,7 @@ and_assoc : (b c k : Bool) → (b && (c && k)) ≡ ((b && c) && k)
 and_assoc true c k = refl
 and_assoc false c k = refl
 
--- the test goes outwards
+-- the test moves to the outermost position
 write_without : (o b a k w : Bool) → (o && (b && ((a && k) && w))) ≡ ((o && (b && (a && w))) && k)
 write_without false b a k w = refl
 write_without true false a k w = refl

@@ -22,7 +22,7 @@ module _ {X : Type 0} (key : X → ℕ) where
   least_other t (x ∷ xs) asc =
       grind (arith, cases_eq, eq-eqb, IsSmallest-same, least_other t xs asc.1, ne_eqb, and_left, and_right, none_lower)
 
--- what holds of each element of a mapped list
+-- a property of each element of a mapped list
 pub All-from_map : {X Y : Type 0} (f : X → Y) (P : Y → Type 0) (xs : List X) → All P (map f xs) → All (λ x. P (f x)) xs
 All-from_map f P [] all = λ k d l. absurd (omega arith)
 All-from_map f P (x ∷ xs) all = All-cons (λ z. P (f z)) x xs (All-head P (f x) (map f xs) all) (All-from_map f P xs (All-tail P (f x) (map f xs) all))

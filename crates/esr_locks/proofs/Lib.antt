@@ -1,4 +1,4 @@
--- What changes of rows do to the whole table. The machine above uses `Least`.
+-- The effect of changes of rows on the whole table. The machine uses `Least`.
 
 pub mod Least
 pub mod Tables

@@ -1,4 +1,4 @@
--- What one more lock and a release do to the rows and the lists of a table.
+-- The effect of one more lock and of a release on the rows and the lists of a table.
 use Rattle.std.proofs.Common.{◌≡◌, ℕ, ◌+◌, ◌<◌, ◌≤◌, List, [], ◌∷◌, ◌++◌, length, Bool, true, false, not, ◌||◌, ◌==◌, refl, sym, ◌∙◌, ap, subst, arith, inl, inr, ◌⊎◌, Option, None, Some, if◌then◌else◌, map, get_or, set, get_or-set_same, get_or-set_other, zero, suc, take, All, unwrap_or, filter, slice_index, option_map}
 use Rattle.std.proofs.Math.ListN.{length-set}
 use Rattle.std.specs.List.{list_any, range_with_len}
@@ -61,7 +61,7 @@ module _ (rows : List RowOf) (held : List LockedItemsOf) (tab : IsTable rows hel
         | inr ne ↦ inl (tab.listed u y (rw length-set at l) (ap (λ (r : RowOf). has_lock r.locks u) (sym (get_or-set_other rows x y new empty_row ne)) ∙ has))
       ]
 
-  -- the item is added to the list of who took the lock
+  -- the item is added to the list of the transaction that took the lock
   pub IsTable-push : (list : LockedItemsOf) → ((u : ℕ) → has_lock new.locks u ≡ true → (has_lock row.locks u ≡ true) ⊎ (t ≡ u)) → t < length held → (id : ItemId) → id.0 ≡ x → list.items ≡ (held_at held t).items ++ id ∷ []
       → IsTable (set rows x new) (set held t list)
   IsTable-push list more in_held id id_is list_is = record {
@@ -87,11 +87,11 @@ module _ (rows : List RowOf) (held : List LockedItemsOf) (tab : IsTable rows hel
       keeps : (u y : ℕ) → contains_item (held_at held u).items y ≡ true → contains_item (held_at (set held t list) u).items y ≡ true
       keeps u y before = grind (arith, cases_eq u t, set held t list, at_t, any_push, or_left, get_or-set_other)
 
-  -- who took the lock had one there
+  -- the transaction that took the lock had one on the item
   pub IsTable-already_locked : ((u : ℕ) → has_lock new.locks u ≡ true → (has_lock row.locks u ≡ true) ⊎ (t ≡ u)) → has_lock row.locks t ≡ true → IsTable (set rows x new) held
   IsTable-already_locked more had = grind (arith, length-set, lock_there, read_row rows x row inside is)
 
--- a release changes nothing where the transaction has no lock
+-- a release changes nothing if the transaction has no lock
 list_any_none : {X : Type 0} (p : X → Bool) (xs : List X) → list_any p xs ≡ false → filter (λ x. not (p x)) xs ≡ xs
 list_any_none p [] none = refl
 list_any_none p (x ∷ xs) none =
@@ -161,7 +161,7 @@ module _ (rows : List RowOf) (held : List LockedItemsOf) (tab : IsTable rows hel
   pub IsTable-released : IsTable rows_new held_new
   IsTable-released = grind (arith, cases_Bool, All-nil, every, false≢true, released_gone, eqb-true, released_less)
 
--- a row whose locks are the same
+-- a row with the same locks
 pub set_same_row : (rows : List RowOf) (x : ℕ) (row new : RowOf) → row ≡ get_or rows x row → new.locks ≡ row.locks → map (λ r. r.locks) (set rows x new) ≡ map (λ r. r.locks) rows
 set_same_row [] x row new is same = refl
 set_same_row (r ∷ rs) zero row new is same = ap (λ (l : ItemLocks). l ∷ map (λ (q : RowOf). q.locks) rs) (same ∙ ap (λ (q : RowOf). q.locks) is)
@@ -184,7 +184,7 @@ capacity_of_list [] t new l = absurd (omega arith)
 capacity_of_list (h ∷ hs) zero new l = refl
 capacity_of_list (h ∷ hs) (suc t) new l = capacity_of_list hs t new (omega arith)
 
--- what the lists say of the locks
+-- the relation of the lists to the locks
 pub table_within : (rows : List RowOf) (held : List LockedItemsOf) → IsTable rows held → (t : ℕ) → All (λ (i : ItemId). i.0 < length (map (λ (r : RowOf). r.locks) rows)) (held_at held t).items
 table_within rows held tab t = rw length-map (tab.within t)
 

@@ -1,4 +1,4 @@
--- What the entries of a transaction give are its accesses.
+-- The entries of a transaction yield its accesses.
 use Rattle.std.proofs.Common.{◌≡◌, ◌<◌, All, arith, ℕ, ◌+◌, Bool, true, false, not, ◌&&◌, List, [], ◌∷◌, ◌++◌, length, refl, sym, ◌∙◌, ap, Option, None, Some, reverse, cond, filter, map, eqb, append_assoc, if◌then◌else◌, option_map}
 use Rattle.std.specs.List.{filter_map, slice_get, cons_option}
 use Rattle.std.proofs.lemmas.List.{length-append, reverse-append}

@@ -1,4 +1,4 @@
--- A chain that goes back, turned round, is the chain of the steps.
+-- A chain in reverse order, reversed, is the chain of the operations.
 use Rattle.std.proofs.Common.{◌≡◌, ℕ, zero, suc, ◌+◌, ◌<◌, ◌≤◌, ℤ, Bool, true, false, List, [], ◌∷◌, ◌++◌, refl, sym, ◌∙◌, ap, arith, inl, inr, ⊎_elim, filter, eqb, cond, map, ◌&&◌, Option, Some, None, ◌==◌, is_some}
 use Rattle.std.specs.List.{filter_map, cons_option, range_with_len}
 use Rattle.std.proofs.lemmas.Bool.{eq-eqb, ne_eqb, eqb-true, eqb-false, cases_order}
@@ -92,7 +92,7 @@ chain_of_writes x (s ∷ ss) = at (eqb s.item x) s.writes (chain_of_writes x ss)
     at false true rest = rest
     at false false rest = rest
 
--- what the update at a position wrote last, with a write before
+-- the last write of the update at a position, with a write before it
 last_more : (w : UpdateOperation) (ws : List UpdateOperation) (i : ℕ) → (w.place ≡ i → ⊥) → last_in (w ∷ ws) i ≡ last_in ws i
 last_more w ws i ne = ap (λ b. last_of (map (λ (s : UpdateOperation). s.value) (cond b (w ∷ filter (λ (s : UpdateOperation). s.place == i) ws) (filter (λ (s : UpdateOperation). s.place == i) ws)))) (ne_eqb w.place i ne)
 

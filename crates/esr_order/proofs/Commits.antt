@@ -1,4 +1,5 @@
--- Who committed, in what order, and what of it a strict query must have seen, by where transactions began and ended.
+-- The committed transactions in commit order, and those that a strict query must have seen, by the indices at which
+-- transactions began and ended.
 use Rattle.std.proofs.Common.{◌≡◌, ℕ, zero, suc, ◌+◌, ◌<◌, ◌≤◌, Bool, true, false, ◌==◌, List, [], ◌∷◌, ◌++◌, length, take, refl, sym, ◌∙◌, ap, subst, arith, inl, inr, ⊎_elim, Option, Some, None, Contains, filter, map, eqb, if◌then◌else◌, count_by, is_some, nat_lt, unwrap_or, option_map}
 use Rattle.std.specs.List.{filter_map, slice_get, list_any, before_first}
 use Rattle.std.specs.List.Sorted.{IsStrictlyIncreasing}
@@ -112,7 +113,7 @@ mapped_filter p (u ∷ us) = at (p u.0) (mapped_filter p us)
     at true rest = ap (λ (ns : List ℕ). u.0 ∷ ns) rest
     at false rest = rest
 
--- who has committed has an entry that commits it
+-- a committed transaction has an entry that commits it
 commit_entry : (es : List Entry) (t : ℕ) → is_committed (accepted es) t ≡ true → (i : ℕ) × (e : Entry) × (u : TxnId) × (slice_get es i ≡ Some e) × (commit_in e ≡ Some u) × (u.0 ≡ t)
 commit_entry es t is =
     let listed : In t (commit_order (accepted es)) = In-from_any (commit_order (accepted es)) t (sym (committed_among (accepted es) t) ∙ is) in
@@ -127,7 +128,7 @@ entry_commits es i e u at is =
     ∙ any-from_number (commit_order (accepted es)) u.0 (subst (In u.0) (committed_are es) (numbers_in (filter_map commit_in es) u (in_given commit_in es e u (in_at es i e at) is)))
 
 module _ (d : Distance) (h : Schedule) (legal : IsLegal d h) where
-  -- a transaction has committed where its end is a commit
+  -- a transaction has committed if and only if its end is a commit
   pub commit_at_end : (t : ℕ) → is_commit_at h.entries (last_place accepted_end t h.entries) ≡ is_committed (accepted_in h) t
   commit_at_end t = ends (last_place accepted_end t h.entries) refl
     where
@@ -175,8 +176,8 @@ module _ (d : Distance) (h : Schedule) (legal : IsLegal d h) where
               let begun : is_begun (accepted_in h) u.0 ≡ true = committed_begun u.0 committed in
               absurd (out (Contains-In at i (ends.all u.0 i begun (end_is d h legal u.0 i e there (commit_key e u is)))))
 
-  -- ---- what a strict query must have seen
-  -- who has committed ended before a place exactly where its commit is among the entries before it
+  -- ---- the updates that a strict query must have seen
+  -- a committed transaction ended before an index if and only if its commit is among the entries before it
   ended_early : (t place : ℕ) → is_committed (accepted_in h) t ≡ true → has_ended_before h t place ≡ is_committed (accepted (take place h.entries)) t
   ended_early t place is =
       let c = commit_entry h.entries t is in

@@ -1,4 +1,4 @@
--- What is found makes an order of the query.
+-- The search yields an order of the query.
 use Rattle.std.proofs.Common.{◌≡◌, ◌≢◌, ℕ, zero, suc, ◌+◌, ◌<◌, ◌≤◌, Bool, true, false, List, [], ◌∷◌, length, None, Some, All, AllPairs, Contains, refl, sym, ◌∙◌, ap, subst, arith, inl, inr, ⊎_elim, map, filter, eqb, slice_index_or, get_or, IsTrue, is_some}
 use Rattle.std.specs.List.{slice_get, range_with_len, AllByRecursion}
 use Rattle.std.proofs.lemmas.Bool.{cases_order}
@@ -131,7 +131,7 @@ module _ (d : Distance) (h : Schedule) (q : ℕ) (legal : IsLegal d h) (us : Lis
         none_write : (a m : ℕ) → (chain_from (λ i. None) m).writers ≡ []
         none_write a m = filter_none_in (λ i. false) (range_with_len 0 m) (λ i j. refl)
 
-    -- what is in a chain
+    -- the contents of a chain
     chain_is : (x : ℕ) (c : Chain) → chain_at found x ≡ Some c → c ≡ chain_from (last_among h us x) (length us)
     chain_is x c is = written (chain_from (last_among h us x) (length us)) (sym (chains_found x) ∙ is)
       where

@@ -1,4 +1,4 @@
--- The updates that a strict query must have seen come first in commit order.
+-- The updates that a strict query must have seen are the first in commit order.
 use Rattle.std.proofs.Common.{◌≡◌, ℕ, ◌+◌, ◌≤◌, Bool, true, false, ◌||◌, List, [], ◌∷◌, ◌++◌, length, drop, refl, sym, ◌∙◌, ap, subst, arith, inl, inr, map, filter, eqb, cond, slice_index_or, append_assoc, append-nil, if◌then◌else◌}
 use Rattle.std.specs.List.{list_any, before_first, position_or_len, range_with_len}
 use Rattle.std.proofs.lemmas.Bool.{true≢false, cases_Bool, or_left, or_parts, false_from_ne_true}
@@ -89,7 +89,7 @@ module _ (d : Distance) (h : Schedule) (q : ℕ) (legal : IsLegal d h) where
       ∙ (ap (filter (is_update (accepted_in h))) (before_first-past (λ t. eqb t q) early (commit_order (accepted later)) not_early)
       ∙ filter-append (is_update (accepted_in h)) early (before_first (λ t. eqb t q) (commit_order (accepted later))))
 
-  -- who committed before q began is among the first, and no other is
+  -- the first ones are exactly those that committed before q began
   must_first : filter (is_committed (accepted (before_begin h q))) (updates_of h q) ≡ first
   must_first =
       ap (filter (is_committed (accepted (before_begin h q)))) updates_split

@@ -1,4 +1,4 @@
--- What a scan of a log finds, in the words of its history.
+-- The results of a scan of a log, in the terms of its history.
 use Rattle.std.proofs.Common.{◌≡◌, ℕ, zero, suc, ◌+◌, drop, List, [], ◌∷◌, ◌++◌, length, Bool, true, false, not, Option, None, Some, refl, sym, ◌∙◌, ap, arith, map, filter, cond, append_assoc, if◌then◌else◌, length-append}
 use Rattle.std.specs.List.{filter_map, slice_get, range_with_len, cons_option}
 use Rattle.esr_history.specs.declared.event.Event.{Event}
@@ -33,7 +33,7 @@ given_accepted f (e ∷ es) = at (is_refusal e.reply) (given_accepted f es)
     at true rest = rest
     at false rest = ap (cons_option (f e)) rest
 
--- what the events of entries give
+-- the results of the events of entries
 pub given_events : {Y : Type 0} (f : Event → Option Y) (es : List Entry) → filter_map (λ e. f e.event) es ≡ filter_map f (map (λ e. e.event) es)
 given_events f [] = refl
 given_events f (e ∷ es) = ap (cons_option (f e.event)) (given_events f es)

@@ -58,7 +58,7 @@ between (c ∷ d ∷ ws) ps n r v w lt a ia av b ib bw none =
     above : (m k : ℕ) → m ≤ k → (k ≡ m → ⊥) → m < k
     above m k l ne = ⊎_elim (λ e. absurd (ne e)) (λ o. ⊎_elim (λ x. absurd (omega (arith, x, l))) (λ x. x) o) (cases_order k m)
 
--- who wrote has a last value, and who has one wrote
+-- an update has a last value if and only if it wrote
 last_or_some : (x : ℤ) (xs : List ℤ) → is_some (last_or (Some x) xs) ≡ true
 last_or_some x [] = refl
 last_or_some x (y ∷ xs) = last_or_some y xs

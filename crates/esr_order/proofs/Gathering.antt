@@ -1,4 +1,4 @@
--- One pass back over updates: what is kept of those from a position on.
+-- One backward scan of updates: the state for those from a position on.
 use Rattle.std.proofs.Common.{◌≡◌, ℕ, suc, ◌+◌, ◌*◌, ◌<◌, ◌≤◌, List, [], ◌∷◌, ◌++◌, length, drop, get_or, reverse, refl, sym, ◌∙◌, ap, subst, inl, inr, ⊎_elim, arith, map, filter, eqb, cond, pos, Bool, true, false, slice_set, append_assoc, AllPairs, Contains}
 use Rattle.std.specs.List.{range_with_len}
 use Rattle.std.proofs.lemmas.Bool.{cases_eq, eq-eqb, ne_eqb}
@@ -19,7 +19,7 @@ use Rattle.esr_order.proofs.Kept.{Pair, Kept, kept_same, kept_turn, open_reads, 
 use Rattle.esr_order.proofs.Chained.{chain_turned}
 use Rattle.esr_order.proofs.Turns as turns_of
 
--- what is left of a list from a position on, with the position's successor
+-- the rest of a list from a position on, with the position's successor
 pub drop_next : {X : Type 0} (xs : List X) (i : ℕ) (d : X) → i < length xs → drop i xs ≡ get_or xs i d ∷ drop (suc i) xs
 drop_next xs i d l = let on : i + 1 ≡ suc i = omega arith in drop_more xs i d l ∙ ap (λ n. get_or xs i d ∷ drop n xs) on
 

@@ -1,5 +1,5 @@
--- Steps that are gone through from the last to the first: the pairs of each step with the next write of its item, and of a
--- write with the reads until then, tie them like all their clashes.
+-- Operations scanned from the last to the first: the pairs of each operation with the next write of its item, and of a
+-- write with the reads before that, have the same closed sets as all conflicting pairs.
 use Rattle.std.proofs.Common.{◌≡◌, ℕ, suc, ◌+◌, ◌*◌, ◌≤◌, Bool, true, false, cond, not, ◌&&◌, ◌||◌, ◌⊎◌, List, [], ◌∷◌, ◌++◌, length, refl, sym, ◌∙◌, ap, subst, inl, inr, ⊎_elim, arith, filter, eqb, Option, Some, None, map, ℤ, ◌-◌, append_assoc, append-nil}
 use Rattle.std.specs.Prelude.{slice_get, ⊤}
 use Rattle.std.specs.List.{list_any}
@@ -24,7 +24,7 @@ Holds S pairs = (p : Pair) → In p pairs → S p.1 ≡ true → S p.0 ≡ true
 abbrev test : ℕ → ℕ → UpdateOperation → UpdateOperation → Bool
 test i j a b = eqb a.place i && (eqb b.place j && operations_conflict a b)
 
--- what a clash says
+-- the parts of a conflict
 pub clash_parts : (a b : UpdateOperation) → operations_conflict a b ≡ true → (a.place ≡ b.place → ⊥) × ((a.writes || b.writes) ≡ true)
 clash_parts a b h =
     let p = and_parts (not (eqb a.place b.place)) (eqb a.item b.item && (a.writes || b.writes)) h in
@@ -216,7 +216,7 @@ pub record Kept (ss : List UpdateOperation) (pairs : List Pair) : Type 0 where
   pub covers : (S : ℕ → Bool) → Holds S pairs → (i j : ℕ) → is_conflict_pair ss i j ≡ true → S j ≡ true → S i ≡ true
   pub next : (x : ℕ) → Next (writes_in (on x ss)) pairs
 
--- the same pairs in another order
+-- the pairs in another order
 pub kept_same : (ss : List UpdateOperation) (ps qs : List Pair) → ((p : Pair) → In p ps → In p qs) → ((p : Pair) → In p qs → In p ps) → Kept ss ps → Kept ss qs
 kept_same ss ps qs to from k = record {
   sound = λ p i. k.sound p (from p i);
@@ -245,7 +245,7 @@ module _ (s : UpdateOperation) (ss : List UpdateOperation) (pairs : List Pair) (
   of_writer None w i = absurd i
   of_writer (Some v) w i = ⊎_elim (λ e. ap Some e) (λ b. absurd b) i
 
-  -- S with what the step is tied to has the step
+  -- if S contains an operation that conflicts with this one, it contains this one
   holds : (S : ℕ → Bool) → Holds S (own ++ pairs) → (j : ℕ) → In j conflicts → S j ≡ true → S s.place ≡ true
   holds S h j i sj = ⊎_elim (λ e. ap S e ∙ sj) (λ ne. h (s.place, j) (In-append_left own pairs (s.place, j) (in_pairs_from conflicts s.place j i ne)) sj) (cases_eq s.place j)
 
@@ -331,7 +331,7 @@ kept_turn i (s ∷ turn) ss pairs places k =
 
 -- ---- how many there are
 
--- the reads that no write of their item comes before
+-- the reads that no write of their item precedes
 abbrev pub open_reads : List UpdateOperation → List UpdateOperation
 open_reads [] = []
 open_reads (s ∷ ss) = cond s.writes (filter (λ (r : UpdateOperation). not (eqb r.item s.item)) (open_reads ss)) (open_reads ss ++ s ∷ [])

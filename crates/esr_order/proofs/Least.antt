@@ -1,4 +1,4 @@
--- What is listed as the smallest closed set of least cost is that set.
+-- The set that is listed as the smallest closed set of least cost is that set.
 use Rattle.std.proofs.Common.{◌≡◌, ℕ, ◌≤◌, Bool, true, false, not, ◌||◌, List, [], ◌∷◌, refl, sym, ◌∙◌, ap, subst, inl, inr, ⊎_elim, filter, map, Contains, nat_le, IsTrue, if◌then◌else◌}
 use Rattle.std.specs.List.{list_all}
 use Rattle.std.proofs.lemmas.Bool.{true≢false, cond_both, cases_Bool, and_parts, and_from, or_cases, or_left, or_right, not-true, not_from_false, false_from_ne_true, le-leb, leb-true}
@@ -47,7 +47,7 @@ part_within (v ∷ us) p u i j =
     (λ b. inr (part_within us p u b j))
     (In-append_cases (map (λ part. v ∷ part) (parts us)) (parts us) p i)
 
--- the part of the members of a set has the same of the list as the set
+-- the sublist of a set's members contains the same elements of the list as the set
 among_part : (S : ℕ → Bool) (us : List ℕ) (u : ℕ) → In u us → is_among (filter S us) u ≡ S u
 among_part S us u i =
     ⊎_elim

@@ -1,4 +1,4 @@
--- A walk back along links goes over the places of a key.
+-- A backward walk along links visits the entries of a key.
 use Rattle.std.proofs.Common.{◌≡◌, ℕ, zero, suc, ◌+◌, ◌<◌, Bool, true, false, List, [], ◌∷◌, ◌++◌, length, take, reverse, refl, sym, ◌∙◌, ap, subst, arith, Option, Some, None, append_assoc, append-nil, if◌then◌else◌, option_map, true≢false, eqb-true}
 use Rattle.std.specs.List.{last_or, slice_get}
 use Rattle.std.proofs.lemmas.Option.{same_Some}
@@ -96,7 +96,7 @@ take_all : {X : Type 0} (xs : List X) → take (length xs) xs ≡ xs
 take_all [] = refl
 take_all (x ∷ xs) = ap (λ l. x ∷ l) (take_all xs)
 
--- on the way back: what is left are the places in the first m entries, and the next is the last of these
+-- on the way back: the remaining indices are those in the first m entries, and the next is the last of these
 pub record IsWalk (key : Entry → Option ℕ) (k : ℕ) (es : List Entry) (places : List ℕ) (next : Option ℕ) : Type 0 where
   pub front : ℕ
   pub parts : places_from key k 0 es ≡ places_from key k 0 (take front es) ++ reverse places
@@ -112,7 +112,7 @@ walk_none key k es next is = record {
 pub walk_done : (key : Entry → Option ℕ) (k : ℕ) (es : List Entry) (places : List ℕ) (next : Option ℕ) → next ≡ None → IsWalk key k es places next → reverse places ≡ places_from key k 0 es
 walk_done key k es places next none w = sym (w.parts ∙ ap (λ l. l ++ reverse places) (none_empty (places_from key k 0 (take w.front es)) (sym w.next_is ∙ none)))
 
--- where the entries of a key have it as their own
+-- if the entries of a key have it as their own
 module _ (key own : Entry → Option ℕ) (owns : (e : Entry) (k : ℕ) → is_key (key e) k ≡ true → own e ≡ Some k) (k : ℕ) (es : List Entry) (places : List ℕ) (next : Option ℕ) (w : IsWalk key k es places next) (i : ℕ) (some : next ≡ Some i) where
   here : Split key k 0 (take w.front es) i
   here = split_at key k (take w.front es) i (sym w.next_is ∙ some)

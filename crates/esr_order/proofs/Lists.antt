@@ -57,7 +57,7 @@ pub at_in : {X : Type 0} (xs : List X) (x : X) → In x xs → (i : ℕ) × (sli
 at_in [] x j = absurd j
 at_in (y ∷ xs) x j = ⊎_elim (λ e. (0, ap Some e)) (λ k. let r = at_in xs x k in (suc r.0, r.1)) j
 
--- true together, so the same
+-- two tests that imply each other are equal
 pub same_truth : (a b : Bool) → (a ≡ true → b ≡ true) → (b ≡ true → a ≡ true) → a ≡ b
 same_truth true b f g = sym (f refl)
 same_truth false true f g = g refl
@@ -79,7 +79,7 @@ any_two {X} (x ∷ xs) = (each xs, any_two xs)
     each [] = tt
     each (y ∷ ys) = (tt, each ys)
 
--- what a part of a vector is after a write through a slice of it all
+-- a part of a vector after a write through a slice of all of it
 pub written_back : {X : Type 0} (xs ys : List X) (n : ℕ) → n ≡ length ys → length xs ≡ length ys → take n (xs ++ drop (length xs) ys) ≡ xs
 written_back xs ys n is len =
     ap (λ l. take n (xs ++ l)) (drop_all (length xs) ys (omega arith)) ∙ (ap (take n) (append-nil xs) ∙ take_all n xs (omega arith))

@@ -1,4 +1,5 @@
--- The near updates of a query are closed downward, and hold all writers of what it read and all that it must see.
+-- The near updates of a query are closed downward, and contain all writers of the items that it read and all updates
+-- that it must see.
 use Rattle.std.proofs.Common.{◌≡◌, ◌↔◌, ℕ, ◌<◌, Bool, true, false, ◌&&◌, List, [], ◌∷◌, length, refl, sym, ◌∙◌, ap, subst, arith, inl, inr, ⊎_elim, AllPairs, Contains, filter, map, cond}
 use Rattle.std.specs.List.{range_with_len}
 use Rattle.std.proofs.lemmas.Bool.{true≢false, cases_order, and_parts}
@@ -21,7 +22,7 @@ module _ (d : Distance) (h : Schedule) (q : ℕ) (legal : IsLegal d h) where
   keeps : AllPairs (λ u v. is_before h v u ≡ false) (updates_of h q)
   keeps = All-from_pairs (λ u v. is_before h v u ≡ false) (updates_of h q) (in_order d h q legal).keeps
 
-  -- who is before one that must be seen must be seen
+  -- a predecessor of an update that must be seen must be seen
   pub must_down : (u v : ℕ) → Contains (updates_of h q) u → is_before h u v ≡ true → Contains (must h q) v → Contains (must h q) u
   must_down u v cu b m =
       let n : ℕ = length (must h q) in
@@ -37,7 +38,7 @@ module _ (d : Distance) (h : Schedule) (q : ℕ) (legal : IsLegal d h) where
       (cases_order p.0 w.0) in
       In-Contains (must h q) u (subst (In u) musts (subst (λ z. In z (map (update_at h q) (range_with_len 0 n))) p.2 (in_map (update_at h q) (range_with_len 0 n) p.0 (in_range 0 n p.0 (omega arith) (omega arith)))))
 
-  -- who is before a near one is near
+  -- a predecessor of a near update is near
   pub near_back : (u v : ℕ) → Contains (updates_of h q) u → is_before h u v ≡ true → Contains (updates_of h q) v → IsNear h q v → IsNear h q u
   near_back u v cu b cv n =
       elim n [

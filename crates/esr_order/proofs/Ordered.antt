@@ -20,7 +20,7 @@ use Rattle.esr_history.proofs.Laws.{updates_once, updates_in_order}
 use Rattle.esr_order.specs.Statements.{ClosedSetsAreParts}
 use Rattle.esr_order.proofs.Placed.{InOrder, closed_sets_are_parts}
 
--- what holds of the pairs of all holds of those before one
+-- a property of all pairs holds of the pairs before one
 front_pairs : (R : ℕ → ℕ → Type 0) (p f : ℕ → Bool) (xs : List ℕ) → Pairs R (filter p xs) → Pairs R (filter p (before_first f xs))
 front_pairs R p f xs h =
     let n : ℕ = position_or_len f xs in

@@ -1,4 +1,4 @@
--- The closed sets are the parts of placements, for updates whose commit order keeps the conflict order.
+-- The closed sets are the prefixes of placements, for updates whose commit order respects the conflict order.
 use Rattle.std.proofs.Common.{◌≡◌, ℕ, ◌≤◌, Bool, true, false, not, List, ◌++◌, length, take, drop, sym, ◌∙◌, ap, subst, ⊎_elim, arith, Contains, take-append-drop, length-append}
 use Rattle.std.proofs.Math.Path.{fun_ext}
 use Rattle.std.proofs.Math.Seq.{take-append_seam}
@@ -14,7 +14,7 @@ use Rattle.esr_order.specs.Statements.{ClosedSetsAreParts}
 use Rattle.esr_order.proofs.Writers.{writers_in_order}
 use Rattle.esr_order.proofs.Least.{must_in}
 
--- whose commit order keeps the conflict order
+-- the commit order of the updates respects the conflict order
 pub record InOrder (h : Schedule) (q : ℕ) : Type 0 where
   pub once : Pairs (λ u v. u ≡ v → ⊥) (updates_of h q)
   pub keeps : Pairs (λ u v. is_before h v u ≡ false) (updates_of h q)

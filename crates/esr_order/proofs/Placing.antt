@@ -1,4 +1,4 @@
--- Chains of the same last values are the same.
+-- Chains of the same last values are equal.
 use Rattle.std.proofs.Common.{◌≡◌, ℕ, zero, suc, ◌+◌, ◌<◌, ◌≤◌, ℤ, Option, refl, ◌∙◌, ap, arith, filter, cond, ◌∷◌, is_some}
 use Rattle.std.specs.List.{filter_map, cons_option, range_with_len}
 use Rattle.esr_order.specs.Chains.{chain_from}

@@ -1,4 +1,4 @@
--- Rows that lie one after another in one list.
+-- Consecutive rows in one list.
 use Rattle.std.proofs.Common.{◌≡◌, ◌⊎◌, ℕ, zero, suc, ◌+◌, ◌-◌, ◌<◌, ◌≤◌, List, [], ◌∷◌, ◌++◌, length, take, drop, slice_set, map, refl, sym, ap, ap₂, ◌∙◌, subst, inl, inr, All, arith, IsTrue}
 use Rattle.std.proofs.Math.Seq.{drop-append_seam}
 use Rattle.std.proofs.lemmas.Bool.{cases_eq}

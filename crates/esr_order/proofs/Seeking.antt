@@ -27,7 +27,7 @@ use Rattle.esr_order.proofs.Gathering.{no_txn, drop_next}
 use Rattle.esr_order.proofs.Turns.{up, ahead, conflict_parts}
 use Rattle.esr_order.proofs.Lists.{in_map, of_map, at_place}
 
--- ---- what is left of a list from a place on
+-- ---- the rest of a list from an index on
 
 in_drop : (xs : List ℕ) (i j : ℕ) → i ≤ j → j < length xs → In (nth xs j) (drop i xs)
 in_drop [] i j l m = absurd (omega arith)
@@ -51,7 +51,7 @@ number_at ts us i d is l = at ts i l ∙ ap (λ vs. nth vs i) is
     at (t ∷ ts) zero l = refl
     at (t ∷ ts) (suc i) l = at ts i (omega arith)
 
--- ---- what a transaction did to an item
+-- ---- the operations of a transaction on an item
 
 -- whether t wrote item x, or read it
 abbrev pub did : Schedule → Bool → ℕ → ℕ → Bool
@@ -171,7 +171,7 @@ module _ (d : Distance) (h : Schedule) (q : ℕ) (legal : IsLegal d h) where
     }
 
     module _ (s : Seen) (seen : AreSeen h q us s) where
-      -- what did something that conflicts with a near update is near
+      -- an update with an operation that conflicts with a near update is near
       by_update : (o p : Operation) → In o (operations h) → In p (operations h) → o.txn ≡ u → In p.txn us → o.item ≡ p.item → (o.writes || p.writes) ≡ true → IsNear h q u
       by_update o p io ip own there_ item writes =
           let n = (so_far.near p.txn).0 there_ in
@@ -208,7 +208,7 @@ module _ (d : Distance) (h : Schedule) (q : ℕ) (legal : IsLegal d h) where
           (or_cases (list_any (did h false a.0.item.0) us) (did h false a.0.item.0 q) (sym (seen.read a.0.item.0) ∙ both.1)))
           (or_cases (marked s.written a.0.item.0) (a.0.writes && marked s.read a.0.item.0) a.2)
 
-      -- ---- and what is near did so, or must be seen
+      -- ---- a near update has such an operation, or must be seen
 
       conflicts : (o : Operation) → In o (operations h) → o.txn ≡ u → conflicts_with s (access_of o) ≡ true → list_any (conflicts_with s) (accesses_in h.entries u) ≡ true
       conflicts o io own is = any-from_In (conflicts_with s) (accesses_in h.entries u) (access_of o) (accessed h o u io own) is
@@ -262,7 +262,7 @@ module _ (d : Distance) (h : Schedule) (q : ℕ) (legal : IsLegal d h) where
               (λ o. ⊎_elim (λ lt. absurd (once k.0 i 0 lt inside k.2)) (λ gt. omega (arith, gt, l)) o)
               (Rattle.std.proofs.lemmas.Bool.cases_order k.0 i)
 
--- ---- what the search holds, and one step of it
+-- ---- the state of the search, and one step of it
 
 pub record IsSought (h : Schedule) (q i : ℕ) (items : Items) (near : List TxnId) : Type 0 where
   pub read_len : length items.read.items ≡ length h.opening

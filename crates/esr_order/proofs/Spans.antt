@@ -1,4 +1,4 @@
--- Where the transactions of a legal history begin, and where they end.
+-- The indices at which the transactions of a legal history begin and end.
 use Rattle.std.proofs.Common.{◌≡◌, ℕ, zero, suc, ◌+◌, ◌<◌, ◌≤◌, Bool, true, false, not, ◌||◌, ◌⊎◌, List, [], ◌∷◌, ◌++◌, length, take, drop, refl, sym, ◌∙◌, ap, subst, arith, inl, inr, ⊎_elim, Some, None, append-nil, filter, map, cond, add-one, if◌then◌else◌}
 use Rattle.std.specs.List.{cons_option, slice_get, list_any, last_or, before_first}
 use Rattle.std.proofs.Math.Seq.{take-append_seam}
@@ -35,7 +35,7 @@ end_key (Write u x v) t c a = refl
 end_key (Commit u) t c a = c
 end_key (Abort u) t c a = a
 
--- who has neither committed nor aborted has no end
+-- a transaction that has neither committed nor aborted has no end
 no_ends : (es : List Entry) (t n : ℕ) → is_committed (accepted es) t ≡ false → is_aborted (accepted es) t ≡ false → places_from accepted_end t n es ≡ []
 no_ends [] t n c a = refl
 no_ends (e ∷ es) t n c a = at (is_refusal e.reply) refl (no_ends es t (n + 1))

@@ -1,4 +1,4 @@
--- What the entries at some places of a log give, and the places of a key.
+-- The results of the entries at some indices of a log, and the indices of a key.
 use Rattle.std.proofs.Common.{◌≡◌, ℕ, zero, suc, ◌+◌, ◌<◌, ◌≤◌, Bool, true, false, List, [], ◌∷◌, length, refl, sym, ◌∙◌, ap, subst, arith, inl, inr, ⊎_elim, Option, Some, None, if◌then◌else◌}
 use Rattle.std.specs.List.{filter_map, cons_option, slice_get, range_with_len}
 use Rattle.std.specs.List.Sorted.{IsStrictlyIncreasing}
@@ -45,7 +45,7 @@ sub_range g a (suc m) (x ∷ xs) rise low high none =
     (sym (none a (omega arith) (omega arith) (λ j. ⊎_elim (λ f. absurd (omega (arith, f, under))) (λ k. let l : x < a = above a k in absurd (omega (arith, l, under))) j))))
     (cases_order x a)
 
--- what the entries at some rising places give is what all of them give, where no other gives anything
+-- the entries at some ascending indices yield the same as all of them if no other entry yields anything
 pub sparse_entries : {Y : Type 0} (f : Entry → Option Y) (es : List Entry) (at : List ℕ) → IsStrictlyIncreasing at → ((i : ℕ) → In i at → i < 0 + length es)
     → ((i : ℕ) (e : Entry) → slice_get es i ≡ Some e → (In i at → ⊥) → f e ≡ None) → filter_map f (filter_map (slice_get es) at) ≡ filter_map f es
 sparse_entries f es at rises inside yields =

@@ -1,4 +1,4 @@
--- Steps of updates, one update after another, say what the operations of the history say.
+-- The operations of updates, one update after another, agree with the operations of the history.
 use Rattle.std.proofs.Common.{◌≡◌, ◌≢◌, ℕ, zero, suc, ◌+◌, ◌<◌, ◌≤◌, Bool, true, false, not, ◌&&◌, ◌||◌, List, [], ◌∷◌, ◌++◌, length, map, filter, refl, sym, ◌∙◌, ap, subst, arith, ⊎_elim, All, AllPairs, eqb, cond, append-nil, length-append}
 use Rattle.std.specs.Prelude.{⊤}
 use Rattle.std.proofs.lemmas.Bool.{true≢false, cases_order, and_parts, and_from, eqb-true, eq-eqb, ne_eqb, eqb-false, not-true}
@@ -33,7 +33,7 @@ not_before_itself ops u h =
     eqb-false w.0.txn w.1.txn (not-true (eqb w.0.txn w.1.txn) c.0) (eqb-true w.0.txn u p.0 ∙ sym (eqb-true w.1.txn u r.0))
 
 module _ (os : List Operation) where
-  -- ---- what the steps are of
+  -- ---- the source of the operations
 
   pub in_turns : (n : ℕ) (us : List ℕ) (s : UpdateOperation) → In s (turns os n us) → (k : ℕ) × (o : Operation) × (k < length us) × In o os × (o.txn ≡ nth us k) × (placed_operation (n + k) o ≡ s)
   in_turns n [] s i = absurd i
@@ -83,7 +83,7 @@ module _ (os : List Operation) where
       let e : 0 + r.0 ≡ s.place = ap (λ (s : UpdateOperation). s.place) r.5 in
       omega arith))
 
-  -- ---- what the update at a position did
+  -- ---- the operations of the update at a position
 
   here : (p : UpdateOperation → Bool) (n u : ℕ) (s : UpdateOperation) → In s (filter p (turn os n u)) → s.place ≡ n
   here p n u s j = in_turn n u s (In-of_filter p (turn os n u) s j).0

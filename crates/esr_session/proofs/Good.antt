@@ -112,7 +112,7 @@ pub good_unmarked : (es : List Entry) (earlier rs : List Receipt) (marks : List 
 good_unmarked es earlier rs marks r marked len before good =
     grind (arith, count_at-append r.at earlier rs, none_after es earlier 0 rs before r.at good.1, named_below es r good.0, ltb 0)
 
--- a receipt whose place is not marked is good
+-- a receipt whose index is not marked is good
 pub unmarked_good : (es : List Entry) (earlier rs : List Receipt) (marks : List Bool) (r : Receipt) → AreMarked (earlier ++ rs) marks → length marks ≡ length es → Names es r → next_place 0 rs ≤ r.at → get_or marks r.at false ≡ false → IsGood es earlier (next_place 0 rs) r
 unmarked_good es earlier rs marks r marked len names le free =
     grind (arith, zero_of, named_below es r names, count_at-append r.at earlier rs)

@@ -1,4 +1,4 @@
--- Why receipts that are all good match the history, and are all there. Drives and benchmarks may rest on `Good`.
+-- Receipts that are all good match the history, and are complete. Drives and benchmarks may use `Good`.
 
 pub mod Calls
 pub mod Lists

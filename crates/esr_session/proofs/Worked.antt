@@ -1,4 +1,4 @@
--- Why a close is refused: one call was answered, and no session came.
+-- An example of a refused close: one call was executed, and no session was returned.
 use Rattle.std.proofs.Common.{ℕ, ℤ, pos, List, [], ◌∷◌, refl, arith}
 use Rattle.esr_items.specs.Weights.{weighted}
 use Rattle.esr_history.specs.declared.event.Event.TheVariants.{BeginUpdate}

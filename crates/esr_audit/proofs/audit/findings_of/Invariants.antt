@@ -1,4 +1,3 @@
--- What holds at each turn of the loop in `findings_of`.
 use Rattle.std.proofs.Common.{◌≡◌, All, take, map}
 use Rattle.esr_audit.specs.Findings.{IsFinding, Finding}
 use Rattle.esr_audit.proofs.audit.findings_of.Given as goal

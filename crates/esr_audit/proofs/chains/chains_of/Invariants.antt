@@ -1,4 +1,3 @@
--- What holds at each turn of the loop in `chains_of`.
 use Rattle.std.proofs.Common.{◌≡◌, ℕ, ◌≤◌, map}
 use Rattle.esr_order.specs.Orders.{chain_at}
 use Rattle.esr_cert.specs.Views.{chain_of as chain_view}

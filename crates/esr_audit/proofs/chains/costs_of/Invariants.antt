@@ -1,4 +1,3 @@
--- What holds at each turn of the loop in `costs_of`.
 use Rattle.std.proofs.Common.{◌≡◌, ◌∷◌, take, map}
 use Rattle.esr_audit.specs.Reads.{distance_sum}
 use Rattle.esr_audit.proofs.chains.costs_of.Given as goal

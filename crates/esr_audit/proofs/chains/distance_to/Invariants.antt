@@ -1,4 +1,3 @@
--- What holds at each turn of the loop in `distance_to`.
 use Rattle.std.proofs.Common.{◌≡◌, ◌≤◌, ◌*◌, take}
 use Rattle.esr_audit.specs.Reads.{distance_sum}
 use Rattle.esr_audit.proofs.chains.distance_to.Given as goal

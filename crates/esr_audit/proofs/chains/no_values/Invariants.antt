@@ -1,4 +1,3 @@
--- What holds at each turn of the loop in `no_values`.
 use Rattle.std.proofs.Common.{◌≡◌, ℕ, [], length}
 use Rattle.esr_audit.specs.Reads.{list_at}
 use Rattle.esr_audit.proofs.chains.no_values.Given as goal

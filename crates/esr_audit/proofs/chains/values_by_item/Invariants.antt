@@ -1,4 +1,3 @@
--- What holds at each turn of the loop in `values_by_item`.
 use Rattle.std.proofs.Common.{◌≡◌, ℕ, ◌<◌, length, take}
 use Rattle.esr_audit.specs.Reads.{list_at, values_of}
 use Rattle.esr_audit.proofs.chains.values_by_item.Given as goal

@@ -1,4 +1,3 @@
--- What holds at each turn of the loop in `lists_among`.
 use Rattle.std.proofs.Common.{◌≡◌, not, take, filter}
 use Rattle.esr_base.specs.declared.numbers.TxnId.{TxnId}
 use Rattle.esr_history.specs.Events.{is_query}

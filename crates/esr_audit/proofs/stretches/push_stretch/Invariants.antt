@@ -1,4 +1,3 @@
--- What holds at each turn of the loop in `push_stretch`.
 use Rattle.std.proofs.Common.{◌≡◌, ◌≤◌, ◌-◌, ◌++◌, map}
 use Rattle.std.specs.List.{range_with_len}
 use Rattle.esr_audit.proofs.stretches.push_stretch.Given as goal

@@ -1,4 +1,3 @@
--- What holds at each turn of the loop in `txns_of`.
 use Rattle.std.proofs.Common.{◌≡◌, take, map, flat_map}
 use Rattle.esr_audit.specs.Stretches.{numbers_in}
 use Rattle.esr_audit.proofs.stretches.txns_of.Given as goal

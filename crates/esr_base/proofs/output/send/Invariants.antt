@@ -1,4 +1,3 @@
--- What holds at each turn of the loop in `send`.
 use Rattle.std.proofs.Common.{◌≡◌, length, ◌-◌, ◌≤◌, take}
 use Rattle.std.specs.Io.KnownBytes.{Appends}
 use Rattle.esr_base.specs.Watch.{inner, failed}

@@ -1,4 +1,3 @@
--- What holds at each turn of the loop in `empty_slots`.
 use Rattle.std.proofs.Common.{◌≡◌, ℕ, get_or, vec_len, None}
 use Rattle.esr_board.proofs.parallel.empty_slots.Given as goal
 

@@ -1,4 +1,3 @@
--- What holds at each turn of the loop in `gather`.
 use Rattle.std.proofs.Common.{◌≡◌, ℕ, ◌+◌, ◌<◌, length, vec_len, All}
 use Rattle.esr_board.specs.Claims.{times, count_past}
 use Rattle.esr_board.specs.Boards.{IsSeatOf, claimed, all_claimed}

@@ -1,4 +1,3 @@
--- What holds at each turn of the loop in `put_in_order`.
 use Rattle.std.proofs.Common.{◌≡◌, ℕ, ◌⊎◌, length, map, vec_len}
 use Rattle.esr_board.specs.Claims.{times}
 use Rattle.esr_board.specs.Shares.{AreKept, IsFilled, AreRight}

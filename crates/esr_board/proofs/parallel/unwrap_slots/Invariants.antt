@@ -1,4 +1,3 @@
--- What holds at each turn of the loop in `unwrap_slots`.
 use Rattle.std.proofs.Common.{◌≡◌, ℕ, ◌≤◌, get_or, take, vec_len, None}
 use Rattle.std.specs.List.{AllZip}
 use Rattle.esr_board.specs.Shares.{IsKeptOf}

@@ -10,7 +10,7 @@ use Rattle.esr_bundle.specs.Fields.{each, list_of}
 use Rattle.esr_bundle.proofs.Exits.{passes}
 use Rattle.esr_bundle.proofs.fields.list.Goals as goal
 
--- what was read before some items, and what the first of them gives
+-- the elements read before some items, and the first of these items
 each_next : {A : Type 0} (f : Data → Option A) (done : List A) (v : Value) (vs : List Value) (a : A) → f (view v) ≡ Some a
     → option_map (λ rest. (done ++ a ∷ []) ++ rest) (each f (items_view vs)) ≡ option_map (λ rest. done ++ rest) (each f (items_view (v ∷ vs)))
 each_next {A} f done v vs a h = rw h (go (each f (items_view vs)))

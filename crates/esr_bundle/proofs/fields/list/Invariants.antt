@@ -1,4 +1,3 @@
--- What holds at each turn of the loop in `list`.
 use Rattle.std.proofs.Common.{◌≡◌, ◌++◌, drop, map, option_map}
 use Rattle.serde_json.specs.View.{items_view}
 use Rattle.esr_bundle.specs.Fields.{each}

@@ -1,4 +1,3 @@
--- What holds at each turn of the loop in `list`.
 use Rattle.std.proofs.Common.{◌≡◌, true, take, map}
 use Rattle.std.specs.List.{list_all}
 use Rattle.esr_bundle.proofs.sound.list.Given as goal

@@ -1,4 +1,3 @@
--- What holds at each turn of the loop in `list`.
 use Rattle.std.proofs.Common.{◌≡◌, map, take}
 use Rattle.serde_json.specs.View.{view}
 use Rattle.esr_bundle.proofs.writer.list.Given as goal

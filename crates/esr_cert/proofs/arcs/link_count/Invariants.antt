@@ -1,4 +1,3 @@
--- What holds at each turn of the loop in `link_count`.
 use Rattle.std.proofs.Common.{◌≡◌, ◌≤◌, ◌*◌, take, map, length, sum_by}
 use Rattle.esr_cert.specs.Views.{chain_of}
 use Rattle.esr_cert.proofs.arcs.link_count.Given as goal

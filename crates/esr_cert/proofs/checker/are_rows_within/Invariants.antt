@@ -1,4 +1,3 @@
--- What holds at each turn of the loop in `are_rows_within`.
 use Rattle.std.proofs.Common.{◌≡◌, drop, map}
 use Rattle.esr_cert.specs.Parts.{are_rows_within}
 use Rattle.esr_cert.specs.Views.{chain_of, rows_of}

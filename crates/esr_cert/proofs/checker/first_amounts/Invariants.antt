@@ -1,4 +1,3 @@
--- What holds at each turn of the loop in `first_amounts`.
 use Rattle.std.proofs.Common.{◌≡◌, ◌≤◌, ◌*◌, take, sum_by, get_or}
 use Rattle.esr_cert.specs.Views.{rows_of}
 use Rattle.esr_cert.proofs.checker.first_amounts.Given as goal

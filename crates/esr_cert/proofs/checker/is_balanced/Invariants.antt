@@ -1,4 +1,3 @@
--- What holds at each turn of the loop in `is_balanced`.
 use Rattle.std.proofs.Common.{◌≡◌, ◌≤◌, ◌*◌, take, sum_by}
 use Rattle.esr_cert.specs.Balance.{amount_in, amount_out}
 use Rattle.esr_cert.specs.Certificate.{amounts}

@@ -1,4 +1,3 @@
--- What holds at each turn of the loop in `is_conserved`.
 use Rattle.std.proofs.Common.{◌≡◌, ℕ, ◌<◌, true}
 use Rattle.esr_cert.specs.Network.{network}
 use Rattle.esr_cert.specs.Flow.{is_conserved_at}

@@ -1,4 +1,3 @@
--- What holds at each turn of the loop in `is_row_within`.
 use Rattle.std.proofs.Common.{◌≡◌, drop}
 use Rattle.esr_cert.specs.Parts.{is_row_within}
 use Rattle.esr_cert.proofs.checker.is_row_within.Given as goal

@@ -1,4 +1,3 @@
--- What holds at each turn of the loop in `set_cost`.
 use Rattle.std.proofs.Common.{◌≡◌, ◌≤◌, ◌*◌, take, map, sum_by}
 use Rattle.esr_cert.specs.Problem.{chain_cost, in_set}
 use Rattle.esr_cert.specs.Views.{chain_of}

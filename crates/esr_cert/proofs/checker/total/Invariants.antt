@@ -1,4 +1,3 @@
--- What holds at each turn of the loop in `total`.
 use Rattle.std.proofs.Common.{◌≡◌, ◌≤◌, ◌*◌, take, sum}
 use Rattle.esr_cert.proofs.checker.total.Given as goal
 

@@ -1,4 +1,3 @@
--- What holds at each turn of the loop in `version`.
 use Rattle.std.proofs.Common.{◌≡◌, ◌-◌, length, take}
 use Rattle.esr_cert.specs.Problem.{in_set, version}
 use Rattle.esr_cert.proofs.checker.version.Given as goal

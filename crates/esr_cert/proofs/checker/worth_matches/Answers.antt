@@ -11,7 +11,7 @@ use Rattle.esr_cert.proofs.Worth.{worth_firsts}
 use Rattle.esr_cert.proofs.checker.worth_matches.Goals as goal
 use Rattle.esr_cert.proofs.checker.worth_matches.Goals.{After-total}
 
--- what leaves the source is the sum that the body takes
+-- the outflow of the source is the sum that the function computes
 flow_worth : (c : After-total) → worth (network c.args.problem.now) (amounts (certificate_of c.args.certificate.now)) ≡ c.first_amounts.result + c.total.result
 flow_worth c =
     let p = c.args.problem.now in

@@ -1,4 +1,3 @@
--- What holds at each turn of the loop in `is_ascending`.
 use Rattle.std.proofs.Common.{◌≡◌, ◌-◌, drop}
 use Rattle.esr_cert.specs.Problem.{is_ascending}
 use Rattle.esr_cert.proofs.lists.is_ascending.Given as goal

@@ -1,4 +1,3 @@
--- What holds at each turn of the loop in `chain_drafts`.
 use Rattle.std.proofs.Common.{◌≡◌, take, map}
 use Rattle.esr_cert.specs.Views.{chain_of}
 use Rattle.esr_cert.specs.Drafts.{drafted_chain}

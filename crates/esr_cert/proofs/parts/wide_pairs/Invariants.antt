@@ -1,4 +1,3 @@
--- What holds at each turn of the loop in `wide_pairs`.
 use Rattle.std.proofs.Common.{◌≡◌, take}
 use Rattle.esr_cert.proofs.parts.wide_pairs.Given as goal
 

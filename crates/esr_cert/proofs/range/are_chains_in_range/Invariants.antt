@@ -1,4 +1,3 @@
--- What holds at each turn of the loop in `are_chains_in_range`.
 use Rattle.std.proofs.Common.{◌≡◌, drop, map}
 use Rattle.std.specs.List.{list_all}
 use Rattle.esr_cert.specs.Problem.{chain_is_in_range}

@@ -1,4 +1,3 @@
--- What holds at each turn of the loop in `are_updates_in_range`.
 use Rattle.std.proofs.Common.{◌≡◌, ◌&&◌, nat_lt, nat_le, drop, map}
 use Rattle.std.specs.List.{list_all}
 use Rattle.esr_base.specs.declared.limits.TheConstants.{MAX_TRANSACTIONS}

@@ -1,4 +1,3 @@
--- What holds at each turn of the loop in `greatest`.
 use Rattle.std.proofs.Common.{◌≡◌, max, drop}
 use Rattle.esr_cert.specs.Problem.{greatest}
 use Rattle.esr_cert.proofs.range.greatest.Given as goal

@@ -4,7 +4,7 @@ use Rattle.std.proofs.lemmas.List.Sums.{sum_by_more}
 use Rattle.esr_cert.specs.Rows.{span_at, Span}
 use Rattle.esr_cert.proofs.rows.begin_rows.Goals as goal
 
--- one more row begins where the last ends
+-- one more row begins at the end of the last
 begun_more : (at : ℕ → Span) (spans new : List Span) (i : ℕ) → length spans ≡ i → new ≡ spans ++ at i ∷ [] → ((v : ℕ) → v < i → span_at spans v ≡ at v) → (v : ℕ) → v < i + 1 → span_at new v ≡ at v
 begun_more at spans new i count is begun =
     below_more (λ v. span_at new v ≡ at v) i

@@ -1,4 +1,3 @@
--- What holds at each turn of the loop in `begin_rows`.
 use Rattle.std.proofs.Common.{◌≡◌, ℕ, ◌<◌, length, take, sum}
 use Rattle.esr_cert.specs.Rows.{span_at}
 use Rattle.esr_cert.proofs.rows.begin_rows.Given as goal

@@ -1,4 +1,3 @@
--- What holds at each turn of the loop in `count_links`.
 use Rattle.std.proofs.Common.{◌+◌}
 use Rattle.esr_cert.specs.Rows.{first_steps, Counted}
 use Rattle.esr_cert.proofs.rows.count_links.Given as goal

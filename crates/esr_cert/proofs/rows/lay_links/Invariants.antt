@@ -1,4 +1,3 @@
--- What holds at each turn of the loop in `lay_links`.
 use Rattle.std.proofs.Common.{◌+◌}
 use Rattle.esr_cert.specs.Rows.{Laid}
 use Rattle.esr_cert.proofs.rows.lay_links.Given as goal

@@ -1,4 +1,3 @@
--- What holds at each turn of the loop in `rows_of`.
 use Rattle.std.proofs.Common.{◌≡◌, ◌≤◌, length, get_or, map}
 use Rattle.esr_cert.specs.Rows.{Laid}
 use Rattle.esr_cert.specs.Starts.{starts_from}

@@ -1,4 +1,3 @@
--- What holds at each turn of the loop in `are_items_ascending`.
 use Rattle.std.proofs.Common.{◌≡◌, ◌-◌, drop, map}
 use Rattle.esr_cert.specs.Problem.{is_ascending}
 use Rattle.esr_cert.specs.Drafts.{drafted_chain}

@@ -1,4 +1,3 @@
--- What holds at each turn of the loop in `are_linked`.
 use Rattle.std.proofs.Common.{◌≡◌, ◌-◌, drop}
 use Rattle.esr_cert.specs.Problem.{are_linked}
 use Rattle.esr_cert.proofs.shape.are_linked.Given as goal

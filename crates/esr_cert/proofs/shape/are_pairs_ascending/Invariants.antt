@@ -1,4 +1,3 @@
--- What holds at each turn of the loop in `are_pairs_ascending`.
 use Rattle.std.proofs.Common.{◌≡◌, ◌-◌, drop}
 use Rattle.esr_cert.specs.Problem.{are_pairs_ascending}
 use Rattle.esr_cert.proofs.shape.are_pairs_ascending.Given as goal

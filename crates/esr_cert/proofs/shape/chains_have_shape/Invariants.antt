@@ -1,4 +1,3 @@
--- What holds at each turn of the loop in `chains_have_shape`.
 use Rattle.std.proofs.Common.{◌≡◌, drop, map}
 use Rattle.std.specs.List.{list_all}
 use Rattle.esr_cert.specs.Problem.{chain_has_shape}

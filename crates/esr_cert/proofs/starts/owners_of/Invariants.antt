@@ -1,4 +1,3 @@
--- What holds at each turn of the loop in `owners_of`.
 use Rattle.std.proofs.Common.{◌≡◌, ◌++◌, drop, map}
 use Rattle.esr_cert.specs.Starts.{owners_from}
 use Rattle.esr_cert.specs.Views.{chain_of}

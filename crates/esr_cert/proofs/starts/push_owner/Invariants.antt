@@ -1,4 +1,3 @@
--- What holds at each turn of the loop in `push_owner`.
 use Rattle.std.proofs.Common.{◌≡◌, ◌++◌, replicate}
 use Rattle.esr_cert.proofs.starts.push_owner.Given as goal
 

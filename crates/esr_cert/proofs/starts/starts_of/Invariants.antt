@@ -1,4 +1,3 @@
--- What holds at each turn of the loop in `starts_of`.
 use Rattle.std.proofs.Common.{◌≡◌, ◌++◌, drop, map, take, length, sum_by}
 use Rattle.esr_cert.specs.Starts.{starts_from}
 use Rattle.esr_cert.specs.Views.{chain_of}

@@ -1,4 +1,3 @@
--- What holds at each turn of the loop in `committed_values`.
 use Rattle.std.proofs.Common.{◌≡◌, take, map, All}
 use Rattle.esr_items.specs.Values.{IsValue}
 use Rattle.esr_core.proofs.machine.committed_values.Given as goal

@@ -1,4 +1,3 @@
--- What holds at each turn of the loop in `charge_each`.
 use Rattle.std.proofs.Common.{◌≡◌, take, map}
 use Rattle.esr_locks.specs.Rows.{query_and_count}
 use Rattle.esr_core.specs.States.{charges_to}

@@ -1,4 +1,3 @@
--- What holds at each turn of the loop in `settle_all`.
 use Rattle.std.proofs.Common.{◌≡◌, ℕ, ◌<◌, take, length, if◌then◌else◌, ◌&&◌, not}
 use Rattle.esr_items.specs.Values.{current_at, committed_at}
 use Rattle.esr_locks.specs.Tables.{locks_at, is_writer, contains_item}

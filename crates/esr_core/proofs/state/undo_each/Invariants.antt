@@ -1,4 +1,3 @@
--- What holds at each turn of the loop in `undo_each`.
 use Rattle.std.proofs.Common.{◌≡◌, ℕ, ◌<◌, length}
 use Rattle.esr_items.specs.Values.{committed_at, current_at}
 use Rattle.esr_core.proofs.state.undo_each.Given as goal

@@ -1,4 +1,3 @@
--- What holds at each turn of the loop in `is_conserved`.
 use Rattle.std.proofs.Common.{◌≡◌, ◌≢◌, ℕ, ◌<◌, get_or}
 use Rattle.esr_flow.proofs.flows.is_conserved.Given as goal
 

@@ -1,4 +1,3 @@
--- What holds at each turn of the loop in `sum_arcs`.
 use Rattle.std.proofs.Common.{◌≡◌, ℕ, ◌<◌, ◌≤◌, true, eqb, get_or, take}
 use Rattle.esr_cert.specs.Network.{arc_at}
 use Rattle.esr_cert.specs.Flow.{within, carried}

@@ -1,4 +1,3 @@
--- What holds at each turn of the loop in `bottleneck_of`.
 use Rattle.std.proofs.Common.{◌≡◌, drop}
 use Rattle.esr_cert.specs.Network.{network}
 use Rattle.esr_flow.specs.Residual.{smaller, bottleneck}

@@ -6,7 +6,7 @@ use Rattle.esr_flow.specs.Maximum.{IsStart}
 use Rattle.esr_flow.proofs.FlowLaws.{Taken, taken}
 use Rattle.esr_flow.proofs.maximum.maximum_from.Goals as goal
 
--- the flow is what the phases left, of which this is known
+-- the flow is the result of the phases, of which this is known
 kept : (c : goal.After-drop-entries-2) → take c.args.flow.len (c.run_phases.new.flow ++ drop (length c.run_phases.new.flow) c.args.flow.items) ≡ c.run_phases.new.flow
 kept c =
     let flow = c.args.flow in

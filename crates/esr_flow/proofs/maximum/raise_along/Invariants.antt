@@ -1,4 +1,3 @@
--- What holds at each turn of the loop in `raise_along`.
 use Rattle.std.proofs.Common.{◌≡◌, take}
 use Rattle.esr_flow.specs.Residual.{raise}
 use Rattle.esr_flow.specs.Graph.{AreEntries}

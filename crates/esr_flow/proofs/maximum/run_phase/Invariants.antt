@@ -1,4 +1,3 @@
--- What holds at each turn of the loop in `run_phase`.
 use Rattle.std.proofs.Common.{vec_len, ◌≡◌, ◌≤◌, ◌+◌, ◌-◌, ◌*◌, length}
 use Rattle.esr_flow.specs.Graph.{arcs_of, net_of, AreEntries}
 use Rattle.esr_flow.specs.Search.{IsGuided}

@@ -1,4 +1,3 @@
--- What holds at each turn of the loop in `run_phases`.
 use Rattle.std.proofs.Common.{◌≡◌, ◌-◌, ◌*◌, ◌≤◌, length}
 use Rattle.esr_flow.specs.Augmentation.{TakesFrom}
 use Rattle.esr_cert.specs.Flow.{worth}

@@ -1,4 +1,3 @@
--- What holds at each turn of the loop in `next_path`.
 use Rattle.std.proofs.Common.{◌≡◌, ◌+◌, ◌*◌, length}
 use Rattle.esr_flow.specs.Graph.{net_of}
 use Rattle.esr_flow.proofs.WalkLaws.{Walk, untried}

@@ -1,4 +1,3 @@
--- What holds at each turn of the loop in `pass_chain`.
 use Rattle.std.proofs.Common.{◌≡◌, ℕ, ◌+◌, ◌<◌, false}
 use Rattle.esr_flow.specs.Graph.{arcs_of, net_of}
 use Rattle.esr_flow.specs.Reached.{AreReached, IsKeptOver}

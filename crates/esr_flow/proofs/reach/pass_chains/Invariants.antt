@@ -1,4 +1,3 @@
--- What holds at each turn of the loop in `pass_chains`.
 use Rattle.std.proofs.Common.{◌≡◌, ℕ, ◌<◌, false, get_or}
 use Rattle.esr_cert.specs.Starts.{starts_from}
 use Rattle.esr_flow.specs.Graph.{arcs_of, net_of}

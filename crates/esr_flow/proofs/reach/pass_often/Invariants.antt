@@ -1,4 +1,3 @@
--- What holds at each turn of the loop in `pass_often`.
 use Rattle.esr_flow.specs.Graph.{net_of}
 use Rattle.esr_flow.specs.Reached.{AreReached}
 use Rattle.esr_flow.proofs.reach.pass_often.Given as goal

@@ -1,4 +1,3 @@
--- What holds at each turn of the loops in `skim`.
 use Rattle.esr_flow.specs.Graph.{net_of}
 use Rattle.esr_flow.specs.Reached.{AreReached}
 use Rattle.esr_flow.proofs.reach.skim.Given as goal

@@ -1,4 +1,3 @@
--- What holds at each turn of the loop in `skim_chains`.
 use Rattle.esr_flow.specs.Graph.{net_of}
 use Rattle.esr_flow.specs.Reached.{AreReached}
 use Rattle.esr_flow.proofs.reach.skim_chains.Given as goal

@@ -1,4 +1,3 @@
--- What holds at each turn of the loop in `skim_pairs`.
 use Rattle.esr_flow.specs.Graph.{net_of}
 use Rattle.esr_flow.specs.Reached.{AreReached}
 use Rattle.esr_flow.proofs.reach.skim_pairs.Given as goal

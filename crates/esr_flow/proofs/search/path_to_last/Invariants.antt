@@ -1,4 +1,3 @@
--- What holds at each turn of the loop in `path_to_last`.
 use Rattle.std.proofs.Common.{ℕ, ◌<◌, List, length}
 use Rattle.esr_cert.specs.Network.{Network}
 use Rattle.esr_flow.specs.Search.{FoundSink}

@@ -1,4 +1,3 @@
--- What holds at each turn of the loop in `scan`.
 use Rattle.esr_flow.specs.Graph.{net_of}
 use Rattle.esr_flow.proofs.ScanLaws.{Scanning}
 use Rattle.esr_flow.proofs.search.scan.Given as goal

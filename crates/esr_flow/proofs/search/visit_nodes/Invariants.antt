@@ -1,4 +1,3 @@
--- What holds at each turn of the loop in `visit_nodes`.
 use Rattle.std.proofs.Common.{◌≡◌, ◌≤◌, ◌-◌, length, false}
 use Rattle.esr_flow.specs.Graph.{net_of}
 use Rattle.esr_flow.specs.Search.{Searched, is_marked}

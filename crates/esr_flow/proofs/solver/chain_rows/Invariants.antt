@@ -1,4 +1,3 @@
--- What holds at each turn of the loop in `chain_rows`.
 use Rattle.std.proofs.Common.{◌≡◌, true, length, take, map, sum_by}
 use Rattle.std.specs.List.{concat}
 use Rattle.esr_cert.specs.Certificate.{are_rows_matched}

@@ -1,4 +1,3 @@
--- What holds at each turn of the loop in `members`.
 use Rattle.std.proofs.Common.{◌≡◌}
 use Rattle.esr_flow.specs.Search.{is_marked}
 use Rattle.esr_flow.specs.Certificate.{positions}

@@ -1,4 +1,3 @@
--- What holds at each turn of the loop in `add_charges`.
 use Rattle.std.proofs.Common.{◌≡◌, ◌+◌, ◌<◌, ℕ, length, take, slice_index_or}
 use Rattle.esr_history.specs.Imports.{imported}
 use Rattle.esr_history.proofs.imports.add_charges.Given as goal

@@ -4,7 +4,7 @@ use Rattle.esr_history.proofs.Ascending.{searched}
 use Rattle.esr_ledgers.specs.Books.{number}
 use Rattle.esr_ledgers.proofs.account.place_of.Goals as goal
 
--- the closure gives the number
+-- the closure returns the number
 pub returns-clause-found : goal.returns-clause-found
 returns-clause-found c =
     let by_number = c.binary_search_by_key.ensures.position number (answers_always _ _ _ (λ f a r g called. search rules)) in

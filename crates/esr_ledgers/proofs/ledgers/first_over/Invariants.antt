@@ -1,4 +1,3 @@
--- What holds at each turn of the loop in `first_over`.
 use Rattle.std.proofs.Common.{◌≡◌, take, None, find}
 use Rattle.esr_ledgers.specs.Books.{would_pass}
 use Rattle.esr_ledgers.proofs.ledgers.first_over.Given as goal

@@ -1,4 +1,3 @@
--- What holds at each turn of the loop in `import_each`.
 use Rattle.std.proofs.Common.{◌≡◌, take}
 use Rattle.esr_history.specs.Ascending.{IsAscendingBy}
 use Rattle.esr_ledgers.specs.Books.{number, charged_to_queries}

@@ -1,4 +1,3 @@
--- What holds at each turn of the loop in `total_charge`.
 use Rattle.std.proofs.Common.{◌≡◌, ◌≤◌, ◌*◌, ◌^◌, take}
 use Rattle.esr_ledgers.specs.Books.{total_of}
 use Rattle.esr_ledgers.proofs.ledgers.total_charge.Given as goal

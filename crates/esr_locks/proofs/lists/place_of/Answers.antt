@@ -3,7 +3,7 @@ use Rattle.std.proofs.lemmas.List.Sorted.{answers_always}
 use Rattle.esr_history.proofs.Ascending.{searched}
 use Rattle.esr_locks.proofs.lists.place_of.Goals as goal
 
--- the closure gives the number
+-- the closure returns the number
 pub returns : goal.returns
 returns g c =
     let by_number = c.binary_search_by_key.ensures.position g.R.Numbered.number (answers_always _ _ _ (λ f a r h called. search rules)) in

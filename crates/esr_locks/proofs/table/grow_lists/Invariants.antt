@@ -1,4 +1,3 @@
--- What holds at each turn of the loop in `grow_lists`.
 use Rattle.std.proofs.Common.{◌≡◌, ℕ, ◌+◌, ◌-◌, vec_len, length, ◌≤◌}
 use Rattle.esr_locks.specs.Rows.{held_at}
 use Rattle.esr_locks.proofs.table.grow_lists.Given as goal

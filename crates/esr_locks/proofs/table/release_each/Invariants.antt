@@ -1,4 +1,3 @@
--- What holds at each turn of the loop in `release_each`.
 use Rattle.std.proofs.Common.{◌≡◌, ℕ, ◌<◌, length, take, if◌then◌else◌}
 use Rattle.esr_locks.specs.Rows.{row_at}
 use Rattle.esr_locks.specs.Tables.{contains_item, released}

@@ -1,9 +1,8 @@
--- What holds at each turn of the loop in `list_accesses`.
 use Rattle.esr_history.specs.BackLinks.{coded}
 use Rattle.esr_order.proofs.Accessed.{IsBackTo}
 use Rattle.esr_order.proofs.accesses.list_accesses.Given as goal
 
--- what the entries after the next gave
+-- the results of the entries after the next
 abbrev pub invariant-loop-next : goal.invariant-loop-next
 invariant-loop-next g l = IsBackTo l.history.schedule.entries l.fn.t.0 l.accesses.items l.next
 

@@ -1,4 +1,3 @@
--- What holds at each turn of the loop in `turn_all`.
 use Rattle.std.proofs.Common.{◌≡◌, map}
 use Rattle.esr_order.specs.Chains.{turned, seen_links}
 use Rattle.esr_order.proofs.Lists.{changed}

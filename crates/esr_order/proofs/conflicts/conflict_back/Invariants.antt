@@ -1,4 +1,3 @@
--- What holds at each turn of the loop in `conflict_back`.
 use Rattle.std.proofs.Common.{◌≡◌, ◌++◌, drop, reverse}
 use Rattle.esr_order.specs.Conflicts.{pairs_from}
 use Rattle.esr_order.proofs.conflicts.conflict_back.Given as goal

@@ -4,7 +4,7 @@ use Rattle.esr_order.specs.Chains.{seen_links}
 use Rattle.esr_order.specs.Later.{no_one, AreLater}
 use Rattle.esr_order.proofs.operations.nothing_later.Goals as goal
 
--- one more of the same
+-- one more equal element
 same_more : {X : Type 0} (xs : List X) (d : X) → ((x : ℕ) → x < length xs → slice_index_or xs x d ≡ d) → (x : ℕ) → x < length (xs ++ d ∷ []) → slice_index_or (xs ++ d ∷ []) x d ≡ d
 same_more [] d same zero l = refl
 same_more [] d same (suc x) l = refl

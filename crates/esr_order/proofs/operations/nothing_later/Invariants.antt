@@ -1,4 +1,3 @@
--- What holds at each turn of the loop in `nothing_later`.
 use Rattle.std.proofs.Common.{◌≡◌, [], length, map}
 use Rattle.esr_order.specs.Chains.{seen_links}
 use Rattle.esr_order.specs.Later.{AreLater}

@@ -1,4 +1,3 @@
--- What holds at each turn of the loop in `put_turn`.
 use Rattle.std.proofs.Common.{◌≡◌, List, ◌++◌, drop, length, map}
 use Rattle.esr_order.specs.UpdateOperations.{UpdateOperation}
 use Rattle.esr_order.specs.Turns.{operation_at}

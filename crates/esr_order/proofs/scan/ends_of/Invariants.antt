@@ -1,4 +1,3 @@
--- What holds at each turn of the loop in `ends_of`.
 use Rattle.std.proofs.Common.{◌≤◌, ◌-◌}
 use Rattle.esr_order.proofs.Commits.{AreEndsBelow}
 use Rattle.esr_order.proofs.scan.ends_of.Given as goal

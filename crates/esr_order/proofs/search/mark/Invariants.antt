@@ -1,4 +1,3 @@
--- What holds at each turn of the loop in `mark`.
 use Rattle.std.proofs.Common.{◌≡◌, ℕ, ◌||◌, length, take}
 use Rattle.std.specs.List.{list_any}
 use Rattle.esr_order.specs.Seeking.{marked, is_access}

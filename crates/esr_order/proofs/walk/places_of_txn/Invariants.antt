@@ -1,4 +1,3 @@
--- What holds at each turn of the loop in `places_of_txn`.
 use Rattle.esr_history.specs.BackLinks.{accepted_txn, coded}
 use Rattle.esr_order.proofs.Linked.{IsWalk}
 use Rattle.esr_order.proofs.walk.places_of_txn.Given as goal

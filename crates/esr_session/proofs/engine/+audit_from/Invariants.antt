@@ -1,4 +1,3 @@
--- What holds at each turn of the loop in `+audit_from`.
 use Rattle.std.proofs.Common.{length}
 use Rattle.esr_session.proofs.engine.+audit_from.Given as goal
 

@@ -1,4 +1,3 @@
--- What holds at each turn of the loop in `clones`.
 use Rattle.std.proofs.Common.{◌≡◌, vec_len}
 use Rattle.esr_session.proofs.engine.clones.Given as goal
 

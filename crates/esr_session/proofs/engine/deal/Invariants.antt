@@ -1,4 +1,3 @@
--- What holds at each turn of the loop in `deal`.
 use Rattle.std.proofs.Common.{◌≡◌, ◌+◌, ◌≤◌, [], All, vec_len, vec_capacity}
 use Rattle.esr_session.proofs.engine.deal.Given as goal
 

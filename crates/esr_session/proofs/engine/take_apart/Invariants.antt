@@ -1,4 +1,3 @@
--- What holds at each turn of the loop in `take_apart`.
 use Rattle.std.proofs.Common.{◌≡◌, ◌+◌, ◌≤◌, ◌++◌, map, vec_len, vec_capacity}
 use mathlib.Core.List.{reverse}
 use Rattle.esr_session.proofs.engine.take_apart.Given as goal

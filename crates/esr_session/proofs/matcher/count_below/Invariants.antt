@@ -1,4 +1,3 @@
--- What holds at each turn of the loop in `count_below`.
 use Rattle.std.proofs.Common.{◌≡◌, ◌+◌, map, take}
 use Rattle.esr_session.specs.Receipts.{count_in}
 use Rattle.esr_session.proofs.matcher.count_below.Given as goal

@@ -1,4 +1,3 @@
--- What holds at each turn of the loop in `match_all`.
 use Rattle.std.proofs.Common.{◌≡◌, [], map, take, vec_len, length}
 use Rattle.esr_session.specs.Receipts.{AllGood, receipts_in}
 use Rattle.esr_session.specs.Marks.{AreMarked}

@@ -1,4 +1,3 @@
--- What holds at each turn of the loop in `match_list`.
 use Rattle.std.proofs.Common.{◌≡◌, ◌++◌, map, take, vec_len, length}
 use Rattle.esr_session.specs.Receipts.{GoodFrom, next_place, receipts_in}
 use Rattle.esr_session.specs.Marks.{AreMarked}

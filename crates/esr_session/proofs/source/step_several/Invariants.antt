@@ -1,4 +1,3 @@
--- What holds at each turn of the loop in `step_several`.
 use Rattle.std.proofs.Common.{◌≡◌, ◌++◌, List, All, length}
 use Rattle.esr_session.specs.Receipts.{IsReceipt, Receipt}
 use Rattle.esr_session.proofs.source.step_several.Given as goal

@@ -1,4 +1,3 @@
--- What holds at each turn of the loop in `Board::settle`.
 use Rattle.std.proofs.Common.{◌≡◌, ℕ, ◌+◌, ◌*◌, ◌≤◌, [], All, vec_len, sum_by, length}
 use Rattle.esr_board.specs.Claims.{passes_of}
 use Rattle.esr_board.specs.Boards.{IsSeatOf, hand_of, claimed}

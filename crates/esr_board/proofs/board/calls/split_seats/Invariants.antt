@@ -1,4 +1,3 @@
--- What holds at each turn of the loop in `split_seats`.
 use Rattle.std.proofs.Common.{◌≡◌, ◌+◌, [], All, vec_len}
 use Rattle.esr_board.specs.Claims.{hand}
 use Rattle.esr_board.specs.Boards.{hand_of}

@@ -1,4 +1,3 @@
--- What holds at each turn of the loop in `claim_all`.
 use Rattle.std.proofs.Common.{◌-◌, length, map}
 use Rattle.esr_board.specs.Claims.{HasClaimed}
 use Rattle.esr_board.specs.Boards.{IsSeatOf, claimed}

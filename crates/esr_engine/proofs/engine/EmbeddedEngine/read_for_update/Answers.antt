@@ -28,7 +28,7 @@ returns-then-has_lock-clause-added c = (held (goal.at.returns-then-has_lock-clau
 pub returns-then-has_lock-clause-held : goal.returns-then-has_lock-clause-held
 returns-then-has_lock-clause-held c = (held (goal.at.returns-then-has_lock-clause-held c).After-step).held
 
--- the write was accepted, and what it left
+-- the write was accepted, and the state after it
 wrote : (c : After-step-in-Ok-Wrote) → reply_to weighted c.args.self.now (lock_event c.args.self.now c.args.t c.args.x) ≡ Wrote
 wrote c = ap (reply_to weighted c.args.self.now) (sym c.lock_event-lock.ensures) ∙ (sym c.in-Ok-Wrote.ensures.reply ∙ c.in-Ok-Wrote.field-0-is)
 
@@ -49,7 +49,7 @@ locks c =
     (subst (λ (g : Schedule). IfOk c.step-in-Ok-Wrote.result (λ a. c.step-in-Ok-Wrote.new.self ≡ extended g (Read t x) a)) (left c) c.step-in-Ok-Wrote.ensures.added)
     steps.1 steps.2
 
--- neither the pair nor the read was refused for room
+-- neither the pair nor the read was refused for lack of capacity
 has_capacity : (c : After-step-in-Ok-Wrote) → (no_pair c.args.self.now ≡ false) × (is_full c.step-2.new.self (Read c.args.t c.args.x) ≡ false)
 has_capacity c =
     let h = c.args.self.now in

@@ -7,7 +7,7 @@ use Rattle.esr_engine.proofs.Stepped.{some_active, stepped}
 use Rattle.esr_engine.proofs.engine.EmbeddedEngine.write.Goals as goal
 use Rattle.esr_engine.proofs.engine.EmbeddedEngine.write.Goals.{In-Ok}
 
--- what the machine has answered, and what it left, of the value as it was given
+-- the machine's reply and the state after it, for the value of the call
 replied : (c : In-Ok) → c.in-Ok.reply ≡ reply_to weighted c.self.inside.machine (Write c.args.t c.args.x c.args.v)
 replied c = search rules
 

@@ -1,4 +1,3 @@
--- What holds at each turn of the loop in `Graph::entries`.
 use Rattle.esr_cert.specs.Rows.{first_steps}
 use Rattle.esr_flow.proofs.FillLaws.{ArePut}
 use Rattle.esr_flow.proofs.graph.Graph.entries.Given as goal

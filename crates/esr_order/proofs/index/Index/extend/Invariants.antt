@@ -1,4 +1,3 @@
--- What holds at each turn of the loop in `Index::extend`.
 use Rattle.std.proofs.Common.{◌-◌, ◌≤◌, length}
 use Rattle.esr_order.specs.Index.{IsIndexOf}
 use Rattle.esr_order.proofs.index.Index.extend.Given as goal

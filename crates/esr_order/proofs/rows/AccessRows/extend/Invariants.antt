@@ -1,4 +1,3 @@
--- What holds at each turn of the loop in `AccessRows::extend`.
 use Rattle.esr_order.specs.AccessRows.{AreRowsOf}
 use Rattle.esr_order.proofs.rows.AccessRows.extend.Given as goal
 

@@ -1,4 +1,3 @@
--- What holds at each turn of the loop in `AccessRows::make_places`.
 use Rattle.std.proofs.Common.{◌≡◌, ◌+◌, ◌-◌, ℕ, All, length, map}
 use Rattle.esr_order.specs.AccessRows.{IsWithin, row_in, row_at}
 use Rattle.esr_order.proofs.rows.AccessRows.make_places.Given as goal

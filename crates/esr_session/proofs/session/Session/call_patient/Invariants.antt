@@ -1,4 +1,3 @@
--- What holds at each turn of the loop in `Session::call_patient`.
 use Rattle.std.proofs.Common.{◌≡◌, ◌+◌, List, [], ◌∷◌, ◌++◌, length}
 use Rattle.esr_session.specs.Receipts.{IsReceipt, AreBlocked, Receipt}
 use Rattle.esr_session.proofs.session.Session.call_patient.Given as goal
