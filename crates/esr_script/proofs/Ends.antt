@@ -35,7 +35,7 @@ module _ (input : List ℕ) (left : Option (List ℕ)) where
   reached_made P Q N made (Ok value) read whole holds more ok err = (read, whole, more value (rw ok at holds))
   reached_made P Q N made (Err f) read whole holds more ok err = rw err tt
 
-  -- the same where there may be nothing to tell
+  -- like `reached`, if the query may also not be a committed one
   pub reached_or_none : {T : Type 0} (P : T → Type 0) (r : Result T RunFault) → Consumes (Some input) left input → IsWhole input
       → IfOk r P → IfErr r (λ f. (f ≡ fault.NoMemory) ⊎ (f ≡ fault.NotACommittedQuery)) → IsReachedBy P (IsWhole input) input left r
   reached_or_none P (Ok value) read whole ok err = (read, whole, ok)

@@ -69,7 +69,7 @@ nothing_read None after h = tt
 nothing_read (Some x) None h = absurd h
 nothing_read (Some x) (Some y) h = sym h
 
--- where a read gave nothing
+-- if a read returned no bytes
 pub unread : (input : List ℕ) (before after : Option (List ℕ)) (bytes same : List ℕ) (n : ℕ) (s : ScriptState) (w : List ℕ) → InputProgress input before bytes n s w → same ≡ bytes → Keeps before after
     → InputProgress input after same n s w
 unread input before after bytes same n s w here is kept = advance input n s w before after bytes same [] here (is ∙ sym (append-nil bytes)) (nothing_read before after kept)

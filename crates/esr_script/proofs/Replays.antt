@@ -57,7 +57,7 @@ bundled true h q f found line (c, certified, smallest, counted, is) =
     let same : c.set ≡ (certificate_of f.certificate).set = same_set f.problem c (certificate_of f.certificate) certified found.certified smallest found.smallest in
     (bundle f.problem c, record { problem = f.problem; certificate = c; of_query = found.of_query; near = found.near; certified = certified; set_is = ap (filter_map (slice_get f.problem.updates)) same ∙ found.set_is; reported = counted; text_is = refl }, is)
 
--- the bundle of what was asked for, with a line feed
+-- the bundle of the audited query, with a line feed
 pub bundle_rendered : (steps : Bool) (s : ScriptState) (name : List ℕ) (a : AuditedQuery) → IsAnswered s name a → (line : List ℕ)
     → IsLineOf steps a.finding line → IsBundleLine steps s.history (transaction_called s name).0 line
 bundle_rendered steps s name a h line is = bundled steps s.history (transaction_called s name).0 a.finding h.finding.found line is

@@ -1,4 +1,4 @@
--- How a run goes on, and how it ends.
+-- How a run continues, and how it ends.
 use Rattle.std.proofs.Common.{◌≡◌, ◌≢◌, ℕ, ◌+◌, ◌<◌, ◌≤◌, List, [], ◌∷◌, ◌++◌, length, take, refl, sym, ◌∙◌, ap, arith, Option, Some, None, Ok, Err, append_assoc, append-nil, length-append, length-take, le-ltb, lt-ltb, ne_eqb, eq-eqb}
 use Rattle.std.proofs.Math.Seq.{take-append_seam}
 use Rattle.std.specs.Io.KnownBytes.{IsAtEnd, Consumes}
@@ -74,7 +74,7 @@ module _ (input : List ℕ) (n : ℕ) (s : ScriptState) (w : List ℕ) where
       ∙ ap (preceded_by w) (outcome-line n s s' l t more few size is) ∙ preceded_by-preceded_by w t (outcome_from (n + 1) s' more) in
       record { used = p.used ++ (l ++ 10 ∷ []); answered = p.answered ++ l ∷ []; split = split; counted = counted; cut = cut; cut_whole = cut_whole; reached = reached; ran = ran }
 
-  -- the outcome of all of the input, by the lines of what is left
+  -- the outcome of the whole input, from the lines of the unread rest
   pub whole : (unread : List ℕ) (ls : List (List ℕ)) → Progress input unread n s w → lines unread ≡ ls → outcome input ≡ preceded_by w (outcome_from n s ls)
   whole unread ls p e = ap outcome p.split ∙ ap outcome_of_lines (p.cut unread ∙ ap (λ m. p.answered ++ m) e) ∙ p.ran ls
 

@@ -10,8 +10,8 @@ use Rattle.esr_script.specs.Text.{ScriptState, final, RunFault}
 use Rattle.esr_script.specs.declared.audited_script.AuditedScript.{AuditedScript}
 use Rattle.esr_script.specs.Ends.{IsWrittenBy}
 
--- the line of what is told of a query, by the names of the transactions: the query, its distance, its import, and the
--- updates before its position
+-- the line of a query, by the names of the transactions: the query, its distance, its import, and the updates before
+-- its position
 abbrev pub finding_line : List (List ℕ) → ℕ × ℕ × ℕ × List ℕ → List ℕ
 finding_line names t = audit_line names (name_of_transaction names t.0) t.1 t.2 t.3
 

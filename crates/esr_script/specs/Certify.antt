@@ -12,7 +12,7 @@ use Rattle.esr_bundle.specs.Bundle.{bundle}
 use Rattle.esr_script.specs.Text.{final, RunFault}
 use Rattle.esr_script.specs.Ends.{query_of, IsReportedBy}
 
--- the certificate tells the count of augmentations, or does not
+-- whether the certificate contains the count of augmentations
 abbrev pub HasAugmentations : Bool → Problem → Certificate → Type 0
 HasAugmentations true p c = IsCounted p c
 HasAugmentations false p c = c.augmentations ≡ None
@@ -29,7 +29,7 @@ pub record IsBundleOf (steps : Bool) (h : Schedule) (q : ℕ) (text : List ℕ) 
   pub reported : HasAugmentations steps problem certificate
   pub text_is : text ≡ bundle problem certificate
 
--- the same with a line feed
+-- the text of such a bundle with a line feed
 abbrev pub IsBundleLine : Bool → Schedule → ℕ → List ℕ → Type 0
 IsBundleLine steps h q line = (text : List ℕ) × IsBundleOf steps h q text × (line ≡ text ++ 10 ∷ [])
 

@@ -41,12 +41,12 @@ abbrev pub IsHeldRun : List ℕ → Option (List ℕ) → List ℕ → Result (U
 IsHeldRun input left out (Err fault.Write) sent = BeginsWith (outcome input).text sent
 IsHeldRun input left out r sent = BeginsWith (outcome input).text (sent ++ out) × IsRunBy input left r (sent ++ out)
 
--- This much of an output counts as taken, though nothing took it: none of it, where it is known what was taken.
+-- The output counts as taken although nothing took it. If the taken bytes are known, none of it does.
 abbrev pub IsUnread : Option (List ℕ) → List ℕ → Type 0
 IsUnread taken gone = Appends taken taken gone
 
--- A line was to be answered so, and was: the state is that, and the text is behind the output, less what nobody reads.
--- An error is out of memory, or the full history that was to come.
+-- A line was executed as due: the state is the due state, and the due text follows the output, less the dropped part.
+-- An error is out of memory, or the due full history.
 pub record IsAnswer (taken : Option (List ℕ)) (due : Result (ScriptState × List ℕ) RunFault) (new : ScriptState)
     (out_old out_new : List ℕ) (result : Result (Unit {0}) RunFault) : Type 0 where
   pub ok : OnOk result ((text gone : List ℕ) × (due ≡ Ok (new, text)) × (out_old ++ text ≡ gone ++ out_new)

@@ -23,7 +23,7 @@ IsRunBy input left (Err fault.Read) written =
     (taken : List ℕ) × Consumes (Some input) left taken × IsWholeText (outcome_of_lines (whole_lines taken)) written
 -- a prefix of the output
 IsRunBy input left (Err fault.Write) written = BeginsWith (outcome input).text written
--- the text of the lines before the one where memory ran out
+-- the text of the lines before the one at which memory ran out
 IsRunBy input left (Err fault.NoMemory) written =
     (count : ℕ) × (count ≤ length (lines input)) × IsWholeText (outcome_of_lines (take count (lines input))) written
 -- the text of the lines before the one that ends the run so

@@ -76,7 +76,7 @@ item_error s name value weight =
     else if not (is_weight weight) then Some WeightOutOfRange
     else None
 
--- an item is declared, which is answered by the line, or the error is
+-- declares an item and returns the line, or returns the error
 abbrev pub declare_or : Option LineError → ScriptState → List ℕ → ℤ → ℕ → List ℕ → ScriptState × List ℕ
 declare_or None s name value weight line = (with_item s name value weight, line)
 declare_or (Some error) s name value weight line = (s, error_line error)
@@ -124,15 +124,15 @@ answer s line =
       | None ↦ Ok (s, error_line NotACommand)
     ])
 
--- A line was to be answered so, and was: the state is that, and the text is behind the output. An error leaves the
--- output, and is out of memory, or the full history that was to come.
+-- A line was executed as due: the state is the due state, and the due text follows the output. An error leaves the
+-- output unchanged, and is out of memory, or the due full history.
 pub record Executes (due : Result (ScriptState × List ℕ) RunFault) (new : ScriptState) (out_old out_new : List ℕ)
     (result : Result (Unit {0}) RunFault) : Type 0 where
   pub ok : OnOk result ((text : List ℕ) × (due ≡ Ok (new, text)) × (out_new ≡ out_old ++ text))
   pub err : OnErr result (out_new ≡ out_old)
   pub faults : IfErr result (λ e. (e ≡ fault.NoMemory) ⊎ ((e ≡ fault.HistoryFull) × (due ≡ Err fault.HistoryFull)))
 
--- the same where the text is nobody's
+-- like `Executes`, if the text is dropped
 pub record EndsIn (due : Result (ScriptState × List ℕ) RunFault) (new : ScriptState) (result : Result (Unit {0}) RunFault)
     : Type 0 where
   pub ok : OnOk result ((text : List ℕ) × (due ≡ Ok (new, text)))
@@ -147,7 +147,7 @@ pub record Outcome : Type 0 where
 abbrev pub stopped : RunFault → Outcome
 stopped f = record { text = []; fault = Some f }
 
--- the same outcome behind a text
+-- an outcome whose text follows another text
 abbrev pub preceded_by : List ℕ → Outcome → Outcome
 preceded_by front o = record { text = front ++ o.text; fault = o.fault }
 

@@ -68,13 +68,13 @@ pub fn audit_silently<T: Threads + Sync, R: Read, G: Gate + Sync, O: Observer>(
     script.into_audited(rt, workers, gate)
 }
 
-/// Runs a script without writing its output, audits its whole history by so many workers, 1 to 64, and writes the
-/// committed updates in a serial order, what is found of each committed query, and the totals. A worker calls the gate
+/// Runs a script without writing its output, audits its whole history with `workers` threads, 1 to 64, and writes the
+/// committed updates in a serial order, the result of each committed query, and the totals. A worker calls the gate
 /// before each audit.
 ///
 /// # Errors
-/// `LineTooLong`, `HistoryFull` and `TooManyLines` where `run` would end so. After a fault other than `Write` nothing
-/// was written, after `Write` a prefix of the output. `NotACommittedQuery` never comes.
+/// `LineTooLong`, `HistoryFull` and `TooManyLines` if `run` would return them. After a fault other than `Write`
+/// nothing was written, after `Write` a prefix of the output. `NotACommittedQuery` is never returned.
 #[tactic(auto, using(crate::proofs::Handed::handed_on))]
 pub fn audit<T: Threads + Sync, R: Read, W: Write, G: Gate + Sync, O: Observer>(
     rt: &T,

@@ -5,7 +5,7 @@
 use esr_lint::{Observer, TxnSummary, is_error};
 use std::alloc::Global;
 
-/// Whether a line made an entry: it gave the machine an event, and was answered by no error.
+/// Returns whether a line made an entry: it sent the machine an event, and its reply is not an error.
 fn makes_entry(line: &[u8], answer: &[u8]) -> bool {
     let has_event = line.starts_with(b"read ")
         || line.starts_with(b"write ")
@@ -32,7 +32,7 @@ impl<'a, O> EntryLines<'a, O> {
         }
     }
 
-    /// The line of each entry, unless memory was refused for one.
+    /// Returns the line of each entry, unless an allocation for one failed.
     pub fn lines(&self) -> Option<&[u32]> {
         if self.is_whole {
             Some(&self.lines)

@@ -1,4 +1,4 @@
-//! Why a run ended before the end of its input, or a query was not told of.
+//! The reasons why a run ends before the end of its input, or a query is not shown.
 
 use thiserror::Error;
 

@@ -1,5 +1,5 @@
-//! Bytes that were read and are not yet used, in one buffer that never grows: a line has at most 200 bytes, so 65,536
-//! always have room for one more read.
+//! Bytes that were read and not yet used, in one buffer that never grows: a line has at most 200 bytes, so a buffer
+//! of 65,536 bytes always has capacity for one more read.
 
 ghost use Rattle.esr_grammar.specs.declared.limits.TheConstants.{MAX_LINE_BYTES, INPUT_ROOM};
 ghost use Rattle.std.specs.Prelude.{◌≡◌, ℕ, ◌<◌, ◌≤◌, List, [], ◌++◌, IfOk, IfErr, drop, take, ◌-◌, length, ◌||◌};

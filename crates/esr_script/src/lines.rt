@@ -25,7 +25,7 @@ use std::io::Read;
 
 const OUTPUT_FULL: usize = 32768;
 
-/// Answers line after line. What is answered and not taken yet is in `out`.
+/// Executes line after line. Output that is not yet taken is in `out`.
 #[tactic(auto, using(crate::proofs::Handed::handed_on))]
 pub fn answer_lines<R: Read, S: Sink, O: Observer>(
     reader: &mut Watched<R>,

@@ -1,5 +1,5 @@
-//! Writes out what a run has answered. The line of an audit names all updates before the query, half a megabyte where
-//! there are 65,000, so a buffer that was written out gives back what it has beyond its usual room.
+//! Writes the output of a run. The line of an audit names all updates before the query, half a megabyte for 65,000
+//! updates, so after a write the buffer releases its capacity beyond the usual one.
 
 ghost use Rattle.std.specs.Prelude.{◌≡◌, ℕ, List, [], OnOk, IfErr, ◌||◌};
 ghost use Rattle.std.specs.Io.KnownBytes.{Appends};

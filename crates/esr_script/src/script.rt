@@ -78,7 +78,7 @@ impl Script {
         }
     }
 
-    /// The transaction that the name stands for: 0 where it is not bound.
+    /// Returns the transaction of a name: 0 if the name is not bound.
     fn transaction(&self, name: &str) -> TxnId
         ensures { result ≡ transaction_called self.now name.now }
     {
@@ -88,7 +88,7 @@ impl Script {
         }
     }
 
-    /// The item that the name stands for: one that does not exist where it is not bound.
+    /// Returns the item of a name: one that does not exist if the name is not bound.
     fn item(&self, name: &str) -> ItemId
         ensures { result ≡ item_called self.now name.now }
     {
@@ -271,7 +271,7 @@ impl Script {
         line_or_fault(totals_line(out, totals.import, totals.export, totals.entries))
     }
 
-    /// What the audit of the transaction of that name finds. The machine is made, where it is not made yet.
+    /// Returns the finding of the audit of the transaction of that name. Creates the machine if necessary.
     fn find(&mut self, name: &str) -> Result<Finding, RunFault>
         ensures ok { OnOk result (self.new ≡ closed self.old) }
         ensures found { IfOk result (IsFoundOf self.old name.now) }
@@ -311,8 +311,8 @@ impl Script {
         ))
     }
 
-    /// Takes the line as answered, and says only where there is no such query: an audit changes nothing but that no more
-    /// items may be declared. What is said is promised by nothing.
+    /// Accepts the line without an audit, and reports only whether the query exists: an audit changes nothing, except
+    /// that no more items may be declared. The message is not specified.
     fn pass_audit(&mut self, txn: &str, out: &mut Vec<u8>) -> Result<(), RunFault>
         ensures ok { OnOk result (self.new ≡ closed self.old) }
         ensures faults { IfErr result (λ e. e ≡ RunFault.NoMemory) }
@@ -330,7 +330,7 @@ impl Script {
         }
     }
 
-    /// Ends the run, and tells of the query of that name.
+    /// Ends the run, and returns the audited query of that name.
     pub fn audited_query<O: Observer>(
         mut self,
         name: &str,
@@ -367,7 +367,7 @@ impl Script {
         Some((name, status))
     }
 
-    /// What it tells, and what was found of a query.
+    /// Combines the script's data with the finding of a query.
     fn with(self, finding: Finding) -> AuditedQuery
         requires { self.closed ≡ true }
         ensures items { result.items ≡ self.items }
@@ -435,7 +435,7 @@ impl Script {
         })
     }
 
-    /// The audit of the whole history, by so many workers.
+    /// Audits the whole history with `workers` threads.
     pub fn audit_all<T: Threads + Sync, G: Gate + Sync>(
         &mut self,
         rt: &T,
@@ -496,8 +496,8 @@ impl Script {
         }
     }
 
-    /// Answers a line at the end of the output. An error leaves the output as it was. For nobody no query is audited, and
-    /// what is put behind the output is promised by nothing.
+    /// Executes a line, and appends its text to the output. An error leaves the output as it was. If the text is to
+    /// be dropped, no query is audited, and the text appended is not specified.
     #[tactic(auto, using(crate::proofs::Unread::executed))]
     pub fn answer(
         &mut self,

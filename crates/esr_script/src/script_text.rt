@@ -21,7 +21,7 @@ use esr_views::{Recording, ScriptView};
 use std::alloc::Global;
 use std::io::{Read, Write};
 
-/// The text of a survey, with the fault of the run where there is none.
+/// Returns the text of a view, or the fault of the run if there is none.
 fn text_about<S: ScriptView>(
     alloc: Global,
     recording: &Recording<'_>,
@@ -85,8 +85,8 @@ fn script_view_text<R: Read, S: ScriptView, O: Observer>(
 /// Runs a script without writing its output, and writes the text of a survey of it.
 ///
 /// # Errors
-/// `LineTooLong`, `HistoryFull` and `TooManyLines` where `run` would end so; `NotACommittedQuery` where the survey has
-/// nothing to tell; `NoMemory` also where no text is made. After a fault other than `Write` nothing was written, after
+/// `LineTooLong`, `HistoryFull` and `TooManyLines` if `run` would return them; `NotACommittedQuery` if the view has
+/// nothing to show; `NoMemory` also if no text is made. After a fault other than `Write` nothing was written, after
 /// `Write` a prefix of the text.
 #[tactic(auto, using(crate::proofs::Handed::handed_on))]
 pub fn render_script<R: Read, W: Write, S: ScriptView, O: Observer>(

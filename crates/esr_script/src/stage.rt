@@ -177,7 +177,7 @@ impl Stage {
         }
     }
 
-    /// What the audit of the whole history by so many workers finds, in summaries: of each finding a line is told.
+    /// Audits the whole history with `workers` threads, and returns a summary of each finding.
     pub fn audit_all<T: Threads + Sync, G: Gate + Sync>(
         &self,
         rt: &T,
