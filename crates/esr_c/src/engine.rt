@@ -168,8 +168,8 @@ fn answer(answered: Result<Reply, Unanswered>, reply: &mut EsrReply) -> Status
     }
 }
 
-/// Answers an event. The engine goes out of its place and back into it, and the rest of the variable stays: this is
-/// part of the cost of each event.
+/// Executes an event. The engine is moved out of its variable and back into it, and the rest of the variable is kept:
+/// this is part of the cost of each event.
 #[inline(always)]
 pub(crate) fn step(
     alloc: Global,
@@ -189,7 +189,7 @@ pub(crate) fn step(
     status
 }
 
-/// Answers a read as `step` does.
+/// Executes a read, like [`step`].
 #[inline(always)]
 pub(crate) fn read(
     alloc: Global,
@@ -210,7 +210,7 @@ pub(crate) fn read(
     status
 }
 
-/// Answers a write as `step` does.
+/// Executes a write, like [`step`].
 #[inline(always)]
 pub(crate) fn write(
     alloc: Global,
@@ -232,7 +232,7 @@ pub(crate) fn write(
     status
 }
 
-/// Takes the write lock on an item and reads it, and tells the reply.
+/// Acquires the write lock on an item and reads it, and returns the reply.
 fn read_and_reply(
     engine: &mut EmbeddedEngine,
     txn: TxnId,
@@ -291,7 +291,7 @@ pub(crate) fn renew_engine(alloc: Global, engine: &mut EmbeddedEngine) -> Status
     }
 }
 
-/// Renews an engine, with what is active aborted.
+/// Renews an engine, and aborts its active transactions.
 pub(crate) fn renew_engine_aborting(alloc: Global, engine: &mut EmbeddedEngine) -> Status
     ensures known { (result ≡ Status.Done) ⊎ (result ≡ Status.NoMemory) }
     ensures renewed { status_number result ≡ 0 → engine.new ≡ renewed engine.old engine.old.weights }

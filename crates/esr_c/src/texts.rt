@@ -1,6 +1,7 @@
-//! What is told of a committed query: its explanation and its picture, by the names that the script of the history has.
+//! Texts of a committed query: its explanation and its picture, by the names of the history's script.
 //!
-//! Both tell what an audit found, and are made of the engine's own history, so that nobody has to run the script for them.
+//! Both show the finding of an audit, and are made from the engine's own history, so the script need not be run for
+//! them.
 
 ghost use Rattle.std.specs.Prelude.{◌≡◌, ◌≢◌, ◌↔◌, ◌⊎◌, ◌<◌, false, None, length, IfOk, IfErr, IsErrOf, drop};
 ghost use Rattle.esr_items.specs.Weights.{weighted};

@@ -9,7 +9,7 @@ use std::process::Abort;
 fn three_jobs(rt: &impl Abort, alloc: Global) -> (Board, BoardSeat, BoardSeat)
     ensures { IsSeatOf result.0 result.1 × IsSeatOf result.0 result.2 }
 {
-    // Where memory is refused, it is asked for once more.
+    // If the allocation fails, it is retried once.
     let made = match Board::new(alloc, 3, 2) {
         Err(_) => Board::new(alloc, 3, 2),
         made => made,
@@ -89,7 +89,7 @@ fn a_seat_that_drew_nothing_is_not_missed(rt: HostRuntime) {
     assert!(rt; close_with(&rt, rt.alloc(), board, first) == Ok(()));
 }
 
-/// The clause lets a close without seats be refused; where nobody has drawn anything, nothing can be missing.
+/// The clause permits an error for a close without seats; if no job was claimed, nothing can be missing.
 #[test]
 fn an_unused_board_closes_with_no_seat(rt: HostRuntime) {
     let (board, first, second) = three_jobs(&rt, rt.alloc());
@@ -98,7 +98,7 @@ fn an_unused_board_closes_with_no_seat(rt: HostRuntime) {
     assert!(rt; board.close(Vec::new(rt.alloc())) == Ok(()));
 }
 
-/// Why there is no board of so many jobs and seats.
+/// Returns why there is no board with these numbers of jobs and seats.
 fn refusal_of(alloc: Global, jobs: u64, seats: u64) -> Option<BoardError> {
     Board::new(alloc, jobs, seats).err()
 }

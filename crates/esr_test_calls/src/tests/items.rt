@@ -1,5 +1,5 @@
-//! Stores and distances by hand. That a store finds memory no clause can say; what its bounds are, and which of all
-//! metrics is meant, stands in constants and definitions, which could have other numbers in them and be proved.
+//! Stores and distances by hand. No clause can state that a store's allocation succeeds; its bounds, and the metric
+//! meant, are in constants and definitions, which could contain other numbers and be proved.
 
 ghost use Rattle.std.specs.Prelude.{◌≡◌, length};
 

@@ -1,5 +1,6 @@
-//! Locks taken and given back. Each call is proved against lists of who holds what, but a lock is taken only where room
-//! was found for it, and no clause can say that it is: a table without any room would keep its contract.
+//! Locks acquired and released. Each call is proved against lists of the lock holders, but a lock is acquired only if
+//! the table has capacity for it, and no clause can state that it has: a table without any capacity would keep its
+//! contract.
 
 ghost use Rattle.std.specs.Prelude.{◌≡◌, ◌<◌, length, map};
 ghost use Rattle.std.specs.List.{range_with_len};

@@ -7,7 +7,7 @@ use std::sync::atomic::{AtomicBool, AtomicU64};
 
 const MAX_TURNS: u32 = 100_000_000;
 
-/// Holds job 0 until job 1 has entered, for so many turns, and counts how often each job came.
+/// Holds job 0 until job 1 has entered, for at most `turns` turns, and counts the entries of each job.
 #[derive(Drop)]
 pub struct Meeting {
     first: AtomicU64,

@@ -86,7 +86,7 @@ fn run_events(rt: &impl Abort, machine: &mut Machine<Plain>, events: &[Event]) {
     }
 }
 
-/// The audit of a history by so many workers.
+/// Audits a history with `workers` threads.
 fn audit_by<G: Gate + Sync, R: Threads + Abort + Sync>(
     rt: &R,
     alloc: Global,
@@ -162,7 +162,7 @@ fn two_workers_at_once(rt: HostRuntime) {
     gate.check(&rt);
 }
 
-/// A board of so many jobs, and its one seat.
+/// Returns a board of `jobs` jobs, and its one seat.
 fn one_seat(rt: &impl Abort, alloc: Global, jobs: u64) -> (Board, BoardSeat)
     ensures jobs { jobs_of result.0 ≡ jobs }
     ensures seat { IsSeatOf result.0 result.1 }

@@ -1,4 +1,4 @@
-//! Sessions on threads of their own.
+//! Sessions on separate threads.
 ghost use Rattle.std.specs.Prelude.{◌≡◌, ◌≤◌, [], map};
 ghost use Rattle.esr_session.specs.declared.engine_name.TheConstants.{LEDGER_PARTS, MAX_SESSIONS};
 
@@ -17,7 +17,7 @@ use std::sync::ledger::Blank;
 use std::thread;
 use std::thread::{JoinHandle, Threads};
 
-/// Opening values of so many items, all zero.
+/// Returns `count` opening values, all zero.
 fn zeros(rt: &impl Abort, alloc: Global, count: usize) -> Store {
     let Ok(values) = Vec::from_elem(alloc, 0, count) else {
         panic!(rt; "memory")
@@ -28,7 +28,7 @@ fn zeros(rt: &impl Abort, alloc: Global, count: usize) -> Store {
     items
 }
 
-/// An engine over these items, and so many sessions on it. Where memory is refused for these, it is asked for once more.
+/// Opens an engine over these items, with `count` sessions. If an allocation fails, it is retried once.
 fn open_sessions<N: Naming, R: Abort>(
     rt: &R,
     alloc: Global,
@@ -100,8 +100,8 @@ fn check_foreign(rt: &impl Abort, alloc: Global, closed: Closed<Plain>, other: C
     assert!(rt; matches!(answer, Err(CloseError::ForeignReceipt(_))));
 }
 
-/// Four sessions begin and commit 100 updates each, on threads of their own. With one session
-/// kept back the engine is not closed; with it, it is.
+/// Four sessions begin and commit 100 updates each, on separate threads. The engine cannot be closed until the last
+/// session is returned.
 fn begin_and_commit<N, R>(
     rt: R,
     alloc: Global,
@@ -122,7 +122,7 @@ where
     close_twice(&rt, engine, back)
 }
 
-/// Runs each session on a thread of its own.
+/// Runs each session on its own thread.
 fn run_all<N, R>(
     rt: R,
     alloc: Global,
@@ -227,7 +227,7 @@ fn a_read_finds_what_another_session_wrote(rt: HostRuntime) {
     read_back::<Brand, _>(rt, alloc, Blank::new(LEDGER_PARTS), items);
 }
 
-/// One session writes on a thread of its own, then the other reads.
+/// One session writes on its own thread, then the other reads.
 fn read_back<N, R>(rt: R, alloc: Global, blank: Blank, items: Store)
 where
     N: Naming + Send + Sync + 'static,
@@ -269,7 +269,7 @@ fn release<N: Naming>(
     sessions.push(second).expect(rt, "memory");
 }
 
-/// The session writes on a thread of its own.
+/// The session writes on its own thread.
 fn write_apart<N, R>(rt: R, session: Session<Plain, N>) -> Session<Plain, N>
 where
     N: Naming + Send + Sync + 'static,
@@ -338,7 +338,8 @@ fn write_event(txn: u32) -> Event {
     }
 }
 
-/// By their clauses a patient call may find the engine closed at once, and a call behind the close still be answered.
+/// By their clauses, a patient call may find the engine closed at once, and a call after the close may still get a
+/// reply.
 #[test]
 fn a_patient_call_takes_its_turns(rt: HostRuntime) {
     let alloc = rt.alloc();
@@ -404,8 +405,8 @@ fn check_turns(rt: &impl Abort, closed: &Closed<Plain>) {
     assert!(rt; receipts[1].len() == 4);
 }
 
-/// No contract makes memory: where it is refused, each call is made once more. What is lost of a call that was refused,
-/// shows where each request is refused in turn (checks/faults).
+/// No contract guarantees memory: after a failed allocation, each call is retried once. The effect of each failed
+/// allocation in turn is tested by checks/faults.
 #[test]
 fn each_call_is_made_once_more(rt: HostRuntime) {
     let alloc = rt.alloc();
@@ -444,7 +445,7 @@ fn write_once_more<N: Naming, R: Wait + Abort>(rt: &R, session: &mut Session<Pla
     assert!(rt; committed == Reply::Committed);
 }
 
-/// The reply to a call, which is made once more where memory is refused, as a patient one.
+/// Returns the reply to a patient call, which is retried once if an allocation fails.
 fn insist<N: Naming, R: Wait + Abort>(
     rt: &R,
     session: &mut Session<Plain, N>,
@@ -460,7 +461,7 @@ fn insist<N: Naming, R: Wait + Abort>(
     receipt.reply
 }
 
-/// Closes the engine, once more where memory is refused.
+/// Closes the engine, and retries once if an allocation fails.
 fn close_once_more<N: Naming, R: Wait + Abort>(
     rt: &R,
     engine: Engine<Plain, N>,
@@ -477,7 +478,7 @@ fn close_once_more<N: Naming, R: Wait + Abort>(
     }
 }
 
-/// Compares the receipts, once more where memory is refused.
+/// Compares the receipts, and retries once if an allocation fails.
 fn match_once_more(rt: &impl Abort, alloc: Global, closed: &Closed<Plain>) {
     let answer = match match_receipts(alloc, &closed.history, closed.receipts.as_slice()) {
         Err(CloseError::NoMemory) => {

@@ -88,7 +88,7 @@ static ROWS: [Row; 4] = [
     },
 ];
 
-/// The answer to a problem. Where memory is refused once, a second try gives it.
+/// Solves a problem, and retries once if an allocation fails.
 fn answer(alloc: Global, problem: &Problem) -> Result<Solved, NoMemory> {
     match answer_once(alloc, problem) {
         Err(NoMemory) => answer_once(alloc, problem),
@@ -151,7 +151,7 @@ fn problems_are_solved(rt: HostRuntime) {
     }
 }
 
-/// What begins with a draft. Where memory is refused once, a second try gives it.
+/// Solves a problem from a draft, and retries once if an allocation fails.
 fn from_draft(alloc: Global, problem: &Problem) -> Result<FromDraft, NoMemory> {
     match from_draft_once(alloc, problem) {
         Err(NoMemory) => from_draft_once(alloc, problem),
