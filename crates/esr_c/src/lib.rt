@@ -585,7 +585,7 @@ pub extern "C" fn esr_renew_aborting(alloc: Global, engine: &mut EsrEngine) -> u
     status.number()
 }
 
-/// Closes an engine, and frees its memory. It may be opened again. A closed engine stays closed. The engine's replies
+/// Closes an engine, and frees its memory. It may be reopened. A closed engine stays closed. The engine's replies
 /// were sound: its committed updates are serializable, no limit was exceeded, and no query was off by more than it
 /// imported.
 #[unsafe(no_mangle)]

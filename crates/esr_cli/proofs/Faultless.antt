@@ -110,7 +110,7 @@ worst_fit = record {
 
 -- ---- the subcommands
 
--- what is asked for has workers, where any work
+-- a request has workers, if its task has any
 abbrev pub HasItsWorkers : Request → Type 0
 HasItsWorkers r = HasWorkers r.work
 

@@ -296,7 +296,7 @@ module _ (name : Text) (test : Text → Bool) where
       defaults_good s.rules (settled s.rules end).rows fit (first_none (defaults_fault (settled s.rules end).rows s.rules) _ (then_none settle _ ended))
       (settled_good s fit end (first_none settle _ ended) walked_good)
 
-  -- a value of the name, where it has a row
+  -- a value of the name, if it has a row
   pub record HasText (rows : List Row) : Type 0 where
     pub text : Text
     pub first : first_of name rows ≡ Some text

@@ -10,7 +10,7 @@ use Rattle.clap.specs.declared.error.kind.ErrorKind.TheVariants as kind
 abbrev pub help : Text
 help = codes "help"
 
--- the walk goes on, or it stopped at another name
+-- the walk continues, or it stopped at another name
 abbrev pub StopsElsewhere : Option (Text × List Text) → Type 0
 StopsElsewhere stop = IfSome stop (λ p. bytes_eq p.0 help ≡ false)
 

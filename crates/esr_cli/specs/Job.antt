@@ -28,8 +28,8 @@ pub data RequestedTask : Type 0 where
   why : Option Text → RequestedTask
   lint : RequestedTask
 
--- what the program is asked for: the work, the file that is read, if one is named, whether a line at fault is to show in
--- the status, when progress is shown, and how what is told is written, if the word for it is a format
+-- a request to the program: the task, the file to read, if one is named, whether a line with a fault affects the
+-- status, when progress is shown, and the output format, if its name is known
 pub record Request : Type 0 where
   pub work : RequestedTask
   pub file : Option Text
@@ -101,7 +101,7 @@ format_of_name name = if bytes_eq name (codes "text") then Some Plain
     else (if bytes_eq name (codes "csv") then Some Csv
     else (if bytes_eq name (codes "json") then Some Json else None))
 
--- text where no format is named
+-- text if no format is named
 abbrev pub format_in : List Row → Option Format
 format_in rows = option_map_or format_of_name (first_of (codes "format") rows) (Some Plain)
 
@@ -153,17 +153,17 @@ abbrev pub request_in : Option (Text × List Row) → Option Request
 request_in None = None
 request_in (Some p) = request_in_one p.0 p.1
 
--- ---- the words for it
+-- ---- the arguments for it
 
--- the word is no option, since it does not begin with `-`
+-- the argument is not an option, since it does not begin with `-`
 abbrev pub IsPlainWord : Text → Type 0
 IsPlainWord word = strip_byte 45 word ≡ None
 
--- the words that follow the program's name
+-- the arguments that follow the program's name
 abbrev pub IsCall : List Text → List Text → Type 0
 IsCall words rest = (name : Text) × (words ≡ name ∷ rest)
 
--- the flag, where it is given
+-- the flag, if it is set
 abbrev pub flag_words : Bool → Text → List Text
 flag_words true flag = flag ∷ []
 flag_words false flag = []
@@ -199,7 +199,7 @@ IsCount option usual count options = ((count ≡ usual) × (options ≡ []))
 abbrev pub IsWorkers : ℕ → List Text → Type 0
 IsWorkers = IsCount (codes "--workers") 4
 
--- a program's name, and then just the words for the request
+-- a program's name, and then just the arguments for the request
 abbrev pub IsSyntaxOfTask : RequestedTask → Request → List Text → Type 0
 IsSyntaxOfTask run r words = IsSyntaxOfScriptTask (codes "run") [] [] r words
 IsSyntaxOfTask (certify name steps) r words =
@@ -223,6 +223,6 @@ IsSyntaxOfTask (why None) r words = IsSyntaxOfScriptTask (codes "why") [] [] r w
 IsSyntaxOfTask lint r words = IsSyntaxOfReaderTask (codes "lint") [] r words
 IsSyntaxOfTask _ r words = ⊥
 
--- of what is asked for by the words that have no other option
+-- the arguments of a request without other options
 abbrev pub IsSyntaxOf : List Text → Request → Type 0
 IsSyntaxOf words r = (r.progress ≡ AtATerminal) × (r.format ≡ Some Plain) × IsSyntaxOfTask r.work r words

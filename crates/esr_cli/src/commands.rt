@@ -1,8 +1,8 @@
 //! The commands of the program `esr`, and what help says of each.
 //!
-//! The contract says which commands, arguments and ranges `clap` is told of, all at once. A command is added to the
-//! program by a function that takes both, and each is made with one `?`: where two commands are in hand at once, each
-//! `?` may drop both, and a proof takes three times as long.
+//! The contract states which commands, arguments and ranges `clap` gets, all at once. A function that takes both adds
+//! a command to the program, and each command is made with one `?`: if two commands are owned at once, each `?` may
+//! drop both, and a proof takes three times as long.
 
 ghost use Rattle.std.specs.Prelude.{◌≡◌, IfOk, codes, false};
 ghost use Rattle.clap.specs.Words.{App, app_of, new_app, with_rule, with_subcommand, rule_of};
@@ -26,7 +26,7 @@ fn plain<'a>(
     Ok(Command::new(alloc, name).about(about).after_help(after))
 }
 
-/// Adds an argument to a command, where there was memory for it.
+/// Adds an argument to a command, if its allocation succeeded.
 fn with_argument<'a>(
     command: Result<Command<'a>, AllocError>,
     arg: Arg<'a>,
@@ -276,7 +276,7 @@ fn with_script<'a>(
     with_argument(with_argument(command, progress(alloc)), no_progress(alloc))
 }
 
-/// A command that tells of one query of a script.
+/// Creates a command that shows one query of a script.
 fn with_name<'a>(
     alloc: Global,
     name_of_it: &'a str,
@@ -412,7 +412,7 @@ fn lint<'a>(alloc: Global) -> Result<Command<'a>, AllocError>
     with_argument(plain(alloc, "lint", about, help::LINT), files(alloc))
 }
 
-/// Adds a command to a program, where there was memory for it.
+/// Adds a command to a program, if its allocation succeeded.
 fn with<'a>(
     program: Command<'a>,
     command: Result<Command<'a>, AllocError>,
@@ -444,7 +444,7 @@ fn scripts<'a>(alloc: Global) -> Result<Command<'a>, AllocError>
     with(commands, check(alloc))
 }
 
-/// The same with the jobs that show one query to a person.
+/// Adds the jobs that show one query to a person.
 fn queries<'a>(alloc: Global) -> Result<Command<'a>, AllocError>
     ensures { IfOk result (λ c. app_of c ≡ queries) }
 {
@@ -457,7 +457,7 @@ fn queries<'a>(alloc: Global) -> Result<Command<'a>, AllocError>
     with(commands, page(alloc))
 }
 
-/// The same with the jobs that show what was charged and what was blocked.
+/// Adds the jobs that show charges and blocked events.
 fn tables<'a>(alloc: Global) -> Result<Command<'a>, AllocError>
     ensures { IfOk result (λ c. app_of c ≡ tables) }
 {
@@ -465,7 +465,7 @@ fn tables<'a>(alloc: Global) -> Result<Command<'a>, AllocError>
     with(commands, why(alloc))
 }
 
-/// The program `esr` with all its commands, as `clap` is told of them.
+/// Creates the program `esr` with all its commands, as passed to `clap`.
 pub fn program<'a>(alloc: Global) -> Result<Command<'a>, AllocError>
     ensures { IfOk result (λ c. app_of c ≡ program) }
 {

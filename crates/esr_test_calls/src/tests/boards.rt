@@ -98,7 +98,7 @@ fn an_unused_board_closes_with_no_seat(rt: HostRuntime) {
     assert!(rt; board.close(Vec::new(rt.alloc())) == Ok(()));
 }
 
-/// Returns why there is no board with these numbers of jobs and seats.
+/// Returns the error of creating a board with these numbers of jobs and seats.
 fn refusal_of(alloc: Global, jobs: u64, seats: u64) -> Option<BoardError> {
     Board::new(alloc, jobs, seats).err()
 }

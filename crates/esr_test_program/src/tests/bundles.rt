@@ -79,7 +79,7 @@ fn is_rewritten(alloc: Global, text: &str) -> bool {
 fn bundles_are_written_as_they_were_read(rt: HostRuntime) {
     let alloc = rt.alloc();
     for text in [TWO_UPDATES, BACK_FLOW, EMPTY, STRICT] {
-        // Where memory is refused, it is asked for once more.
+        // If an allocation fails, it is retried once.
         let written = is_rewritten(alloc, text) || is_rewritten(alloc, text);
         assert!(rt; written, "{} is written", text);
     }
@@ -93,7 +93,8 @@ static SHOWN: [(JudgeFault, &str); 4] = [
     (JudgeFault::NoMemory, "out of memory"),
 ];
 
-/// The words of a fault are in no clause: with two of them swapped, a failed write would be told as a failed read.
+/// No clause contains the texts of a fault: with two of them swapped, a failed write would be reported as a failed
+/// read.
 #[test]
 fn faults_show_their_texts(rt: HostRuntime) {
     for (fault, text) in &SHOWN {

@@ -1,5 +1,5 @@
-//! Bundles beside the script that they are about. What a claim is, is proved; its line is compared byte for byte, and
-//! the words about a fault are in no clause.
+//! Bundles with the scripts that they are about. A claim is proved; its line is compared byte for byte, and no clause
+//! contains the text of a fault.
 
 use esr_commands::{claim_of, detail_of};
 use esr_history::Watched;

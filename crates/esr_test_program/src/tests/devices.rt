@@ -8,7 +8,7 @@ use std::io;
 use std::io::{Read, Write};
 use std::process::Abort;
 
-/// Gives up to `most` bytes at a time, and fails after so many calls.
+/// Yields up to `most` bytes at a time, and fails after `left` calls.
 #[derive(Drop)]
 pub struct Cut<'a> {
     pub rest: &'a [u8],
@@ -27,7 +27,7 @@ impl Read for Cut<'_> {
     }
 }
 
-/// A reader of the text, which fails after so many calls.
+/// Returns a reader of the text that fails after `left` calls.
 pub fn cut_after(text: &str, most: usize, left: usize) -> Watched<Cut<'_>>
     ensures { failed result ≡ false }
 {
@@ -45,7 +45,7 @@ pub enum Way {
     TakesNone,
 }
 
-/// Takes up to `most` bytes at a time, and fails after so many calls.
+/// Takes up to `most` bytes at a time, and fails after `left` calls.
 #[derive(Drop)]
 pub struct Narrow {
     pub taken: Vec<u8>,
@@ -77,7 +77,7 @@ impl Write for Narrow {
     }
 }
 
-/// A writer that has taken nothing yet, and fails after so many calls.
+/// Returns a writer that has taken nothing yet, and fails after `left` calls.
 pub fn narrow_until(alloc: Global, most: usize, left: usize, way: Way) -> Watched<Narrow>
     ensures { failed result ≡ false }
 {

@@ -260,7 +260,7 @@ static ROWS: [Row; 30] = [
     },
 ];
 
-/// Runs a drive file, and audits its queries by so many workers.
+/// Runs a drive file, and audits its queries with `workers` threads.
 fn drive_by<T: Threads + Wait + Sync, R: Read, W: Write>(
     rt: &T,
     alloc: Global,

@@ -53,7 +53,7 @@ static BANK_DRAWN: [&str; 20] = [
 const NOTHING_READ: &str =
     "item a 7\nbegin q query 0\nbegin u update 0\nwrite u a 8\ncommit u\ncommit q\n";
 
-/// An item that is read twice, before and behind an update; a weight of 3.
+/// An item that is read twice, before and after an update; a weight of 3.
 const TWICE: &str = "item a 7 weight 3\n\
         begin q query 99\n\
         read q a\n\
@@ -183,8 +183,8 @@ fn values_that_were_undone_are_described(rt: HostRuntime) {
     );
 }
 
-/// A report beside so many updates of one item, which reads it after the first one, and then another that is not
-/// written.
+/// Returns the script of a report that is concurrent with `updates` updates of one item, reads it after the first
+/// update, and then reads another item that is not written.
 fn beside(alloc: Global, updates: u32) -> Result<String, AllocError> {
     let mut script = String::from_str(alloc, "item a 0\nitem b 0\nitem c 5\nbegin q query 999\n")?;
     for i in 0..updates {
@@ -232,7 +232,7 @@ fn of_many_updates_the_bounding_ones_are_drawn(rt: HostRuntime) {
     occurs(&rt, rt.alloc(), 30, &of_many);
 }
 
-/// Draws the query beside so many updates, and counts texts in what is written.
+/// Draws the query that is concurrent with `updates` updates, and counts texts in the picture.
 fn occurs(rt: &impl Abort, alloc: Global, updates: u32, wanted: &[(&str, usize)]) {
     let script = beside(alloc, updates).expect(rt, "memory");
     for (text, times) in wanted {
@@ -258,7 +258,7 @@ fn only_committed_queries_are_drawn(rt: HostRuntime) {
     }
 }
 
-/// Of a reader that does not tell its bytes no clause says what is written: a picture of half a script could be.
+/// No clause states what is written if the reader does not specify its bytes: it could be a picture of half a script.
 #[test]
 fn each_read_fails_in_turn(rt: HostRuntime) {
     let alloc = rt.alloc();
@@ -284,7 +284,7 @@ fn writes_fail(rt: HostRuntime) {
     }
 }
 
-/// A writer that fails after so many calls of three bytes has taken just the beginning of the picture.
+/// A writer that fails after `left` calls of three bytes has taken just the beginning of the picture.
 fn fails_after(rt: &impl Abort, alloc: Global, left: usize, whole: &[u8]) {
     let mut reader = Watched::new(BANK.as_bytes());
     let mut writer = narrow_until(alloc, 3, left, Way::Errs);

@@ -11,7 +11,7 @@ use std::alloc::Global;
 use std::process::Abort;
 use std::thread::Threads;
 
-/// Each kind, each end, and each way to be blocked; a line that is refused, behind the last line of its transaction.
+/// Each kind, each end, and each way to be blocked; a line that is refused, after the last line of its transaction.
 const DAY: &str = "# One day of a shop\n\
         item till 0\n\
         item gold 5 weight 3\n\
@@ -89,7 +89,7 @@ fn writes<S: ScriptView>(rt: &impl Abort, alloc: Global, script: &str, view_of: 
     script_views(rt, alloc, script, view_of, Ok(()), text);
 }
 
-/// Compares what is told of the report of the bank.
+/// Compares the view of the bank's report.
 fn explains_as<T: QueryView>(rt: &impl Abort, alloc: Global, view: &T, text: &str) {
     let mut reader = Watched::new(BANK.as_bytes());
     let mut writer = Watched::new(Vec::new(alloc));

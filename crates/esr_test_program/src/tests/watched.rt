@@ -51,7 +51,7 @@ fn each_call_reaches_the_device_once(rt: HostRuntime) {
     assert!(rt; (audited.reads, audited.writes, audited.flushes) == (1, 1, 1));
 }
 
-/// Hands bytes on where it is flushed, and not before.
+/// Passes bytes on when it is flushed, and not before.
 #[derive(Drop)]
 struct Holding {
     held: Vec<u8>,

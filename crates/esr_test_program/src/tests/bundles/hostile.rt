@@ -1,4 +1,4 @@
-//! Bytes that are no bundle.
+//! Bytes that do not form a bundle.
 
 use super::rows::TWO_UPDATES;
 use esr_bundle::{JudgeFault, Verdict, judge};

@@ -43,14 +43,14 @@ static ROWS: [Row; 44] = [
         new: r#""set":[1,0]"#,
         line: "invalid 1\n",
     },
-    // The set has a position at which there is no update.
+    // The set has a position without an update.
     Row {
         bundle: TWO_UPDATES,
         old: r#""set":[0,1]"#,
         new: r#""set":[0,2]"#,
         line: "invalid 2\n",
     },
-    // The set lacks an update that comes before one of its own.
+    // The set lacks a predecessor of one of its updates.
     Row {
         bundle: TWO_UPDATES,
         old: r#""set":[0,1]"#,
@@ -99,7 +99,7 @@ static ROWS: [Row; 44] = [
         new: "[2,3]}",
         line: "bad 1\n",
     },
-    // Neighbours of a chain are no pair.
+    // Neighbours of a chain do not form a pair.
     Row {
         bundle: TWO_UPDATES,
         old: r#""before":[[0,1]]"#,
@@ -113,7 +113,7 @@ static ROWS: [Row; 44] = [
         new: r#""worth":-1"#,
         line: "bad 2\n",
     },
-    // 0 is no transaction.
+    // 0 is not a transaction.
     Row {
         bundle: TWO_UPDATES,
         old: "[2,3]}}",
@@ -127,7 +127,7 @@ static ROWS: [Row; 44] = [
         new: "[2000000000000000001,0]",
         line: "bad 3\n",
     },
-    // Pairs stand twice: the shape.
+    // Pairs occur twice: the shape.
     Row {
         bundle: TWO_UPDATES,
         old: r#""before":[[0,1]]"#,
@@ -176,7 +176,7 @@ static ROWS: [Row; 44] = [
         new: r#""set":[4294967295]"#,
         line: "invalid 2\n",
     },
-    // What has no name here is not passed over.
+    // An unknown field is not ignored.
     Row {
         bundle: TWO_UPDATES,
         old: r#""updates":[2,3]"#,
@@ -281,14 +281,14 @@ static ROWS: [Row; 44] = [
         new: r#""augmentations":0,"back_flow""#,
         line: "valid 0\n",
     },
-    // Where there is no arc there is none.
+    // Without an arc there is no augmentation.
     Row {
         bundle: EMPTY,
         old: r#""back_flow""#,
         new: r#""augmentations":1,"back_flow""#,
         line: "invalid 7\n",
     },
-    // An empty list may stand there all the same.
+    // An empty list is permitted all the same.
     Row {
         bundle: EMPTY,
         old: r#""set""#,

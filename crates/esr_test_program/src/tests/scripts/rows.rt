@@ -124,14 +124,14 @@ static ROWS: [Row; 39] = [
         text: "item a 1\nbegun u 1\nerror 1 not a command\n",
         ended: Ok(()),
     },
-    // A line that is no command closes nothing: items may still be declared.
+    // An invalid line closes nothing: items may still be declared.
     Row {
         name: "an_unknown_line_leaves_the_items_open",
         script: "item a 1\nhello\nitem b 2\nbegin u update 0\nitem c 3\n",
         text: "item a 1\nerror 1 not a command\nitem b 2\nbegun u 1\nerror 2 items are closed\n",
         ended: Ok(()),
     },
-    // The first command that is no item closes the items, whatever it is answered.
+    // The first command other than `item` closes the items, whatever its reply.
     Row {
         name: "any_other_command_closes_the_items",
         script: "item a 1\ncommit u\nitem b 2\nitem a 2\n",
@@ -291,7 +291,7 @@ static ROWS: [Row; 39] = [
             totals import 15 export 15 entries 9\n",
         ended: Ok(()),
     },
-    // Where several reasons apply, the first of their order is told.
+    // If several reasons apply, the first in their order is reported.
     Row {
         name: "every_refusal_in_order",
         script: "item a 0\n\
@@ -467,7 +467,7 @@ static ROWS: [Row; 39] = [
             totals import 0 export 0 entries 7\n",
         ended: Ok(()),
     },
-    // What was read is nearer to the state before an update than behind it.
+    // The value read is nearer to the state before an update than to the state after it.
     Row {
         name: "nearer_before_the_update",
         script: "item x 0\n\
@@ -494,7 +494,7 @@ static ROWS: [Row; 39] = [
             audit q distance 3 import 5 before -\n",
         ended: Ok(()),
     },
-    // Two sets cost the same: the smaller is told.
+    // Two sets cost the same: the smaller is reported.
     Row {
         name: "smaller_of_two_sets",
         script: "item a 0\n\
@@ -654,7 +654,7 @@ static ROWS: [Row; 39] = [
             error 1 not a command\n",
         ended: Ok(()),
     },
-    // The same with weights: charges and distances are multiplied.
+    // With weights, charges and distances are multiplied.
     Row {
         name: "weighted_report_beside_a_writer",
         script: "item a 100 weight 3\n\
@@ -677,7 +677,7 @@ static ROWS: [Row; 39] = [
             totals import 21 export 21 entries 6\n",
         ended: Ok(()),
     },
-    // A read of what was taken back, with a weight.
+    // A read of a write that is later undone, with a weight.
     Row {
         name: "weighted_aborted_write_was_read",
         script: "item a 100 weight 3\n\
@@ -790,7 +790,7 @@ static ROWS: [Row; 39] = [
             audit q distance 5 import 5 before u\n",
         ended: Ok(()),
     },
-    // The word stands behind a query's limit, once.
+    // The word follows a query's limit, once.
     Row {
         name: "words_that_are_not_strict",
         script: "item a 0\n\
