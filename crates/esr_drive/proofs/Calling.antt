@@ -1,4 +1,4 @@
--- Calls of a block, one after another, some of them given again.
+-- The calls of a block, one after another, some of them retried.
 use Rattle.std.proofs.Common.{◌≡◌, ◌⊎◌, ℕ, zero, suc, ◌+◌, ◌-◌, ◌*◌, ◌<◌, ◌≤◌, true, List, [], ◌∷◌, ◌++◌, All, length, length-append, take, take_all, get_or, Option, Some, None, unwrap_or, refl, ap, ap₂, sym, subst, ◌∙◌, arith, inl, inr, one-add, append_assoc, append-nil, slice_get, option_and_then, option_map}
 use Rattle.std.specs.List.{position, position_or_len}
 use Rattle.std.proofs.lemmas.List.{take_more}
@@ -18,7 +18,7 @@ use Rattle.esr_drive.specs.Runs.{IsBlockRun, IsUnderWay, next_event}
 use Rattle.esr_plan.specs.Calls.{command_of, answers_of, number_by, event_by, place_of, IsResolved}
 use Rattle.esr_plan.specs.Blocks.{Answered, IsRun, AreRuns, start, more, event_of, begins, number_in, number_got, transaction_called}
 
--- what was given again until it was not blocked, or for the 100th time, is a run
+-- a call that was retried until it was not blocked, or for the 100th time, is a run
 run_of : (e : Event) (r : Receipt) (blocked : List Receipt)
     → All (λ s. (s.event ≡ e) × (is_blocked s.reply ≡ true)) blocked → r.event ≡ e → length blocked < 100 → (is_blocked r.reply ≡ true → length blocked + 1 ≡ 100)
     → IsRun e r.reply (blocked ++ r ∷ [])
@@ -182,7 +182,7 @@ answered calls replies blocked receipts r way next few patient =
       most = omega (arith, len, way.most, way.times, few, length-append way.done (way.again ++ r ∷ []), length-append way.again (r ∷ []));
     }
 
--- where all calls were answered nothing was given again since
+-- if all calls have their replies, no call has been retried since
 none_resumed : (calls : List Call) (replies : List Reply) (again : List Receipt) → length calls ≤ length replies
     → All (λ r. (next_event calls replies ≡ Some r.event) × (is_blocked r.reply ≡ true)) again → again ≡ []
 none_resumed calls replies [] le all = refl

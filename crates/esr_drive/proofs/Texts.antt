@@ -39,7 +39,7 @@ pub history_written : (what : DriveOutput) (p : Plan) (h : Schedule) (blocks : L
     → IfOk r (λ out. IsDump p.names (names_of h blocks) h out.items) → IfOk r (λ out. IsRenderingOf what p h blocks out.items)
 history_written what p h blocks r is reported = subst (λ (w : DriveOutput). IfOk r (λ out. IsRenderingOf w p h blocks out.items)) (sym is) reported
 
--- the text of what was driven is one of the file
+-- the text of the drive is one of the file
 pub drive_text : (what : DriveOutput) (bytes : List ℕ) (s : DrivePlan) (h : Schedule) (replies : List (List Reply)) (out : List ℕ)
     → plan_of bytes ≡ Ok (plan_in s) → IsSound s → IsDriven s.values.items (weights_of s.weights.items) (map (λ b. b.items) s.blocks.items) h replies
     → IsRenderingOf what (plan_in s) h (all_answers (map (λ b. b.items) s.blocks.items) replies) out → IsDriveText what bytes out

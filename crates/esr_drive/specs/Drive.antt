@@ -22,14 +22,14 @@ abbrev pub HasWorkers : DriveOutput → Type 0
 HasWorkers (form.Text workers) = (1 ≤ workers) × (workers ≤ MAX_SEATS)
 HasWorkers form.Script = Unit {0}
 
--- what a text tells of a history and the last replies: these, the findings and the totals; or the history itself, as a
--- script that gives it again, by the names of the plan
+-- what a text shows of a history and the last replies: these, the findings and the totals; or the history itself, as
+-- a script that recreates it, by the names of the plan
 abbrev pub IsRenderingOf : DriveOutput → Plan → Schedule → List (List Answered) → List ℕ → Type 0
 IsRenderingOf (form.Text workers) p h blocks text = text ≡ text_of p h blocks
 IsRenderingOf form.Script p h blocks text = IsDump p.names (names_of h blocks) h text
 
--- Each command of the plan has a run of receipts, which match one legal history over the plan's items, and the text tells
--- of this history.
+-- Each command of the plan has a run of receipts, which match one legal history over the plan's items, and the text
+-- shows this history.
 pub record IsTextOf (what : DriveOutput) (p : Plan) (text : List ℕ) : Type 0 where
   pub history : Schedule
   pub blocks : List (List Answered)

@@ -1,4 +1,4 @@
--- What a session's thread gives back.
+-- The results of a session's thread.
 use Rattle.std.specs.Prelude.{◌≡◌, ℕ, List, All, length, ◌<◌, ◌≤◌, ◌*◌, ◌++◌, true, Option, Some, take, slice_get, slice_index_or, option_map}
 use Rattle.esr_history.specs.declared.event.Event.{Event}
 use Rattle.esr_history.specs.declared.event.Reply.{Reply}

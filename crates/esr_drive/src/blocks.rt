@@ -25,7 +25,7 @@ pub struct Driven {
     pub replies: Vec<Vec<Reply>>,
 }
 
-/// A session for each of so many blocks.
+/// Creates a session for each block.
 fn sessions_for<N: Naming>(
     alloc: Global,
     engine: &mut Engine<Weighted, N>,

@@ -37,8 +37,8 @@ use std::sync::Wait;
 use std::sync::ledger::Blank;
 use std::thread::Threads;
 
-/// Reads a drive file to its end, runs each of its blocks by a session on a thread of its own, and
-/// writes what came of them, in the form that is asked for. The observer sees the line at fault, if there is one.
+/// Reads a drive file to its end, runs each of its blocks by a session on its own thread, and writes the output in
+/// the requested form. The observer sees the line with a fault, if there is one.
 pub fn drive<R: Threads + Wait + Sync, I: Read, O: Write, G: Gate + Sync, V: Observer>(
     rt: &R,
     alloc: Global,
@@ -109,7 +109,7 @@ fn show_line<V: Observer>(bytes: &[u8], fault: DriveFault, observer: &mut V) {
     }
 }
 
-/// Runs the blocks of a plan on an engine of their own.
+/// Runs the blocks of a plan on a separate engine.
 fn run_plan<R: Threads + Wait + Sync, G: Gate + Sync>(
     rt: &R,
     alloc: Global,

@@ -21,7 +21,7 @@ use Rattle.esr_dump.specs.Naming.{numbered, all_numbered, are_names, first_names
 at_most : (m n : ℕ) → m ≤ n → nat_le m n ≡ true
 at_most m n le = grind (arith, nat_tests)
 
--- a letter with a number behind it
+-- a letter followed by a number
 number_named : (letter n : ℕ) → is_letter letter ≡ true → n < 2 ^ 32 → IsName (numbered (letter ∷ []) n)
 number_named letter n is small =
     let short : nat_le (length (decimal n)) 15 ≡ true = at_most (length (decimal n)) 15 (omega (arith, length-decimal-le 10 n (omega arith) (omega arith) (omega arith))) in
@@ -112,7 +112,7 @@ spelled_none word first words numbers n is long are = are ∙ ap (all_numbered w
     go true same = absurd (cc)
     go false same = refl
 
--- the script by these tables gives the history again
+-- the script by these tables recreates the history
 pub carried_past : (items transactions xs ts : List (List ℕ)) (n m : ℕ) (h : Schedule) (text : List ℕ) → n ≡ length h.opening → m ≡ length (beginnings (accepted_in h))
     → items ≡ spelled (codes "i") 0 (first_names n xs) → transactions ≡ spelled (codes "t") 1 (first_names m ts)
     → n < 2 ^ 32 → m + 1 < 2 ^ 32 → (AreNames items transactions h → RoundTrips items transactions h text) → IsDump xs ts h text

@@ -32,7 +32,7 @@ number_begun _ = 0
 abbrev pub query_command : Bool → List ℕ → ℕ → Command
 query_command strict name limit = if strict then begin_strict_query name limit else begin_query name limit
 
--- the command of an event that was answered so
+-- the command of an event with this reply
 abbrev pub command_of : (items transactions : List (List ℕ)) → Reply → Event → Command
 command_of items transactions r (BeginUpdate limit) =
     begin_update (name_of_transaction transactions (number_begun r)) limit

@@ -1,5 +1,5 @@
--- That the script of a history gives the history again: what it declares and asks for, by the names that it uses, and how
--- that is answered.
+-- A run of the script of a history recreates the history: what it declares and requests, by the names that it uses,
+-- and the replies.
 use Rattle.std.specs.Prelude.{◌≡◌, ◌≤◌, ℕ, ℤ, ◌+◌, List, [], ◌∷◌, Bool, true, false, Option, Some, None, codes, length, map, filter, option_map, option_and_then}
 use Rattle.std.specs.List.{All, filter_map, range_with_len}
 use Rattle.esr_items.specs.Values.{value_at}
@@ -60,15 +60,15 @@ pub record AreNames (items transactions : List (List ℕ)) (h : Schedule) : Type
   pub items_spelled : All IsName items
   pub transactions_spelled : All IsName transactions
 
--- The text declares the items, and asks for the events that were accepted or blocked, in their order; and these alone, one
--- after another, are answered by the machine as they were.
+-- The text declares the items, and requests the events that were accepted or blocked, in their order; and the
+-- machine's replies to these alone, one after another, are those of the history.
 pub record RoundTrips (items transactions : List (List ℕ)) (h : Schedule) (text : List ℕ) : Type 0 where
   pub items_declared : found_in declared_by text ≡ map (declared items h) (range_with_len 0 (length h.opening))
   pub events_asked : found_in (event_of items transactions) text ≡ map (λ e. e.event) (kept h).entries
   pub same_answers : IsLegal weighted (kept h)
 
--- The text gives the history again, by these names, where lines spell them and none comes twice; else by numbers: items
--- or transactions, as the case may be.
+-- The text recreates the history by these names, if they are valid and distinct; otherwise by numbers: items or
+-- transactions, as the case may be.
 abbrev pub IsDump : (items transactions : List (List ℕ)) → Schedule → List ℕ → Type 0
 IsDump items transactions h text =
     RoundTrips (spelled (codes "i") 0 (first_names (length h.opening) items))

@@ -1,5 +1,5 @@
-//! The script of a history that has names of its own: those of a file, say, whose transactions are numbered as they begin.
-//! Names that a script could not have give way to numbers, so there is a script of every history.
+//! The script of a history that has names: those of a file, say, whose transactions are numbered as they begin. If a
+//! script could not contain the names, numbers replace them, so there is a script of every history.
 
 ghost use Rattle.std.specs.Prelude.{◌≤◌, IfOk, length};
 ghost use Rattle.esr_base.specs.declared.limits.TheConstants.{MAX_ENTRIES};

@@ -72,7 +72,7 @@ fn push_items(
     Ok(())
 }
 
-/// Whether the script has a line for what was answered so.
+/// Returns whether the script has a line for an event with this reply.
 fn is_kept(reply: Reply) -> bool
     ensures { result ≡ is_kept reply }
 {
@@ -121,7 +121,7 @@ fn push_write(out: &mut Vec<u8>, txn: &str, item: &str, value: i64) -> Result<()
     push_line(out, "write", &[txn, item, digits.format(value)])
 }
 
-/// Appends the line of an event that was answered so.
+/// Appends the line of an event with this reply.
 fn push_event(
     out: &mut Vec<u8>,
     items: &Names,
@@ -200,9 +200,9 @@ fn whole(
     Ok(out)
 }
 
-/// The script of a history, with these names of its items and of its transactions, in the order of their numbers. It
-/// gives again what happened: it asks for what was accepted or blocked, and is answered so. It needs a name for each item
-/// and each transaction.
+/// Returns the script of a history, with these names of its items and of its transactions, in the order of their
+/// numbers. A run recreates the history: the script requests the accepted and blocked events, and gets the same
+/// replies. It needs a name for each item and each transaction.
 pub fn script(
     alloc: Global,
     items: &Names,

@@ -31,11 +31,11 @@ named_read_line item value nearest off = line (
     ∷ decimal off ∷ []
     )
 
--- the line of a value that was read of item x, beside another: the two, and how far they are apart
+-- the line of a value read of item x and the nearest one: the two, and their distance
 abbrev pub read_line : (ℕ → ℤ → ℤ → ℕ) → (items : List (List ℕ)) → (x : ℕ) → (value nearest : ℤ) → List ℕ
 read_line d items x value nearest = named_read_line (name_of_item items x) value nearest (d x value nearest)
 
--- the lines of what q read, in order, beside the values that the updates us leave
+-- the lines of the reads of q, in order, with the values that the updates us leave
 abbrev pub read_lines : Distance → Schedule → (items : List (List ℕ)) → ℕ → (us : List ℕ) → List ℕ
 read_lines d h items q us =
     flat_map (λ o. read_line (distance_in d h) items o.item o.value (state h us o.item)) (reads_by h q)
@@ -80,12 +80,12 @@ charge_of d h q i m = record {
   export_limit = limit_of (accepted_in h) m.update.0;
 }
 
--- the words that begin the line of a charge
+-- the first words of the line of a charge
 abbrev pub verb : Operation → List ℕ
 verb operation.Read = codes "charge read"
 verb operation.Write = codes "charge write"
 
--- with these words for the operation, the update and the item
+-- the line of a charge with these texts for the operation, the update and the item
 abbrev pub named_charge_line : (verb update item : List ℕ) → Charge → List ℕ
 named_charge_line verb update item c = line (
     verb ∷ update ∷ item ∷ codes "amount" ∷ decimal c.amount ∷ codes "step" ∷ decimal c.step
@@ -116,11 +116,11 @@ charge_lines d h items transactions q =
 
 -- ---- the whole
 
--- the distance and the import, as the audit tells them
+-- the distance and the import, in the format of the audit
 abbrev pub sums_line : ℕ → ℕ → List ℕ
 sums_line distance import = line (codes "distance" ∷ decimal distance ∷ codes "import" ∷ decimal import ∷ [])
 
--- What q read, beside the values of the nearest placement; the charges to q, in order; the updates before that
+-- The reads of q, with the values of the nearest placement; the charges to q, in order; the updates before that
 -- placement, and the others; and the sums.
 abbrev pub explanation : Distance → Schedule → (items transactions : List (List ℕ)) → ℕ → List ℕ
 explanation d h items transactions q =

@@ -1,4 +1,4 @@
-//! What a query was charged: the history is made again, entry by entry, by a machine.
+//! The charges to a query: a machine replays the history, entry by entry.
 //!
 //! A history keeps of each query only what it imported all together. So each entry is given to a fresh machine, and
 //! what the query has imported before and after it is looked up there, with the writer of the item and the update's
@@ -17,7 +17,7 @@ use esr_items::{ItemId, Metric, Store, Weighted, WeightedRef};
 use esr_report::{Names, name_of_transaction, push_line};
 use std::alloc::{AllocError, Global};
 
-/// What a query may be charged for: a read of its own, or a write of what it has read.
+/// The operations that charge a query: its own reads, and writes of items that it has read.
 #[derive(Clone, Copy)]
 pub enum Operation {
     Read,
@@ -74,7 +74,7 @@ fn limit(history: &History<Weighted>, t: TxnId) -> u64
     }
 }
 
-/// Appends the line of a charge, with these words for the operation, the update and the item.
+/// Appends the line of a charge, with these texts for the operation, the update and the item.
 fn named_charge_line(
     out: &mut Vec<u8>,
     verb: &str,
@@ -157,7 +157,7 @@ fn met_by(machine: &Machine<WeightedRef<'_>>, event: Event) -> Option<Meeting>
     }
 }
 
-/// A machine that is to make a history again.
+/// Creates a machine to replay a history.
 fn replayer<'a>(
     alloc: Global,
     history: &'a History<Weighted>,
@@ -214,7 +214,7 @@ fn push_charge(
     charge_line(out, items, transactions, charge)
 }
 
-/// Appends the lines of all charges to a query, by a machine that makes the history again.
+/// Appends the lines of all charges to a query, by a machine that replays the history.
 fn push_all(
     out: &mut Vec<u8>,
     items: &Names,

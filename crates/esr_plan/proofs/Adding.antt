@@ -179,7 +179,7 @@ done_alone d done sound is same = (
   subst (λ (l : List (Vec Call Global)). All (λ b. AreResolved d.names b.items) l) (sym same) sound.done_resolved,
 )
 
--- no block is done where none is open
+-- no block is complete if none is open
 pub none_done : (d : Draft) → IsSound d → d.current ≡ None → d.done.items ≡ []
 none_done d sound is = subst (λ (o : Option (Vec Call Global)). elim o as (λ x. Type 0) [ Some block ↦ Unit {0} | None ↦ d.done.items ≡ [] ]) is sound.opened
 

@@ -32,7 +32,7 @@ number_got earlier name =
     option_and_then (λ place. option_and_then (λ a. number_in a.reply) (slice_get earlier place))
     (position (λ a. begins name a.command) earlier)
 
--- a transaction's name stands for that number, and for 0 where there is none
+-- the number of a transaction's name, and 0 if it has none
 abbrev pub transaction_called : List Answered → List ℕ → TxnId
 transaction_called earlier name = record { 0 = unwrap_or (number_got earlier name) 0 }
 
@@ -52,7 +52,7 @@ event_of names earlier (commit txn) = Some (event.Commit (transaction_called ear
 event_of names earlier (abort txn) = Some (event.Abort (transaction_called earlier txn))
 event_of names earlier _ = None
 
--- The receipts of one command: its event was given again while it was blocked, at most 100 times in all.
+-- The receipts of one command: its event was retried while it was blocked, at most 100 times in all.
 pub record IsRun (e : Event) (reply : Reply) (run : List Receipt) : Type 0 where
   pub blocked : List Receipt
   pub last : Receipt

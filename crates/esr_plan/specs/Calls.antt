@@ -49,7 +49,7 @@ AreAnswered [] [] = Unit {0}
 AreAnswered (b ∷ blocks) (r ∷ replies) = (length r ≡ length b) × AreAnswered blocks replies
 AreAnswered _ _ = ⊥
 
--- the number that the begin at that place got, and 0 where there is none
+-- the number that the begin at that place got, and 0 if it got none
 abbrev pub number_by : List Reply → Option ℕ → TxnId
 number_by replies begin =
     record { 0 = unwrap_or (option_and_then (λ place. option_and_then number_in (slice_get replies place)) begin) 0 }

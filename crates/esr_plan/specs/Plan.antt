@@ -22,7 +22,7 @@ pub record Plan : Type 0 where
 abbrev pub nothing : Plan
 nothing = record { names = []; values = []; weights = []; blocks = [] }
 
--- the weight of an item: 1 where none was given
+-- the weight of an item, 1 by default
 abbrev pub weight_in : Option ℕ → ℕ
 weight_in given = unwrap_or given 1
 
@@ -46,7 +46,7 @@ onto_last c [] = []
 onto_last c (b ∷ []) = (b ++ c ∷ []) ∷ []
 onto_last c (b ∷ (next ∷ more)) = b ∷ onto_last c (next ∷ more)
 
--- The plan after a line, or the number of what is wrong with the line.
+-- The plan after a line, or the number of the line's error.
 
 abbrev pub with_session : Plan → Result Plan ℕ
 with_session p =
@@ -98,7 +98,7 @@ with_line p line =
       | None ↦ Err 1
     ])
 
--- the plan of the lines, behind a plan; lines are counted from 1
+-- the plan extended by the lines; lines are counted from 1
 abbrev pub plan_from : ℕ → Plan → List (List ℕ) → Result Plan DriveFault
 plan_from number p [] = Ok p
 plan_from number p (line ∷ more) =

@@ -17,7 +17,7 @@ IsMark bytes m =
     × (m.lines ≤ MAX_LINES)
     × ((rest : List ℕ) → cut_fault 0 (lines (bytes ++ rest)) ≡ cut_fault m.lines (lines (rest_from bytes m ++ rest)))
 
--- the fault of a line of so many bytes, after so many lines
+-- the fault of a line of `len` bytes, after `count` lines
 abbrev pub IsLineFault : ℕ → ℕ → DriveFault → Type 0
 IsLineFault count len fault.TooManyLines = count ≡ MAX_LINES
 IsLineFault count len fault.LineTooLong = (count ≡ MAX_LINES → ⊥) × (MAX_LINE_BYTES < len)

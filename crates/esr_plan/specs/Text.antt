@@ -60,7 +60,7 @@ abbrev pub blocks_text : List (List ℕ) → ℕ → List (List Answered) → Li
 blocks_text names k [] = []
 blocks_text names k (b ∷ blocks) = block_text names k b ++ blocks_text names (k + 1) blocks
 
--- the line of what is told of a query: the query, its distance, its import, and the updates before its position
+-- the line of a query: the query, its distance, its import, and the updates before its position
 abbrev pub finding_text : List (List ℕ) → ℕ × ℕ × ℕ × List ℕ → List ℕ
 finding_text names t = audit_line names (name_of_transaction names t.0) t.1 t.2 t.3
 

@@ -1,9 +1,8 @@
 //! What a session is to call, line by line.
 //!
-//! What may be in a block is a type of its own and not a line of a script, so the code that runs a block has no case
-//! that cannot come. A begin is one variant with a kind: its event alone depends on it. Names are resolved when the
-//! plan is made: a call holds the place of its transaction's begin in the block, so to run a line takes one look into
-//! the replies.
+//! A call has a separate type and is not a line of a script, so the code that runs a block has no unreachable case. A
+//! begin is one variant with a kind: its event alone depends on it. Names are resolved when the plan is made: a call
+//! holds the place of its transaction's begin in the block, so running a line takes one access to the replies.
 
 ghost use Rattle.std.specs.Prelude.{◌≡◌, option_map};
 ghost use Rattle.esr_report.specs.Subjects.{named_by};
@@ -24,7 +23,7 @@ pub struct Caller<'a> {
     pub begin: Option<usize>,
 }
 
-/// An item that a line names. The number of one that is not declared is no item's.
+/// An item that a line names. The number of an undeclared item is out of range.
 #[derive(Clone, Copy)]
 pub struct Operand<'a> {
     pub name: &'a str,
@@ -142,7 +141,7 @@ pub fn number_in(reply: Reply) -> Option<u32>
     }
 }
 
-/// The transaction that the caller stands for, by the replies to the calls before: 0 where it has not begun.
+/// Returns the caller's transaction, from the replies to the calls before: 0 if it has not begun.
 fn transaction(replies: &[Reply], caller: Caller<'_>) -> TxnId
     ensures { result ≡ number_by replies.now caller.entry.begin }
 {

@@ -1,13 +1,13 @@
-//! Makes the plan of a drive file, line after line, or tells what is wrong with the first line at fault, by the lowest
-//! of its numbers.
+//! Makes the plan of a drive file, line after line, or reports the lowest error number of the first line with a
+//! fault.
 //!
 //! A line mostly names the transaction of the line before it, and often its item. So a name is compared with that line's
 //! before it is looked up; the line is there, and nothing has to be kept for it.
 //!
 //! The weight that was given, or that none was, stays in the plan: an item's line is answered as it was written.
 //!
-//! What is kept beside the plan agrees with it (`IsSound`). That is no invariant of the type, since an error may leave a
-//! draft half changed; it is then let go of.
+//! The data kept alongside the plan agrees with it (`IsSound`). That is not an invariant of the type, since an error
+//! may leave a draft half changed; it is then dropped.
 
 ghost use Rattle.esr_grammar.specs.declared.limits.TheConstants.{MAX_LINES};
 ghost use Rattle.std.specs.Prelude.{◌≡◌, ◌+◌, ◌-◌, ◌<◌, ◌≤◌, ◌⊎◌, ◌^◌, true, false, Ok, Err, Some, None, OnOk, IfOk, IfErr, IfSome, length, slice_get, option_copied};
@@ -28,7 +28,7 @@ use esr_report::Names;
 use esr_session::MAX_SESSIONS;
 use std::alloc::Global;
 
-/// The most blocks of a file: each has a session of its own.
+/// The maximum number of blocks in a file: each has its own session.
 pub const MAX_BLOCKS: usize = MAX_SESSIONS;
 
 /// A plan that is being made: the items, the blocks that are done, and the one that is open, with

@@ -45,7 +45,7 @@ pub struct Mark {
     pub lines: u64,
 }
 
-/// Whether a line of at least so many bytes may be read after so many lines.
+/// Checks that a line of at least `bytes` bytes may be read after `lines` lines.
 fn check_line(lines: u64, bytes: usize) -> Result<(), DriveFault>
     ensures { MatchResult result (λ _. (lines ≡ MAX_LINES → ⊥) × (bytes ≤ MAX_LINE_BYTES)) (IsLineFault lines bytes) }
 {
@@ -84,7 +84,7 @@ fn check_lines(bytes: &[u8], mark: Mark) -> Result<Mark, DriveFault>
     Ok(mark)
 }
 
-/// Room for the bytes of one read.
+/// Returns a buffer for the bytes of one read.
 fn chunk_buffer(alloc: Global) -> Result<Vec<u8>, AllocError>
     ensures { IfOk result (λ v. 0 < length v.items) }
 {

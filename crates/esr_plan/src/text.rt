@@ -111,7 +111,7 @@ pub fn block_text(
     Ok(text)
 }
 
-/// Appends the line of what was found of a query.
+/// Appends the line of a query's summary.
 fn push_summary(
     out: &mut Vec<u8>,
     names: &BegunNames<'_>,
@@ -130,7 +130,7 @@ fn push_summary(
     )
 }
 
-/// Appends the lines of what was found of queries.
+/// Appends the lines of the queries' summaries.
 #[tactic(auto, using(crate::proofs::Rendered::lines_more))]
 pub fn push_summaries(
     out: &mut Vec<u8>,

@@ -1,4 +1,4 @@
--- The parts of a row, by what is found of all transactions at once.
+-- The parts of a row, from the columns of all transactions.
 use Rattle.std.proofs.Common.{◌≡◌, ℕ, zero, suc, ◌-◌, ◌≤◌, Bool, false, List, [], sym, ◌∙◌, ap, ap₂, arith, Option, Some, map, is_some, slice_get, unwrap_or, if◌then◌else◌}
 use Rattle.std.proofs.lemmas.Option.{slice_get-map}
 use Rattle.esr_base.specs.declared.numbers.TxnId.{TxnId}

@@ -25,7 +25,7 @@ pub all_rows : {X : Type 0} (f : X → List ℕ) (row : ℕ → X) (out : List �
     → after ≡ out ++ flat_map f (map row (range_with_len 1 i)) → after ≡ out ++ flat_map f (map row (range_with_len 1 n))
 all_rows f row out n i after all before_it = before_it ∙ ap (λ k. out ++ flat_map f (map row (range_with_len 1 k))) all
 
--- ---- fields behind commas
+-- ---- fields after commas
 
 abbrev comma : List ℕ → List ℕ
 comma field = 44 ∷ field

@@ -10,7 +10,7 @@ use Rattle.esr_tables.specs.declared.rows.RowEnd.TheVariants.{Committed, Aborted
 use Rattle.esr_tables.specs.declared.rows.Row.{Row}
 use Rattle.esr_tables.specs.Rows.{rows_of}
 
--- fields, each behind a comma
+-- fields, each after a comma
 abbrev pub separated : List (List ℕ) → List ℕ
 separated fields = flat_map (λ field. 44 ∷ field) fields
 
@@ -28,7 +28,7 @@ end_word Committed = codes "committed"
 end_word Aborted = codes "aborted"
 end_word Active = codes "active"
 
--- a number where there is one, else nothing
+-- a number, or the empty text for None
 abbrev pub optional : Option ℕ → List ℕ
 optional None = []
 optional (Some n) = decimal n

@@ -55,7 +55,7 @@ fn push_field(out: &mut Vec<u8>, field: &str) -> Result<(), AllocError>
     out.extend_from_slice(field.as_bytes())
 }
 
-/// Appends fields, each behind a comma.
+/// Appends fields, each after a comma.
 fn push_all_fields(out: &mut Vec<u8>, fields: &[&str]) -> Result<(), AllocError>
     ensures { OnOk result (out.new.items ≡ out.old.items ++ separated (map (λ field. field.now) fields.now)) }
 {
@@ -65,7 +65,7 @@ fn push_all_fields(out: &mut Vec<u8>, fields: &[&str]) -> Result<(), AllocError>
     Ok(())
 }
 
-/// A number where there is one, else nothing.
+/// Returns a number in decimal, or the empty text for `None`.
 fn optional(digits: &mut itoa::Buffer, number: Option<u64>) -> &str
     ensures { result.now ≡ optional number }
 {

@@ -15,7 +15,7 @@ use esr_items::Weighted;
 use esr_order::committed;
 use std::alloc::{AllocError, Global};
 
-/// The transaction that began behind so many others.
+/// Returns the transaction that began after `place` others.
 pub fn txn_at(history: &History<Weighted>, place: usize) -> TxnId
     requires { place < begun_count history.now.schedule.entries }
     ensures { result.0 ≡ place + 1 }
@@ -24,7 +24,8 @@ pub fn txn_at(history: &History<Weighted>, place: usize) -> TxnId
     TxnId(place as u32 + 1)
 }
 
-/// The distance of a committed query, none of another transaction, beside the list of all that committed.
+/// Returns the distance of a committed query, and `None` for another transaction, from the list of all committed
+/// ones.
 fn distance(
     alloc: Global,
     history: &History<Weighted>,

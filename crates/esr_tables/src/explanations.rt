@@ -37,7 +37,7 @@ const CHARGE: [Field; 9] = [
 /// The fields of the sums.
 const SUMS: [Field; 2] = [("distance", 1), ("import", 3)];
 
-/// The columns of an explanation, behind the one that says what kind of row it is.
+/// The columns of an explanation after the first, which contains the kind of the row.
 const COLUMNS: [&str; 14] = [
     "item",
     "value",
@@ -70,7 +70,7 @@ fn word_at(line: &str, place: usize) -> &str {
     line.split(' ').nth(place).unwrap_or("")
 }
 
-/// The names that a line lists behind its first word.
+/// Returns the names that a line lists after its first word.
 fn names_in(line: &str) -> &str {
     match word_at(line, 1) {
         "-" => "",

@@ -45,7 +45,8 @@ fn ledger_csv(
     Ok(out)
 }
 
-/// The ledger of a history that came from no script, as CSV. Its lines are those of the script that gives it again.
+/// Returns the ledger, as CSV, of a history that was not made by a script. Its lines are those of the script that
+/// recreates the history.
 pub fn history_ledger(
     alloc: Global,
     history: &History<Weighted>,

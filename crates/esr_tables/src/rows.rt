@@ -1,5 +1,5 @@
-//! The rows of a ledger: what a history says of each transaction. A row is made where it is written, from a few numbers
-//! that are found of all transactions at once: of 65,000 transactions all rows would take 6 MB.
+//! The rows of a ledger: a history's data about each transaction. A row is made when it is written, from a few
+//! columns computed for all transactions at once: all rows of 65,000 transactions would take 6 MB.
 
 ghost use Rattle.std.specs.Prelude.{◌≡◌, ◌<◌, ◌≤◌, ◌+◌, List, Some, length, map, IfOk};
 ghost use Rattle.esr_order.specs.Scans.{commits_in};
@@ -134,7 +134,7 @@ fn is_query(history: &History<Weighted>, t: TxnId) -> bool
     }
 }
 
-/// What a transaction imported as a query, or exported as an update, beside what all exported.
+/// Returns what a transaction imported as a query, or exported as an update, given the exports of all.
 fn charged_of(history: &History<Weighted>, exports: &[u64], t: TxnId) -> u64
     requires exports { exports.now ≡ map (export_in (charges_in weighted history.now.schedule))
         (range_with_len 0 (begun_count history.now.schedule.entries + 1)) }
@@ -178,7 +178,7 @@ fn row_of(history: &History<Weighted>, columns: &Columns, t: TxnId) -> Row
     }
 }
 
-/// The row of the transaction that began behind so many others.
+/// Returns the row of the transaction that began after `place` others.
 pub fn row_at(history: &History<Weighted>, columns: &Columns, place: usize) -> Row
     requires columns { AreColumns history.now.schedule columns.now }
     requires begun { place < begun_count history.now.schedule.entries }

@@ -10,7 +10,7 @@ use esr_items::Weighted;
 use esr_views::Recording;
 use std::alloc::{AllocError, Global};
 
-/// The numbers of two lines of a script, from 1; 0 where there is none.
+/// The numbers of two lines of a script, from 1; 0 if there is none.
 #[derive(Clone, Copy)]
 pub struct LineSpan {
     /// The line that begins the transaction.
@@ -83,8 +83,8 @@ pub fn spans_of(alloc: Global, recording: &Recording<'_>) -> Result<Spans, Alloc
     Ok(spans)
 }
 
-/// The spans of the transactions of a history that came from no script, in the script that gives it again: that has a
-/// line for each item, and one for each entry that was accepted or blocked.
+/// Returns the spans of the transactions of a history that was not made by a script, in the script that recreates it:
+/// that has a line for each item, and one for each entry that was accepted or blocked.
 pub fn spans_in(alloc: Global, history: &History<Weighted>) -> Result<Spans, AllocError> {
     let mut spans = nowhere(alloc, history)?;
     let mut line = history.items();

@@ -111,7 +111,7 @@ fn count(tallies: &mut Vec<Tally>, entry: Entry)
     }
 }
 
-/// The tallies of the transactions, by their numbers; there is no transaction 0.
+/// Returns the tallies of the transactions, by number; transaction 0 does not exist.
 pub fn tallies(alloc: Global, history: &History<Weighted>) -> Result<Vec<Tally>, AllocError>
     ensures length { IfOk result (λ v. begun_count history.now.schedule.entries < length v.items) }
     ensures tallies { IfOk result (λ v. AreTallies history.now.schedule.entries v.items) }

@@ -12,7 +12,7 @@ use esr_items::Weighted;
 use esr_report::{Names, name_of_transaction};
 use std::alloc::{AllocError, Global};
 
-/// Whether the words of a column stand on its left.
+/// Returns whether the text of a column is left-aligned.
 fn is_of_words(cell: Cell) -> bool {
     matches!(cell, Cell::Name | Cell::Kind | Cell::End)
 }
@@ -54,7 +54,7 @@ impl Widths {
     }
 }
 
-/// Appends so many blanks.
+/// Appends `count` spaces.
 fn push_spaces(out: &mut String, count: usize) -> Result<(), AllocError> {
     for _ in 0..count {
         out.push_str(" ")?;
@@ -84,7 +84,7 @@ fn push_cell(
     Ok(())
 }
 
-/// Appends the heads. Those of what blocked stand below the words "blocked by".
+/// Appends the heads. Those of the blocking reasons are below the words "blocked by".
 fn push_heads(out: &mut String, widths: &Widths) -> Result<(), AllocError> {
     let mut before = 0usize;
     for (width, (cell, _, _)) in widths.0.iter().zip(CELLS.iter()) {

@@ -1,5 +1,6 @@
-//! Worked histories and the orders of their queries. An order is proved to be as a definition says, or out of memory.
-//! That there is one where there is memory, and that the definition is what one would count by hand, no clause can say.
+//! Worked histories and the orders of their queries. The contract of an order permits out of memory or the order that
+//! a definition specifies. No clause can state that it is found if memory suffices, or that the definition agrees
+//! with a count by hand.
 
 mod audits;
 mod placements;
@@ -57,7 +58,7 @@ fn event(asked: Asked) -> Event {
     }
 }
 
-/// The answer to an event, which is given once more where memory is refused.
+/// Returns the reply to an event, and retries once if an allocation fails.
 fn answer(m: &mut Machine<Plain>, asked: Asked) -> Result<Reply, StepError> {
     let event = event(asked);
     match m.step(event) {
@@ -66,12 +67,12 @@ fn answer(m: &mut Machine<Plain>, asked: Asked) -> Result<Reply, StepError> {
     }
 }
 
-/// Steps the machine, and tells whether the event was accepted.
+/// Steps the machine, and returns whether the event was accepted.
 fn accepts(m: &mut Machine<Plain>, asked: Asked) -> bool {
     !matches!(answer(m, asked), Err(_) | Ok(Reply::Refused(_)))
 }
 
-/// Plays the events, and tells whether each was accepted.
+/// Executes the events, and returns whether each was accepted.
 fn play(m: &mut Machine<Plain>, events: &[Asked]) -> bool {
     for asked in events {
         if !accepts(m, *asked) {
@@ -86,7 +87,7 @@ fn play_all(rt: &impl Abort, m: &mut Machine<Plain>, events: &[Asked]) {
     assert!(rt; play(m, events), "a history");
 }
 
-/// The order of a query, asked for once more where memory is refused.
+/// Returns the order of a query, and retries once if an allocation fails.
 fn order_of(alloc: Global, m: &Machine<Plain>, q: u32) -> Result<Order, OrderError> {
     match Order::of(alloc, m.history(), TxnId(q)) {
         Err(OrderError::NoMemory) => Order::of(alloc, m.history(), TxnId(q)),
@@ -129,7 +130,8 @@ fn has_none(alloc: Global, opening: &[i64], events: &[Asked], t: u32) -> bool {
     }
 }
 
-/// A query reads one item before an update and another behind the next, which read a third that the first wrote.
+/// A query reads one item before an update and another after the next update, which reads a third item that the first
+/// wrote.
 const THROUGH_A_THIRD_ITEM: [Asked; 12] = [
     Query(9),
     Update(9),
@@ -204,7 +206,7 @@ const BEHIND_AN_UPDATE: [Asked; 9] = [
     Commit(2),
 ];
 
-/// The same of a strict query.
+/// Like [`BEHIND_AN_UPDATE`], but the query is strict.
 const STRICTLY_BEHIND_AN_UPDATE: [Asked; 9] = [
     Update(9),
     Write(1, 0, 5),
@@ -217,7 +219,7 @@ const STRICTLY_BEHIND_AN_UPDATE: [Asked; 9] = [
     Commit(2),
 ];
 
-/// Whether one update comes before a query, which must have seen so many.
+/// Returns whether one update precedes a query, and `must` updates are required to.
 fn has_must(rt: &impl Abort, alloc: Global, events: &[Asked], must: usize) -> bool {
     let order = order_in(rt, alloc, &[0], events, 2);
     order.commits() == &[TxnId(1)][..] && order.must().len() == must

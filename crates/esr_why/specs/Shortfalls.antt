@@ -8,8 +8,8 @@ use Rattle.esr_why.specs.declared.shortfall.Side.{Side}
 use Rattle.esr_why.specs.declared.shortfall.Side.TheVariants.{Import, Export}
 use Rattle.esr_why.specs.declared.shortfall.Shortfall.{Shortfall}
 
--- What a transaction lacks that has been charged so much of its limit and would be charged this much more: nothing where
--- that is within the limit. The smallest limit that would do is what it would have been charged then.
+-- The shortfall of a transaction that has been charged `used` of its limit and would be charged `due` more: none if
+-- the sum is within the limit. The smallest sufficient limit is the sum.
 abbrev pub lack : Side → ℕ → (due used limit : ℕ) → Option Shortfall
 lack side t due used limit =
     if nat_lt limit (used + due)

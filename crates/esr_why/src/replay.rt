@@ -38,7 +38,7 @@ impl<'a> Model for Replay<'a> {
     ghost view = { λ r. r.machine };
 }
 
-/// A machine that is to make a history again.
+/// Creates a machine to replay a history.
 fn replayer<'a>(
     alloc: Global,
     history: &'a History<Weighted>,
@@ -87,7 +87,7 @@ impl<'a> Replay<'a> {
         self.machine.log()
     }
 
-    /// The lock by which an update keeps another from an item: that of its writes, where it is the item's writer.
+    /// Returns the lock by which an update blocks others from an item: its write lock, if it is the item's writer.
     pub fn lock_of(&self, x: ItemId, holder: TxnId) -> Lock
         requires { x.0 < length self.now.opening }
         ensures { result ≡ lock_by (writer (accepted_in self.now) x.0) holder.0 }

@@ -158,7 +158,7 @@ impl<'a> NumberedScript<'a> {
         out.push('\n')
     }
 
-    /// The limits, with what was asked of each.
+    /// Appends the limits, with the charge due to each.
     fn push_limits(&self, out: &mut String, shortfalls: &[Shortfall]) -> Result<(), AllocError> {
         for (place, shortfall) in shortfalls.iter().enumerate() {
             out.push_str(if place == 0 { "" } else { "; then by " })?;
@@ -167,7 +167,7 @@ impl<'a> NumberedScript<'a> {
         Ok(())
     }
 
-    /// When those ended whose limits they are.
+    /// Appends the ends of the transactions with these limits.
     fn push_ends(&self, out: &mut String, shortfalls: &[Shortfall]) -> Result<(), AllocError> {
         for shortfall in shortfalls {
             out.push_str("; ")?;
@@ -176,7 +176,7 @@ impl<'a> NumberedScript<'a> {
         Ok(())
     }
 
-    /// Who waits for whom in a ring, from the one that waits the longest behind the one that closed it.
+    /// Appends the waits of a cycle: the first wait, which closed it, comes last.
     pub fn push_cycle(&self, out: &mut String, cycle: &[Wait]) -> Result<(), AllocError> {
         let Some((first, rest)) = cycle.split_first() else {
             return Ok(());
@@ -190,7 +190,7 @@ impl<'a> NumberedScript<'a> {
         out.push('\n')
     }
 
-    /// Who waits for whom: `first waits for second at line 7`.
+    /// Appends a wait: `first waits for second at line 7`.
     fn push_wait(&self, out: &mut String, wait: Wait) -> Result<(), AllocError> {
         let (name, holder, line) = (
             self.name(wait.txn),

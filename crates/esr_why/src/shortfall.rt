@@ -1,8 +1,8 @@
 //! What a blocked event would have added to the limits that it would have passed.
 //!
-//! A refusal names one transaction, the first in the order of reasons. But a write may be too much for several queries,
-//! and for its update besides: a limit that is told to let it pass has to be told of each. So all charges that are due
-//! are looked at, as the machine's definition has them.
+//! A refusal names one transaction, the first in the order of reasons. But a write may exceed the limits of several
+//! queries, and of its own update as well: the report lists every limit that would have to be raised. So all charges
+//! due are checked, as the machine's definition has them.
 
 ghost use Rattle.std.specs.Prelude.{◌≡◌, ◌<◌, ◌≤◌, ◌-◌, ◌*◌, ◌^◌, ◌++◌, true, length, map, filter_map, sum_by, All, IfOk, OnOk};
 ghost use Rattle.esr_items.specs.Values.{IsValue, max_distance};
@@ -50,7 +50,7 @@ impl Shortfall {
     }
 }
 
-/// What a transaction lacks that has been charged so much of its limit and would be charged this much more.
+/// Returns the shortfall of a transaction that has been charged `used` of its limit and would be charged `due` more.
 fn lack(side: Side, txn: TxnId, due: u128, used: u64, limit: u64) -> Option<Shortfall>
     requires { due ≤ 2 ^ 126 }
     ensures { result ≡ lack side txn.0 due used limit }

@@ -15,14 +15,14 @@ use esr_items::{Plain, Store};
 use std::alloc::Global;
 use std::process::Abort;
 
-/// A machine over items that open with these values, or None where memory is refused.
+/// Creates a machine over items that open with these values. Returns `None` if an allocation fails.
 fn open_once(alloc: Global, opening: &[i64]) -> Option<Machine<Plain>> {
     let values = opening.to_vec(alloc).ok()?;
     let store = Store::new(alloc, values).ok()?;
     Machine::new(alloc, store, Plain).ok()
 }
 
-/// The same, once more where memory is refused.
+/// Creates a machine like [`open_once`], and retries once if an allocation fails.
 pub(super) fn open_machine(alloc: Global, opening: &[i64]) -> Option<Machine<Plain>> {
     match open_once(alloc, opening) {
         None => open_once(alloc, opening),
@@ -53,7 +53,7 @@ pub(super) fn play_machine(
     m
 }
 
-/// The audit of a query, asked for once more where memory is refused.
+/// Audits a query, and retries once if an allocation fails.
 pub(super) fn audit_of(alloc: Global, m: &Machine<Plain>, q: u32) -> Result<Finding, AuditError> {
     match audit_query(alloc, m.history(), TxnId(q)) {
         Err(AuditError::NoMemory) => audit_query(alloc, m.history(), TxnId(q)),
@@ -61,7 +61,7 @@ pub(super) fn audit_of(alloc: Global, m: &Machine<Plain>, q: u32) -> Result<Find
     }
 }
 
-/// The audit of the whole history, asked for once more where memory is refused.
+/// Audits the whole history, and retries once if an allocation fails.
 fn book_of(alloc: Global, m: &Machine<Plain>) -> Result<Book, AuditError> {
     match audit_history(alloc, m.history()) {
         Err(AuditError::NoMemory) => audit_history(alloc, m.history()),

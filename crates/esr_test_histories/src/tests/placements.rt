@@ -1,4 +1,4 @@
-//! A plain program beside the audit: it lists all placements of small histories.
+//! A plain program to compare with the audit: it lists all placements of small histories.
 ghost use Rattle.std.specs.Prelude.{◌<◌};
 
 use super::Asked::{Commit, Query, Read, Strict, Update, Write};
@@ -113,7 +113,7 @@ fn is_after(operations: &[Operation], u: u32, v: u32) -> bool {
     false
 }
 
-/// Whether none of these updates has to come behind another one.
+/// Returns whether none of these updates has to follow `late`.
 fn may_precede(operations: &[Operation], before: &[u32], late: u32) -> bool {
     for early in before {
         if is_after(operations, *early, late) {
@@ -123,7 +123,7 @@ fn may_precede(operations: &[Operation], before: &[u32], late: u32) -> bool {
     true
 }
 
-/// Whether no update of the order has an update behind it that has to come before it.
+/// Returns whether no update of the order precedes an update that it has to follow.
 fn keeps_conflicts(operations: &[Operation], order: &[u32]) -> bool {
     for i in 0..order.len() {
         if !may_precede(operations, &order[..i], order[i]) {
@@ -178,7 +178,7 @@ fn committed_update(log: &Log, i: usize) -> Option<u32> {
     if is_update(log, t) { Some(t) } else { None }
 }
 
-/// The updates that committed in so many first entries.
+/// Returns the updates that committed in the first `first` entries.
 fn updates_in(alloc: Global, log: &Log, first: usize) -> Result<Vec<u32>, AllocError> {
     let mut updates = Vec::new(alloc);
     for i in 0..first {
@@ -296,7 +296,7 @@ impl Small {
         least
     }
 
-    /// The updates at these positions, where there are so many.
+    /// Returns the updates at these positions, if all of them exist.
     fn order_at(&self, alloc: Global, positions: &[usize]) -> Result<Vec<u32>, AllocError> {
         let mut order = Vec::new(alloc);
         for i in positions {
@@ -307,8 +307,8 @@ impl Small {
         Ok(order)
     }
 
-    /// The same of all orders of up to three updates, and how many updates are before the
-    /// position in those that have the fewest.
+    /// Returns the least distance of all orders of up to three updates, and the smallest number of updates before the
+    /// position of a placement with it.
     fn least(&self, alloc: Global) -> Result<(u64, usize), AllocError> {
         let mut least = (u64::MAX, 0);
         for positions in &ORDERS {
@@ -329,7 +329,7 @@ fn least(alloc: Global, m: &Machine<Plain>, q: u32) -> Result<(u64, usize), Allo
     Small::of(alloc, m, q)?.least(alloc)
 }
 
-/// The same, once more where memory is refused.
+/// Returns the result of [`least`], and retries once if an allocation fails.
 pub(super) fn least_or_abort(alloc: Global, m: &Machine<Plain>, q: u32) -> Option<(u64, usize)> {
     match least(alloc, m, q) {
         Ok(found) => Some(found),
@@ -429,7 +429,7 @@ fn strict_row(alloc: Global, seed: u64) -> Option<((u64, usize), Option<(u64, us
     compare_all(alloc, &m, 4)
 }
 
-/// The same of a query.
+/// Compares like [`compare`], and adds the least distance if the query were not strict.
 fn compare_all(
     alloc: Global,
     m: &Machine<Plain>,

@@ -1,4 +1,5 @@
-//! Plain forms beside the fast ones: scans of the log, a plain list of locks, and all pairs of updates that conflict.
+//! Plain forms to compare with the fast ones: scans of the log, a plain list of locks, and all pairs of conflicting
+//! updates.
 
 use super::Asked::{Commit, Query, Read, Strict, Update, Write};
 use super::audits::open_machine;
@@ -509,7 +510,7 @@ fn own_operations(
     Ok(own)
 }
 
-/// Whether an operation is behind one of these that it conflicts with.
+/// Returns whether an operation follows one of these that it conflicts with.
 fn follows(own: &[Operation], late: Operation) -> bool {
     for early in own {
         let conflicts = early.item == late.item && (early.write || late.write);
@@ -520,7 +521,7 @@ fn follows(own: &[Operation], late: Operation) -> bool {
     false
 }
 
-/// Whether an operation of an update is behind one of these that it conflicts with.
+/// Returns whether an operation of an update follows one of these that it conflicts with.
 fn conflict(operations: &[Operation], own: &[Operation], j: usize) -> bool {
     for late in operations {
         if late.position == j && follows(own, *late) {
@@ -553,7 +554,7 @@ fn reach_of(alloc: Global, order: &Order, i: usize) -> Result<Vec<bool>, AllocEr
     Ok(marks)
 }
 
-/// Whether all operations that are behind one of these, and conflict with it, are of marked updates.
+/// Returns whether all operations that follow one of these, and conflict with it, are of marked updates.
 fn are_all_marked(operations: &[Operation], own: &[Operation], marks: &[bool]) -> bool {
     for late in operations {
         if !is_marked(marks, late.position) && follows(own, *late) {
@@ -701,12 +702,12 @@ fn chains_agree(alloc: Global, history: &History<Plain>, order: &Order) -> Optio
     Some(true)
 }
 
-/// The order of a query among its near updates, or None where memory is refused.
+/// Returns the order of a query among its near updates, or `None` if an allocation fails.
 fn near_order(alloc: Global, m: &Machine<Plain>, q: u32) -> Option<Order> {
     Order::near(alloc, m.history(), TxnId(q)).ok()
 }
 
-/// The order of a query, where it is a committed one; or None where memory is refused.
+/// Returns the order of a query, if it is committed; or `None` if an allocation fails.
 fn order_if(alloc: Global, m: &Machine<Plain>, q: u32) -> Option<Option<Order>> {
     match order_of(alloc, m, q) {
         Ok(order) => Some(Some(order)),
@@ -738,7 +739,7 @@ fn order_agrees(alloc: Global, m: &Machine<Plain>, q: u32) -> Option<bool> {
     Some(chains_agree(alloc, m.history(), &whole)? && both_agree(alloc, m, q, &whole, &near)?)
 }
 
-/// Whether the orders of one query in so many agree.
+/// Returns whether the orders agree, of every `each`-th transaction.
 fn orders_agree(alloc: Global, m: &Machine<Plain>, each: u32) -> Option<bool> {
     for q in 0..count_begun(m.log()).saturating_add(2) {
         if q.checked_rem(each) == Some(0) && !order_agrees(alloc, m, q)? {
@@ -748,8 +749,7 @@ fn orders_agree(alloc: Global, m: &Machine<Plain>, each: u32) -> Option<bool> {
     Some(true)
 }
 
-/// Whether the fast forms of a history agree with the plain ones; the orders of one transaction in
-/// so many.
+/// Returns whether the fast forms of a history agree with the plain ones; the orders for every `each`-th transaction.
 fn is_same(alloc: Global, m: &Machine<Plain>, each: u32) -> bool {
     let history = m.history();
     entries_agree(history)
@@ -759,7 +759,7 @@ fn is_same(alloc: Global, m: &Machine<Plain>, each: u32) -> bool {
         && orders_agree(alloc, m, each) == Some(true)
 }
 
-/// The same, once more where memory is refused.
+/// Returns whether the forms agree, like [`is_same`], and retries once if an allocation fails.
 pub(super) fn agrees(alloc: Global, m: &Machine<Plain>, each: u32) -> bool {
     is_same(alloc, m, each) || is_same(alloc, m, each)
 }

@@ -281,7 +281,7 @@ static ROWS: [Row; 44] = [
         new: r#""augmentations":0,"back_flow""#,
         line: "valid 0\n",
     },
-    // Without an arc there is no augmentation.
+    // Without an arc, the count of augmentations must be 0.
     Row {
         bundle: EMPTY,
         old: r#""back_flow""#,
