@@ -40,7 +40,7 @@ impl Pairs {
     }
 }
 
-/// Some of the numbers below a count, ascending: each with a chance of one in so many.
+/// Returns some of the numbers below `count`, ascending: each with probability 1 / `one_in`.
 fn some_below(alloc: Global, draws: &mut Draws, count: u32, one_in: u32) -> Result<Vec<u32>> {
     let mut some = Vec::new(alloc);
     for u in 0..count {
@@ -152,7 +152,7 @@ fn count_outcome(outcomes: Outcomes, draft: DraftOutcome) -> Outcomes {
     }
 }
 
-/// Compares the certificates of so many random problems, and tells what became of the drafts.
+/// Compares the certificates of `problems` random problems, and reports the outcomes of the drafts.
 pub fn compare(rt: &impl Print, alloc: Global, problems: u64) -> Result<()> {
     let mut draws = Draws { state: 2026 };
     let mut outcomes = Outcomes {

@@ -20,16 +20,16 @@ use std::time::Instant;
 const USAGE: &str =
     "usage: esr_bench check ROUNDS | solve | audit | bundle, each with a bundle on standard input | agree COUNT | sessions COUNT";
 
-/// What is measured of a bundle.
+/// The measurements of a bundle.
 #[derive(Clone, Copy)]
 enum Measured {
-    /// So many checks of its certificate.
+    /// Checks of its certificate, this many.
     Check(u32),
-    /// Its problem solved anew.
+    /// Solving its problem from scratch.
     Solve,
-    /// The same as audits do, from a draft of a flow.
+    /// Solving its problem as audits do, from a draft of a flow.
     Audit,
-    /// All of it read, checked and written again.
+    /// Reading, checking and writing all of it.
     Whole,
 }
 
@@ -42,7 +42,7 @@ fn main(rt: HostRuntime) -> Result<()> {
     measure(&rt, alloc, &owned)
 }
 
-/// Measures what the words ask for.
+/// Runs the measurement that the arguments request.
 fn measure<R: Input + Print + Eprint + Clock + Threads + Wait + Sync>(
     rt: &R,
     alloc: Global,
@@ -103,7 +103,7 @@ fn arc_count(problem: &Problem) -> usize {
     count
 }
 
-/// Checks a certificate so many times, and tells how long one check took.
+/// Checks a certificate `rounds` times, and reports the time of one check.
 fn check_often(
     rt: &(impl Print + Eprint + Clock),
     problem: &Problem,
@@ -181,7 +181,7 @@ fn print_solved(
     Ok(())
 }
 
-/// Checks what was read of a bundle in so many milliseconds, writes it again, and says whether the same bytes came out.
+/// Checks a bundle that was read in `read` milliseconds, writes it, and reports whether the bytes are the same.
 fn measure_whole(
     rt: &(impl Print + Eprint + Clock),
     alloc: Global,

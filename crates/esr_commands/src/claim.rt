@@ -32,7 +32,7 @@ pub enum BundleClaim {
     Bad(u8),
 }
 
-/// The claim of a problem and a certificate beside the problem of the query.
+/// Returns the claim of a problem and a certificate, compared with the problem of the query.
 fn claim_on(asked: &Problem, problem: &Problem, certificate: &Certificate) -> BundleClaim
     ensures { IsClaim asked.now (Ok (problem.now, certificate_of certificate.now)) result }
 {

@@ -249,7 +249,7 @@ fn push_fault(
     }
 }
 
-/// What is found of a bundle's fault, in words; nothing of a valid bundle.
+/// Returns a description of a bundle's fault; `None` for a valid bundle.
 pub fn detail_of(alloc: Global, bytes: &[u8]) -> Result<Option<String>, AllocError> {
     let mut out = String::new(alloc);
     match from_json(alloc, bytes) {

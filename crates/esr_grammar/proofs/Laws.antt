@@ -63,12 +63,12 @@ pub record IsValueOf (cs : List ℕ) (i value : ℕ) : Type 0 where
   pub small : value < 10 ^ i
   pub digits : all_ascii_digits (take i cs) ≡ true
 
--- a digit more
+-- one more digit
 pub one_digit : (cs : List ℕ) (i d value c : ℕ) → IsValueOf cs i value → i < length cs → c ≡ get_or cs i d → is_ascii_digit c ≡ true → c ≤ 57 → IsValueOf cs (i + 1) (10 * value + (c - 48))
 one_digit cs i d value c so_far within is digit high =
     grind (arith, take_more cs i d within, value-push 0 (take i cs) c, ten_times i, digits-push (take i cs) c so_far.digits digit)
 
--- a byte that is no digit
+-- a byte that is not a digit
 pub no_digit : (cs : List ℕ) (i d : ℕ) → i < length cs → is_ascii_digit (get_or cs i d) ≡ false → all_ascii_digits cs ≡ false
 no_digit cs i d within other = grind (arith, cases_Bool (all_ascii_digits cs), digit_at)
 
@@ -80,7 +80,7 @@ number_round_trip bound n fits small =
     let same : bytes_eq (decimal n) (decimal n) ≡ true = (bytes_eq-Decides (decimal n) (decimal n)).1 refl in
     rw (value, below, same) refl
 
--- what is read as a number is its spelling
+-- a text that is read as a number is its decimal form
 pub number_found : (bound : ℕ) (text : List ℕ) (n : ℕ) → number_below bound text ≡ Some n → (n < bound) × (text ≡ decimal n)
 number_found bound text n e =
     let test = cond_some _ (value_from 0 text) n e in
@@ -108,7 +108,7 @@ signed : (n : ℕ) (v : ℤ) → n < 10 ^ 18 → minus n ≡ Some v → (nat_abs
 signed zero v small e = cc
 signed (suc m) v small e = let given : Some (negsuc m) ≡ Some v = rw (nonzero m) at e in let is : negsuc m ≡ v = cc in rw (← is) (small, refl)
 
--- what is read as a whole number is its spelling
+-- a text that is read as an integer is its decimal form
 pub int_found : (text : List ℕ) (v : ℤ) → int_of text ≡ Some v → IsInt v × (text ≡ signed_decimal v)
 int_found [] v e = cc
 int_found (c ∷ cs) v e = elim (cases_Bool (nat_eq c 45)) [

@@ -104,7 +104,7 @@ same_three {a} {b} {c} {x} {y} {z} e f g = rw (e, f, g) refl
 same_four : {a b c d w x y z : List ℕ} → a ≡ w → b ≡ x → c ≡ y → d ≡ z → a ∷ b ∷ c ∷ d ∷ [] ≡ w ∷ x ∷ y ∷ z ∷ []
 same_four {a} {b} {c} {d} {w} {x} {y} {z} e f g h = rw (e, f, g, h) refl
 
--- the words behind a first word spell the command
+-- the words after a first word spell the command
 abbrev IsKeywordOf : List ℕ → List (List ℕ) → Command → Type 0
 IsKeywordOf k ws c = IsCommand c × (k ∷ ws ≡ words c)
 

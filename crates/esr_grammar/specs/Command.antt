@@ -27,7 +27,7 @@ pub data Command : Type 0 where
   audit : (txn : List ℕ) → Command
   totals : Command
 
--- the words of a command
+-- the tokens of a command
 abbrev pub words : Command → List (List ℕ)
 words (item n v) = codes "item" ∷ n ∷ signed_decimal v ∷ []
 words (weighted_item n v w) = codes "item" ∷ n ∷ signed_decimal v ∷ codes "weight" ∷ decimal w ∷ []
@@ -106,7 +106,7 @@ is_space b = nat_eq b 32
 abbrev pub words_of : List ℕ → List (List ℕ)
 words_of bytes = slice_split is_space bytes
 
--- the words after the first blank, where there is one
+-- the words after the first blank, if there is one
 abbrev pub words_after : Option (Bor (List ℕ)) → List (List ℕ)
 words_after None = []
 words_after (Some rest) = words_of rest.now
@@ -114,7 +114,7 @@ words_after (Some rest) = words_of rest.now
 abbrev pub name_of : List ℕ → Option (List ℕ)
 name_of text = cond (is_name text) (Some text) None
 
--- the value of digits, behind the value n of those before them
+-- the value of digits that follow digits of value n
 abbrev pub value_from : ℕ → List ℕ → ℕ
 value_from n [] = n
 value_from n (c ∷ cs) = value_from (10 * n + (c - 48)) cs
@@ -136,7 +136,7 @@ int_of (c ∷ cs) =
     cond (nat_eq c 45)
     (option_and_then minus (number_below INT_END cs)) (option_map pos (number_below INT_END (c ∷ cs)))
 
--- the words, where there are so many
+-- the words, if their number is right
 abbrev pub one_of : List (List ℕ) → Option (List ℕ)
 one_of (a ∷ []) = Some a
 one_of ws = None
@@ -157,7 +157,7 @@ four_of ws = None
 abbrev pub both : {A B C : Type 0} → (A → B → C) → Option A → Option B → Option C
 both f a b = option_and_then (λ x. option_map (f x) b) a
 
--- the words behind each first word
+-- the command of the words after each first word
 abbrev pub plain_item_command : List (List ℕ) → Option Command
 plain_item_command ws = option_and_then (λ p. both item (name_of p.0) (int_of p.1)) (two_of ws)
 

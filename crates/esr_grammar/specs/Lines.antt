@@ -11,7 +11,7 @@ abbrev pub lines : List ℕ → List (List ℕ)
 lines [] = []
 lines (b ∷ bs) = cond (b == 10) ([] ∷ lines bs) (onto_first b (lines bs))
 
--- b goes onto the first of the lines, and is no line where none follows
+-- prepends b to the first line; b is dropped if no line follows
 abbrev pub onto_first_whole : ℕ → List (List ℕ) → List (List ℕ)
 onto_first_whole b [] = []
 onto_first_whole b (l ∷ ls) = (b ∷ l) ∷ ls

@@ -1,4 +1,4 @@
-//! The lines of a script: which command a line is, exactly where it is the one spelling of it.
+//! The lines of a script: parses a line as a command, exactly if it is the command's one spelling.
 //!
 //! A weight is a second form of the line `item`, and `strict` a second form of the line `begin`: each form has one
 //! spelling and one case in each definition, so no word is optional. Names are text of the line itself; nothing is
@@ -177,7 +177,7 @@ fn write(words: &[u8]) -> Option<Line<'_>>
     Some(Line::Write { txn, item, value })
 }
 
-/// The command of the first word, where it has one name.
+/// Returns the command of the first word, if the command has one name.
 fn of_one_name<'a>(word: &[u8], words: &'a [u8]) -> Option<Line<'a>>
     ensures { option_map view result ≡ one_name_command word.now (words_of words.now) }
 {

@@ -29,7 +29,7 @@ pub fn cut_word(bytes: &[u8]) -> (&[u8], Option<&[u8]>)
     }
 }
 
-/// The word, where there is one.
+/// Returns the word, if there is exactly one.
 pub fn one_word(bytes: &[u8]) -> Option<&[u8]>
     ensures { option_map (λ w. w.now) result ≡ one_of (words_of bytes.now) }
 {

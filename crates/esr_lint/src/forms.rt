@@ -1,6 +1,6 @@
-//! The forms of a script's lines, as a table: what each has to have, word for word.
+//! The forms of a script's lines, as a table: the required words of each.
 
-/// What one word of a line has to be.
+/// The form of one word of a line.
 #[derive(Clone, Copy)]
 pub enum Slot {
     Name,
@@ -8,13 +8,13 @@ pub enum Slot {
     Limit,
     /// `update` or `query`
     Kind,
-    /// `weight`, which may be left out with what is behind it.
+    /// `weight`, which may be omitted together with the number after it.
     Weight,
     /// `strict`, which may be left out.
     Strict,
 }
 
-/// A command's first word, the words that follow, and how it is written.
+/// A command's first word, the words that follow, and its syntax as text.
 #[derive(Clone, Copy)]
 pub struct CommandSyntax {
     pub word: &'static str,

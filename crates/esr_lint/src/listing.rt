@@ -7,20 +7,21 @@ use std::alloc::Global;
 use std::fmt::{Display, Write as _};
 use std::io::Write;
 
-/// How many bytes are written at once.
+/// The number of bytes written at once.
 const ROOM: usize = 32768;
 
-/// Lists the lines at fault, the refusals that are mistakes, and the transactions that are still active.
+/// Lists the lines with faults, the refusals that are mistakes, and the transactions that are still active.
 #[derive(Drop)]
 pub struct Listing<'a, W> {
     writer: W,
     source: Source<'a>,
     text: String,
-    /// How many bytes of the text are whole lines: more only where there was no memory for the rest of one.
+    /// The length of the text's complete lines in bytes: the text is longer only if an allocation failed within a
+    /// line.
     whole: usize,
     lines: u64,
     count: u64,
-    /// Nothing is listed behind what could not be.
+    /// The first failure; after it, nothing is listed.
     failed: Option<Unlisted>,
 }
 

@@ -42,7 +42,7 @@ fn is_near(word: &[u8], meant: &[u8]) -> bool {
     }
 }
 
-/// The first of the words that may have been meant.
+/// Returns the first of the words that may have been meant.
 pub fn nearest(word: &[u8], words: &[&'static str]) -> Option<&'static str> {
     for meant in words {
         if is_near(word, meant.as_bytes()) {

@@ -58,7 +58,8 @@ reason_line names why None = refused (refusal_number why) (refusal_words why)
 reason_line names why (Some txn) =
     blocked (refusal_number why) (refusal_words why) (name_of_transaction names txn.0)
 
--- the same for whom it names itself; the names are those of the transactions, in the order of their numbers
+-- the reason, with the transaction that the refusal itself names; the names are those of the transactions, in the
+-- order of their numbers
 abbrev pub refusal_line : List (List ℕ) → Refusal → List ℕ
 refusal_line names why = reason_line names why (refusal_blocker why)
 
@@ -83,7 +84,7 @@ totals_line imports exports entries =
     line (codes "totals import" ∷ decimal imports ∷ codes "export" ∷ decimal exports ∷ codes "entries" ∷ decimal entries
     ∷ [])
 
--- the names of transactions, separated by commas; a minus where there is none
+-- the names of transactions, separated by commas; a minus for the empty list
 abbrev pub listed : (names : List (List ℕ)) (txns : List ℕ) → List ℕ
 listed names [] = codes "-"
 listed names (txn ∷ txns) = join_with_byte 44 (map (name_of_transaction names) (txn ∷ txns))

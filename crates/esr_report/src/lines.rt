@@ -56,7 +56,7 @@ fn push_words(out: &mut Vec<u8>, first: &str, rest: &[&str]) -> Result<(), Alloc
     Ok(())
 }
 
-/// Ends a line that begins at the mark, or takes it away where memory was refused.
+/// Ends a line that begins at the mark, or removes it if an allocation failed.
 fn end_line(
     out: &mut Vec<u8>,
     mark: usize,
@@ -241,7 +241,7 @@ pub fn totals_line(
     push_line(out, "totals import", &words)
 }
 
-/// Appends the names of transactions separated by commas, or a minus where there is none.
+/// Appends the names of transactions separated by commas, or a minus for the empty list.
 fn push_names<N: TransactionNames>(
     out: &mut Vec<u8>,
     names: &N,
@@ -309,7 +309,7 @@ pub fn audit_line<N: TransactionNames>(
     end_line(out, mark, listed)
 }
 
-/// Appends a line of a word and the names of transactions, separated by commas, or a minus where there is none. The
+/// Appends a line of a word and the names of transactions, separated by commas, or a minus for the empty list. The
 /// names are those of the transactions, in the order of their numbers.
 pub fn names_line<N: TransactionNames>(
     out: &mut Vec<u8>,
@@ -340,7 +340,7 @@ pub fn order_line<N: TransactionNames>(
     names_line(out, "order", names, txns)
 }
 
-/// Appends the line of what is wrong with a line that makes no event.
+/// Appends the line of the error of a line that makes no event.
 pub fn error_line(out: &mut Vec<u8>, error: LineError) -> Result<(), AllocError>
     ensures ok { OnOk result (out.new.items ≡ out.old.items ++ error_line error) }
     ensures err { OnErr result (out.new.items ≡ out.old.items) }

@@ -19,7 +19,7 @@ pub trait TransactionNames {
     /// The names by position, which is one less than the transaction's number.
     ghost names: { Self → List (List ℕ) };
 
-    /// The name at the position.
+    /// Returns the name at the position.
     fn name_at(&self, position: u32) -> Option<&str>
         ensures { option_map (λ name. name.now) result ≡ slice_get (names self.now) position };
 }
@@ -61,7 +61,7 @@ impl Names {
         self.names.len()
     }
 
-    /// The position of the name, where it is bound.
+    /// Returns the position of the name, if it is bound.
     pub fn number_of(&self, name: &str) -> Option<u32>
         ensures { result ≡ position_of self.now name.now }
     {
@@ -89,8 +89,8 @@ impl Names {
     /// Binds the name to the next position.
     ///
     /// # Errors
-    /// Where memory was refused. A name of more than 16 bytes, which no line spells, has no room in the table and is
-    /// refused too. Then nothing has changed.
+    /// If an allocation fails, or the name has more than 16 bytes: no line contains such a name, and the table cannot
+    /// hold it. Then nothing has changed.
     pub fn bind(&mut self, name: &str) -> Result<u32, AllocError>
         requires unbound { position_of self.old name.now ≡ None }
         requires fits { length self.old < 2 ^ 32 }

@@ -1,9 +1,9 @@
-//! Whether a text is markup: each element that is opened is closed in its turn, and attributes are in quotes.
+//! Checks that a text is markup: each element is closed in its turn, and attributes are in quotes.
 //!
-//! What writes pictures and pages promises nothing of that. To prove it of each function that writes would state for
-//! each which elements are open before and behind it. So the whole text is read once more, tag by tag, before anything
-//! rests on it: a few functions, with a contract that says what is wanted. The names of the elements that are open are
-//! one text, each after a slash, so that what is open before and behind a tag is said by texts alone.
+//! The functions that write pictures and pages do not promise this. A proof of each would have to state, for each,
+//! the elements open before and after it. So the whole text is read once more, tag by tag, before it is used: a few
+//! functions, with a contract that states the requirement. The names of the open elements are one text, each after a
+//! slash, so texts alone describe the elements open before and after a tag.
 
 ghost use Rattle.std.specs.Prelude.{◌≡◌, ◌<◌, ◌++◌, ◌∷◌, ℕ, List, IfOk, IfSome, length, string_bytes, true};
 ghost use Rattle.esr_text.specs.Markup.{Attributes, Closes, HasNo, IsMarkup, IsName, IsNameByte, IsPlain, Tag};
@@ -44,7 +44,7 @@ fn is_plain(text: &str) -> bool
     has_no(text, '<') && has_no(text, '&')
 }
 
-/// What is behind the first attribute of a text.
+/// Returns the text after the first attribute.
 fn after_attribute(text: &str) -> Option<&str>
     ensures shorter { IfSome result (λ remainder. length remainder.now < length text.now) }
     ensures continues { IfSome result (λ remainder. Attributes remainder.now → Attributes text.now) }
@@ -106,7 +106,7 @@ fn within(alloc: Global, path: &str, name: &str) -> Result<String, AllocError>
     Ok(inner)
 }
 
-/// The elements that are open behind the tag that closes an element, if it is the innermost.
+/// Returns the elements open after the tag that closes an element, if it is the innermost.
 fn after_end(alloc: Global, path: &str, name: &str) -> Result<Option<String>, AllocError>
     ensures { IfOk result (λ found. IfSome found (λ remainder. Tag path.now (47 ∷ name.now) (string_bytes remainder))) }
 {
@@ -116,7 +116,7 @@ fn after_end(alloc: Global, path: &str, name: &str) -> Result<Option<String>, Al
     }
 }
 
-/// The elements that are open behind a tag that does not close an element that was open.
+/// Returns the elements open after a tag that does not close an earlier element.
 fn after_start(alloc: Global, path: &str, tag: &str) -> Result<Option<String>, AllocError>
     ensures { IfOk result (λ found. IfSome found (λ remainder. Tag path.now tag.now (string_bytes remainder))) }
 {
@@ -132,7 +132,7 @@ fn after_start(alloc: Global, path: &str, tag: &str) -> Result<Option<String>, A
     }
 }
 
-/// The elements that are open behind a tag, if it may stand where these are open.
+/// Returns the elements open after a tag, if the tag is permitted in these open elements.
 fn open_after(alloc: Global, path: &str, tag: &str) -> Result<Option<String>, AllocError>
     ensures { IfOk result (λ found. IfSome found (λ remainder. Tag path.now tag.now (string_bytes remainder))) }
 {
@@ -142,7 +142,7 @@ fn open_after(alloc: Global, path: &str, tag: &str) -> Result<Option<String>, Al
     }
 }
 
-/// What stands before the first tag of a text, in it, and behind it.
+/// Returns the text before the first tag, the tag's content, and the text after it.
 fn parts(text: &str) -> Option<(&str, &str, &str)>
     ensures plain { IfSome result (λ p. IsPlain p.0.now) }
     ensures shorter { IfSome result (λ p. length p.2.now < length text.now) }
@@ -157,18 +157,18 @@ fn parts(text: &str) -> Option<(&str, &str, &str)>
     }
 }
 
-/// Whether a text behind which nothing more comes closes all elements that are open.
+/// Returns whether the rest of a text, after which nothing follows, closes all open elements.
 fn is_end(path: &str, text: &str) -> bool
     ensures { result ≡ true → Closes path.now text.now }
 {
     path.is_empty() && is_plain(text)
 }
 
-/// Whether a text is markup.
+/// Returns whether a text is markup.
 ///
 /// # Errors
 ///
-/// Where there is no memory.
+/// If an allocation fails.
 pub fn is_markup(alloc: Global, text: &str) -> Result<bool, AllocError>
     ensures { IfOk result (λ is. is ≡ true → IsMarkup text.now) }
 {
@@ -184,11 +184,11 @@ pub fn is_markup(alloc: Global, text: &str) -> Result<bool, AllocError>
     Ok(is_end(path.as_str(), rest))
 }
 
-/// A text, or nothing where it is not markup.
+/// Returns a text, or the empty text if it is not markup.
 ///
 /// # Errors
 ///
-/// Where there is no memory.
+/// If an allocation fails.
 pub fn markup_or_nothing(alloc: Global, text: String) -> Result<String, AllocError>
     ensures { IfOk result (λ kept. IsMarkup (string_bytes kept)) }
 {

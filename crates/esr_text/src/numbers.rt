@@ -30,7 +30,7 @@ pub fn push_value(out: &mut String, value: i64) -> Result<(), AllocError> {
     push_number(out, value.unsigned_abs())
 }
 
-/// So many of something: `1 update`, `2 updates`.
+/// Appends a count and its noun: `1 update`, `2 updates`.
 pub fn push_count(out: &mut String, count: u64, one: &str, many: &str) -> Result<(), AllocError> {
     push_number(out, count)?;
     out.push_str(if count == 1 { one } else { many })
