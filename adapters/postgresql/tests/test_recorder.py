@@ -1,4 +1,4 @@
-"""The recorder, on a server: the variable ESR_POSTGRES_DSN contains libpq's connection string; without it, no test runs.
+"""The recorder, on a server: the variable ESR_POSTGRES_DSN has libpq's connection string; without it, no test runs.
 `checks/postgresql` starts one and runs these."""
 
 import contextlib

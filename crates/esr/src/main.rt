@@ -450,7 +450,7 @@ impl AuditText for AuditTable {
     }
 }
 
-/// How audits and explanations are written for programs, or none for their own text.
+/// Returns the format of audits and explanations for programs, or `None` for text.
 fn data_of(format: Option<Format>) -> Option<Data> {
     match format {
         Some(Format::Csv) => Some(Data::Csv),
@@ -459,7 +459,7 @@ fn data_of(format: Option<Format>) -> Option<Data> {
     }
 }
 
-/// How a ledger is written.
+/// Returns the format of a ledger.
 fn table_format(format: Option<Format>) -> esr_tables::Format {
     match format {
         Some(Format::Csv) => esr_tables::Format::Csv,

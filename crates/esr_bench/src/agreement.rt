@@ -51,7 +51,7 @@ fn some_below(alloc: Global, draws: &mut Draws, count: u32, one_in: u32) -> Resu
     Ok(some)
 }
 
-/// A chain of some updates, of which each two neighbours are marked as a pair.
+/// Returns a chain of some updates, of which each two neighbours are marked as a pair.
 fn chain(
     alloc: Global,
     draws: &mut Draws,
@@ -77,7 +77,7 @@ fn chain(
     })
 }
 
-/// The pairs that are marked, and some more, ascending.
+/// Returns the marked pairs, and some more, ascending.
 fn list_pairs(
     alloc: Global,
     draws: &mut Draws,
@@ -95,7 +95,7 @@ fn list_pairs(
     Ok(before)
 }
 
-/// A random problem.
+/// Returns a random problem.
 fn problem(alloc: Global, draws: &mut Draws) -> Result<Problem> {
     let count = draws.next(UPDATES);
     let items = draws.next(5).saturating_add(1);
@@ -120,7 +120,7 @@ fn problem(alloc: Global, draws: &mut Draws) -> Result<Problem> {
     }
 }
 
-/// Whether what begins with a draft has the worth and the set of the solver's, and is valid.
+/// Returns whether the result from a draft has the worth and the set of the solver's, and is valid.
 fn compare_certificates(alloc: Global, problem: &Problem) -> Result<(bool, DraftOutcome)> {
     let Ok(network) = Network::build(alloc, problem) else {
         return Err(anyhow!("out of memory"));

@@ -94,7 +94,7 @@ fn measure_bundle(
     }
 }
 
-/// How many arcs the network of a problem has.
+/// Returns the number of arcs in the network of a problem.
 fn arc_count(problem: &Problem) -> usize {
     let mut count = problem.before().len().saturating_add(problem.must().len());
     for chain in problem.chains() {
@@ -199,7 +199,7 @@ fn measure_whole(
     Ok(())
 }
 
-/// Whether the same bytes are written, and how many milliseconds that takes.
+/// Returns whether the bytes written are the same, and the time in milliseconds.
 fn measure_writing(
     rt: &impl Clock,
     alloc: Global,

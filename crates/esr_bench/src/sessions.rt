@@ -42,7 +42,7 @@ pub fn measure<R: Threads + Wait + Clock + Print + Eprint + Sync>(
     Ok(())
 }
 
-/// How many calls a second.
+/// Prints the number of calls per second.
 fn print(rt: &impl Eprint, what: &str, transactions: u32, time: Duration) -> Result<()> {
     let micros = time.as_micros().max(1);
     let rate = u128::from(transactions) * CALLS * 1_000_000 / micros;
@@ -50,7 +50,7 @@ fn print(rt: &impl Eprint, what: &str, transactions: u32, time: Duration) -> Res
     Ok(())
 }
 
-/// Opening values, all zero.
+/// Returns opening values, all zero.
 fn items(alloc: Global) -> Result<Store> {
     let values = Vec::from_elem(alloc, 0, ITEMS as usize)?;
     Store::new(alloc, values).map_err(|_| anyhow!("no items"))
@@ -86,12 +86,12 @@ impl<N: Naming, R: Wait> Steps for Shared<'_, N, R> {
     }
 }
 
-/// One of the items.
+/// Draws an item.
 fn item(draws: &mut Draws) -> ItemId {
     ItemId(draws.next(ITEMS))
 }
 
-/// One transaction: a begin, four reads, four writes and a commit.
+/// Makes one transaction: a begin, four reads, four writes and a commit.
 fn transaction(caller: &mut impl Steps, draws: &mut Draws) {
     let Some(Reply::Begun(txn)) = caller.step(Event::BeginUpdate { limit: 0 }) else {
         return;

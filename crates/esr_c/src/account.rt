@@ -30,7 +30,7 @@ fn txn_status_number(txn_status: TxnStatus) -> u32
     }
 }
 
-/// An account as C reads it.
+/// Converts an account for C.
 fn fields(account: AccountView) -> EsrAccount
     ensures { result ≡ account_fields account }
 {

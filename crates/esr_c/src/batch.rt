@@ -24,7 +24,7 @@ pub struct EsrEvent {
     pub value: i64,
 }
 
-/// The event, if there is one of that kind.
+/// Returns the event, if its kind is known.
 fn event_of(event: EsrEvent) -> Option<Event>
     ensures { result ≡ event_of event }
 {
@@ -72,7 +72,7 @@ fn answer_one(engine: &mut EmbeddedEngine, event: EsrEvent) -> Result<Reply, Sta
     }
 }
 
-/// Whether an event was refused.
+/// Returns whether an event was refused.
 fn is_refusal(reply: Reply) -> bool
     ensures { result ≡ is_refusal reply }
 {

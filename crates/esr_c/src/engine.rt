@@ -50,7 +50,7 @@ pub enum Status {
 }
 
 impl Status {
-    /// The number of the status.
+    /// Returns the number of the status.
     pub(crate) fn number(self) -> u32
         ensures { result ≡ status_number self }
     {
@@ -76,7 +76,7 @@ pub(crate) fn open_engine(engine: Box<EmbeddedEngine, Global>) -> EsrEngine
     }
 }
 
-/// The engine of a variable, which is closed from then on.
+/// Takes the engine out of a variable, which is closed from then on.
 pub(crate) fn take_engine(
     alloc: Global,
     variable: &mut EsrEngine,
@@ -92,7 +92,7 @@ pub(crate) fn take_engine(
     Some(from_handle(alloc, held))
 }
 
-/// An engine of these values and weights on the heap, where they may be such.
+/// Creates an engine on the heap with these values and weights, if they are in range.
 fn make(
     alloc: Global,
     opening: &[i64],

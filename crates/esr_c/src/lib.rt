@@ -245,8 +245,8 @@ pub extern "C" fn esr_do(
     status.number()
 }
 
-/// What has been imported, and how many entries the history has: 0, or 14 where the engine is closed. No limit has been
-/// passed.
+/// Writes the sum of all imports, and the number of entries in the history: 0, or 14 if the engine is closed. No
+/// limit has been exceeded.
 #[unsafe(no_mangle)]
 pub extern "C" fn esr_totals_of(
     alloc: Global,
@@ -268,8 +268,8 @@ pub extern "C" fn esr_totals_of(
     Status::Done.number()
 }
 
-/// What the history has, and what is left of it: 0, or 14 where the engine is closed. It is never stuck: whatever is
-/// active can be committed or aborted.
+/// Writes the counts of the history and its remaining capacity: 0, or 14 if the engine is closed. The history never
+/// deadlocks: every active transaction can be committed or aborted.
 #[unsafe(no_mangle)]
 pub extern "C" fn esr_counts_of(alloc: Global, engine: &mut EsrEngine, counts: &mut Counts) -> u32
     ensures closed { result ≡ 14 ↔ (engine.old.held.history ≡ None) }
@@ -472,7 +472,7 @@ pub extern "C" fn esr_explain(
     status.number()
 }
 
-/// The same as a picture: one SVG, of which each element is closed.
+/// Writes the picture of a committed query to the buffer `bytes`: one SVG, of which each element is closed.
 #[unsafe(no_mangle)]
 pub extern "C" fn esr_picture(
     alloc: Global,
@@ -534,7 +534,7 @@ pub extern "C" fn esr_ledger(
     status.number()
 }
 
-/// The verdict on a bundle, whose it be: 0, or 13 where an allocation failed. It needs no engine.
+/// Judges a bundle of any origin: 0, or 13 if an allocation failed. It needs no engine.
 #[unsafe(no_mangle)]
 pub extern "C" fn esr_check(alloc: Global, bytes: &[u8], verdict: &mut EsrVerdict) -> u32
     ensures status { (result ≡ 0) ⊎ (result ≡ 13) }
@@ -566,8 +566,8 @@ pub extern "C" fn esr_renew(alloc: Global, engine: &mut EsrEngine) -> u32
     status.number()
 }
 
-/// The same in every state: what is active is aborted, and ends with the history. 0, or 13 where an allocation failed,
-/// 14 where the engine is closed; then nothing has changed.
+/// Renews the engine in every state: active transactions are aborted, and end with the history. 0, or 13 if an
+/// allocation failed, 14 if the engine is closed; then nothing has changed.
 #[unsafe(no_mangle)]
 pub extern "C" fn esr_renew_aborting(alloc: Global, engine: &mut EsrEngine) -> u32
     ensures status { (result ≡ 0) ⊎ ((result ≡ 13) ⊎ (result ≡ 14)) }

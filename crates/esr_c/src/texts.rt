@@ -25,7 +25,7 @@ use esr_report::Names;
 use esr_trace::Audited;
 use std::alloc::Global;
 
-/// The explanation of a query of which this was found, or why there is none.
+/// Returns the explanation of a query with this finding, or the status of the failure.
 fn explain(
     alloc: Global,
     items: &Names,
@@ -45,7 +45,7 @@ fn explain(
     }
 }
 
-/// The explanation of a query, or why there is none.
+/// Returns the explanation of a query, or the status of the failure.
 fn explanation_text(
     alloc: Global,
     engine: &mut EmbeddedEngine,
@@ -67,7 +67,7 @@ fn explanation_text(
     }
 }
 
-/// The bytes of the picture of a query, or why there is none.
+/// Returns the bytes of the picture of a query, or the status of the failure.
 fn draw<'a>(
     alloc: Global,
     items: &'a Names,
@@ -90,7 +90,7 @@ fn draw<'a>(
     }
 }
 
-/// The picture of a query, or why there is none.
+/// Returns the picture of a query, or the status of the failure.
 fn picture_text(
     alloc: Global,
     engine: &mut EmbeddedEngine,

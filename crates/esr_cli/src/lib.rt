@@ -118,28 +118,28 @@ pub struct Job<'a> {
     pub format: Option<Format>,
 }
 
-/// The first value of an argument.
+/// Returns the first value of an argument.
 fn text<'a>(given: &ArgMatches<'a>, id: &str) -> Option<&'a str>
     ensures { option_map (λ s. s.now) result ≡ first_of id.now (rows_of (found_of given.now)) }
 {
     given.get_str(id)
 }
 
-/// Whether a flag is given.
+/// Returns whether a flag is set.
 fn flag(given: &ArgMatches<'_>, id: &str) -> bool
     ensures { result ≡ flag_in id.now (rows_of (found_of given.now)) }
 {
     given.get_one::<bool>(id).unwrap_or(false)
 }
 
-/// The number that an option is given.
+/// Returns the number passed to an option.
 fn count(given: &ArgMatches<'_>, id: &str) -> Option<u64>
     ensures { result ≡ count_in id.now (rows_of (found_of given.now)) }
 {
     given.get_one::<u64>(id)
 }
 
-/// The format of that name.
+/// Returns the format with a name.
 fn format_of_name(name: &str) -> Option<Format>
     ensures { result ≡ format_of_name name.now }
 {
@@ -161,7 +161,7 @@ fn asked_format(given: &ArgMatches<'_>) -> Option<Format>
     }
 }
 
-/// When progress is to be shown. Not to show it goes first.
+/// Returns when progress is shown. `--no-progress` takes precedence.
 fn asked_progress(given: &ArgMatches<'_>) -> Progress
     ensures { result ≡ progress_in (rows_of (found_of given.now)) }
 {

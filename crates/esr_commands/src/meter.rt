@@ -101,12 +101,12 @@ impl<'a, 'm, 'r, R: Clock + Eprint, E: Eprint> LineObserver<'a, 'm, 'r, R, E> {
         }
     }
 
-    /// How many lines were at fault.
+    /// Returns the number of lines with faults.
     pub fn faults(&self) -> u64 {
         self.reporter.faults()
     }
 
-    /// The line after the last one that was answered: where a line ends the run, that one.
+    /// Returns the number of the line after the last one executed: if a line ends the run, that line.
     pub fn next_line(&self) -> u64 {
         self.lines.saturating_add(1)
     }

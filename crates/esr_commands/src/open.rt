@@ -12,7 +12,7 @@ pub fn open_file<R: Files>(rt: &R, path: &str) -> Result<R::File, &'static str> 
     }
 }
 
-/// Why a file cannot be opened.
+/// Returns the reason why a file cannot be opened.
 fn why(error: io::Error) -> &'static str {
     match error.kind() {
         io::ErrorKind::NotFound => "no such file",

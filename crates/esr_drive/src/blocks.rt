@@ -41,7 +41,7 @@ fn sessions_for<N: Naming>(
     engine.open_sessions(blocks)
 }
 
-/// Each session with its block.
+/// Pairs each session with its block.
 fn tasks_of<'a, 't, N: Naming>(
     alloc: Global,
     blocks: &'a [Vec<Call<'t>>],

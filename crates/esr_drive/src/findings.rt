@@ -17,7 +17,7 @@ use esr_plan::{BegunNames, push_summaries};
 use std::alloc::{AllocError, Global};
 use std::thread::Threads;
 
-/// Whether no query has committed.
+/// Returns whether no query has committed.
 fn is_without_queries(alloc: Global, history: &History<Weighted>) -> Result<bool, AllocError>
     ensures { IfOk result (λ none. none ≡ true → committed_queries history.now.schedule ≡ []) }
 {

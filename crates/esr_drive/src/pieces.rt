@@ -14,7 +14,7 @@ use std::alloc::{AllocError, Global};
 use std::thread;
 use std::thread::Threads;
 
-/// The lines of the block at a place.
+/// Returns the lines of the block at a place.
 fn piece_at(
     alloc: Global,
     names: &BegunNames<'_>,
@@ -36,7 +36,7 @@ fn piece_at(
     )
 }
 
-/// The lines of each block.
+/// Returns the lines of each block.
 fn pieces_of<R: Threads + Sync>(
     rt: &R,
     alloc: Global,

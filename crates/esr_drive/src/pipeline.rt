@@ -64,7 +64,7 @@ pub fn drive<R: Threads + Wait + Sync, I: Read, O: Write, G: Gate + Sync, V: Obs
     writer.send_all(&out).map_err(|_| DriveFault::Write)
 }
 
-/// The text of the file.
+/// Returns the output for the bytes of a file.
 fn text_in<R: Threads + Wait + Sync, G: Gate + Sync, V: Observer>(
     rt: &R,
     alloc: Global,
@@ -135,7 +135,7 @@ fn run_plan<R: Threads + Wait + Sync, G: Gate + Sync>(
     )
 }
 
-/// The text of what the blocks of a plan left, in the form that is asked for.
+/// Returns the text of the blocks' results, in the requested form.
 fn text_from<R: Threads + Sync>(
     rt: &R,
     alloc: Global,
@@ -158,7 +158,7 @@ fn text_from<R: Threads + Sync>(
     }
 }
 
-/// The history that the blocks of a plan left, as a script.
+/// Returns the history of the blocks as a script.
 fn script_from(
     alloc: Global,
     drive_plan: &DrivePlan<'_>,
@@ -177,7 +177,7 @@ fn script_from(
     named_script(alloc, &drive_plan.names, &names, &driven.history)
 }
 
-/// The answers of the blocks of a plan, what is found of each query, and the totals.
+/// Returns the replies of the blocks, the finding of each query, and the totals.
 fn answers_from<R: Threads + Sync>(
     rt: &R,
     alloc: Global,

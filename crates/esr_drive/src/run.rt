@@ -108,7 +108,7 @@ fn touched_capacity(alloc: Global, replies: usize) -> Result<Vec<Reply>, AllocEr
     Ok(fits)
 }
 
-/// The last replies to the calls.
+/// Makes the calls, and returns the last replies to them.
 fn call_all<N: Naming, R: Wait>(
     rt: &R,
     alloc: Global,

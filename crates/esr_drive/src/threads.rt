@@ -115,7 +115,7 @@ fn confirm<N: Naming>(fault: DriveFault, sessions: &[Session<Weighted, N>]) -> D
     }
 }
 
-/// Whether there are as many receipts as a history may have entries.
+/// Returns whether the number of receipts is the capacity of a history.
 fn is_full<N: Naming>(sessions: &[Session<Weighted, N>]) -> bool
     ensures { result ≡ (count_in sessions.now == MAX_ENTRIES) }
 {

@@ -12,8 +12,8 @@ use esr_items::Weighted;
 use esr_report::TransactionNames;
 use std::alloc::{AllocError, Global};
 
-/// The script of a history, by these names of its items and of its transactions, in the order of their numbers. It gives
-/// again what was accepted or blocked.
+/// Returns the script of a history, by these names of its items and of its transactions, in the order of their
+/// numbers. A run recreates the accepted and blocked entries.
 #[tactic(auto, using(crate::proofs::Names::few_begun))]
 pub fn named_script<I: TransactionNames, T: TransactionNames>(
     alloc: Global,

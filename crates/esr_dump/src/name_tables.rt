@@ -113,7 +113,7 @@ fn first_names<'a, N: TransactionNames>(
     Ok(words)
 }
 
-/// A table of these names, where lines spell them and none comes twice; else of the word with numbers from a first one
+/// Returns a table of these names, if they are valid and distinct; otherwise of the word with numbers from `first`
 /// on.
 #[tactic(auto, using(crate::proofs::Names::spelled_some, crate::proofs::Names::spelled_none))]
 fn names_for_lines(

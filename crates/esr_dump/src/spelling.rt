@@ -11,7 +11,7 @@ use esr_items::{ItemId, Metric, Weighted};
 use esr_report::{Names, item_line, name_of_transaction, push_line, weighted_item_line};
 use std::alloc::{AllocError, Global};
 
-/// The name of an item.
+/// Returns the name of an item.
 fn name_of_item(items: &Names, x: ItemId) -> &str
     ensures { result.now ≡ name_of_item items.now x.0 }
 {
@@ -21,7 +21,7 @@ fn name_of_item(items: &Names, x: ItemId) -> &str
     }
 }
 
-/// How often a difference of an item counts.
+/// Returns the weight of an item.
 fn weight(metric: &Weighted, x: ItemId) -> u64
     ensures { result ≡ weight_of metric.now x.0 }
 {
@@ -82,7 +82,7 @@ fn is_kept(reply: Reply) -> bool
     }
 }
 
-/// The number that a begin was given.
+/// Returns the number that a begin got.
 fn number_begun(reply: Reply) -> TxnId
     ensures { result.0 ≡ number_begun reply }
 {
@@ -185,7 +185,7 @@ fn push_entries(
     Ok(())
 }
 
-/// The lines of a history, with these names.
+/// Returns the lines of a history, with these names.
 fn whole(
     alloc: Global,
     items: &Names,

@@ -24,7 +24,7 @@ fn put_all(values: &mut Vec<i64>, accesses: &[Access])
     }
 }
 
-/// The values of the items after these updates, run one after another from the opening values.
+/// Returns the values of the items after these updates, run one after another from the opening values.
 pub fn values_after(
     alloc: Global,
     history: &History<Weighted>,

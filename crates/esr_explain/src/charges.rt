@@ -44,7 +44,7 @@ pub struct Charge {
     pub export_limit: u64,
 }
 
-/// The name of an item.
+/// Returns the name of an item.
 pub fn name_of_item(items: &Names, x: ItemId) -> &str
     ensures { result.now ≡ name_of_item items.now x.0 }
 {
@@ -54,7 +54,7 @@ pub fn name_of_item(items: &Names, x: ItemId) -> &str
     }
 }
 
-/// The words that begin the line of a charge.
+/// Returns the first words of the line of a charge.
 fn verb(operation: Operation) -> &'static str
     ensures { result.now ≡ verb operation }
 {
@@ -64,7 +64,7 @@ fn verb(operation: Operation) -> &'static str
     }
 }
 
-/// The limit of a transaction.
+/// Returns the limit of a transaction.
 fn limit(history: &History<Weighted>, t: TxnId) -> u64
     ensures { result ≡ limit_of (accepted_in history.now.schedule) t.0 }
 {
@@ -126,7 +126,7 @@ fn charge_line(
     named_charge_line(out, verb(charge.meeting.operation), update, item, charge)
 }
 
-/// Where an event meets an update, of a machine that is to answer it.
+/// Returns the update that an event meets, if a machine is about to execute it.
 fn met_by(machine: &Machine<WeightedRef<'_>>, event: Event) -> Option<Meeting>
     ensures { result ≡ meeting machine.now event }
 {

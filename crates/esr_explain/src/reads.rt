@@ -13,7 +13,7 @@ use esr_order::{Access, accesses_of};
 use esr_report::{Names, push_line};
 use std::alloc::{AllocError, Global};
 
-/// The value of an item among the values of all.
+/// Returns the value of an item among the values of all.
 fn value_of(values: &[i64], x: ItemId) -> i64
     ensures { result ≡ value_at values.now x.0 }
 {

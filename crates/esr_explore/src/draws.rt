@@ -21,7 +21,7 @@ impl Draws {
     }
 }
 
-/// The block of the line with this number, among the lines that are left.
+/// Returns the block of the line with this number, among the lines that are left.
 fn block_of(left: &[u32], line: u64) -> Option<usize>
     ensures block { IfSome result (λ block. (block < length left.now) × (0 < slice_index_or left.now block 0)) }
     ensures none { IfNone result (sum left.now ≤ line) }
@@ -37,7 +37,7 @@ fn block_of(left: &[u32], line: u64) -> Option<usize>
     None
 }
 
-/// How many lines there are.
+/// Returns the number of lines.
 fn sum_of(counts: &[u32]) -> u64
     requires { length counts.now ≤ 256 }
     ensures { result ≡ sum counts.now }

@@ -9,7 +9,7 @@ pub enum Measure {
 }
 
 impl Measure {
-    /// The measure of that name.
+    /// Returns the measure with a name.
     pub fn of_name(name: &str) -> Option<Measure> {
         match name {
             "import" => Some(Measure::Import),

@@ -78,7 +78,7 @@ fn all_outcomes(
     Ok(outcomes)
 }
 
-/// How often the lines of each block were blocked.
+/// Returns, for each block, the number of times that its lines were blocked.
 fn count_blocked(alloc: Global, runners: &[Runner]) -> Result<Vec<u64>, AllocError>
     ensures { IfOk result (λ v. v.items ≡ map (λ r. r.blocked) runners.now) }
 {

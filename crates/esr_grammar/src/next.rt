@@ -22,7 +22,7 @@ fn find_line_feed(bytes: &[u8]) -> Option<usize>
     memchr(b'\n', bytes)
 }
 
-/// The count of bytes before the first line feed.
+/// Returns the number of bytes before the first line feed.
 #[tactic(auto, using(crate::proofs::Prefix::none_is_length))]
 fn line_len(bytes: &[u8]) -> usize
     ensures { result ≡ line_len bytes.now }
@@ -33,7 +33,7 @@ fn line_len(bytes: &[u8]) -> usize
     }
 }
 
-/// A whole line is next only where the bytes end it.
+/// Returns the next line; a whole line only if its line feed is in the buffer.
 pub fn next_line(bytes: &[u8]) -> Next
     ensures { IsNext result bytes.now }
 {

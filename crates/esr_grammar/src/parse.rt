@@ -76,7 +76,7 @@ pub enum Parsed<'a> {
     Command(Line<'a>),
 }
 
-/// Whether a line is empty or a comment.
+/// Returns whether a line is empty or a comment.
 fn is_skipped(line: &[u8]) -> bool
     ensures { result ≡ is_skipped line.now }
 {
@@ -203,7 +203,7 @@ fn totals(words: Option<&[u8]>) -> Option<Line<'static>>
     }
 }
 
-/// The command that the words of the line spell.
+/// Parses a line word by word.
 #[cold]
 #[inline(never)]
 fn by_words(line: &[u8]) -> Option<Line<'_>>
@@ -227,7 +227,7 @@ fn by_words(line: &[u8]) -> Option<Line<'_>>
     }
 }
 
-/// The command that the line spells.
+/// Parses a line as a command.
 #[inline(always)]
 fn command(line: &[u8]) -> Option<Line<'_>>
     ensures { option_map view result ≡ reading line.now }
@@ -238,7 +238,7 @@ fn command(line: &[u8]) -> Option<Line<'_>>
     }
 }
 
-/// What the line is. Allocates nothing.
+/// Parses a line. Allocates nothing.
 pub fn parse_line(line: &[u8]) -> Parsed<'_>
     // Skipped exactly for a skipped line, a command exactly where the line spells it.
     ensures skipped { (result ≡ Parsed.Skipped) ↔ IsTrue (is_skipped line.now) }

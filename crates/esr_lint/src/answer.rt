@@ -54,7 +54,7 @@ pub fn mistake_of<'a>(line: &'a [u8], answer: &'a [u8]) -> Option<FaultyLine<'a>
     fault_of(line, answer)
 }
 
-/// What is meant by the number of an error or a refusal, where its words leave something open.
+/// Returns an explanation of an error or a refusal, if its own text is incomplete.
 fn hint_of(answer: &[u8]) -> &'static str {
     if answer.starts_with(b"error 2 ") {
         ": items must be declared before all other lines"

@@ -14,7 +14,7 @@ pub enum Slot {
     Strict,
 }
 
-/// A command's first word, the words that follow, and its syntax as text.
+/// A command's first word, its other words, and its syntax as text.
 #[derive(Clone, Copy)]
 pub struct CommandSyntax {
     pub word: &'static str,
@@ -69,7 +69,7 @@ static WORDS: [&str; 8] = [
     "item", "begin", "read", "write", "commit", "abort", "audit", "totals",
 ];
 
-/// The form of the command that begins with the word.
+/// Returns the form of the command that begins with the word.
 pub fn form_of(word: &[u8]) -> Option<CommandSyntax> {
     for form in &FORMS {
         if form.word.as_bytes() == word {
@@ -79,7 +79,7 @@ pub fn form_of(word: &[u8]) -> Option<CommandSyntax> {
     None
 }
 
-/// The first words of all commands.
+/// Returns the first words of all commands.
 pub fn first_words() -> &'static [&'static str] {
     &WORDS
 }

@@ -62,12 +62,12 @@ impl<'a, W: Write> Listing<'a, W> {
         self.note(listed);
     }
 
-    /// How much was listed.
+    /// Returns the number of listed items.
     pub fn count(&self) -> u64 {
         self.count
     }
 
-    /// The line after the last one that was answered.
+    /// Returns the number of the line after the last one executed.
     pub fn next_line(&self) -> u64 {
         self.lines.saturating_add(1)
     }

@@ -17,14 +17,15 @@ pub struct TxnSummary {
 
 /// Looks on while the lines of a script are answered. Nothing is promised of it but that it returns.
 pub trait Observer {
-    /// A line by its number, from 1, without its line feed, and what is answered: nothing to a line that is skipped.
+    /// Receives a line with its number, from 1, without its line feed, and the reply: empty for a line that is
+    /// skipped.
     fn see_line(&mut self, number: u64, line: &[u8], answer: &[u8]);
 
     /// Receives a transaction after the last line, in the order of the begins. They are shown before a text of the
     /// whole script is made, if a query that was asked for is not a committed one, and at the end of a listing.
     fn see_transaction(&mut self, name: &str, status: TxnSummary);
 
-    /// No more lines come. What the script leads to is not written yet.
+    /// Ends the lines. The final state of the script is not written yet.
     fn see_end(&mut self);
 }
 

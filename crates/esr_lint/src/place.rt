@@ -7,7 +7,7 @@ use std::fmt;
 pub struct Source<'a>(pub Option<&'a str>);
 
 impl<'a> Source<'a> {
-    /// A line of it.
+    /// Returns the place of a line in the source.
     pub fn line(self, line: u64) -> Place<'a> {
         Place { source: self, line }
     }

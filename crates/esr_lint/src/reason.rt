@@ -69,7 +69,7 @@ fn encoding_fault(line: &[u8]) -> Option<Reason<'_>> {
     }
 }
 
-/// What is wrong with the blanks between words.
+/// Returns the fault of the spaces between words.
 fn space_fault(line: &[u8]) -> Option<Diagnosis<'_>> {
     let mut before = b' ';
     let mut column = 1usize;
@@ -95,7 +95,7 @@ fn space_fault(line: &[u8]) -> Option<Diagnosis<'_>> {
     None
 }
 
-/// What is wrong with the bytes of a line, whatever its words are.
+/// Returns the fault of the bytes of a line, whatever its words are.
 fn byte_fault(line: &[u8]) -> Option<Diagnosis<'_>> {
     if let Some(reason) = encoding_fault(line) {
         return Some(Diagnosis { column: 1, reason });
@@ -110,7 +110,7 @@ fn byte_fault(line: &[u8]) -> Option<Diagnosis<'_>> {
     odd_byte(line)
 }
 
-/// The first byte that no command has.
+/// Returns the first byte that no command contains.
 fn odd_byte(line: &[u8]) -> Option<Diagnosis<'_>> {
     let mut column = 1usize;
     for byte in line {
@@ -130,7 +130,7 @@ fn odd_byte(line: &[u8]) -> Option<Diagnosis<'_>> {
     None
 }
 
-/// What is wrong with a name.
+/// Returns the fault of a name.
 fn name_fault(word: &[u8]) -> Option<Reason<'_>> {
     let first = *word.first()?;
     if !first.is_ascii_alphabetic() {
@@ -170,7 +170,7 @@ fn digits_fault(digits: &[u8], most: usize) -> Option<NumberFault> {
     }
 }
 
-/// What is wrong with a value.
+/// Returns the fault of a value.
 fn value_fault(word: &[u8]) -> Option<NumberFault> {
     match word {
         [b'+', ..] => Some(NumberFault::Plus),
@@ -180,7 +180,7 @@ fn value_fault(word: &[u8]) -> Option<NumberFault> {
     }
 }
 
-/// What is wrong with a limit.
+/// Returns the fault of a limit.
 fn limit_fault(word: &[u8]) -> Option<NumberFault> {
     match word {
         [b'+', ..] => Some(NumberFault::Plus),
@@ -267,7 +267,7 @@ fn words_fault<'a>(words: &'a [u8], form: CommandSyntax) -> Diagnosis<'a> {
     }
 }
 
-/// Returns the fault of the words of a line.
+/// Returns the first fault of a line, word by word.
 fn line_fault(line: &[u8]) -> Diagnosis<'_> {
     let end = line.iter().position(|b| *b == b' ').unwrap_or(line.len());
     let word = line.get(..end).unwrap_or(line);
@@ -382,7 +382,7 @@ fn push_hint<W: fmt::Write>(
     }
 }
 
-/// What is wrong with a name, or with a word that has to be one of some.
+/// Writes the fault of a name, or of a keyword.
 fn push_word<W: fmt::Write>(f: &mut fmt::Formatter<W>, reason: Reason<'_>) -> fmt::Result {
     match reason {
         Reason::UnknownCommand(word) => {

@@ -64,7 +64,7 @@ pub enum Call<'a> {
 }
 
 impl<'a> Call<'a> {
-    /// The name of the transaction that the call begins.
+    /// Returns the name of the transaction that the call begins.
     pub fn new_name(&self) -> Option<&'a str>
         ensures { option_map (λ name. name.now) result ≡ new_name (command_of self.now) }
     {
@@ -74,7 +74,7 @@ impl<'a> Call<'a> {
         }
     }
 
-    /// The transaction that the call names, where it begins none.
+    /// Returns the transaction that the call names, if the call is not a begin.
     pub fn caller(&self) -> Option<Caller<'a>>
         ensures { result ≡ caller_of self.now }
     {
@@ -87,7 +87,7 @@ impl<'a> Call<'a> {
         }
     }
 
-    /// The item that the call names.
+    /// Returns the item that the call names.
     pub fn operand(&self) -> Option<Operand<'a>>
         ensures { result ≡ operand_of self.now }
     {
@@ -98,7 +98,7 @@ impl<'a> Call<'a> {
         }
     }
 
-    /// What the call names.
+    /// Returns the names in the call.
     pub fn subject(&self) -> ReplyNames<'a>
         ensures { named_by result ≡ subject_of (command_of self.now) }
     {
@@ -131,7 +131,7 @@ impl<'a> Call<'a> {
     }
 }
 
-/// The number that the reply gives a transaction.
+/// Returns the number that a begin got, from its reply.
 pub fn number_in(reply: Reply) -> Option<u32>
     ensures { result ≡ number_in reply }
 {
@@ -154,7 +154,7 @@ fn transaction(replies: &[Reply], caller: Caller<'_>) -> TxnId
     TxnId(number_in(*reply).unwrap_or(0))
 }
 
-/// The event that begins a transaction of the kind.
+/// Returns the event that begins a transaction of the kind.
 fn begin_event(kind: BeginKind, limit: u64) -> Event
     ensures { result ≡ begin_event kind limit }
 {
@@ -171,7 +171,7 @@ fn begin_event(kind: BeginKind, limit: u64) -> Event
     }
 }
 
-/// The event of a call, by the last replies to the calls of its block before it.
+/// Returns the event of a call, given the last replies to the calls of its block before it.
 pub fn event_of(replies: &[Reply], call: Call<'_>) -> Event
     ensures { result ≡ event_by replies.now call.entry }
 {

@@ -56,7 +56,7 @@ pub enum PlanError {
     NoMemory,
 }
 
-/// The weight that an item is given, if it may have it.
+/// Checks the weight of an item.
 fn weight_of(given: Option<u64>) -> Result<Option<u32>, PlanError>
     ensures ok { IfOk result (λ weight. (weight ≡ given) × (is_weight (weight_in given) ≡ true)) }
     ensures err { IfErr result (λ e. (e ≡ PlanError.Line 8) × (is_weight (weight_in given) ≡ false)) }
@@ -138,7 +138,7 @@ impl<'a> Draft<'a> {
         Ok(())
     }
 
-    /// The place in the open block of the line that begins the transaction with this name.
+    /// Returns the place in the open block of the line that begins the transaction with this name.
     fn place_of(&self, name: &str) -> Option<usize>
         requires { IsSound self.now }
         ensures { result ≡ place_of (current_calls self.now) name.now }
@@ -150,7 +150,7 @@ impl<'a> Draft<'a> {
         self.places.get(number).copied()
     }
 
-    /// The last call of the open block.
+    /// Returns the last call of the open block.
     fn last_call(&self) -> Option<&Call<'a>>
         ensures { option_copied result ≡ slice_get (current_calls self.now) (length (current_calls self.now) - 1) }
     {
@@ -160,7 +160,7 @@ impl<'a> Draft<'a> {
         }
     }
 
-    /// The transaction that the line before names, where it begins none.
+    /// Returns the transaction that the previous line names, if that is not a begin.
     fn last_caller(&self) -> Option<Caller<'a>>
         requires { IsSound self.now }
         ensures { IfSome result (IsCaller (current_calls self.now)) }
@@ -168,7 +168,7 @@ impl<'a> Draft<'a> {
         self.last_call()?.caller()
     }
 
-    /// The item that the line before names.
+    /// Returns the item that the previous line names.
     #[tactic(auto, using(crate::proofs::Placing::last_operand))]
     fn last_operand(&self) -> Option<Operand<'a>>
         requires { IsSound self.now }
@@ -177,7 +177,7 @@ impl<'a> Draft<'a> {
         self.last_call()?.operand()
     }
 
-    /// The transaction that a line names.
+    /// Returns the transaction that a line names.
     fn caller(&self, name: &'a str) -> Caller<'a>
         requires { IsSound self.now }
         ensures name { result.name.now ≡ name.entry.now }
@@ -190,7 +190,7 @@ impl<'a> Draft<'a> {
         Caller { name, begin }
     }
 
-    /// The item that a line names.
+    /// Returns the item that a line names.
     fn operand(&self, name: &'a str) -> Operand<'a>
         requires { IsSound self.now }
         ensures name { result.name.now ≡ name.entry.now }
@@ -203,7 +203,7 @@ impl<'a> Draft<'a> {
         Operand { name, item }
     }
 
-    /// The number that an item's name stands for.
+    /// Returns the number of an item's name.
     fn item_of(&self, name: &str) -> ItemId
         ensures { result ≡ item_called self.now.names name.now }
     {
@@ -325,7 +325,7 @@ impl<'a> Draft<'a> {
     }
 }
 
-/// The plan of the lines.
+/// Returns the plan of the lines.
 pub fn draft_of<'a>(alloc: Global, bytes: &'a [u8]) -> Result<Draft<'a>, DriveFault>
     requires { length (lines bytes.now) ≤ MAX_LINES }
     ensures ok { IfOk result (λ d. IsSound d × (plan_from 1 nothing (lines bytes.entry.now) ≡ Ok (plan_in d))) }

@@ -22,7 +22,7 @@ fn find_line_feed(bytes: &[u8]) -> Option<usize>
     bytes.iter().position(|b| *b == b'\n')
 }
 
-/// The first line, and what follows its line feed.
+/// Returns the first line, and the bytes after its line feed.
 #[tactic(auto, using(crate::proofs::Cuts::at_feed, crate::proofs::Cuts::shorter))]
 pub fn first_line(bytes: &[u8]) -> Option<(&[u8], &[u8])>
     ensures { MatchOption result (bytes.now ≡ []) (λ p. (lines bytes.now ≡ p.0.now ∷ lines p.1.now)

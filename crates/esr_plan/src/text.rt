@@ -18,7 +18,7 @@ use esr_report::{
 };
 use std::alloc::{AllocError, Global};
 
-/// The name at a place.
+/// Returns the name at a place.
 fn name_at(names: &Names, place: usize) -> &str
     requires { place < MAX_ITEMS }
     ensures { result.now ≡ slice_index_or names.now place [] }
@@ -93,7 +93,7 @@ fn push_replies(
     Ok(())
 }
 
-/// The lines of the block of this number.
+/// Returns the lines of the block with this number.
 pub fn block_text(
     alloc: Global,
     names: &BegunNames<'_>,

@@ -148,7 +148,7 @@ fn wrote_line(out: &mut Vec<u8>, txn: &str, item: &str, value: i64) -> Result<()
     push_line(out, "wrote", &[txn, item, digits.format(value)])
 }
 
-/// The name of a transaction, whose number is one more than its name's position.
+/// Returns the name of a transaction, whose number is one more than its name's position.
 pub fn name_of_transaction<N: TransactionNames>(names: &N, txn: TxnId) -> &str
     ensures { result.now ≡ name_of_transaction (N.names names.now) txn.0 }
 {

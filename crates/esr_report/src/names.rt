@@ -52,7 +52,7 @@ impl Names {
         }
     }
 
-    /// How many names are bound.
+    /// Returns the number of bound names.
     pub fn len(&self) -> usize
         ensures len { result ≡ length self.now }
         ensures most { result ≤ 2 ^ 32 }
@@ -76,7 +76,7 @@ impl Names {
         }
     }
 
-    /// The name at the position.
+    /// Returns the name at the position.
     pub fn name_of(&self, number: u32) -> Option<&str>
         ensures { option_map (λ name. name.now) result ≡ slice_get self.now number }
     {

@@ -21,7 +21,7 @@ use std::alloc::Global;
 use std::io::{Read, Write};
 use std::thread::Threads;
 
-/// The output.
+/// Runs a script and returns the output of its audit.
 #[tactic(auto, using(crate::proofs::Handed::handed_on))]
 fn prepare<T: Threads + Sync, R: Read, G: Gate + Sync, O: Observer>(
     rt: &T,

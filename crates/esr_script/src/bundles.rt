@@ -24,7 +24,7 @@ use esr_views::{AuditedQuery, QueryView};
 use std::alloc::{AllocError, Global};
 use std::io::{Read, Write};
 
-/// The bundle of a problem and a certificate, and a line feed.
+/// Returns the bundle of a problem and a certificate, and a line feed.
 fn line_of(
     alloc: Global,
     problem: &Problem,
@@ -93,7 +93,7 @@ pub fn certify<R: Read, W: Write, O: Observer>(
     )
 }
 
-/// Like [`certify`], but the certificate contains the count of augmentations.
+/// Writes a bundle like [`certify`], but its certificate contains the count of augmentations.
 pub fn certify_steps<R: Read, W: Write, O: Observer>(
     alloc: Global,
     reader: &mut Watched<R>,

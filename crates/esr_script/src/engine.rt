@@ -60,7 +60,7 @@ impl IndexedMachine {
         self.machine.step(event)
     }
 
-    /// The imports and exports together, and the number of entries.
+    /// Returns the imports and exports together, and the number of entries.
     pub fn totals(&self) -> Totals
         ensures import { result.import ≡ all_imports weighted self.now }
         ensures export { result.export ≡ all_exports weighted self.now }
@@ -69,21 +69,21 @@ impl IndexedMachine {
         self.machine.totals()
     }
 
-    /// The history so far.
+    /// Returns the history so far.
     pub fn history(&self) -> &History<Weighted>
         ensures { result.now.schedule ≡ self.now }
     {
         self.machine.history()
     }
 
-    /// The history.
+    /// Returns the history, and drops the rest.
     pub fn into_history(self) -> History<Weighted>
         ensures { result.schedule ≡ self }
     {
         self.machine.close()
     }
 
-    /// What the audit of a transaction finds.
+    /// Audits a transaction.
     pub fn audit(&mut self, alloc: Global, q: TxnId) -> Result<Finding, AuditError>
         ensures same { self.new ≡ self.old }
         ensures query { IfOk result (λ f. f.query ≡ q) }

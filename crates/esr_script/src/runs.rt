@@ -55,7 +55,7 @@ pub fn run<R: Read, W: Write, O: Observer>(
     ended
 }
 
-/// Whether the reader or the writer has failed.
+/// Returns whether the reader or the writer has failed.
 fn is_lost(ended: Result<(), RunFault>) -> bool
     ensures { result ≡ (is_read_fault ended || is_write_fault ended) }
 {

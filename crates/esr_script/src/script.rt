@@ -98,7 +98,7 @@ impl Script {
         }
     }
 
-    /// What is wrong with the declaration of an item, if something is.
+    /// Returns the error of an item's declaration, if it has one.
     fn item_error(&self, name: &str, value: i64, weight: u64) -> Option<LineError>
         ensures { result ≡ item_error self.now name.now value weight }
     {
@@ -359,7 +359,7 @@ impl Script {
         }
     }
 
-    /// The name of a transaction, and what became of it.
+    /// Returns the name of a transaction, and its status.
     fn transaction_at(&self, position: usize) -> Option<(&str, TxnSummary)> {
         let position = u32::try_from(position).ok()?;
         let name = self.transactions.name_of(position)?;
@@ -520,7 +520,7 @@ impl Script {
     }
 }
 
-/// A transaction alone is named.
+/// Returns the names for a reply that names a transaction alone.
 fn alone(txn: &str) -> ReplyNames<'_>
     ensures { named_by result ≡ record { txn = txn.now; item = []; value = pos 0 } }
 {
@@ -531,7 +531,7 @@ fn alone(txn: &str) -> ReplyNames<'_>
     }
 }
 
-/// The fault of a run of which the audit of a query ended so.
+/// Converts the error of a query's audit into a fault of the run.
 fn fault_of(error: AuditError) -> RunFault
     requires { error ≢ AuditError.WorkersOutOfRange }
     ensures query { (result ≡ RunFault.NotACommittedQuery) ↔ (error ≡ AuditError.NotACommittedQuery) }
@@ -544,7 +544,7 @@ fn fault_of(error: AuditError) -> RunFault
     }
 }
 
-/// The result of appending a line, as a fault of the run.
+/// Converts the result of appending a line into a fault of the run.
 fn line_or_fault(appended: Result<(), AllocError>) -> Result<(), RunFault>
     ensures ok { IsOk result ↔ IsOk appended }
     ensures faults { IfErr result (λ e. e ≡ RunFault.NoMemory) }

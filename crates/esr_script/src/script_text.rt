@@ -40,7 +40,7 @@ fn text_about<S: ScriptView>(
     }
 }
 
-/// The text of a survey of what a script leads to.
+/// Returns the text of a view of a script's final state.
 fn text_of<S: ScriptView>(
     alloc: Global,
     script: Script,
@@ -61,7 +61,7 @@ fn text_of<S: ScriptView>(
     }
 }
 
-/// The text of a survey of a script.
+/// Runs a script, and returns the text of a view of it.
 #[tactic(auto, using(crate::proofs::Handed::handed_on))]
 fn script_view_text<R: Read, S: ScriptView, O: Observer>(
     alloc: Global,

@@ -27,7 +27,7 @@ pub trait Sink {
 
     ghost has_failed: { Self → Bool };
 
-    /// Who reads what it takes.
+    /// Returns whether anyone reads the text.
     fn audience(&self) -> Audience
         ensures { result ≡ Audience.NoReader → contents self.now ≡ None };
 

@@ -51,7 +51,7 @@ pub enum Content<'a> {
     Nothing,
 }
 
-/// What a row has in a cell.
+/// Returns the content of a row's cell.
 pub fn content_of<'a>(cell: Cell, name: &'a str, row: &Row, span: LineSpan) -> Content<'a> {
     match cell {
         Cell::Number => Content::Number(u64::from(row.number.0)),

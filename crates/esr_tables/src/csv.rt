@@ -17,7 +17,7 @@ use esr_items::Weighted;
 use esr_report::{Names, name_of_transaction};
 use std::alloc::AllocError;
 
-/// The word for a kind.
+/// Returns the name of a kind.
 pub fn kind_word(kind: RowKind) -> &'static str
     ensures { result.now ≡ kind_word kind }
 {
@@ -28,7 +28,7 @@ pub fn kind_word(kind: RowKind) -> &'static str
     }
 }
 
-/// The word for an end.
+/// Returns the name of an end.
 pub fn end_word(end: RowEnd) -> &'static str
     ensures { result.now ≡ end_word end }
 {

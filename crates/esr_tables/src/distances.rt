@@ -50,7 +50,7 @@ fn push_next(distances: &mut Vec<Option<u64>>, next: Option<u64>) -> Result<(), 
     Ok(())
 }
 
-/// The distances of the transactions, the first that of transaction 1.
+/// Returns the distances of the transactions, starting with transaction 1.
 pub fn distances(alloc: Global, history: &History<Weighted>) -> Result<Vec<Option<u64>>, NoMemory>
     ensures { IfOk result (λ v. v.items ≡ map (distance_of weighted history.now.schedule)
         (range_with_len 1 (begun_count history.now.schedule.entries))) }
@@ -65,7 +65,7 @@ pub fn distances(alloc: Global, history: &History<Weighted>) -> Result<Vec<Optio
     Ok(distances)
 }
 
-/// The distance of a transaction that has begun.
+/// Returns the distance of a transaction that has begun.
 pub fn distance_at(distances: &[Option<u64>], t: TxnId) -> Option<u64>
     requires { 1 ≤ t.0 }
     ensures { (h : Schedule) → distances.now ≡ map (distance_of weighted h) (range_with_len 1 (begun_count h.entries))

@@ -61,7 +61,7 @@ fn replay(
     Ok(())
 }
 
-/// What the transactions of a machine exported, the first transaction 0, which there is not.
+/// Returns what the transactions of a machine exported, starting with the nonexistent transaction 0.
 fn exports_in(
     alloc: Global,
     machine: &Machine<WeightedRef<'_>>,
@@ -77,7 +77,7 @@ fn exports_in(
     Ok(exports)
 }
 
-/// Whether no transaction imported anything.
+/// Returns whether no transaction imported anything.
 fn imports_nothing(history: &History<Weighted>) -> bool
     ensures { result ≡ true → all_imports weighted history.now.schedule ≡ 0 }
 {

@@ -34,7 +34,7 @@ fn push_row(out: &mut String, name: &str, row: &Row, span: LineSpan) -> Result<(
     out.push_str("}\n")
 }
 
-/// A ledger as JSON.
+/// Returns a ledger as JSON.
 pub fn ledger_json(
     alloc: Global,
     transactions: &Names,

@@ -28,7 +28,7 @@ pub struct Ledger {
     pub format: Format,
 }
 
-/// A ledger as CSV.
+/// Returns a ledger as CSV.
 fn ledger_csv(
     alloc: Global,
     transactions: &Names,
@@ -61,7 +61,7 @@ pub fn history_ledger(
     ledger_csv(alloc, transactions, history, &columns, &spans)
 }
 
-/// The ledger of a script in this form.
+/// Returns the ledger of a script in this form.
 fn text_in(alloc: Global, recording: &Recording<'_>, format: Format) -> Result<Vec<u8>, AllocError>
     ensures { (s : ScriptState) → IsRecorded s recording.now → IfOk result (λ text. IsLedger format s text.items) }
 {

@@ -25,7 +25,7 @@ pub struct Spans(Vec<LineSpan>);
 
 const NOWHERE: LineSpan = LineSpan { first: 0, last: 0 };
 
-/// Whether a line was refused for another reason than a lock or a limit.
+/// Returns whether a line was refused for a reason other than a lock or a limit.
 fn is_mistaken(reply: Reply) -> bool {
     match reply {
         Reply::Refused(why) => !matches!(
@@ -37,7 +37,7 @@ fn is_mistaken(reply: Reply) -> bool {
 }
 
 impl Spans {
-    /// The span of a transaction.
+    /// Returns the span of a transaction.
     pub fn of(&self, t: TxnId) -> LineSpan
         ensures first { result.first ≡ first_of self.now t.0 }
         ensures last { result.last ≡ last_of self.now t.0 }
@@ -71,7 +71,7 @@ fn nowhere(alloc: Global, history: &History<Weighted>) -> Result<Spans, AllocErr
     Ok(Spans(vec![in alloc; NOWHERE; count]?))
 }
 
-/// The spans of the transactions of a script.
+/// Returns the spans of the transactions of a script.
 pub fn spans_of(alloc: Global, recording: &Recording<'_>) -> Result<Spans, AllocError> {
     let history = &recording.history;
     let mut spans = nowhere(alloc, history)?;

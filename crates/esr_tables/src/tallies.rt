@@ -35,7 +35,7 @@ const NONE: Tally = Tally {
     by_export: 0,
 };
 
-/// The number of the transaction that begins, if one does.
+/// Returns the number of the transaction that begins, if one does.
 fn begun_by(reply: Reply) -> Option<u32>
     ensures { result ≡ begun_by reply }
 {
@@ -45,7 +45,7 @@ fn begun_by(reply: Reply) -> Option<u32>
     }
 }
 
-/// The number of the transaction that a line is of; of an accepted begin the one that begins.
+/// Returns the number of a line's transaction; for an accepted begin, that of the transaction that begins.
 pub fn txn_of(event: Event, reply: Reply) -> Option<u32>
     ensures { result ≡ txn_of event reply }
 {
@@ -65,7 +65,7 @@ pub fn txn_of(event: Event, reply: Reply) -> Option<u32>
     }
 }
 
-/// The tally with one more answer.
+/// Returns the tally with one more reply.
 fn with_answer(tally: Tally, reply: Reply) -> Tally
     requires { IsCountable tally }
     ensures { result ≡ with_answer tally reply }

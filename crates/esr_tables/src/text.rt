@@ -17,13 +17,13 @@ fn is_of_words(cell: Cell) -> bool {
     matches!(cell, Cell::Name | Cell::Kind | Cell::End)
 }
 
-/// How many decimal digits a number has.
+/// Returns the number of a number's decimal digits.
 fn digits_of(number: u64) -> usize {
     let mut digits = itoa::Buffer::new();
     digits.format(number).len()
 }
 
-/// How wide a cell is.
+/// Returns the width of a cell.
 fn width_of(content: Content<'_>) -> usize {
     match content {
         Content::Number(number) => digits_of(number),
@@ -120,7 +120,7 @@ fn push_row(
     out.push_str("\n")
 }
 
-/// The widths of the columns of a ledger.
+/// Returns the widths of the columns of a ledger.
 fn widths_of(
     transactions: &Names,
     history: &History<Weighted>,
@@ -138,7 +138,7 @@ fn widths_of(
     widths
 }
 
-/// A ledger for people.
+/// Returns a ledger for people.
 pub fn ledger_text(
     alloc: Global,
     transactions: &Names,

@@ -95,7 +95,7 @@ fn order_of(alloc: Global, m: &Machine<Plain>, q: u32) -> Result<Order, OrderErr
     }
 }
 
-/// Whether the updates that wrote an item are these, with these values.
+/// Returns whether the updates that wrote an item are these, with these values.
 fn has_chain(order: &Order, x: u32, writers: &[u32], values: &[i64]) -> bool {
     match order.chain(ItemId(x)) {
         Some(links) => links.writers.as_slice() == writers && links.values.as_slice() == values,
@@ -103,7 +103,7 @@ fn has_chain(order: &Order, x: u32, writers: &[u32], values: &[i64]) -> bool {
     }
 }
 
-/// The order of a query, which has one.
+/// Returns the order of a query, which must have one.
 fn order_now(rt: &impl Abort, alloc: Global, m: &Machine<Plain>, q: u32) -> Order {
     let Ok(order) = order_of(alloc, m, q) else {
         panic!(rt; "an order")
@@ -111,18 +111,18 @@ fn order_now(rt: &impl Abort, alloc: Global, m: &Machine<Plain>, q: u32) -> Orde
     order
 }
 
-/// The order of a query in the history of these events, all of which are accepted.
+/// Returns the order of a query in the history of these events, all of which are accepted.
 fn order_in(rt: &impl Abort, alloc: Global, opening: &[i64], events: &[Asked], q: u32) -> Order {
     let m = play_machine(rt, alloc, opening, events);
     order_now(rt, alloc, &m, q)
 }
 
-/// Whether a transaction has no order.
+/// Returns whether a transaction has no order.
 fn is_without(alloc: Global, m: &Machine<Plain>, t: u32) -> bool {
     matches!(order_of(alloc, m, t), Err(OrderError::NotACommittedQuery))
 }
 
-/// Whether the events are accepted, and a transaction has no order then.
+/// Returns whether the events are accepted, and a transaction then has no order.
 fn has_none(alloc: Global, opening: &[i64], events: &[Asked], t: u32) -> bool {
     match machine_after(alloc, opening, events) {
         Some(m) => is_without(alloc, &m, t),
@@ -232,7 +232,7 @@ fn strict_report(rt: HostRuntime) {
     assert!(rt; has_must(&rt, rt.alloc(), &BEHIND_AN_UPDATE, 0));
 }
 
-/// A query, and ten updates of one item, each after the one before it.
+/// Returns the history of a query, and ten updates of one item, one after another.
 fn one_after_another(rt: &impl Abort, alloc: Global) -> Machine<Plain> {
     let mut m = play_machine(rt, alloc, &[0], &[Query(9)]);
     for u in 2..12u32 {
@@ -249,7 +249,7 @@ fn ten_updates_of_one_item(rt: HostRuntime) {
     check_line(&rt, &order_now(&rt, rt.alloc(), &m, 1));
 }
 
-/// That the order ties ten updates in one line.
+/// Checks that the order ties ten updates in one line.
 fn check_line(rt: &impl Abort, order: &Order) {
     let before = order.before();
     assert!(rt; before.len() == 9);

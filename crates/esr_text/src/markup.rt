@@ -10,14 +10,14 @@ ghost use Rattle.esr_text.specs.Markup.{Attributes, Closes, HasNo, IsMarkup, IsN
 
 use std::alloc::{AllocError, Global};
 
-/// Whether a byte may be in a name.
+/// Returns whether a byte may be in a name.
 fn is_name_byte(byte: u8) -> bool
     ensures { result ≡ true → IsNameByte byte }
 {
     matches!(byte, b'a'..=b'z' | b'A'..=b'Z' | b'0'..=b'9' | b'-')
 }
 
-/// Whether a text is a name.
+/// Returns whether a text is a name.
 fn is_name(text: &str) -> bool
     ensures { result ≡ true → IsName text.now }
 {
@@ -29,7 +29,7 @@ fn is_name(text: &str) -> bool
     !text.is_empty()
 }
 
-/// Whether no character of a text is that one, of ASCII.
+/// Returns whether no character of a text is that one, of ASCII.
 fn has_no(text: &str, mark: char) -> bool
     requires { mark < 128 }
     ensures { result ≡ true → HasNo mark text.now }
@@ -37,7 +37,7 @@ fn has_no(text: &str, mark: char) -> bool
     !text.contains(mark)
 }
 
-/// Whether a text has nothing that would have to be escaped.
+/// Returns whether a text has nothing that would have to be escaped.
 fn is_plain(text: &str) -> bool
     ensures { result ≡ true → IsPlain text.now }
 {
@@ -59,7 +59,7 @@ fn after_attribute(text: &str) -> Option<&str>
     }
 }
 
-/// Whether a text is attributes.
+/// Returns whether a text is attributes.
 pub fn is_attributes(text: &str) -> bool
     ensures { result ≡ true → Attributes text.now }
 {
@@ -73,7 +73,7 @@ pub fn is_attributes(text: &str) -> bool
     true
 }
 
-/// The name of the element that a tag begins with, if attributes follow it.
+/// Returns the name of the element at the start of a tag, if attributes follow it.
 fn element_of(tag: &str) -> Option<&str>
     ensures { IfSome result (λ name. (attributes : List ℕ) × (tag.now ≡ name.now ++ attributes) × IsName name.now × Attributes attributes) }
 {
@@ -89,14 +89,14 @@ fn element_of(tag: &str) -> Option<&str>
     }
 }
 
-/// The elements that are open around the innermost, if that has such a name.
+/// Returns the elements open around the innermost one, if that has this name.
 fn around<'a>(path: &'a str, name: &str) -> Option<&'a str>
     ensures { IfSome result (λ outer. path.now ≡ outer.now ++ (47 ∷ name.now)) }
 {
     path.strip_suffix(name)?.strip_suffix('/')
 }
 
-/// The elements that are open within one more.
+/// Returns the open elements after one more is opened within them.
 fn within(alloc: Global, path: &str, name: &str) -> Result<String, AllocError>
     ensures { IfOk result (λ inner. string_bytes inner ≡ path.now ++ (47 ∷ name.now)) }
 {

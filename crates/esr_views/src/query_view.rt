@@ -18,7 +18,7 @@ pub trait QueryView {
     /// Whether it is the text of the query of that name after a script.
     ghost IsTextOf: { Self → ScriptState → List ℕ → List ℕ → Type 0 };
 
-    /// The text of the query that was asked for. The answer may be used up for it.
+    /// Returns the text of the query. The audited query may be consumed.
     fn text_of(&self, alloc: Global, audited: &mut AuditedQuery) -> Result<Vec<u8>, AllocError>
         ensures { (s : ScriptState) (name : List ℕ) → IsAnswered s name audited.old
             → IfOk result (λ text. IsTextOf self.now s name text.items) };

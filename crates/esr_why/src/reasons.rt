@@ -46,7 +46,7 @@ impl Sought {
     }
 }
 
-/// The lock by which an update keeps an event back that comes next.
+/// Returns the lock by which an update blocks the next event.
 fn lock_of(replay: &Replay<'_>, event: Event, holder: TxnId) -> Lock
     requires { IsInRange event (length replay.now.opening) }
     ensures { result ≡ lock_in_way replay.now event holder.0 }
@@ -181,7 +181,7 @@ impl Reporter<'_> {
     }
 }
 
-/// Why the lines of a script were blocked, of those that are sought.
+/// Returns the reasons why the sought lines of a script were blocked.
 fn text_about(
     alloc: Global,
     recording: &Recording<'_>,
@@ -218,7 +218,7 @@ impl Why<'_> {
         Some(Sought::One(TxnId(position.saturating_add(1))))
     }
 
-    /// The text, of those that are sought.
+    /// Returns the text about the sought transactions.
     fn text(
         &self,
         alloc: Global,

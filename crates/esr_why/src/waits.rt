@@ -23,7 +23,7 @@ pub struct Wait {
     pub place: usize,
 }
 
-/// The transaction of an entry: of an accepted begin the one that begins, of a refused one none.
+/// Returns the transaction of an entry: for an accepted begin, the one that begins; for a refused begin, none.
 pub fn transaction_of(entry: Entry) -> Option<TxnId>
     ensures { option_map (λ t. t.0) result ≡ txn_in entry }
 {
@@ -46,7 +46,7 @@ pub fn transaction_of(entry: Entry) -> Option<TxnId>
     }
 }
 
-/// Whether each waits for the next, and the last for the first.
+/// Returns whether each waits for the next, and the last for the first.
 fn is_round(waits: &[Wait]) -> bool
     ensures { IsTrue result → map (λ w. w.holder) waits.now ≡ turned (map (λ w. w.txn) waits.now) }
 {
@@ -97,7 +97,7 @@ impl LastEntries {
         }
     }
 
-    /// The place of the last entry of a transaction.
+    /// Returns the place of the last entry of a transaction.
     fn place(&self, txn: TxnId) -> Option<usize>
         ensures { (es : List Entry) → AreLastEntries es self.now.places.items
             → IfSome result (λ place. last_place txn_in txn.0 es ≡ Some place) }
@@ -123,7 +123,7 @@ impl LastEntries {
         }
     }
 
-    /// Whether a walk from the entry at a place comes by a transaction for the first time.
+    /// Returns whether a walk from the entry at a place comes by a transaction for the first time.
     fn meets(&mut self, txn: TxnId, place: usize) -> bool
         ensures { self.new.places ≡ self.old.places }
     {

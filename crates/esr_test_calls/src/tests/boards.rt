@@ -5,7 +5,7 @@ use esr_board::{Board, BoardError, BoardSeat, ClaimsMissing};
 use std::alloc::Global;
 use std::process::Abort;
 
-/// A board of three jobs, and its two seats.
+/// Returns a board of three jobs, and its two seats.
 fn three_jobs(rt: &impl Abort, alloc: Global) -> (Board, BoardSeat, BoardSeat)
     ensures { IsSeatOf result.0 result.1 × IsSeatOf result.0 result.2 }
 {
@@ -23,7 +23,7 @@ fn three_jobs(rt: &impl Abort, alloc: Global) -> (Board, BoardSeat, BoardSeat)
     (board, first, second)
 }
 
-/// The next claim of a seat.
+/// Compares the next claim of a seat.
 fn claims(rt: &impl Abort, board: &Board, seat: &mut BoardSeat, job: Option<u64>)
     requires { IsSeatOf board.now seat.old }
     ensures { IsSeatOf board.now seat.new }
@@ -31,7 +31,7 @@ fn claims(rt: &impl Abort, board: &Board, seat: &mut BoardSeat, job: Option<u64>
     assert!(rt; board.claim(seat) == job);
 }
 
-/// The first seat claims two jobs, and the second the third.
+/// Lets the first seat claim two jobs, and the second seat the third.
 fn claim_three(rt: &impl Abort, alloc: Global) -> (Board, BoardSeat, BoardSeat)
     ensures { IsSeatOf result.0 result.1 × IsSeatOf result.0 result.2 }
 {

@@ -265,7 +265,7 @@ fn certificate(alloc: Global, parts: Parts) -> Result<Certificate, AllocError> {
     })
 }
 
-/// The certificate with its change.
+/// Returns the certificate with its change.
 fn change_certificate(
     alloc: Global,
     parts: Parts,

@@ -54,7 +54,7 @@ fn open(alloc: Global, value: i64) -> Result<Machine<Plain>, NoMemory> {
     }
 }
 
-/// Like [`open`], but retries once if an allocation fails.
+/// Opens a machine like [`open`], but retries once if an allocation fails.
 fn open_with_retry(rt: &impl Abort, alloc: Global, value: i64) -> Machine<Plain> {
     match open(alloc, value) {
         Ok(machine) => machine,

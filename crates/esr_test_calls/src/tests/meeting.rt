@@ -40,7 +40,7 @@ impl Meeting {
         }
     }
 
-    /// That each job came once, and job 0 was held until job 1 had come.
+    /// Checks that each job entered once, and that job 0 was held until job 1 had entered.
     pub fn check(&self, rt: &impl Abort) {
         assert!(rt; !self.gave_up.load(SeqCst), "no gate ran out of turns");
         assert!(rt;

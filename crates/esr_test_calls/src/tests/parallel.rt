@@ -61,7 +61,7 @@ const A_SECOND_REPORT: [Event; 3] = [
     Event::Commit { txn: TxnId(4) },
 ];
 
-/// A machine with the items a and b.
+/// Returns a machine with the items a and b.
 fn machine(rt: &impl Abort, alloc: Global) -> Machine<Plain> {
     let Ok(values) = [0i64, 0].to_vec(alloc) else {
         panic!(rt; "two values")
@@ -100,7 +100,7 @@ fn audit_by<G: Gate + Sync, R: Threads + Abort + Sync>(
     book
 }
 
-/// What there is to find of the first report.
+/// Returns whether a finding is that of the first report.
 fn is_of_the_first_report(found: &Finding) -> bool {
     found.query == TxnId(1)
         && found.distance == 1
@@ -108,14 +108,14 @@ fn is_of_the_first_report(found: &Finding) -> bool {
         && found.before.as_slice() == [TxnId(2), TxnId(3)].as_slice()
 }
 
-/// A machine that played the two updates over a report.
+/// Returns a machine that executed the two updates over a report.
 fn machine_after_report(rt: &impl Abort, alloc: Global) -> Machine<Plain> {
     let mut machine = machine(rt, alloc);
     run_events(rt, &mut machine, &TWO_UPDATES_OVER_A_REPORT);
     machine
 }
 
-/// Whether an audit finds the order of the updates, and this of the first report.
+/// Returns whether an audit finds the order of the updates, and the finding of the first report.
 fn is_of_two_updates(book: &Book) -> bool {
     book.order.as_slice() == [TxnId(2), TxnId(3)].as_slice()
         && book.findings.len() == 1

@@ -109,7 +109,7 @@ fn problem(alloc: Global, row: &Row) -> Option<Problem> {
     Problem::new(alloc, updates, before, chains, must).ok()
 }
 
-/// Whether a certificate has these amounts.
+/// Returns whether a certificate has these amounts.
 fn has_flow(certificate: &Certificate, flow: Flow) -> bool {
     for (row, amounts) in certificate.chain_flow.iter().zip(flow.chains.iter()) {
         if row.as_slice() != *amounts {
@@ -121,7 +121,7 @@ fn has_flow(certificate: &Certificate, flow: Flow) -> bool {
         && certificate.must_flow.as_slice() == flow.musts
 }
 
-/// Whether this is found of a row's problem.
+/// Returns whether a solution is that of a row's problem.
 fn is_found(solved: &Solved, row: &Row) -> bool {
     solved.certificate.set.as_slice() == row.set
         && solved.certificate.worth == row.worth

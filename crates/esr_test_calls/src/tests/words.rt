@@ -216,7 +216,7 @@ fn files() -> &'static [(Words, Option<&'static str>, bool)] {
     &FILES
 }
 
-/// Whether the words name this file, and ask so for `--bail`.
+/// Returns whether the arguments name this file, and contain `--bail` if `bail`.
 fn names_file(alloc: Global, words: Words, file: Option<&str>, bail: bool) -> bool {
     match job_of(alloc, words) {
         Ok(job) => job.file == file && job.bail == bail,

@@ -11,7 +11,7 @@ use rows::{BACK_FLOW, EMPTY, Row, STRICT, TWO_UPDATES, table};
 use std::alloc::{AllocError, Global};
 use std::process::Abort;
 
-/// The bundle of the row with its change.
+/// Returns the bundle of the row with its change.
 fn change_bundle(alloc: Global, row: &Row) -> Result<String, AllocError> {
     let (before, after) = match row.bundle.split_once(row.old) {
         Some(parts) => parts,
@@ -66,7 +66,7 @@ fn rewrite(alloc: Global, text: &str) -> Option<Vec<u8>> {
     to_json(alloc, &problem, &certificate).ok()
 }
 
-/// Whether a bundle is written as it was read.
+/// Returns whether a bundle is written as it was read.
 fn is_rewritten(alloc: Global, text: &str) -> bool {
     match rewrite(alloc, text) {
         Some(written) => written.as_slice() == text.as_bytes(),

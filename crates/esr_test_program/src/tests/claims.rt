@@ -37,7 +37,7 @@ const UNLIKE: &str =
 const CHANGED: &str =
     r#"{"certificate":{"back_flow":[0],"chain_flow":[[0,0,1],[1,0]],"set":[0,1],"worth":0},"problem":{"before":[[0,1]],"chains":[{"costs":[0,10,1],"item":0,"writers":[0,1]},{"costs":[8,0],"item":1,"writers":[1]}],"updates":[2,3]}}"#;
 
-/// The line about a bundle and a query that was asked for.
+/// Returns the line of the claim of a bundle about a query.
 fn line_of(
     alloc: Global,
     audited: &AuditedQuery,
@@ -48,7 +48,7 @@ fn line_of(
     claim.line(alloc, name)
 }
 
-/// Whether that line is this one.
+/// Returns whether that line is this one.
 fn is_line(alloc: Global, audited: &AuditedQuery, name: &str, bundle: &str, wanted: &str) -> bool {
     match line_of(alloc, audited, name, bundle) {
         Ok(line) => from_utf8(&line) == Ok(wanted),

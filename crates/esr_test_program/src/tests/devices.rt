@@ -89,14 +89,14 @@ pub fn narrow_until(alloc: Global, most: usize, left: usize, way: Way) -> Watche
     })
 }
 
-/// That a read has failed, no write has, and nothing was written.
+/// Checks that a read has failed, no write has, and nothing was written.
 pub fn check_cut(rt: &impl Abort, reader: &Watched<Cut<'_>>, writer: &Watched<Vec<u8>>) {
     assert!(rt; reader.failed());
     assert!(rt; !writer.failed());
     assert!(rt; writer.inner().is_empty());
 }
 
-/// That a run which ended well has written the whole text, and another one a part of it, since a write failed.
+/// Checks that a run that ended well has written the whole text, and another one a part of it, since a write failed.
 pub fn check_narrow(rt: &impl Abort, writer: &Watched<Narrow>, ended_well: bool, whole: &str) {
     let taken = writer.inner().taken.as_slice();
     assert!(rt; writer.failed() != ended_well);
@@ -104,7 +104,7 @@ pub fn check_narrow(rt: &impl Abort, writer: &Watched<Narrow>, ended_well: bool,
     assert!(rt; !ended_well || taken.len() == whole.len());
 }
 
-/// That this text was written.
+/// Checks that this text was written.
 pub fn check_written(rt: &impl Abort, writer: &Watched<Vec<u8>>, text: &str, name: &str) {
     assert!(rt;
         writer.inner().as_slice() == text.as_bytes(),

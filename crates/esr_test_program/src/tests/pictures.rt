@@ -202,7 +202,7 @@ fn add_update(script: &mut String, i: u32) -> Result<(), AllocError> {
     write!(script, "write u{i} b {i}\ncommit u{i}\n")
 }
 
-/// How often a text occurs in what is drawn.
+/// Returns the number of occurrences of a text in the picture.
 fn count(alloc: Global, script: &str, text: &str) -> usize {
     let mut reader = Watched::new(script.as_bytes());
     let mut writer = Watched::new(Vec::new(alloc));
@@ -284,7 +284,7 @@ fn writes_fail(rt: HostRuntime) {
     }
 }
 
-/// A writer that fails after `left` calls of three bytes has taken just the beginning of the picture.
+/// Checks that a writer that fails after `left` calls of three bytes has taken just the beginning of the picture.
 fn fails_after(rt: &impl Abort, alloc: Global, left: usize, whole: &[u8]) {
     let mut reader = Watched::new(BANK.as_bytes());
     let mut writer = narrow_until(alloc, 3, left, Way::Errs);

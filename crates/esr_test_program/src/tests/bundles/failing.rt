@@ -38,7 +38,7 @@ fn each_read_fails_in_turn(rt: HostRuntime) {
     }
 }
 
-/// Whether the verdict is written by a writer that fails at this call.
+/// Returns whether the verdict is written by a writer that fails at this call.
 fn is_written(rt: &impl Abort, alloc: Global, left: usize) -> bool {
     let mut reader = Watched::new(BACK_FLOW.as_bytes());
     let mut writer = narrow_until(alloc, 3, left, Way::TakesNone);

@@ -5,7 +5,7 @@ use esr_bundle::{JudgeFault, Verdict, judge};
 use esr_history::Watched;
 use std::alloc::Global;
 
-/// What is judged of the bytes.
+/// Returns the verdict on the bytes.
 fn verdict_on(alloc: Global, bytes: &[u8]) -> Result<Verdict, JudgeFault> {
     let mut reader = Watched::new(bytes);
     let mut writer = Watched::new(Vec::new(alloc));

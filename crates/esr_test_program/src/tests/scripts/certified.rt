@@ -208,7 +208,7 @@ fn each_read_fails_in_turn(rt: HostRuntime) {
     }
 }
 
-/// Whether the bundle is written by a writer that fails at this call.
+/// Returns whether the bundle is written by a writer that fails at this call.
 fn is_written(rt: &impl Abort, alloc: Global, left: usize, way: Way) -> bool {
     let mut reader = Watched::new(THIRD_ITEM.as_bytes());
     let mut writer = narrow_until(alloc, 3, left, way);

@@ -55,7 +55,7 @@ fn each_read_fails_in_turn(rt: HostRuntime) {
     }
 }
 
-/// Whether the run ends well over a writer that fails at this call.
+/// Returns whether the run ends well over a writer that fails at this call.
 fn is_written(rt: &impl Abort, alloc: Global, left: usize, way: Way) -> bool {
     let mut reader = Watched::new(SCRIPT.as_bytes());
     let mut writer = narrow_until(alloc, 3, left, way);
@@ -108,7 +108,7 @@ fn each_read_of_an_audit_fails_in_turn(rt: HostRuntime) {
     }
 }
 
-/// Whether the audit ends well over a writer that fails at this call.
+/// Returns whether the audit ends well over a writer that fails at this call.
 fn audit_is_written<R: Abort + Threads + Sync>(
     rt: &R,
     alloc: Global,
