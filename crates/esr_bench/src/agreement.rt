@@ -1,5 +1,5 @@
-//! Random problems: the certificate that begins with a draft of a flow is compared with the solver's, and what became of
-//! the drafts is counted.
+//! Random problems: compares the certificate found from a draft of a flow with the solver's, and counts the outcomes
+//! of the drafts.
 
 use crate::draws::Draws;
 use anyhow::{Result, anyhow};

@@ -71,7 +71,7 @@ fn measure_words<R: Input + Print + Eprint + Clock + Threads + Wait + Sync>(
     }
 }
 
-/// Reads the bundle on standard input, and measures what is asked for.
+/// Reads the bundle on standard input, and runs the requested measurement.
 fn measure_bundle(
     rt: &(impl Input + Print + Eprint + Clock),
     alloc: Global,
@@ -126,7 +126,7 @@ fn check_often(
     Ok(())
 }
 
-/// Solves the problem, says what was found, and how long it took.
+/// Solves the problem, and prints the result and the time.
 fn solve_once(rt: &(impl Print + Eprint + Clock), alloc: Global, problem: &Problem) -> Result<()> {
     let start = Instant::now(rt)?;
     match Network::build(alloc, problem) {
@@ -149,7 +149,7 @@ fn solve_network(
     }
 }
 
-/// Finds a certificate of the problem from a draft of a flow, and says what became of the draft, and how long it took.
+/// Finds a certificate of the problem from a draft of a flow, and prints the outcome of the draft and the time.
 fn audit_once(rt: &(impl Print + Eprint + Clock), alloc: Global, problem: &Problem) -> Result<()> {
     let start = Instant::now(rt)?;
     let Ok(network) = Network::build(alloc, problem) else {

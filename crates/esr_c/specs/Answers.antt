@@ -49,7 +49,7 @@ opened opening weights = record { opening = opening; weights = weights; entries 
 pub plain : (x : ℕ) (a b : ℤ) → weighted [] x a b ≡ gap a b
 plain x a b = one-mul (gap a b)
 
--- whom a refusal names
+-- the transaction that a refusal names
 abbrev pub named : Refusal → ℕ
 named (BlockedByLock t) = t.0
 named (BlockedByImport t) = t.0
@@ -79,7 +79,7 @@ IsTotal t h = (t.high * 2 ^ 64 + t.low ≡ all_imports weighted h) × (t.entries
 abbrev pub IsFinding : Schedule → ℕ → EsrFinding → List ℕ → Type 0
 IsFinding h q f before = IsAnswer weighted h q f.distance f.import before × (f.count ≡ length before)
 
--- the same, where they are at the head of a room
+-- a finding whose updates are at the start of a buffer
 abbrev pub IsFound : Schedule → ℕ → EsrFinding → List ℕ → Type 0
 IsFound h q f buffer = IsFinding h q f (take f.count buffer)
 
@@ -97,7 +97,7 @@ pub record IsBundleOf (h : Schedule) (q : ℕ) (bytes : List ℕ) : Type 0 where
   pub found : IsFindingOf weighted h q finding
   pub text : bytes ≡ bundle finding.problem (unreported (certificate_of finding.certificate))
 
--- such bytes are at the head of a room
+-- such bytes at the start of a buffer
 abbrev pub IsBundleIn : Schedule → ℕ → ℕ → List ℕ → Type 0
 IsBundleIn h q count buffer = IsBundleOf h q (take count buffer) × (count ≡ length (take count buffer))
 
@@ -105,11 +105,11 @@ IsBundleIn h q count buffer = IsBundleOf h q (take count buffer) × (count ≡ l
 abbrev pub IsBundleLong : Schedule → ℕ → ℕ → Type 0
 IsBundleLong h q count = (bytes : List ℕ) × IsBundleOf h q bytes × (count ≡ length bytes)
 
--- the committed values are at the head of a room
+-- the committed values at the start of a buffer
 abbrev pub AreValuesIn : Schedule → ℕ → List ℤ → Type 0
 AreValuesIn h count buffer = (take count buffer ≡ committed_values h) × (count ≡ length h.opening)
 
--- whatever the history of a renewed engine comes to be, it and the one before it are serializable as one
+-- the history before a renewal and every history after it are serializable as one
 pub record IsRenewed (h : Schedule) : Type 0 where
   pub as_one : (later : List Entry) → IsLegal weighted (along (renewed h h.weights) later)
       → AreSerializableAsOne h (along (renewed h h.weights) later)
@@ -171,7 +171,7 @@ pub record IsForUpdateCall (t : TxnId) (x : ItemId) (old new : Option Schedule) 
   pub err : status ≢ 0 → (after ≡ before) × IsPartly old new t x
   pub kept : status ≡ 12 → new ≡ old
 
--- how a transaction stands, and its account
+-- the status of a transaction, and its account
 abbrev pub txn_status_number : TxnStatus → ℕ
 txn_status_number txn_status.Active = 0
 txn_status_number txn_status.Committed = 4

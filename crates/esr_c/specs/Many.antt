@@ -35,7 +35,7 @@ IsOne h e g r =
 abbrev pub IsFullFor : Schedule → EsrEvent → Type 0
 IsFullFor h e = (event : Event) × (event_of e ≡ Some event) × (is_full h event ≡ true)
 
--- the history after an event that the machine has answered, and after several
+-- the history after an event that the machine has executed, and after several
 abbrev pub after_one : Schedule → Event → Schedule
 after_one h e = extended h e (reply_to weighted h e)
 

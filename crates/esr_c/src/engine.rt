@@ -30,7 +30,7 @@ pub struct EsrEngine {
     ghost agrees: { is_open ≡ is_some held.history },
 }
 
-/// Why a call of C is not answered, with the number of each reason; 0 is an answer.
+/// The status of a call from C, with the number of each failure; 0 is success.
 #[derive(Clone, Copy, PartialEq, Eq, Debug)]
 pub enum Status {
     Done = 0,

@@ -58,7 +58,7 @@ use verdict::show_verdict;
 
 /// Opens an engine over items with these values, if it is closed.
 ///
-/// 0, or 1 for more than 4,096 items, 2 for a value out of range, 13 where an allocation failed, 15 where the engine is
+/// 0, or 1 for more than 4,096 items, 2 for a value out of range, 13 if an allocation failed, 15 if the engine is
 /// open.
 #[unsafe(no_mangle)]
 pub extern "C" fn esr_open(alloc: Global, engine: &mut EsrEngine, opening: &[i64]) -> u32

@@ -45,7 +45,7 @@ turns_of_rest word s rest is =
     ap₂ (λ (k : Kinds) (w : Walk). or_else k (walk_fault shell.top (names_of shell) w rest)) is.fine is.met
     ∙ stopped_fault shell.top (names_of shell) start (word, []) rest
 
--- what is found of a walk that stopped there, of which the turns had these faults
+-- the faults of a walk that stopped there, whose turns had these faults
 abbrev found_of_walk : Walk → Kinds → Kinds
 found_of_walk w turns =
     or_else turns (or_else (entered_fault shell w.stopped) (or_else (settle_fault shell.top.rules shell.top.args_override_self w.held)

@@ -71,7 +71,7 @@ then_operand s w to word rest is free on fine leads =
 abbrev pub own_fault : Shape → List Text → Kinds
 own_fault s rest = level_fault s [] nothing_held rest false []
 
--- the same, where the words lead to this walk
+-- the fault of a subcommand whose arguments lead to this walk
 abbrev pub fault_at : Shape → Walk → Kinds
 fault_at s w = or_else (settle_fault s.rules s.args_override_self w.held)
     (or_else (defaults_fault (settled s.rules w.held).rows s.rules) (check_fault s (finished s.rules w.held) false))

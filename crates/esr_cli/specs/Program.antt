@@ -37,7 +37,7 @@ worst_rule = record (new_rule (codes "worst")) {
   defaults = codes "10" ∷ [];
 }
 
--- how many interleavings are tried, where not all are
+-- the number of interleavings, unless all are run
 abbrev pub seeds_rule : Rule
 seeds_rule = record (new_rule (codes "seeds")) {
   long = Some (codes "seeds");
@@ -82,7 +82,7 @@ query_rule = record (new_rule (codes "query")) { long = Some (codes "query"); va
 abbrev pub verbose_rule : Rule
 verbose_rule = record (new_rule (codes "verbose")) { long = Some (codes "verbose"); action = Some SetTrue }
 
--- the name of a transaction, which need not be given
+-- the optional name of a transaction
 abbrev pub of_rule : Rule
 of_rule = new_rule (codes "NAME")
 

@@ -24,7 +24,7 @@ use std::alloc::Global;
 /// The version of the program.
 pub const VERSION: &str = "0.3.0";
 
-/// What is done with the input.
+/// The task to run on the input.
 #[derive(Clone, Copy, PartialEq, Eq)]
 pub enum Task<'a> {
     /// Runs a script.
@@ -81,7 +81,7 @@ pub enum Task<'a> {
     Why {
         name: Option<&'a str>,
     },
-    /// Runs a script without writing its lines, and lists the lines at fault.
+    /// Runs a script without writing its lines, and lists the lines with faults.
     Lint,
 }
 
@@ -99,7 +99,7 @@ pub enum Format {
 /// When progress is shown on standard error.
 #[derive(Clone, Copy, PartialEq, Eq)]
 pub enum Progress {
-    /// Where standard error is a terminal.
+    /// If standard error is a terminal.
     AtATerminal,
     Always,
     Never,
@@ -111,7 +111,7 @@ pub struct Job<'a> {
     pub task: Task<'a>,
     /// The file to read: standard input if none is named, or if it is `-`.
     pub file: Option<&'a str>,
-    /// Whether a line at fault makes the status 1.
+    /// Whether a line with a fault makes the status 1.
     pub bail: bool,
     pub progress: Progress,
     /// The output format, or `None` if its name is unknown.
@@ -269,9 +269,8 @@ fn job_of<'a>(matches: &ArgMatches<'a>) -> Option<Job<'a>>
 
 /// Returns the job requested by the arguments, starting with the program's name.
 ///
-/// An error is help or the version that was asked for, a mistake in the words,
-/// or out of memory; its kind says which. Words that spell a job fail only if
-/// allocation fails.
+/// An error is help or the version on request, a mistake in the arguments, or out of memory; its kind says which.
+/// Parsing arguments that form a job fails only if an allocation fails.
 pub fn command<'a>(alloc: Global, words: &'a [&'a str]) -> Result<Job<'a>, Error>
     ensures job { IfOk result (λ job.
         request_in (subcommand_of program (texts words.entry.now)) ≡ Some (request_of job)) }

@@ -1,4 +1,4 @@
--- What a bundle shows of a query that a script was asked for.
+-- The claim of a bundle about an audited query of a script.
 use Rattle.std.specs.Prelude.{◌≡◌, ℕ, List, [], ◌∷◌, ◌++◌, codes, decimal, Some, None, Result, Ok, Err}
 use Rattle.esr_items.specs.Weights.{weighted}
 use Rattle.esr_cert.specs.Problem.{Problem}

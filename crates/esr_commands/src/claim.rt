@@ -19,7 +19,7 @@ use esr_cert::{BundleFault, Certificate, Problem, check};
 use esr_views::AuditedQuery;
 use std::alloc::{AllocError, Global};
 
-/// What a bundle shows of a query that a script was asked for.
+/// The claim of a bundle about an audited query of a script.
 #[derive(Clone, Copy)]
 pub enum BundleClaim {
     /// The certificate shows that this is the query's distance.

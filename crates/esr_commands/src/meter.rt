@@ -81,7 +81,7 @@ impl<R: Clock + Eprint> Gate for Meter<'_, R> {
     }
 }
 
-/// Tells the lines at fault, and shows how many were read.
+/// Reports the lines with faults, and shows the number of lines read.
 #[derive(Drop)]
 pub struct LineObserver<'a, 'm, 'r, R, E> {
     reporter: ErrorReporter<'a, E>,
@@ -125,7 +125,7 @@ impl<'a, 'm, 'r, R: Clock + Eprint, E: Eprint> LineObserver<'a, 'm, 'r, R, E> {
 impl<R: Clock + Eprint, E: Eprint> Observer for LineObserver<'_, '_, '_, R, E> {
     fn see_line(&mut self, number: u64, line: &[u8], answer: &[u8]) {
         self.lines = number;
-        // The teller is given a line at fault alone, so that each answer is looked at once.
+        // The reporter gets only lines with faults, so that each reply is inspected once.
         if is_error(answer) {
             self.meter.clear();
             self.reporter.see_line(number, line, answer);

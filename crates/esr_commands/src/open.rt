@@ -3,7 +3,8 @@
 use std::rt::Files;
 use std::{fs, io};
 
-/// Opens a file to read it, or says why it cannot be. A folder could be opened, and then no read would say what it is.
+/// Opens a file for reading, or returns why it cannot be opened. Opening a folder could succeed, and the reads would
+/// not show the reason.
 pub fn open_file<R: Files>(rt: &R, path: &str) -> Result<R::File, &'static str> {
     match fs::metadata(rt, path) {
         Ok(metadata) if metadata.is_dir() => Err("is a directory"),

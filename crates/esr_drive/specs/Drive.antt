@@ -1,4 +1,4 @@
--- What a drive may write, by the file that it read.
+-- The permitted output of a drive, given the file that it read.
 use Rattle.std.specs.Prelude.{◌≡◌, ◌≤◌, List, [], ℕ, Option, Some, Result, Ok, Err, map}
 use Rattle.std.specs.Io.KnownBytes.{Consumes}
 use Rattle.esr_items.specs.Weights.{weighted}
@@ -17,7 +17,7 @@ use Rattle.esr_drive.specs.declared.form.DriveOutput.{DriveOutput}
 use Rattle.esr_drive.specs.declared.form.DriveOutput.TheVariants as form
 use Rattle.esr_drive.specs.Faults.{CanFill}
 
--- as many workers as may audit, where any do
+-- a permitted number of workers, if the form has any
 abbrev pub HasWorkers : DriveOutput → Type 0
 HasWorkers (form.Text workers) = (1 ≤ workers) × (workers ≤ MAX_SEATS)
 HasWorkers form.Script = Unit {0}
@@ -48,7 +48,7 @@ pub record IsDriveText (what : DriveOutput) (bytes : List ℕ) (text : List ℕ)
   pub planned : plan_of bytes ≡ Ok plan
   pub is_text : IsTextOf what plan text
 
--- A drive that was given the input, left these bytes of it and ended so wrote this.
+-- The relation between the input of a drive, the unread rest, the result, and the text written.
 abbrev pub IsDriveBy : DriveOutput → List ℕ → Option (List ℕ) → Result (Unit {0}) DriveFault → List ℕ → Type 0
 IsDriveBy what input left (Ok done) written = Consumes (Some input) left input × IsDriveText what input written
 IsDriveBy what input left (Err fault.Read) written = written ≡ []

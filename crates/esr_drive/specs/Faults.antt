@@ -15,7 +15,7 @@ is_engine_fault fault.HistoryFull = true
 is_engine_fault fault.Close = true
 is_engine_fault _ = false
 
--- the lines of these blocks, each given 100 times, can fill a history
+-- the lines of these blocks, each tried 100 times, can fill a history
 abbrev pub CanFill : {X : Type 0} → List (List X) → Type 0
 CanFill blocks = MAX_ENTRIES ≤ 100 * sum_by length blocks
 
@@ -26,7 +26,7 @@ IsEngineFault blocks fault.HistoryFull = CanFill blocks
 IsEngineFault blocks fault.Close = Unit {0}
 IsEngineFault blocks _ = ⊥
 
--- the fault of a drive of these bytes, where neither reading nor writing failed
+-- the fault of a drive of these bytes, if no read and no write failed
 abbrev pub IsTextFault : List ℕ → DriveFault → Type 0
 IsTextFault bytes fault.Read = ⊥
 IsTextFault bytes fault.Write = ⊥

@@ -1,4 +1,4 @@
-//! One engine for all blocks, and what it leaves: the history, and the last replies of each block.
+//! Runs one engine for all blocks, and returns its history and the last replies of each block.
 
 ghost use Rattle.esr_plan.specs.declared.draft.TheConstants.{MAX_BLOCKS};
 ghost use Rattle.esr_session.specs.declared.engine_name.TheConstants.{LEDGER_PARTS};

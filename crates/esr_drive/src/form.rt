@@ -1,4 +1,4 @@
-//! What a drive writes.
+//! The output of a drive.
 
 /// The output of a drive.
 #[derive(Clone, Copy)]

@@ -1,4 +1,4 @@
-//! A drive, from its reader to its writer. Where a read or a write has failed, the drive ends so, whatever else came.
+//! A drive, from its reader to its writer. If a read or a write fails, that is the result, whatever else occurred.
 
 ghost use Rattle.esr_board.specs.declared.board.TheConstants.{MAX_SEATS};
 ghost use Rattle.std.specs.Prelude.{◌≡◌, ℕ, List, ◌≤◌, ◌↔◌, true, false, None, map, IfOk, IfErr, IfSome, IsErrOf, IsTrue};
@@ -55,7 +55,7 @@ pub fn drive<R: Threads + Wait + Sync, I: Read, O: Write, G: Gate + Sync, V: Obs
         × Appends (O.contents (inner writer.old)) (O.contents (inner writer.new)) written
         × IsDriveBy form input (I.remaining (inner reader.new)) result written) }
 
-    // Where a read or a write has failed, the drive ends so.
+    // If a read or a write has failed, that is the result.
     ensures reader { IsTrue (failed reader.new) ↔ IsErrOf result DriveFault.Read }
     ensures writer { IsTrue (failed writer.new) ↔ IsErrOf result DriveFault.Write }
 {
@@ -95,7 +95,7 @@ fn text_in<R: Threads + Wait + Sync, G: Gate + Sync, V: Observer>(
     }
 }
 
-/// Lets the observer see the line at fault.
+/// Shows the observer the line with a fault.
 fn show_line<V: Observer>(bytes: &[u8], fault: DriveFault, observer: &mut V) {
     let DriveFault::BadScript { line: number, .. } = fault else {
         return;

@@ -27,7 +27,7 @@ use std::sync::Wait;
 /// The most calls for one line.
 const TURNS: u32 = 100;
 
-/// The most lines that a block has answered in one hold of the lock.
+/// The maximum number of lines that a block executes in one hold of the lock.
 const MAX_LINES: usize = 1024;
 
 /// A block under way: its calls, the last replies to the first of them, and how often the next one was blocked.

@@ -64,9 +64,9 @@ pub struct BlockResults<N: Naming> {
     pub replies: Vec<Vec<Reply>>,
 }
 
-/// Takes apart what came of the blocks. Where blocks were not run to their ends, the answer is the first of out of
-/// memory, a full history and a closed engine that one of them ended by; and a history is full only where the receipts
-/// say so too.
+/// Collects the outcomes of the blocks. If blocks did not run to their ends, the fault is the first of out of memory,
+/// a full history and a closed engine that occurred in one of them; and a full history is reported only if the
+/// receipts confirm it.
 pub fn gather<N: Naming>(
     alloc: Global,
     all: Vec<BlockOutcome<N>>,

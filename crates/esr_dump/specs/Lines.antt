@@ -18,13 +18,13 @@ use Rattle.esr_report.specs.Names.{name_of_transaction}
 abbrev pub name_of_item : List (List ℕ) → ℕ → List ℕ
 name_of_item items x = slice_index_or items x []
 
--- Whether the script has a line for the reply's event. What was refused for another reason than what a transaction holds
--- has none: it changed nothing, and may have asked for numbers that no line spells.
+-- Whether the script has a line for the reply's event. An event refused for a reason other than a lock or a limit of
+-- a transaction has none: it changed nothing, and may contain numbers that no line can.
 abbrev pub is_kept : Reply → Bool
 is_kept (Refused why) = is_some (refusal_blocker why)
 is_kept _ = true
 
--- the number that a begin was given
+-- the number that a begin got
 abbrev pub number_begun : Reply → ℕ
 number_begun (Begun t) = t.0
 number_begun _ = 0

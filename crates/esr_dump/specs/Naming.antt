@@ -16,7 +16,7 @@ all_numbered word first count = map (numbered word) (range_with_len first count)
 abbrev pub names_in : List ℕ → List (List ℕ)
 names_in text = slice_split (λ b. nat_eq b 10) text
 
--- each is a name as scripts have them, and none comes twice
+-- each is a valid name, and they are distinct
 abbrev pub are_names : List (List ℕ) → Bool
 are_names words = list_all is_name words && all_distinct words
 
@@ -33,7 +33,7 @@ item_names count text = cond (nat_eq (length (names_in text)) count) (named (nam
 abbrev pub first_names : ℕ → List (List ℕ) → List (List ℕ)
 first_names count names = map (λ i. slice_index_or names i []) (range_with_len 0 count)
 
--- names as they are, where lines spell them and none comes twice; else the word with numbers from a first one on
+-- the names, if they are valid and distinct; otherwise the word with numbers from a first one on
 abbrev pub spelled : List ℕ → ℕ → List (List ℕ) → List (List ℕ)
 spelled word first names = cond (are_names names) names (all_numbered word first (length names))
 

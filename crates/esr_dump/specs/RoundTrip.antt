@@ -16,7 +16,7 @@ use Rattle.esr_report.specs.Names.{position_of}
 use Rattle.esr_dump.specs.Lines.{is_kept, name_of_item}
 use Rattle.esr_dump.specs.Naming.{first_names, spelled}
 
--- what the lines of a text stand for, of the commands that stand for something
+-- the meanings of the lines of a text, for the commands that have one
 abbrev pub found_in : {X : Type 0} → (Command → Option X) → List ℕ → List X
 found_in of text = filter_map (λ line. option_and_then of (reading line)) (lines text)
 
@@ -26,14 +26,14 @@ declared_by (item name value) = Some (name, value, 1)
 declared_by (weighted_item name value weight) = Some (name, value, weight)
 declared_by _ = None
 
--- who has a name
+-- the item or the transaction with a name
 abbrev pub item_called : List (List ℕ) → List ℕ → Option ItemId
 item_called items name = option_map (λ n. record { 0 = n }) (position_of items name)
 
 abbrev pub transaction_called : List (List ℕ) → List ℕ → Option TxnId
 transaction_called transactions name = option_map (λ n. record { 0 = n + 1 }) (position_of transactions name)
 
--- the event that a command asks for
+-- the event that a command requests
 abbrev pub event_of : (items transactions : List (List ℕ)) → Command → Option Event
 event_of items transactions (begin_update name limit) = Some (event.BeginUpdate limit)
 event_of items transactions (begin_query name limit) = Some (event.BeginQuery limit false)
@@ -49,11 +49,11 @@ event_of items transactions _ = None
 abbrev pub declared : List (List ℕ) → Schedule → ℕ → List ℕ × ℤ × ℕ
 declared items h x = (name_of_item items x, value_at h.opening x, weight_of h.weights x)
 
--- the history without what was refused for another reason than what a transaction holds
+-- the history without the entries refused for a reason other than a lock or a limit of a transaction
 abbrev pub kept : Schedule → Schedule
 kept h = record h { entries = filter (λ e. is_kept e.reply) h.entries }
 
--- there is a name for each item and each transaction, as lines spell names
+-- there is a valid name for each item and each transaction
 pub record AreNames (items transactions : List (List ℕ)) (h : Schedule) : Type 0 where
   pub all_items : length h.opening ≤ length items
   pub all_transactions : length (beginnings (accepted_in h)) ≤ length transactions

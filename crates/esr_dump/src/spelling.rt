@@ -1,4 +1,5 @@
-//! The script of a history: its items, and the entries that were accepted or blocked, each as the line that asks for it.
+//! The script of a history: its items, and the entries that were accepted or blocked, each as the line that requests
+//! it.
 
 ghost use Rattle.std.specs.Prelude.{◌≡◌, ◌<◌, ◌++◌, ◌∷◌, IfOk, OnOk, length, flat_map, take};
 ghost use Rattle.esr_items.specs.Weights.{weight_of};

@@ -15,7 +15,7 @@ pub joined : (r c b a s after_r after_c after_b after_a after_s : List ℕ) → 
     → after_s ≡ r ++ c ++ b ++ a ++ s
 joined r c b a s after_r after_c after_b after_a after_s is_r is_c is_b is_a is_s = grind (arith, common_steps)
 
--- the query that was found is the one that was asked for
+-- the audited query is the one requested
 query_is : (s : ScriptState) (name : List ℕ) (a : AuditedQuery) → IsAnswered s name a → a.finding.query.0 ≡ (transaction_called s name).0
 query_is s name a h = ap (λ (t : ℕ × ℕ × ℕ × List ℕ). t.0) h.finding.reported
 

@@ -1,4 +1,4 @@
--- What is explained of a committed query of a history.
+-- The explanation of a committed query of a history.
 use Rattle.std.specs.Prelude.{ℕ, ℤ, ◌+◌, ◌-◌, ◌==◌, List, [], ◌∷◌, ◌++◌, not, Option, Some, None, codes, decimal, length, take, filter, nat_lt, slice_get, slice_index_or, if◌then◌else◌, option_map}
 use Rattle.std.specs.List.{flat_map, range_with_len}
 use Rattle.std.specs.Fmt.{signed_decimal}
@@ -61,14 +61,15 @@ exported d h u i = export_in (charges_in d (until i h)) u
 abbrev pub read_meets : Schedule → ℕ → Option ℕ
 read_meets h x = if nat_lt x (length h.opening) then writer (accepted_in h) x else None
 
--- where an operation on an item meets an update: a read the one that has written it, a write the one that writes
+-- the update that an operation on an item meets: for a read the one that has written the item, for a write the one
+-- that writes
 abbrev pub meeting : Schedule → Event → Option Meeting
 meeting h (Read t x) =
     option_map (λ u. record { operation = operation.Read; update = record { 0 = u }; item = x }) (read_meets h x.0)
 meeting h (Write u x v) = Some (record { operation = operation.Write; update = u; item = x })
 meeting h _ = None
 
--- The charge to q of the entry at place i: what q imported by it, and what is left then of both limits.
+-- The charge to q of the entry at place i: the amount that q imported by it, and the rest of both limits then.
 abbrev pub charge_of : Distance → Schedule → ℕ → ℕ → Meeting → Charge
 charge_of d h q i m = record {
   amount = imported d h q (i + 1) - imported d h q i;

@@ -1,10 +1,10 @@
 //! The charges to a query: a machine replays the history, entry by entry.
 //!
-//! A history keeps of each query only what it imported all together. So each entry is given to a fresh machine, and
-//! what the query has imported before and after it is looked up there, with the writer of the item and the update's
-//! export. It takes the time and memory of a second run, and its definition is short: the import of a prefix less that
-//! of the prefix before. A charge of 0 has no line, since it has no part in the sums. A charge is named by its entry
-//! and not by its line: the history knows no lines.
+//! A history stores for each query only the sum of its imports. So each entry is executed by a fresh machine, which
+//! has the query's import before and after it, the writer of the item and the update's export. This takes the time
+//! and memory of a second run, and its definition is short: the import of a prefix less that of the prefix before. A
+//! charge of 0 has no line, since it does not contribute to the sums. A charge is named by its entry and not by its
+//! line: the history has no lines.
 ghost use Rattle.std.specs.Prelude.{◌≡◌, ◌<◌, ◌+◌, ◌++◌, Some, IfOk, OnOk, slice_get, length};
 ghost use Rattle.esr_history.specs.Events.{limit_of};
 ghost use Rattle.esr_history.specs.Machine.{empty_schedule, accepted_in};
@@ -32,7 +32,7 @@ pub struct Meeting {
     pub item: ItemId,
 }
 
-/// What a query was charged by an entry of the history, and what was left then of its own limit and of the update's.
+/// The charge to a query by an entry of the history, and the rest of its own limit and of the update's after it.
 #[derive(Clone, Copy)]
 pub struct Charge {
     pub amount: u64,

@@ -1,5 +1,5 @@
-//! An order that is drawn by a seed: at each turn one of the lines that are left, each as likely as the others. The same
-//! seed gives the same order on each machine.
+//! An order drawn from a seed: at each turn one of the remaining lines is chosen, with equal probability. The same
+//! seed yields the same order on each machine.
 
 ghost use Rattle.std.specs.Prelude.{◌≡◌, ◌<◌, ◌≤◌, IfNone, IfOk, IfSome, length, slice_index_or, sum};
 ghost use Rattle.esr_explore.specs.Orders.{IsOrder};

@@ -1,4 +1,4 @@
-//! What a run is measured by.
+//! The measures of a run.
 
 /// What the worst run is the worst by.
 #[derive(Clone, Copy)]

@@ -35,13 +35,13 @@ use std::io::{Read, Write};
 /// A search: its orders, and the run that is written.
 #[derive(Clone, Copy)]
 pub struct Search {
-    /// How many orders are drawn, or none where all are gone through.
+    /// The number of orders to draw, or `None` to run all orders.
     pub seeds: Option<u64>,
-    /// What the run that is written as a script is the worst by; none where the summary is written.
+    /// The measure of the worst run, which is written as a script; `None` to write the summary.
     pub worst: Option<Measure>,
 }
 
-/// Reads a drive file to its end, runs its blocks on one thread in many orders, and writes what came of them.
+/// Reads a drive file to its end, runs its blocks on one thread in many orders, and writes the outcomes.
 pub fn explore<I: Read, O: Write>(
     alloc: Global,
     reader: &mut Watched<I>,

@@ -20,7 +20,7 @@ use esr_items::{Store, Weighted};
 use esr_plan::{Call, DriveFault, DrivePlan, event_of, metric_of};
 use std::alloc::{AllocError, Global};
 
-/// What came of a run: the history, and for each block what came of its lines.
+/// The result of a run: the history, and for each block the results of its lines.
 #[derive(Drop)]
 pub struct Run {
     pub history: History<Weighted>,
@@ -38,7 +38,7 @@ fn next_event(calls: &[Call<'_>], runner: &Runner) -> Option<Event>
     }
 }
 
-/// Lets a block give its next line, if one is left.
+/// Executes the next line of a block, if one is left.
 fn take_turn(
     machine: &mut Machine<Weighted>,
     calls: &[Call<'_>],
@@ -96,7 +96,7 @@ fn take_turns(
     Ok(())
 }
 
-/// Blocks that have given no line.
+/// Creates the runners of blocks, before their first lines.
 fn new_runners(alloc: Global, count: usize) -> Result<Vec<Runner>, AllocError>
     ensures { IfOk result (λ runners. runners.items ≡ map (λ _. fresh) (range_with_len 0 count)) }
 {
@@ -134,7 +134,7 @@ fn next_in_round(blocks: &[Vec<Call<'_>>], runners: &[Runner], from: usize) -> O
     }
 }
 
-/// Gives what is left of the blocks, in rounds.
+/// Executes the remaining lines of the blocks, in rounds.
 fn finish(
     machine: &mut Machine<Weighted>,
     blocks: &[Vec<Call<'_>>],
@@ -176,7 +176,7 @@ fn fault_of(error: StepError) -> DriveFault {
     }
 }
 
-/// Runs the blocks of a plan: in this order, and what it leaves over in rounds.
+/// Runs the blocks of a plan: in this order, and the remaining lines in rounds.
 pub fn run_order(alloc: Global, drive_plan: &DrivePlan<'_>, order: &[u8]) -> Result<Run, DriveFault>
     requires { IsSound drive_plan.now }
     ensures run { IfOk result (λ r. IsRun drive_plan.now.values.items (weights_of drive_plan.now.weights.items)

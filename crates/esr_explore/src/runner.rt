@@ -7,11 +7,11 @@ use esr_history::Reply;
 use std::alloc::{AllocError, Global};
 use std::marker::Model;
 
-/// The most times that a line is given.
+/// The maximum number of tries of a line.
 const TRIES: u32 = 100;
 
-/// A block that is being run: the last replies to its lines, how often the next one was given, and how often a line was
-/// blocked.
+/// A running block: the last replies to its lines, the number of tries of the next line, and the number of times that
+/// a line was blocked.
 #[derive(Drop)]
 pub struct Runner {
     replies: Vec<Reply>,

@@ -14,17 +14,17 @@ use esr_plan::{Call, DriveFault};
 use std::alloc::{AllocError, Global};
 use std::fmt;
 
-/// The most lines in blocks where all orders are gone through.
+/// The maximum number of lines in blocks if all orders are run.
 pub const MAX_LINES: usize = 1_000;
 
 /// Why a search has no result.
 #[derive(Clone, Copy)]
 pub enum ExploreFault {
-    /// The file is at fault, or the engine, a device or memory, as for a drive.
+    /// A fault of the file, the engine, a device or memory, as for a drive.
     Drive(DriveFault),
     /// More orders than a search can visit: their number, if it can be reported.
     TooManyOrders(Option<u64>),
-    /// There are more lines in blocks than where all orders are gone through.
+    /// The blocks have more lines than permitted if all orders are run.
     TooManyLinesInBlocks,
 }
 

@@ -1,4 +1,4 @@
--- Numbers and words, and what is read from them.
+-- Numbers and words, and how they are read.
 use Rattle.std.proofs.Common.{◌≡◌, ℕ, zero, suc, ◌<◌, ◌≤◌, ◌^◌, ℤ, pos, negsuc, nat_abs, List, [], ◌∷◌, ◌++◌, ◌+◌, ◌*◌, ◌-◌, inl, inr, IfSome, IfNone, true, false, length, take, get_or, refl, sym, ◌∙◌, ap, arith, rules, nat_lt, nat_eq, Some, None, Option, option_map, option_and_then, decimal, lt-ltb, ltb-true, eqb-true}
 use Rattle.std.specs.List.{AllByRecursion, join_with_byte}
 use Rattle.std.specs.Str.{bytes_eq, all_ascii_digits}
@@ -72,7 +72,7 @@ one_digit cs i d value c so_far within is digit high =
 pub no_digit : (cs : List ℕ) (i d : ℕ) → i < length cs → is_ascii_digit (get_or cs i d) ≡ false → all_ascii_digits cs ≡ false
 no_digit cs i d within other = grind (arith, cases_Bool (all_ascii_digits cs), digit_at)
 
--- a spelled number is read
+-- the decimal form of a number is read as it
 pub number_round_trip : (bound n : ℕ) → bound ≤ 10 ^ 19 → n < bound → number_below bound (decimal n) ≡ Some n
 number_round_trip bound n fits small =
     let value : value_from 0 (decimal n) ≡ n = digits_value-decimal own n (omega arith) in
@@ -99,7 +99,7 @@ unsigned (c ∷ cs) n digits some e =
 nonzero : (n : ℕ) → nat_eq (suc n) 0 ≡ false
 nonzero n = ne_eqb (suc n) 0 (λ e. omega (arith, e))
 
--- a spelled whole number is read
+-- the decimal form of an integer is read as it
 pub int_round_trip : (v : ℤ) → nat_abs v < 10 ^ 18 → int_of (signed_decimal v) ≡ Some v
 int_round_trip (pos n) small = unsigned (decimal n) n (all_digits n (omega arith)) (decimal_nonempty n (omega arith)) (number_round_trip (10 ^ 18) n (omega arith) small)
 int_round_trip (negsuc n) small = rw (number_round_trip (10 ^ 18) (suc n) (omega arith) small, nonzero n) refl

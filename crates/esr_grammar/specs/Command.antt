@@ -1,5 +1,4 @@
--- A command and its one spelling; the command that a line spells, found by its words; and the command that a line read
--- stands for.
+-- A command and its one text; the command of a line, found by its words; and the command of a parsed line.
 use Rattle.std.specs.Prelude.{◌≡◌, ℕ, ◌+◌, ◌-◌, ◌*◌, ◌^◌, ◌<◌, ℤ, pos, neg_ℤ, List, [], ◌∷◌, Bool, true, false, ◌&&◌, ◌||◌, IsTrue, nat_eq, nat_le, nat_lt, nat_abs, length, cond, Option, Some, None, codes, decimal, option_and_then, option_map, if◌then◌else◌, bytes_eq}
 use Rattle.std.specs.List.{join_with_byte, list_all, All, slice_split}
 use Rattle.std.specs.Option.{option_or}
@@ -11,9 +10,9 @@ use Rattle.esr_grammar.specs.declared.parse.Line.TheVariants as line
 use Rattle.esr_grammar.specs.declared.parse.Parsed.{Parsed}
 use Rattle.esr_grammar.specs.declared.parse.Parsed.TheVariants as parsed
 
--- ---- what is spelled
+-- ---- the text of commands
 
--- what a line that is not skipped may ask for
+-- the requests of lines that are not skipped
 pub data Command : Type 0 where
   item : (name : List ℕ) (value : ℤ) → Command
   weighted_item : (name : List ℕ) (value : ℤ) (weight : ℕ) → Command
@@ -62,15 +61,15 @@ is_name (b ∷ bs) = is_letter b && (nat_le (length bs) 15 && list_all is_name_b
 abbrev pub IsName : List ℕ → Type 0
 IsName text = IsTrue (is_name text)
 
--- what has up to 18 digits
+-- integers of up to 18 digits
 abbrev pub IsInt : ℤ → Type 0
 IsInt v = nat_abs v < INT_END
 
--- what has up to 19 digits
+-- numbers of up to 19 digits
 abbrev pub IsLimit : ℕ → Type 0
 IsLimit n = n < 10 ^ 19
 
--- what can be spelled
+-- commands that have a text
 abbrev pub IsCommand : Command → Type 0
 IsCommand (item n v) = IsName n × IsInt v
 IsCommand (weighted_item n v w) = IsName n × IsInt v × IsLimit w
@@ -89,7 +88,7 @@ abbrev pub is_skipped : List ℕ → Bool
 is_skipped [] = true
 is_skipped (b ∷ bs) = nat_eq b 35
 
--- the line spells this command
+-- the line is the text of this command
 abbrev pub IsSyntaxOf : List ℕ → Command → Type 0
 IsSyntaxOf line c = IsCommand c × (line ≡ spelling c)
 
@@ -97,7 +96,7 @@ IsSyntaxOf line c = IsCommand c × (line ≡ spelling c)
 abbrev pub IsPlainWord : List ℕ → Type 0
 IsPlainWord word = All (λ b. nat_eq b 32 ≡ false) word
 
--- ---- what is read
+-- ---- the parsing of lines
 
 abbrev pub is_space : ℕ → Bool
 is_space b = nat_eq b 32
@@ -225,7 +224,7 @@ command_by (word ∷ ws) = command_of word ws
 abbrev pub reading : List ℕ → Option Command
 reading line = command_by (words_of line)
 
--- the command that a line read stands for
+-- the command of a parsed line
 abbrev pub view : Line → Command
 view (line.Item name value) = item name.now value
 view (line.WeightedItem name value weight) = weighted_item name.now value weight
@@ -245,7 +244,7 @@ command_in parsed.Skipped = None
 command_in parsed.NotACommand = None
 command_in (parsed.Command l) = Some (view l)
 
--- what was found in the line is what its reading says
+-- the result of parsing a line agrees with its reading
 abbrev pub IsReadingOf : List ℕ → Parsed → Type 0
 IsReadingOf bytes parsed.Skipped = is_skipped bytes ≡ true
 IsReadingOf bytes parsed.NotACommand = (is_skipped bytes ≡ false) × (reading bytes ≡ None)

@@ -25,7 +25,7 @@ whole_lines (b ∷ bs) = cond (b == 10) ([] ∷ whole_lines bs) (onto_first_whol
 abbrev pub line_len : List ℕ → ℕ
 line_len bytes = position_or_len (λ b. nat_eq b 10) bytes
 
--- what comes next in the bytes ahead
+-- the next line in the buffered bytes
 abbrev pub IsNext : Next → List ℕ → Type 0
 IsNext (next.Line n) bytes = (n ≡ line_len bytes) × (n < length bytes) × (n ≤ MAX_LINE_BYTES)
 IsNext next.TooLong bytes = MAX_LINE_BYTES < line_len bytes

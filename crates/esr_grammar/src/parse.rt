@@ -10,7 +10,7 @@ ghost use Rattle.esr_grammar.specs.Command.{Command, is_skipped, IsSyntaxOf, wor
 use crate::quick::quick;
 use crate::words::{cut_word, four_words, int, limit, name, one_word, three_words, two_words};
 
-/// A command, with its names as text of the line that spells it.
+/// A command, with its names as text of its line.
 #[derive(Clone, Copy)]
 pub enum Line<'a> {
     /// `item NAME INT`
@@ -66,12 +66,12 @@ pub enum Line<'a> {
     Totals,
 }
 
-/// What a line of a script is.
+/// The result of parsing a line of a script.
 #[derive(Clone, Copy)]
 pub enum Parsed<'a> {
     /// An empty line or a comment.
     Skipped,
-    /// A line that spells no command.
+    /// A line that is not a command.
     NotACommand,
     Command(Line<'a>),
 }
@@ -240,12 +240,12 @@ fn command(line: &[u8]) -> Option<Line<'_>>
 
 /// Parses a line. Allocates nothing.
 pub fn parse_line(line: &[u8]) -> Parsed<'_>
-    // Skipped exactly for a skipped line, a command exactly where the line spells it.
+    // Skipped exactly for a skipped line, a command exactly if the line is its text.
     ensures skipped { (result ≡ Parsed.Skipped) ↔ IsTrue (is_skipped line.now) }
     ensures read { IsReadingOf line.now result }
     ensures command { (c : Command) → (command_in result ≡ Some c) ↔ IsSyntaxOf line.now c }
 
-    // The reading of a line, and its spelling.
+    // Parsing a line, and the text of a command, are inverse.
     ensures law { (c : Command) → (reading line.now ≡ Some c) ↔ IsSyntaxOf line.now c }
 {
     if is_skipped(line) {

@@ -1,7 +1,7 @@
-//! The lines that scripts have most of, read in one pass: the class of each byte is asked once.
+//! The most frequent lines of scripts, read in one pass: each byte is classified once.
 //!
-//! A command that is returned here is spelled by the line. If none is, the words of the line decide (`parse`), so
-//! nothing that a line may spell has to be found here.
+//! The line is the text of the returned command. If none is returned, the words of the line decide (`parse`), so this
+//! module need not recognize every line.
 
 ghost use Rattle.std.specs.Prelude.{◌≡◌, ◌∷◌, ◌++◌, IfSome, codes, not};
 ghost use Rattle.std.specs.List.{position};

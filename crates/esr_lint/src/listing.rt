@@ -75,7 +75,7 @@ impl<'a, W: Write> Listing<'a, W> {
     /// Writes the rest of the list.
     ///
     /// # Errors
-    /// Why something of the list was not written, whatever came first.
+    /// The first reason why something of the list was not written.
     pub fn finish(&mut self) -> Result<(), Unlisted> {
         self.send();
         match self.failed {
@@ -100,7 +100,7 @@ impl<'a, W: Write> Listing<'a, W> {
         self.whole = 0;
     }
 
-    /// Counts what is listed, and notes whether there was memory for it.
+    /// Counts a listed item, and notes whether its allocation succeeded.
     fn note(&mut self, listed: bool) {
         self.count = self.count.saturating_add(1);
         if listed {

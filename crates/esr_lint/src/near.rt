@@ -1,5 +1,5 @@
-//! Which word may have been meant: one that is the same but for its case, or for one letter that is missing, too many,
-//! or another, or for two that changed places.
+//! Finds the word that may have been meant: one that differs only in case, or in one letter that is missing, extra or
+//! different, or in two letters that are transposed.
 
 /// Returns the length of the common prefix, in bytes.
 fn common_front(left: &[u8], right: &[u8]) -> usize {

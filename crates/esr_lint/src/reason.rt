@@ -8,7 +8,7 @@ use crate::forms::{CommandSyntax, Slot, first_words, form_of};
 use crate::near::nearest;
 use std::fmt;
 
-/// What is wrong with a number.
+/// The faults of a number.
 #[derive(Clone, Copy)]
 pub enum NumberFault {
     Plus,
@@ -318,7 +318,7 @@ pub fn find_reason(line: &[u8]) -> Diagnosis<'_> {
 /// The most bytes that are shown.
 const SHOWN: usize = 40;
 
-/// Bytes of an input, so that whatever they are the text stays one line of plain letters.
+/// Shows bytes of an input as one line of printable ASCII.
 #[derive(Clone, Copy)]
 pub struct Shown<'a>(pub &'a [u8]);
 

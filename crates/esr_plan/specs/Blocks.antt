@@ -18,7 +18,7 @@ pub record Answered : Type 0 where
   pub command : Command
   pub reply : Reply
 
--- the number that a reply gives a transaction
+-- the number that a begin got, from its reply
 abbrev pub number_in : Reply → Option ℕ
 number_in (Begun number) = Some number.0
 number_in _ = None
@@ -36,7 +36,7 @@ number_got earlier name =
 abbrev pub transaction_called : List Answered → List ℕ → TxnId
 transaction_called earlier name = record { 0 = unwrap_or (number_got earlier name) 0 }
 
--- items are numbered from 0; a name that is not declared stands for a number that no item has
+-- items are numbered from 0; an undeclared name denotes a number that no item has
 abbrev pub item_called : List (List ℕ) → List ℕ → ItemId
 item_called names name = record { 0 = unwrap_or (position_of names name) MAX_ITEMS }
 
@@ -77,6 +77,6 @@ AreBlocks names [] [] = Unit {0}
 AreBlocks names (b ∷ blocks) (rs ∷ lists) = AreRuns names b rs × AreBlocks names blocks lists
 AreBlocks names _ _ = ⊥
 
--- the commands that were answered
+-- the commands with a reply
 abbrev pub commands_of : List Answered → List Command
 commands_of answers = map (λ a. a.command) answers

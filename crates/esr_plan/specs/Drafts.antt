@@ -63,7 +63,7 @@ pub record IsSound (d : Draft) : Type 0 where
   pub resolved : AreResolved d.names (current_calls d)
   pub done_resolved : All (λ b. AreResolved d.names b.items) d.done.items
 
--- what is wrong with a line, if it is the line
+-- the error is that of a line, or out of memory
 abbrev pub IsPlanError : Result Plan ℕ → PlanError → Type 0
 IsPlanError planned (wrong.Line error) = planned ≡ Err error
 IsPlanError planned wrong.NoMemory = Unit {0}

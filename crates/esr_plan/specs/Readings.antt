@@ -10,7 +10,7 @@ use Rattle.esr_plan.specs.declared.fault.DriveFault.TheVariants as fault
 abbrev pub rest_from : List ℕ → Mark → List ℕ
 rest_from bytes m = drop m.start bytes
 
--- whatever bytes follow, the lines from the mark on are at fault as all are
+-- whatever bytes follow, the fault of the lines from the mark on is that of all lines
 abbrev pub IsMark : List ℕ → Mark → Type 0
 IsMark bytes m =
     (m.start ≤ length bytes)

@@ -24,7 +24,7 @@ name_begun answers number = unwrap_or (option_and_then (λ a. new_name a.command
 abbrev pub names_of : Schedule → List (List Answered) → List (List ℕ)
 names_of h blocks = map (name_begun (flat_map (λ b. b) blocks)) (numbers (accepted_in h))
 
--- what a command of a block names
+-- the names in a command of a block
 abbrev pub subject_of : Command → Named
 subject_of (begin_update name limit) = record { txn = name; item = []; value = pos 0 }
 subject_of (begin_query name limit) = record { txn = name; item = []; value = pos 0 }
@@ -35,7 +35,7 @@ subject_of (commit txn) = record { txn = txn; item = []; value = pos 0 }
 subject_of (abort txn) = record { txn = txn; item = []; value = pos 0 }
 subject_of other = record { txn = []; item = []; value = pos 0 }
 
--- the line of an item, with its weight where one was given
+-- the line of an item, with its weight if it has one
 abbrev pub item_text : List ℕ → ℤ → Option ℕ → List ℕ
 item_text name value None = item_line name value
 item_text name value (Some weight) = weighted_item_line name value weight

@@ -1,4 +1,4 @@
-//! What a session is to call, line by line.
+//! The calls of a session, line by line.
 //!
 //! A call has a separate type and is not a line of a script, so the code that runs a block has no unreachable case. A
 //! begin is one variant with a kind: its event alone depends on it. Names are resolved when the plan is made: a call
@@ -19,7 +19,7 @@ use esr_report::ReplyNames;
 #[derive(Clone, Copy)]
 pub struct Caller<'a> {
     pub name: &'a str,
-    /// The place in the block of the line that begins it, where an earlier line does.
+    /// The place in the block of the begin of the transaction, if it precedes the call.
     pub begin: Option<usize>,
 }
 
@@ -30,7 +30,7 @@ pub struct Operand<'a> {
     pub item: ItemId,
 }
 
-/// What a transaction begins as.
+/// The kind of a begin.
 #[derive(Clone, Copy)]
 pub enum BeginKind {
     Update,

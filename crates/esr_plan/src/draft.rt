@@ -4,7 +4,7 @@
 //! A line mostly names the transaction of the line before it, and often its item. So a name is compared with that line's
 //! before it is looked up; the line is there, and nothing has to be kept for it.
 //!
-//! The weight that was given, or that none was, stays in the plan: an item's line is answered as it was written.
+//! The plan keeps whether a weight was given: an item's line is echoed as it was written.
 //!
 //! The data kept alongside the plan agrees with it (`IsSound`). That is not an invariant of the type, since an error
 //! may leave a draft half changed; it is then dropped.
@@ -37,7 +37,7 @@ pub const MAX_BLOCKS: usize = MAX_SESSIONS;
 pub struct Draft<'a> {
     pub names: Names,
     pub values: Vec<i64>,
-    /// The weights that were given.
+    /// The given weights.
     pub weights: Vec<Option<u32>>,
     pub done: Vec<Vec<Call<'a>>>,
     pub current: Option<Vec<Call<'a>>>,
@@ -51,7 +51,7 @@ pub struct Draft<'a> {
 /// Why a line does not go into the plan.
 #[derive(Clone, Copy)]
 pub enum PlanError {
-    /// What is wrong with the line.
+    /// The number of the line's error.
     Line(u32),
     NoMemory,
 }
@@ -85,7 +85,7 @@ impl<'a> Draft<'a> {
         }
     }
 
-    /// Declares an item, with a weight where one is given.
+    /// Declares an item, with a weight if one is given.
     fn add_item(&mut self, name: &str, value: i64, weight: Option<u64>) -> Result<(), PlanError>
         requires { IsSound self.old }
         ensures ok { OnOk result (IsSound self.new × (with_item (plan_in self.old) name.now value weight
@@ -259,7 +259,7 @@ impl<'a> Draft<'a> {
         Ok(())
     }
 
-    /// Adds what a line of a script spells.
+    /// Adds the command of a line.
     fn add_command(&mut self, line: Line<'a>) -> Result<(), PlanError>
         requires sound { IsSound self.old }
         requires fits { length self.old.begun < 2 ^ 32 }

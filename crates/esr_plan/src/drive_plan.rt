@@ -12,12 +12,12 @@ use crate::fault::DriveFault;
 use esr_report::Names;
 use std::alloc::{AllocError, Global};
 
-/// What a drive file asks for.
+/// The plan of a drive file.
 #[derive(Drop)]
 pub struct DrivePlan<'a> {
     pub names: Names,
     pub values: Vec<i64>,
-    /// The weights that were given.
+    /// The given weights.
     pub weights: Vec<Option<u32>>,
     pub blocks: Vec<Vec<Call<'a>>>,
 }

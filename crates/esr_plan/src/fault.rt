@@ -10,7 +10,7 @@ use thiserror::Error;
 /// Why a drive ended without its whole text.
 #[derive(Clone, Copy, Debug, PartialEq, Eq, Error)]
 pub enum DriveFault {
-    /// A read failed, in whatever way.
+    /// A read failed.
     #[error("read failed")]
     Read,
     /// A write or a flush failed, or a write took none of some bytes.

@@ -1,6 +1,5 @@
 //! Reads a drive file, and cuts it into lines. Reading stops at the first line that is too long, or is one too many:
-//! the fault of a line is that of the file, whatever follows, so a stream that does not end does not take memory
-//! without end.
+//! this fault is that of the file, whatever follows, so an endless stream does not take endless memory.
 
 ghost use Rattle.esr_grammar.specs.declared.limits.TheConstants.{MAX_LINES, MAX_LINE_BYTES};
 ghost use Rattle.std.specs.Prelude.{◌≡◌, ℕ, List, false, ◌<◌, ◌≤◌, ◌↔◌, [], ◌∷◌, ◌++◌, None, Some, IfOk, IfErr, IsErrOf, IsTrue, MatchOption, MatchResult, length, nat_eq, position};
@@ -37,8 +36,8 @@ pub fn first_line(bytes: &[u8]) -> Option<(&[u8], &[u8])>
     }
 }
 
-/// How far the lines of a file were looked at: where the first line begins that is not whole yet, and how many
-/// lines are before it.
+/// How far the lines of a file were checked: the start of the first incomplete line, and the number of lines before
+/// it.
 #[derive(Clone, Copy)]
 pub struct Mark {
     pub start: usize,
@@ -58,7 +57,7 @@ fn check_line(lines: u64, bytes: usize) -> Result<(), DriveFault>
     Ok(())
 }
 
-/// Looks at the lines from the mark on. The fault of a line is that of the file, whatever follows.
+/// Checks the lines from the mark on. The fault of a line is that of the file, whatever follows.
 fn check_lines(bytes: &[u8], mark: Mark) -> Result<Mark, DriveFault>
     requires { IsMark bytes.now mark }
     ensures mark { IfOk result (IsMark bytes.now) }

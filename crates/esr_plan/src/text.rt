@@ -1,5 +1,5 @@
-//! The text of a drive, part by part: items, blocks, what was found of each query. The text of a block is a piece of its
-//! own, since threads make them.
+//! The text of a drive, part by part: items, blocks, the findings of queries. The text of a block is a separate
+//! piece, since threads make them.
 
 ghost use Rattle.esr_base.specs.declared.limits.TheConstants.{MAX_ITEMS};
 ghost use Rattle.std.specs.Prelude.{◌≡◌, ◌<◌, ◌≤◌, slice_index_or, ◌++◌, [], IfOk, OnOk, length, map, flat_map};
@@ -29,7 +29,7 @@ fn name_at(names: &Names, place: usize) -> &str
     }
 }
 
-/// Appends the line of an item, with its weight where one was given.
+/// Appends the line of an item, with its weight if it has one.
 fn push_item(
     out: &mut Vec<u8>,
     name: &str,

@@ -1,10 +1,10 @@
-//! A name as two numbers and its length, by which it is looked up: they are hashed and compared in a few steps, where
-//! its bytes would be copied and compared in pieces by their number.
+//! A name as two numbers and its length, by which it is looked up: these are hashed and compared in a few steps,
+//! whereas its bytes would be copied and compared in pieces, depending on their number.
 
 ghost use Rattle.std.specs.Prelude.{◌≡◌, ◌<◌, length, slice_index_or};
 ghost use Rattle.esr_report.specs.Keys.{low_of, high_of};
 
-/// What a name of at most 16 bytes is looked up by.
+/// The key of a name of at most 16 bytes.
 #[derive(Clone, Copy, PartialEq, Eq, Hash)]
 pub struct Key {
     low: u64,

@@ -1,8 +1,8 @@
 //! A table of names, in the order in which they were bound; none is bound twice.
 //!
-//! A name is looked up by three numbers (`key`), so that none is copied or compared byte by byte to be found; its text,
-//! of at most 16 bytes, is next to them, 48 bytes in all. A longer name, which no line spells, does not fit and fails
-//! as an allocation does.
+//! A name is looked up by three numbers (`key`), so that none is copied or compared byte by byte to be found; its
+//! text, of at most 16 bytes, is next to them, 48 bytes in all. A longer name, which no line can contain, does not
+//! fit, and fails like an allocation.
 
 ghost use Rattle.std.specs.Prelude.{◌≡◌, ℕ, ◌+◌, ◌<◌, ◌≤◌, ◌^◌, List, [], ◌∷◌, ◌++◌, map, length, All, IfOk, OnOk, OnErr, slice_get, option_map, Option, None, true};
 ghost use Rattle.esr_report.specs.Names.{position_of, all_distinct};
@@ -24,7 +24,7 @@ pub trait TransactionNames {
         ensures { option_map (λ name. name.now) result ≡ slice_get (names self.now) position };
 }
 
-/// A name, which lies in the table itself: a spelling has at most 16 bytes.
+/// A name, which is stored in the table itself: it has at most 16 bytes.
 type Name = ArrayString<16>;
 
 /// A table of names, in the order in which they were bound. No name is bound twice.

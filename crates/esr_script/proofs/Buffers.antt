@@ -31,7 +31,7 @@ module _ (items moved ahead : List ℕ) (s e len : ℕ) (order : s ≤ e) (withi
     abbrev after : List ℕ
     after = put_mid (e - s) part moved read
 
-    -- the buffer holds what was put into it
+    -- the buffer contains the bytes put into it
     held : take len (after ++ drop (length after) before) ≡ after
     held = grind (arith, same_len_mid (e - s) part moved read fits, long, take-append_seam after (drop (length after) before))
 

@@ -16,7 +16,7 @@ abbrev pub is_write_fault : {T : Type 0} → Result T RunFault → Bool
 is_write_fault (Err fault.Write) = true
 is_write_fault _ = false
 
--- A run over the input that has answered or skipped count lines, wrote this, and has these bytes before it.
+-- A run over the input that has executed or skipped `count` lines, wrote this text, and has these bytes before it.
 pub record Progress (input unread : List ℕ) (count : ℕ) (state : ScriptState) (written : List ℕ) : Type 0 where
   pub used : List ℕ
   pub answered : List (List ℕ)
@@ -28,7 +28,7 @@ pub record Progress (input unread : List ℕ) (count : ℕ) (state : ScriptState
   pub ran : (more : List (List ℕ)) → outcome_of_lines (answered ++ more)
       ≡ preceded_by written (outcome_from count state more)
 
--- the same, where the bytes before it are these ahead and those that the reader has left
+-- like `Progress`, if the bytes before it are the buffered ones and those left in the reader
 pub record InputProgress (input : List ℕ) (left : Option (List ℕ)) (bytes : List ℕ) (count : ℕ) (state : ScriptState)
     (written : List ℕ) : Type 0 where
   pub rest : List ℕ

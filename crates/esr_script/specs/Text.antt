@@ -1,4 +1,4 @@
--- The text of a script: what a run over its lines writes, and how it ends.
+-- The text of a script: the output of a run over its lines, and the end of the run.
 use Rattle.std.specs.Prelude.{◌≡◌, ◌⊎◌, OnOk, OnErr, IfErr, ℕ, ◌+◌, ◌==◌, ℤ, pos, List, [], ◌∷◌, ◌++◌, true, false, not, nat_lt, nat_eq, cond, Option, Some, None, Result, Ok, Err, length, unwrap_or, if◌then◌else◌}
 use Rattle.esr_items.specs.Values.{is_value}
 use Rattle.esr_items.specs.Weights.{is_weight, weighted}
@@ -31,11 +31,11 @@ start = record {
   history = record { opening = []; weights = []; entries = [] };
 }
 
--- where no more items may be declared
+-- the state in which no more items may be declared
 abbrev pub closed : ScriptState → ScriptState
 closed s = record s { closed = true }
 
--- items are numbered from 0; a name that is not bound stands for a number that no item has
+-- items are numbered from 0; an unbound name denotes a number that no item has
 abbrev pub item_called : ScriptState → List ℕ → ItemId
 item_called s name = record { 0 = unwrap_or (position_of s.items name) MAX_ITEMS }
 
@@ -44,14 +44,14 @@ abbrev pub bound : List (List ℕ) → List ℕ → Reply → List (List ℕ)
 bound names name (reply.Begun number) = names ++ name ∷ []
 bound names name _ = names
 
--- an event is given to the machine, whose reply is an entry of the history
+-- the machine executes an event, whose reply is an entry of the history
 abbrev pub ask : ScriptState → Named → Event → Result (ScriptState × List ℕ) RunFault
 ask s named e =
     if length s.history.entries == MAX_ENTRIES then Err fault.HistoryFull
     else (let r = reply_to weighted s.history e in let names = bound s.transactions named.txn r in
     Ok (record s { closed = true; transactions = names; history = extended s.history e r }, reply_line names named r))
 
--- a begin, whose name may not be bound already
+-- a begin, whose name must not be bound already
 abbrev pub begin : ScriptState → List ℕ → Event → Result (ScriptState × List ℕ) RunFault
 begin s name e =
     if is_bound s.transactions name then Ok (record s { closed = true }, error_line NameInUse)
@@ -66,7 +66,7 @@ with_item s name value weight =
       history = record h { opening = h.opening ++ value ∷ []; weights = h.weights ++ weight ∷ [] };
     }
 
--- what is wrong with the declaration of an item, if something is
+-- the error of an item's declaration, if it has one
 abbrev pub item_error : ScriptState → List ℕ → ℤ → ℕ → Option LineError
 item_error s name value weight =
     if s.closed then Some ItemsAreClosed
@@ -138,7 +138,7 @@ pub record EndsIn (due : Result (ScriptState × List ℕ) RunFault) (new : Scrip
   pub ok : OnOk result ((text : List ℕ) × (due ≡ Ok (new, text)))
   pub faults : IfErr result (λ e. (e ≡ fault.NoMemory) ⊎ ((e ≡ fault.HistoryFull) × (due ≡ Err fault.HistoryFull)))
 
--- the text of the answered lines, and the fault of the line that ends the run, if one does
+-- the text of the executed lines, and the fault of the line that ends the run, if one does
 pub record Outcome : Type 0 where
   pub text : List ℕ
   pub fault : Option RunFault
@@ -151,7 +151,7 @@ stopped f = record { text = []; fault = Some f }
 abbrev pub preceded_by : List ℕ → Outcome → Outcome
 preceded_by front o = record { text = front ++ o.text; fault = o.fault }
 
--- the run over the lines from a state on, of which count are answered or skipped already
+-- the run over the lines from a state on, of which `count` are executed or skipped already
 abbrev pub outcome_from : ℕ → ScriptState → List (List ℕ) → Outcome
 outcome_from count state [] = record { text = []; fault = None }
 outcome_from count state (line ∷ more) =

@@ -1,5 +1,5 @@
-//! Audits a whole script: it is run without its output, and the serial order, what is found of each committed query,
-//! and the totals are written. All of it is a function of the history, so the number of workers does not show.
+//! Audits a whole script: it is run without its output, and the serial order, the finding of each committed query,
+//! and the totals are written. All of it is a function of the history, so the number of workers makes no difference.
 
 ghost use Rattle.esr_board.specs.declared.board.TheConstants.{MAX_SEATS};
 ghost use Rattle.std.specs.Prelude.{◌≡◌, ◌≤◌, ℕ, List, Some, false};

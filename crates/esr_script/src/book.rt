@@ -37,7 +37,7 @@ fn push_summaries(out: &mut Vec<u8>, names: &Names, summaries: &[Summary]) -> Re
     Ok(())
 }
 
-/// Appends the lines of an audit: the serial order, what was found of each query, and the totals.
+/// Appends the lines of an audit: the serial order, the finding of each query, and the totals.
 pub fn push_audit(
     out: &mut Vec<u8>,
     names: &Names,

@@ -69,7 +69,7 @@ impl QueryView for Bundling {
 
 /// Runs a script without writing its output, and writes the bundle of its query of that name, and a line feed.
 ///
-/// `NotACommittedQuery` exactly where the run has no fault and the name is that of no committed query. After a fault
+/// `NotACommittedQuery` exactly if the run has no fault and the name does not denote a committed query. After a fault
 /// other than `Write` nothing was written, after `Write` a prefix of the bundle and its line feed.
 pub fn certify<R: Read, W: Write, O: Observer>(
     alloc: Global,

@@ -38,7 +38,7 @@ impl<R> TeeReader<R> {
         }
     }
 
-    /// Keeps what was read.
+    /// Appends the bytes read to the copy.
     fn keep(&mut self, bytes: &[u8])
         ensures { lower self.new ≡ lower self.old }
     {

@@ -1,8 +1,9 @@
 //! The machine of a script, and an index of its history.
 //!
-//! A script may ask for one audit after another, and each needs to know who committed and what updates did. The index is kept from one to the
-//! next: a line that asks for an audit reads the entries that are new, and a script that asks for none pays nothing. What
-//! the index has read stays the beginning of the log, since the machine only adds to it.
+//! A script may request one audit after another, and each needs the committed transactions and the operations of
+//! updates. The index is kept between audits: an `audit` line reads the new entries only, and a script without audits
+//! pays nothing. The part of the log that the index has read stays its beginning, since the machine only appends to
+//! it.
 ghost use Rattle.std.specs.Prelude.{◌≡◌, IfOk, OnErr, IsErrOf, false, true, length};
 ghost use Rattle.esr_base.specs.declared.limits.TheConstants.{MAX_ENTRIES};
 ghost use Rattle.esr_history.specs.Machine.{reply_to, extended};

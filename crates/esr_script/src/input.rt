@@ -58,7 +58,7 @@ impl InputBuffer {
         self.start += count;
     }
 
-    /// Reads once, and gives the count of bytes that came: none at the end of the input.
+    /// Reads once, and returns the number of bytes read: 0 at the end of the input.
     pub fn fill<R: Read>(&mut self, reader: &mut Watched<R>) -> Result<usize, RunFault>
         requires { length self.old ≤ MAX_LINE_BYTES }
         ensures ok { IfOk result (λ n. (more : List ℕ) × (length more ≡ n) × (self.new ≡ self.old ++ more)

@@ -10,7 +10,7 @@ use crate::fault::RunFault;
 use esr_history::Watched;
 use std::io::Write;
 
-/// The room that an empty output buffer has. A line of names may make it larger.
+/// The capacity of an empty output buffer. A line of names may increase it.
 pub const OUTPUT_ROOM: usize = 65536;
 
 /// Writes out what the buffer holds, flushes it and empties the buffer.

@@ -1,6 +1,6 @@
-//! What a run keeps of the lines so far, and its answer to a line.
+//! The state of a run after the lines so far, and its reply to a line.
 //!
-//! A name that is not bound is asked of the machine all the same, as a transaction and an item that do not exist: so
+//! A request with an unbound name still goes to the machine, as a transaction or an item that does not exist: so
 //! there is one order of refusals, and the refusal is an entry like any other.
 
 ghost use Rattle.esr_board.specs.declared.board.TheConstants.{MAX_SEATS};
@@ -164,7 +164,7 @@ impl Script {
         line_or_fault(weighted_item_line(out, name, value, weight))
     }
 
-    /// Gives the machine an event, and answers with its reply. What it repeats of the line is copied from it.
+    /// Executes an event on the machine, and appends its reply. The names in the reply are copied from the line.
     #[inline(always)]
     fn ask(
         &mut self,
@@ -187,7 +187,7 @@ impl Script {
         line_or_fault(push_reply(out, &self.transactions, subject, echo, reply))
     }
 
-    /// Begins a transaction, whose name may not be bound already.
+    /// Begins a transaction, whose name must not be bound already.
     fn begin(&mut self, name: &str, event: Event, out: &mut Vec<u8>) -> Result<(), RunFault>
         ensures { Executes (begin self.old name.now event) self.new out.old.items out.new.items result }
     {
@@ -298,7 +298,7 @@ impl Script {
             }
             Err(fault) => return Err(fault),
         };
-        // let go before the line is made, which may be long
+        // dropped before the line is made, which may be long
         drop(found.problem);
         drop(found.certificate);
         line_or_fault(audit_line(
@@ -350,7 +350,7 @@ impl Script {
         }
     }
 
-    /// Lets the observer see each transaction, and what became of it.
+    /// Shows the observer each transaction, and its status.
     pub fn show_transactions<O: Observer>(&self, observer: &mut O) {
         for position in 0..self.transactions.len() {
             if let Some((name, status)) = self.transaction_at(position) {
@@ -389,7 +389,7 @@ impl Script {
         }
     }
 
-    /// Ends the run, and gives what it leads to, with the line of each entry.
+    /// Ends the run, and returns its final state, with the line of each entry.
     pub fn recording(mut self, lines: &[u32]) -> Result<Recording<'_>, RunFault>
         ensures recorded { IfOk result (IsRecorded self) }
         ensures faults { IfErr result (λ e. e ≡ RunFault.NoMemory) }
@@ -456,7 +456,7 @@ impl Script {
         }
     }
 
-    /// Obeys the command that the text spells.
+    /// Executes the command of a line.
     fn execute(&mut self, text: &[u8], line: Line<'_>, out: &mut Vec<u8>) -> Result<(), RunFault>
         requires { IsSyntaxOf text.now (view line) }
         ensures { Executes (execute self.old (view line.entry)) self.new out.old.items out.new.items result }

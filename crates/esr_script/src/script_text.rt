@@ -1,5 +1,5 @@
-//! Surveys a script: it is run without its output, and a text of all that it leads to is written, whatever the survey.
-//! After a fault other than a failed write nothing was written.
+//! Writes a text of a whole script: it is run without its output, and a view renders its final state. After a fault
+//! other than a failed write nothing was written.
 
 ghost use Rattle.std.specs.Prelude.{◌≡◌, ◌⊎◌, ℕ, List, IfOk, IfErr, false, Some};
 ghost use Rattle.esr_base.specs.Watch.{inner, failed};

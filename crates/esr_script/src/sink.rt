@@ -1,4 +1,4 @@
-//! Where the text of lines goes: to a writer, or nowhere.
+//! The sinks of the text of lines: a writer, or none.
 //!
 //! A run writes the replies of a script; a replay needs only the state that the script leads to. Both process the
 //! same lines, so there is one loop over them (`lines`), and its sink decides about the text. If the text is dropped,

@@ -33,7 +33,7 @@ end_there d h legal t f some =
     ap (end_at h.entries) is
     ∙ ap (λ (b : Bool). if b then Committed else (if is_some (last_place accepted_end t h.entries) then Aborted else Active)) (commit_at_end d h legal t)
 
--- what it was charged as an update
+-- the charges to an update
 pub charged_there : (h : Schedule) (t x : ℕ) → is_query (accepted_in h) t ≡ false → x ≡ export_in (charges_in weighted h) t → x ≡ charged_of weighted h t
 charged_there h t x is same = same ∙ sym (ap (λ (b : Bool). if b then import_in (charges_in weighted h) t else export_in (charges_in weighted h) t) is)
 

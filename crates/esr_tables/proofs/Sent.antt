@@ -1,4 +1,4 @@
--- The ledger of what a script leads to.
+-- The ledger of a script.
 use Rattle.std.proofs.Common.{◌≡◌, ◌∙◌, ℕ, List, ap, IfOk, Result, Ok, Err}
 use Rattle.esr_items.specs.Weights.{weighted}
 use Rattle.esr_history.specs.Machine.{Schedule}

@@ -51,7 +51,7 @@ row_line name r first last = csv_line (decimal r.number.0) (
     name ∷ kind_word r.kind ∷ amounts r ++ end_word r.end ∷ optional r.distance ∷ decimal first ∷ decimal last ∷ []
     )
 
--- the same, where transactions have these names, and go from and to these lines
+-- the line of a row, given the names of the transactions and their first and last lines
 abbrev pub named_line : (names : List (List ℕ)) → (first last : ℕ → ℕ) → Row → List ℕ
 named_line names first last r = row_line (name_of_transaction names r.number.0) r (first r.number.0) (last r.number.0)
 

@@ -1,4 +1,4 @@
--- What a ledger is, of a history and of a script.
+-- The ledger of a history and of a script.
 use Rattle.std.specs.Prelude.{◌≡◌, ℕ, List, ⊤}
 use Rattle.esr_items.specs.Weights.{weighted}
 use Rattle.esr_history.specs.Machine.{Schedule}

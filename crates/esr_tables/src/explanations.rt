@@ -1,5 +1,5 @@
-//! What is explained of a query, for programs. The fields are the words of the explanation's own text, line by line, and
-//! nothing is computed once more: so the two cannot differ.
+//! The explanation of a query, for programs. The fields are the words of the explanation's own text, line by line,
+//! and nothing is recomputed: so the two cannot differ.
 
 use crate::format::Data;
 use crate::words::push_word;

@@ -21,8 +21,8 @@ use esr_report::Names;
 use esr_views::{Recording, ScriptView};
 use std::alloc::{AllocError, Global};
 
-/// What each transaction of a script did: its kind and limit, what it was charged, how its lines were answered, how it
-/// ended and, of a committed query, how far it was from the nearest serial placement.
+/// The data of each transaction of a script: its kind and limit, its charges, the replies to its lines, its end and,
+/// for a committed query, its distance from the nearest serial placement.
 #[derive(Clone, Copy)]
 pub struct Ledger {
     pub format: Format,

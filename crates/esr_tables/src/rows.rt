@@ -28,15 +28,15 @@ pub enum RowEnd {
     Active,
 }
 
-/// What a history says of a transaction.
+/// A history's data about a transaction.
 #[derive(Clone, Copy)]
 pub struct Row {
     pub number: TxnId,
     pub kind: RowKind,
     pub limit: u64,
-    /// What it imported as a query, or exported as an update.
+    /// The import of a query, or the export of an update.
     pub charged: u64,
-    /// What is left of the limit.
+    /// The rest of the limit.
     pub left: u64,
     pub tally: Tally,
     pub end: RowEnd,
@@ -44,7 +44,7 @@ pub struct Row {
     pub distance: Option<u64>,
 }
 
-/// What is found of all transactions at once.
+/// The columns of all transactions.
 #[derive(Drop)]
 pub struct Columns {
     kinds: Vec<RowKind>,

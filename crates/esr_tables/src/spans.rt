@@ -1,5 +1,5 @@
-//! From which line of the script to which a transaction goes. The history knows no lines: they were kept while the script
-//! was answered, or are counted for the script that the history would have. No clause says which they are.
+//! The first and the last line of each transaction. The history has no lines: they are recorded while the script
+//! runs, or counted for the script that the history would have. No clause specifies them.
 
 ghost use Rattle.std.specs.Prelude.{◌≡◌};
 ghost use Rattle.esr_tables.specs.Spans.{first_of, last_of};

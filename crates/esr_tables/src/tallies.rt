@@ -11,7 +11,7 @@ use esr_history::{Entry, Event, History, Refusal, Reply};
 use esr_items::Weighted;
 use std::alloc::{AllocError, Global};
 
-/// How often lines of a transaction were answered, and how.
+/// The counts of a transaction's lines, by their replies.
 #[derive(Clone, Copy)]
 pub struct Tally {
     /// Accepted reads.

@@ -62,7 +62,7 @@ fn push_spaces(out: &mut String, count: usize) -> Result<(), AllocError> {
     Ok(())
 }
 
-/// Appends what is in a cell, on its side.
+/// Appends the content of a cell, aligned.
 fn push_cell(
     out: &mut String,
     cell: Cell,

@@ -147,7 +147,7 @@ const THROUGH_A_THIRD_ITEM: [Asked; 12] = [
     Commit(1),
 ];
 
-/// Two updates write over what a report read, before it reads again.
+/// Two updates overwrite values that a report has read, before it reads again.
 const OVER_A_REPORT: [Asked; 11] = [
     Query(100),
     Update(100),

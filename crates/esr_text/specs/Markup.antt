@@ -38,6 +38,6 @@ pub data Closes : List ℕ → List ℕ → Type 0 where
   next : (path plain tag remainder rest : List ℕ) → IsPlain plain → Tag path tag remainder → Closes remainder rest
       → Closes path (plain ++ (60 ∷ (tag ++ (62 ∷ rest))))
 
--- what may stand within an element: it closes what it opens
+-- the permitted content of an element: it closes what it opens
 abbrev pub IsMarkup : List ℕ → Type 0
 IsMarkup text = Closes [] text

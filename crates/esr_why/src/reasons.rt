@@ -74,7 +74,7 @@ struct Reporter<'a> {
 }
 
 impl Reporter<'_> {
-    /// Tells why an entry of a transaction was blocked, which comes next.
+    /// Reports why the next entry, of a transaction, was blocked.
     fn report_entry(&mut self, place: usize, entry: Entry, txn: TxnId) -> Result<(), AllocError>
         requires { entry.reply ≡ reply_to weighted self.old.replay entry.event }
         ensures replay { self.new.replay ≡ self.old.replay }

@@ -1,4 +1,4 @@
-//! A replay of a history, entry by entry: what a blocked event met is asked of the machine that it was put to.
+//! Replays a history, entry by entry: the machine knows what a blocked event met.
 
 ghost use Rattle.std.specs.Prelude.{◌≡◌, ◌<◌, length, map, All, ◌≤◌, IfOk, OnOk, OnErr};
 ghost use Rattle.esr_items.specs.Values.{IsValue};

@@ -1,4 +1,4 @@
-//! The words of a line: what was asked, what kept it back, and when that ended.
+//! The text of a line: the event, what blocked it, and when the blocker ended.
 
 use crate::replay::Lock;
 use crate::shortfall::{Shortfall, Side};

@@ -1,4 +1,4 @@
-//! What a blocked event would have added to the limits that it would have passed.
+//! The charges of a blocked event to the limits that it would have exceeded.
 //!
 //! A refusal names one transaction, the first in the order of reasons. But a write may exceed the limits of several
 //! queries, and of its own update as well: the report lists every limit that would have to be raised. So all charges
@@ -20,7 +20,7 @@ use esr_items::{ItemId, Metric};
 use esr_locks::QueryReads;
 use std::alloc::{AllocError, Global};
 
-/// Whose limit it is: a query's, of what it imports, or an update's, of what it exports.
+/// The limit: a query's, on its imports, or an update's, on its exports.
 #[derive(Clone, Copy)]
 pub enum Side {
     Import,
@@ -34,7 +34,7 @@ pub struct Shortfall {
     pub txn: TxnId,
     /// What would have been charged.
     pub due: u128,
-    /// What had been charged before.
+    /// The charges before.
     pub used: u64,
     pub limit: u64,
     /// The smallest limit that this would be within.

@@ -123,7 +123,7 @@ impl LastEntries {
         }
     }
 
-    /// Returns whether a walk from the entry at a place comes by a transaction for the first time.
+    /// Returns whether a walk from the entry at a place meets a transaction for the first time.
     fn meets(&mut self, txn: TxnId, place: usize) -> bool
         ensures { self.new.places ≡ self.old.places }
     {

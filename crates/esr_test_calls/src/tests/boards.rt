@@ -57,7 +57,7 @@ fn close_with(
     board.close(given)
 }
 
-/// Since others may claim in between, no clause says which number a claim gives; by one thread they come in order.
+/// Since others may claim in between, no clause specifies the number of a claim; with one thread they are in order.
 #[test]
 fn every_claim_closes_the_board(rt: HostRuntime) {
     let (board, mut first, second) = claim_three(&rt, rt.alloc());
@@ -76,7 +76,8 @@ fn a_seat_that_drew_is_missing(rt: HostRuntime) {
     assert!(rt; close_with(&rt, rt.alloc(), board, second) == Err(ClaimsMissing));
 }
 
-/// The clause lets a close be refused wherever a seat is kept back; one that drew nothing is no reason for it.
+/// The clause permits an error for a close whenever a seat is missing; a seat that claimed nothing is no reason for
+/// one.
 #[test]
 fn a_seat_that_drew_nothing_is_not_missed(rt: HostRuntime) {
     let (board, mut first, second) = three_jobs(&rt, rt.alloc());

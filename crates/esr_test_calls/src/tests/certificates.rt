@@ -109,7 +109,7 @@ const SEEN: Parts<'static> = Parts {
     worth: 5,
 };
 
-/// What is put in the place of one part of a certificate.
+/// A replacement of one part of a certificate.
 #[derive(Clone, Copy)]
 enum Change<'a> {
     Nothing,
@@ -345,7 +345,7 @@ fn a_problem_keeps_its_parts(rt: HostRuntime) {
     assert!(rt; problem.must().len() == 0);
 }
 
-/// The contract lets out of memory come in place of each fault; and that shape comes before range is a definition's.
+/// The contract permits out of memory in place of each fault; and a definition determines that shape precedes range.
 #[test]
 fn a_problem_keeps_its_rules(rt: HostRuntime) {
     for (i, (asked, fault)) in faulty_problems().iter().enumerate() {

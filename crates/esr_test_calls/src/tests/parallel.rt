@@ -122,7 +122,7 @@ fn is_of_two_updates(book: &Book) -> bool {
         && is_of_the_first_report(&book.findings[0])
 }
 
-/// By its contract each audit may be out of memory: here one, two and the most workers find all that there is.
+/// By its contract each audit may be out of memory: here one, two and the maximum number of workers find the same.
 #[test]
 fn each_number_of_workers_finds_the_same(rt: HostRuntime) {
     let m = machine_after_report(&rt, rt.alloc());
@@ -142,7 +142,7 @@ fn an_audit_has_1_to_64_workers(rt: HostRuntime) {
     }
 }
 
-/// No contract gives a thread time or memory: four workers have nothing to claim here, and the audit still ends.
+/// No contract guarantees a thread time or memory: four workers have nothing to claim here, and the audit still ends.
 #[test]
 fn an_empty_history_has_no_findings(rt: HostRuntime) {
     let m = machine(&rt, rt.alloc());

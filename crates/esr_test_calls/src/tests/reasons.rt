@@ -137,7 +137,7 @@ static ROWS: [Row; 34] = [
     ),
     // The first word alone.
     (b"commit", 7, "missing name; usage: commit TRANSACTION"),
-    // What `totals` is asked with.
+    // The argument of `totals`.
     (b"totals q", 8, "unexpected \"q\"; usage: totals"),
     // A line of another kind of file.
     (

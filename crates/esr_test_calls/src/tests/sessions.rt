@@ -146,7 +146,7 @@ where
     back
 }
 
-/// Closes the engine with one session kept back, which is refused, and then with all.
+/// Closes the engine without one session, which fails, and then with all.
 fn close_twice<N: Naming, R: Wait + Abort>(
     rt: &R,
     engine: Engine<Plain, N>,

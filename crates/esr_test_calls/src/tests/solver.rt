@@ -1,5 +1,5 @@
-//! Problems solved by the search from the flow of zeros, and what is found of them by hand. The contract of `solve`
-//! gives worth and smallest set. It leaves open which maximum flow is found, and lets it be out of memory always.
+//! Problems solved by the search from the zero flow, and their solutions by hand. The contract of `solve` specifies
+//! the worth and the smallest set. It leaves open which maximum flow is found, and permits out of memory always.
 
 use super::certificates::{Item, chains};
 use esr_cert::{Certificate, Problem};
@@ -8,7 +8,7 @@ use esr_history::{NoMemory, TxnId};
 use std::alloc::Global;
 use std::process::Abort;
 
-/// A problem, and what is found of it.
+/// A problem, and its solution.
 struct Row {
     name: &'static str,
     updates: &'static [TxnId],

@@ -10,7 +10,7 @@ use std::process::Abort;
 
 type Words = &'static [&'static str];
 
-/// Words of the command line, and the work that each line asks for.
+/// Command lines, and the task that each requests.
 static TASKS: [(Words, Task<'static>); 25] = [
     // `run` takes no name: it answers every line.
     (&["esr", "run"], Task::Run),
@@ -98,19 +98,19 @@ static TASKS: [(Words, Task<'static>); 25] = [
     ),
     // A picture is of one query too.
     (&["esr", "picture", "q"], Task::Picture { name: "q" }),
-    // Where no workers are asked for, there are four.
+    // The default number of workers is four.
     (&["esr", "audit"], Task::Audit { workers: 4 }),
     // The fewest workers.
     (
         &["esr", "audit", "--workers", "1"],
         Task::Audit { workers: 1 },
     ),
-    // The most workers, and the other spelling of an option with its value.
+    // The maximum number of workers, and the other syntax of an option with its value.
     (
         &["esr", "audit", "--workers=64"],
         Task::Audit { workers: 64 },
     ),
-    // Where a drive asks for no workers, there are four as well.
+    // The default number of workers of a drive is four as well.
     (
         &["esr", "drive"],
         Task::Drive {
@@ -158,7 +158,7 @@ static TASKS: [(Words, Task<'static>); 25] = [
     (&["esr", "why"], Task::Why { name: None }),
     // The transaction follows the file.
     (&["esr", "why", "-", "u"], Task::Why { name: Some("u") }),
-    // A script is looked at without a name.
+    // A script is checked without a name.
     (&["esr", "lint"], Task::Lint),
     // A page shows ten queries in full if no number is given.
     (&["esr", "page"], Task::Page { worst: 10 }),
@@ -192,7 +192,7 @@ fn words_ask_for_their_work(rt: HostRuntime) {
     }
 }
 
-/// Words, the file that they name, and whether they ask for `--bail`.
+/// Command lines, the file that they name, and whether they contain `--bail`.
 static FILES: [(Words, Option<&str>, bool); 6] = [
     // Standard input if no file is named.
     (&["esr", "run"], None, false),
@@ -234,7 +234,7 @@ fn words_name_their_file(rt: HostRuntime) {
 
 /// Words, when they want progress to be shown, and how they want it written.
 static WAYS: [(Words, Progress, Option<Format>); 7] = [
-    // Nothing is said: where there is a terminal, and as text.
+    // The defaults: progress at a terminal, and text.
     (&["esr", "run"], Progress::AtATerminal, Some(Format::Text)),
     // A script that is watched from elsewhere.
     (
@@ -298,7 +298,7 @@ fn options_choose_the_format(rt: HostRuntime) {
     }
 }
 
-/// Words that ask for no job, what is said of them, and the exit status.
+/// Command lines that request no job, their error, and the exit status.
 static OTHERS: [(Words, ErrorKind, i32); 18] = [
     // A job has to be named.
     (&["esr"], ErrorKind::MissingSubcommand, 2),
@@ -316,7 +316,7 @@ static OTHERS: [(Words, ErrorKind, i32); 18] = [
         ErrorKind::UnknownArgument,
         2,
     ),
-    // `check` has no `--bail`: its status says what is judged.
+    // `check` has no `--bail`: its status is the verdict.
     (&["esr", "check", "--bail"], ErrorKind::UnknownArgument, 2),
     // An explanation needs a name too.
     (&["esr", "explain"], ErrorKind::MissingRequiredArgument, 2),
@@ -350,15 +350,15 @@ static OTHERS: [(Words, ErrorKind, i32); 18] = [
     (&["esr", "drive", "--workers"], ErrorKind::InvalidValue, 2),
     // Help on request is not a mistake.
     (&["esr", "--help"], ErrorKind::DisplayHelp, 0),
-    // Help on one job, asked for by a word.
+    // Help on one job, requested by a subcommand.
     (&["esr", "help", "run"], ErrorKind::DisplayHelp, 0),
-    // The same, asked for by an option.
+    // Help on one job, requested by an option.
     (&["esr", "run", "--help"], ErrorKind::DisplayHelp, 0),
     // Neither is the version.
     (&["esr", "--version"], ErrorKind::DisplayVersion, 0),
 ];
 
-/// Compares what is said of words with this, and the exit status.
+/// Compares the error of a command line, and the exit status.
 fn check_words(rt: &impl Abort, alloc: Global, words: Words, kind: ErrorKind, status: i32) {
     let Err(error) = job_of(alloc, words) else {
         panic!(rt; "{:?} asks for no job", words)

@@ -69,7 +69,7 @@ fn book_of(alloc: Global, m: &Machine<Plain>) -> Result<Book, AuditError> {
     }
 }
 
-/// What is found of a query.
+/// The finding of a query.
 #[derive(Clone, Copy)]
 struct Row<'a> {
     query: u32,
@@ -135,7 +135,7 @@ fn book_in(rt: &impl Abort, alloc: Global, opening: &[i64], events: &[Asked]) ->
     book_now(rt, alloc, &m)
 }
 
-/// A history, and what is found of a query.
+/// A history, and the finding of a query.
 struct Case {
     name: &'static str,
     opening: &'static [i64],
@@ -276,7 +276,7 @@ static CASES: [Case; 9] = [
     },
 ];
 
-/// A wrong definition of distance or import would be proved: what is found by hand and by plain programs must agree.
+/// A wrong definition of distance or import would be proved: the findings by hand and by plain programs must agree.
 #[test]
 fn queries_are_audited(rt: HostRuntime) {
     for case in &CASES {

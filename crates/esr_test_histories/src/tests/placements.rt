@@ -92,7 +92,7 @@ fn operations_in(alloc: Global, log: &Log) -> Result<Vec<Operation>, AllocError>
     Ok(operations)
 }
 
-/// Returns whether an operation of v comes before this one and conflicts with it.
+/// Returns whether an operation of v precedes this one and conflicts with it.
 fn follows(operations: &[Operation], v: u32, late: Operation) -> bool {
     for early in operations {
         let conflicts = early.item == late.item && (early.write || late.write);

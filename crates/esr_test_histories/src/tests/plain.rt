@@ -845,7 +845,7 @@ fn counts(log: &Log) -> (u32, u32, u32) {
     (blocked, aborts, strict)
 }
 
-/// Fast forms are proved against definitions that may be wrong: scans that share nothing with them must say the same.
+/// Fast forms are proved against definitions that may be wrong: scans that share no code with them must agree.
 #[test]
 fn fast_forms_are_the_plain_ones(rt: HostRuntime) {
     let Some(m) = draw_history(rt.alloc(), 11) else {

@@ -23,7 +23,7 @@ fn change_bundle(alloc: Global, row: &Row) -> Result<String, AllocError> {
     Ok(text)
 }
 
-/// Judges the bundle, and compares what is written with the line.
+/// Judges the bundle, and compares the output with the line.
 fn has_verdict(rt: &impl Abort, alloc: Global, text: &str, line: &str) {
     let mut reader = Watched::new(text.as_bytes());
     let mut writer = Watched::new(Vec::new(alloc));
@@ -32,7 +32,7 @@ fn has_verdict(rt: &impl Abort, alloc: Global, text: &str, line: &str) {
     check_written(rt, &writer, line, text);
 }
 
-/// A verdict is proved against definitions; one that gives a fault another number would be proved as well.
+/// A verdict is proved against definitions; one that assigns another number to a fault would be proved as well.
 #[test]
 fn bundles_have_their_verdicts(rt: HostRuntime) {
     for row in table() {
@@ -41,7 +41,7 @@ fn bundles_have_their_verdicts(rt: HostRuntime) {
     }
 }
 
-/// JSON leaves the order of keys and white space free; a definition that knows one spelling alone would be proved.
+/// JSON permits any order of keys and any white space; a definition that permits a single form would be proved.
 #[test]
 fn keys_may_come_in_any_order_with_white_space(rt: HostRuntime) {
     has_verdict(

@@ -30,7 +30,7 @@ const SCRIPT: &str = "item a 0\n\
 const BUNDLE: &str =
     r#"{"certificate":{"back_flow":[0],"chain_flow":[[0,0,1],[1,0]],"set":[0,1],"worth":1},"problem":{"before":[[0,1]],"chains":[{"costs":[0,10,1],"item":0,"writers":[0,1]},{"costs":[8,0],"item":1,"writers":[1]}],"updates":[2,3]}}"#;
 
-/// The same updates, of which one left another value: it is valid, and of another problem.
+/// The same updates, one of which left another value: the bundle is valid, and of another problem.
 const UNLIKE: &str =
     r#"{"certificate":{"back_flow":[0],"chain_flow":[[0,0,1],[1,0]],"set":[0,1],"worth":1},"problem":{"before":[[0,1]],"chains":[{"costs":[0,9,1],"item":0,"writers":[0,1]},{"costs":[8,0],"item":1,"writers":[1]}],"updates":[2,3]}}"#;
 
@@ -69,7 +69,7 @@ fn claims(rt: &impl Abort, alloc: Global, name: &str, bundle: &str, wanted: &str
     );
 }
 
-/// The same problem, another query's, one of as many updates, a fault, and no bundle.
+/// The same problem, another query's, one of as many updates, a fault, and bytes that are not a bundle.
 #[test]
 fn a_bundle_is_of_one_query(rt: HostRuntime) {
     let alloc = rt.alloc();

@@ -1,4 +1,4 @@
-//! Devices that fail, and what is checked of them.
+//! Devices that fail, and the checks of them.
 ghost use Rattle.std.specs.Prelude.{◌≡◌, false};
 ghost use Rattle.esr_base.specs.Watch.{failed};
 

@@ -25,7 +25,7 @@ pub const BANK: &str = "item checking 500\n\
         read report savings\n\
         commit report\n";
 
-/// What is drawn of it, without the first line, the style and the legend.
+/// The picture of the bank, without the first line, the style and the legend.
 static BANK_DRAWN: [&str; 20] = [
     "<title id='report-title'>Audit of report</title>\n",
     "<desc id='report-desc'>Distance 100, import 100. In order: [report], transfer. checking: read 500, as at its place. savings: read 1,600, off by 100 from its place.</desc>\n",
@@ -76,7 +76,7 @@ fn draw<R: Read, W: Write>(
     render_query(alloc, reader, writer, name, &Drawing, &mut Unobserved)
 }
 
-/// Draws the query of that name, and looks for texts in what is written.
+/// Draws the query of that name, and searches the output for texts.
 fn has(rt: &impl Abort, alloc: Global, script: &str, name: &str, texts: &[&str]) {
     let mut reader = Watched::new(script.as_bytes());
     let mut writer = Watched::new(Vec::new(alloc));
@@ -89,7 +89,8 @@ fn has(rt: &impl Abort, alloc: Global, script: &str, name: &str, texts: &[&str])
     }
 }
 
-/// No clause says what a picture shows: with each lane green on the wrong side of the update it would be proved.
+/// No clause specifies the content of a picture: with each lane green on the wrong side of the update, it would be
+/// proved.
 #[test]
 fn a_report_of_the_bank_is_drawn(rt: HostRuntime) {
     has(&rt, rt.alloc(), BANK, "report", &BANK_DRAWN);
@@ -144,8 +145,8 @@ fn lines_with_errors_are_drawn(rt: HostRuntime) {
     }
 }
 
-/// A value that was read and given up, one that was read twice, one that its writer wrote over, and one that was given up
-/// and is the item's own all the same.
+/// A read value that was undone, one that was read twice, one that its writer overwrote, and one that was undone but
+/// is also the item's own value.
 #[test]
 fn values_that_were_undone_are_described(rt: HostRuntime) {
     let texts = [
@@ -211,8 +212,8 @@ fn count(alloc: Global, script: &str, text: &str) -> usize {
     written.matches(text).count()
 }
 
-/// Of few updates all are drawn, of more those that bound what is seen of the lanes: here three, with the lane that is as
-/// read and keeps the line from the end, where the other one would be exact.
+/// Few updates are all drawn; of many, those that bound the visible part of the lanes: here three, with the lane
+/// whose value is as read and keeps the line from the end, where the other one would be exact.
 #[test]
 fn of_many_updates_the_bounding_ones_are_drawn(rt: HostRuntime) {
     let lanes = ("class='m n' x='20'", 3);

@@ -33,7 +33,7 @@ pub fn run_script<R: Read, W: Write>(
     run(alloc, reader, writer, &mut Unobserved)
 }
 
-/// Runs a script, and compares what is written with the text.
+/// Runs a script, and compares the output with the text.
 fn answers(
     rt: &impl Abort,
     alloc: Global,

@@ -69,7 +69,7 @@ number  name     kind    limit  charged  left  reads  writes  lock  import  expo
      6  late     query       7        0     7      0       0     0       0       0  active            -    24  24
 ";
 
-/// A report that reads what a transfer has written and not committed.
+/// A report that reads an uncommitted write of a transfer.
 const BANK: &str = "item checking 500\n\
         item savings 1400\n\
         begin early update 0\n\
@@ -84,7 +84,7 @@ const BANK: &str = "item checking 500\n\
         commit transfer\n\
         commit report\n";
 
-/// Compares what a survey of a script writes.
+/// Compares the output of a view of a script.
 fn writes<S: ScriptView>(rt: &impl Abort, alloc: Global, script: &str, view_of: &S, text: &str) {
     script_views(rt, alloc, script, view_of, Ok(()), text);
 }

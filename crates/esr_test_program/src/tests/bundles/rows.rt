@@ -1,4 +1,4 @@
-//! Worked bundles, each with a change and what is said of it.
+//! Worked bundles, each with a change and the verdict.
 
 /// Two updates over a report: the set holds both.
 pub const TWO_UPDATES: &str =
@@ -71,7 +71,7 @@ static ROWS: [Row; 44] = [
         new: r#""back_flow":[]"#,
         line: "invalid 4\n",
     },
-    // At an update more comes in than leaves.
+    // The flow into an update exceeds the flow out of it.
     Row {
         bundle: TWO_UPDATES,
         old: "[0,0,1],[1,0]",
@@ -92,7 +92,7 @@ static ROWS: [Row; 44] = [
         new: r#""set":[]"#,
         line: "invalid 6\n",
     },
-    // It is no JSON.
+    // It is not JSON.
     Row {
         bundle: TWO_UPDATES,
         old: "[2,3]}}",
@@ -141,7 +141,7 @@ static ROWS: [Row; 44] = [
         new: r#""before":[[0,1],[1,18446744073709551615]]"#,
         line: "bad 3\n",
     },
-    // One of more than 64 bits is no number of a bundle.
+    // A number of more than 64 bits is not permitted in a bundle.
     Row {
         bundle: TWO_UPDATES,
         old: r#""before":[[0,1]]"#,
@@ -295,7 +295,7 @@ static ROWS: [Row; 44] = [
         new: r#""must_flow":[],"set""#,
         line: "valid 0\n",
     },
-    // As it was written, with what a set has to hold.
+    // The bundle as written, with the required updates of a set.
     Row {
         bundle: STRICT,
         old: "",
@@ -316,7 +316,7 @@ static ROWS: [Row; 44] = [
         new: r#""must_flow":[]"#,
         line: "invalid 4\n",
     },
-    // Its amount is not what leaves there.
+    // Its amount differs from the flow out of the update.
     Row {
         bundle: STRICT,
         old: r#""must_flow":[5]"#,

@@ -175,7 +175,7 @@ fn strict_report_is_certified(rt: HostRuntime) {
     );
 }
 
-/// The contract lets out of memory come in place of this refusal, whatever else the name stands for.
+/// The contract permits out of memory in place of this refusal, whatever else the name denotes.
 #[test]
 fn what_is_no_committed_query_is_refused(rt: HostRuntime) {
     let refused = Err(RunFault::NotACommittedQuery);

@@ -159,7 +159,7 @@ fn reads_are_described_next_to_the_nearest_placement(rt: HostRuntime) {
     check_explanation(&rt, rt.alloc(), BETWEEN, "q", Ok(()), BETWEEN_EXPLAINED);
 }
 
-/// The contract lets out of memory come in place of this refusal, also where the query is still active.
+/// The contract permits out of memory in place of this refusal, also if the query is still active.
 #[test]
 fn only_committed_queries_are_explained(rt: HostRuntime) {
     let none = Err(RunFault::NotACommittedQuery);

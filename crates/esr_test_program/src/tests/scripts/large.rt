@@ -15,7 +15,7 @@ struct Long {
     tail: &'static str,
 }
 
-/// A script, how it ends, and what it writes.
+/// A script, its result, and its output.
 struct Row {
     name: &'static str,
     script: Long,
@@ -144,7 +144,7 @@ fn written_out(alloc: Global, long: Long) -> Result<String, AllocError> {
     Ok(text)
 }
 
-/// Runs the scripts, and compares what is written with their texts.
+/// Runs the scripts, and compares their output with the texts.
 fn have_texts(rt: &impl Abort, alloc: Global, rows: &[Row]) {
     for row in rows {
         let script = written_out(alloc, row.script).expect(rt, "memory");
