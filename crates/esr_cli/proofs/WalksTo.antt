@@ -1,7 +1,6 @@
 -- The walk along the arguments of a subcommand, one by one. One lemma passes an argument of which only the kind,
 -- operand, is known: if such a walk were computed as a whole, each test of the argument would remain open, and the
 -- term would double with each.
--- the term would double with each.
 use Rattle.std.proofs.Common.{◌≡◌, ◌∙◌, ap, ap₂, refl, ℕ, cond, false, fold, List, [], ◌∷◌, None, is_some, bytes_eq}
 use Rattle.clap.specs.Lexer.{long_of, short_of}
 use Rattle.clap.specs.Walk.{Held, Rule, Step, Text, Waiting, Walk, after_step, finished, idle, nothing_held, option, plain_word, positional, settled, subcommand_met, walk_from, walked, walked_from, word_met}

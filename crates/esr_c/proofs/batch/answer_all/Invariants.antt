@@ -1,4 +1,3 @@
--- What holds at each turn of the loop in `answer_all`.
 use Rattle.std.proofs.Common.{◌≡◌, true}
 use Rattle.esr_c.specs.Many.{AreAnswered, events_in, replies_to}
 use Rattle.esr_c.proofs.InTurn.{all_accepted}

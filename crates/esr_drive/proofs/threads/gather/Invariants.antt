@@ -1,4 +1,3 @@
--- What holds at each turn of the loop in `gather`.
 use Rattle.std.proofs.Common.{◌≡◌, Ok, None, map}
 use Rattle.esr_drive.specs.Faults.{reported_fault}
 use Rattle.esr_drive.proofs.threads.gather.Given as goal

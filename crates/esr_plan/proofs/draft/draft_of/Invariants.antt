@@ -1,4 +1,3 @@
--- What holds at each turn of the loop in `draft_of`.
 use Rattle.std.proofs.Common.{◌≡◌, ◌+◌, ◌<◌, length}
 use Rattle.esr_grammar.specs.Lines.{lines}
 use Rattle.esr_plan.specs.Plan.{plan_from, nothing}
