@@ -7,7 +7,7 @@ MAX_COST = 2 * 10**18
 
 
 class Bad(Exception):
-    """The text is no bundle: 1 no JSON, 2 the wrong shape, 3 a number out of range."""
+    """The text is not a bundle: 1 not JSON, 2 the wrong shape, 3 a number out of range."""
 
     def __init__(self, number):
         super().__init__(number)

@@ -19,7 +19,7 @@ class Script:
         self.lines.append(f"read {txn} {item}")
 
     def update(self, name, writes, between=()):
-        """An update with its writes; after each write the reads of `between` that stand at its place."""
+        """Adds an update with its writes; each write is followed by the reads of `between` at its index."""
         self.lines.append(f"begin {name} update {LIMIT}")
         for place, (item, value) in enumerate(writes):
             self.lines.append(f"write {name} {item} {value}")
@@ -32,7 +32,7 @@ class Script:
 
 
 def rounds(count, lanes, name_width, large, twice=False):
-    """A report that reads each of some items among so many updates, each of which moves something between two."""
+    """Returns a report that reads `lanes` items among `count` updates, each of which moves an amount between two."""
     pad = lambda stem, i: (stem + str(i)).rjust(name_width, "W") if name_width else stem + str(i)
     value = lambda i: -10 ** 12 + i if large else 100 + i
     names = [pad("a", i) for i in range(lanes)]
@@ -74,7 +74,7 @@ def random_script(seed):
 
 
 def large_script():
-    """A report of 1,000 reads beside 20,000 updates."""
+    """Returns a report of 1,000 reads, concurrent with 20,000 updates."""
     names = [f"i{i}" for i in range(1000)]
     script = Script([(name, i) for i, name in enumerate(names)])
     script.query("q")
@@ -86,7 +86,7 @@ def large_script():
 
 
 def one_item(count, reads):
-    """One item that every update writes, read so many times."""
+    """Returns a report that reads, `reads` times, the one item that every update writes."""
     script = Script([("x", 0)])
     script.query("q")
     for i in range(count):
@@ -96,7 +96,7 @@ def one_item(count, reads):
 
 
 def strict():
-    """A strict report behind an update, which reads what is never committed."""
+    """Returns a strict report after an update; the report reads a value that is never committed."""
     script = Script([("x", 0)])
     script.update("first", [("x", 5)])
     script.query("q", True)

@@ -1,10 +1,10 @@
 """Three schedules of PostgreSQL's own tests of isolation, `receipt-report`, `total-cash` and `read-only-anomaly`, and
 two smaller ones: two or three sessions, in every order of their steps, recorded and audited.
 
-The steps are written anew here. What its manual says of a level decides, by the order of the steps alone, in which
-orders a schedule goes wrong: at read committed a statement sees what had committed when it began, and at repeatable
-read a transaction what had committed when its first statement began. The audit has to find just these. At
-serializable no order may go wrong, so in each of them the server has to refuse a session.
+The steps are rewritten here. The manual's definition of an isolation level decides, by the order of the steps alone,
+in which orders a schedule goes wrong: at read committed a statement sees the commits before its start, and at
+repeatable read a transaction sees the commits before the start of its first statement. The audit has to find just
+these. At serializable no order may go wrong, so in each of them the server has to refuse a session.
 """
 
 import dataclasses
@@ -49,7 +49,7 @@ class Step:
 class Schedule:
     """Tables with opening rows, and the steps of each session; a commit follows the last. `goes_wrong` says of an
     order whether it ends as no serial order would, at a level that does not see to it. Rows belong to an order, by
-    the number `n`, so that one record may tell of many orders."""
+    the number `n`, so that one record may contain many orders."""
 
     name: str
     tables: typing.Tuple[str, ...]
@@ -271,7 +271,7 @@ def played_together(dsn, schedule, level, audited):
 
 
 def played_apart(dsn, schedule, level):
-    """Plays each order of a schedule of two updates as a record of its own; those in which one waits are left out."""
+    """Executes each order of a schedule of two updates as a separate record; orders in which one waits are omitted."""
     for order in schedule.orders():
         player = Player(dsn, schedule, level, 1)
         end = player.play(0, order)

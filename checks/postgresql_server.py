@@ -32,7 +32,7 @@ def tools():
 
 
 def _owner():
-    """Who runs the server: root may not, so then the user postgres, or nobody."""
+    """Returns the user to run the server: root may not, so then the user `postgres` or `nobody`."""
     if os.geteuid():
         return {}
     for name in ("postgres", "nobody"):

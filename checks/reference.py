@@ -351,7 +351,7 @@ def audit(text):
     return [f"order {order or '-'}", *audits, machine.totals()], None
 
 
-# ---- what is told on standard error
+# ---- the messages on standard error
 
 FAULT = re.compile(
     r"esr: (read failed|write failed|line too long|out of memory|history full|too many lines|input too long"
@@ -368,7 +368,7 @@ def told(error):
 
 
 def at_fault(output):
-    """How many lines of a script were answered by an error."""
+    """Returns the number of lines of a script whose reply is an error."""
     return sum(line.startswith("error ") for line in output)
 
 
@@ -385,7 +385,7 @@ class Drive:
         self.begun = set()  # the names of all begin lines
 
     def error(self, line):
-        """The number of the error of a line, or None where it has its place."""
+        """Returns the number of a line's error, or None after adding it to the plan."""
         spelled = command(line)
         kind, words = spelled or (None, [])
         if kind in ("item", "weighted item"):

@@ -1,13 +1,13 @@
 /* Preloaded before the program: refuses its requests to the system, as its environment asks.
  *
- *   REFUSE_MEMORY=N   the Nth request for memory is refused
+ *   REFUSE_MEMORY=N   the Nth allocation fails
  *   REFUSE_THREAD=N   the Nth thread is not started
  *   REFUSE_READ=N     the Nth read of standard input fails
  *   REFUSE_WRITE=N    the Nth write to standard output fails
  *   NO_WRITE=N        the Nth write to standard output takes no byte
- *   SHORT_READ=1      each read gives one byte
+ *   SHORT_READ=1      each read returns one byte
  *   SHORT_WRITE=1     each write takes one byte
- *   REFUSED=FILE      the file is made where something was refused
+ *   REFUSED=FILE      the file is created if something was refused
  */
 #define _GNU_SOURCE
 #include <dlfcn.h>

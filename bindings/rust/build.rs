@@ -1,5 +1,5 @@
 //! Links `libesr.a`: that of `ESR_LIB_DIR`, or `lib/libesr.a` of this package, or, in the repository, the one that
-//! `bindings/build` makes beside it.
+//! `bindings/build` makes.
 
 use std::{env, path::PathBuf};
 

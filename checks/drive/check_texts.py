@@ -278,7 +278,7 @@ def state_of(machine, at):
 
 
 def audits_agree(machine, event, audits):
-    """Whether the audit of a query that commits by this event is the one told."""
+    """Returns whether the audit of a query that commits by this event is the one in the output."""
     if event[0] != "commit" or machine.of(event[1]) is None or machine.of(event[1]).kind != "query":
         return True
     queries = committed_queries(machine)

@@ -1,5 +1,4 @@
-"""The order of updates: which there is, which cycles are named where there is none, and what a record is said to
-lack."""
+"""The order of updates, the cycles reported if there is none, and the data reported as missing from a record."""
 
 import unittest
 

@@ -1,4 +1,4 @@
-"""The format of records: what is written is read again, and what is not well formed is said with its line."""
+"""The format of records: a record survives writing and reading, and malformed lines are reported with their number."""
 
 import io
 import unittest

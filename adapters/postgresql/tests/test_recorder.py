@@ -1,4 +1,4 @@
-"""The recorder, on a server: its words for libpq are in the variable ESR_POSTGRES_DSN, and without it nothing is tried.
+"""The recorder, on a server: the variable ESR_POSTGRES_DSN has libpq's connection string; without it, no test runs.
 `checks/postgresql` starts one and runs these."""
 
 import contextlib
@@ -311,7 +311,7 @@ class Recording(unittest.TestCase):
     def test_a_write_that_nobody_read_is_told(self):
         self.plain.execute("update t set v = 5 where id = 1")
         record, _ = self.finished()
-        self.assertEqual(list(record.items), ["t/1"])  # (nobody touched the other row)
+        self.assertEqual(list(record.items), ["t/1"])  # (no transaction touched the other row)
         self.assertEqual(unrecorded_endings(history_of(record)), ["t/1"])
 
     def test_values_without_key_or_version_are_counted(self):

@@ -1,8 +1,8 @@
-"""A notebook as a script: a shop sells while somebody counts the stock, and looks afterwards how far off the count was.
+"""A notebook as a script: a shop sells while a report counts the stock, and afterwards shows the error of the count.
 
     $ python3 examples/notebook.py
 
-What it writes stands in notebook.out beside it.
+Its output is stored in notebook.out in the same folder.
 """
 
 import random
@@ -15,7 +15,7 @@ ARTICLES = ["apples", "pears", "plums"]
 bank = Bank({**{article: 100 for article in ARTICLES}, **{f"{article}_sold": 0 for article in ARTICLES}})
 
 
-# %% Four tills sell, each in a thread of its own. Whoever wants more than there is gets nothing.
+# %% Four tills sell, each in a separate thread. A sale that exceeds the stock fails.
 def sell(article: str, pieces: int) -> bool:
     def body(update) -> bool:
         left = update.add(article, -pieces)
@@ -40,7 +40,7 @@ tills = [threading.Thread(target=till, args=[seed]) for seed in range(4)]
 for thread in tills:
     thread.start()
 
-# %% Meanwhile: how many pieces are there, sold or not? It waits for nobody, and may be off by 30.
+# %% Meanwhile, count the pieces, sold or not. The count does not wait, and may be off by at most 30.
 findings = []
 while any(thread.is_alive() for thread in tills):
     with bank.report(30) as count:
@@ -51,13 +51,13 @@ while any(thread.is_alive() for thread in tills):
 for thread in tills:
     thread.join()
 
-# %% What came of it.
+# %% The result.
 with bank.report(0) as count:
     pieces = sum(count.read(article) + count.read(f"{article}_sold") for article in ARTICLES)
 print("pieces in the end:", pieces, "off by", count.finding.distance)
 print("each count was off by no more than its finding says:", all(f.distance <= f.charged for f in findings))
 
-# %% The next day, with full shelves. One count that was off, told and drawn: a notebook shows the finding as its picture.
+# %% The next day, with full shelves. Explain one count that was off: a notebook shows the finding as its picture.
 with bank.update(0) as morning:
     for article in ARTICLES:
         morning.write(article, 100)

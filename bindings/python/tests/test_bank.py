@@ -1,4 +1,4 @@
-"""The Python package as threads use it. ESR_SOAK_SECONDS says how long the soak runs: two seconds where it is not set."""
+"""The Python package as threads use it. ESR_SOAK_SECONDS is the duration of the soak test, 2 by default."""
 
 import collections
 import contextlib
@@ -43,7 +43,7 @@ def busy_day(draw):
 
 
 def together(*bodies):
-    """Runs bodies in threads of their own, and raises the first error of any."""
+    """Runs bodies in separate threads, and raises the first error of any."""
     errors = []
 
     def run(body):
@@ -97,7 +97,7 @@ class Banks(unittest.TestCase):
         self.assertEqual(Bank({"my savings": 1, "checking": 2}).script(), "item i0 1\nitem checking 2\n")
 
     def test_a_report_is_explained_and_drawn(self):
-        """To the byte, by the names of the items; a notebook shows the picture, and nothing where there is none."""
+        """To the byte, by the names of the items; a notebook shows the picture, if there is one."""
         bank = two_accounts()
         with bank.update(200) as transfer:
             transfer.write("checking", 400)
@@ -134,7 +134,7 @@ class Banks(unittest.TestCase):
                 self.assertEqual((report.explain(), report.picture()), (told("explain", name), told("picture", name)))
 
     def test_reads_in_one_call(self):
-        """The values are in the order of the names; what is blocked is tried again, and the rest read behind it."""
+        """The values are in the order of the names; a blocked read is retried, and the rest is read after it."""
         bank = two_accounts(patience=5)
         with bank.report(0) as report:
             self.assertEqual(report.read_all(["savings", "checking"]), [1500, 500])
@@ -187,7 +187,7 @@ class Banks(unittest.TestCase):
                 first.write("checking", 10**13)
 
     def test_weights_and_charges(self):
-        """A weighted item's differences count as money, and what was charged can be asked while a report goes on."""
+        """A weighted item's differences count as money, and the charges can be queried while a report continues."""
         bank = Bank({"phones": 15, "money": 0}, weights={"phones": 900})
         with bank.update(900) as sale:
             sale.add("phones", -1)
@@ -199,7 +199,7 @@ class Banks(unittest.TestCase):
             Bank({"a": 1}, weights={"b": 1})
 
     def test_a_deadlock_is_given_up_by_the_younger(self):
-        """Two that hold what the other wants: one learns it at once, and both get through by trying anew."""
+        """Two updates hold the lock that the other needs: one detects it at once, and both commit after a retry."""
         bank, met, runs = two_accounts(patience=10, optimistic=False), threading.Barrier(2), []
 
         def move(first, second):
@@ -220,7 +220,7 @@ class Banks(unittest.TestCase):
         self.assertEqual((bank["checking"], bank["savings"], len(runs)), (502, 1502, 3))
 
     def test_a_ring_that_nobody_finds_is_left(self):
-        """A report that waits behind its own limit for an update which waits for that report: the update is begun anew."""
+        """A report at its limit waits for an update that waits for the report: the update is restarted."""
         bank, runs = two_accounts(optimistic=False), []
         has_written, has_read = threading.Event(), threading.Event()
 
@@ -400,8 +400,8 @@ class Banks(unittest.TestCase):
             self.soak(**words)
 
     def soak(self, **words):
-        """Eight threads move money and read sums: no sum is off by more than it imported, every transfer that was told
-        committed is in the accounts and no other, and no thread is stuck."""
+        """Eight threads move money and read sums: no sum is off by more than it imported, the accounts contain
+        exactly the transfers reported as committed, and no thread is stuck."""
         names = [f"account{n}" for n in range(16)]
         bank, change = Bank({name: 1000 for name in names}, **words), collections.Counter()
         end, counts = time.monotonic() + float(os.environ.get("ESR_SOAK_SECONDS", "2")), collections.Counter()

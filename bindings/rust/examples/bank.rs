@@ -1,5 +1,5 @@
-//! A bank: tellers move money between accounts, each in a thread of its own, while a report adds all accounts up. The
-//! report waits for nobody and may be off by what it allows; afterwards its audit tells by how much it was.
+//! A bank: tellers move money between accounts, each in a separate thread, while a report adds up all accounts. The
+//! report does not wait, and may be off by at most its limit; afterwards its audit shows the exact error.
 
 use esr::{Engine, Error, Patience, Txn, transact};
 use std::{error, sync::Mutex, thread, time::Duration};
@@ -25,7 +25,7 @@ fn teller(bank: &Mutex<Engine>, mut random: u32) -> Result<(), Error> {
     Ok(())
 }
 
-/// Adds all accounts up. Where its limit is reached it starts anew.
+/// Adds up all accounts. Restarts if its limit is reached.
 fn report(bank: &Mutex<Engine>) -> Result<(Txn, i64), Error> {
     loop {
         let query = bank.lock().unwrap().begin_query(LIMIT)?;

@@ -1,4 +1,4 @@
-//! How fast a counter is that eight threads take from (`balance -= 10`), beside one thread: the middle one of five rounds.
+//! Measures a counter from which eight threads subtract (`balance -= 10`), and one thread: the median of five rounds.
 
 use esr::{Bank, Error};
 use std::{thread, time::Instant};

@@ -1,6 +1,6 @@
-//! A ledger service: clients send transfers from threads of their own, of which some are refused for want of money, while
-//! a clerk reads the sum of all accounts, waits for nobody, and says how far off each sum may be. What it writes stands in
-//! ledger.out beside it.
+//! A ledger service: clients send transfers from separate threads, some of which are refused for lack of money, while a
+//! clerk reads the sum of all accounts without waiting, and prints the error bound of each sum. The output is stored in
+//! ledger.out in the same folder.
 
 use esr::{Bank, Error, Finding};
 use std::{
@@ -17,7 +17,7 @@ const OPENING: i64 = 200;
 /// Why a transfer was not made.
 #[derive(Debug)]
 enum TransferError {
-    /// The account has only so much.
+    /// The balance of the account, which is too small.
     TooLittle(i64),
     Engine(Error),
 }
@@ -28,7 +28,7 @@ impl From<Error> for TransferError {
     }
 }
 
-/// Moves an amount, if the account has it. What was written is taken back where it has not.
+/// Moves an amount, if the balance suffices. Otherwise undoes its writes.
 fn transfer(bank: &Bank, from: &str, to: &str, amount: i64) -> Result<(), TransferError> {
     bank.try_transact(2 * amount.unsigned_abs(), |update| {
         let left = update.add(from, -amount)?;

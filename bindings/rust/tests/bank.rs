@@ -1,5 +1,5 @@
 //! The bank as threads use it: nothing is lost, nothing stays active, and reports are off by no more than they import.
-//! `ESR_SOAK_SECONDS` says how long the soak runs: two seconds where it is not set.
+//! `ESR_SOAK_SECONDS` is the duration of the soak test, 2 by default.
 
 use esr::{Bank, Error, MAX_TRANSACTIONS, Patience, Refusal};
 use std::{
@@ -100,7 +100,7 @@ fn a_report_tells_how_far_it_was() {
     assert_eq!((sum, finding.distance), (2000, 0));
 }
 
-/// Two updates that wait for each other: the younger is given up and begun anew, and both get through.
+/// Two updates wait for each other: the younger is aborted and restarted, and both commit.
 #[test]
 fn a_deadlock_is_given_up_by_the_younger() {
     let bank = two_accounts();
@@ -131,8 +131,8 @@ fn a_deadlock_is_given_up_by_the_younger() {
     assert_eq!(runs.load(Ordering::Relaxed), 3);
 }
 
-/// A report that waits behind its own limit for an update which waits for that report: no refusal names the update, so
-/// the report is begun anew after a while, and both get through.
+/// A report at its limit waits for an update that waits for the report: no refusal names the update, so the report is
+/// restarted after a while, and both commit.
 #[test]
 fn a_ring_that_nobody_finds_is_left() {
     let bank = two_accounts();
@@ -167,7 +167,7 @@ fn a_ring_that_nobody_finds_is_left() {
     });
 }
 
-/// Where nobody ends what is in the way, the caller is told why once patience has ended, and nothing stays active.
+/// If the blocker does not end, the caller gets the reason when its patience ends, and nothing stays active.
 #[test]
 fn patience_ends() {
     let short = Patience::of(Duration::from_millis(100));
@@ -217,7 +217,7 @@ fn a_bank_renews_itself() {
     assert_eq!(bank.value("hits"), Ok(i64::from(MAX_TRANSACTIONS)));
 }
 
-/// A weighted item's differences count as money, and what was charged can be asked while a report goes on.
+/// A weighted item's differences count as money, and the charges can be queried while a report continues.
 #[test]
 fn weights_and_charges() {
     let bank = Bank::builder()
@@ -246,8 +246,8 @@ fn weights_and_charges() {
     assert_eq!(bad.err(), Some(Error::WeightOutOfRange { item, weight }));
 }
 
-/// Eight threads move money and read sums through renewals: each sum is off by at most what its report imported, every
-/// transfer that was told committed is in the accounts and no other, and no thread is stuck.
+/// Eight threads move money and read sums through renewals: each sum is off by at most what its report imported, the
+/// accounts contain exactly the transfers reported as committed, and no thread is stuck.
 #[test]
 fn a_soak_loses_nothing() {
     const ACCOUNTS: usize = 16;

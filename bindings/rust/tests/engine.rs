@@ -156,7 +156,7 @@ fn transact_without_patience() {
     assert_eq!(bank.into_inner().unwrap().totals().entries, 2 + 3);
 }
 
-/// What another transaction within was told is the body's own error, and is not waited for once more.
+/// The refusal of a nested transaction is the body's own error, and is not retried.
 #[test]
 fn transact_answers_what_another_was_told() {
     let bank = Mutex::new(Engine::open(&[0]).unwrap());
@@ -174,7 +174,7 @@ fn transact_answers_what_another_was_told() {
     );
 }
 
-/// Whoever is slow is waited for, however often the update has to be begun anew for that.
+/// An update waits for a slow transaction, however often it must restart to do so.
 #[test]
 fn transact_waits_for_whoever_is_slow() {
     let bank = Mutex::new(Engine::open(&[0]).unwrap());
@@ -233,7 +233,7 @@ fn four_threads_count_together() {
     assert_eq!(bank.into_inner().unwrap().values(), Ok(vec![400, 400]));
 }
 
-/// Read for update takes the lock, so whoever does the same is told so and has no lock of his own that is in the way.
+/// Read for update acquires the lock, so a second one is refused and holds no lock that blocks the first.
 #[test]
 fn read_for_update_excludes_others() {
     let mut engine = Engine::open(&[3]).unwrap();

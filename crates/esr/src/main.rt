@@ -450,7 +450,7 @@ impl AuditText for AuditTable {
     }
 }
 
-/// How audits and explanations are written for programs, or none for their own text.
+/// Returns the format of audits and explanations for programs, or `None` for text.
 fn data_of(format: Option<Format>) -> Option<Data> {
     match format {
         Some(Format::Csv) => Some(Data::Csv),
@@ -459,7 +459,7 @@ fn data_of(format: Option<Format>) -> Option<Data> {
     }
 }
 
-/// How a ledger is written.
+/// Returns the format of a ledger.
 fn table_format(format: Option<Format>) -> esr_tables::Format {
     match format {
         Some(Format::Csv) => esr_tables::Format::Csv,
@@ -468,10 +468,10 @@ fn table_format(format: Option<Format>) -> esr_tables::Format {
     }
 }
 
-/// So many interleavings are drawn where nobody says how many.
+/// The default number of sampled interleavings.
 const SEEDS: u64 = 1_000;
 
-/// What is looked for among interleavings, or what is wrong with the words for it.
+/// Returns the search over interleavings, or the error of its options.
 fn search_of(seeds: Option<u64>, all: bool, worst: Option<&str>) -> Result<Search, &'static str> {
     if all && seeds.is_some() {
         return Err("--seeds and --all are mutually exclusive");
@@ -558,8 +558,8 @@ fn drive_file<R: Print + Eprint + AllocGlobal + Threads + Wait + Sync, I: Read +
     }
 }
 
-/// Lists what is wrong in each script that is named, one after another. `lint` has no option that takes a value, so the
-/// words behind it are the files. The status is that of the last that was not clean.
+/// Lists the faults of each named script, one after another. `lint` has no option that takes a value, so the
+/// arguments after it are the files. The status is that of the last script that was not clean.
 fn lint_each<'a, R: Input + Print + Eprint + Files + AllocGlobal + Clock + Threads + Wait + Sync>(
     rt: &'a R,
     console: Console,

@@ -1,5 +1,5 @@
-//! Random problems: the certificate that begins with a draft of a flow is compared with the solver's, and what became of
-//! the drafts is counted.
+//! Random problems: compares the certificate found from a draft of a flow with the solver's, and counts the outcomes
+//! of the drafts.
 
 use crate::draws::Draws;
 use anyhow::{Result, anyhow};
@@ -40,7 +40,7 @@ impl Pairs {
     }
 }
 
-/// Some of the numbers below a count, ascending: each with a chance of one in so many.
+/// Returns some of the numbers below `count`, ascending: each with probability 1 / `one_in`.
 fn some_below(alloc: Global, draws: &mut Draws, count: u32, one_in: u32) -> Result<Vec<u32>> {
     let mut some = Vec::new(alloc);
     for u in 0..count {
@@ -51,7 +51,7 @@ fn some_below(alloc: Global, draws: &mut Draws, count: u32, one_in: u32) -> Resu
     Ok(some)
 }
 
-/// A chain of some updates, of which each two neighbours are marked as a pair.
+/// Returns a chain of some updates, of which each two neighbours are marked as a pair.
 fn chain(
     alloc: Global,
     draws: &mut Draws,
@@ -77,7 +77,7 @@ fn chain(
     })
 }
 
-/// The pairs that are marked, and some more, ascending.
+/// Returns the marked pairs, and some more, ascending.
 fn list_pairs(
     alloc: Global,
     draws: &mut Draws,
@@ -95,7 +95,7 @@ fn list_pairs(
     Ok(before)
 }
 
-/// A random problem.
+/// Returns a random problem.
 fn problem(alloc: Global, draws: &mut Draws) -> Result<Problem> {
     let count = draws.next(UPDATES);
     let items = draws.next(5).saturating_add(1);
@@ -120,7 +120,7 @@ fn problem(alloc: Global, draws: &mut Draws) -> Result<Problem> {
     }
 }
 
-/// Whether what begins with a draft has the worth and the set of the solver's, and is valid.
+/// Returns whether the result from a draft has the worth and the set of the solver's, and is valid.
 fn compare_certificates(alloc: Global, problem: &Problem) -> Result<(bool, DraftOutcome)> {
     let Ok(network) = Network::build(alloc, problem) else {
         return Err(anyhow!("out of memory"));
@@ -152,7 +152,7 @@ fn count_outcome(outcomes: Outcomes, draft: DraftOutcome) -> Outcomes {
     }
 }
 
-/// Compares the certificates of so many random problems, and tells what became of the drafts.
+/// Compares the certificates of `problems` random problems, and reports the outcomes of the drafts.
 pub fn compare(rt: &impl Print, alloc: Global, problems: u64) -> Result<()> {
     let mut draws = Draws { state: 2026 };
     let mut outcomes = Outcomes {

@@ -1,4 +1,4 @@
-//! Numbers that look random, and are the same in each run.
+//! Pseudo-random numbers, the same in each run.
 
 ghost use Rattle.std.specs.Prelude.{◌<◌};
 
@@ -9,7 +9,7 @@ pub struct Draws {
 }
 
 impl Draws {
-    /// The next number, below the bound where that is above 0.
+    /// Returns the next number, below the bound if the bound is above 0.
     pub fn next(&mut self, below: u32) -> u32
         ensures { 0 < below → result < below }
     {

@@ -20,16 +20,16 @@ use std::time::Instant;
 const USAGE: &str =
     "usage: esr_bench check ROUNDS | solve | audit | bundle, each with a bundle on standard input | agree COUNT | sessions COUNT";
 
-/// What is measured of a bundle.
+/// The measurements of a bundle.
 #[derive(Clone, Copy)]
 enum Measured {
-    /// So many checks of its certificate.
+    /// Checks of its certificate, this many.
     Check(u32),
-    /// Its problem solved anew.
+    /// Solving its problem from scratch.
     Solve,
-    /// The same as audits do, from a draft of a flow.
+    /// Solving its problem as audits do, from a draft of a flow.
     Audit,
-    /// All of it read, checked and written again.
+    /// Reading, checking and writing all of it.
     Whole,
 }
 
@@ -42,7 +42,7 @@ fn main(rt: HostRuntime) -> Result<()> {
     measure(&rt, alloc, &owned)
 }
 
-/// Measures what the words ask for.
+/// Runs the measurement that the arguments request.
 fn measure<R: Input + Print + Eprint + Clock + Threads + Wait + Sync>(
     rt: &R,
     alloc: Global,
@@ -71,7 +71,7 @@ fn measure_words<R: Input + Print + Eprint + Clock + Threads + Wait + Sync>(
     }
 }
 
-/// Reads the bundle on standard input, and measures what is asked for.
+/// Reads the bundle on standard input, and runs the requested measurement.
 fn measure_bundle(
     rt: &(impl Input + Print + Eprint + Clock),
     alloc: Global,
@@ -94,7 +94,7 @@ fn measure_bundle(
     }
 }
 
-/// How many arcs the network of a problem has.
+/// Returns the number of arcs in the network of a problem.
 fn arc_count(problem: &Problem) -> usize {
     let mut count = problem.before().len().saturating_add(problem.must().len());
     for chain in problem.chains() {
@@ -103,7 +103,7 @@ fn arc_count(problem: &Problem) -> usize {
     count
 }
 
-/// Checks a certificate so many times, and tells how long one check took.
+/// Checks a certificate `rounds` times, and reports the time of one check.
 fn check_often(
     rt: &(impl Print + Eprint + Clock),
     problem: &Problem,
@@ -126,7 +126,7 @@ fn check_often(
     Ok(())
 }
 
-/// Solves the problem, says what was found, and how long it took.
+/// Solves the problem, and prints the result and the time.
 fn solve_once(rt: &(impl Print + Eprint + Clock), alloc: Global, problem: &Problem) -> Result<()> {
     let start = Instant::now(rt)?;
     match Network::build(alloc, problem) {
@@ -149,7 +149,7 @@ fn solve_network(
     }
 }
 
-/// Finds a certificate of the problem from a draft of a flow, and says what became of the draft, and how long it took.
+/// Finds a certificate of the problem from a draft of a flow, and prints the outcome of the draft and the time.
 fn audit_once(rt: &(impl Print + Eprint + Clock), alloc: Global, problem: &Problem) -> Result<()> {
     let start = Instant::now(rt)?;
     let Ok(network) = Network::build(alloc, problem) else {
@@ -181,7 +181,7 @@ fn print_solved(
     Ok(())
 }
 
-/// Checks what was read of a bundle in so many milliseconds, writes it again, and says whether the same bytes came out.
+/// Checks a bundle that was read in `read` milliseconds, writes it, and reports whether the bytes are the same.
 fn measure_whole(
     rt: &(impl Print + Eprint + Clock),
     alloc: Global,
@@ -199,7 +199,7 @@ fn measure_whole(
     Ok(())
 }
 
-/// Whether the same bytes are written, and how many milliseconds that takes.
+/// Returns whether the bytes written are the same, and the time in milliseconds.
 fn measure_writing(
     rt: &impl Clock,
     alloc: Global,

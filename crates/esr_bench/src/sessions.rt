@@ -1,4 +1,4 @@
-//! Measures the calls of sessions on one engine, beside the steps of a machine that one thread has to itself.
+//! Measures the calls of sessions on one engine, compared with the steps of a machine with one thread.
 
 ghost use Rattle.std.specs.Prelude.{◌≡◌, ◌<◌, [], map};
 ghost use Rattle.esr_session.specs.declared.engine_name.TheConstants.{LEDGER_PARTS};
@@ -23,7 +23,7 @@ const ITEMS: u32 = 4096;
 /// A begin, four reads, four writes and a commit.
 const CALLS: u128 = 10;
 
-/// So many transactions by a machine, and by 1, 2 and 4 sessions on one engine.
+/// Measures `transactions` transactions on a machine, and with 1, 2 and 4 sessions on one engine.
 pub fn measure<R: Threads + Wait + Clock + Print + Eprint + Sync>(
     rt: &R,
     alloc: Global,
@@ -42,7 +42,7 @@ pub fn measure<R: Threads + Wait + Clock + Print + Eprint + Sync>(
     Ok(())
 }
 
-/// How many calls a second.
+/// Prints the number of calls per second.
 fn print(rt: &impl Eprint, what: &str, transactions: u32, time: Duration) -> Result<()> {
     let micros = time.as_micros().max(1);
     let rate = u128::from(transactions) * CALLS * 1_000_000 / micros;
@@ -50,15 +50,15 @@ fn print(rt: &impl Eprint, what: &str, transactions: u32, time: Duration) -> Res
     Ok(())
 }
 
-/// Opening values, all zero.
+/// Returns opening values, all zero.
 fn items(alloc: Global) -> Result<Store> {
     let values = Vec::from_elem(alloc, 0, ITEMS as usize)?;
     Store::new(alloc, values).map_err(|_| anyhow!("no items"))
 }
 
-/// What takes events: a machine, or a session.
+/// A target of events: a machine, or a session.
 trait Steps {
-    /// The reply, or None where there is none.
+    /// Executes an event, and returns the reply, or `None` if there is none.
     fn step(&mut self, event: Event) -> Option<Reply>;
 }
 
@@ -86,12 +86,12 @@ impl<N: Naming, R: Wait> Steps for Shared<'_, N, R> {
     }
 }
 
-/// One of the items.
+/// Draws an item.
 fn item(draws: &mut Draws) -> ItemId {
     ItemId(draws.next(ITEMS))
 }
 
-/// One transaction: a begin, four reads, four writes and a commit.
+/// Makes one transaction: a begin, four reads, four writes and a commit.
 fn transaction(caller: &mut impl Steps, draws: &mut Draws) {
     let Some(Reply::Begun(txn)) = caller.step(Event::BeginUpdate { limit: 0 }) else {
         return;
@@ -112,7 +112,7 @@ fn transaction(caller: &mut impl Steps, draws: &mut Draws) {
     let _ = caller.step(Event::Commit { txn });
 }
 
-/// So many transactions by one caller.
+/// Makes `count` transactions with one caller.
 fn transactions(caller: &mut impl Steps, count: u32, seed: u64) {
     let mut draws = Draws { state: seed };
     for _ in 0..count {
@@ -127,7 +127,7 @@ fn measure_machine(rt: &impl Clock, alloc: Global, count: u32) -> Result<Duratio
     }
 }
 
-/// How long a machine takes for so many transactions.
+/// Returns the time that a machine takes for `count` transactions.
 fn measure_alone(rt: &impl Clock, machine: &mut Machine<Plain>, count: u32) -> Result<Duration> {
     let start = Instant::now(rt)?;
     transactions(&mut Alone { machine }, count, 1);
@@ -150,7 +150,7 @@ fn measure_sessions<R: Threads + Wait + Clock + Sync>(
     )
 }
 
-/// As many sessions on threads of their own, which share the transactions.
+/// Measures `sessions` sessions on separate threads, which share the transactions.
 fn measure_engine<N: Naming + Send + Sync, R: Threads + Wait + Clock + Sync>(
     rt: &R,
     alloc: Global,
@@ -180,7 +180,7 @@ fn measure_engine<N: Naming + Send + Sync, R: Threads + Wait + Clock + Sync>(
     }
 }
 
-/// Lets each session make so many transactions, on a thread of its own; the sessions, and how long it took.
+/// Lets each session make `count` transactions on its own thread, and returns the sessions and the time.
 fn run_all<N: Naming + Send + Sync, R: Threads + Wait + Clock + Sync>(
     rt: &R,
     alloc: Global,
@@ -201,7 +201,7 @@ struct Load<N: Naming> {
     seed: u64,
 }
 
-/// Each session with so many transactions, over items of its own seed.
+/// Gives each session `count` transactions, over items drawn from its own seed.
 fn loads_of<N: Naming>(
     alloc: Global,
     sessions: Vec<Session<Plain, N>>,

@@ -1,4 +1,4 @@
--- A call that gave the engine an event, from what was told of its engine: whichever event it was.
+-- A call that executes an event of any kind, from the result of its engine.
 use Rattle.std.proofs.Common.{◌≡◌, ◌↔◌, ◌⊎◌, ◌∙◌, inl, inr, ap, refl, sym, subst, arith, true, Some, Result, Ok, Err, IfOk, IfErr, OnErr, IsErrOf}
 use Rattle.esr_items.specs.Weights.{weighted}
 use Rattle.esr_history.specs.declared.event.Event.{Event}

@@ -1,4 +1,4 @@
--- What was found of a query is what an explanation of it wants.
+-- The finding of a query is sufficient for its explanation.
 use Rattle.std.proofs.Common.{◌≡◌, ◌∙◌, ℕ, IfOk, List, Ok, Result, Some, Vec, ap, subst, sym}
 use Rattle.std.specs.declared.alloc.Global.{Global}
 use Rattle.esr_items.specs.Weights.{weighted}

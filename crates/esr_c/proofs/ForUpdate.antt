@@ -1,4 +1,4 @@
--- A call that reads for update, from what was told of its engine.
+-- A call that reads for update, from the result of its engine.
 use Rattle.std.proofs.Common.{◌≡◌, ◌≢◌, ◌↔◌, ◌⊎◌, inl, inr, ap, refl, arith, true, Some}
 use Rattle.esr_base.specs.declared.numbers.ItemId.{ItemId}
 use Rattle.esr_base.specs.declared.numbers.TxnId.{TxnId}

@@ -1,4 +1,4 @@
--- Events answered one after another: one more, and how it ends.
+-- Events executed one after another: one more, and the end.
 use Rattle.std.proofs.Common.{◌≡◌, ◌≢◌, ◌⊎◌, ℕ, zero, suc, ◌+◌, ◌<◌, ◌≤◌, List, [], ◌∷◌, ◌++◌, Bool, true, false, not, ◌&&◌, Option, Some, None, inl, inr, refl, ◌∙◌, ap, sym, arith, length, get_or, set, map, take}
 use Rattle.std.specs.List.{cons_option, filter_map, list_all, slice_get}
 use Rattle.std.proofs.lemmas.Bool.{and_parts, not_from_false}
@@ -120,7 +120,7 @@ module _ (h g : Schedule) (events : List EsrEvent) (n : ℕ) (buffer : List EsrR
     pub accepted_more : is_refusal r ≡ false → all_accepted (replies_to h (events_in n events)) ≡ true → all_accepted (replies_to h (events_in (n + 1) events)) ≡ true
     accepted_more accepted all = ap all_accepted replies_grown ∙ all_and_last (replies_to h (events_in n events)) r all accepted
 
-  -- an event that is not answered
+  -- an event that is not executed
   pub ended : (stop : Bool) (s : Status) → (stop ≡ true → all_accepted (replies_to h (events_in n events)) ≡ true) → s ≢ Done
       → (s ≡ NoSuchEvent → event_of (get_or events n d) ≡ None) → (s ≡ Full → IsFullFor g (get_or events n d)) → IsEnd h events stop n (status_number s)
   ended stop s all undone unknown full = record {
@@ -130,7 +130,7 @@ module _ (h g : Schedule) (events : List EsrEvent) (n : ℕ) (buffer : List EsrR
     first = λ is. none_before (replies_to h (events_in n events)) (all is);
   }
 
--- all were answered
+-- all events were executed
 pub all_done : (h : Schedule) (events : List EsrEvent) (stop : Bool) (n : ℕ) → n ≡ length events → (stop ≡ true → all_accepted (replies_to h (events_in n events)) ≡ true) → IsEnd h events stop n 0
 all_done h events stop n all accepted = record {
   done = λ _. inl all;

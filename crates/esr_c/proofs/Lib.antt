@@ -1,4 +1,5 @@
--- The machine words of a handle, events answered one after another, and what is told of a query. Only the exports use them.
+-- The machine words of a handle, events executed one after another, and the findings of a query. Only the exports use
+-- them.
 
 pub mod Words
 pub mod Called

@@ -1,4 +1,4 @@
--- What C is told: replies and refusals by numbers.
+-- What the calls from C return: replies and refusals as numbers.
 use Rattle.std.specs.Prelude.{◌≡◌, ◌≢◌, ◌↔◌, ◌*◌, ◌+◌, ◌^◌, ℕ, ℤ, Bool, true, false, List, [], length, Option, Some, None, IfSome, option_map, pos, take, ◌⊎◌}
 use Rattle.std.proofs.Math.Nat.{one-mul}
 use Rattle.esr_items.specs.Values.{gap}
@@ -45,11 +45,11 @@ use Rattle.esr_c.specs.declared.verdict.EsrVerdict.{EsrVerdict}
 abbrev pub opened : List ℤ → List ℕ → Schedule
 opened opening weights = record { opening = opening; weights = weights; entries = [] }
 
--- where no weight is given, the distance of two values is their difference
+-- without weights, the distance of two values is their difference
 pub plain : (x : ℕ) (a b : ℤ) → weighted [] x a b ≡ gap a b
 plain x a b = one-mul (gap a b)
 
--- whom a refusal names
+-- the transaction that a refusal names
 abbrev pub named : Refusal → ℕ
 named (BlockedByLock t) = t.0
 named (BlockedByImport t) = t.0
@@ -65,7 +65,7 @@ reply_fields Committed = record { kind = 4; refusal = 0; txn = 0; value = pos 0 
 reply_fields Aborted = record { kind = 5; refusal = 0; txn = 0; value = pos 0 }
 reply_fields (Refused why) = record { kind = 6; refusal = refusal_number why; txn = named why; value = pos 0 }
 
--- what an answered event does: the machine's reply is told, and the history has it at its end
+-- the effect of an executed event: the machine's reply is returned, and appended to the history with the event
 abbrev pub IsReply : Event → Option Schedule → Option Schedule → EsrReply → Type 0
 IsReply event old new reply =
     IfSome old (λ h. (new ≡ Some (extended h event (reply_to weighted h event)))
@@ -79,15 +79,15 @@ IsTotal t h = (t.high * 2 ^ 64 + t.low ≡ all_imports weighted h) × (t.entries
 abbrev pub IsFinding : Schedule → ℕ → EsrFinding → List ℕ → Type 0
 IsFinding h q f before = IsAnswer weighted h q f.distance f.import before × (f.count ≡ length before)
 
--- the same, where they are at the head of a room
+-- a finding whose updates are at the start of a buffer
 abbrev pub IsFound : Schedule → ℕ → EsrFinding → List ℕ → Type 0
 IsFound h q f buffer = IsFinding h q f (take f.count buffer)
 
--- the same, where there is no room for them
+-- a finding whose updates do not fit into the caller's buffer
 abbrev pub IsCounted : Schedule → ℕ → EsrFinding → Type 0
 IsCounted h q f = (before : List ℕ) × IsFinding h q f before
 
--- a certificate that does not tell how many augmentations lead to its flow
+-- a certificate without the number of augmentations that lead to its flow
 abbrev pub unreported : Certificate → Certificate
 unreported c = record c { augmentations = None }
 
@@ -97,7 +97,7 @@ pub record IsBundleOf (h : Schedule) (q : ℕ) (bytes : List ℕ) : Type 0 where
   pub found : IsFindingOf weighted h q finding
   pub text : bytes ≡ bundle finding.problem (unreported (certificate_of finding.certificate))
 
--- such bytes are at the head of a room
+-- such bytes at the start of a buffer
 abbrev pub IsBundleIn : Schedule → ℕ → ℕ → List ℕ → Type 0
 IsBundleIn h q count buffer = IsBundleOf h q (take count buffer) × (count ≡ length (take count buffer))
 
@@ -105,11 +105,11 @@ IsBundleIn h q count buffer = IsBundleOf h q (take count buffer) × (count ≡ l
 abbrev pub IsBundleLong : Schedule → ℕ → ℕ → Type 0
 IsBundleLong h q count = (bytes : List ℕ) × IsBundleOf h q bytes × (count ≡ length bytes)
 
--- the committed values are at the head of a room
+-- the committed values at the start of a buffer
 abbrev pub AreValuesIn : Schedule → ℕ → List ℤ → Type 0
 AreValuesIn h count buffer = (take count buffer ≡ committed_values h) × (count ≡ length h.opening)
 
--- whatever the history of a renewed engine comes to be, it and the one before it are serializable as one
+-- the history before a renewal and every history after it are serializable as one
 pub record IsRenewed (h : Schedule) : Type 0 where
   pub as_one : (later : List Entry) → IsLegal weighted (along (renewed h h.weights) later)
       → AreSerializableAsOne h (along (renewed h h.weights) later)
@@ -142,8 +142,8 @@ status_number Active = 16
 abbrev pub IsEventStatus : ℕ → Type 0
 IsEventStatus n = (n ≡ 0) ⊎ ((n ≡ 12) ⊎ ((n ≡ 13) ⊎ (n ≡ 14)))
 
--- A call that gave the engine an event ended with this status: 0 exactly where the machine's reply is told and stands
--- in the history. Else nothing has changed.
+-- The status of a call that executes an event: it is 0 exactly if the machine's reply is returned and is in the
+-- history. Otherwise nothing has changed.
 pub record IsEventCall (event : Event) (old new : Option Schedule) (before after : EsrReply) (status : ℕ) : Type 0 where
   pub known : IsEventStatus status
   pub closed : status ≡ 14 ↔ (old ≡ None)
@@ -151,7 +151,7 @@ pub record IsEventCall (event : Event) (old new : Option Schedule) (before after
   pub reply : status ≡ 0 → IsReply event old new after
   pub err : status ≢ 0 → (new ≡ old) × (after ≡ before)
 
--- what a read for update does: its reply is told and its entries stand in the history
+-- the effect of a read for update: its reply is returned, and its entries are in the history
 abbrev pub IsForUpdateReply : TxnId → ItemId → Option Schedule → Option Schedule → EsrReply → Type 0
 IsForUpdateReply t x old new reply =
     IfSome old (λ h. (new ≡ Some (after_for_update h t x)) × (reply ≡ reply_fields (reply_for_update h t x)))
@@ -171,7 +171,7 @@ pub record IsForUpdateCall (t : TxnId) (x : ItemId) (old new : Option Schedule) 
   pub err : status ≢ 0 → (after ≡ before) × IsPartly old new t x
   pub kept : status ≡ 12 → new ≡ old
 
--- how a transaction stands, and its account
+-- the status of a transaction, and its account
 abbrev pub txn_status_number : TxnStatus → ℕ
 txn_status_number txn_status.Active = 0
 txn_status_number txn_status.Committed = 4

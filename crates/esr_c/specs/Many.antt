@@ -1,4 +1,4 @@
--- Many events in one call: what is answered is what a call for each, one after another, would answer.
+-- Many events in one call: the replies are those of a call for each event, one after another.
 use Rattle.std.specs.Prelude.{◌≡◌, ◌⊎◌, ◌≤◌, ℕ, ◌==◌, List, [], ◌∷◌, ◌++◌, Bool, true, false, not, ◌&&◌, Option, Some, None, length, map, take, filter_map, slice_get, if◌then◌else◌}
 use Rattle.esr_items.specs.Weights.{weighted}
 use Rattle.esr_history.specs.declared.event.Event.{Event}
@@ -27,7 +27,7 @@ event_of e =
 abbrev pub events_in : ℕ → List EsrEvent → List Event
 events_in n events = filter_map event_of (take n events)
 
--- an event of many was answered, or there is no room for it
+-- an event of many was executed, or the history is full for it
 abbrev pub IsOne : Schedule → EsrEvent → Schedule → Reply → Type 0
 IsOne h e g r =
     (event : Event) × (event_of e ≡ Some event) × (r ≡ reply_to weighted h event) × (g ≡ extended h event r)
@@ -35,7 +35,7 @@ IsOne h e g r =
 abbrev pub IsFullFor : Schedule → EsrEvent → Type 0
 IsFullFor h e = (event : Event) × (event_of e ≡ Some event) × (is_full h event ≡ true)
 
--- the history after an event that the machine has answered, and after several
+-- the history after an event that the machine has executed, and after several
 abbrev pub after_one : Schedule → Event → Schedule
 after_one h e = extended h e (reply_to weighted h e)
 
@@ -54,8 +54,8 @@ none_refused_before [] = true
 none_refused_before (r ∷ []) = true
 none_refused_before (r ∷ s ∷ more) = not (is_refusal r) && none_refused_before (s ∷ more)
 
--- The first n events were answered one after another: the history has them at its end, and their replies are at the head
--- of the room.
+-- The first n events were executed one after another: the history ends with them, and their replies are at the start
+-- of the buffer.
 pub record AreAnswered (h g : Schedule) (events : List EsrEvent) (n : ℕ) (buffer : List EsrReply) : Type 0 where
   pub within : n ≤ length events
   pub each : length (events_in n events) ≡ n
@@ -68,16 +68,16 @@ IsRefusedAtLast h events n =
     (before : List Reply) × (last : Reply) × (replies_to h (events_in n events) ≡ before ++ last ∷ [])
     × (is_refusal last ≡ true)
 
--- there is an event behind the first n of them, of no kind that there is
+-- the event after the first n has an unknown kind
 abbrev pub IsUnknownAt : List EsrEvent → ℕ → Type 0
 IsUnknownAt events n = (e : EsrEvent) × (slice_get events n ≡ Some e) × (event_of e ≡ None)
 
--- there is one for which the history has no room then
+-- the history is full for the event after the first n
 abbrev pub IsFullAt : Schedule → List EsrEvent → ℕ → Type 0
 IsFullAt h events n = (e : EsrEvent) × (slice_get events n ≡ Some e) × IsFullFor (after_all h (events_in n events)) e
 
--- Why no more than the first n were answered, by the status: all were, or the last was refused and that was to be the
--- end; or the next is none, or has no room.
+-- Why only the first n events were executed, by the status: all were, or the last was refused and `stop` is set; or
+-- the next is unknown, or the history is full for it.
 pub record IsEnd (h : Schedule) (events : List EsrEvent) (stop : Bool) (n status : ℕ) : Type 0 where
   pub done : status ≡ 0 → (n ≡ length events) ⊎ ((stop ≡ true) × IsRefusedAtLast h events n)
   pub unknown : status ≡ 8 → IsUnknownAt events n

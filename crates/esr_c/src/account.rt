@@ -9,8 +9,8 @@ use crate::engine::Status;
 use esr_engine::{AccountView, EmbeddedEngine, Kind, TxnStatus};
 use esr_history::TxnId;
 
-/// An account: whether it is a query's, how it stands (0 while active, else 4 committed or 5 aborted), its limit, and
-/// what was charged of it so far.
+/// An account: whether it is a query's, its status (0 active, 4 committed, 5 aborted), its limit, and the charges to
+/// it so far.
 #[repr(C)]
 #[derive(Clone, Copy)]
 pub struct EsrAccount {
@@ -30,7 +30,7 @@ fn txn_status_number(txn_status: TxnStatus) -> u32
     }
 }
 
-/// An account as C reads it.
+/// Converts an account for C.
 fn fields(account: AccountView) -> EsrAccount
     ensures { result ≡ account_fields account }
 {

@@ -107,7 +107,7 @@ fn numbers(alloc: Global, txns: &[TxnId]) -> Result<Vec<u32>, AllocError>
     txns.iter().map(|t| t.0).collect(alloc)
 }
 
-/// The audit of a query, or why there is none.
+/// Audits a query, or returns the status of the failure.
 pub(crate) fn find(
     alloc: Global,
     engine: &mut EmbeddedEngine,
@@ -156,7 +156,7 @@ pub(crate) fn show_finding(
     hand_out(before, &mut finding.count, &list)
 }
 
-/// The bundle of a query, or why there is none.
+/// Returns the bundle of a query, or the status of the failure.
 fn bundle(alloc: Global, engine: &mut EmbeddedEngine, query: u32) -> Result<Vec<u8>, Status>
     ensures same { engine.new ≡ engine.old }
     ensures ok { IfOk result (λ v. IsBundleOf engine.old query v.items) }

@@ -1,5 +1,5 @@
-//! Many events in one call, for a caller who takes a lock round it: they are answered one after another, as by a call
-//! for each.
+//! Many events in one call, for a caller that holds a lock around it: they are executed one after another, as by a
+//! call for each.
 
 ghost use Rattle.std.specs.Prelude.{◌≡◌, ◌≢◌, ◌≤◌, None, length, IfOk, IfErr, OnErr, IsErrOf};
 ghost use Rattle.esr_history.specs.Events.{is_refusal};
@@ -24,7 +24,7 @@ pub struct EsrEvent {
     pub value: i64,
 }
 
-/// The event, if there is one of that kind.
+/// Returns the event, if its kind is known.
 fn event_of(event: EsrEvent) -> Option<Event>
     ensures { result ≡ event_of event }
 {
@@ -54,7 +54,7 @@ fn event_of(event: EsrEvent) -> Option<Event>
     }
 }
 
-/// Answers an event of many.
+/// Executes one event of many.
 fn answer_one(engine: &mut EmbeddedEngine, event: EsrEvent) -> Result<Reply, Status>
     ensures ok { IfOk result (λ reply. IsOne engine.old event engine.new reply) }
     ensures unknown { IsErrOf result Status.NoSuchEvent → event_of event ≡ None }
@@ -72,15 +72,15 @@ fn answer_one(engine: &mut EmbeddedEngine, event: EsrEvent) -> Result<Reply, Sta
     }
 }
 
-/// Whether an event was refused.
+/// Returns whether an event was refused.
 fn is_refusal(reply: Reply) -> bool
     ensures { result ≡ is_refusal reply }
 {
     matches!(reply, Reply::Refused(_))
 }
 
-/// Answers events one after another, to the first that is not answered, or is refused where that is to be the end. The
-/// count tells how many were answered.
+/// Executes events one after another, up to the first that fails, or is refused if `stop` is set. The count is the
+/// number of events executed.
 pub(crate) fn answer_all(
     engine: &mut EmbeddedEngine,
     events: &[EsrEvent],

@@ -30,7 +30,7 @@ pub struct EsrEngine {
     ghost agrees: { is_open ≡ is_some held.history },
 }
 
-/// Why a call of C is not answered, with the number of each reason; 0 is an answer.
+/// The status of a call from C, with the number of each failure; 0 is success.
 #[derive(Clone, Copy, PartialEq, Eq, Debug)]
 pub enum Status {
     Done = 0,
@@ -50,7 +50,7 @@ pub enum Status {
 }
 
 impl Status {
-    /// The number of the status.
+    /// Returns the number of the status.
     pub(crate) fn number(self) -> u32
         ensures { result ≡ status_number self }
     {
@@ -76,7 +76,7 @@ pub(crate) fn open_engine(engine: Box<EmbeddedEngine, Global>) -> EsrEngine
     }
 }
 
-/// The engine of a variable, which is closed from then on.
+/// Takes the engine out of a variable, which is closed from then on.
 pub(crate) fn take_engine(
     alloc: Global,
     variable: &mut EsrEngine,
@@ -92,7 +92,7 @@ pub(crate) fn take_engine(
     Some(from_handle(alloc, held))
 }
 
-/// An engine of these values and weights on the heap, where they may be such.
+/// Creates an engine on the heap with these values and weights, if they are in range.
 fn make(
     alloc: Global,
     opening: &[i64],
@@ -168,8 +168,8 @@ fn answer(answered: Result<Reply, Unanswered>, reply: &mut EsrReply) -> Status
     }
 }
 
-/// Answers an event. The engine goes out of its place and back into it, and the rest of the variable stays: this is
-/// part of the cost of each event.
+/// Executes an event. The engine is moved out of its variable and back into it, and the rest of the variable is kept:
+/// this is part of the cost of each event.
 #[inline(always)]
 pub(crate) fn step(
     alloc: Global,
@@ -189,7 +189,7 @@ pub(crate) fn step(
     status
 }
 
-/// Answers a read as `step` does.
+/// Executes a read, like [`step`].
 #[inline(always)]
 pub(crate) fn read(
     alloc: Global,
@@ -210,7 +210,7 @@ pub(crate) fn read(
     status
 }
 
-/// Answers a write as `step` does.
+/// Executes a write, like [`step`].
 #[inline(always)]
 pub(crate) fn write(
     alloc: Global,
@@ -232,7 +232,7 @@ pub(crate) fn write(
     status
 }
 
-/// Takes the write lock on an item and reads it, and tells the reply.
+/// Acquires the write lock on an item and reads it, and returns the reply.
 fn read_and_reply(
     engine: &mut EmbeddedEngine,
     txn: TxnId,
@@ -291,7 +291,7 @@ pub(crate) fn renew_engine(alloc: Global, engine: &mut EmbeddedEngine) -> Status
     }
 }
 
-/// Renews an engine, with what is active aborted.
+/// Renews an engine, and aborts its active transactions.
 pub(crate) fn renew_engine_aborting(alloc: Global, engine: &mut EmbeddedEngine) -> Status
     ensures known { (result ≡ Status.Done) ⊎ (result ≡ Status.NoMemory) }
     ensures renewed { status_number result ≡ 0 → engine.new ≡ renewed engine.old engine.old.weights }

@@ -23,7 +23,7 @@ impl Model for EngineHandle {
     ghost also_owns = { λ h. owned h.at h.history };
 }
 
-/// Nothing.
+/// Returns the handle of a closed variable, which owns nothing.
 pub(crate) fn null_handle() -> EngineHandle
     ensures { result.history ≡ None }
 {
@@ -49,14 +49,14 @@ fn unwrap(h: EngineHandle) -> RawBox<EmbeddedEngine>
     }
 }
 
-/// The engine in a box.
+/// Converts a box with an engine into a handle.
 pub(crate) fn into_handle(b: Box<EmbeddedEngine, Global>) -> EngineHandle
     ensures { result.history ≡ Some b.value }
 {
     wrap(box_into_raw(b))
 }
 
-/// The box again.
+/// Converts a handle back into the box.
 pub(crate) fn from_handle(alloc: Global, h: EngineHandle) -> Box<EmbeddedEngine, Global>
     requires { IsSome h.history }
     ensures { h.history ≡ Some result.value }

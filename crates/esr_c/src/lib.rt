@@ -56,9 +56,9 @@ use texts::{show_explanation, show_picture};
 pub use verdict::EsrVerdict;
 use verdict::show_verdict;
 
-/// Opens an engine over items with these values, where it is closed.
+/// Opens an engine over items with these values, if it is closed.
 ///
-/// 0, or 1 for more than 4,096 items, 2 for a value out of range, 13 where an allocation failed, 15 where the engine is
+/// 0, or 1 for more than 4,096 items, 2 for a value out of range, 13 if an allocation failed, 15 if the engine is
 /// open.
 #[unsafe(no_mangle)]
 pub extern "C" fn esr_open(alloc: Global, engine: &mut EsrEngine, opening: &[i64]) -> u32
@@ -73,7 +73,8 @@ pub extern "C" fn esr_open(alloc: Global, engine: &mut EsrEngine, opening: &[i64
     open(alloc, engine, opening, &[]).number()
 }
 
-/// The same with weights of the items: a difference of an item counts so many times, an item past the list once.
+/// Opens an engine like [`esr_open`], with weights of the items: a difference is multiplied by the weight of its
+/// item, which is 1 for an item past the list.
 ///
 /// Besides, 1 for more than 4,096 weights, 4 for a weight of 0 or above 1,000.
 #[unsafe(no_mangle)]
@@ -99,9 +100,9 @@ pub extern "C" fn esr_open_weighted(
 
 /// Begins an update that may export up to `limit`.
 ///
-/// This and the five calls below answer 0 and write the reply, or 12 where there is no room for the event beside the ends
-/// of what is active, 13 where an allocation failed, 14 where the engine is closed; then neither the engine nor the reply
-/// has changed.
+/// This and the five calls below return 0 and write the reply, or return 12 if the history is full for the event and
+/// the ends of the active transactions, 13 if an allocation failed, 14 if the engine is closed; then neither the
+/// engine nor the reply has changed.
 #[unsafe(no_mangle)]
 pub extern "C" fn esr_begin_update(
     alloc: Global,
@@ -161,11 +162,11 @@ pub extern "C" fn esr_write(
     write(alloc, engine, TxnId(txn), ItemId(item), value, reply).number()
 }
 
-/// Reads an item for an update that is going to write it: the write lock is taken first, where it is not held. The reply
-/// is the value, or the refusal of the lock.
+/// Reads an item for an update that is going to write it: the write lock is acquired first, unless it is held. The
+/// reply is the value, or the refusal of the lock.
 ///
-/// As an event, but that with 13 the lock may have been taken, and the call may be given again; 12 where there are not
-/// two entries left beside the ends.
+/// As for an event, but after 13 the lock may have been acquired, and the call may be retried; 12 if the history has
+/// no space for two entries in addition to the ends.
 #[unsafe(no_mangle)]
 pub extern "C" fn esr_read_for_update(
     alloc: Global,
@@ -244,8 +245,8 @@ pub extern "C" fn esr_do(
     status.number()
 }
 
-/// What has been imported, and how many entries the history has: 0, or 14 where the engine is closed. No limit has been
-/// passed.
+/// Writes the sum of all imports, and the number of entries in the history: 0, or 14 if the engine is closed. No
+/// limit has been exceeded.
 #[unsafe(no_mangle)]
 pub extern "C" fn esr_totals_of(
     alloc: Global,
@@ -267,8 +268,8 @@ pub extern "C" fn esr_totals_of(
     Status::Done.number()
 }
 
-/// What the history has, and what is left of it: 0, or 14 where the engine is closed. It is never stuck: whatever is
-/// active can be committed or aborted.
+/// Writes the counts of the history and its remaining capacity: 0, or 14 if the engine is closed. The history never
+/// deadlocks: every active transaction can be committed or aborted.
 #[unsafe(no_mangle)]
 pub extern "C" fn esr_counts_of(alloc: Global, engine: &mut EsrEngine, counts: &mut Counts) -> u32
     ensures closed { result ≡ 14 ↔ (engine.old.held.history ≡ None) }
@@ -286,7 +287,7 @@ pub extern "C" fn esr_counts_of(alloc: Global, engine: &mut EsrEngine, counts: &
     Status::Done.number()
 }
 
-/// The account of a transaction, at any time: 0, or 3 where it has not begun, 14 where the engine is closed.
+/// Returns the account of a transaction, at any time: 0, or 3 if it has not begun, 14 if the engine is closed.
 #[unsafe(no_mangle)]
 pub extern "C" fn esr_account_of(
     alloc: Global,
@@ -309,10 +310,10 @@ pub extern "C" fn esr_account_of(
     status.number()
 }
 
-/// The committed values of the items, for which there is room in `values`.
+/// Writes the committed values of the items to the buffer `values`.
 ///
-/// 0, or 7 where there are more items than room, 13 where an allocation failed, 14 where the engine is closed. With 0
-/// and 7 `count` tells how many items there are.
+/// 0, or 7 if the buffer is too small, 13 if an allocation failed, 14 if the engine is closed. With 0 and 7, `count`
+/// is the number of items.
 #[unsafe(no_mangle)]
 pub extern "C" fn esr_values(
     alloc: Global,
@@ -338,10 +339,10 @@ pub extern "C" fn esr_values(
     status.number()
 }
 
-/// The audit of a committed query, with the updates before it, for which there is room in `before`.
+/// Audits a committed query, and writes the updates before it to the buffer `before`.
 ///
-/// 0, or 6 where the transaction is no committed query, 7 where there are more updates than room, 13 where an
-/// allocation failed, 14 where the engine is closed. With 0 and 7 `finding` tells what is found.
+/// 0, or 6 if the transaction is not a committed query, 7 if the buffer is too small, 13 if an allocation failed, 14
+/// if the engine is closed. With 0 and 7, `finding` is the result.
 #[unsafe(no_mangle)]
 pub extern "C" fn esr_audit(
     alloc: Global,
@@ -369,10 +370,10 @@ pub extern "C" fn esr_audit(
     status.number()
 }
 
-/// The bundle of a committed query, for which there is room in `bytes`: one JSON object, which `esr check` reads.
+/// Writes the bundle of a committed query to the buffer `bytes`: one JSON object, which `esr check` reads.
 ///
-/// 0, or 6 where the transaction is no committed query, 7 where it has more bytes than there is room, 13 where an
-/// allocation failed, 14 where the engine is closed. With 0 and 7 `count` tells how many bytes it has.
+/// 0, or 6 if the transaction is not a committed query, 7 if the buffer is too small, 13 if an allocation failed, 14
+/// if the engine is closed. With 0 and 7, `count` is the length of the bundle in bytes.
 #[unsafe(no_mangle)]
 pub extern "C" fn esr_bundle(
     alloc: Global,
@@ -400,12 +401,12 @@ pub extern "C" fn esr_bundle(
     status.number()
 }
 
-/// The script of the history so far, for which there is room in `bytes`: a run of it gives each entry again that was
-/// accepted or blocked. Items have the names of a text, one on each line, or `i0`, `i1` where it is empty; transactions
-/// are `t1`, `t2`.
+/// Writes the script of the history so far to the buffer `bytes`: a run of it recreates each entry that was accepted
+/// or blocked. Items have the names of a text, one per line, or `i0`, `i1` if it is empty; transactions are `t1`,
+/// `t2`.
 ///
-/// 0, or 5 where the text has not a name for each item, 7 where the script has more bytes than there is room, 13 where an
-/// allocation failed, 14 where the engine is closed. With 0 and 7 `count` tells how many bytes it has.
+/// 0, or 5 if the text lacks a name for an item, 7 if the buffer is too small, 13 if an allocation failed, 14 if the
+/// engine is closed. With 0 and 7, `count` is the length of the script in bytes.
 #[unsafe(no_mangle)]
 pub extern "C" fn esr_history_script(
     alloc: Global,
@@ -434,12 +435,13 @@ pub extern "C" fn esr_history_script(
     status.number()
 }
 
-/// The explanation of a committed query, for which there is room in `bytes`: what it read, beside the values of the nearest
-/// placement, each charge to it, and the sums. Items and transactions are named as in the script of the history.
+/// Writes the explanation of a committed query to the buffer `bytes`: the values it read compared with those of the
+/// nearest placement, each charge to it, and the sums. Items and transactions are named as in the script of the
+/// history.
 ///
-/// 0, or 5 where the text has not a name for each item, 6 where the transaction is no committed query, 7 where it has more
-/// bytes than there is room, 13 where an allocation failed, 14 where the engine is closed. With 0 and 7 `count` tells how
-/// many bytes it has.
+/// 0, or 5 if the text lacks a name for an item, 6 if the transaction is not a committed query, 7 if the buffer is
+/// too small, 13 if an allocation failed, 14 if the engine is closed. With 0 and 7, `count` is the length of the
+/// explanation in bytes.
 #[unsafe(no_mangle)]
 pub extern "C" fn esr_explain(
     alloc: Global,
@@ -470,7 +472,7 @@ pub extern "C" fn esr_explain(
     status.number()
 }
 
-/// The same as a picture: one SVG, of which each element is closed.
+/// Writes the picture of a committed query to the buffer `bytes`: one SVG, of which each element is closed.
 #[unsafe(no_mangle)]
 pub extern "C" fn esr_picture(
     alloc: Global,
@@ -500,12 +502,12 @@ pub extern "C" fn esr_picture(
     status.number()
 }
 
-/// The ledger of the history so far as CSV, for which there is room in `bytes`: a row for each transaction, with its limit
-/// and charges, how often it was blocked, how it ended, and how far off a committed query was. Transactions are named as in
-/// the script of the history, whose lines the last two fields count.
+/// Writes the ledger of the history so far as CSV to the buffer `bytes`: a row for each transaction, with its limit
+/// and charges, the number of its blocked events, its end, and the distance of a committed query. Transactions are
+/// named as in the script of the history, whose lines the last two fields count.
 ///
-/// 0, or 7 where it has more bytes than there is room, 13 where an allocation failed, 14 where the engine is closed. With 0
-/// and 7 `count` tells how many bytes it has.
+/// 0, or 7 if the buffer is too small, 13 if an allocation failed, 14 if the engine is closed. With 0 and 7, `count`
+/// is the length of the ledger in bytes.
 #[unsafe(no_mangle)]
 pub extern "C" fn esr_ledger(
     alloc: Global,
@@ -532,7 +534,7 @@ pub extern "C" fn esr_ledger(
     status.number()
 }
 
-/// The verdict on a bundle, whose it be: 0, or 13 where an allocation failed. It needs no engine.
+/// Judges a bundle of any origin: 0, or 13 if an allocation failed. It needs no engine.
 #[unsafe(no_mangle)]
 pub extern "C" fn esr_check(alloc: Global, bytes: &[u8], verdict: &mut EsrVerdict) -> u32
     ensures status { (result ≡ 0) ⊎ (result ≡ 13) }
@@ -544,8 +546,8 @@ pub extern "C" fn esr_check(alloc: Global, bytes: &[u8], verdict: &mut EsrVerdic
 
 /// Goes on from the committed values with an empty history, in which transactions are numbered from 1 again.
 ///
-/// 0, or 13 where an allocation failed, 14 where the engine is closed, 16 where a transaction is active; then nothing
-/// has changed.
+/// 0, or 13 if an allocation failed, 14 if the engine is closed, 16 if a transaction is active; then nothing has
+/// changed.
 #[unsafe(no_mangle)]
 pub extern "C" fn esr_renew(alloc: Global, engine: &mut EsrEngine) -> u32
     ensures status { IsRenewStatus result }
@@ -564,8 +566,8 @@ pub extern "C" fn esr_renew(alloc: Global, engine: &mut EsrEngine) -> u32
     status.number()
 }
 
-/// The same in every state: what is active is aborted, and ends with the history. 0, or 13 where an allocation failed,
-/// 14 where the engine is closed; then nothing has changed.
+/// Renews the engine in every state: active transactions are aborted, and end with the history. 0, or 13 if an
+/// allocation failed, 14 if the engine is closed; then nothing has changed.
 #[unsafe(no_mangle)]
 pub extern "C" fn esr_renew_aborting(alloc: Global, engine: &mut EsrEngine) -> u32
     ensures status { (result ≡ 0) ⊎ ((result ≡ 13) ⊎ (result ≡ 14)) }
@@ -583,9 +585,9 @@ pub extern "C" fn esr_renew_aborting(alloc: Global, engine: &mut EsrEngine) -> u
     status.number()
 }
 
-/// Closes an engine, and frees what it holds. It may be opened again. A closed engine stays closed. What the engine
-/// has answered was sound: its committed updates are serializable, no limit was passed, and no query was off by more
-/// than it imported.
+/// Closes an engine, and frees its memory. It may be reopened. A closed engine stays closed. The engine's replies
+/// were sound: its committed updates are serializable, no limit was exceeded, and no query was off by more than it
+/// imported.
 #[unsafe(no_mangle)]
 pub extern "C" fn esr_close(alloc: Global, engine: &mut EsrEngine)
     ensures closed { engine.new.held.history ≡ None }

@@ -14,7 +14,7 @@ use esr_report::Names;
 use esr_tables::history_ledger;
 use std::alloc::Global;
 
-/// The names of the items of an engine.
+/// Returns the names of the items of an engine.
 pub(crate) fn items(alloc: Global, engine: &EmbeddedEngine, names: &[u8]) -> Result<Names, Status>
     ensures ok { IfOk result (λ items. names_of engine.now names.now ≡ Some items) }
     ensures bad { IsErrOf result Status.BadNames → names_of engine.now names.now ≡ None }
@@ -27,7 +27,7 @@ pub(crate) fn items(alloc: Global, engine: &EmbeddedEngine, names: &[u8]) -> Res
     }
 }
 
-/// The names of the transactions of an engine: their numbers.
+/// Returns the names of the transactions of an engine: their numbers.
 #[tactic(auto, using(esr_history::proofs::WithinRanges::legal_begins))]
 pub(crate) fn transactions(alloc: Global, engine: &EmbeddedEngine) -> Result<Names, Status>
     ensures ok { IfOk result (λ transactions. transactions ≡ transaction_names (transaction_count engine.now)) }
@@ -41,7 +41,7 @@ pub(crate) fn transactions(alloc: Global, engine: &EmbeddedEngine) -> Result<Nam
     }
 }
 
-/// The script of an engine's history, or why there is none.
+/// Returns the script of an engine's history, or the status of the failure.
 fn script_text(alloc: Global, engine: &EmbeddedEngine, names: &[u8]) -> Result<Vec<u8>, Status>
     ensures ok { IfOk result (λ text. IsScriptOf engine.now names.now text.items) }
     ensures bad { IsErrOf result Status.BadNames → names_of engine.now names.now ≡ None }
@@ -78,7 +78,7 @@ pub(crate) fn show_script(
     }
 }
 
-/// The ledger of an engine's history, or why there is none.
+/// Returns the ledger of an engine's history, or the status of the failure.
 fn ledger_text(alloc: Global, engine: &EmbeddedEngine) -> Result<Vec<u8>, Status>
     ensures ok { IfOk result (λ text. IsLedgerOf engine.now text.items) }
     ensures err { IfErr result (λ e. e ≡ Status.NoMemory) }

@@ -18,7 +18,7 @@ impl<T> Model for RawBox<T> {
     ghost also_owns = { λ l. box_owns (Heap.ghosts.dealloc_token _) T.row l.at l.value };
 }
 
-/// The pointer of a box.
+/// Converts a box into a pointer.
 pub(crate) fn box_into_raw<T: Drop>(b: Box<T, Global>) -> RawBox<T>
     ensures { result.value ≡ b.value }
 {
@@ -27,7 +27,7 @@ pub(crate) fn box_into_raw<T: Drop>(b: Box<T, Global>) -> RawBox<T>
     }
 }
 
-/// The box again.
+/// Converts a pointer back into the box.
 pub(crate) fn box_from_raw<T>(alloc: Global, l: RawBox<T>) -> Box<T, Global>
     ensures { result.value ≡ l.value }
 {

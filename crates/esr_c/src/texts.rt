@@ -1,6 +1,7 @@
-//! What is told of a committed query: its explanation and its picture, by the names that the script of the history has.
+//! Texts of a committed query: its explanation and its picture, by the names of the history's script.
 //!
-//! Both tell what an audit found, and are made of the engine's own history, so that nobody has to run the script for them.
+//! Both show the finding of an audit, and are made from the engine's own history, so the script need not be run for
+//! them.
 
 ghost use Rattle.std.specs.Prelude.{◌≡◌, ◌≢◌, ◌↔◌, ◌⊎◌, ◌<◌, false, None, length, IfOk, IfErr, IsErrOf, drop};
 ghost use Rattle.esr_items.specs.Weights.{weighted};
@@ -24,7 +25,7 @@ use esr_report::Names;
 use esr_trace::Audited;
 use std::alloc::Global;
 
-/// The explanation of a query of which this was found, or why there is none.
+/// Returns the explanation of a query with this finding, or the status of the failure.
 fn explain(
     alloc: Global,
     items: &Names,
@@ -44,7 +45,7 @@ fn explain(
     }
 }
 
-/// The explanation of a query, or why there is none.
+/// Returns the explanation of a query, or the status of the failure.
 fn explanation_text(
     alloc: Global,
     engine: &mut EmbeddedEngine,
@@ -66,7 +67,7 @@ fn explanation_text(
     }
 }
 
-/// The bytes of the picture of a query, or why there is none.
+/// Returns the bytes of the picture of a query, or the status of the failure.
 fn draw<'a>(
     alloc: Global,
     items: &'a Names,
@@ -89,7 +90,7 @@ fn draw<'a>(
     }
 }
 
-/// The picture of a query, or why there is none.
+/// Returns the picture of a query, or the status of the failure.
 fn picture_text(
     alloc: Global,
     engine: &mut EmbeddedEngine,

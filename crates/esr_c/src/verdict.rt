@@ -7,8 +7,8 @@ use crate::engine::Status;
 use esr_bundle::{Verdict, verdict_of};
 use std::alloc::Global;
 
-/// A verdict: 1 and the least cost where the bundle shows it, 2 and the number of the certificate's first fault, 3 and the
-/// number of the bundle's fault.
+/// A verdict: 1 and the least cost that the bundle proves, 2 and the number of the certificate's first fault, 3 and
+/// the number of the bundle's fault.
 #[repr(C)]
 #[derive(Clone, Copy)]
 pub struct EsrVerdict {

@@ -1,5 +1,5 @@
--- The words behind the name of a subcommand are left to it: so what the program finds of them is computed from that
--- subcommand alone, and not from all at once.
+-- The arguments after the name of a subcommand are left to it, so their faults are computed from that subcommand
+-- alone, and not from all at once.
 use Rattle.std.proofs.Common.{◌≡◌, ◌∙◌, ap, ap₂, sym, refl, fold, codes, List, [], ◌∷◌, Option, Some, is_some, find, option_map}
 use Rattle.std.specs.Option.{option_map_or}
 use Rattle.clap.specs.Walk.{Text, Walk, answers_to, finished, nothing_held, settled, walk, walk_from, walked}
@@ -20,7 +20,7 @@ shell = built program
 abbrev start : Walk
 start = walk_from nothing_held
 
--- the walk behind the name of a subcommand, with these words left to it
+-- the walk after the name of a subcommand, with these arguments left to it
 abbrev left_to : Text → List Text → Walk
 left_to word rest = record start { stopped = Some (word, rest) }
 
@@ -45,14 +45,14 @@ turns_of_rest word s rest is =
     ap₂ (λ (k : Kinds) (w : Walk). or_else k (walk_fault shell.top (names_of shell) w rest)) is.fine is.met
     ∙ stopped_fault shell.top (names_of shell) start (word, []) rest
 
--- what is found of a walk that stopped there, of which the turns had these faults
+-- the faults of a walk that stopped there, whose turns had these faults
 abbrev found_of_walk : Walk → Kinds → Kinds
 found_of_walk w turns =
     or_else turns (or_else (entered_fault shell w.stopped) (or_else (settle_fault shell.top.rules shell.top.args_override_self w.held)
     (or_else (defaults_fault (settled shell.top.rules w.held).rows shell.top.rules)
     (check_fault shell.top (finished shell.top.rules w.held) (is_some (entered shell w.stopped))))))
 
--- the same behind a name, where this subcommand is found
+-- the faults after a name, if this subcommand is found
 abbrev found_of_subcommand : List Text → Option Shape → Kinds
 found_of_subcommand rest o =
     or_else (option_map_or (λ s. own_fault s rest) o []) (or_else (settle_fault shell.top.rules shell.top.args_override_self nothing_held)

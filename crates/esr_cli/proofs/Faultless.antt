@@ -110,11 +110,11 @@ worst_fit = record {
 
 -- ---- the subcommands
 
--- what is asked for has workers, where any work
+-- a request has workers, if its task has any
 abbrev pub HasItsWorkers : Request → Type 0
 HasItsWorkers r = HasWorkers r.work
 
--- where the words of the subcommand have no fault, it asks for something
+-- if the arguments of the subcommand have no fault, they form a request
 abbrev IsServed : Shape → Type 0
 IsServed s = (words : List Text) → level_fault s [] nothing_held words false [] ≡ []
     → IsSomeAnd (request_in (Some (rows_at s words))) HasItsWorkers
@@ -174,7 +174,7 @@ explain_served words none =
     (given_there (codes "NAME") rows (must_be_given (is_given (codes "NAME") rows) (check_none explain_shape words none))) in
     one_named (λ name. asked.explain name (flag_in (codes "prose") rows)) rows given.text (λ t. tt) given.first
 
--- a number that is read as it stands
+-- a number that is read unchanged
 pub number : (text : Text) → is_unsigned_in 1 64 text ≡ true
     → (number_in text ≡ Some (digits_value 10 (without_leading_plus text))) × (1 ≤ digits_value 10 (without_leading_plus text)) × (digits_value 10 (without_leading_plus text) ≤ 64)
 number text passes =
@@ -268,7 +268,7 @@ no_help word other same = go (bytes_eq help word) refl same
     go false is same = true≢false (sym same)
     go true is same = true≢false (sym ((bytes_eq-Decides word help).1 (sym ((bytes_eq-Decides help word).0 is))) ∙ other)
 
--- of the subcommands, the one that is met and is not `help` is asked for
+-- a subcommand that is met and is not `help` is the one requested
 picked : (p : Text × List Text) → bytes_eq p.0 help ≡ false → (subs : List Shape) → AllServed subs
     → is_some (option_map (λ s. rows_at s p.1) (find (λ s. answers_to p.0 (label_of s)) subs)) ≡ true
     → option_map_or (λ s. level_fault s [] nothing_held p.1 false []) (find (λ s. answers_to p.0 (label_of s)) subs) [] ≡ []
@@ -290,7 +290,7 @@ entered_requests : (stop : Option (Text × List Text)) → StopsElsewhere stop �
 entered_requests None elsewhere there none = absurd (true≢false (sym there))
 entered_requests (Some p) elsewhere there none = picked p elsewhere shell.subs served there none
 
--- words with no fault ask for something
+-- arguments without a fault form a request
 pub faultless_requests : (words : List Text) → fault_of program words ≡ [] → IsSomeAnd (request_in (subcommand_of program words)) HasItsWorkers
 faultless_requests words none =
     let given = argument_words program words in

@@ -1,5 +1,5 @@
--- Why words that spell a job have no fault and ask for it, whatever the operands are. `WalksTo` walks over words that
--- are known and operands that are not; the other modules start from it.
+-- Arguments that form a job have no fault and request it, whatever the operands are. `WalksTo` walks over known words
+-- and unknown operands; the other modules start from it.
 
 mod Entered
 mod Faultless

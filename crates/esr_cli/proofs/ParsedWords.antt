@@ -1,4 +1,4 @@
--- Words that spell a job have no fault, and ask for it.
+-- Arguments that form a job have no fault, and request it.
 use Rattle.std.proofs.Common.{◌≡◌, ℕ, Bool, cond, codes, true, false, refl, sym, ap, subst, List, [], ◌∷◌, ◌++◌, Option, Some, None, IfOk, IsErrAnd, Result, Ok, Err, MatchResult, ⊎_elim, inl, inr, ◌==◌, arith, ◌&&◌, bytes_eq, option_map, ◌∙◌}
 use Rattle.clap.proofs.ValueTestLemmas.{accepts-Accepts}
 use Rattle.std.specs.Str.Parse.{IsNumeral, digits_value, without_leading_plus}
@@ -25,12 +25,12 @@ use Rattle.esr_cli.proofs.Entered.{IsNameOf, audit_is, audit_shape, certify_is, 
 use Rattle.esr_cli.proofs.WalksTo.{IsOperand, WalksTo, at_end, after_operand, fault_at, finished_well, own_fault_is, rows_are, then_operand, then_word}
 use Rattle.esr_cli.proofs.Faultless.{number}
 
--- what is asked for without the other options
+-- the request without the other options
 abbrev plainly : RequestedTask → Option Text → Bool → Request
 plainly work file bail =
     record { work = work; file = file; bail = bail; progress = AtATerminal; format = Some Plain }
 
--- the words have no fault, and ask for this
+-- the arguments have no fault, and form this request
 abbrev IsTaken : List Text → Request → Type 0
 IsTaken words wanted = (fault_of program words ≡ []) × (request_in (subcommand_of program words) ≡ Some wanted)
 
@@ -64,7 +64,7 @@ remainder word s is rest to wanted leads none asks name = (
   ap request_in (rows_of_rest name word s rest is ∙ ap (λ (p : Text × List Row). Some p) (rows_are s rest to leads)) ∙ asks,
 )
 
--- work of a number that is read as it stands
+-- a task with a number that is read unchanged
 counted : (ask : ℕ → RequestedTask) (text : Text) (file : Option Text) (bail : Bool) → is_unsigned_in 1 64 text ≡ true
     → option_map {U = Request} (λ work. plainly work file bail) (option_map ask (number_in text))
     ≡ Some (plainly (ask (digits_value 10 (without_leading_plus text))) file bail)
@@ -354,7 +354,7 @@ taken_as words wanted (progress, format, is) =
     } in
     subst (IsTaken words) same (taken words wanted.work wanted.file wanted.bail (subst (λ r. IsSyntaxOfTask wanted.work r words) (sym same) is))
 
--- words that spell a job fail only if allocation fails
+-- parsing arguments that form a job fails only if an allocation fails
 pub parsed : (r : Result Job Error) (words : List Text) (wanted : Request) → IsSyntaxOf words wanted → FailsBy (fault_of program words) r
     → IfOk r (λ job. request_in (subcommand_of program words) ≡ Some (request_of job)) → MatchResult r (λ job. request_of job ≡ wanted) (λ e. kind_of e ≡ kind.OutOfMemory)
 parsed (Ok job) words wanted syntax fails is = let same : Some (request_of job) ≡ Some wanted = sym is ∙ (taken_as words wanted syntax).1 in cc

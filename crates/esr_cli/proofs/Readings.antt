@@ -9,7 +9,7 @@ use Rattle.clap.specs.declared.builder.value_parser.ValueParser.TheVariants.{Uns
 use Rattle.clap.proofs.ValueTestLemmas.{Accepts-accepts, accepts-Accepts}
 use Rattle.esr_cli.specs.Job.{bool_of, number_in}
 
--- a number is read where the text is one that fits 64 bits
+-- a number is read if the text fits 64 bits
 pub number_read : (E : Type 0) (G : List ℕ → Result ℕ E → Type 0) → ((u : List ℕ) (x : Result ℕ E) → G u x → ParsesUnsigned 64 10 u x)
     → (o : Option Text) (r : Option ℕ) → (o ≡ None → r ≡ None) → ((t : List ℕ) → o ≡ Some t → ReadsOne G t r) → r ≡ option_and_then number_in o
 number_read E G only None r none value = none refl
@@ -27,7 +27,7 @@ number_read E G only (Some t) r none value = go r (value t refl)
     go (Some v) read = let parsed = only t (Ok v) read in rw (fits parsed.0) (ap (λ n. Some n) parsed.1)
     go None read = wrong (is_unsigned_in 0 18446744073709551615 t) refl (only t (Err read.0) read.1)
 
--- a flag is read where the text is `true` or `false`
+-- a flag is read if the text is `true` or `false`
 pub bool_read : (E : Type 0) → (o : Option Text) (r : Option Bool) → (o ≡ None → r ≡ None) → ((t : List ℕ) → o ≡ Some t → ReadsOne {T = Bool} {E = E} ParsesBool t r)
     → r ≡ option_and_then bool_of o
 bool_read E None r none value = none refl

@@ -296,7 +296,7 @@ module _ (name : Text) (test : Text → Bool) where
       defaults_good s.rules (settled s.rules end).rows fit (first_none (defaults_fault (settled s.rules end).rows s.rules) _ (then_none settle _ ended))
       (settled_good s fit end (first_none settle _ ended) walked_good)
 
-  -- a value of the name, where it has a row
+  -- a value of the name, if it has a row
   pub record HasText (rows : List Row) : Type 0 where
     pub text : Text
     pub first : first_of name rows ≡ Some text
@@ -323,7 +323,7 @@ module _ (name : Text) (test : Text → Bool) where
       let got = row_good rows good there in
       text_of got.0 rows got.1 got.2 got.0.values refl got.3
 
--- what is given has a row
+-- an argument that is set has a row
 pub given_there : (id : Text) (rows : List Row) → is_given id rows ≡ true → is_some (find (λ r. bytes_eq r.id id) rows) ≡ true
 given_there id rows given = go (find (λ r. bytes_eq r.id id) rows) given
   where

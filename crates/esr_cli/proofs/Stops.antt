@@ -10,7 +10,7 @@ use Rattle.clap.specs.declared.error.kind.ErrorKind.TheVariants as kind
 abbrev pub help : Text
 help = codes "help"
 
--- the walk goes on, or it stopped at another name
+-- the walk continues, or it stopped at another name
 abbrev pub StopsElsewhere : Option (Text × List Text) → Type 0
 StopsElsewhere stop = IfSome stop (λ p. bytes_eq p.0 help ≡ false)
 
@@ -62,7 +62,7 @@ step_continues c word w h _ on continues = on
 elsewhere : (stop : Option (Text × List Text)) → stop ≡ None → StopsElsewhere stop
 elsewhere stop on = subst StopsElsewhere (sym on) tt
 
--- a word that is met, and has no fault, is no call for help
+-- an argument that is met, and has no fault, does not request help
 met_elsewhere : (s : Shape) (met : Option Text) (waiting : Waiting) (word : Text) (w : Walk) → w.stopped ≡ None → s.disable_help_subcommand ≡ false
     → other_fault s met word w.held ≡ []
     → StopsElsewhere (after_step s.rules word w (subcommand_or_other s.rules met waiting w.position word w.held).0 (subcommand_or_other s.rules met waiting w.position word w.held).1).stopped

@@ -1,6 +1,6 @@
--- Where the words of a subcommand lead, word by word. A word of which nothing is known but that it is an operand is gone
--- over by one lemma: were such a walk computed as a whole, each question that it asks of the word would stay open, and
--- the term would double with each.
+-- The walk along the arguments of a subcommand, one by one. One lemma passes an argument of which only the kind,
+-- operand, is known: if such a walk were computed as a whole, each test of the argument would remain open, and the
+-- term would double with each.
 use Rattle.std.proofs.Common.{◌≡◌, ◌∙◌, ap, ap₂, refl, ℕ, cond, false, fold, List, [], ◌∷◌, None, is_some, bytes_eq}
 use Rattle.clap.specs.Lexer.{long_of, short_of}
 use Rattle.clap.specs.Walk.{Held, Rule, Step, Text, Waiting, Walk, after_step, finished, idle, nothing_held, option, plain_word, positional, settled, subcommand_met, walk_from, walked, walked_from, word_met}
@@ -32,7 +32,7 @@ then_word s w next to word rest step turn leads = record {
   fine = ap₂ (λ (k : Kinds) (v : Walk). or_else k (walk_fault s [] v rest)) turn step ∙ leads.fine;
 }
 
--- the walk behind an operand
+-- the walk after an operand
 abbrev pub after_operand : List Rule → Walk → Text → Walk
 after_operand c w word =
     after_step c word w (plain_word c w.waiting word w.held).0 (plain_word c w.waiting word w.held).1
@@ -64,18 +64,18 @@ then_operand s w to word rest is free on fine leads =
     (ap (λ (m : Held × Step). step_fault s w.position m.0 m.1) met ∙ fine) in
     then_word s w (after_operand s.rules w word) to word rest step turn leads
 
--- ---- what is found behind all words
+-- ---- the faults found after all arguments
 
 -- the fault of a subcommand's own words
 abbrev pub own_fault : Shape → List Text → Kinds
 own_fault s rest = level_fault s [] nothing_held rest false []
 
--- the same, where the words lead to this walk
+-- the fault of a subcommand whose arguments lead to this walk
 abbrev pub fault_at : Shape → Walk → Kinds
 fault_at s w = or_else (settle_fault s.rules s.args_override_self w.held)
     (or_else (defaults_fault (settled s.rules w.held).rows s.rules) (check_fault s (finished s.rules w.held) false))
 
--- what waits has no fault, and what is checked behind it has none
+-- the pending argument has no fault, and the checks after it find none
 pub finished_well : (s : Shape) (w : Walk) → settle_fault s.rules s.args_override_self w.held ≡ []
     → or_else (defaults_fault (settled s.rules w.held).rows s.rules) (check_fault s (finished s.rules w.held) false) ≡ [] → fault_at s w ≡ []
 finished_well s w settle rest =

@@ -1,4 +1,4 @@
--- The jobs that words ask for.
+-- The jobs that arguments request.
 use Rattle.std.specs.Prelude.{◌≡◌, ◌≤◌, ◌⊎◌, ⊤, ℕ, Bool, true, false, List, [], ◌∷◌, ◌++◌, Option, Some, None, codes, if◌then◌else◌, option_and_then, option_map, unwrap_or, bytes_eq}
 use Rattle.std.specs.Option.{option_map_or}
 use Rattle.std.specs.Str.Parse.{digits_value, without_leading_plus}
@@ -13,7 +13,7 @@ use Rattle.esr_cli.specs.declared.Format.TheVariants.{Text as Plain, Csv, Json}
 use Rattle.esr_cli.specs.declared.Progress.{Progress}
 use Rattle.esr_cli.specs.declared.Progress.TheVariants.{AtATerminal, Always, Never}
 
--- what is done with the input
+-- the task to run on the input
 pub data RequestedTask : Type 0 where
   run : RequestedTask
   certify : Text → Bool → RequestedTask
@@ -28,8 +28,8 @@ pub data RequestedTask : Type 0 where
   why : Option Text → RequestedTask
   lint : RequestedTask
 
--- what the program is asked for: the work, the file that is read, if one is named, whether a line at fault is to show in
--- the status, when progress is shown, and how what is told is written, if the word for it is a format
+-- a request to the program: the task, the file to read, if one is named, whether a line with a fault affects the
+-- status, when progress is shown, and the output format, if its name is known
 pub record Request : Type 0 where
   pub work : RequestedTask
   pub file : Option Text
@@ -61,7 +61,7 @@ request_of job = record {
   format = job.format;
 }
 
--- 1 to 64 workers, where any work
+-- 1 to 64 workers, if the task has any
 abbrev pub HasWorkers : RequestedTask → Type 0
 HasWorkers (audit workers) = (1 ≤ workers) × (workers ≤ 64)
 HasWorkers (drive workers script) = (1 ≤ workers) × (workers ≤ 64)
@@ -75,9 +75,9 @@ abbrev pub number_in : Text → Option ℕ
 number_in text = if is_unsigned_in 0 18446744073709551615 text
     then Some (digits_value 10 (without_leading_plus text)) else None
 
--- ---- what the matches of a subcommand ask for
+-- ---- the request in the matches of a subcommand
 
--- whether a flag is given
+-- whether a flag is set
 abbrev pub flag_in : Text → List Row → Bool
 flag_in flag rows = unwrap_or (option_and_then bool_of (one_of flag rows)) false
 
@@ -87,7 +87,7 @@ certify_in rows = option_map (λ name. certify name (flag_in (codes "steps") row
 abbrev pub explain_in : List Row → Option RequestedTask
 explain_in rows = option_map (λ name. explain name (flag_in (codes "prose") rows)) (first_of (codes "NAME") rows)
 
--- what a bundle is judged by
+-- the check requested by the matches
 abbrev pub check_in : List Row → RequestedTask
 check_in rows = check (first_of (codes "script") rows) (first_of (codes "query") rows) (flag_in (codes "verbose") rows)
 
@@ -101,11 +101,11 @@ format_of_name name = if bytes_eq name (codes "text") then Some Plain
     else (if bytes_eq name (codes "csv") then Some Csv
     else (if bytes_eq name (codes "json") then Some Json else None))
 
--- text where no format is named
+-- text if no format is named
 abbrev pub format_in : List Row → Option Format
 format_in rows = option_map_or format_of_name (first_of (codes "format") rows) (Some Plain)
 
--- the number that an option is given
+-- the number passed to an option
 abbrev pub count_in : Text → List Row → Option ℕ
 count_in option rows = option_and_then number_in (one_of option rows)
 
@@ -119,7 +119,7 @@ drive_in rows = option_map (λ workers. drive workers (flag_in (codes "as-script
 abbrev pub explore_in : List Row → RequestedTask
 explore_in rows = explore (count_in (codes "seeds") rows) (flag_in (codes "all") rows) (first_of (codes "worst") rows)
 
--- what a subcommand and its matches ask for
+-- the task requested by a subcommand and its matches
 abbrev pub task_in : Text → List Row → Option RequestedTask
 task_in name rows =
     if bytes_eq name (codes "run") then Some run
@@ -136,7 +136,7 @@ task_in name rows =
     else (if bytes_eq name (codes "lint") then Some lint
     else None)))))))))))
 
--- the work, with what else is asked for
+-- the request for a task with the other options
 abbrev pub requested : List Row → RequestedTask → Request
 requested rows work = record {
   work = work;
@@ -153,27 +153,27 @@ abbrev pub request_in : Option (Text × List Row) → Option Request
 request_in None = None
 request_in (Some p) = request_in_one p.0 p.1
 
--- ---- the words for it
+-- ---- the arguments for it
 
--- the word is no option, since it does not begin with `-`
+-- the argument is not an option, since it does not begin with `-`
 abbrev pub IsPlainWord : Text → Type 0
 IsPlainWord word = strip_byte 45 word ≡ None
 
--- the words that follow the program's name
+-- the arguments that follow the program's name
 abbrev pub IsCall : List Text → List Text → Type 0
 IsCall words rest = (name : Text) × (words ≡ name ∷ rest)
 
--- the flag, where it is given
+-- the flag, if it is set
 abbrev pub flag_words : Bool → Text → List Text
 flag_words true flag = flag ∷ []
 flag_words false flag = []
 
--- the file, where one is named
+-- the file, if one is named
 abbrev pub file_words : Option Text → List Text
 file_words None = []
 file_words (Some file) = file ∷ []
 
--- what a file that is named may be called: `-`, which is standard input, or a plain word
+-- the permitted names of a file: `-`, which is standard input, or a plain word
 abbrev pub IsFile : Option Text → Type 0
 IsFile None = ⊤
 IsFile (Some file) = (file ≡ codes "-") ⊎ IsPlainWord file
@@ -189,17 +189,17 @@ IsSyntaxOfScriptTask name options operands r words =
     IsFile r.file
     × IsCall words (name ∷ (options ++ (flag_words r.bail (codes "--bail") ++ (operands ++ file_words r.file))))
 
--- an option with a number, or, where that is what is meant without one, none
+-- an option with a number, which is omitted if it is the default
 abbrev pub IsCount : Text → ℕ → ℕ → List Text → Type 0
 IsCount option usual count options = ((count ≡ usual) × (options ≡ []))
     ⊎ ((text : Text) × (is_unsigned_in 1 64 text ≡ true) × (count ≡ digits_value 10 (without_leading_plus text))
     × (options ≡ option ∷ text ∷ []))
 
--- a number of workers, or, where they are 4, none
+-- a number of workers, which is omitted if it is 4
 abbrev pub IsWorkers : ℕ → List Text → Type 0
 IsWorkers = IsCount (codes "--workers") 4
 
--- a program's name, and then just the words for the request
+-- a program's name, and then just the arguments for the request
 abbrev pub IsSyntaxOfTask : RequestedTask → Request → List Text → Type 0
 IsSyntaxOfTask run r words = IsSyntaxOfScriptTask (codes "run") [] [] r words
 IsSyntaxOfTask (certify name steps) r words =
@@ -223,6 +223,6 @@ IsSyntaxOfTask (why None) r words = IsSyntaxOfScriptTask (codes "why") [] [] r w
 IsSyntaxOfTask lint r words = IsSyntaxOfReaderTask (codes "lint") [] r words
 IsSyntaxOfTask _ r words = ⊥
 
--- of what is asked for by the words that have no other option
+-- the arguments of a request without other options
 abbrev pub IsSyntaxOf : List Text → Request → Type 0
 IsSyntaxOf words r = (r.progress ≡ AtATerminal) × (r.format ≡ Some Plain) × IsSyntaxOfTask r.work r words

@@ -19,7 +19,7 @@ prose_rule = record (new_rule (codes "prose")) { long = Some (codes "prose"); ac
 abbrev pub name_rule : Rule
 name_rule = record (new_rule (codes "NAME")) { required = true }
 
--- 1 to 64 workers, and 4 where no number is given
+-- 1 to 64 workers, and 4 if no number is given
 abbrev pub workers_rule : Rule
 workers_rule = record (new_rule (codes "workers")) {
   long = Some (codes "workers");
@@ -28,7 +28,7 @@ workers_rule = record (new_rule (codes "workers")) {
   defaults = codes "4" ∷ [];
 }
 
--- 1 to 64 queries told in full, and 10 where no number is given
+-- 1 to 64 queries shown in full, and 10 if no number is given
 abbrev pub worst_rule : Rule
 worst_rule = record (new_rule (codes "worst")) {
   long = Some (codes "worst");
@@ -37,7 +37,7 @@ worst_rule = record (new_rule (codes "worst")) {
   defaults = codes "10" ∷ [];
 }
 
--- how many interleavings are tried, where not all are
+-- the number of interleavings, unless all are run
 abbrev pub seeds_rule : Rule
 seeds_rule = record (new_rule (codes "seeds")) {
   long = Some (codes "seeds");
@@ -65,7 +65,7 @@ abbrev pub no_progress_rule : Rule
 no_progress_rule =
     record (new_rule (codes "no-progress")) { long = Some (codes "no-progress"); action = Some SetTrue }
 
--- text where no format is named
+-- text if no format is named
 abbrev pub format_rule : Rule
 format_rule = record (new_rule (codes "format")) {
   long = Some (codes "format");
@@ -82,7 +82,7 @@ query_rule = record (new_rule (codes "query")) { long = Some (codes "query"); va
 abbrev pub verbose_rule : Rule
 verbose_rule = record (new_rule (codes "verbose")) { long = Some (codes "verbose"); action = Some SetTrue }
 
--- the name of a transaction, which need not be given
+-- the optional name of a transaction
 abbrev pub of_rule : Rule
 of_rule = new_rule (codes "NAME")
 
@@ -101,7 +101,7 @@ with_file a = with_rule a file_rule
 abbrev pub with_script : App → App
 with_script a = with_rule (with_rule (with_rule (with_file a) bail_rule) progress_rule) no_progress_rule
 
--- one that tells of one query of a script
+-- a subcommand that shows one query of a script
 abbrev pub with_name : Text → App
 with_name name = with_script (with_rule (new_app name) name_rule)
 

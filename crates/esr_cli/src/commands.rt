@@ -1,8 +1,8 @@
 //! The commands of the program `esr`, and what help says of each.
 //!
-//! The contract says which commands, arguments and ranges `clap` is told of, all at once. A command is added to the
-//! program by a function that takes both, and each is made with one `?`: where two commands are in hand at once, each
-//! `?` may drop both, and a proof takes three times as long.
+//! The contract states which commands, arguments and ranges `clap` gets, all at once. A function that takes both adds
+//! a command to the program, and each command is made with one `?`: if two commands are owned at once, each `?` may
+//! drop both, and a proof takes three times as long.
 
 ghost use Rattle.std.specs.Prelude.{◌≡◌, IfOk, codes, false};
 ghost use Rattle.clap.specs.Words.{App, app_of, new_app, with_rule, with_subcommand, rule_of};
@@ -13,7 +13,7 @@ use crate::{VERSION, help};
 use clap::{Arg, ArgAction, Command, value_parser};
 use std::alloc::{AllocError, Global};
 
-/// `name`
+/// Creates the command `name`.
 fn plain<'a>(
     alloc: Global,
     name: &'a str,
@@ -26,7 +26,7 @@ fn plain<'a>(
     Ok(Command::new(alloc, name).about(about).after_help(after))
 }
 
-/// Adds an argument to a command, where there was memory for it.
+/// Adds an argument to a command, if its allocation succeeded.
 fn with_argument<'a>(
     command: Result<Command<'a>, AllocError>,
     arg: Arg<'a>,
@@ -40,7 +40,7 @@ fn with_argument<'a>(
     command?.arg(arg)
 }
 
-/// `NAME`
+/// Creates the argument `NAME`.
 fn name<'a>(alloc: Global) -> Arg<'a>
     ensures rule { rule_of result ≡ name_rule }
     ensures local { result.global ≡ false }
@@ -50,7 +50,7 @@ fn name<'a>(alloc: Global) -> Arg<'a>
         .help("Name of the query")
 }
 
-/// `FILE`
+/// Creates the argument `FILE`.
 fn file<'a>(alloc: Global) -> Arg<'a>
     ensures rule { rule_of result ≡ file_rule }
     ensures local { result.global ≡ false }
@@ -58,7 +58,7 @@ fn file<'a>(alloc: Global) -> Arg<'a>
     Arg::new(alloc, "FILE").help("Input file; standard input if - or omitted")
 }
 
-/// `FILE..`
+/// Creates the argument `FILE..`.
 fn files<'a>(alloc: Global) -> Arg<'a>
     ensures rule { rule_of result ≡ files_rule }
     ensures local { result.global ≡ false }
@@ -68,7 +68,7 @@ fn files<'a>(alloc: Global) -> Arg<'a>
     )
 }
 
-/// `--bail`
+/// Creates the option `--bail`.
 fn bail<'a>(alloc: Global) -> Arg<'a>
     ensures rule { rule_of result ≡ bail_rule }
     ensures local { result.global ≡ false }
@@ -81,7 +81,7 @@ fn bail<'a>(alloc: Global) -> Arg<'a>
         )
 }
 
-/// `--steps`
+/// Creates the option `--steps`.
 fn steps<'a>(alloc: Global) -> Arg<'a>
     ensures rule { rule_of result ≡ steps_rule }
     ensures local { result.global ≡ false }
@@ -92,7 +92,7 @@ fn steps<'a>(alloc: Global) -> Arg<'a>
         .help("Includes the number of flow augmentations")
 }
 
-/// `--prose`
+/// Creates the option `--prose`.
 fn prose<'a>(alloc: Global) -> Arg<'a>
     ensures rule { rule_of result ≡ prose_rule }
     ensures local { result.global ≡ false }
@@ -103,7 +103,7 @@ fn prose<'a>(alloc: Global) -> Arg<'a>
         .help("Prints sentences; also accepts a query that has not committed")
 }
 
-/// `--worst N`
+/// Creates the option `--worst N`.
 fn worst<'a>(alloc: Global) -> Arg<'a>
     ensures rule { rule_of result ≡ worst_rule }
     ensures local { result.global ≡ false }
@@ -116,7 +116,7 @@ fn worst<'a>(alloc: Global) -> Arg<'a>
         .help("Number of queries to show in detail, those with the largest distance (1 to 64)")
 }
 
-/// `--workers W`
+/// Creates the option `--workers W`.
 fn workers<'a>(alloc: Global) -> Arg<'a>
     ensures rule { rule_of result ≡ workers_rule }
     ensures local { result.global ≡ false }
@@ -129,7 +129,7 @@ fn workers<'a>(alloc: Global) -> Arg<'a>
         .help("Number of audit threads (1 to 64)")
 }
 
-/// `--as-script`
+/// Creates the option `--as-script`.
 fn as_script<'a>(alloc: Global) -> Arg<'a>
     ensures rule { rule_of result ≡ as_script_rule }
     ensures local { result.global ≡ false }
@@ -140,7 +140,7 @@ fn as_script<'a>(alloc: Global) -> Arg<'a>
         .help("Prints the history as a script that reproduces it")
 }
 
-/// `--seeds N`
+/// Creates the option `--seeds N`.
 fn seeds<'a>(alloc: Global) -> Arg<'a>
     ensures rule { rule_of result ≡ seeds_rule }
     ensures local { result.global ≡ false }
@@ -152,7 +152,7 @@ fn seeds<'a>(alloc: Global) -> Arg<'a>
         .help("Number of random interleavings (1 to 100000; default 1000)")
 }
 
-/// `--all`
+/// Creates the option `--all`.
 fn all<'a>(alloc: Global) -> Arg<'a>
     ensures rule { rule_of result ≡ all_rule }
     ensures local { result.global ≡ false }
@@ -163,7 +163,7 @@ fn all<'a>(alloc: Global) -> Arg<'a>
         .help("Runs all interleavings (at most 100000)")
 }
 
-/// `--worst MEASURE`
+/// Creates the option `--worst MEASURE`.
 fn worst_by<'a>(alloc: Global) -> Arg<'a>
     ensures rule { rule_of result ≡ worst_by_rule }
     ensures local { result.global ≡ false }
@@ -174,7 +174,7 @@ fn worst_by<'a>(alloc: Global) -> Arg<'a>
         .help("Prints the worst interleaving as a script, by import, distance or blocked")
 }
 
-/// `--progress`
+/// Creates the option `--progress`.
 fn progress<'a>(alloc: Global) -> Arg<'a>
     ensures rule { rule_of result ≡ progress_rule }
     ensures local { result.global ≡ false }
@@ -185,7 +185,7 @@ fn progress<'a>(alloc: Global) -> Arg<'a>
         .help("Shows progress on standard error, even if it is not a terminal")
 }
 
-/// `--no-progress`
+/// Creates the option `--no-progress`.
 fn no_progress<'a>(alloc: Global) -> Arg<'a>
     ensures rule { rule_of result ≡ no_progress_rule }
     ensures local { result.global ≡ false }
@@ -196,7 +196,7 @@ fn no_progress<'a>(alloc: Global) -> Arg<'a>
         .help("Never shows progress")
 }
 
-/// `--format FORMAT`
+/// Creates the option `--format FORMAT`.
 fn format<'a>(alloc: Global) -> Arg<'a>
     ensures rule { rule_of result ≡ format_rule }
     ensures local { result.global ≡ false }
@@ -208,7 +208,7 @@ fn format<'a>(alloc: Global) -> Arg<'a>
         .help("Output format: text, csv or json (one object per line)")
 }
 
-/// `--script SCRIPT`
+/// Creates the option `--script SCRIPT`.
 fn script<'a>(alloc: Global) -> Arg<'a>
     ensures rule { rule_of result ≡ script_rule }
     ensures local { result.global ≡ false }
@@ -219,7 +219,7 @@ fn script<'a>(alloc: Global) -> Arg<'a>
         .help("Script that the bundle is claimed to belong to; requires --query")
 }
 
-/// `--query QUERY`
+/// Creates the option `--query QUERY`.
 fn query<'a>(alloc: Global) -> Arg<'a>
     ensures rule { rule_of result ≡ query_rule }
     ensures local { result.global ≡ false }
@@ -230,7 +230,7 @@ fn query<'a>(alloc: Global) -> Arg<'a>
         .help("Query of the script that the bundle is claimed to belong to; requires --script")
 }
 
-/// `--verbose`
+/// Creates the option `--verbose`.
 fn verbose<'a>(alloc: Global) -> Arg<'a>
     ensures rule { rule_of result ≡ verbose_rule }
     ensures local { result.global ≡ false }
@@ -241,7 +241,7 @@ fn verbose<'a>(alloc: Global) -> Arg<'a>
         .help("Prints details about the fault on standard error")
 }
 
-/// `NAME`, which need not be given
+/// Creates the optional argument `NAME`.
 fn of<'a>(alloc: Global) -> Arg<'a>
     ensures rule { rule_of result ≡ of_rule }
     ensures local { result.global ≡ false }
@@ -249,7 +249,7 @@ fn of<'a>(alloc: Global) -> Arg<'a>
     Arg::new(alloc, "NAME").help("Name of the transaction; all transactions if omitted")
 }
 
-/// A command that reads a file.
+/// Creates a command that reads a file.
 fn with_file<'a>(
     alloc: Global,
     command: Result<Command<'a>, AllocError>,
@@ -262,7 +262,7 @@ fn with_file<'a>(
     with_argument(command, file(alloc))
 }
 
-/// A command that reads a script.
+/// Creates a command that reads a script.
 fn with_script<'a>(
     alloc: Global,
     command: Result<Command<'a>, AllocError>,
@@ -276,7 +276,7 @@ fn with_script<'a>(
     with_argument(with_argument(command, progress(alloc)), no_progress(alloc))
 }
 
-/// A command that tells of one query of a script.
+/// Creates a command that shows one query of a script.
 fn with_name<'a>(
     alloc: Global,
     name_of_it: &'a str,
@@ -290,7 +290,7 @@ fn with_name<'a>(
     with_script(alloc, with_argument(command, name(alloc)))
 }
 
-/// `run [--bail] [FILE]`
+/// Creates the command `run [--bail] [FILE]`.
 fn run<'a>(alloc: Global) -> Result<Command<'a>, AllocError>
     ensures app { IfOk result (λ c. app_of c ≡ with_script (new_app (codes "run"))) }
     ensures local { IfOk result (λ c. (out-Command c).has_globals ≡ false) }
@@ -299,7 +299,7 @@ fn run<'a>(alloc: Global) -> Result<Command<'a>, AllocError>
     with_script(alloc, plain(alloc, "run", about, help::SCRIPT))
 }
 
-/// `certify [--bail] [--steps] NAME [FILE]`
+/// Creates the command `certify [--bail] [--steps] NAME [FILE]`.
 fn certify<'a>(alloc: Global) -> Result<Command<'a>, AllocError>
     ensures app { IfOk result (λ c. app_of c ≡ certify) }
     ensures local { IfOk result (λ c. (out-Command c).has_globals ≡ false) }
@@ -311,7 +311,7 @@ fn certify<'a>(alloc: Global) -> Result<Command<'a>, AllocError>
     )
 }
 
-/// `explain [--bail] [--prose] [--format FORMAT] NAME [FILE]`
+/// Creates the command `explain [--bail] [--prose] [--format FORMAT] NAME [FILE]`.
 fn explain<'a>(alloc: Global) -> Result<Command<'a>, AllocError>
     ensures app { IfOk result (λ c. app_of c ≡ explain) }
     ensures local { IfOk result (λ c. (out-Command c).has_globals ≡ false) }
@@ -321,7 +321,7 @@ fn explain<'a>(alloc: Global) -> Result<Command<'a>, AllocError>
     with_argument(with_argument(command, prose(alloc)), format(alloc))
 }
 
-/// `page [--bail] [--worst N] [FILE]`
+/// Creates the command `page [--bail] [--worst N] [FILE]`.
 fn page<'a>(alloc: Global) -> Result<Command<'a>, AllocError>
     ensures app { IfOk result (λ c. app_of c ≡ page) }
     ensures local { IfOk result (λ c. (out-Command c).has_globals ≡ false) }
@@ -333,7 +333,7 @@ fn page<'a>(alloc: Global) -> Result<Command<'a>, AllocError>
     )
 }
 
-/// `check [--verbose] [--script SCRIPT --query QUERY] [FILE]`
+/// Creates the command `check [--verbose] [--script SCRIPT --query QUERY] [FILE]`.
 fn check<'a>(alloc: Global) -> Result<Command<'a>, AllocError>
     ensures app { IfOk result (λ c. app_of c ≡ check) }
     ensures local { IfOk result (λ c. (out-Command c).has_globals ≡ false) }
@@ -346,7 +346,7 @@ fn check<'a>(alloc: Global) -> Result<Command<'a>, AllocError>
     )
 }
 
-/// `ledger [--bail] [--format FORMAT] [FILE]`
+/// Creates the command `ledger [--bail] [--format FORMAT] [FILE]`.
 fn ledger<'a>(alloc: Global) -> Result<Command<'a>, AllocError>
     ensures app { IfOk result (λ c. app_of c ≡ ledger) }
     ensures local { IfOk result (λ c. (out-Command c).has_globals ≡ false) }
@@ -358,7 +358,7 @@ fn ledger<'a>(alloc: Global) -> Result<Command<'a>, AllocError>
     )
 }
 
-/// `why [--bail] [FILE] [NAME]`
+/// Creates the command `why [--bail] [FILE] [NAME]`.
 fn why<'a>(alloc: Global) -> Result<Command<'a>, AllocError>
     ensures app { IfOk result (λ c. app_of c ≡ why) }
     ensures local { IfOk result (λ c. (out-Command c).has_globals ≡ false) }
@@ -370,7 +370,7 @@ fn why<'a>(alloc: Global) -> Result<Command<'a>, AllocError>
     )
 }
 
-/// `audit [--bail] [--workers W] [--format FORMAT] [FILE]`
+/// Creates the command `audit [--bail] [--workers W] [--format FORMAT] [FILE]`.
 fn audit<'a>(alloc: Global) -> Result<Command<'a>, AllocError>
     ensures app { IfOk result (λ c. app_of c ≡ audit) }
     ensures local { IfOk result (λ c. (out-Command c).has_globals ≡ false) }
@@ -380,7 +380,7 @@ fn audit<'a>(alloc: Global) -> Result<Command<'a>, AllocError>
     with_argument(with_argument(command, workers(alloc)), format(alloc))
 }
 
-/// `drive [--workers W] [--as-script] [FILE]`
+/// Creates the command `drive [--workers W] [--as-script] [FILE]`.
 fn drive<'a>(alloc: Global) -> Result<Command<'a>, AllocError>
     ensures app { IfOk result (λ c. app_of c ≡ drive) }
     ensures local { IfOk result (λ c. (out-Command c).has_globals ≡ false) }
@@ -390,7 +390,7 @@ fn drive<'a>(alloc: Global) -> Result<Command<'a>, AllocError>
     with_argument(with_argument(command, workers(alloc)), as_script(alloc))
 }
 
-/// `explore [--seeds N | --all] [--worst MEASURE] [FILE]`
+/// Creates the command `explore [--seeds N | --all] [--worst MEASURE] [FILE]`.
 fn explore<'a>(alloc: Global) -> Result<Command<'a>, AllocError>
     ensures app { IfOk result (λ c. app_of c ≡ explore) }
     ensures local { IfOk result (λ c. (out-Command c).has_globals ≡ false) }
@@ -403,7 +403,7 @@ fn explore<'a>(alloc: Global) -> Result<Command<'a>, AllocError>
     )
 }
 
-/// `lint [FILE..]`
+/// Creates the command `lint [FILE..]`.
 fn lint<'a>(alloc: Global) -> Result<Command<'a>, AllocError>
     ensures app { IfOk result (λ c. app_of c ≡ lint) }
     ensures local { IfOk result (λ c. (out-Command c).has_globals ≡ false) }
@@ -412,7 +412,7 @@ fn lint<'a>(alloc: Global) -> Result<Command<'a>, AllocError>
     with_argument(plain(alloc, "lint", about, help::LINT), files(alloc))
 }
 
-/// Adds a command to a program, where there was memory for it.
+/// Adds a command to a program, if its allocation succeeded.
 fn with<'a>(
     program: Command<'a>,
     command: Result<Command<'a>, AllocError>,
@@ -424,7 +424,7 @@ fn with<'a>(
     program.subcommand(command?)
 }
 
-/// The program without its commands.
+/// Creates the program without its commands.
 fn shell<'a>(alloc: Global) -> Command<'a>
     ensures { app_of result ≡ esr }
 {
@@ -435,7 +435,7 @@ fn shell<'a>(alloc: Global) -> Command<'a>
         .subcommand_required(true)
 }
 
-/// The program with the jobs that need one thread.
+/// Creates the program with the jobs that need one thread.
 fn scripts<'a>(alloc: Global) -> Result<Command<'a>, AllocError>
     ensures { IfOk result (λ c. app_of c ≡ scripts) }
 {
@@ -444,7 +444,7 @@ fn scripts<'a>(alloc: Global) -> Result<Command<'a>, AllocError>
     with(commands, check(alloc))
 }
 
-/// The same with the jobs that show one query to a person.
+/// Adds the jobs that show one query to a person.
 fn queries<'a>(alloc: Global) -> Result<Command<'a>, AllocError>
     ensures { IfOk result (λ c. app_of c ≡ queries) }
 {
@@ -457,7 +457,7 @@ fn queries<'a>(alloc: Global) -> Result<Command<'a>, AllocError>
     with(commands, page(alloc))
 }
 
-/// The same with the jobs that show what was charged and what was blocked.
+/// Adds the jobs that show charges and blocked events.
 fn tables<'a>(alloc: Global) -> Result<Command<'a>, AllocError>
     ensures { IfOk result (λ c. app_of c ≡ tables) }
 {
@@ -465,7 +465,7 @@ fn tables<'a>(alloc: Global) -> Result<Command<'a>, AllocError>
     with(commands, why(alloc))
 }
 
-/// The program `esr` with all its commands, as `clap` is told of them.
+/// Creates the program `esr` with all its commands, as passed to `clap`.
 pub fn program<'a>(alloc: Global) -> Result<Command<'a>, AllocError>
     ensures { IfOk result (λ c. app_of c ≡ program) }
 {

@@ -24,7 +24,7 @@ use std::alloc::Global;
 /// The version of the program.
 pub const VERSION: &str = "0.3.0";
 
-/// What is done with the input.
+/// The task to run on the input.
 #[derive(Clone, Copy, PartialEq, Eq)]
 pub enum Task<'a> {
     /// Runs a script.
@@ -35,8 +35,8 @@ pub enum Task<'a> {
         name: &'a str,
         steps: bool,
     },
-    /// Judges a bundle: on its own, or as what a script gives for a query, where both are named; and tells what
-    /// an invalid one lacks if `verbose`.
+    /// Judges a bundle: alone, or, if both are named, as the claim of a script about a query; and reports the defect
+    /// of an invalid one if `verbose`.
     Check {
         script: Option<&'a str>,
         query: Option<&'a str>,
@@ -52,25 +52,23 @@ pub enum Task<'a> {
     Picture {
         name: &'a str,
     },
-    /// Runs a script without writing its lines, and writes a page about its
-    /// queries, of which so many are told in full, 1 to 64.
+    /// Runs a script without writing its lines, and writes a page about its queries, of which `worst`, 1 to 64, are
+    /// shown in full.
     Page {
         worst: u64,
     },
-    /// Runs a script without writing its lines, and audits each committed query
-    /// with so many workers, 1 to 64.
+    /// Runs a script without writing its lines, and audits each committed query with `workers` threads, 1 to 64.
     Audit {
         workers: u64,
     },
-    /// Runs the sessions of a drive file, and audits with so many workers, 1 to
-    /// 64; or writes the history that came as a script.
+    /// Runs the sessions of a drive file, and audits with `workers` threads, 1 to 64; or writes the resulting history
+    /// as a script.
     Drive {
         workers: u64,
         script: bool,
     },
-    /// Runs the blocks of a drive file on one thread, interleaved in all ways or
-    /// by so many seeds, and tells what came of them; or writes the worst one as
-    /// a script, by what it is the worst.
+    /// Runs the blocks of a drive file on one thread, interleaved in all ways or by `seeds` seeds, and summarizes the
+    /// outcomes; or writes the worst one, by the given measure, as a script.
     Explore {
         seeds: Option<u64>,
         all: bool,
@@ -79,12 +77,11 @@ pub enum Task<'a> {
     /// Runs a script without writing its lines, and writes a row for each of its
     /// transactions.
     Ledger,
-    /// Runs a script without writing its lines, and tells why lines were blocked:
-    /// all, or those of one transaction.
+    /// Runs a script without writing its lines, and reports why lines were blocked: all, or those of one transaction.
     Why {
         name: Option<&'a str>,
     },
-    /// Runs a script without writing its lines, and lists the lines at fault.
+    /// Runs a script without writing its lines, and lists the lines with faults.
     Lint,
 }
 
@@ -102,47 +99,47 @@ pub enum Format {
 /// When progress is shown on standard error.
 #[derive(Clone, Copy, PartialEq, Eq)]
 pub enum Progress {
-    /// Where standard error is a terminal.
+    /// If standard error is a terminal.
     AtATerminal,
     Always,
     Never,
 }
 
-/// What the words of a command line ask for.
+/// The job that a command line requests.
 #[derive(Clone, Copy, PartialEq, Eq)]
 pub struct Job<'a> {
     pub task: Task<'a>,
-    /// The file that is read: standard input where none is named, and where `-` is.
+    /// The file to read: standard input if none is named, or if it is `-`.
     pub file: Option<&'a str>,
-    /// Whether a line at fault makes the status 1.
+    /// Whether a line with a fault makes the status 1.
     pub bail: bool,
     pub progress: Progress,
-    /// How what is told is written, or none where the word for it is no format.
+    /// The output format, or `None` if its name is unknown.
     pub format: Option<Format>,
 }
 
-/// The first value of an argument.
+/// Returns the first value of an argument.
 fn text<'a>(given: &ArgMatches<'a>, id: &str) -> Option<&'a str>
     ensures { option_map (λ s. s.now) result ≡ first_of id.now (rows_of (found_of given.now)) }
 {
     given.get_str(id)
 }
 
-/// Whether a flag is given.
+/// Returns whether a flag is set.
 fn flag(given: &ArgMatches<'_>, id: &str) -> bool
     ensures { result ≡ flag_in id.now (rows_of (found_of given.now)) }
 {
     given.get_one::<bool>(id).unwrap_or(false)
 }
 
-/// The number that an option is given.
+/// Returns the number passed to an option.
 fn count(given: &ArgMatches<'_>, id: &str) -> Option<u64>
     ensures { result ≡ count_in id.now (rows_of (found_of given.now)) }
 {
     given.get_one::<u64>(id)
 }
 
-/// The format of that name.
+/// Returns the format with a name.
 fn format_of_name(name: &str) -> Option<Format>
     ensures { result ≡ format_of_name name.now }
 {
@@ -154,7 +151,7 @@ fn format_of_name(name: &str) -> Option<Format>
     }
 }
 
-/// The format that is asked for: text where none is.
+/// Returns the format requested: text by default.
 fn asked_format(given: &ArgMatches<'_>) -> Option<Format>
     ensures { result ≡ format_in (rows_of (found_of given.now)) }
 {
@@ -164,7 +161,7 @@ fn asked_format(given: &ArgMatches<'_>) -> Option<Format>
     }
 }
 
-/// When progress is to be shown. Not to show it goes first.
+/// Returns when progress is shown. `--no-progress` takes precedence.
 fn asked_progress(given: &ArgMatches<'_>) -> Progress
     ensures { result ≡ progress_in (rows_of (found_of given.now)) }
 {
@@ -270,11 +267,10 @@ fn job_of<'a>(matches: &ArgMatches<'a>) -> Option<Job<'a>>
     })
 }
 
-/// The job that the words ask for, from the program's name on.
+/// Returns the job requested by the arguments, starting with the program's name.
 ///
-/// An error is help or the version that was asked for, a mistake in the words,
-/// or out of memory; its kind says which. Words that spell a job fail only if
-/// allocation fails.
+/// An error is help or the version on request, a mistake in the arguments, or out of memory; its kind says which.
+/// Parsing arguments that form a job fails only if an allocation fails.
 pub fn command<'a>(alloc: Global, words: &'a [&'a str]) -> Result<Job<'a>, Error>
     ensures job { IfOk result (λ job.
         request_in (subcommand_of program (texts words.entry.now)) ≡ Some (request_of job)) }

@@ -1,4 +1,4 @@
--- What a bundle shows of the query that was asked for.
+-- The claim of a bundle about an audited query.
 use Rattle.std.proofs.Common.{◌≡◌, ◌≢◌, ℕ, true, All, List, refl, sym, ap, ◌∙◌, subst, Result, Ok, Err, IfOk, IsOk}
 use Rattle.std.specs.declared.alloc.AllocError.{AllocError}
 use Rattle.esr_items.specs.Values.{IsValue}

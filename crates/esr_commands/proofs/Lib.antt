@@ -1,4 +1,4 @@
--- When two problems are the same, and what a bundle is then told to show.
+-- When two problems are the same, and the claim of a bundle about them.
 
 mod Claimed
 mod Sameness

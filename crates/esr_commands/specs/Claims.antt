@@ -1,4 +1,4 @@
--- What a bundle shows of a query that a script was asked for.
+-- The claim of a bundle about an audited query of a script.
 use Rattle.std.specs.Prelude.{◌≡◌, ℕ, List, [], ◌∷◌, ◌++◌, codes, decimal, Some, None, Result, Ok, Err}
 use Rattle.esr_items.specs.Weights.{weighted}
 use Rattle.esr_cert.specs.Problem.{Problem}
@@ -13,8 +13,8 @@ use Rattle.esr_views.specs.State.{ScriptState, transaction_called}
 use Rattle.esr_commands.specs.declared.claim.BundleClaim.{BundleClaim}
 use Rattle.esr_commands.specs.declared.claim.BundleClaim.TheVariants.{Of, NotOf, Invalid, Bad}
 
--- The claim of a bundle beside the problem of the query: its certificate has no fault, and its problem is that one, or
--- nothing is said of it; or its first fault; or that the bytes are no bundle.
+-- The claim of a bundle compared with the problem of the query: its certificate has no fault, and its problem is that
+-- one, or is not specified; or its first fault; or that the bytes are not a bundle.
 abbrev pub IsClaim : Problem → Result (Problem × Certificate) BundleFault → BundleClaim → Type 0
 IsClaim asked (Ok b) (Of worth) = Certifies b.0 b.1 × (worth ≡ b.1.worth) × (b.0 ≡ asked)
 IsClaim asked (Ok b) (NotOf worth) = Certifies b.0 b.1 × (worth ≡ b.1.worth)

@@ -1,3 +1,3 @@
--- What a bundle shows of a query that was asked for.
+-- The claim of a bundle about an audited query.
 
 pub mod Claims

@@ -19,7 +19,7 @@ use esr_cert::{BundleFault, Certificate, Problem, check};
 use esr_views::AuditedQuery;
 use std::alloc::{AllocError, Global};
 
-/// What a bundle shows of a query that a script was asked for.
+/// The claim of a bundle about an audited query of a script.
 #[derive(Clone, Copy)]
 pub enum BundleClaim {
     /// The certificate shows that this is the query's distance.
@@ -32,7 +32,7 @@ pub enum BundleClaim {
     Bad(u8),
 }
 
-/// The claim of a problem and a certificate beside the problem of the query.
+/// Returns the claim of a problem and a certificate, compared with the problem of the query.
 fn claim_on(asked: &Problem, problem: &Problem, certificate: &Certificate) -> BundleClaim
     ensures { IsClaim asked.now (Ok (problem.now, certificate_of certificate.now)) result }
 {
@@ -48,7 +48,7 @@ fn claim_on(asked: &Problem, problem: &Problem, certificate: &Certificate) -> Bu
     }
 }
 
-/// The claim on bytes of such a fault, which out of memory is not.
+/// Returns the claim for bytes with this fault, unless the fault is out of memory.
 fn bad(fault: BundleFault) -> Result<BundleClaim, AllocError>
     ensures ok { IfOk result (λ v. v ≡ BundleClaim.Bad (bundle_fault_number fault)) }
     ensures memory { IsOk result → fault ≢ BundleFault.NoMemory }
@@ -59,7 +59,7 @@ fn bad(fault: BundleFault) -> Result<BundleClaim, AllocError>
     Ok(BundleClaim::Bad(fault.number()))
 }
 
-/// The claim of a bundle, given as its bytes, about a query that a script was asked for.
+/// Returns the claim of a bundle's bytes about an audited query.
 pub fn claim_of(
     alloc: Global,
     asked: &AuditedQuery,
@@ -80,7 +80,7 @@ pub fn claim_of(
 }
 
 impl BundleClaim {
-    /// The line of a claim about the query of that name.
+    /// Returns the line of a claim about the query with this name.
     pub fn line(self, alloc: Global, name: &str) -> Result<Vec<u8>, AllocError>
         ensures { IfOk result (λ v. v.items ≡ claim_line name.now self) }
     {

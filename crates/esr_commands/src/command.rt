@@ -26,7 +26,7 @@ use std::io::{Read, Write};
 use std::thread::Threads;
 use std::time::Clock;
 
-/// What is done with a script that is read once.
+/// A command over a script that is read once.
 pub trait Command {
     /// Returns where lines with errors are noted, if the output shows them.
     fn notes(&self) -> Option<&Notes>;
@@ -115,7 +115,7 @@ impl<T: QueryView> Command for RenderQuery<'_, T> {
     }
 }
 
-/// Writes a text of what a whole script leads to.
+/// Writes a text about a whole script.
 #[derive(Drop)]
 pub struct RenderScript<'a, S> {
     pub script_view: &'a S,
@@ -247,7 +247,7 @@ fn print_audits<V: AuditText, W: Write>(
     }
 }
 
-/// Returns the fault text if a text of the whole script was asked for a name that does not exist.
+/// Returns the fault text if a view of the whole script was requested for an unknown name.
 fn not_found_text(task: Task<'_>) -> Option<&'static str> {
     match task {
         Task::Why { .. } => Some("not a transaction"),

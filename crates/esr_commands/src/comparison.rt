@@ -7,7 +7,7 @@ ghost use Rattle.esr_cert.specs.Views.{chain_of};
 use esr_cert::{Chain, Problem};
 use esr_history::TxnId;
 
-/// Whether two lists of updates are the same.
+/// Returns whether two lists of updates are the same.
 fn are_same_updates(a: &[TxnId], b: &[TxnId]) -> bool
     ensures { IsTrue result → map (λ t. t.0) a.now ≡ map (λ t. t.0) b.now }
 {
@@ -22,7 +22,7 @@ fn are_same_updates(a: &[TxnId], b: &[TxnId]) -> bool
     true
 }
 
-/// Whether two lists of pairs are the same.
+/// Returns whether two lists of pairs are the same.
 fn are_same_pairs(a: &[(u32, u32)], b: &[(u32, u32)]) -> bool
     ensures { IsTrue result → a.now ≡ b.now }
 {
@@ -37,14 +37,14 @@ fn are_same_pairs(a: &[(u32, u32)], b: &[(u32, u32)]) -> bool
     true
 }
 
-/// Whether two lists of numbers are the same.
+/// Returns whether two lists of numbers are the same.
 fn are_same_numbers(a: &[u32], b: &[u32]) -> bool
     ensures { IsTrue result → a.now ≡ b.now }
 {
     a == b
 }
 
-/// Whether two chains are the same.
+/// Returns whether two chains are the same.
 fn is_same_chain(a: &Chain, b: &Chain) -> bool
     ensures { IsTrue result ↔ (chain_of a.now ≡ chain_of b.now) }
 {
@@ -53,7 +53,7 @@ fn is_same_chain(a: &Chain, b: &Chain) -> bool
         && a.costs.as_slice() == b.costs.as_slice()
 }
 
-/// Whether two lists of chains are the same.
+/// Returns whether two lists of chains are the same.
 fn are_same_chains(a: &[Chain], b: &[Chain]) -> bool
     ensures { IsTrue result → map chain_of a.now ≡ map chain_of b.now }
 {
@@ -68,7 +68,7 @@ fn are_same_chains(a: &[Chain], b: &[Chain]) -> bool
     true
 }
 
-/// Whether two problems are the same.
+/// Returns whether two problems are the same.
 pub fn is_same(a: &Problem, b: &Problem) -> bool
     ensures { IsTrue result → a.now ≡ b.now }
 {

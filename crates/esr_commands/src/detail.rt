@@ -5,7 +5,7 @@ use esr_bundle::from_json;
 use esr_cert::{BundleFault, Certificate, Chain, Fault, Problem, check};
 use std::alloc::{AllocError, Global};
 
-/// The first two neighbours of a list that do not ascend.
+/// Returns the first two neighbours of a list that do not ascend.
 fn descent(set: &[u32]) -> Option<(u32, u32)> {
     let mut before = set.first().copied()?;
     for member in set.iter().skip(1) {
@@ -17,12 +17,12 @@ fn descent(set: &[u32]) -> Option<(u32, u32)> {
     None
 }
 
-/// Whether a list that ascends has a member.
+/// Returns whether an ascending list contains a number.
 fn contains(set: &[u32], member: u32) -> bool {
     set.binary_search(&member).is_ok()
 }
 
-/// How many writers there are up to and with the last one in the set.
+/// Returns the number of writers up to and including the last one in the set.
 fn version(writers: &[u32], set: &[u32]) -> usize {
     let mut version = 0usize;
     for (place, writer) in writers.iter().enumerate() {
@@ -33,7 +33,7 @@ fn version(writers: &[u32], set: &[u32]) -> usize {
     version
 }
 
-/// What a set costs.
+/// Returns the cost of a set.
 fn cost(chains: &[Chain], set: &[u32]) -> u128 {
     let mut sum = 0u128;
     for chain in chains {
@@ -43,7 +43,7 @@ fn cost(chains: &[Chain], set: &[u32]) -> u128 {
     sum
 }
 
-/// What leaves the source.
+/// Returns the flow out of the source.
 fn flow(certificate: &Certificate) -> u128 {
     let mut sum = 0u128;
     for row in &certificate.chain_flow {
@@ -55,7 +55,7 @@ fn flow(certificate: &Certificate) -> u128 {
     sum
 }
 
-/// What a set lacks to be closed.
+/// Appends the predecessor that a set lacks to be closed.
 fn push_lack(out: &mut String, problem: &Problem, set: &[u32]) -> Result<(), AllocError> {
     for (u, v) in problem.before() {
         if contains(set, *v) && !contains(set, *u) {
@@ -70,7 +70,7 @@ fn push_lack(out: &mut String, problem: &Problem, set: &[u32]) -> Result<(), All
     Ok(())
 }
 
-/// The first amount of a chain that is above its arc's capacity, with that.
+/// Returns the first amount of a chain that exceeds its arc's capacity, with the capacity.
 fn excess(chain: &Chain, row: &[u64]) -> Option<(u64, u64)> {
     for (amount, cost) in row.iter().zip(chain.costs.iter()) {
         if *amount > *cost {
@@ -80,7 +80,7 @@ fn excess(chain: &Chain, row: &[u64]) -> Option<(u64, u64)> {
     None
 }
 
-/// What is wrong with the amounts of a chain, if something is.
+/// Appends the fault of the amounts of a chain, if they have one.
 fn push_row(out: &mut String, chain: &Chain, row: &[u64]) -> Result<(), AllocError> {
     let (item, wanted, given) = (chain.item.0, chain.costs.len(), row.len());
     if wanted != given {
@@ -98,7 +98,7 @@ fn push_row(out: &mut String, chain: &Chain, row: &[u64]) -> Result<(), AllocErr
     }
 }
 
-/// How many there are of some lists and of their amounts, where these differ.
+/// Appends the lengths of a list and of its amounts, if they differ.
 fn push_counts(
     out: &mut String,
     what: &str,
@@ -111,7 +111,7 @@ fn push_counts(
     Ok(())
 }
 
-/// Which amounts do not fit their arcs.
+/// Appends the first amounts that do not fit their arcs.
 fn push_excess(
     out: &mut String,
     problem: &Problem,
@@ -161,7 +161,7 @@ fn add_row(balances: &mut [Balance], chain: &Chain, row: &[u64]) {
     }
 }
 
-/// What flows into each update, and out of it.
+/// Returns the flow into each update, and out of it.
 fn balances_of(
     alloc: Global,
     problem: &Problem,
@@ -182,7 +182,7 @@ fn balances_of(
     Ok(balances)
 }
 
-/// At which update the flow is not conserved.
+/// Appends the first update at which the flow is not conserved.
 fn push_imbalance(
     alloc: Global,
     out: &mut String,
@@ -202,7 +202,7 @@ fn push_imbalance(
     Ok(())
 }
 
-/// What the worth is not.
+/// Appends the sum that differs from the worth.
 fn push_worth(
     out: &mut String,
     problem: &Problem,
@@ -217,7 +217,7 @@ fn push_worth(
     write!(out, "value of the flow is {flow}, but worth is {worth}")
 }
 
-/// What is found of a certificate with this fault.
+/// Appends a description of a certificate's fault.
 fn push_fault(
     alloc: Global,
     out: &mut String,
@@ -249,7 +249,7 @@ fn push_fault(
     }
 }
 
-/// What is found of a bundle's fault, in words; nothing of a valid bundle.
+/// Returns a description of a bundle's fault; `None` for a valid bundle.
 pub fn detail_of(alloc: Global, bytes: &[u8]) -> Result<Option<String>, AllocError> {
     let mut out = String::new(alloc);
     match from_json(alloc, bytes) {

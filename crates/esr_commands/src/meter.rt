@@ -12,21 +12,22 @@ use std::fmt::Display;
 use std::sync::atomic::{AtomicU64, Ordering};
 use std::time::{Clock, Instant};
 
-/// Nothing is shown before so many milliseconds, and nothing again before so many more.
+/// The milliseconds before the first display.
 const PATIENCE: u64 = 2_000;
 
+/// The minimum of milliseconds between two displays.
 const PAUSE: u64 = 200;
 
-/// The clock is read once in so many lines.
+/// The number of lines between two readings of the clock.
 const LINES: u64 = 1_024;
 
-/// Shows how far a run is.
+/// Shows the progress of a run.
 #[derive(Drop)]
 pub struct Meter<'a, R> {
     rt: &'a R,
-    /// None where nothing is shown.
+    /// The start; `None` if nothing is shown.
     began: Option<Instant>,
-    /// When it was shown last, in milliseconds; 0 before the first time, and after it was taken away.
+    /// The time of the last display, in milliseconds; 0 before the first one, and after it was cleared.
     shown: AtomicU64,
 }
 
@@ -44,7 +45,7 @@ impl<'a, R: Clock + Eprint> Meter<'a, R> {
         }
     }
 
-    /// Shows a text, where it is time for one. Of two threads that come at once one does.
+    /// Shows a text, if it is time for one. Of two concurrent threads, one does.
     fn show(&self, text: &impl Display) {
         let Some(began) = self.began else {
             return;
@@ -65,7 +66,7 @@ impl<'a, R: Clock + Eprint> Meter<'a, R> {
         }
     }
 
-    /// Takes away what is shown.
+    /// Clears the display.
     pub fn clear(&self) {
         if self.shown.swap(0, Ordering::Relaxed) > 0 {
             let _ = eprint!(self.rt; "\r\x1b[K");
@@ -80,7 +81,7 @@ impl<R: Clock + Eprint> Gate for Meter<'_, R> {
     }
 }
 
-/// Tells the lines at fault, and shows how many were read.
+/// Reports the lines with faults, and shows the number of lines read.
 #[derive(Drop)]
 pub struct LineObserver<'a, 'm, 'r, R, E> {
     reporter: ErrorReporter<'a, E>,
@@ -100,12 +101,12 @@ impl<'a, 'm, 'r, R: Clock + Eprint, E: Eprint> LineObserver<'a, 'm, 'r, R, E> {
         }
     }
 
-    /// How many lines were at fault.
+    /// Returns the number of lines with faults.
     pub fn faults(&self) -> u64 {
         self.reporter.faults()
     }
 
-    /// The line after the last one that was answered: where a line ends the run, that one.
+    /// Returns the number of the line after the last one executed: if a line ends the run, that line.
     pub fn next_line(&self) -> u64 {
         self.lines.saturating_add(1)
     }
@@ -124,7 +125,7 @@ impl<'a, 'm, 'r, R: Clock + Eprint, E: Eprint> LineObserver<'a, 'm, 'r, R, E> {
 impl<R: Clock + Eprint, E: Eprint> Observer for LineObserver<'_, '_, '_, R, E> {
     fn see_line(&mut self, number: u64, line: &[u8], answer: &[u8]) {
         self.lines = number;
-        // The teller is given a line at fault alone, so that each answer is looked at once.
+        // The reporter gets only lines with faults, so that each reply is inspected once.
         if is_error(answer) {
             self.meter.clear();
             self.reporter.see_line(number, line, answer);

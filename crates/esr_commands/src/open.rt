@@ -3,7 +3,8 @@
 use std::rt::Files;
 use std::{fs, io};
 
-/// Opens a file to read it, or says why it cannot be. A folder could be opened, and then no read would say what it is.
+/// Opens a file for reading, or returns why it cannot be opened. Opening a folder could succeed, and the reads would
+/// not show the reason.
 pub fn open_file<R: Files>(rt: &R, path: &str) -> Result<R::File, &'static str> {
     match fs::metadata(rt, path) {
         Ok(metadata) if metadata.is_dir() => Err("is a directory"),
@@ -12,7 +13,7 @@ pub fn open_file<R: Files>(rt: &R, path: &str) -> Result<R::File, &'static str> 
     }
 }
 
-/// Why a file cannot be opened.
+/// Returns the reason why a file cannot be opened.
 fn why(error: io::Error) -> &'static str {
     match error.kind() {
         io::ErrorKind::NotFound => "no such file",

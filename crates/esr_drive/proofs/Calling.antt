@@ -1,4 +1,4 @@
--- Calls of a block, one after another, some of them given again.
+-- The calls of a block, one after another, some of them retried.
 use Rattle.std.proofs.Common.{◌≡◌, ◌⊎◌, ℕ, zero, suc, ◌+◌, ◌-◌, ◌*◌, ◌<◌, ◌≤◌, true, List, [], ◌∷◌, ◌++◌, All, length, length-append, take, take_all, get_or, Option, Some, None, unwrap_or, refl, ap, ap₂, sym, subst, ◌∙◌, arith, inl, inr, one-add, append_assoc, append-nil, slice_get, option_and_then, option_map}
 use Rattle.std.specs.List.{position, position_or_len}
 use Rattle.std.proofs.lemmas.List.{take_more}
@@ -18,7 +18,7 @@ use Rattle.esr_drive.specs.Runs.{IsBlockRun, IsUnderWay, next_event}
 use Rattle.esr_plan.specs.Calls.{command_of, answers_of, number_by, event_by, place_of, IsResolved}
 use Rattle.esr_plan.specs.Blocks.{Answered, IsRun, AreRuns, start, more, event_of, begins, number_in, number_got, transaction_called}
 
--- what was given again until it was not blocked, or for the 100th time, is a run
+-- a call that was retried until it was not blocked, or for the 100th time, is a run
 run_of : (e : Event) (r : Receipt) (blocked : List Receipt)
     → All (λ s. (s.event ≡ e) × (is_blocked s.reply ≡ true)) blocked → r.event ≡ e → length blocked < 100 → (is_blocked r.reply ≡ true → length blocked + 1 ≡ 100)
     → IsRun e r.reply (blocked ++ r ∷ [])
@@ -55,7 +55,7 @@ answers_more calls replies i c r lt len is =
     ap (λ l. answers_of l (replies ++ r ∷ [])) (take_more calls i c lt ∙ ap (λ x. take i calls ++ x ∷ []) (sym is))
     ∙ answers-snoc (take i calls) replies c r (omega (arith, len, length_taken i calls lt))
 
--- ---- what a name stands for
+-- ---- the meaning of a name
 
 length-answers : (calls : List Call) (replies : List Reply) → length calls ≡ length replies → length (answers_of calls replies) ≡ length calls
 length-answers [] replies e = refl
@@ -118,7 +118,7 @@ event_resolved names calls replies (call.Begin name kind.StrictQuery limit) e is
 
 -- ---- a block under way
 
--- where there is a next event, a call has it
+-- a next event is that of a call
 call_next : (replies : List Reply) (e : Event) (o : Option Call) → option_map (event_by replies) o ≡ Some e
     → (c : Call) × (o ≡ Some c) × (event_by replies c ≡ e)
 call_next replies e None is = absurd (none-some _ is)
@@ -136,7 +136,7 @@ begun calls = record {
   most = omega arith;
 }
 
--- the next call was blocked once more
+-- the next call was blocked again
 pub still_blocked : (calls : List Call) (replies : List Reply) (blocked : ℕ) (receipts : List Receipt) (r : Receipt)
     → IsUnderWay calls replies blocked receipts → next_event calls replies ≡ Some r.event → is_blocked r.reply ≡ true → IsUnderWay calls replies (blocked + 1) (receipts ++ r ∷ [])
 still_blocked calls replies blocked receipts r way next is = record {
@@ -150,7 +150,7 @@ still_blocked calls replies blocked receipts r way next is = record {
   most = way.most;
 }
 
--- the next call was answered for the last time
+-- the next call got its last reply
 pub answered : (calls : List Call) (replies : List Reply) (blocked : ℕ) (receipts : List Receipt) (r : Receipt)
     → IsUnderWay calls replies blocked receipts → next_event calls replies ≡ Some r.event → blocked < 100 → (is_blocked r.reply ≡ true → blocked + 1 ≡ 100)
     → IsUnderWay calls (replies ++ r.reply ∷ []) 0 (receipts ++ r ∷ [])
@@ -182,7 +182,7 @@ answered calls replies blocked receipts r way next few patient =
       most = omega (arith, len, way.most, way.times, few, length-append way.done (way.again ++ r ∷ []), length-append way.again (r ∷ []));
     }
 
--- where all calls were answered nothing was given again since
+-- if all calls have their replies, no call has been retried since
 none_resumed : (calls : List Call) (replies : List Reply) (again : List Receipt) → length calls ≤ length replies
     → All (λ r. (next_event calls replies ≡ Some r.event) × (is_blocked r.reply ≡ true)) again → again ≡ []
 none_resumed calls replies [] le all = refl
@@ -202,7 +202,7 @@ few_calls calls replies blocked receipts way few =
       | inr lt ↦ omega (arith, len, way.times, few, way.most, lt)
     ]
 
--- a block whose calls were all answered is run
+-- a block whose calls all have their replies is run
 pub block_run : (calls : List Call) (replies : List Reply) (blocked : ℕ) (receipts : List Receipt) → IsUnderWay calls replies blocked receipts → length calls ≤ length replies
     → IsBlockRun calls replies receipts
 block_run calls replies blocked receipts way le =
@@ -226,7 +226,7 @@ not_zero : (n : ℕ) → (n ≡ 0 → ⊥) → 1 ≤ n
 not_zero zero not = absurd (not refl)
 not_zero (suc n) not = omega arith
 
--- where there is a next event a hold of the lock brings the end nearer
+-- if there is a next event, a hold of the lock makes progress
 pub nearer : (calls : List Call) (replies : List Reply) (m n : ℕ) (old made new : List Receipt) → length calls ≡ m → length replies < m
     → (n ≡ 0 → next_event calls replies ≡ None) → new ≡ old ++ made → n ≡ length made → length new ≤ 100 * m
     → 100 * m + 1 - length new < 100 * m + 1 - length old

@@ -1,5 +1,4 @@
--- Why each block's session makes the calls of its block in turn, and the text told is that of the engine's one
--- history.
+-- Each block's session makes the calls of its block in turn, and the text is that of the engine's one history.
 
 pub mod Calling
 pub mod Pieced

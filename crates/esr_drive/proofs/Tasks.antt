@@ -1,4 +1,4 @@
--- Sessions with their blocks, and what came of them.
+-- Sessions with their blocks, and their results.
 use Rattle.std.proofs.Common.{◌≡◌, ℕ, zero, suc, ◌+◌, ◌<◌, ◌≤◌, ◌*◌, true, sum_by, List, [], ◌∷◌, ◌++◌, All, length, map, take, get_or, Result, Ok, IfOk, Vec, Global, refl, ap, sym, subst, ◌∙◌, arith}
 use Rattle.std.proofs.lemmas.List.{take_more, map-append}
 use Rattle.std.proofs.lemmas.List.Elements.{All-push}
@@ -43,7 +43,7 @@ tasks_more f tasks all j blocks i b is so_far lt at calls =
     ap (map f) is ∙ (map-append f tasks (j ∷ []) ∙ (ap (λ l. l ++ f j ∷ []) so_far ∙ (ap (λ c. map (λ (b : Vec Call Global). b.items) (take i blocks) ++ c ∷ []) (calls ∙ ap (λ (b : Vec Call Global). b.items) at)
     ∙ (sym (map-append (λ (b : Vec Call Global). b.items) (take i blocks) (get_or blocks i b ∷ [])) ∙ ap (map (λ (b : Vec Call Global). b.items)) (sym (take_more blocks i b lt))))))
 
--- where the blocks leave as many receipts as a history has entries, their lines can fill one
+-- if the receipts of the blocks are as many as the capacity of a history, their lines can fill one
 receipts_at_most : {J R : Type 0} (calls : J → List Call) (session : R → List Receipt) (tasks : List J) (rans : List R) → length rans ≡ length tasks
     → ((i : ℕ) (j : J) (r : R) → i < length tasks → length (session (get_or rans i r)) ≤ 100 * length (calls (get_or tasks i j)))
     → sum_by length (map session rans) ≤ 100 * sum_by length (map calls tasks)

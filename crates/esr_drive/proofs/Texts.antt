@@ -30,7 +30,7 @@ all_items P [] all i x lt = absurd (omega (arith, lt))
 all_items P (b ∷ bs) all zero x lt = all 0 b (omega arith)
 all_items P (b ∷ bs) all (suc i) x lt = all_items P bs (λ j y below. all (suc j) y (omega (arith, below))) i x (omega (arith, lt))
 
--- a text of the form that was asked for
+-- a text in the requested form
 pub text_written : (what : DriveOutput) (workers : ℕ) (p : Plan) (h : Schedule) (blocks : List (List Answered)) (r : Result (Vec ℕ Global) AllocError) → what ≡ form.Text workers
     → IfOk r (λ out. out.items ≡ text_of p h blocks) → IfOk r (λ out. IsRenderingOf what p h blocks out.items)
 text_written what workers p h blocks r is reported = subst (λ (w : DriveOutput). IfOk r (λ out. IsRenderingOf w p h blocks out.items)) (sym is) reported
@@ -39,7 +39,7 @@ pub history_written : (what : DriveOutput) (p : Plan) (h : Schedule) (blocks : L
     → IfOk r (λ out. IsDump p.names (names_of h blocks) h out.items) → IfOk r (λ out. IsRenderingOf what p h blocks out.items)
 history_written what p h blocks r is reported = subst (λ (w : DriveOutput). IfOk r (λ out. IsRenderingOf w p h blocks out.items)) (sym is) reported
 
--- the text of what was driven is one of the file
+-- the text of the drive is one of the file
 pub drive_text : (what : DriveOutput) (bytes : List ℕ) (s : DrivePlan) (h : Schedule) (replies : List (List Reply)) (out : List ℕ)
     → plan_of bytes ≡ Ok (plan_in s) → IsSound s → IsDriven s.values.items (weights_of s.weights.items) (map (λ b. b.items) s.blocks.items) h replies
     → IsRenderingOf what (plan_in s) h (all_answers (map (λ b. b.items) s.blocks.items) replies) out → IsDriveText what bytes out
@@ -110,7 +110,7 @@ same_lines [] = refl
 same_lines (b ∷ bs) =
     omega (arith, sum_by-cons length b.items (map (λ b. b.items) bs), sum_by-cons length (commands_in b.items) (map (λ b. commands_in b.items) bs), length-map b.items command_of, same_lines bs)
 
--- a fault of the engine, where the file has a plan
+-- a fault of the engine, if the file has a plan
 pub engine_fault : (bytes : List ℕ) (s : DrivePlan) (e : DriveFault) → plan_of bytes ≡ Ok (plan_in s) → IsEngineFault (map (λ b. b.items) s.blocks.items) e → IsTextFault bytes e
 engine_fault bytes s fault.NoMemory planned is = tt
 engine_fault bytes s fault.HistoryFull planned is = (plan_in s, planned, omega (arith, same_lines s.blocks.items, is))

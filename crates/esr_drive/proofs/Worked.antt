@@ -23,7 +23,7 @@ none P k d lt = absurd (omega (arith, lt))
 not_true : {A : Type 0} (b : Bool) → b ≡ false → b ≡ true → A
 not_true b off on = let e : false ≡ true = sym off ∙ on in cc
 
--- a call that was answered at once
+-- a call that got its last reply at once
 one_run : (e : Event) (r : Receipt) → r.event ≡ e → is_blocked r.reply ≡ false → IsRun e r.reply (r ∷ [])
 one_run e r same once = record {
   blocked = [];

@@ -1,4 +1,4 @@
--- What a drive may write, by the file that it read.
+-- The permitted output of a drive, given the file that it read.
 use Rattle.std.specs.Prelude.{◌≡◌, ◌≤◌, List, [], ℕ, Option, Some, Result, Ok, Err, map}
 use Rattle.std.specs.Io.KnownBytes.{Consumes}
 use Rattle.esr_items.specs.Weights.{weighted}
@@ -17,19 +17,19 @@ use Rattle.esr_drive.specs.declared.form.DriveOutput.{DriveOutput}
 use Rattle.esr_drive.specs.declared.form.DriveOutput.TheVariants as form
 use Rattle.esr_drive.specs.Faults.{CanFill}
 
--- as many workers as may audit, where any do
+-- a permitted number of workers, if the form has any
 abbrev pub HasWorkers : DriveOutput → Type 0
 HasWorkers (form.Text workers) = (1 ≤ workers) × (workers ≤ MAX_SEATS)
 HasWorkers form.Script = Unit {0}
 
--- what a text tells of a history and the last replies: these, the findings and the totals; or the history itself, as a
--- script that gives it again, by the names of the plan
+-- what a text shows of a history and the last replies: these, the findings and the totals; or the history itself, as
+-- a script that recreates it, by the names of the plan
 abbrev pub IsRenderingOf : DriveOutput → Plan → Schedule → List (List Answered) → List ℕ → Type 0
 IsRenderingOf (form.Text workers) p h blocks text = text ≡ text_of p h blocks
 IsRenderingOf form.Script p h blocks text = IsDump p.names (names_of h blocks) h text
 
--- Each command of the plan has a run of receipts, which match one legal history over the plan's items, and the text tells
--- of this history.
+-- Each command of the plan has a run of receipts, which match one legal history over the plan's items, and the text
+-- shows this history.
 pub record IsTextOf (what : DriveOutput) (p : Plan) (text : List ℕ) : Type 0 where
   pub history : Schedule
   pub blocks : List (List Answered)
@@ -48,7 +48,7 @@ pub record IsDriveText (what : DriveOutput) (bytes : List ℕ) (text : List ℕ)
   pub planned : plan_of bytes ≡ Ok plan
   pub is_text : IsTextOf what plan text
 
--- A drive that was given the input, left these bytes of it and ended so wrote this.
+-- The relation between the input of a drive, the unread rest, the result, and the text written.
 abbrev pub IsDriveBy : DriveOutput → List ℕ → Option (List ℕ) → Result (Unit {0}) DriveFault → List ℕ → Type 0
 IsDriveBy what input left (Ok done) written = Consumes (Some input) left input × IsDriveText what input written
 IsDriveBy what input left (Err fault.Read) written = written ≡ []

@@ -15,7 +15,7 @@ use Rattle.esr_drive.specs.declared.blocks.Driven.{Driven}
 use Rattle.esr_drive.specs.Faults.{IsEngineFault}
 
 -- A legal history over these opening values and weights, whose entries the receipts of the blocks name, with the last
--- replies of each block. The names of items are those that the calls were resolved by.
+-- replies of each block. The names of the items are those by which the calls were resolved.
 pub record IsDriven (opening : List ℤ) (weights : List ℕ) (blocks : List (List Call)) (history : Schedule)
     (replies : List (List Reply)) : Type 0 where
   pub legal : IsLegal weighted history

@@ -15,7 +15,7 @@ is_engine_fault fault.HistoryFull = true
 is_engine_fault fault.Close = true
 is_engine_fault _ = false
 
--- the lines of these blocks, each given 100 times, can fill a history
+-- the lines of these blocks, each tried 100 times, can fill a history
 abbrev pub CanFill : {X : Type 0} → List (List X) → Type 0
 CanFill blocks = MAX_ENTRIES ≤ 100 * sum_by length blocks
 
@@ -26,7 +26,7 @@ IsEngineFault blocks fault.HistoryFull = CanFill blocks
 IsEngineFault blocks fault.Close = Unit {0}
 IsEngineFault blocks _ = ⊥
 
--- the fault of a drive of these bytes, where neither reading nor writing failed
+-- the fault of a drive of these bytes, if no read and no write failed
 abbrev pub IsTextFault : List ℕ → DriveFault → Type 0
 IsTextFault bytes fault.Read = ⊥
 IsTextFault bytes fault.Write = ⊥
@@ -63,19 +63,20 @@ first_of memory full closed =
     else if closed then Some fault.Close
     else None
 
--- the fault that is told of blocks that ended so: out of memory before a full history, and that before a closed engine
+-- the fault reported for blocks with these outcomes: out of memory before a full history, and that before a closed
+-- engine
 abbrev pub reported_fault : {V : Type 0} → List (Result V StepError) → Option DriveFault
 reported_fault outcomes =
     first_of (list_any (is_outcome is_memory) outcomes) (list_any (is_outcome is_full) outcomes)
     (list_any (is_outcome is_closed) outcomes)
 
--- the same once the receipts were counted: where a session answered that the history is full and there are not so many
--- receipts, they do not match
+-- the fault reported after the receipts are counted: if a session reported a full history and the number of receipts
+-- is not its capacity, the receipts do not match
 abbrev pub confirmed : ℕ → DriveFault → DriveFault
 confirmed receipts fault.HistoryFull = if receipts == MAX_ENTRIES then fault.HistoryFull else fault.Close
 confirmed receipts reported = reported
 
--- the fault that is told after one more error
+-- the fault reported after one more error
 abbrev pub most_severe : Option DriveFault → StepError → DriveFault
 most_severe reported error.NoMemory = fault.NoMemory
 most_severe (Some fault.NoMemory) error.HistoryFull = fault.NoMemory

@@ -1,4 +1,4 @@
--- What a drive may write by the file that it read, and what its threads and its engine leave.
+-- The permitted output of a drive, given the file that it read, and the results of its threads and its engine.
 
 pub mod Drive
 pub mod Runs

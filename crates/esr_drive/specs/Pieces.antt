@@ -5,7 +5,7 @@ use Rattle.std.specs.declared.alloc.Global.{Global}
 use Rattle.esr_plan.specs.Blocks.{Answered}
 use Rattle.esr_plan.specs.Text.{block_text}
 
--- one piece for each block: its lines, where there was memory for them
+-- one piece for each block: its lines, if their allocation succeeded
 pub record ArePieces (names : List (List ℕ)) (blocks : List (List Answered))
     (pieces : List (Result (Vec ℕ Global) AllocError)) : Type 0 where
   pub every : length pieces ≡ length blocks

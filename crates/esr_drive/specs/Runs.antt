@@ -1,4 +1,4 @@
--- What a session's thread gives back.
+-- The results of a session's thread.
 use Rattle.std.specs.Prelude.{◌≡◌, ℕ, List, All, length, ◌<◌, ◌≤◌, ◌*◌, ◌++◌, true, Option, Some, take, slice_get, slice_index_or, option_map}
 use Rattle.esr_history.specs.declared.event.Event.{Event}
 use Rattle.esr_history.specs.declared.event.Reply.{Reply}
@@ -12,7 +12,7 @@ use Rattle.esr_plan.specs.Blocks.{AreRuns}
 abbrev pub next_event : List Call → List Reply → Option Event
 next_event calls replies = option_map (event_by replies) (slice_get calls (length replies))
 
--- the first calls of the block were answered, the last time so, and after them the next one was blocked so often
+-- the first calls of the block have these last replies, and the next call was blocked `blocked` times after them
 pub record IsUnderWay (calls : List Call) (replies : List Reply) (blocked : ℕ) (receipts : List Receipt) : Type 0 where
   pub few : length replies ≤ length calls
   pub done : List Receipt
@@ -24,7 +24,7 @@ pub record IsUnderWay (calls : List Call) (replies : List Reply) (blocked : ℕ)
   pub times : length again ≡ blocked
   pub most : length done ≤ 100 * length replies
 
--- all calls of the block were answered, the last time so; the names are those of the items
+-- all calls of the block have their last replies; the names are those of the items
 pub record IsBlockRun (calls : List Call) (replies : List Reply) (receipts : List Receipt) : Type 0 where
   pub every : length replies ≡ length calls
   pub runs : (names : List (List ℕ)) → AreResolved names calls → AreRuns names (answers_of calls replies) receipts

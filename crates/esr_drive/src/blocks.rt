@@ -1,4 +1,4 @@
-//! One engine for all blocks, and what it leaves: the history, and the last replies of each block.
+//! Runs one engine for all blocks, and returns its history and the last replies of each block.
 
 ghost use Rattle.esr_plan.specs.declared.draft.TheConstants.{MAX_BLOCKS};
 ghost use Rattle.esr_session.specs.declared.engine_name.TheConstants.{LEDGER_PARTS};
@@ -25,7 +25,7 @@ pub struct Driven {
     pub replies: Vec<Vec<Reply>>,
 }
 
-/// A session for each of so many blocks.
+/// Creates a session for each block.
 fn sessions_for<N: Naming>(
     alloc: Global,
     engine: &mut Engine<Weighted, N>,
@@ -41,7 +41,7 @@ fn sessions_for<N: Naming>(
     engine.open_sessions(blocks)
 }
 
-/// Each session with its block.
+/// Pairs each session with its block.
 fn tasks_of<'a, 't, N: Naming>(
     alloc: Global,
     blocks: &'a [Vec<Call<'t>>],

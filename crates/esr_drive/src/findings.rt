@@ -1,7 +1,7 @@
 //! What workers find of the queries, as text. Of each finding a worker keeps its summary alone, of which the line is made.
 //!
-//! An audit begins with an index of the whole history, a twentieth of a drive. Where no query has committed there is
-//! nothing to find, and none is made.
+//! An audit begins with an index of the whole history, a twentieth of a drive. If no query has committed there is
+//! nothing to find, and no index is made.
 
 ghost use Rattle.esr_board.specs.declared.board.TheConstants.{MAX_SEATS};
 ghost use Rattle.std.specs.Prelude.{◌≡◌, ◌≤◌, [], ◌++◌, IfOk, OnOk, true};
@@ -17,7 +17,7 @@ use esr_plan::{BegunNames, push_summaries};
 use std::alloc::{AllocError, Global};
 use std::thread::Threads;
 
-/// Whether no query has committed.
+/// Returns whether no query has committed.
 fn is_without_queries(alloc: Global, history: &History<Weighted>) -> Result<bool, AllocError>
     ensures { IfOk result (λ none. none ≡ true → committed_queries history.now.schedule ≡ []) }
 {
@@ -27,7 +27,7 @@ fn is_without_queries(alloc: Global, history: &History<Weighted>) -> Result<bool
     }
 }
 
-/// Appends the lines of what so many workers find of the committed queries.
+/// Audits the committed queries with `workers` threads, and appends the lines of the findings.
 pub fn push_findings<R: Threads + Sync>(
     rt: &R,
     alloc: Global,

@@ -1,10 +1,11 @@
-//! What a drive writes.
+//! The output of a drive.
 
-/// What a drive writes of what came of its blocks.
+/// The output of a drive.
 #[derive(Clone, Copy)]
 pub enum DriveOutput {
-    /// The items, the answers of each block, what so many workers find of each query, and the totals.
+    /// The items, the replies of each block, the findings of each query, audited with `workers` threads, and the
+    /// totals.
     Text { workers: u64 },
-    /// The history, as a script that gives it again.
+    /// The history, as a script that recreates it.
     Script,
 }

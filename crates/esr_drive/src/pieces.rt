@@ -1,6 +1,6 @@
-//! The lines of the blocks, which threads make block by block: they are a quarter of what a drive does, no block asks
-//! anything of another, and when they are made the threads of the sessions are done. To send the pieces one by one in
-//! place of a text that they are put into would spare a copy, and needs a writer that says of several what it says of one.
+//! The lines of the blocks, which threads make block by block: this is a quarter of the work of a drive, the blocks
+//! are independent, and the threads of the sessions have ended by then. Sending the pieces one by one, instead of
+//! joining them into one text, would save a copy, but needs a writer whose contract covers several texts.
 
 ghost use Rattle.std.specs.Prelude.{◌≡◌, ◌<◌, [], ◌++◌, IfOk, OnOk, length, map, slice_index_or};
 ghost use Rattle.esr_plan.specs.Calls.{AreAnswered, all_answers};
@@ -14,7 +14,7 @@ use std::alloc::{AllocError, Global};
 use std::thread;
 use std::thread::Threads;
 
-/// The lines of the block at a place.
+/// Returns the lines of the block at a place.
 fn piece_at(
     alloc: Global,
     names: &BegunNames<'_>,
@@ -36,7 +36,7 @@ fn piece_at(
     )
 }
 
-/// The lines of each block.
+/// Returns the lines of each block.
 fn pieces_of<R: Threads + Sync>(
     rt: &R,
     alloc: Global,

@@ -1,4 +1,4 @@
-//! A drive, from its reader to its writer. Where a read or a write has failed, the drive ends so, whatever else came.
+//! A drive, from its reader to its writer. If a read or a write fails, that is the result, whatever else occurred.
 
 ghost use Rattle.esr_board.specs.declared.board.TheConstants.{MAX_SEATS};
 ghost use Rattle.std.specs.Prelude.{◌≡◌, ℕ, List, ◌≤◌, ◌↔◌, true, false, None, map, IfOk, IfErr, IfSome, IsErrOf, IsTrue};
@@ -37,8 +37,8 @@ use std::sync::Wait;
 use std::sync::ledger::Blank;
 use std::thread::Threads;
 
-/// Reads a drive file to its end, runs each of its blocks by a session on a thread of its own, and
-/// writes what came of them, in the form that is asked for. The observer sees the line at fault, if there is one.
+/// Reads a drive file to its end, runs each of its blocks by a session on its own thread, and writes the output in
+/// the requested form. The observer sees the line with a fault, if there is one.
 pub fn drive<R: Threads + Wait + Sync, I: Read, O: Write, G: Gate + Sync, V: Observer>(
     rt: &R,
     alloc: Global,
@@ -55,7 +55,7 @@ pub fn drive<R: Threads + Wait + Sync, I: Read, O: Write, G: Gate + Sync, V: Obs
         × Appends (O.contents (inner writer.old)) (O.contents (inner writer.new)) written
         × IsDriveBy form input (I.remaining (inner reader.new)) result written) }
 
-    // Where a read or a write has failed, the drive ends so.
+    // If a read or a write has failed, that is the result.
     ensures reader { IsTrue (failed reader.new) ↔ IsErrOf result DriveFault.Read }
     ensures writer { IsTrue (failed writer.new) ↔ IsErrOf result DriveFault.Write }
 {
@@ -64,7 +64,7 @@ pub fn drive<R: Threads + Wait + Sync, I: Read, O: Write, G: Gate + Sync, V: Obs
     writer.send_all(&out).map_err(|_| DriveFault::Write)
 }
 
-/// The text of the file.
+/// Returns the output for the bytes of a file.
 fn text_in<R: Threads + Wait + Sync, G: Gate + Sync, V: Observer>(
     rt: &R,
     alloc: Global,
@@ -95,7 +95,7 @@ fn text_in<R: Threads + Wait + Sync, G: Gate + Sync, V: Observer>(
     }
 }
 
-/// Lets the observer see the line at fault.
+/// Shows the observer the line with a fault.
 fn show_line<V: Observer>(bytes: &[u8], fault: DriveFault, observer: &mut V) {
     let DriveFault::BadScript { line: number, .. } = fault else {
         return;
@@ -109,7 +109,7 @@ fn show_line<V: Observer>(bytes: &[u8], fault: DriveFault, observer: &mut V) {
     }
 }
 
-/// Runs the blocks of a plan on an engine of their own.
+/// Runs the blocks of a plan on a separate engine.
 fn run_plan<R: Threads + Wait + Sync, G: Gate + Sync>(
     rt: &R,
     alloc: Global,
@@ -135,7 +135,7 @@ fn run_plan<R: Threads + Wait + Sync, G: Gate + Sync>(
     )
 }
 
-/// The text of what the blocks of a plan left, in the form that is asked for.
+/// Returns the text of the blocks' results, in the requested form.
 fn text_from<R: Threads + Sync>(
     rt: &R,
     alloc: Global,
@@ -158,7 +158,7 @@ fn text_from<R: Threads + Sync>(
     }
 }
 
-/// The history that the blocks of a plan left, as a script.
+/// Returns the history of the blocks as a script.
 fn script_from(
     alloc: Global,
     drive_plan: &DrivePlan<'_>,
@@ -177,7 +177,7 @@ fn script_from(
     named_script(alloc, &drive_plan.names, &names, &driven.history)
 }
 
-/// The answers of the blocks of a plan, what is found of each query, and the totals.
+/// Returns the replies of the blocks, the finding of each query, and the totals.
 fn answers_from<R: Threads + Sync>(
     rt: &R,
     alloc: Global,

@@ -1,16 +1,16 @@
-//! Runs the blocks of a plan, each by a session on a thread of its own. A line that is blocked is given again, up to
-//! 100 times in all, and its last answer counts.
+//! Runs the blocks of a plan, each by a session on its own thread. A blocked line is retried, up to 100 times in all,
+//! and its last reply counts.
 //!
-//! A block answers several lines in one hold of the engine's lock, and the others wait meanwhile, so a hold has a bound.
-//! The bound grows with what the block has behind it: the first lines take the lock one by one, so that short blocks
-//! still come between each other, as a drive is there to show. A long block answers 1,024 lines in a hold, about a tenth
-//! of a millisecond; to wake a thread that sleeps takes some tens of microseconds, which a much shorter hold would not
-//! outweigh. A blocked line ends a hold. To let another thread run (`yield_now`) before the line is given again halved
-//! how often that is, and was slower where other programs want the processors too. To end a long hold with a transaction,
-//! so that it leaves no lock behind, gave lines again more often and was slower.
+//! A block executes several lines under one hold of the engine's lock while the other blocks wait, so a hold has a
+//! bound. The bound grows with the number of lines that the block has executed: the first lines take the lock one by
+//! one, so that short blocks still interleave, since a drive is meant to show interleavings. A long block executes
+//! 1,024 lines in a hold, about a tenth of a millisecond; waking a sleeping thread takes some tens of microseconds,
+//! which a much shorter hold would not outweigh. A blocked line ends a hold. Yielding to another thread (`yield_now`)
+//! before the retry halved the number of retries, and was slower if other programs used the processors. Ending a long
+//! hold at the end of a transaction, so that it leaves no lock held, caused more retries and was slower.
 //!
-//! Memory is slow at its first touch, and in a hold everyone would wait for it. So a block writes to the room for its
-//! replies and receipts before its first hold, beside the others.
+//! The first touch of memory is slow, and in a hold all threads would wait for it. So a block writes to the buffers
+//! of its replies and receipts before its first hold, in parallel with the other blocks.
 
 ghost use Rattle.std.specs.Prelude.{◌≡◌, ◌≤◌, ◌<◌, ◌*◌, [], IfOk, length, vec_capacity};
 ghost use Rattle.esr_drive.specs.declared.run.TheConstants.{MAX_LINES};
@@ -27,7 +27,7 @@ use std::sync::Wait;
 /// The most calls for one line.
 const TURNS: u32 = 100;
 
-/// The most lines that a block has answered in one hold of the lock.
+/// The maximum number of lines that a block executes in one hold of the lock.
 const MAX_LINES: usize = 1024;
 
 /// A block under way: its calls, the last replies to the first of them, and how often the next one was blocked.
@@ -87,7 +87,7 @@ pub fn run_block<N: Naming, R: Wait>(
     BlockOutcome { session, outcome }
 }
 
-/// How many lines a block answers in its next hold of the lock, after so many.
+/// Returns the maximum number of lines in a block's next hold of the lock, after `answered` lines.
 fn lines_of_hold(answered: usize) -> usize
     ensures { (1 ≤ result) × (result ≤ MAX_LINES) }
 {
@@ -98,7 +98,7 @@ fn lines_of_hold(answered: usize) -> usize
     }
 }
 
-/// Room for so many replies, that has been written to.
+/// Reserves capacity for `replies` replies, and writes to it.
 fn touched_capacity(alloc: Global, replies: usize) -> Result<Vec<Reply>, AllocError>
     ensures items { IfOk result (λ fits. fits.items ≡ []) }
     ensures fits { IfOk result (λ fits. replies ≤ vec_capacity fits) }
@@ -108,7 +108,7 @@ fn touched_capacity(alloc: Global, replies: usize) -> Result<Vec<Reply>, AllocEr
     Ok(fits)
 }
 
-/// The last replies to the calls.
+/// Makes the calls, and returns the last replies to them.
 fn call_all<N: Naming, R: Wait>(
     rt: &R,
     alloc: Global,

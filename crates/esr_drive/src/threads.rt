@@ -1,5 +1,5 @@
-//! Blocks on threads of their own, joined, and what came of them taken apart. Where blocks were not run to their ends,
-//! one fault is told, in a fixed order.
+//! Runs blocks on separate threads, joins them, and collects their outcomes. If blocks did not run to their ends, one
+//! fault is reported, in a fixed order.
 
 ghost use Rattle.std.specs.Prelude.{◌≡◌, ◌⊎◌, ◌≤◌, ◌*◌, ◌==◌, [], true, Ok, Some, IfOk, IfErr, All, length, map, vec_len};
 ghost use Rattle.esr_drive.specs.Faults.{is_engine_fault, reported_fault, confirmed, most_severe};
@@ -28,7 +28,7 @@ pub struct BlockTask<'a, 't, N: Naming> {
     pub calls: &'a [Call<'t>],
 }
 
-/// Runs each block by its session, on a thread of its own.
+/// Runs each block by its session, on its own thread.
 pub fn run_blocks<'a, 't, N: Naming + Send + Sync, R: Threads + Wait + Sync, G: Gate + Sync>(
     rt: &R,
     alloc: Global,
@@ -64,9 +64,9 @@ pub struct BlockResults<N: Naming> {
     pub replies: Vec<Vec<Reply>>,
 }
 
-/// Takes apart what came of the blocks. Where blocks were not run to their ends, the answer is the first of out of
-/// memory, a full history and a closed engine that one of them ended by; and a history is full only where the receipts
-/// say so too.
+/// Collects the outcomes of the blocks. If blocks did not run to their ends, the fault is the first of out of memory,
+/// a full history and a closed engine that occurred in one of them; and a full history is reported only if the
+/// receipts confirm it.
 pub fn gather<N: Naming>(
     alloc: Global,
     all: Vec<BlockOutcome<N>>,
@@ -103,8 +103,9 @@ pub fn gather<N: Naming>(
     }
 }
 
-/// The fault of blocks that left these receipts. No contract tells a session how many entries the history has when it
-/// answers that it is full; when all threads are joined the receipts tell, each entry having one.
+/// Returns the fault of blocks that left these receipts. No contract states the number of entries in the history when
+/// a session reports that it is full; after all threads are joined, the number of receipts shows it, since each entry
+/// has one.
 fn confirm<N: Naming>(fault: DriveFault, sessions: &[Session<Weighted, N>]) -> DriveFault
     ensures { result ≡ confirmed (count_in sessions.now) fault }
 {
@@ -114,7 +115,7 @@ fn confirm<N: Naming>(fault: DriveFault, sessions: &[Session<Weighted, N>]) -> D
     }
 }
 
-/// Whether there are as many receipts as a history may have entries.
+/// Returns whether the number of receipts is the capacity of a history.
 fn is_full<N: Naming>(sessions: &[Session<Weighted, N>]) -> bool
     ensures { result ≡ (count_in sessions.now == MAX_ENTRIES) }
 {
@@ -129,7 +130,7 @@ fn is_full<N: Naming>(sessions: &[Session<Weighted, N>]) -> bool
     left == 0
 }
 
-/// The fault that is told after one more error.
+/// Returns the fault reported after one more error.
 fn most_severe(reported: Option<DriveFault>, error: StepError) -> DriveFault
     ensures { result ≡ most_severe reported error }
 {

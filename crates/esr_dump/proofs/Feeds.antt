@@ -1,4 +1,4 @@
--- A spelled command is one line, and stands for what it spells.
+-- The text of a command is one line, and is parsed as that command.
 use Rattle.std.proofs.Common.{◌≡◌, ℕ, ◌+◌, ◌<◌, ◌^◌, ℤ, nat_abs, List, [], ◌∷◌, ◌++◌, Bool, true, not, ◌&&◌, nat_eq, Option, Some, None, option_and_then, refl, ◌∙◌, ap, arith, length, codes, decimal, append_assoc}
 use Rattle.std.specs.List.{AllByRecursion, cons_option, filter_map, join_with_byte, list_all}
 use Rattle.std.specs.Fmt.{signed_decimal}

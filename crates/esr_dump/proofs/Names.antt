@@ -1,4 +1,4 @@
--- Names that are spelled: each is a name of a line, and there is one for each item and each transaction.
+-- The names in a script: each is valid in a line, and there is one for each item and each transaction.
 use Rattle.std.proofs.Common.{◌≡◌, ℕ, zero, suc, ◌+◌, ◌<◌, ◌≤◌, ◌^◌, List, [], ◌∷◌, ◌++◌, Bool, true, false, ◌&&◌, not, cond, nat_le, Option, Some, None, inl, inr, refl, ◌∙◌, ap, ap₂, sym, subst, arith, All, length, map, filter, codes, decimal, slice_index_or}
 use Rattle.std.specs.Borrow.{Bor}
 use Rattle.std.specs.List.{list_all, range_with_len, cons_option}
@@ -21,7 +21,7 @@ use Rattle.esr_dump.specs.Naming.{numbered, all_numbered, are_names, first_names
 at_most : (m n : ℕ) → m ≤ n → nat_le m n ≡ true
 at_most m n le = grind (arith, nat_tests)
 
--- a letter with a number behind it
+-- a letter followed by a number
 number_named : (letter n : ℕ) → is_letter letter ≡ true → n < 2 ^ 32 → IsName (numbered (letter ∷ []) n)
 number_named letter n is small =
     let short : nat_le (length (decimal n)) 15 ≡ true = at_most (length (decimal n)) 15 (omega (arith, length-decimal-le 10 n (omega arith) (omega arith) (omega arith))) in
@@ -54,7 +54,7 @@ spelled_long letter first names = elim (cases_Bool (are_names names)) [
 pub first_long : (count : ℕ) (names : List (List ℕ)) → length (first_names count names) ≡ count
 first_long count names = length-map-range_with_len (λ i. slice_index_or names i []) 0 count
 
--- there is a name for each item and each transaction, and lines spell it
+-- there is a name for each item and each transaction, and it is valid in a line
 pub names_are : (items transactions : List (List ℕ)) (h : Schedule) → length h.opening < 2 ^ 32 → length (beginnings (accepted_in h)) + 1 < 2 ^ 32
     → AreNames (spelled (codes "i") 0 (first_names (length h.opening) items)) (spelled (codes "t") 1 (first_names (length (beginnings (accepted_in h))) transactions)) h
 names_are items transactions h few_items few =
@@ -112,7 +112,7 @@ spelled_none word first words numbers n is long are = are ∙ ap (all_numbered w
     go true same = absurd (cc)
     go false same = refl
 
--- the script by these tables gives the history again
+-- the script by these tables recreates the history
 pub carried_past : (items transactions xs ts : List (List ℕ)) (n m : ℕ) (h : Schedule) (text : List ℕ) → n ≡ length h.opening → m ≡ length (beginnings (accepted_in h))
     → items ≡ spelled (codes "i") 0 (first_names n xs) → transactions ≡ spelled (codes "t") 1 (first_names m ts)
     → n < 2 ^ 32 → m + 1 < 2 ^ 32 → (AreNames items transactions h → RoundTrips items transactions h text) → IsDump xs ts h text

@@ -1,4 +1,4 @@
--- The script of a history declares its items and asks for its entries again.
+-- The script of a history declares its items and requests its entries.
 use Rattle.std.proofs.Common.{◌≡◌, ℕ, zero, suc, ◌+◌, ◌-◌, ◌<◌, ◌≤◌, ◌^◌, ℤ, List, [], ◌∷◌, ◌++◌, Bool, true, false, not, cond, nat_eq, nat_le, nat_lt, bytes_eq, Option, Some, None, is_some, inl, inr, refl, unsigned_abs, ◌∙◌, ap, ap₂, sym, subst, arith, length, get_or, map, filter, flat_map, slice_index_or, eqb, eqb-true, lt-ltb, append_assoc, append-nil, if◌then◌else◌, Result, Ok, Err, IfOk, option_map}
 use Rattle.std.specs.List.{All, cons_option, filter_map, position_or_len, range_with_len}
 use Rattle.std.proofs.lemmas.Bool.{true≢false, cases_Bool, not-false, not-true, leb-false, leb-true, ltb-false, and_parts, false_from_ne_true}
@@ -28,7 +28,7 @@ use Rattle.esr_dump.specs.RoundTrip.{AreNames, RoundTrips, declared, declared_by
 use Rattle.esr_dump.proofs.Feeds.{found_next}
 use Rattle.esr_dump.proofs.Tables.{twice}
 
--- ---- a name is found where it stands
+-- ---- a name is found at its position
 
 itself : (name : List ℕ) → bytes_eq name name ≡ true
 itself name = (bytes_eq-Decides name name).1 refl
@@ -70,7 +70,7 @@ fewer xs ys =
     ap beginnings (accepted_both xs ys) ∙ filter_map-append beginning_of (accepted xs) (accepted ys) in
     omega (arith, ap length all ∙ length-append (beginnings (accepted xs)) (beginnings (accepted ys)))
 
--- ---- what is kept met each reason that is not
+-- ---- a kept entry passed every check whose refusals are not kept
 
 passed : (b : Bool) (why : Refusal) (rs : List (Option Refusal)) (r : Reply) → is_kept (Refused why) ≡ false
     → is_kept (answered (first_reason (when b why ∷ rs)) r) ≡ true → (b ≡ false) × (is_kept (answered (first_reason rs) r) ≡ true)
@@ -101,7 +101,7 @@ declaration_requests items transactions name v w = elim (cases_Bool (eqb w 1)) [
   | inr more ↦ rw more refl
 ]
 
--- ---- what was refused for another reason changed nothing
+-- ---- an entry refused for another reason changed nothing
 
 lost_refusal : (r : Reply) → is_kept r ≡ false → (why : Refusal) × (r ≡ Refused why)
 lost_refusal (Refused why) lost = (why, refl)
@@ -158,7 +158,7 @@ module _ (items transactions : List (List ℕ)) (h : Schedule) (names : AreNames
     there : (x : ItemId) → nat_le (length before.opening) x.0 ≡ false → IsName (name_of_item items x.0) × (item_called items (name_of_item items x.0) ≡ Some x)
     there x is = item_fact x (omega (arith, leb-false (length before.opening) x.0 is, ap length opens))
 
-    -- the command of an event that is kept can be spelled, and asks for it
+    -- the command of a kept event has a text, and requests it
     abbrev Requests : Event → Reply → Type 0
     Requests e r = IsCommand (command_of items transactions r e) × (event_of items transactions (command_of items transactions r e) ≡ Some e)
 
@@ -175,7 +175,7 @@ module _ (items transactions : List (List ℕ)) (h : Schedule) (names : AreNames
         ap length (filter_map-append beginning_of (accepted_in before) (e ∷ []) ∙ ap (λ o. beginnings (accepted_in before) ++ cons_option o []) is)
         ∙ length-append (beginnings (accepted_in before)) (b ∷ [])
 
-    -- a begin that is kept was given the next number, whose name is spelled, and its limit is in range
+    -- a kept begin got the next number, whose name is valid, and its limit is in range
     begun_kept : (e : Event) (b : _) (limit : ℕ) (r : Reply) → beginning_of e ≡ Some b
         → r ≡ answered (first_reason (when (nat_lt 1000000000000000000 limit) LimitOutOfRange ∷ when (nat_le 65535 (length (beginnings (accepted_in before)))) TooManyTransactions ∷ [])) (Begun (record { 0 = length (beginnings (accepted_in before)) + 1 }))
         → is_kept r ≡ true → length (beginnings (accepted_in (extended before e r))) ≤ length (beginnings (accepted_in h))
@@ -218,7 +218,7 @@ module _ (items transactions : List (List ℕ)) (h : Schedule) (names : AreNames
         let tf = begun_fact t a.0 in
         (tf.0, rw tf.1 refl)
 
-  -- ---- what the lines of the entries stand for
+  -- ---- the events of the lines of the entries
 
   module _ {X : Type 0} (of : Command → Option X) (q : Entry → Option X)
       (means : (before : Schedule) (e : Entry) → e.reply ≡ reply_to weighted before e.event → is_kept e.reply ≡ true → before.opening ≡ h.opening
@@ -261,7 +261,7 @@ module _ (items transactions : List (List ℕ)) (h : Schedule) (names : AreNames
   declares_none r (Commit t) = refl
   declares_none r (Abort t) = refl
 
-  -- ---- what the lines of the items stand for
+  -- ---- the declarations of the lines of the items
 
   item_reads_back : (x : ℕ) → x < length h.opening → IsValue (value_at h.opening x)
       → IsCommand (declaration (name_of_item items x) (value_at h.opening x) (weight_of h.weights x))

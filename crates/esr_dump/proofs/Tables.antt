@@ -30,12 +30,12 @@ twice (w ∷ words) zero (suc i) d before within same =
 twice (w ∷ words) (suc k) zero d before within same = absurd (omega arith)
 twice (w ∷ words) (suc k) (suc i) d before within same = or_none _ (all_distinct words) (twice words k i d (omega arith) (omega arith) same)
 
--- a word that is no name
+-- a word that is not a name
 pub no_name : (words : List (List ℕ)) (i : ℕ) (d : List ℕ) → i < length words → is_name (get_or words i d) ≡ false → named words ≡ None
 no_name words i d within is =
     none_named words (list_all is_name words) (all_distinct words) (ap (λ v. v && all_distinct words) (list_all_at is_name words i d within is))
 
--- a word that stands before already
+-- a word that occurred before
 pub occurs_twice : (words : List (List ℕ)) (i k : ℕ) (d : List ℕ) → i < length words → position_of (take i words) (get_or words i d) ≡ Some k → named words ≡ None
 occurs_twice words i k d within is =
     let at = position-Some (bytes_eq (get_or words i d)) (take i words) k d is in

@@ -1,4 +1,4 @@
--- The script of a history, by the names that it uses, and that running it gives the history again.
+-- The script of a history, by the names that it uses, and that running it recreates the history.
 
 pub mod Naming
 pub mod Lines

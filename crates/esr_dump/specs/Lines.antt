@@ -18,13 +18,13 @@ use Rattle.esr_report.specs.Names.{name_of_transaction}
 abbrev pub name_of_item : List (List ℕ) → ℕ → List ℕ
 name_of_item items x = slice_index_or items x []
 
--- Whether the script has a line for the reply's event. What was refused for another reason than what a transaction holds
--- has none: it changed nothing, and may have asked for numbers that no line spells.
+-- Whether the script has a line for the reply's event. An event refused for a reason other than a lock or a limit of
+-- a transaction has none: it changed nothing, and may contain numbers that no line can.
 abbrev pub is_kept : Reply → Bool
 is_kept (Refused why) = is_some (refusal_blocker why)
 is_kept _ = true
 
--- the number that a begin was given
+-- the number that a begin got
 abbrev pub number_begun : Reply → ℕ
 number_begun (Begun t) = t.0
 number_begun _ = 0
@@ -32,7 +32,7 @@ number_begun _ = 0
 abbrev pub query_command : Bool → List ℕ → ℕ → Command
 query_command strict name limit = if strict then begin_strict_query name limit else begin_query name limit
 
--- the command of an event that was answered so
+-- the command of an event with this reply
 abbrev pub command_of : (items transactions : List (List ℕ)) → Reply → Event → Command
 command_of items transactions r (BeginUpdate limit) =
     begin_update (name_of_transaction transactions (number_begun r)) limit

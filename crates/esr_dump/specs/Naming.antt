@@ -8,35 +8,35 @@ use Rattle.esr_report.specs.Names.{all_distinct}
 abbrev pub numbered : List ℕ → ℕ → List ℕ
 numbered word number = word ++ decimal number
 
--- so many of them, from a first number on
+-- `count` such names, from a first number on
 abbrev pub all_numbered : List ℕ → ℕ → ℕ → List (List ℕ)
 all_numbered word first count = map (numbered word) (range_with_len first count)
 
--- what stands between the line feeds of a text
+-- the parts of a text between line feeds
 abbrev pub names_in : List ℕ → List (List ℕ)
 names_in text = slice_split (λ b. nat_eq b 10) text
 
--- each is a name as scripts have them, and none comes twice
+-- each is a valid name, and they are distinct
 abbrev pub are_names : List (List ℕ) → Bool
 are_names words = list_all is_name words && all_distinct words
 
 abbrev pub named : List (List ℕ) → Option (List (List ℕ))
 named words = cond (are_names words) (Some words) None
 
--- The names that a text gives to so many items: numbers where it is empty. There are none where it has not as many, or
--- one that is no name, or one twice.
+-- The names that a text specifies for `count` items: numbers if it is empty. None if it specifies another number of
+-- names, an invalid name, or a name twice.
 abbrev pub item_names : ℕ → List ℕ → Option (List (List ℕ))
 item_names count [] = Some (all_numbered (codes "i") 0 count)
 item_names count text = cond (nat_eq (length (names_in text)) count) (named (names_in text)) None
 
--- the names that so many have, and no letters for those who have none
+-- the first `count` names, padded with empty texts
 abbrev pub first_names : ℕ → List (List ℕ) → List (List ℕ)
 first_names count names = map (λ i. slice_index_or names i []) (range_with_len 0 count)
 
--- names as they are, where lines spell them and none comes twice; else the word with numbers from a first one on
+-- the names, if they are valid and distinct; otherwise the word with numbers from a first one on
 abbrev pub spelled : List ℕ → ℕ → List (List ℕ) → List (List ℕ)
 spelled word first names = cond (are_names names) names (all_numbered word first (length names))
 
--- so many transactions are named by numbers
+-- the names of `count` transactions: numbers
 abbrev pub transaction_names : ℕ → List (List ℕ)
 transaction_names count = all_numbered (codes "t") 1 count

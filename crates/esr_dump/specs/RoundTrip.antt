@@ -1,5 +1,5 @@
--- That the script of a history gives the history again: what it declares and asks for, by the names that it uses, and how
--- that is answered.
+-- A run of the script of a history recreates the history: what it declares and requests, by the names that it uses,
+-- and the replies.
 use Rattle.std.specs.Prelude.{◌≡◌, ◌≤◌, ℕ, ℤ, ◌+◌, List, [], ◌∷◌, Bool, true, false, Option, Some, None, codes, length, map, filter, option_map, option_and_then}
 use Rattle.std.specs.List.{All, filter_map, range_with_len}
 use Rattle.esr_items.specs.Values.{value_at}
@@ -16,7 +16,7 @@ use Rattle.esr_report.specs.Names.{position_of}
 use Rattle.esr_dump.specs.Lines.{is_kept, name_of_item}
 use Rattle.esr_dump.specs.Naming.{first_names, spelled}
 
--- what the lines of a text stand for, of the commands that stand for something
+-- the meanings of the lines of a text, for the commands that have one
 abbrev pub found_in : {X : Type 0} → (Command → Option X) → List ℕ → List X
 found_in of text = filter_map (λ line. option_and_then of (reading line)) (lines text)
 
@@ -26,14 +26,14 @@ declared_by (item name value) = Some (name, value, 1)
 declared_by (weighted_item name value weight) = Some (name, value, weight)
 declared_by _ = None
 
--- who has a name
+-- the item or the transaction with a name
 abbrev pub item_called : List (List ℕ) → List ℕ → Option ItemId
 item_called items name = option_map (λ n. record { 0 = n }) (position_of items name)
 
 abbrev pub transaction_called : List (List ℕ) → List ℕ → Option TxnId
 transaction_called transactions name = option_map (λ n. record { 0 = n + 1 }) (position_of transactions name)
 
--- the event that a command asks for
+-- the event that a command requests
 abbrev pub event_of : (items transactions : List (List ℕ)) → Command → Option Event
 event_of items transactions (begin_update name limit) = Some (event.BeginUpdate limit)
 event_of items transactions (begin_query name limit) = Some (event.BeginQuery limit false)
@@ -49,26 +49,26 @@ event_of items transactions _ = None
 abbrev pub declared : List (List ℕ) → Schedule → ℕ → List ℕ × ℤ × ℕ
 declared items h x = (name_of_item items x, value_at h.opening x, weight_of h.weights x)
 
--- the history without what was refused for another reason than what a transaction holds
+-- the history without the entries refused for a reason other than a lock or a limit of a transaction
 abbrev pub kept : Schedule → Schedule
 kept h = record h { entries = filter (λ e. is_kept e.reply) h.entries }
 
--- there is a name for each item and each transaction, as lines spell names
+-- there is a valid name for each item and each transaction
 pub record AreNames (items transactions : List (List ℕ)) (h : Schedule) : Type 0 where
   pub all_items : length h.opening ≤ length items
   pub all_transactions : length (beginnings (accepted_in h)) ≤ length transactions
   pub items_spelled : All IsName items
   pub transactions_spelled : All IsName transactions
 
--- The text declares the items, and asks for the events that were accepted or blocked, in their order; and these alone, one
--- after another, are answered by the machine as they were.
+-- The text declares the items, and requests the events that were accepted or blocked, in their order; and the
+-- machine's replies to these alone, one after another, are those of the history.
 pub record RoundTrips (items transactions : List (List ℕ)) (h : Schedule) (text : List ℕ) : Type 0 where
   pub items_declared : found_in declared_by text ≡ map (declared items h) (range_with_len 0 (length h.opening))
   pub events_asked : found_in (event_of items transactions) text ≡ map (λ e. e.event) (kept h).entries
   pub same_answers : IsLegal weighted (kept h)
 
--- The text gives the history again, by these names, where lines spell them and none comes twice; else by numbers: items
--- or transactions, as the case may be.
+-- The text recreates the history by these names, if they are valid and distinct; otherwise by numbers: items or
+-- transactions, as the case may be.
 abbrev pub IsDump : (items transactions : List (List ℕ)) → Schedule → List ℕ → Type 0
 IsDump items transactions h text =
     RoundTrips (spelled (codes "i") 0 (first_names (length h.opening) items))

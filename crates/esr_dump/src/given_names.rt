@@ -1,5 +1,5 @@
-//! The script of a history that has names of its own: those of a file, say, whose transactions are numbered as they begin.
-//! Names that a script could not have give way to numbers, so there is a script of every history.
+//! The script of a history that has names: those of a file, say, whose transactions are numbered as they begin. If a
+//! script could not contain the names, numbers replace them, so there is a script of every history.
 
 ghost use Rattle.std.specs.Prelude.{◌≤◌, IfOk, length};
 ghost use Rattle.esr_base.specs.declared.limits.TheConstants.{MAX_ENTRIES};
@@ -12,8 +12,8 @@ use esr_items::Weighted;
 use esr_report::TransactionNames;
 use std::alloc::{AllocError, Global};
 
-/// The script of a history, by these names of its items and of its transactions, in the order of their numbers. It gives
-/// again what was accepted or blocked.
+/// Returns the script of a history, by these names of its items and of its transactions, in the order of their
+/// numbers. A run recreates the accepted and blocked entries.
 #[tactic(auto, using(crate::proofs::Names::few_begun))]
 pub fn named_script<I: TransactionNames, T: TransactionNames>(
     alloc: Global,

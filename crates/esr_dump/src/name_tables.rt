@@ -8,7 +8,7 @@ use esr_grammar::name;
 use esr_report::{Names, TransactionNames};
 use std::alloc::{AllocError, Global};
 
-/// A word with a number behind it.
+/// Returns a word followed by a number.
 fn name_of_number(alloc: Global, word: &str, number: u32) -> Result<String, AllocError>
     ensures { IfOk result (λ name. string_bytes name ≡ numbered word.now number) }
 {
@@ -19,7 +19,7 @@ fn name_of_number(alloc: Global, word: &str, number: u32) -> Result<String, Allo
     Ok(name)
 }
 
-/// The names of so many numbers from a first one on: each is the word with the number behind it.
+/// Returns `count` names with numbers from `first` on: each is the word followed by the number.
 #[tactic(auto, using(crate::proofs::Numbers::unbound))]
 fn names_by_number(alloc: Global, word: &str, first: u32, count: u32) -> Result<Names, AllocError>
     requires fits { first + count < 2 ^ 32 }
@@ -33,7 +33,7 @@ fn names_by_number(alloc: Global, word: &str, first: u32, count: u32) -> Result<
     Ok(names)
 }
 
-/// The names of so many transactions: `t1`, `t2`.
+/// Returns the names of `count` transactions: `t1`, `t2`.
 pub fn transaction_names(alloc: Global, count: u32) -> Result<Names, AllocError>
     requires fits { count + 1 < 2 ^ 32 }
     ensures { IfOk result (λ names. names ≡ transaction_names count) }
@@ -41,14 +41,14 @@ pub fn transaction_names(alloc: Global, count: u32) -> Result<Names, AllocError>
     names_by_number(alloc, "t", 1, count)
 }
 
-/// What stands between the line feeds of a text.
+/// Returns the parts of a text between line feeds.
 fn names_in(alloc: Global, text: &[u8]) -> Result<Vec<&[u8]>, AllocError>
     ensures { IfOk result (λ lines. map (λ line. line.now) lines.items ≡ names_in text.now) }
 {
     text.split(|byte| *byte == b'\n').collect(alloc)
 }
 
-/// A table of these names, or none where one is no name or comes twice.
+/// Returns a table of these names, or `None` if one is invalid or occurs twice.
 fn table(alloc: Global, words: &[&[u8]]) -> Result<Option<Names>, AllocError>
     requires few { length words.now < 2 ^ 32 }
     ensures { IfOk result (λ found. found ≡ named (map (λ word. word.now) words.now)) }
@@ -67,8 +67,8 @@ fn table(alloc: Global, words: &[&[u8]]) -> Result<Option<Names>, AllocError>
     Ok(Some(names))
 }
 
-/// The names that a text gives to so many items, one on each line; `i0`, `i1` where it is empty. None where it has not
-/// as many names as there are items, or one that is no name of a script, or one twice.
+/// Returns the names that a text specifies for `count` items, one per line; `i0`, `i1` if it is empty. Returns `None`
+/// if the text specifies another number of names, an invalid name, or a name twice.
 pub fn item_names(alloc: Global, text: &[u8], count: u32) -> Result<Option<Names>, AllocError>
     requires few { count ≤ MAX_ITEMS }
     ensures { IfOk result (λ found. found ≡ item_names count text.now) }
@@ -86,7 +86,7 @@ pub fn item_names(alloc: Global, text: &[u8], count: u32) -> Result<Option<Names
     table(alloc, &words)
 }
 
-/// The name at a position, no letters where there is none.
+/// Returns the name at a position, or the empty text if there is none.
 fn name_at<N: TransactionNames>(names: &N, position: u32) -> &str
     ensures { result.now ≡ slice_index_or (N.names names.now) position [] }
 {
@@ -96,7 +96,7 @@ fn name_at<N: TransactionNames>(names: &N, position: u32) -> &str
     }
 }
 
-/// The names that so many have, and no letters for those who have none.
+/// Returns the first `count` names, padded with empty texts.
 #[tactic(auto, using(crate::proofs::Names::one_more_name))]
 fn first_names<'a, N: TransactionNames>(
     alloc: Global,
@@ -113,7 +113,7 @@ fn first_names<'a, N: TransactionNames>(
     Ok(words)
 }
 
-/// A table of these names, where lines spell them and none comes twice; else of the word with numbers from a first one
+/// Returns a table of these names, if they are valid and distinct; otherwise of the word with numbers from `first`
 /// on.
 #[tactic(auto, using(crate::proofs::Names::spelled_some, crate::proofs::Names::spelled_none))]
 fn names_for_lines(
@@ -135,7 +135,7 @@ fn names_for_lines(
     }
 }
 
-/// A table of the names that so many have, as lines can spell them.
+/// Returns a table of the first `count` names, with numbers instead if lines cannot contain the names.
 pub fn text_of_names<N: TransactionNames>(
     alloc: Global,
     names: &N,

@@ -1,4 +1,5 @@
-//! The script of a history: its items, and the entries that were accepted or blocked, each as the line that asks for it.
+//! The script of a history: its items, and the entries that were accepted or blocked, each as the line that requests
+//! it.
 
 ghost use Rattle.std.specs.Prelude.{◌≡◌, ◌<◌, ◌++◌, ◌∷◌, IfOk, OnOk, length, flat_map, take};
 ghost use Rattle.esr_items.specs.Weights.{weight_of};
@@ -11,7 +12,7 @@ use esr_items::{ItemId, Metric, Weighted};
 use esr_report::{Names, item_line, name_of_transaction, push_line, weighted_item_line};
 use std::alloc::{AllocError, Global};
 
-/// The name of an item.
+/// Returns the name of an item.
 fn name_of_item(items: &Names, x: ItemId) -> &str
     ensures { result.now ≡ name_of_item items.now x.0 }
 {
@@ -21,7 +22,7 @@ fn name_of_item(items: &Names, x: ItemId) -> &str
     }
 }
 
-/// How often a difference of an item counts.
+/// Returns the weight of an item.
 fn weight(metric: &Weighted, x: ItemId) -> u64
     ensures { result ≡ weight_of metric.now x.0 }
 {
@@ -72,7 +73,7 @@ fn push_items(
     Ok(())
 }
 
-/// Whether the script has a line for what was answered so.
+/// Returns whether the script has a line for an event with this reply.
 fn is_kept(reply: Reply) -> bool
     ensures { result ≡ is_kept reply }
 {
@@ -82,7 +83,7 @@ fn is_kept(reply: Reply) -> bool
     }
 }
 
-/// The number that a begin was given.
+/// Returns the number that a begin got.
 fn number_begun(reply: Reply) -> TxnId
     ensures { result.0 ≡ number_begun reply }
 {
@@ -121,7 +122,7 @@ fn push_write(out: &mut Vec<u8>, txn: &str, item: &str, value: i64) -> Result<()
     push_line(out, "write", &[txn, item, digits.format(value)])
 }
 
-/// Appends the line of an event that was answered so.
+/// Appends the line of an event with this reply.
 fn push_event(
     out: &mut Vec<u8>,
     items: &Names,
@@ -185,7 +186,7 @@ fn push_entries(
     Ok(())
 }
 
-/// The lines of a history, with these names.
+/// Returns the lines of a history, with these names.
 fn whole(
     alloc: Global,
     items: &Names,
@@ -200,9 +201,9 @@ fn whole(
     Ok(out)
 }
 
-/// The script of a history, with these names of its items and of its transactions, in the order of their numbers. It
-/// gives again what happened: it asks for what was accepted or blocked, and is answered so. It needs a name for each item
-/// and each transaction.
+/// Returns the script of a history, with these names of its items and of its transactions, in the order of their
+/// numbers. A run recreates the history: the script requests the accepted and blocked events, and gets the same
+/// replies. It needs a name for each item and each transaction.
 pub fn script(
     alloc: Global,
     items: &Names,

@@ -1,4 +1,4 @@
--- The values that updates leave, and what is told of reads.
+-- The values that updates leave, and the lines of reads.
 use Rattle.std.proofs.Common.{◌≡◌, ℕ, zero, suc, ℤ, pos, ◌+◌, ◌<◌, ◌≤◌, Bool, true, false, not, ◌&&◌, eqb, cond, if◌then◌else◌, List, [], ◌∷◌, ◌++◌, length, get_or, set, take, map, filter, flat_map, refl, sym, ◌∙◌, ap, subst, arith, ⊎_elim, Option, Some, None, All, append-nil, get_or-set_same, get_or-set_other, length-set}
 use Rattle.std.specs.List.{filter_map, cons_option, AllByRecursion}
 use Rattle.std.proofs.lemmas.Bool.{cases_eq, cases_lt, eq-eqb, ne_eqb}
@@ -122,7 +122,7 @@ left_by h us x l = put_all_value (flat_map (accesses_in h.entries) us) h.opening
 abbrev pub IsInside : ℕ → ℕ → ℤ → Type 0
 IsInside n x v = IsValue v × (x < n)
 
--- what is told of the reads among the accesses of q is told of its reads
+-- the lines of the reads among the accesses of q are those of its reads
 reads_of : (q : ℕ) (f : ℕ → ℤ → List ℕ) (os : List Operation)
     → flat_map (λ (a : Access). if a.writes then [] else f a.item.0 a.value) (accesses_by q os) ≡ flat_map (λ (o : Operation). f o.item o.value) (filter (λ (o : Operation). not o.writes && (eqb o.txn q)) os)
 reads_of q f [] = refl
@@ -136,7 +136,7 @@ pub lines_more : (f : Access → List ℕ) (xs : List Access) (k : ℕ) (d : Acc
 lines_more f xs k d l =
     ap (flat_map f) (take_more xs k d l) ∙ (flat_map-append f (take k xs) (get_or xs k d ∷ []) ∙ ap (λ l. flat_map f (take k xs) ++ l) (append-nil (f (get_or xs k d))))
 
--- the lines of accesses to some items, beside values that agree there
+-- the lines of accesses to some items, with values that agree there
 pub lines_agree : (D : ℕ → ℤ → ℤ → ℕ) (items : List (List ℕ)) (v w : ℕ → ℤ) (n : ℕ) → ((x : ℕ) → x < n → v x ≡ w x)
     → (xs : List Access) → AllByRecursion (λ (a : Access). IsInside n a.item.0 a.value) xs → flat_map (access_line D items v) xs ≡ flat_map (access_line D items w) xs
 lines_agree D items v w n same [] all = refl

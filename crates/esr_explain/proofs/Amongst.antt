@@ -17,7 +17,7 @@ not_among : (xs : List ℕ) (u : ℕ) → ((k : ℕ) → k < length xs → get_o
 not_among [] u h = refl
 not_among (x ∷ xs) u h = or_from (eqb x u) (is_among xs u) (ne_eqb x u (λ (e : x ≡ u). h 0 (omega arith) e)) (not_among xs u (λ k l e. h (suc k) (omega arith) e))
 
--- what a binary search finds is among the numbers
+-- a number found by binary search is among the numbers
 pub found_among : (xs : List ℕ) (u : ℕ) (r : Result ℕ ℕ) → IsNonDecreasing xs → IsBinarySearchResult (λ y. nat_cmp y u) xs r → is_ok r ≡ is_among xs u
 found_among xs u r rises s = grind (arith, searched, among_at, not_among, cases_lt)
 

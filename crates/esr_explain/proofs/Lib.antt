@@ -1,5 +1,5 @@
--- Why a machine that makes the history again finds the accesses and charges that are told. Whoever makes a history
--- again uses `Replaying`.
+-- A machine that replays the history finds the accesses and charges that are shown. Every crate that replays a
+-- history uses `Replaying`.
 
 pub mod Accessed
 pub mod Amongst

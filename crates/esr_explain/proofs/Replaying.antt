@@ -1,4 +1,4 @@
--- A history that a machine makes again, entry by entry.
+-- A history that a machine replays, entry by entry.
 use Rattle.std.proofs.Common.{◌≡◌, ◌≢◌, ℕ, zero, suc, ◌+◌, false, if◌then◌else◌, List, [], ◌∷◌, ◌++◌, take, drop, flat_map, refl, sym, ◌∙◌, ap, subst, arith, Some, append-nil, ◌-◌, IfOk, OnOk, Result, Ok, Err, is_err, slice_get, eq-eqb, ne_eqb}
 use Rattle.std.specs.List.{range_with_len}
 use Rattle.std.proofs.lemmas.Grind.{flat_map-append}
@@ -14,7 +14,7 @@ use Rattle.esr_history.proofs.Charges.{range-push}
 use Rattle.esr_explain.specs.declared.charges.Meeting.{Meeting}
 use Rattle.esr_explain.specs.Explain.{until, imported, exported, meeting, met_line, charge_at, charge_line, charge_of}
 
--- a list in three parts: before the entry at a place, the entry, and behind it
+-- a list in three parts: before the entry at a place, the entry, and after it
 parts_at : (es : List Entry) (i : ℕ) (e : Entry) → slice_get es i ≡ Some e → es ≡ take i es ++ e ∷ drop (suc i) es
 parts_at [] i e is = absurd (cc)
 parts_at (x ∷ es) zero e is = ap (λ y. y ∷ es) (same_Some x e is)

@@ -1,4 +1,4 @@
--- The explanation of what was asked for.
+-- The explanation of an audited query.
 use Rattle.std.proofs.Common.{◌≡◌, ◌++◌, ℕ, List, ◌∙◌, ap, arith}
 use Rattle.esr_items.specs.Weights.{weighted}
 use Rattle.esr_history.specs.Machine.{Schedule}
@@ -15,14 +15,14 @@ pub joined : (r c b a s after_r after_c after_b after_a after_s : List ℕ) → 
     → after_s ≡ r ++ c ++ b ++ a ++ s
 joined r c b a s after_r after_c after_b after_a after_s is_r is_c is_b is_a is_s = grind (arith, common_steps)
 
--- the query that was found is the one that was asked for
+-- the audited query is the one requested
 query_is : (s : ScriptState) (name : List ℕ) (a : AuditedQuery) → IsAnswered s name a → a.finding.query.0 ≡ (transaction_called s name).0
 query_is s name a h = ap (λ (t : ℕ × ℕ × ℕ × List ℕ). t.0) h.finding.reported
 
 pub audited_summary : (s : ScriptState) (name : List ℕ) (a : AuditedQuery) → IsAnswered s name a → summary a.finding ≡ summary_of weighted a.history.schedule a.finding.query.0
 audited_summary s name a h = grind (arith, query_is s name a h)
 
--- the explanation of what was asked for
+-- the explanation of an audited query
 pub explained_summary : (s : ScriptState) (name : List ℕ) (a : AuditedQuery) → IsAnswered s name a → (text : List ℕ)
     → text ≡ explanation weighted a.history.schedule a.items a.transactions a.finding.query.0 → text ≡ explained s name
 explained_summary s name a h text is =

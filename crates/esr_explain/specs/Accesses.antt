@@ -1,4 +1,4 @@
--- The values of the items after what a transaction read and wrote, and what is told of its reads.
+-- The values of the items after the accesses of a transaction, and the lines of its reads.
 use Rattle.std.specs.Prelude.{ℕ, ℤ, List, [], ◌∷◌, slice_set, if◌then◌else◌}
 use Rattle.esr_order.specs.declared.accesses.Access.{Access}
 use Rattle.esr_explain.specs.Explain.{read_line}
@@ -11,6 +11,6 @@ abbrev pub put_all : List ℤ → List Access → List ℤ
 put_all values [] = values
 put_all values (a ∷ rest) = put_all (put values a) rest
 
--- the line of an access that is a read, beside the value that the item has there
+-- the line of an access that is a read, with the value that the item has there
 abbrev pub access_line : (ℕ → ℤ → ℤ → ℕ) → (items : List (List ℕ)) → (there : ℕ → ℤ) → Access → List ℕ
 access_line d items there a = if a.writes then [] else read_line d items a.item.0 a.value (there a.item.0)

@@ -1,4 +1,4 @@
--- What is explained of a committed query of a history.
+-- The explanation of a committed query of a history.
 use Rattle.std.specs.Prelude.{ℕ, ℤ, ◌+◌, ◌-◌, ◌==◌, List, [], ◌∷◌, ◌++◌, not, Option, Some, None, codes, decimal, length, take, filter, nat_lt, slice_get, slice_index_or, if◌then◌else◌, option_map}
 use Rattle.std.specs.List.{flat_map, range_with_len}
 use Rattle.std.specs.Fmt.{signed_decimal}
@@ -31,11 +31,11 @@ named_read_line item value nearest off = line (
     ∷ decimal off ∷ []
     )
 
--- the line of a value that was read of item x, beside another: the two, and how far they are apart
+-- the line of a value read of item x and the nearest one: the two, and their distance
 abbrev pub read_line : (ℕ → ℤ → ℤ → ℕ) → (items : List (List ℕ)) → (x : ℕ) → (value nearest : ℤ) → List ℕ
 read_line d items x value nearest = named_read_line (name_of_item items x) value nearest (d x value nearest)
 
--- the lines of what q read, in order, beside the values that the updates us leave
+-- the lines of the reads of q, in order, with the values that the updates us leave
 abbrev pub read_lines : Distance → Schedule → (items : List (List ℕ)) → ℕ → (us : List ℕ) → List ℕ
 read_lines d h items q us =
     flat_map (λ o. read_line (distance_in d h) items o.item o.value (state h us o.item)) (reads_by h q)
@@ -61,14 +61,15 @@ exported d h u i = export_in (charges_in d (until i h)) u
 abbrev pub read_meets : Schedule → ℕ → Option ℕ
 read_meets h x = if nat_lt x (length h.opening) then writer (accepted_in h) x else None
 
--- where an operation on an item meets an update: a read the one that has written it, a write the one that writes
+-- the update that an operation on an item meets: for a read the one that has written the item, for a write the one
+-- that writes
 abbrev pub meeting : Schedule → Event → Option Meeting
 meeting h (Read t x) =
     option_map (λ u. record { operation = operation.Read; update = record { 0 = u }; item = x }) (read_meets h x.0)
 meeting h (Write u x v) = Some (record { operation = operation.Write; update = u; item = x })
 meeting h _ = None
 
--- The charge to q of the entry at place i: what q imported by it, and what is left then of both limits.
+-- The charge to q of the entry at place i: the amount that q imported by it, and the rest of both limits then.
 abbrev pub charge_of : Distance → Schedule → ℕ → ℕ → Meeting → Charge
 charge_of d h q i m = record {
   amount = imported d h q (i + 1) - imported d h q i;
@@ -80,12 +81,12 @@ charge_of d h q i m = record {
   export_limit = limit_of (accepted_in h) m.update.0;
 }
 
--- the words that begin the line of a charge
+-- the first words of the line of a charge
 abbrev pub verb : Operation → List ℕ
 verb operation.Read = codes "charge read"
 verb operation.Write = codes "charge write"
 
--- with these words for the operation, the update and the item
+-- the line of a charge with these texts for the operation, the update and the item
 abbrev pub named_charge_line : (verb update item : List ℕ) → Charge → List ℕ
 named_charge_line verb update item c = line (
     verb ∷ update ∷ item ∷ codes "amount" ∷ decimal c.amount ∷ codes "step" ∷ decimal c.step
@@ -116,11 +117,11 @@ charge_lines d h items transactions q =
 
 -- ---- the whole
 
--- the distance and the import, as the audit tells them
+-- the distance and the import, in the format of the audit
 abbrev pub sums_line : ℕ → ℕ → List ℕ
 sums_line distance import = line (codes "distance" ∷ decimal distance ∷ codes "import" ∷ decimal import ∷ [])
 
--- What q read, beside the values of the nearest placement; the charges to q, in order; the updates before that
+-- The reads of q, with the values of the nearest placement; the charges to q, in order; the updates before that
 -- placement, and the others; and the sums.
 abbrev pub explanation : Distance → Schedule → (items transactions : List (List ℕ)) → ℕ → List ℕ
 explanation d h items transactions q =

@@ -1,4 +1,4 @@
--- What is explained of a committed query, and what explaining one of a script writes.
+-- The explanation of a committed query, and the output of explaining one of a script.
 
 pub mod Accesses
 pub mod Explain

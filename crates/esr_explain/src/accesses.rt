@@ -10,7 +10,7 @@ use esr_items::Weighted;
 use esr_order::{Access, accesses_of};
 use std::alloc::{AllocError, Global};
 
-/// Sets the values of the items to what they are after these accesses.
+/// Sets the values of the items to those after these accesses.
 #[tactic(auto, using(std::proofs::lemmas::List::take_all))]
 fn put_all(values: &mut Vec<i64>, accesses: &[Access])
     requires { All (λ a. IsValue a.value) accesses.now }
@@ -24,7 +24,7 @@ fn put_all(values: &mut Vec<i64>, accesses: &[Access])
     }
 }
 
-/// The values of the items after these updates, run one after another from the opening values.
+/// Returns the values of the items after these updates, run one after another from the opening values.
 pub fn values_after(
     alloc: Global,
     history: &History<Weighted>,

@@ -1,10 +1,10 @@
-//! What a query was charged: the history is made again, entry by entry, by a machine.
+//! The charges to a query: a machine replays the history, entry by entry.
 //!
-//! A history keeps of each query only what it imported all together. So each entry is given to a fresh machine, and
-//! what the query has imported before and after it is looked up there, with the writer of the item and the update's
-//! export. It takes the time and memory of a second run, and its definition is short: the import of a prefix less that
-//! of the prefix before. A charge of 0 has no line, since it has no part in the sums. A charge is named by its entry
-//! and not by its line: the history knows no lines.
+//! A history stores for each query only the sum of its imports. So each entry is executed by a fresh machine, which
+//! has the query's import before and after it, the writer of the item and the update's export. This takes the time
+//! and memory of a second run, and its definition is short: the import of a prefix less that of the prefix before. A
+//! charge of 0 has no line, since it does not contribute to the sums. A charge is named by its entry and not by its
+//! line: the history has no lines.
 ghost use Rattle.std.specs.Prelude.{◌≡◌, ◌<◌, ◌+◌, ◌++◌, Some, IfOk, OnOk, slice_get, length};
 ghost use Rattle.esr_history.specs.Events.{limit_of};
 ghost use Rattle.esr_history.specs.Machine.{empty_schedule, accepted_in};
@@ -17,7 +17,7 @@ use esr_items::{ItemId, Metric, Store, Weighted, WeightedRef};
 use esr_report::{Names, name_of_transaction, push_line};
 use std::alloc::{AllocError, Global};
 
-/// What a query may be charged for: a read of its own, or a write of what it has read.
+/// The operations that charge a query: its own reads, and writes of items that it has read.
 #[derive(Clone, Copy)]
 pub enum Operation {
     Read,
@@ -32,7 +32,7 @@ pub struct Meeting {
     pub item: ItemId,
 }
 
-/// What a query was charged by an entry of the history, and what was left then of its own limit and of the update's.
+/// The charge to a query by an entry of the history, and the rest of its own limit and of the update's after it.
 #[derive(Clone, Copy)]
 pub struct Charge {
     pub amount: u64,
@@ -44,7 +44,7 @@ pub struct Charge {
     pub export_limit: u64,
 }
 
-/// The name of an item.
+/// Returns the name of an item.
 pub fn name_of_item(items: &Names, x: ItemId) -> &str
     ensures { result.now ≡ name_of_item items.now x.0 }
 {
@@ -54,7 +54,7 @@ pub fn name_of_item(items: &Names, x: ItemId) -> &str
     }
 }
 
-/// The words that begin the line of a charge.
+/// Returns the first words of the line of a charge.
 fn verb(operation: Operation) -> &'static str
     ensures { result.now ≡ verb operation }
 {
@@ -64,7 +64,7 @@ fn verb(operation: Operation) -> &'static str
     }
 }
 
-/// The limit of a transaction.
+/// Returns the limit of a transaction.
 fn limit(history: &History<Weighted>, t: TxnId) -> u64
     ensures { result ≡ limit_of (accepted_in history.now.schedule) t.0 }
 {
@@ -74,7 +74,7 @@ fn limit(history: &History<Weighted>, t: TxnId) -> u64
     }
 }
 
-/// Appends the line of a charge, with these words for the operation, the update and the item.
+/// Appends the line of a charge, with these texts for the operation, the update and the item.
 fn named_charge_line(
     out: &mut Vec<u8>,
     verb: &str,
@@ -126,7 +126,7 @@ fn charge_line(
     named_charge_line(out, verb(charge.meeting.operation), update, item, charge)
 }
 
-/// Where an event meets an update, of a machine that is to answer it.
+/// Returns the update that an event meets, if a machine is about to execute it.
 fn met_by(machine: &Machine<WeightedRef<'_>>, event: Event) -> Option<Meeting>
     ensures { result ≡ meeting machine.now event }
 {
@@ -157,7 +157,7 @@ fn met_by(machine: &Machine<WeightedRef<'_>>, event: Event) -> Option<Meeting>
     }
 }
 
-/// A machine that is to make a history again.
+/// Creates a machine to replay a history.
 fn replayer<'a>(
     alloc: Global,
     history: &'a History<Weighted>,
@@ -214,7 +214,7 @@ fn push_charge(
     charge_line(out, items, transactions, charge)
 }
 
-/// Appends the lines of all charges to a query, by a machine that makes the history again.
+/// Appends the lines of all charges to a query, by a machine that replays the history.
 fn push_all(
     out: &mut Vec<u8>,
     items: &Names,

@@ -11,14 +11,14 @@ use esr_items::Weighted;
 use esr_order::{committed, updates_before};
 use std::alloc::{AllocError, Global};
 
-/// The numbers of some updates.
+/// Returns the numbers of some updates.
 fn numbers_of(alloc: Global, updates: &[TxnId]) -> Result<Vec<u32>, AllocError>
     ensures { IfOk result (λ v. v.items ≡ map (λ t. t.0) updates.now) }
 {
     updates.iter().map(|t| t.0).collect(alloc)
 }
 
-/// The numbers of some updates, ascending.
+/// Returns the numbers of some updates, ascending.
 fn sorted_numbers(alloc: Global, updates: &[TxnId]) -> Result<Vec<u32>, AllocError>
     ensures sorted { IfOk result (λ v. IsNonDecreasing v.items) }
     ensures same { IfOk result (λ v. (u : ℕ) → is_among v.items u ≡ is_among (map (λ t. t.0) updates.now) u) }
@@ -28,7 +28,7 @@ fn sorted_numbers(alloc: Global, updates: &[TxnId]) -> Result<Vec<u32>, AllocErr
     Ok(numbers)
 }
 
-/// Whether ascending numbers have that of the update.
+/// Returns whether ascending numbers contain that of the update.
 #[tactic(auto, using(crate::proofs::Amongst::found_among))]
 fn is_among(numbers: &[u32], t: TxnId) -> bool
     requires { IsNonDecreasing numbers.now }
@@ -37,7 +37,7 @@ fn is_among(numbers: &[u32], t: TxnId) -> bool
     numbers.binary_search(&t.0).is_ok()
 }
 
-/// Those of the updates whose numbers are not among these.
+/// Returns the updates whose numbers are not among these.
 #[tactic(auto, using(std::proofs::lemmas::List::take_all))]
 fn without(alloc: Global, updates: &[TxnId], numbers: &[u32]) -> Result<Vec<TxnId>, AllocError>
     requires { IsNonDecreasing numbers.now }
@@ -52,7 +52,7 @@ fn without(alloc: Global, updates: &[TxnId], numbers: &[u32]) -> Result<Vec<TxnI
     Ok(kept)
 }
 
-/// The updates that committed before the query did, but for these.
+/// Returns the updates that committed before the query did, except these.
 pub fn others(
     alloc: Global,
     history: &History<Weighted>,

@@ -1,4 +1,4 @@
-//! What is told of a query that is explained.
+//! The view that explains a query.
 
 ghost use Rattle.std.specs.Prelude.{◌≡◌};
 ghost use Rattle.esr_explain.specs.Written.{explained};
@@ -7,8 +7,8 @@ use crate::text::explanation;
 use esr_views::{AuditedQuery, QueryView};
 use std::alloc::{AllocError, Global};
 
-/// The explanation of a query: what it read, beside the values of the nearest placement; what it was charged, by which
-/// update's operation and when, and what was left of both limits; the updates before the nearest placement, and the
+/// The explanation of a query: its reads, with the values of the nearest placement; its charges, each with the
+/// update's operation, the step, and the rest of both limits; the updates before the nearest placement, and the
 /// others; and the sums.
 pub struct Explaining;
 

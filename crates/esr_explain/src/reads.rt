@@ -1,4 +1,4 @@
-//! What a query read, beside what it would have read in its nearest placement.
+//! The reads of a query, compared with the values of its nearest placement.
 ghost use Rattle.std.specs.Prelude.{◌≡◌, ◌++◌, ℕ, OnOk, All, map, flat_map};
 ghost use Rattle.esr_items.specs.Values.{value_at, IsValue};
 ghost use Rattle.esr_items.specs.Weights.{weighted};
@@ -13,7 +13,7 @@ use esr_order::{Access, accesses_of};
 use esr_report::{Names, push_line};
 use std::alloc::{AllocError, Global};
 
-/// The value of an item among the values of all.
+/// Returns the value of an item among the values of all.
 fn value_of(values: &[i64], x: ItemId) -> i64
     ensures { result ≡ value_at values.now x.0 }
 {
@@ -47,7 +47,7 @@ fn named_read_line(
     )
 }
 
-/// Appends the line of a read, beside this value of the item.
+/// Appends the line of a read, with this value of the item.
 fn read_line(
     out: &mut Vec<u8>,
     items: &Names,
@@ -65,7 +65,7 @@ fn read_line(
     named_read_line(out, item, read.value, nearest, off)
 }
 
-/// Appends the lines of the reads among these accesses, beside these values of the items.
+/// Appends the lines of the reads among these accesses, with these values of the items.
 fn push_lines(
     out: &mut Vec<u8>,
     items: &Names,
@@ -87,7 +87,7 @@ fn push_lines(
     Ok(())
 }
 
-/// Appends the lines of what a query read, beside the values that these updates leave.
+/// Appends the lines of a query's reads, with the values that these updates leave.
 pub fn push_reads(
     alloc: Global,
     out: &mut Vec<u8>,

@@ -27,7 +27,7 @@ fn sums_line(out: &mut Vec<u8>, distance: u64, import: u64) -> Result<(), AllocE
     push_line(out, "distance", &words)
 }
 
-/// The explanation of a query, of which this was found.
+/// Returns the explanation of a query with this finding.
 pub fn explanation(
     alloc: Global,
     items: &Names,

@@ -98,7 +98,7 @@ same_rising (m ∷ ms) (n ∷ ns) up rise same =
     ap₂ (λ (k : ℕ) (ks : List ℕ). k ∷ ks) first
     (same_rising ms ns up.1 rise.1 (λ f. omega (arith, same f, sum_by-cons f m ms, sum_by-cons f n ns, ap f first)))
 
--- what a sort leaves
+-- the result of a sort
 pub sorted_is : (ns sorted : List ℕ) → IsPermutation ns sorted → IsSorted nat_cmp sorted → sorted ≡ ascending ns
 sorted_is ns sorted moved up =
     same_rising sorted (ascending ns) (rising_from sorted (λ i j le lt. IsNonDecreasingBy-from_sort (λ k. k) sorted up i j 0 le lt)) (ascending_rising ns)

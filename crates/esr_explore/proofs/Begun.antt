@@ -1,4 +1,4 @@
--- One more call, and one more block, of those whose queries are listed.
+-- The list of queries after one more call, and after one more block.
 use Rattle.std.proofs.Common.{◌≡◌, ℕ, suc, ◌+◌, ◌<◌, List, [], ◌∷◌, ◌++◌, Option, Some, None, Vec, ◌∙◌, ap, ap₂, sym, arith, append-nil, append_assoc, get_or, length, length-take-le, map, option_map, take}
 use Rattle.std.specs.declared.alloc.Global.{Global}
 use Rattle.std.specs.List.{cons_option, enumerate_from, filter_map, flat_map}

@@ -1,4 +1,4 @@
--- What is drawn is an order: a turn of a block takes one of its lines, until none is left.
+-- A drawn sequence is an order: a turn of a block takes one of its lines, until none is left.
 use Rattle.std.proofs.Common.{◌≡◌, ℕ, ◌+◌, ◌-◌, ◌<◌, ◌==◌, List, [], ◌∷◌, ◌++◌, cond, refl, ◌∙◌, ap, sym, arith, inl, inr, length, sum, set, get_or-set_same, get_or-set_other, length-append, length-set}
 use Rattle.std.proofs.lemmas.Bool.{cases_eq, cases_lt}
 use Rattle.std.proofs.lemmas.Bool.Decides.{nat_tests}

@@ -9,7 +9,7 @@ use Rattle.std.proofs.lemmas.List.Elements.{Contains-append_left, Contains-appen
 use Rattle.std.proofs.lemmas.Grind.{flat_map-append}
 use Rattle.esr_explore.specs.Orders.{IsOrder, first_turns, lines_of, longer, longer_by, turns_of}
 
--- what is in a part is in all
+-- an element of a part is in the whole
 in_flat : {X Y : Type 0} (f : X → List Y) (xs : List X) (x : X) (y : Y) → Contains xs x → Contains (f x) y → Contains (flat_map f xs) y
 in_flat f [] x y (k, lt, is) there = absurd (omega (arith, lt))
 in_flat f (z ∷ xs) x y (zero, lt, is) there =
@@ -23,7 +23,7 @@ in_range n b lt = (b, omega (arith, lt, length-range_with_len 0 n), get_or-range
 itself : (b : ℕ) → (b == b) ≡ true
 itself b = grind (arith, nat_tests)
 
--- a block that stands further on has fewer turns before
+-- before a block's turn at place k, it has had fewer turns than in the whole order
 fewer_turns : (order : List ℕ) (k : ℕ) → k < length order → turns_of (get_or order k 0) (take k order) < turns_of (get_or order k 0) order
 fewer_turns order k lt =
     let b = get_or order k 0 in
@@ -39,7 +39,7 @@ within [] b lt = absurd (omega (arith, lt))
 within (c ∷ counts) zero lt = omega arith
 within (c ∷ counts) (suc b) lt = omega (arith, within counts b lt)
 
--- one more turn of an order is one more turn of what it begins with
+-- one more turn of an order is one more turn of its prefix
 step : (counts : List ℕ) (turns : ℕ) (order : List ℕ) → IsOrder counts turns order → (k : ℕ) → k < length order → Contains (longer counts (take k order)) (take (suc k) order)
 step counts turns order is k lt =
     let b = get_or order k 0 in

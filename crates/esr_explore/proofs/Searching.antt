@@ -41,7 +41,7 @@ summary_among opening weights blocks queries (p ∷ orders) (u ∷ summaries) o 
     let rest = summary_among opening weights blocks queries orders summaries o are.1 (k, omega (arith, lt), is) in
     (rest.0, ((suc rest.1.0.0, omega (arith, rest.1.0.1), rest.1.0.2), rest.1.1))
 
--- where all orders are gone through, the tales are those of all
+-- if all orders are run, the summaries are those of all
 pub outcomes_all : (opening : List ℤ) (weights : List ℕ) (blocks : List (List Call)) (queries : List Query) (counts : List ℕ) (orders : Option (List (List ℕ))) (summaries : List RunSummary)
     → counts ≡ line_counts blocks → orders ≡ Some (first_turns counts (sum counts)) → IfSome orders (λ l. AreRunSummaries opening weights blocks queries l summaries)
     → AreRunSummaries opening weights blocks queries (all_orders blocks) summaries

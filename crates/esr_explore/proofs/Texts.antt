@@ -12,7 +12,7 @@ use Rattle.esr_explore.proofs.Every.{range-push}
 pub then : (out x y before after : List ℕ) → before ≡ out ++ x → after ≡ before ++ y → after ≡ out ++ (x ++ y)
 then out x y before after before_is after_is = after_is ∙ ap (λ l. l ++ y) before_is ∙ append_assoc out x y
 
--- a piece that is another word for the same
+-- a piece that equals another text
 pub then_same : (out x y z before after : List ℕ) → before ≡ out ++ x → after ≡ before ++ z → z ≡ y → after ≡ out ++ (x ++ y)
 then_same out x y z before after before_is after_is same =
     then out x y before after before_is (after_is ∙ ap (λ l. before ++ l) same)

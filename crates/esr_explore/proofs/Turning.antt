@@ -17,7 +17,7 @@ then_turn blocks s rest b = fold-append (turn blocks) s rest (b ∷ [])
 pub then_turns : (blocks : List (List Call)) (s : Stage) (order rest : List ℕ) → turns blocks s (order ++ rest) ≡ turns blocks (turns blocks s order) rest
 then_turns blocks s order rest = fold-append (turn blocks) s order rest
 
--- blocks that have given each of their lines are answered
+-- if blocks have no line left, all their calls have replies
 pub done_answered : (blocks : List (List Call)) (rs : List RunnerView) → AreDone blocks rs → AreAnswered blocks (map (λ r. r.replies) rs)
 done_answered [] [] (same, done) = tt
 done_answered [] (r ∷ rs) (same, done) = absurd (omega (arith, same))
@@ -31,7 +31,7 @@ pub borrowed_result : (blocks seen : List (List Call)) (rs : List RunnerView) (r
 borrowed_result blocks seen rs replies seen_is replies_is done =
     subst (λ (bs : List (List Call)). AreAnswered bs replies) (sym seen_is) (subst (AreAnswered blocks) (sym replies_is) (done_answered blocks rs done))
 
--- one more block that has given no line
+-- one more block before its first line
 pub one_new_runner : (n : ℕ) (rs new : List RunnerView) (r : RunnerView)
     → rs ≡ map (λ _. fresh) (range_with_len 0 n) → r ≡ fresh → new ≡ rs ++ r ∷ [] → new ≡ map (λ _. fresh) (range_with_len 0 (n + 1))
 one_new_runner n rs new r rs_is r_is new_is =

@@ -7,7 +7,7 @@ use Rattle.esr_explore.specs.declared.run_summary.RunSummary.{RunSummary}
 use Rattle.esr_explore.specs.declared.summary.Column.{Column}
 use Rattle.esr_explore.specs.declared.summary.Column.TheVariants as column
 
--- the import and the distance of a query, by its place among those of the file, where it committed
+-- the import and the distance of a query, by its index among those of the file, if it committed
 abbrev pub outcome_at : ℕ → RunSummary → Option QueryOutcome
 outcome_at query run_summary = option_flatten (slice_get run_summary.outcomes.items query)
 

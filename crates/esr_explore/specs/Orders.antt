@@ -15,7 +15,7 @@ abbrev pub IsOrder : List ℕ → ℕ → List ℕ → Type 0
 IsOrder counts turns order =
     (length order ≡ turns) × ((block : ℕ) → turns_of block order ≡ lines_of counts block)
 
--- the order with one more turn of a block, where that has a line left
+-- the order with one more turn of a block, if the block has a line left
 abbrev pub longer_by : List ℕ → List ℕ → ℕ → List (List ℕ)
 longer_by counts order block =
     cond (nat_lt (turns_of block order) (lines_of counts block)) ((order ++ block ∷ []) ∷ []) []

@@ -11,7 +11,7 @@ use Rattle.esr_explore.specs.declared.run_summary.QueryOutcome.{QueryOutcome}
 use Rattle.esr_explore.specs.declared.run_summary.RunSummary.{RunSummary}
 use Rattle.esr_explore.specs.Turns.{IsRun, RunnerView, Stage, fresh, is_blocked}
 
--- the number that the begin at a place of a block was given
+-- the number that the begin at a place of a block got
 abbrev pub number_of : List RunnerView → ℕ → ℕ → ℕ
 number_of runners block place =
     unwrap_or (option_and_then number_in (slice_get (slice_index_or runners block fresh).replies place)) 0

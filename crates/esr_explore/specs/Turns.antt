@@ -1,4 +1,4 @@
--- A run of blocks on one thread: at each turn one of them gives its next line.
+-- A run of blocks on one thread: at each turn one of them executes its next line.
 use Rattle.std.specs.Prelude.{◌≡◌, ℕ, ◌+◌, ◌<◌, ◌-◌, ◌^◌, ℤ, List, [], ◌∷◌, ◌++◌, Bool, false, ◌&&◌, Option, Some, None, cond, is_some, length, map, min, nat_lt, option_map, slice_get, slice_index_or, slice_set}
 use Rattle.std.specs.List.{fold, range_with_len}
 use Rattle.esr_items.specs.Weights.{weighted}
@@ -10,12 +10,13 @@ use Rattle.esr_history.specs.Refusals.{refusal_blocker}
 use Rattle.esr_plan.specs.declared.call.Call.{Call}
 use Rattle.esr_plan.specs.Calls.{event_by}
 
--- refused for what a transaction holds
+-- refused because of a lock or a limit of a transaction
 abbrev pub is_blocked : Reply → Bool
 is_blocked (Refused why) = is_some (refusal_blocker why)
 is_blocked _ = false
 
--- a block that is run: the last replies to its lines, how often the next one was given, and how often a line was blocked
+-- a running block: the last replies to its lines, the number of tries of the next line, and the number of times that
+-- a line was blocked
 pub record RunnerView : Type 0 where
   pub replies : List Reply
   pub tries : ℕ
@@ -24,7 +25,7 @@ pub record RunnerView : Type 0 where
 abbrev pub fresh : RunnerView
 fresh = record { replies = []; tries = 0; blocked = 0 }
 
--- what a number of 64 bits can count
+-- a number as a counter of 64 bits holds it
 abbrev pub capped : ℕ → ℕ
 capped n = min n (2 ^ 64 - 1)
 
@@ -40,7 +41,7 @@ noted reply s = record {
   blocked = cond (is_blocked reply) (capped (s.blocked + 1)) s.blocked;
 }
 
--- the event of the next line, where one is left
+-- the event of the next line, if one is left
 abbrev pub next_event : List Call → RunnerView → Option Event
 next_event calls s = option_map (event_by s.replies) (slice_get calls (length s.replies))
 
@@ -80,13 +81,14 @@ begun opening weights blocks =
 abbrev pub turns : List (List Call) → Stage → List ℕ → Stage
 turns blocks before order = fold (turn blocks) before order
 
--- each block has given each of its lines
+-- no block has a line left
 abbrev pub AreDone : List (List Call) → List RunnerView → Type 0
 AreDone blocks runners =
     (length runners ≡ length blocks)
     × ((k : ℕ) → k < length blocks → length (slice_index_or runners k fresh).replies ≡ length (slice_index_or blocks k []))
 
--- The blocks took their turns in this order, and then in some other until each had given each of its lines; this came.
+-- The result of a run in which the blocks took their turns in this order, and then in some other until no block had a
+-- line left.
 pub record IsRun (opening : List ℤ) (weights : List ℕ) (blocks : List (List Call)) (order : List ℕ) (end : Stage) : Type 0 where
   pub rest : List ℕ
   pub occurred : end ≡ turns blocks (begun opening weights blocks) (order ++ rest)

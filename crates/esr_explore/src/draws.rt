@@ -1,5 +1,5 @@
-//! An order that is drawn by a seed: at each turn one of the lines that are left, each as likely as the others. The same
-//! seed gives the same order on each machine.
+//! An order drawn from a seed: at each turn one of the remaining lines is chosen, with equal probability. The same
+//! seed yields the same order on each machine.
 
 ghost use Rattle.std.specs.Prelude.{◌≡◌, ◌<◌, ◌≤◌, IfNone, IfOk, IfSome, length, slice_index_or, sum};
 ghost use Rattle.esr_explore.specs.Orders.{IsOrder};
@@ -21,7 +21,7 @@ impl Draws {
     }
 }
 
-/// The block of the line with this number, among the lines that are left.
+/// Returns the block of the line with this number, among the lines that are left.
 fn block_of(left: &[u32], line: u64) -> Option<usize>
     ensures block { IfSome result (λ block. (block < length left.now) × (0 < slice_index_or left.now block 0)) }
     ensures none { IfNone result (sum left.now ≤ line) }
@@ -37,7 +37,7 @@ fn block_of(left: &[u32], line: u64) -> Option<usize>
     None
 }
 
-/// How many lines there are.
+/// Returns the number of lines.
 fn sum_of(counts: &[u32]) -> u64
     requires { length counts.now ≤ 256 }
     ensures { result ≡ sum counts.now }

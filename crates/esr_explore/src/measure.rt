@@ -1,4 +1,4 @@
-//! What a run is measured by.
+//! The measures of a run.
 
 /// What the worst run is the worst by.
 #[derive(Clone, Copy)]
@@ -9,7 +9,7 @@ pub enum Measure {
 }
 
 impl Measure {
-    /// The measure of that name.
+    /// Returns the measure with a name.
     pub fn of_name(name: &str) -> Option<Measure> {
         match name {
             "import" => Some(Measure::Import),

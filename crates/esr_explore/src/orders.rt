@@ -16,7 +16,7 @@ fn turns_of(order: &[u8], block: u8) -> usize
     order.iter().filter(|b| **b == block).count()
 }
 
-/// The order with one more turn.
+/// Returns the order extended by one turn.
 fn with_turn(alloc: Global, order: &[u8], block: u8) -> Result<Vec<u8>, AllocError>
     ensures { IfOk result (λ more. more.items ≡ order.now ++ block ∷ []) }
 {
@@ -64,7 +64,7 @@ fn push_longer(
     Ok(())
 }
 
-/// The orders with one more turn each, in all ways.
+/// Returns the orders extended by one turn each, in all ways.
 fn next_orders(
     alloc: Global,
     orders: &[Vec<u8>],
@@ -81,7 +81,7 @@ fn next_orders(
     Ok(next)
 }
 
-/// The list with the empty order.
+/// Returns the list with the empty order.
 fn no_turns(alloc: Global) -> Result<Vec<Vec<u8>>, AllocError>
     ensures { IfOk result (λ orders. map (λ o. o.items) orders.items ≡ [] ∷ []) }
 {

@@ -35,13 +35,13 @@ use std::io::{Read, Write};
 /// A search: its orders, and the run that is written.
 #[derive(Clone, Copy)]
 pub struct Search {
-    /// How many orders are drawn, or none where all are gone through.
+    /// The number of orders to draw, or `None` to run all orders.
     pub seeds: Option<u64>,
-    /// What the run that is written as a script is the worst by; none where the summary is written.
+    /// The measure of the worst run, which is written as a script; `None` to write the summary.
     pub worst: Option<Measure>,
 }
 
-/// Reads a drive file to its end, runs its blocks on one thread in many orders, and writes what came of them.
+/// Reads a drive file to its end, runs its blocks on one thread in many orders, and writes the outcomes.
 pub fn explore<I: Read, O: Write>(
     alloc: Global,
     reader: &mut Watched<I>,
@@ -66,7 +66,7 @@ pub fn explore<I: Read, O: Write>(
     }
 }
 
-/// The orders that are gone through.
+/// Returns the orders to run.
 fn ways_of(alloc: Global, counts: &[u32], seeds: Option<u64>) -> Result<Ways, ExploreFault>
     requires { length counts.now ≤ MAX_BLOCKS }
     ensures all { seeds ≡ None → IfOk result (λ ways. orders_of ways ≡ Some (first_turns counts.now (sum counts.now))) }
@@ -220,7 +220,7 @@ fn report_of(
     Ok(out)
 }
 
-/// The replies of each block.
+/// Returns the replies of each block.
 fn replies_of(alloc: Global, runners: Vec<Runner>) -> Result<Vec<Vec<Reply>>, AllocError>
     ensures { IfOk result (λ replies. map (λ r. r.items) replies.items ≡ map (λ r. r.replies) runners.items) }
 {
@@ -231,7 +231,7 @@ fn replies_of(alloc: Global, runners: Vec<Runner>) -> Result<Vec<Vec<Reply>>, Al
     Ok(replies)
 }
 
-/// The history of a run, as a script.
+/// Returns the history of a run, as a script.
 fn script_of(alloc: Global, drive_plan: &DrivePlan<'_>, run: Run) -> Result<Vec<u8>, AllocError>
     requires done { AreDone (map (λ b. b.items) drive_plan.now.blocks.items) run.runners.items }
     requires most { length run.history.schedule.entries ≤ MAX_ENTRIES }
@@ -250,7 +250,7 @@ fn script_of(alloc: Global, drive_plan: &DrivePlan<'_>, run: Run) -> Result<Vec<
     Ok(text)
 }
 
-/// What is written of the runs of a plan.
+/// Returns the output of the runs of a plan.
 fn text_of(
     alloc: Global,
     drive_plan: &DrivePlan<'_>,

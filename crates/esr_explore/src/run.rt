@@ -20,14 +20,14 @@ use esr_items::{Store, Weighted};
 use esr_plan::{Call, DriveFault, DrivePlan, event_of, metric_of};
 use std::alloc::{AllocError, Global};
 
-/// What came of a run: the history, and for each block what came of its lines.
+/// The result of a run: the history, and for each block the results of its lines.
 #[derive(Drop)]
 pub struct Run {
     pub history: History<Weighted>,
     pub runners: Vec<Runner>,
 }
 
-/// The event of the next line of a block, where one is left.
+/// Returns the event of the next line of a block, if one is left.
 fn next_event(calls: &[Call<'_>], runner: &Runner) -> Option<Event>
     ensures { result ≡ next_event calls.now runner.now }
 {
@@ -38,7 +38,7 @@ fn next_event(calls: &[Call<'_>], runner: &Runner) -> Option<Event>
     }
 }
 
-/// Lets a block give its next line, if one is left.
+/// Executes the next line of a block, if one is left.
 fn take_turn(
     machine: &mut Machine<Weighted>,
     calls: &[Call<'_>],
@@ -60,7 +60,7 @@ fn take_turn(
     }
 }
 
-/// The turn of a block.
+/// Executes the next line of a block, if one is left.
 fn turn(
     machine: &mut Machine<Weighted>,
     blocks: &[Vec<Call<'_>>],
@@ -78,7 +78,7 @@ fn turn(
     take_turn(machine, blocks[block].as_slice(), &mut runners[block])
 }
 
-/// The turns of an order.
+/// Executes the turns of an order.
 fn take_turns(
     machine: &mut Machine<Weighted>,
     blocks: &[Vec<Call<'_>>],
@@ -96,7 +96,7 @@ fn take_turns(
     Ok(())
 }
 
-/// Blocks that have given no line.
+/// Creates the runners of blocks, before their first lines.
 fn new_runners(alloc: Global, count: usize) -> Result<Vec<Runner>, AllocError>
     ensures { IfOk result (λ runners. runners.items ≡ map (λ _. fresh) (range_with_len 0 count)) }
 {
@@ -107,7 +107,7 @@ fn new_runners(alloc: Global, count: usize) -> Result<Vec<Runner>, AllocError>
     Ok(runners)
 }
 
-/// The first block from a number on that has a line left.
+/// Returns the first block with a line left, from a number on.
 fn find_unfinished(blocks: &[Vec<Call<'_>>], runners: &[Runner], from: usize) -> Option<usize>
     requires { length runners.now ≡ length blocks.now }
     ensures { IfNone result ((k : ℕ) → from ≤ k → k < length blocks.now
@@ -122,8 +122,8 @@ fn find_unfinished(blocks: &[Vec<Call<'_>>], runners: &[Runner], from: usize) ->
     None
 }
 
-/// The block that has the next turn of a round: the first from a number on that has a line left, or else the first of
-/// all.
+/// Returns the block with the next turn of a round: the first with a line left, from a number on, or else the first
+/// of all.
 fn next_in_round(blocks: &[Vec<Call<'_>>], runners: &[Runner], from: usize) -> Option<usize>
     requires { length runners.now ≡ length blocks.now }
     ensures { IfNone result (AreDone (map (λ b. b.items) blocks.now) runners.now) }
@@ -134,7 +134,7 @@ fn next_in_round(blocks: &[Vec<Call<'_>>], runners: &[Runner], from: usize) -> O
     }
 }
 
-/// Gives what is left of the blocks, in rounds.
+/// Executes the remaining lines of the blocks, in rounds.
 fn finish(
     machine: &mut Machine<Weighted>,
     blocks: &[Vec<Call<'_>>],
@@ -156,7 +156,7 @@ fn finish(
     Err(StepError::NoMemory)
 }
 
-/// A machine with the items of a plan.
+/// Creates a machine with the items of a plan.
 fn machine_of(alloc: Global, drive_plan: &DrivePlan<'_>) -> Result<Machine<Weighted>, DriveFault>
     requires { IsSound drive_plan.now }
     ensures { IfOk result (λ m. m ≡ (begun drive_plan.now.values.items (weights_of drive_plan.now.weights.items)
@@ -168,7 +168,7 @@ fn machine_of(alloc: Global, drive_plan: &DrivePlan<'_>) -> Result<Machine<Weigh
     Ok(machine)
 }
 
-/// The fault of a run.
+/// Returns the fault of a run.
 fn fault_of(error: StepError) -> DriveFault {
     match error {
         StepError::HistoryFull => DriveFault::HistoryFull,
@@ -176,7 +176,7 @@ fn fault_of(error: StepError) -> DriveFault {
     }
 }
 
-/// Runs the blocks of a plan: in this order, and what it leaves over in rounds.
+/// Runs the blocks of a plan: in this order, and the remaining lines in rounds.
 pub fn run_order(alloc: Global, drive_plan: &DrivePlan<'_>, order: &[u8]) -> Result<Run, DriveFault>
     requires { IsSound drive_plan.now }
     ensures run { IfOk result (λ r. IsRun drive_plan.now.values.items (weights_of drive_plan.now.weights.items)

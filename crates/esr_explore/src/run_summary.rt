@@ -13,7 +13,7 @@ use esr_history::{History, Reply, TxnId};
 use esr_items::Weighted;
 use std::alloc::{AllocError, Global};
 
-/// What a committed query was charged, and how far it was from a serial order.
+/// The charge to a committed query, and its distance from a serial order.
 #[derive(Clone, Copy)]
 pub struct QueryOutcome {
     pub import: u64,
@@ -23,7 +23,7 @@ pub struct QueryOutcome {
 /// The summary of a run.
 #[derive(Drop)]
 pub struct RunSummary {
-    /// Of each query of the file, where it committed.
+    /// The outcome of each query of the file, if it committed.
     pub outcomes: Vec<Option<QueryOutcome>>,
     /// How often the lines of each block were blocked.
     pub blocked: Vec<u64>,
@@ -78,7 +78,7 @@ fn all_outcomes(
     Ok(outcomes)
 }
 
-/// How often the lines of each block were blocked.
+/// Returns, for each block, the number of times that its lines were blocked.
 fn count_blocked(alloc: Global, runners: &[Runner]) -> Result<Vec<u64>, AllocError>
     ensures { IfOk result (λ v. v.items ≡ map (λ r. r.blocked) runners.now) }
 {

@@ -7,11 +7,11 @@ use esr_history::Reply;
 use std::alloc::{AllocError, Global};
 use std::marker::Model;
 
-/// The most times that a line is given.
+/// The maximum number of tries of a line.
 const TRIES: u32 = 100;
 
-/// A block that is being run: the last replies to its lines, how often the next one was given, and how often a line was
-/// blocked.
+/// A running block: the last replies to its lines, the number of tries of the next line, and the number of times that
+/// a line was blocked.
 #[derive(Drop)]
 pub struct Runner {
     replies: Vec<Reply>,
@@ -27,7 +27,7 @@ impl Model for Runner {
     ghost view = { λ r. record { replies = r.replies.items; tries = r.tries; blocked = r.blocked } };
 }
 
-/// Whether a line was refused for what a transaction holds.
+/// Returns whether a line was refused because of a lock or a limit of a transaction.
 pub fn is_blocked(reply: Reply) -> bool
     ensures { result ≡ is_blocked reply }
 {
@@ -38,7 +38,7 @@ pub fn is_blocked(reply: Reply) -> bool
 }
 
 impl Runner {
-    /// A block that has given no line.
+    /// Creates a runner of a block, before its first line.
     pub fn new(alloc: Global) -> Runner
         ensures { result ≡ fresh }
     {
@@ -49,21 +49,21 @@ impl Runner {
         }
     }
 
-    /// The last replies to its lines so far.
+    /// Returns the last replies to its lines so far.
     pub fn replies(&self) -> &[Reply]
         ensures { result.now ≡ self.now.replies }
     {
         self.replies.as_slice()
     }
 
-    /// How often a line was blocked.
+    /// Returns the number of times that a line was blocked.
     pub fn blocked_count(&self) -> u64
         ensures { result ≡ self.now.blocked }
     {
         self.blocked
     }
 
-    /// The replies, without the rest.
+    /// Returns the replies, and drops the rest.
     pub fn into_replies(self) -> Vec<Reply>
         ensures { result.items ≡ self.replies }
     {

@@ -45,7 +45,7 @@ pub enum Column {
     Distance(usize),
 }
 
-/// Returns the outcome of the query with a place among those of the file, where it committed.
+/// Returns the outcome of a query, by its index among those of the file, if it committed.
 fn outcome_at(run_summary: &RunSummary, query: usize) -> Option<QueryOutcome>
     ensures { result ≡ outcome_at query run_summary.now }
 {

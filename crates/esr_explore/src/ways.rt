@@ -14,17 +14,17 @@ use esr_plan::{Call, DriveFault};
 use std::alloc::{AllocError, Global};
 use std::fmt;
 
-/// The most lines in blocks where all orders are gone through.
+/// The maximum number of lines in blocks if all orders are run.
 pub const MAX_LINES: usize = 1_000;
 
 /// Why a search has no result.
 #[derive(Clone, Copy)]
 pub enum ExploreFault {
-    /// The file is at fault, or the engine, a device or memory, as for a drive.
+    /// A fault of the file, the engine, a device or memory, as for a drive.
     Drive(DriveFault),
     /// More orders than a search can visit: their number, if it can be reported.
     TooManyOrders(Option<u64>),
-    /// There are more lines in blocks than where all orders are gone through.
+    /// The blocks have more lines than permitted if all orders are run.
     TooManyLinesInBlocks,
 }
 
@@ -69,7 +69,7 @@ pub enum Ways {
     Drawn { seeds: u64 },
 }
 
-/// How many lines each block has.
+/// Returns the number of lines in each block.
 pub fn line_counts(alloc: Global, blocks: &[Vec<Call<'_>>]) -> Result<Vec<u32>, ExploreFault>
     ensures { IfOk result (λ counts. counts.items ≡ map (λ b. length b.items) blocks.now) }
 {
@@ -85,7 +85,7 @@ pub fn line_counts(alloc: Global, blocks: &[Vec<Call<'_>>]) -> Result<Vec<u32>, 
     Ok(counts)
 }
 
-/// How many lines there are in all.
+/// Returns the number of lines in all.
 fn sum_of(counts: &[u32]) -> usize
     requires { length counts.now ≤ MAX_BLOCKS }
     ensures { result ≡ sum counts.now }
@@ -121,7 +121,7 @@ pub fn all_ways(alloc: Global, counts: &[u32]) -> Result<Ways, ExploreFault>
 }
 
 impl Ways {
-    /// The order with a number.
+    /// Returns the order with a number.
     pub fn order(&self, alloc: Global, counts: &[u32], number: u64) -> Result<Vec<u8>, AllocError>
         requires { length counts.now ≤ MAX_BLOCKS }
     {

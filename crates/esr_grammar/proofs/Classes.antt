@@ -1,4 +1,4 @@
--- The class that a table gives for each byte.
+-- The class of each byte in a table.
 use Rattle.std.proofs.Common.{◌≡◌, ℕ, zero, suc, ◌+◌, ◌<◌, List, [], ◌∷◌, Bool, true, false, not, cond, length, get_or, refl, sym, ◌∙◌, ap, arith}
 use Rattle.std.proofs.lemmas.Bool.{and_parts}
 use Rattle.esr_grammar.specs.Command.{is_name_byte}

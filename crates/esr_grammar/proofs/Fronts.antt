@@ -25,7 +25,7 @@ named (b ∷ bs) (suc n) l h some few first =
     let short : length (take n bs) ≤ 15 = omega (arith, few, l, length-take n bs) in
     rw (first, le-leb _ _ short, all_before bs n (omega (arith, l)) (λ k i. h (suc k) (omega (arith, i)))) refl
 
--- the bytes before the first that no name has, where they are a letter and up to 15 more
+-- the bytes before the first that is not permitted in a name, if they are a letter and up to 15 more
 pub front_is_name : (bytes : List ℕ) (place : ℕ) → position (λ b. not (is_name_byte b)) bytes ≡ Some place → (place ≡ 0 → ⊥) → place ≤ 16
     → is_letter (get_or bytes 0 0) ≡ true → is_name (take place bytes) ≡ true
 front_is_name bytes place e some few first =

@@ -1,4 +1,4 @@
--- Numbers and words, and what is read from them.
+-- Numbers and words, and how they are read.
 use Rattle.std.proofs.Common.{◌≡◌, ℕ, zero, suc, ◌<◌, ◌≤◌, ◌^◌, ℤ, pos, negsuc, nat_abs, List, [], ◌∷◌, ◌++◌, ◌+◌, ◌*◌, ◌-◌, inl, inr, IfSome, IfNone, true, false, length, take, get_or, refl, sym, ◌∙◌, ap, arith, rules, nat_lt, nat_eq, Some, None, Option, option_map, option_and_then, decimal, lt-ltb, ltb-true, eqb-true}
 use Rattle.std.specs.List.{AllByRecursion, join_with_byte}
 use Rattle.std.specs.Str.{bytes_eq, all_ascii_digits}
@@ -63,16 +63,16 @@ pub record IsValueOf (cs : List ℕ) (i value : ℕ) : Type 0 where
   pub small : value < 10 ^ i
   pub digits : all_ascii_digits (take i cs) ≡ true
 
--- a digit more
+-- one more digit
 pub one_digit : (cs : List ℕ) (i d value c : ℕ) → IsValueOf cs i value → i < length cs → c ≡ get_or cs i d → is_ascii_digit c ≡ true → c ≤ 57 → IsValueOf cs (i + 1) (10 * value + (c - 48))
 one_digit cs i d value c so_far within is digit high =
     grind (arith, take_more cs i d within, value-push 0 (take i cs) c, ten_times i, digits-push (take i cs) c so_far.digits digit)
 
--- a byte that is no digit
+-- a byte that is not a digit
 pub no_digit : (cs : List ℕ) (i d : ℕ) → i < length cs → is_ascii_digit (get_or cs i d) ≡ false → all_ascii_digits cs ≡ false
 no_digit cs i d within other = grind (arith, cases_Bool (all_ascii_digits cs), digit_at)
 
--- a spelled number is read
+-- the decimal form of a number is read as it
 pub number_round_trip : (bound n : ℕ) → bound ≤ 10 ^ 19 → n < bound → number_below bound (decimal n) ≡ Some n
 number_round_trip bound n fits small =
     let value : value_from 0 (decimal n) ≡ n = digits_value-decimal own n (omega arith) in
@@ -80,7 +80,7 @@ number_round_trip bound n fits small =
     let same : bytes_eq (decimal n) (decimal n) ≡ true = (bytes_eq-Decides (decimal n) (decimal n)).1 refl in
     rw (value, below, same) refl
 
--- what is read as a number is its spelling
+-- a text that is read as a number is its decimal form
 pub number_found : (bound : ℕ) (text : List ℕ) (n : ℕ) → number_below bound text ≡ Some n → (n < bound) × (text ≡ decimal n)
 number_found bound text n e =
     let test = cond_some _ (value_from 0 text) n e in
@@ -99,7 +99,7 @@ unsigned (c ∷ cs) n digits some e =
 nonzero : (n : ℕ) → nat_eq (suc n) 0 ≡ false
 nonzero n = ne_eqb (suc n) 0 (λ e. omega (arith, e))
 
--- a spelled whole number is read
+-- the decimal form of an integer is read as it
 pub int_round_trip : (v : ℤ) → nat_abs v < 10 ^ 18 → int_of (signed_decimal v) ≡ Some v
 int_round_trip (pos n) small = unsigned (decimal n) n (all_digits n (omega arith)) (decimal_nonempty n (omega arith)) (number_round_trip (10 ^ 18) n (omega arith) small)
 int_round_trip (negsuc n) small = rw (number_round_trip (10 ^ 18) (suc n) (omega arith) small, nonzero n) refl
@@ -108,7 +108,7 @@ signed : (n : ℕ) (v : ℤ) → n < 10 ^ 18 → minus n ≡ Some v → (nat_abs
 signed zero v small e = cc
 signed (suc m) v small e = let given : Some (negsuc m) ≡ Some v = rw (nonzero m) at e in let is : negsuc m ≡ v = cc in rw (← is) (small, refl)
 
--- what is read as a whole number is its spelling
+-- a text that is read as an integer is its decimal form
 pub int_found : (text : List ℕ) (v : ℤ) → int_of text ≡ Some v → IsInt v × (text ≡ signed_decimal v)
 int_found [] v e = cc
 int_found (c ∷ cs) v e = elim (cases_Bool (nat_eq c 45)) [

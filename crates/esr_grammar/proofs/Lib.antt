@@ -1,5 +1,5 @@
--- Why what is spelled is read back as what it was, and what a search for the next line feed finds. Whoever reads
--- lines uses them.
+-- A command's text is parsed as that command, and a search for the next line feed finds it. The crates that read
+-- lines use them.
 
 pub mod Prefix
 pub mod Cutting

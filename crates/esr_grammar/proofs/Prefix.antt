@@ -1,4 +1,4 @@
--- Where no byte is a line feed, the count of bytes before the first is the length.
+-- If no byte is a line feed, the count of bytes before the first line feed is the length.
 use Rattle.std.proofs.Common.{◌≡◌, ℕ, ◌≤◌, List, [], ◌∷◌, length, arith, nat_eq, nat_lt, None, ltb-false, position}
 use Rattle.esr_grammar.specs.Lines.{line_len}
 use Rattle.std.proofs.lemmas.Bool.{cases_Bool}

@@ -65,7 +65,7 @@ some_word (b ∷ bs) = elim (cases_Bool (nat_eq b 32)) [
       (b ∷ more.0, more.1, is ∙ ap (onto_first b) more.2)
 ]
 
--- behind a blank there is another word
+-- after a blank there is another word
 pub one_of_more : (w rest : List ℕ) → None ≡ one_of (w ∷ words_of rest)
 one_of_more w rest = rw (some_word rest).2 refl
 

@@ -1,4 +1,4 @@
--- What a line spells, and what is read from it.
+-- The text of a command, and the command that is read from it.
 use Rattle.std.proofs.Common.{◌≡◌, ℕ, ◌<◌, ◌^◌, ℤ, nat_abs, List, [], ◌∷◌, inl, inr, ◌⊎◌, true, false, not, ◌&&◌, cond, refl, ◌∙◌, ap, subst, arith, nat_eq, Some, None, Option, option_map, option_and_then, codes, decimal}
 use Rattle.std.specs.List.{AllByRecursion, join_with_byte}
 use Rattle.std.specs.Option.{option_or}
@@ -30,7 +30,7 @@ plain_number n small = plain (decimal n) (number_lacks 32 refl n small)
 plain_int : (v : ℤ) → nat_abs v < 10 ^ 18 → IsPlainWord (signed_decimal v)
 plain_int v small = plain (signed_decimal v) (int_lacks 32 refl refl v small)
 
--- ---- a spelled command is read
+-- ---- the text of a command is read as it
 
 named : (name : List ℕ) → IsName name → name_of name ≡ Some name
 named name h = rw h refl
@@ -67,7 +67,7 @@ spelled line (abort t) h = found line (codes "abort") (t ∷ []) (abort t) h.1 (
 spelled line (audit t) h = found line (codes "audit") (t ∷ []) (audit t) h.1 (plain (codes "audit") refl) (plain_name t h.0, tt) (rw (named t h.0) refl)
 spelled line totals h = found line (codes "totals") [] totals h.1 (plain (codes "totals") refl) tt refl
 
--- ---- what is read is spelled
+-- ---- a command that is read has the line as its text
 
 pub name_found : (text name : List ℕ) → name_of text ≡ Some name → IsName name × (text ≡ name)
 name_found text name e = grind (arith, cases_Bool (is_name text))
@@ -104,7 +104,7 @@ same_three {a} {b} {c} {x} {y} {z} e f g = rw (e, f, g) refl
 same_four : {a b c d w x y z : List ℕ} → a ≡ w → b ≡ x → c ≡ y → d ≡ z → a ∷ b ∷ c ∷ d ∷ [] ≡ w ∷ x ∷ y ∷ z ∷ []
 same_four {a} {b} {c} {d} {w} {x} {y} {z} e f g h = rw (e, f, g, h) refl
 
--- the words behind a first word spell the command
+-- the words after a first word spell the command
 abbrev IsKeywordOf : List ℕ → List (List ℕ) → Command → Type 0
 IsKeywordOf k ws c = IsCommand c × (k ∷ ws ≡ words c)
 

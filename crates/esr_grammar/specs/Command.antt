@@ -1,5 +1,4 @@
--- A command and its one spelling; the command that a line spells, found by its words; and the command that a line read
--- stands for.
+-- A command and its one text; the command of a line, found by its words; and the command of a parsed line.
 use Rattle.std.specs.Prelude.{◌≡◌, ℕ, ◌+◌, ◌-◌, ◌*◌, ◌^◌, ◌<◌, ℤ, pos, neg_ℤ, List, [], ◌∷◌, Bool, true, false, ◌&&◌, ◌||◌, IsTrue, nat_eq, nat_le, nat_lt, nat_abs, length, cond, Option, Some, None, codes, decimal, option_and_then, option_map, if◌then◌else◌, bytes_eq}
 use Rattle.std.specs.List.{join_with_byte, list_all, All, slice_split}
 use Rattle.std.specs.Option.{option_or}
@@ -11,9 +10,9 @@ use Rattle.esr_grammar.specs.declared.parse.Line.TheVariants as line
 use Rattle.esr_grammar.specs.declared.parse.Parsed.{Parsed}
 use Rattle.esr_grammar.specs.declared.parse.Parsed.TheVariants as parsed
 
--- ---- what is spelled
+-- ---- the text of commands
 
--- what a line that is not skipped may ask for
+-- the requests of lines that are not skipped
 pub data Command : Type 0 where
   item : (name : List ℕ) (value : ℤ) → Command
   weighted_item : (name : List ℕ) (value : ℤ) (weight : ℕ) → Command
@@ -27,7 +26,7 @@ pub data Command : Type 0 where
   audit : (txn : List ℕ) → Command
   totals : Command
 
--- the words of a command
+-- the tokens of a command
 abbrev pub words : Command → List (List ℕ)
 words (item n v) = codes "item" ∷ n ∷ signed_decimal v ∷ []
 words (weighted_item n v w) = codes "item" ∷ n ∷ signed_decimal v ∷ codes "weight" ∷ decimal w ∷ []
@@ -62,15 +61,15 @@ is_name (b ∷ bs) = is_letter b && (nat_le (length bs) 15 && list_all is_name_b
 abbrev pub IsName : List ℕ → Type 0
 IsName text = IsTrue (is_name text)
 
--- what has up to 18 digits
+-- integers of up to 18 digits
 abbrev pub IsInt : ℤ → Type 0
 IsInt v = nat_abs v < INT_END
 
--- what has up to 19 digits
+-- numbers of up to 19 digits
 abbrev pub IsLimit : ℕ → Type 0
 IsLimit n = n < 10 ^ 19
 
--- what can be spelled
+-- commands that have a text
 abbrev pub IsCommand : Command → Type 0
 IsCommand (item n v) = IsName n × IsInt v
 IsCommand (weighted_item n v w) = IsName n × IsInt v × IsLimit w
@@ -89,7 +88,7 @@ abbrev pub is_skipped : List ℕ → Bool
 is_skipped [] = true
 is_skipped (b ∷ bs) = nat_eq b 35
 
--- the line spells this command
+-- the line is the text of this command
 abbrev pub IsSyntaxOf : List ℕ → Command → Type 0
 IsSyntaxOf line c = IsCommand c × (line ≡ spelling c)
 
@@ -97,7 +96,7 @@ IsSyntaxOf line c = IsCommand c × (line ≡ spelling c)
 abbrev pub IsPlainWord : List ℕ → Type 0
 IsPlainWord word = All (λ b. nat_eq b 32 ≡ false) word
 
--- ---- what is read
+-- ---- the parsing of lines
 
 abbrev pub is_space : ℕ → Bool
 is_space b = nat_eq b 32
@@ -106,7 +105,7 @@ is_space b = nat_eq b 32
 abbrev pub words_of : List ℕ → List (List ℕ)
 words_of bytes = slice_split is_space bytes
 
--- the words after the first blank, where there is one
+-- the words after the first blank, if there is one
 abbrev pub words_after : Option (Bor (List ℕ)) → List (List ℕ)
 words_after None = []
 words_after (Some rest) = words_of rest.now
@@ -114,7 +113,7 @@ words_after (Some rest) = words_of rest.now
 abbrev pub name_of : List ℕ → Option (List ℕ)
 name_of text = cond (is_name text) (Some text) None
 
--- the value of digits, behind the value n of those before them
+-- the value of digits that follow digits of value n
 abbrev pub value_from : ℕ → List ℕ → ℕ
 value_from n [] = n
 value_from n (c ∷ cs) = value_from (10 * n + (c - 48)) cs
@@ -136,7 +135,7 @@ int_of (c ∷ cs) =
     cond (nat_eq c 45)
     (option_and_then minus (number_below INT_END cs)) (option_map pos (number_below INT_END (c ∷ cs)))
 
--- the words, where there are so many
+-- the words, if their number is right
 abbrev pub one_of : List (List ℕ) → Option (List ℕ)
 one_of (a ∷ []) = Some a
 one_of ws = None
@@ -157,7 +156,7 @@ four_of ws = None
 abbrev pub both : {A B C : Type 0} → (A → B → C) → Option A → Option B → Option C
 both f a b = option_and_then (λ x. option_map (f x) b) a
 
--- the words behind each first word
+-- the command of the words after each first word
 abbrev pub plain_item_command : List (List ℕ) → Option Command
 plain_item_command ws = option_and_then (λ p. both item (name_of p.0) (int_of p.1)) (two_of ws)
 
@@ -225,7 +224,7 @@ command_by (word ∷ ws) = command_of word ws
 abbrev pub reading : List ℕ → Option Command
 reading line = command_by (words_of line)
 
--- the command that a line read stands for
+-- the command of a parsed line
 abbrev pub view : Line → Command
 view (line.Item name value) = item name.now value
 view (line.WeightedItem name value weight) = weighted_item name.now value weight
@@ -245,7 +244,7 @@ command_in parsed.Skipped = None
 command_in parsed.NotACommand = None
 command_in (parsed.Command l) = Some (view l)
 
--- what was found in the line is what its reading says
+-- the result of parsing a line agrees with its reading
 abbrev pub IsReadingOf : List ℕ → Parsed → Type 0
 IsReadingOf bytes parsed.Skipped = is_skipped bytes ≡ true
 IsReadingOf bytes parsed.NotACommand = (is_skipped bytes ≡ false) × (reading bytes ≡ None)

@@ -1,4 +1,4 @@
--- How bytes are cut into lines, and the one spelling of each command.
+-- How bytes are cut into lines, and the one text of each command.
 
 pub mod Lines
 pub mod Command

@@ -11,7 +11,7 @@ abbrev pub lines : List ℕ → List (List ℕ)
 lines [] = []
 lines (b ∷ bs) = cond (b == 10) ([] ∷ lines bs) (onto_first b (lines bs))
 
--- b goes onto the first of the lines, and is no line where none follows
+-- prepends b to the first line; b is dropped if no line follows
 abbrev pub onto_first_whole : ℕ → List (List ℕ) → List (List ℕ)
 onto_first_whole b [] = []
 onto_first_whole b (l ∷ ls) = (b ∷ l) ∷ ls
@@ -25,7 +25,7 @@ whole_lines (b ∷ bs) = cond (b == 10) ([] ∷ whole_lines bs) (onto_first_whol
 abbrev pub line_len : List ℕ → ℕ
 line_len bytes = position_or_len (λ b. nat_eq b 10) bytes
 
--- what comes next in the bytes ahead
+-- the next line in the buffered bytes
 abbrev pub IsNext : Next → List ℕ → Type 0
 IsNext (next.Line n) bytes = (n ≡ line_len bytes) × (n < length bytes) × (n ≤ MAX_LINE_BYTES)
 IsNext next.TooLong bytes = MAX_LINE_BYTES < line_len bytes

@@ -1,6 +1,6 @@
 //! The limits of lines, and how much is read at once.
 
-/// The most bytes that are asked for at once: many lines, so that reads are few.
+/// The maximum number of bytes requested at once: many lines, so that reads are few.
 pub const INPUT_ROOM: usize = 65536;
 
 /// The most lines of an input.

@@ -1,4 +1,4 @@
-//! What comes next in bytes that are cut into lines: a whole line, none yet, or one that is too long whatever follows.
+//! The next line in bytes that are cut into lines: a whole line, none yet, or one that is too long whatever follows.
 
 ghost use Rattle.std.specs.Prelude.{◌≡◌, nat_eq, position};
 ghost use Rattle.esr_grammar.specs.Lines.{line_len, IsNext};
@@ -6,10 +6,10 @@ ghost use Rattle.esr_grammar.specs.Lines.{line_len, IsNext};
 use crate::limits::MAX_LINE_BYTES;
 use memchr::memchr;
 
-/// What comes next in the bytes ahead.
+/// The next line in the buffered bytes.
 #[derive(Clone, Copy)]
 pub enum Next {
-    /// A line of so many bytes, and a line feed.
+    /// A line of this many bytes, and a line feed.
     Line(usize),
     TooLong,
     /// No whole line yet.
@@ -22,7 +22,7 @@ fn find_line_feed(bytes: &[u8]) -> Option<usize>
     memchr(b'\n', bytes)
 }
 
-/// The count of bytes before the first line feed.
+/// Returns the number of bytes before the first line feed.
 #[tactic(auto, using(crate::proofs::Prefix::none_is_length))]
 fn line_len(bytes: &[u8]) -> usize
     ensures { result ≡ line_len bytes.now }
@@ -33,7 +33,7 @@ fn line_len(bytes: &[u8]) -> usize
     }
 }
 
-/// A whole line is next only where the bytes end it.
+/// Returns the next line; a whole line only if its line feed is in the buffer.
 pub fn next_line(bytes: &[u8]) -> Next
     ensures { IsNext result bytes.now }
 {

@@ -1,4 +1,4 @@
-//! The lines of a script: which command a line is, exactly where it is the one spelling of it.
+//! The lines of a script: parses a line as a command, exactly if it is the command's one spelling.
 //!
 //! A weight is a second form of the line `item`, and `strict` a second form of the line `begin`: each form has one
 //! spelling and one case in each definition, so no word is optional. Names are text of the line itself; nothing is
@@ -10,7 +10,7 @@ ghost use Rattle.esr_grammar.specs.Command.{Command, is_skipped, IsSyntaxOf, wor
 use crate::quick::quick;
 use crate::words::{cut_word, four_words, int, limit, name, one_word, three_words, two_words};
 
-/// A command, with its names as text of the line that spells it.
+/// A command, with its names as text of its line.
 #[derive(Clone, Copy)]
 pub enum Line<'a> {
     /// `item NAME INT`
@@ -66,17 +66,17 @@ pub enum Line<'a> {
     Totals,
 }
 
-/// What a line of a script is.
+/// The result of parsing a line of a script.
 #[derive(Clone, Copy)]
 pub enum Parsed<'a> {
     /// An empty line or a comment.
     Skipped,
-    /// A line that spells no command.
+    /// A line that is not a command.
     NotACommand,
     Command(Line<'a>),
 }
 
-/// Whether a line is empty or a comment.
+/// Returns whether a line is empty or a comment.
 fn is_skipped(line: &[u8]) -> bool
     ensures { result ≡ is_skipped line.now }
 {
@@ -177,7 +177,7 @@ fn write(words: &[u8]) -> Option<Line<'_>>
     Some(Line::Write { txn, item, value })
 }
 
-/// The command of the first word, where it has one name.
+/// Returns the command of the first word, if the command has one name.
 fn of_one_name<'a>(word: &[u8], words: &'a [u8]) -> Option<Line<'a>>
     ensures { option_map view result ≡ one_name_command word.now (words_of words.now) }
 {
@@ -203,7 +203,7 @@ fn totals(words: Option<&[u8]>) -> Option<Line<'static>>
     }
 }
 
-/// The command that the words of the line spell.
+/// Parses a line word by word.
 #[cold]
 #[inline(never)]
 fn by_words(line: &[u8]) -> Option<Line<'_>>
@@ -227,7 +227,7 @@ fn by_words(line: &[u8]) -> Option<Line<'_>>
     }
 }
 
-/// The command that the line spells.
+/// Parses a line as a command.
 #[inline(always)]
 fn command(line: &[u8]) -> Option<Line<'_>>
     ensures { option_map view result ≡ reading line.now }
@@ -238,14 +238,14 @@ fn command(line: &[u8]) -> Option<Line<'_>>
     }
 }
 
-/// What the line is. Allocates nothing.
+/// Parses a line. Allocates nothing.
 pub fn parse_line(line: &[u8]) -> Parsed<'_>
-    // Skipped exactly for a skipped line, a command exactly where the line spells it.
+    // Skipped exactly for a skipped line, a command exactly if the line is its text.
     ensures skipped { (result ≡ Parsed.Skipped) ↔ IsTrue (is_skipped line.now) }
     ensures read { IsReadingOf line.now result }
     ensures command { (c : Command) → (command_in result ≡ Some c) ↔ IsSyntaxOf line.now c }
 
-    // The reading of a line, and its spelling.
+    // Parsing a line, and the text of a command, are inverse.
     ensures law { (c : Command) → (reading line.now ≡ Some c) ↔ IsSyntaxOf line.now c }
 {
     if is_skipped(line) {

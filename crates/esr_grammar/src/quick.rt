@@ -1,7 +1,7 @@
-//! The lines that scripts have most of, read in one pass: the class of each byte is asked once.
+//! The most frequent lines of scripts, read in one pass: each byte is classified once.
 //!
-//! A command that is returned here is spelled by the line. If none is, the words of the line decide (`parse`), so
-//! nothing that a line may spell has to be found here.
+//! The line is the text of the returned command. If none is returned, the words of the line decide (`parse`), so this
+//! module need not recognize every line.
 
 ghost use Rattle.std.specs.Prelude.{◌≡◌, ◌∷◌, ◌++◌, IfSome, codes, not};
 ghost use Rattle.std.specs.List.{position};
@@ -11,7 +11,7 @@ use crate::parse::Line;
 use crate::words::{int, is_letter, is_name_byte, limit, name};
 use std::str::from_utf8_unchecked;
 
-/// The place of the first byte that no name has.
+/// Returns the index of the first byte that is not permitted in a name.
 #[inline(always)]
 fn name_end(bytes: &[u8]) -> Option<usize>
     ensures { result ≡ position (λ b. not (is_name_byte b)) bytes.now }
@@ -19,7 +19,7 @@ fn name_end(bytes: &[u8]) -> Option<usize>
     bytes.iter().position(|b| !is_name_byte(*b))
 }
 
-/// The name before the first blank, and what follows the blank.
+/// Returns the name before the first space, and the text after the space.
 #[inline(always)]
 fn front_name(bytes: &[u8]) -> Option<(&str, &[u8])>
     ensures { IfSome result (λ p. IsName p.0.now × (bytes.now ≡ p.0.now ++ 32 ∷ p.1.now)) }
@@ -42,7 +42,7 @@ fn front_name(bytes: &[u8]) -> Option<(&str, &[u8])>
     Some((name, &bytes[place + 1..]))
 }
 
-/// `write NAME NAME INT`, after its first word.
+/// Parses `write NAME NAME INT`, after its first word.
 #[inline(always)]
 fn write(words: &[u8]) -> Option<Line<'_>>
     ensures { IfSome result (λ line. IsSyntaxOf (codes "write " ++ words.now) (view line)) }
@@ -53,7 +53,7 @@ fn write(words: &[u8]) -> Option<Line<'_>>
     Some(Line::Write { txn, item, value })
 }
 
-/// `read NAME NAME`, after its first word.
+/// Parses `read NAME NAME`, after its first word.
 #[inline(always)]
 fn read(words: &[u8]) -> Option<Line<'_>>
     ensures { IfSome result (λ line. IsSyntaxOf (codes "read " ++ words.now) (view line)) }
@@ -63,7 +63,7 @@ fn read(words: &[u8]) -> Option<Line<'_>>
     Some(Line::Read { txn, item })
 }
 
-/// `commit NAME`, after its first word.
+/// Parses `commit NAME`, after its first word.
 #[inline(always)]
 fn commit(words: &[u8]) -> Option<Line<'_>>
     ensures { IfSome result (λ line. IsSyntaxOf (codes "commit " ++ words.now) (view line)) }
@@ -72,7 +72,7 @@ fn commit(words: &[u8]) -> Option<Line<'_>>
     Some(Line::Commit { txn })
 }
 
-/// `begin NAME update LIMIT`, by its name and its last word.
+/// Parses `begin NAME update LIMIT`, given its name and its last word.
 #[inline(always)]
 fn begin_update<'a>(name: &'a str, last: &[u8]) -> Option<Line<'a>>
     requires { IsName name.now }
@@ -82,7 +82,7 @@ fn begin_update<'a>(name: &'a str, last: &[u8]) -> Option<Line<'a>>
     Some(Line::BeginUpdate { name, limit })
 }
 
-/// `begin NAME query LIMIT`, by its name and its last word.
+/// Parses `begin NAME query LIMIT`, given its name and its last word.
 #[inline(always)]
 fn begin_query<'a>(name: &'a str, last: &[u8]) -> Option<Line<'a>>
     requires { IsName name.now }
@@ -92,7 +92,7 @@ fn begin_query<'a>(name: &'a str, last: &[u8]) -> Option<Line<'a>>
     Some(Line::BeginQuery { name, limit })
 }
 
-/// What follows `update` and a blank.
+/// Returns the text after `update` and a space.
 #[inline(always)]
 fn after_update(bytes: &[u8]) -> Option<&[u8]>
     ensures { IfSome result (λ last. bytes.now ≡ codes "update " ++ last.now) }
@@ -103,7 +103,7 @@ fn after_update(bytes: &[u8]) -> Option<&[u8]>
     }
 }
 
-/// What follows `query` and a blank.
+/// Returns the text after `query` and a space.
 #[inline(always)]
 fn after_query(bytes: &[u8]) -> Option<&[u8]>
     ensures { IfSome result (λ last. bytes.now ≡ codes "query " ++ last.now) }
@@ -114,7 +114,7 @@ fn after_query(bytes: &[u8]) -> Option<&[u8]>
     }
 }
 
-/// The begin, by its name and the text that follows the blank after it.
+/// Parses a begin, given its name and the text after the next space.
 #[inline(always)]
 fn begin_kind<'a>(name: &'a str, more: &[u8]) -> Option<Line<'a>>
     requires { IsName name.now }
@@ -126,7 +126,7 @@ fn begin_kind<'a>(name: &'a str, more: &[u8]) -> Option<Line<'a>>
     }
 }
 
-/// `begin NAME update LIMIT` and `begin NAME query LIMIT`, after the first word.
+/// Parses `begin NAME update LIMIT` and `begin NAME query LIMIT`, after the first word.
 #[inline(always)]
 fn begin(words: &[u8]) -> Option<Line<'_>>
     ensures { IfSome result (λ line. IsSyntaxOf (codes "begin " ++ words.now) (view line)) }
@@ -135,7 +135,7 @@ fn begin(words: &[u8]) -> Option<Line<'_>>
     begin_kind(name, more)
 }
 
-/// The command, where the line is one of these that spells it.
+/// Returns the command, if the line is one of the frequent commands above.
 #[inline(always)]
 pub fn quick(line: &[u8]) -> Option<Line<'_>>
     ensures { IfSome result (λ found. IsSyntaxOf line.now (view found)) }

@@ -18,7 +18,7 @@ fn find_space(bytes: &[u8]) -> Option<usize>
     bytes.iter().position(|b| *b == b' ')
 }
 
-/// The first word, and what follows the blank after it.
+/// Returns the first word, and the text after the space that follows it.
 #[tactic(auto, using(crate::proofs::Spaces::no_space, crate::proofs::Spaces::at_space))]
 pub fn cut_word(bytes: &[u8]) -> (&[u8], Option<&[u8]>)
     ensures { words_of bytes.now ≡ result.0.now ∷ words_after result.1 }
@@ -29,7 +29,7 @@ pub fn cut_word(bytes: &[u8]) -> (&[u8], Option<&[u8]>)
     }
 }
 
-/// The word, where there is one.
+/// Returns the word, if there is exactly one.
 pub fn one_word(bytes: &[u8]) -> Option<&[u8]>
     ensures { option_map (λ w. w.now) result ≡ one_of (words_of bytes.now) }
 {
@@ -39,7 +39,7 @@ pub fn one_word(bytes: &[u8]) -> Option<&[u8]>
     }
 }
 
-/// The words, where there are two.
+/// Returns the words, if there are exactly two.
 pub fn two_words(bytes: &[u8]) -> Option<(&[u8], &[u8])>
     ensures { option_map (λ p. (p.0.now, p.1.now)) result ≡ two_of (words_of bytes.now) }
 {
@@ -48,7 +48,7 @@ pub fn two_words(bytes: &[u8]) -> Option<(&[u8], &[u8])>
     Some((first, second))
 }
 
-/// The words, where there are three.
+/// Returns the words, if there are exactly three.
 pub fn three_words(bytes: &[u8]) -> Option<(&[u8], &[u8], &[u8])>
     ensures { option_map (λ p. (p.0.now, p.1.now, p.2.now)) result ≡ three_of (words_of bytes.now) }
 {
@@ -57,7 +57,7 @@ pub fn three_words(bytes: &[u8]) -> Option<(&[u8], &[u8], &[u8])>
     Some((first, second, third))
 }
 
-/// The words, where there are four.
+/// Returns the words, if there are exactly four.
 pub fn four_words(bytes: &[u8]) -> Option<(&[u8], &[u8], &[u8], &[u8])>
     ensures { option_map (λ p. (p.0.now, p.1.now, p.2.now, p.3.now)) result ≡ four_of (words_of bytes.now) }
 {
@@ -66,7 +66,7 @@ pub fn four_words(bytes: &[u8]) -> Option<(&[u8], &[u8], &[u8], &[u8])>
     Some((first, second, third, fourth))
 }
 
-/// Whether a name may begin with the byte.
+/// Returns whether a name may begin with the byte.
 pub fn is_letter(byte: u8) -> bool
     ensures { result ≡ is_letter byte }
 {
@@ -103,7 +103,7 @@ fn name_bytes() -> &'static [bool; 256]
     &NAME_BYTES
 }
 
-/// Whether a name may have the byte.
+/// Returns whether a name may contain the byte.
 #[inline(always)]
 pub fn is_name_byte(byte: u8) -> bool
     ensures { result ≡ is_name_byte byte }
@@ -128,7 +128,7 @@ fn is_name(text: &[u8]) -> bool
     }
 }
 
-/// The name that the word is.
+/// Returns the word as a name, if it is valid.
 #[inline(always)]
 pub fn name(word: &[u8]) -> Option<&str>
     ensures { option_map (λ name. name.now) result ≡ name_of word.now }
@@ -140,7 +140,7 @@ pub fn name(word: &[u8]) -> Option<&str>
     Some(unsafe { from_utf8_unchecked(word) })
 }
 
-/// The value of up to 19 digits.
+/// Returns the value of up to 19 digits.
 #[tactic(auto, using(crate::proofs::Laws::no_digit))]
 fn digits_value(digits: &[u8]) -> Option<u64>
     requires { length digits.now ≤ 19 }
@@ -158,7 +158,7 @@ fn digits_value(digits: &[u8]) -> Option<u64>
     Some(value)
 }
 
-/// The limit of which the word is the decimal form: digits with no zero in front of others.
+/// Returns the limit with this decimal form: digits without leading zeros.
 #[tactic(auto, using(crate::proofs::Laws::too_long, crate::proofs::Laws::empty_word, crate::proofs::Laws::zero_alone, crate::proofs::Laws::zero_in_front))]
 pub fn limit(word: &[u8]) -> Option<u64>
     ensures { result ≡ limit_in word.now }
@@ -173,7 +173,7 @@ pub fn limit(word: &[u8]) -> Option<u64>
     }
 }
 
-/// The number of up to 18 digits of which the word is the decimal form.
+/// Returns the number of up to 18 digits with this decimal form.
 fn magnitude(word: &[u8]) -> Option<u64>
     ensures { result ≡ number_below INT_END word.now }
 {
@@ -181,7 +181,7 @@ fn magnitude(word: &[u8]) -> Option<u64>
     if number < INT_END { Some(number) } else { None }
 }
 
-/// The whole number of which the word is the decimal form.
+/// Returns the integer with this decimal form.
 pub fn int(word: &[u8]) -> Option<i64>
     ensures { result ≡ int_of word.now }
 {

@@ -1,1 +1,1 @@
--- Nothing: what is told of a faulty line is advice, which no contract speaks of.
+-- Empty: the text about a faulty line is advice, and no contract specifies it.

@@ -1,19 +1,19 @@
-//! What is wrong with a line, by what a script answered to it.
+//! The fault of a line, from a script's reply to it.
 
 use crate::reason::{Diagnosis, Shown, find_reason};
 use std::fmt;
 
-/// A line at fault.
+/// A line with a fault.
 #[derive(Clone, Copy)]
 pub enum FaultyLine<'a> {
-    /// It spells no command.
+    /// The line is not a command.
     NoCommand(Diagnosis<'a>),
-    /// It was answered by an error or a refusal, in these words.
+    /// The reply, an error or a refusal with this text.
     Answered { line: &'a [u8], answer: &'a [u8] },
 }
 
 impl FaultyLine<'_> {
-    /// The column that it is about, from 1.
+    /// Returns the column of the fault, from 1.
     pub fn column(&self) -> usize {
         match self {
             FaultyLine::NoCommand(finding) => finding.column,
@@ -22,19 +22,19 @@ impl FaultyLine<'_> {
     }
 }
 
-/// Whether an answer is this word and a number. The answer to a read begins with the name of its transaction, which may
-/// be that word; but behind it stands the name of an item, which begins with a letter.
+/// Returns whether a reply is this word and a number. The reply to a read begins with the name of its transaction,
+/// which may be that word; but the name of an item follows it, and begins with a letter.
 fn is_numbered(answer: &[u8], word: &[u8]) -> bool {
     let following = answer.get(word.len()).copied().unwrap_or(0);
     answer.starts_with(word) && following.is_ascii_digit()
 }
 
-/// Whether a line was answered by an error.
+/// Returns whether the reply to a line is an error.
 pub fn is_error(answer: &[u8]) -> bool {
     is_numbered(answer, b"error ")
 }
 
-/// The fault of a line that was answered by an error.
+/// Returns the fault of a line, if the reply is an error.
 pub fn fault_of<'a>(line: &'a [u8], answer: &'a [u8]) -> Option<FaultyLine<'a>> {
     if !is_error(answer) {
         return None;
@@ -45,8 +45,8 @@ pub fn fault_of<'a>(line: &'a [u8], answer: &'a [u8]) -> Option<FaultyLine<'a>> 
     Some(FaultyLine::Answered { line, answer })
 }
 
-/// The same, or that of a line that was refused whatever else comes: by 1 to 8, which are mistakes, and not by a lock
-/// or a limit, which may let it pass later.
+/// Returns the fault of a line, if the reply is an error or a refusal with a number from 1 to 8. These are mistakes,
+/// whatever follows; a line blocked by a lock or a limit may be accepted later.
 pub fn mistake_of<'a>(line: &'a [u8], answer: &'a [u8]) -> Option<FaultyLine<'a>> {
     if is_numbered(answer, b"refused ") {
         return Some(FaultyLine::Answered { line, answer });
@@ -54,7 +54,7 @@ pub fn mistake_of<'a>(line: &'a [u8], answer: &'a [u8]) -> Option<FaultyLine<'a>
     fault_of(line, answer)
 }
 
-/// What is meant by the number of an error or a refusal, where its words leave something open.
+/// Returns an explanation of an error or a refusal, if its own text is incomplete.
 fn hint_of(answer: &[u8]) -> &'static str {
     if answer.starts_with(b"error 2 ") {
         ": items must be declared before all other lines"

@@ -1,6 +1,6 @@
-//! The forms of a script's lines, as a table: what each has to have, word for word.
+//! The forms of a script's lines, as a table: the required words of each.
 
-/// What one word of a line has to be.
+/// The form of one word of a line.
 #[derive(Clone, Copy)]
 pub enum Slot {
     Name,
@@ -8,13 +8,13 @@ pub enum Slot {
     Limit,
     /// `update` or `query`
     Kind,
-    /// `weight`, which may be left out with what is behind it.
+    /// `weight`, which may be omitted together with the number after it.
     Weight,
     /// `strict`, which may be left out.
     Strict,
 }
 
-/// A command's first word, the words that follow, and how it is written.
+/// A command's first word, its other words, and its syntax as text.
 #[derive(Clone, Copy)]
 pub struct CommandSyntax {
     pub word: &'static str,
@@ -69,7 +69,7 @@ static WORDS: [&str; 8] = [
     "item", "begin", "read", "write", "commit", "abort", "audit", "totals",
 ];
 
-/// The form of the command that begins with the word.
+/// Returns the form of the command that begins with the word.
 pub fn form_of(word: &[u8]) -> Option<CommandSyntax> {
     for form in &FORMS {
         if form.word.as_bytes() == word {
@@ -79,7 +79,7 @@ pub fn form_of(word: &[u8]) -> Option<CommandSyntax> {
     None
 }
 
-/// The first words of all commands.
+/// Returns the first words of all commands.
 pub fn first_words() -> &'static [&'static str] {
     &WORDS
 }

@@ -3,7 +3,7 @@
 use crate::observer::{Observer, TxnSummary};
 use std::alloc::Global;
 
-/// Keeps the line that it was shown last, for whom shows one line alone.
+/// Keeps the line that it was shown last, for a caller that shows a single line.
 #[derive(Drop)]
 pub struct KeptLine {
     line: Vec<u8>,
@@ -16,7 +16,7 @@ impl KeptLine {
         }
     }
 
-    /// The line: empty where none was shown, or there was no memory for it.
+    /// Returns the line: empty if none was shown, or its allocation failed.
     pub fn line(&self) -> &[u8] {
         &self.line
     }

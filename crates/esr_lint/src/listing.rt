@@ -7,20 +7,21 @@ use std::alloc::Global;
 use std::fmt::{Display, Write as _};
 use std::io::Write;
 
-/// How many bytes are written at once.
+/// The number of bytes written at once.
 const ROOM: usize = 32768;
 
-/// Lists the lines at fault, the refusals that are mistakes, and the transactions that are still active.
+/// Lists the lines with faults, the refusals that are mistakes, and the transactions that are still active.
 #[derive(Drop)]
 pub struct Listing<'a, W> {
     writer: W,
     source: Source<'a>,
     text: String,
-    /// How many bytes of the text are whole lines: more only where there was no memory for the rest of one.
+    /// The length of the text's complete lines in bytes: the text is longer only if an allocation failed within a
+    /// line.
     whole: usize,
     lines: u64,
     count: u64,
-    /// Nothing is listed behind what could not be.
+    /// The first failure; after it, nothing is listed.
     failed: Option<Unlisted>,
 }
 
@@ -61,12 +62,12 @@ impl<'a, W: Write> Listing<'a, W> {
         self.note(listed);
     }
 
-    /// How much was listed.
+    /// Returns the number of listed items.
     pub fn count(&self) -> u64 {
         self.count
     }
 
-    /// The line after the last one that was answered.
+    /// Returns the number of the line after the last one executed.
     pub fn next_line(&self) -> u64 {
         self.lines.saturating_add(1)
     }
@@ -74,7 +75,7 @@ impl<'a, W: Write> Listing<'a, W> {
     /// Writes the rest of the list.
     ///
     /// # Errors
-    /// Why something of the list was not written, whatever came first.
+    /// The first reason why something of the list was not written.
     pub fn finish(&mut self) -> Result<(), Unlisted> {
         self.send();
         match self.failed {
@@ -99,7 +100,7 @@ impl<'a, W: Write> Listing<'a, W> {
         self.whole = 0;
     }
 
-    /// Counts what is listed, and notes whether there was memory for it.
+    /// Counts a listed item, and notes whether its allocation succeeded.
     fn note(&mut self, listed: bool) {
         self.count = self.count.saturating_add(1);
         if listed {

@@ -1,7 +1,7 @@
-//! Which word may have been meant: one that is the same but for its case, or for one letter that is missing, too many,
-//! or another, or for two that changed places.
+//! Finds the word that may have been meant: one that differs only in case, or in one letter that is missing, extra or
+//! different, or in two letters that are transposed.
 
-/// How many bytes both begin with.
+/// Returns the length of the common prefix, in bytes.
 fn common_front(left: &[u8], right: &[u8]) -> usize {
     left.iter()
         .zip(right.iter())
@@ -9,7 +9,7 @@ fn common_front(left: &[u8], right: &[u8]) -> usize {
         .count()
 }
 
-/// How many bytes both end with.
+/// Returns the length of the common suffix, in bytes.
 fn common_back(left: &[u8], right: &[u8]) -> usize {
     left.iter()
         .rev()
@@ -18,14 +18,14 @@ fn common_back(left: &[u8], right: &[u8]) -> usize {
         .count()
 }
 
-/// What is between the bytes that both begin and both end with.
+/// Returns the bytes between the common prefix and the common suffix.
 fn middle(text: &[u8], front: usize, back: usize) -> &[u8] {
     let following = text.get(front..).unwrap_or(&[]);
     let length = following.len().saturating_sub(back);
     following.get(..length).unwrap_or(&[])
 }
 
-/// Whether one may stand for the other by a slip of the hand.
+/// Returns whether the words differ by a slip of the hand at most.
 fn is_near(word: &[u8], meant: &[u8]) -> bool {
     if word.eq_ignore_ascii_case(meant) {
         return true;
@@ -42,7 +42,7 @@ fn is_near(word: &[u8], meant: &[u8]) -> bool {
     }
 }
 
-/// The first of the words that may have been meant.
+/// Returns the first listed word that may have been meant.
 pub fn nearest(word: &[u8], words: &[&'static str]) -> Option<&'static str> {
     for meant in words {
         if is_near(word, meant.as_bytes()) {

@@ -1,7 +1,8 @@
 //! Keeps the first lines with errors, for a page or a picture of the script.
 //!
 //! The observer writes the notes while the script runs, and the page reads them afterwards, so both hold a shared
-//! reference. Rejected: passing them through `ScriptView` and `QueryView`, whose contracts speak of the final state alone.
+//! reference. Rejected: passing them through `ScriptView` and `QueryView`, whose contracts cover the final state
+//! alone.
 
 use std::alloc::{AllocError, Global};
 use std::cell::{Cell, RefCell};

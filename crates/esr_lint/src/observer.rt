@@ -1,4 +1,4 @@
-//! Who looks on while the lines of a script are answered.
+//! Observers of the lines of a script and their replies.
 
 /// Whether and how a transaction ended.
 #[derive(Clone, Copy, PartialEq, Eq)]
@@ -8,23 +8,24 @@ pub enum TxnEnd {
     Aborted,
 }
 
-/// What became of a transaction.
+/// The kind and the status of a transaction.
 #[derive(Clone, Copy)]
 pub struct TxnSummary {
     pub is_query: bool,
     pub end: TxnEnd,
 }
 
-/// Looks on while the lines of a script are answered. Nothing is promised of it but that it returns.
+/// Observes the lines of a script while they are executed. Its only promise is to return.
 pub trait Observer {
-    /// A line by its number, from 1, without its line feed, and what is answered: nothing to a line that is skipped.
+    /// Receives a line with its number, from 1, without its line feed, and the reply: empty for a line that is
+    /// skipped.
     fn see_line(&mut self, number: u64, line: &[u8], answer: &[u8]);
 
-    /// Receives a transaction after the last line, in the order of the begins. They are shown before a text of the
-    /// whole script is made, if a query that was asked for is not a committed one, and at the end of a listing.
+    /// Receives a transaction after the last line, in the order of the begins. Transactions are shown before a text
+    /// of the whole script is made, if the requested query is not a committed one, and at the end of a listing.
     fn see_transaction(&mut self, name: &str, status: TxnSummary);
 
-    /// No more lines come. What the script leads to is not written yet.
+    /// Ends the lines. The final state of the script is not written yet.
     fn see_end(&mut self);
 }
 

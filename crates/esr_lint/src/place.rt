@@ -1,4 +1,4 @@
-//! Where something is: in the file that was named, or in standard input.
+//! The place of a message: in a named file, or in standard input.
 
 use std::fmt;
 
@@ -7,13 +7,13 @@ use std::fmt;
 pub struct Source<'a>(pub Option<&'a str>);
 
 impl<'a> Source<'a> {
-    /// A line of it.
+    /// Returns the place of a line in the source.
     pub fn line(self, line: u64) -> Place<'a> {
         Place { source: self, line }
     }
 }
 
-/// `FILE: ` before what is said of the whole of it, and nothing of standard input.
+/// Writes `FILE: ` before a message about a whole file, and nothing for standard input.
 impl fmt::Display for Source<'_> {
     fn fmt<W: fmt::Write>(&self, f: &mut fmt::Formatter<W>) -> fmt::Result {
         match self.0 {

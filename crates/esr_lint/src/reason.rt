@@ -1,15 +1,14 @@
-//! Why a line is no command, as far as that can be guessed from its bytes.
+//! The reason why a line is not a command, as far as its bytes show it.
 //!
-//! First what is wrong with the bytes, wherever it is: line ends, marks and blanks of other programs, which make every
-//! line of a file a faulty one; then the words, from left to right, beside the form that the first one asks for. The
-//! reading of lines itself knows no reasons: it has one spelling for each command, and says no more than that a line
-//! has another.
+//! The bytes are checked first: line ends, marks and spaces of other programs, which affect every line of a file;
+//! then the words, from left to right, against the form of the first one. The parser itself reports no reasons: each
+//! command has one spelling, and the parser only rejects all others.
 
 use crate::forms::{CommandSyntax, Slot, first_words, form_of};
 use crate::near::nearest;
 use std::fmt;
 
-/// What is wrong with a number.
+/// The faults of a number.
 #[derive(Clone, Copy)]
 pub enum NumberFault {
     Plus,
@@ -22,7 +21,7 @@ pub enum NumberFault {
     NoNumber,
 }
 
-/// Why a line is no command.
+/// The reason why a line is not a command.
 #[derive(Clone, Copy)]
 pub enum Reason<'a> {
     ByteOrderMark,
@@ -70,7 +69,7 @@ fn encoding_fault(line: &[u8]) -> Option<Reason<'_>> {
     }
 }
 
-/// What is wrong with the blanks between words.
+/// Returns the fault of the spaces between words.
 fn space_fault(line: &[u8]) -> Option<Diagnosis<'_>> {
     let mut before = b' ';
     let mut column = 1usize;
@@ -96,7 +95,7 @@ fn space_fault(line: &[u8]) -> Option<Diagnosis<'_>> {
     None
 }
 
-/// What is wrong with the bytes of a line, whatever its words are.
+/// Returns the fault of the bytes of a line, whatever its words are.
 fn byte_fault(line: &[u8]) -> Option<Diagnosis<'_>> {
     if let Some(reason) = encoding_fault(line) {
         return Some(Diagnosis { column: 1, reason });
@@ -111,7 +110,7 @@ fn byte_fault(line: &[u8]) -> Option<Diagnosis<'_>> {
     odd_byte(line)
 }
 
-/// The first byte that no command has.
+/// Returns the first byte that no command contains.
 fn odd_byte(line: &[u8]) -> Option<Diagnosis<'_>> {
     let mut column = 1usize;
     for byte in line {
@@ -131,7 +130,7 @@ fn odd_byte(line: &[u8]) -> Option<Diagnosis<'_>> {
     None
 }
 
-/// What is wrong with a name.
+/// Returns the fault of a name.
 fn name_fault(word: &[u8]) -> Option<Reason<'_>> {
     let first = *word.first()?;
     if !first.is_ascii_alphabetic() {
@@ -149,7 +148,7 @@ fn name_fault(word: &[u8]) -> Option<Reason<'_>> {
     }
 }
 
-/// What is wrong with digits, of which there may be so many.
+/// Returns the fault of digits, of which at most `most` are permitted.
 fn digits_fault(digits: &[u8], most: usize) -> Option<NumberFault> {
     if digits.is_empty() {
         return Some(NumberFault::NoNumber);
@@ -171,7 +170,7 @@ fn digits_fault(digits: &[u8], most: usize) -> Option<NumberFault> {
     }
 }
 
-/// What is wrong with a value.
+/// Returns the fault of a value.
 fn value_fault(word: &[u8]) -> Option<NumberFault> {
     match word {
         [b'+', ..] => Some(NumberFault::Plus),
@@ -181,7 +180,7 @@ fn value_fault(word: &[u8]) -> Option<NumberFault> {
     }
 }
 
-/// What is wrong with a limit.
+/// Returns the fault of a limit.
 fn limit_fault(word: &[u8]) -> Option<NumberFault> {
     match word {
         [b'+', ..] => Some(NumberFault::Plus),
@@ -190,7 +189,7 @@ fn limit_fault(word: &[u8]) -> Option<NumberFault> {
     }
 }
 
-/// The words that may stand in a slot, where it is for words of its own.
+/// Returns the keywords permitted in a slot, if it requires a keyword.
 fn keywords(slot: Slot) -> &'static [&'static str] {
     match slot {
         Slot::Kind => &["update", "query"],
@@ -200,7 +199,7 @@ fn keywords(slot: Slot) -> &'static [&'static str] {
     }
 }
 
-/// What is wrong with a word that has to be one of those of the slot.
+/// Returns the fault of a word that must be one of the slot's keywords.
 fn keyword_fault<'a>(slot: Slot, word: &'a [u8]) -> Option<Reason<'a>> {
     for meant in keywords(slot) {
         if word == meant.as_bytes() {
@@ -210,7 +209,7 @@ fn keyword_fault<'a>(slot: Slot, word: &'a [u8]) -> Option<Reason<'a>> {
     Some(Reason::Keyword { word, slot })
 }
 
-/// What is wrong with the word that stands in the slot.
+/// Returns the fault of the word in the slot.
 fn slot_fault<'a>(slot: Slot, word: &'a [u8]) -> Option<Reason<'a>> {
     match slot {
         Slot::Name => name_fault(word),
@@ -226,7 +225,7 @@ fn slot_fault<'a>(slot: Slot, word: &'a [u8]) -> Option<Reason<'a>> {
     }
 }
 
-/// What is wrong with the words behind the first one.
+/// Returns the fault of the words after the first one.
 fn words_fault<'a>(words: &'a [u8], form: CommandSyntax) -> Diagnosis<'a> {
     let mut column = form.word.len().saturating_add(2);
     let mut last = column;
@@ -268,7 +267,7 @@ fn words_fault<'a>(words: &'a [u8], form: CommandSyntax) -> Diagnosis<'a> {
     }
 }
 
-/// What is wrong with the words of a line.
+/// Returns the first fault of a line, word by word.
 fn line_fault(line: &[u8]) -> Diagnosis<'_> {
     let end = line.iter().position(|b| *b == b' ').unwrap_or(line.len());
     let word = line.get(..end).unwrap_or(line);
@@ -305,7 +304,7 @@ fn line_fault(line: &[u8]) -> Diagnosis<'_> {
     }
 }
 
-/// Why a line that is no command is none.
+/// Returns the reason why a line is not a command.
 pub fn find_reason(line: &[u8]) -> Diagnosis<'_> {
     if let Some(finding) = byte_fault(line) {
         return finding;
@@ -319,7 +318,7 @@ pub fn find_reason(line: &[u8]) -> Diagnosis<'_> {
 /// The most bytes that are shown.
 const SHOWN: usize = 40;
 
-/// Bytes of an input, so that whatever they are the text stays one line of plain letters.
+/// Shows bytes of an input as one line of printable ASCII.
 #[derive(Clone, Copy)]
 pub struct Shown<'a>(pub &'a [u8]);
 
@@ -383,7 +382,7 @@ fn push_hint<W: fmt::Write>(
     }
 }
 
-/// What is wrong with a name, or with a word that has to be one of some.
+/// Writes the fault of a name, or of a keyword.
 fn push_word<W: fmt::Write>(f: &mut fmt::Formatter<W>, reason: Reason<'_>) -> fmt::Result {
     match reason {
         Reason::UnknownCommand(word) => {

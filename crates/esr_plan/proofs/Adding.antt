@@ -163,7 +163,7 @@ session_opened d done fresh since sound now resolves few none is =
     with_opened : (blocks : List (List Command)) → length blocks < 64 → with_session (plan d.names d.values.items d.weights.items blocks) ≡ Ok (plan d.names d.values.items d.weights.items (blocks ++ [] ∷ []))
     with_opened blocks few = let less : nat_eq (length blocks) 64 ≡ false = grind (arith, nat_tests) in rw less refl
 
--- the blocks that are done, where one is open, with it
+-- the completed blocks, with the open one if there is one
 pub done_with : (d : Draft) (done : Vec (Vec Call Global) Global) (block : Vec Call Global) → IsSound d → d.current ≡ Some block → done.items ≡ d.done.items ++ block ∷ []
     → (blocks_of d ≡ map (λ b. commands_in b.items) done.items) × All (λ b. AreResolved d.names b.items) done.items
 done_with d done block sound is more = (
@@ -179,7 +179,7 @@ done_alone d done sound is same = (
   subst (λ (l : List (Vec Call Global)). All (λ b. AreResolved d.names b.items) l) (sym same) sound.done_resolved,
 )
 
--- no block is done where none is open
+-- no block is complete if none is open
 pub none_done : (d : Draft) → IsSound d → d.current ≡ None → d.done.items ≡ []
 none_done d sound is = subst (λ (o : Option (Vec Call Global)). elim o as (λ x. Type 0) [ Some block ↦ Unit {0} | None ↦ d.done.items ≡ [] ]) is sound.opened
 
@@ -250,7 +250,7 @@ plan_made d blocks sound is = (
   },
 )
 
--- ---- a draft whose open block was put with the others
+-- ---- a draft whose open block was added to the others
 
 pub record Opens (d m : Draft) : Type 0 where
   pub same : m ≡ record d { done = m.done; current = None }

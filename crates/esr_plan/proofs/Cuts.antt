@@ -94,7 +94,7 @@ mark_line bytes start count len at found few short rest =
     ap (λ n. drop (n + 1) tail) is.1 ∙ (drop-drop (len + 1) start bytes ∙ ap (λ n. drop n bytes) (omega arith)) in
     at rest ∙ (cut_more count (lines (tail ++ rest)) (lines (after_front tail ++ rest)) (front tail) cut few size ∙ ap (λ l. cut_fault (count + 1) (lines (l ++ rest))) following)
 
--- a line at fault, whatever follows
+-- a line with a fault, whatever follows
 pub mark_fault : (bytes : List ℕ) (start count len : ℕ) (e : DriveFault) → At bytes start count → 0 < length (drop start bytes) → len ≡ line_len (drop start bytes)
     → IsLineFault count len e → (rest : List ℕ) → cut_fault 0 (lines (bytes ++ rest)) ≡ Some e
 mark_fault bytes start count len e at some is bad rest = at rest ∙ by e bad

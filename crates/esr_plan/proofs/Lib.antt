@@ -1,4 +1,4 @@
--- Why a file that is read line by line gives the plan that it asks for, and the text is that of the plan's history.
+-- A file that is read line by line leads to its plan, and the text is that of the plan's history.
 
 pub mod Cuts
 pub mod Placing

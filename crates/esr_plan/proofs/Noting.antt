@@ -12,7 +12,7 @@ use Rattle.esr_plan.specs.Calls.{answers_of, AreAnswered, all_answers, Call}
 use Rattle.esr_plan.specs.Text.{has_begun, name_begun}
 use Rattle.esr_plan.specs.Tables.{answered, with_number, with_begun, noted}
 
--- ---- the names that the lines give
+-- ---- the names that the lines bind
 
 noted-append : (a b : List Answered) (names : List (List ℕ)) → noted (a ++ b) names ≡ noted a (noted b names)
 noted-append [] b names = refl

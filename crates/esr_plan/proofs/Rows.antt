@@ -1,4 +1,4 @@
--- Drive files with what they ask for.
+-- Drive files with their plans.
 use Rattle.std.proofs.Common.{◌≡◌, refl, List, [], ◌∷◌, Result, Ok, Err, Some, None, codes, pos, negsuc}
 use Rattle.std.specs.Fmt.{digits}
 use Rattle.esr_grammar.specs.Command.{Command, begin_update, begin_query, read, write, commit}

@@ -18,7 +18,7 @@ pub record Answered : Type 0 where
   pub command : Command
   pub reply : Reply
 
--- the number that a reply gives a transaction
+-- the number that a begin got, from its reply
 abbrev pub number_in : Reply → Option ℕ
 number_in (Begun number) = Some number.0
 number_in _ = None
@@ -32,11 +32,11 @@ number_got earlier name =
     option_and_then (λ place. option_and_then (λ a. number_in a.reply) (slice_get earlier place))
     (position (λ a. begins name a.command) earlier)
 
--- a transaction's name stands for that number, and for 0 where there is none
+-- the number of a transaction's name, and 0 if it has none
 abbrev pub transaction_called : List Answered → List ℕ → TxnId
 transaction_called earlier name = record { 0 = unwrap_or (number_got earlier name) 0 }
 
--- items are numbered from 0; a name that is not declared stands for a number that no item has
+-- items are numbered from 0; an undeclared name denotes a number that no item has
 abbrev pub item_called : List (List ℕ) → List ℕ → ItemId
 item_called names name = record { 0 = unwrap_or (position_of names name) MAX_ITEMS }
 
@@ -52,7 +52,7 @@ event_of names earlier (commit txn) = Some (event.Commit (transaction_called ear
 event_of names earlier (abort txn) = Some (event.Abort (transaction_called earlier txn))
 event_of names earlier _ = None
 
--- The receipts of one command: its event was given again while it was blocked, at most 100 times in all.
+-- The receipts of one command: its event was retried while it was blocked, at most 100 times in all.
 pub record IsRun (e : Event) (reply : Reply) (run : List Receipt) : Type 0 where
   pub blocked : List Receipt
   pub last : Receipt
@@ -77,6 +77,6 @@ AreBlocks names [] [] = Unit {0}
 AreBlocks names (b ∷ blocks) (rs ∷ lists) = AreRuns names b rs × AreBlocks names blocks lists
 AreBlocks names _ _ = ⊥
 
--- the commands that were answered
+-- the commands with a reply
 abbrev pub commands_of : List Answered → List Command
 commands_of answers = map (λ a. a.command) answers

@@ -49,7 +49,7 @@ AreAnswered [] [] = Unit {0}
 AreAnswered (b ∷ blocks) (r ∷ replies) = (length r ≡ length b) × AreAnswered blocks replies
 AreAnswered _ _ = ⊥
 
--- the number that the begin at that place got, and 0 where there is none
+-- the number that the begin at that place got, and 0 if it got none
 abbrev pub number_by : List Reply → Option ℕ → TxnId
 number_by replies begin =
     record { 0 = unwrap_or (option_and_then (λ place. option_and_then number_in (slice_get replies place)) begin) 0 }
@@ -62,7 +62,7 @@ event_by replies (call.Write txn x value) = event.Write (number_by replies txn.b
 event_by replies (call.Commit txn) = event.Commit (number_by replies txn.begin)
 event_by replies (call.Abort txn) = event.Abort (number_by replies txn.begin)
 
--- where the name's begin is among the calls
+-- the place of the name's begin among the calls
 abbrev pub place_of : List Call → List ℕ → Option ℕ
 place_of calls name = position (λ c. begins name (command_of c)) calls
 
@@ -74,7 +74,7 @@ IsCaller earlier txn = txn.begin ≡ place_of earlier txn.name.now
 abbrev pub IsOperand : List (List ℕ) → Operand → Type 0
 IsOperand names x = x.item ≡ item_called names x.name.now
 
--- the transaction that a call names, where it begins none, and its item
+-- the transaction that a call names, unless the call is a begin, and its item
 abbrev pub caller_of : Call → Option Caller
 caller_of (call.Begin name k limit) = None
 caller_of (call.Read txn x) = Some txn

@@ -29,7 +29,7 @@ blocks_of d = blocks_with (map (λ b. commands_in b.items) d.done.items) (curren
 abbrev pub plan_in : Draft → Plan
 plan_in d = record { names = d.names; values = d.values.items; weights = d.weights.items; blocks = blocks_of d }
 
--- where no block is open, none was done
+-- if no block is open, none is complete
 abbrev pub IsOpened : Draft → Type 0
 IsOpened d = elim d.current [ Some block ↦ Unit {0} | None ↦ d.done.items ≡ [] ]
 
@@ -37,7 +37,7 @@ IsOpened d = elim d.current [ Some block ↦ Unit {0} | None ↦ d.done.items �
 abbrev pub current_calls : Draft → List Call
 current_calls d = elim d.current [ Some block ↦ block.items | None ↦ [] ]
 
--- the place of the begin with that number, where it is none of the earlier ones
+-- the place of the begin with that number, unless it is one of the earlier ones
 abbrev pub place_since : ℕ → List ℕ → Option ℕ → Option ℕ
 place_since earlier places None = None
 place_since earlier places (Some number) = if nat_lt number earlier then None else slice_get places number
@@ -47,7 +47,7 @@ abbrev pub ArePlaces : List Call → ℕ → List ℕ → List (List ℕ) → Ty
 ArePlaces calls earlier places begun =
     (name : List ℕ) → place_of calls name ≡ place_since earlier places (position_of begun name)
 
--- what is kept beside the plan agrees with it
+-- the data kept alongside the plan agrees with it
 pub record IsSound (d : Draft) : Type 0 where
   pub begun : d.begun ≡ new_names (blocks_of d)
   pub values : length d.values.items ≡ length d.names
@@ -63,7 +63,7 @@ pub record IsSound (d : Draft) : Type 0 where
   pub resolved : AreResolved d.names (current_calls d)
   pub done_resolved : All (λ b. AreResolved d.names b.items) d.done.items
 
--- what is wrong with a line, if it is the line
+-- the error is that of a line, or out of memory
 abbrev pub IsPlanError : Result Plan ℕ → PlanError → Type 0
 IsPlanError planned (wrong.Line error) = planned ≡ Err error
 IsPlanError planned wrong.NoMemory = Unit {0}

@@ -1,4 +1,4 @@
--- What a drive file asks for, or the fault of the line at fault.
+-- The plan of a drive file, or the first line with a fault.
 use Rattle.std.specs.Prelude.{ℕ, ◌+◌, ◌==◌, ℤ, List, [], ◌∷◌, ◌++◌, not, nat_lt, nat_eq, Option, Some, None, Result, Ok, Err, length, map, codes, unwrap_or, if◌then◌else◌, filter_map, flat_map, bytes_eq}
 use Rattle.esr_base.specs.declared.limits.TheConstants.{MAX_ITEMS}
 use Rattle.esr_items.specs.Values.{is_value}
@@ -11,8 +11,7 @@ use Rattle.esr_plan.specs.declared.draft.TheConstants.{MAX_BLOCKS}
 pub use Rattle.esr_plan.specs.declared.fault.DriveFault.{DriveFault}
 pub use Rattle.esr_plan.specs.declared.fault.DriveFault.TheVariants.{LineTooLong, TooManyLines, BadScript}
 
--- the names of the items, the values with which they open and the weights that were given,
--- and the commands of each block
+-- the names of the items, their opening values and the given weights, and the commands of each block
 pub record Plan : Type 0 where
   pub names : List (List ℕ)
   pub values : List ℤ
@@ -22,7 +21,7 @@ pub record Plan : Type 0 where
 abbrev pub nothing : Plan
 nothing = record { names = []; values = []; weights = []; blocks = [] }
 
--- the weight of an item: 1 where none was given
+-- the weight of an item, 1 by default
 abbrev pub weight_in : Option ℕ → ℕ
 weight_in given = unwrap_or given 1
 
@@ -46,7 +45,7 @@ onto_last c [] = []
 onto_last c (b ∷ []) = (b ++ c ∷ []) ∷ []
 onto_last c (b ∷ (next ∷ more)) = b ∷ onto_last c (next ∷ more)
 
--- The plan after a line, or the number of what is wrong with the line.
+-- The plan after a line, or the number of the line's error.
 
 abbrev pub with_session : Plan → Result Plan ℕ
 with_session p =
@@ -98,7 +97,7 @@ with_line p line =
       | None ↦ Err 1
     ])
 
--- the plan of the lines, behind a plan; lines are counted from 1
+-- the plan extended by the lines; lines are counted from 1
 abbrev pub plan_from : ℕ → Plan → List (List ℕ) → Result Plan DriveFault
 plan_from number p [] = Ok p
 plan_from number p (line ∷ more) =
@@ -107,7 +106,7 @@ plan_from number p (line ∷ more) =
       | Err error ↦ Err (BadScript number error)
     ]
 
--- the first line that ends the reading, where there are count lines before these
+-- the first line that ends the reading, after `count` lines
 abbrev pub cut_fault : ℕ → List (List ℕ) → Option DriveFault
 cut_fault count [] = None
 cut_fault count (line ∷ more) =

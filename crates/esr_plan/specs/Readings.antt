@@ -10,14 +10,14 @@ use Rattle.esr_plan.specs.declared.fault.DriveFault.TheVariants as fault
 abbrev pub rest_from : List ℕ → Mark → List ℕ
 rest_from bytes m = drop m.start bytes
 
--- whatever bytes follow, the lines from the mark on are at fault as all are
+-- whatever bytes follow, the fault of the lines from the mark on is that of all lines
 abbrev pub IsMark : List ℕ → Mark → Type 0
 IsMark bytes m =
     (m.start ≤ length bytes)
     × (m.lines ≤ MAX_LINES)
     × ((rest : List ℕ) → cut_fault 0 (lines (bytes ++ rest)) ≡ cut_fault m.lines (lines (rest_from bytes m ++ rest)))
 
--- the fault of a line of so many bytes, after so many lines
+-- the fault of a line of `len` bytes, after `count` lines
 abbrev pub IsLineFault : ℕ → ℕ → DriveFault → Type 0
 IsLineFault count len fault.TooManyLines = count ≡ MAX_LINES
 IsLineFault count len fault.LineTooLong = (count ≡ MAX_LINES → ⊥) × (MAX_LINE_BYTES < len)

@@ -24,7 +24,7 @@ name_begun answers number = unwrap_or (option_and_then (λ a. new_name a.command
 abbrev pub names_of : Schedule → List (List Answered) → List (List ℕ)
 names_of h blocks = map (name_begun (flat_map (λ b. b) blocks)) (numbers (accepted_in h))
 
--- what a command of a block names
+-- the names in a command of a block
 abbrev pub subject_of : Command → Named
 subject_of (begin_update name limit) = record { txn = name; item = []; value = pos 0 }
 subject_of (begin_query name limit) = record { txn = name; item = []; value = pos 0 }
@@ -35,7 +35,7 @@ subject_of (commit txn) = record { txn = txn; item = []; value = pos 0 }
 subject_of (abort txn) = record { txn = txn; item = []; value = pos 0 }
 subject_of other = record { txn = []; item = []; value = pos 0 }
 
--- the line of an item, with its weight where one was given
+-- the line of an item, with its weight if it has one
 abbrev pub item_text : List ℕ → ℤ → Option ℕ → List ℕ
 item_text name value None = item_line name value
 item_text name value (Some weight) = weighted_item_line name value weight
@@ -60,7 +60,7 @@ abbrev pub blocks_text : List (List ℕ) → ℕ → List (List Answered) → Li
 blocks_text names k [] = []
 blocks_text names k (b ∷ blocks) = block_text names k b ++ blocks_text names (k + 1) blocks
 
--- the line of what is told of a query: the query, its distance, its import, and the updates before its position
+-- the line of a query: the query, its distance, its import, and the updates before its position
 abbrev pub finding_text : List (List ℕ) → ℕ × ℕ × ℕ × List ℕ → List ℕ
 finding_text names t = audit_line names (name_of_transaction names t.0) t.1 t.2 t.3
 

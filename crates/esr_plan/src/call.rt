@@ -1,9 +1,8 @@
-//! What a session is to call, line by line.
+//! The calls of a session, line by line.
 //!
-//! What may be in a block is a type of its own and not a line of a script, so the code that runs a block has no case
-//! that cannot come. A begin is one variant with a kind: its event alone depends on it. Names are resolved when the
-//! plan is made: a call holds the place of its transaction's begin in the block, so to run a line takes one look into
-//! the replies.
+//! A call has a separate type and is not a line of a script, so the code that runs a block has no unreachable case. A
+//! begin is one variant with a kind: its event alone depends on it. Names are resolved when the plan is made: a call
+//! holds the place of its transaction's begin in the block, so running a line takes one access to the replies.
 
 ghost use Rattle.std.specs.Prelude.{◌≡◌, option_map};
 ghost use Rattle.esr_report.specs.Subjects.{named_by};
@@ -20,18 +19,18 @@ use esr_report::ReplyNames;
 #[derive(Clone, Copy)]
 pub struct Caller<'a> {
     pub name: &'a str,
-    /// The place in the block of the line that begins it, where an earlier line does.
+    /// The place in the block of the begin of the transaction, if it precedes the call.
     pub begin: Option<usize>,
 }
 
-/// An item that a line names. The number of one that is not declared is no item's.
+/// An item that a line names. The number of an undeclared item is out of range.
 #[derive(Clone, Copy)]
 pub struct Operand<'a> {
     pub name: &'a str,
     pub item: ItemId,
 }
 
-/// What a transaction begins as.
+/// The kind of a begin.
 #[derive(Clone, Copy)]
 pub enum BeginKind {
     Update,
@@ -65,7 +64,7 @@ pub enum Call<'a> {
 }
 
 impl<'a> Call<'a> {
-    /// The name of the transaction that the call begins.
+    /// Returns the name of the transaction that the call begins.
     pub fn new_name(&self) -> Option<&'a str>
         ensures { option_map (λ name. name.now) result ≡ new_name (command_of self.now) }
     {
@@ -75,7 +74,7 @@ impl<'a> Call<'a> {
         }
     }
 
-    /// The transaction that the call names, where it begins none.
+    /// Returns the transaction that the call names, if the call is not a begin.
     pub fn caller(&self) -> Option<Caller<'a>>
         ensures { result ≡ caller_of self.now }
     {
@@ -88,7 +87,7 @@ impl<'a> Call<'a> {
         }
     }
 
-    /// The item that the call names.
+    /// Returns the item that the call names.
     pub fn operand(&self) -> Option<Operand<'a>>
         ensures { result ≡ operand_of self.now }
     {
@@ -99,7 +98,7 @@ impl<'a> Call<'a> {
         }
     }
 
-    /// What the call names.
+    /// Returns the names in the call.
     pub fn subject(&self) -> ReplyNames<'a>
         ensures { named_by result ≡ subject_of (command_of self.now) }
     {
@@ -132,7 +131,7 @@ impl<'a> Call<'a> {
     }
 }
 
-/// The number that the reply gives a transaction.
+/// Returns the number that a begin got, from its reply.
 pub fn number_in(reply: Reply) -> Option<u32>
     ensures { result ≡ number_in reply }
 {
@@ -142,7 +141,7 @@ pub fn number_in(reply: Reply) -> Option<u32>
     }
 }
 
-/// The transaction that the caller stands for, by the replies to the calls before: 0 where it has not begun.
+/// Returns the caller's transaction, from the replies to the calls before: 0 if it has not begun.
 fn transaction(replies: &[Reply], caller: Caller<'_>) -> TxnId
     ensures { result ≡ number_by replies.now caller.entry.begin }
 {
@@ -155,7 +154,7 @@ fn transaction(replies: &[Reply], caller: Caller<'_>) -> TxnId
     TxnId(number_in(*reply).unwrap_or(0))
 }
 
-/// The event that begins a transaction of the kind.
+/// Returns the event that begins a transaction of the kind.
 fn begin_event(kind: BeginKind, limit: u64) -> Event
     ensures { result ≡ begin_event kind limit }
 {
@@ -172,7 +171,7 @@ fn begin_event(kind: BeginKind, limit: u64) -> Event
     }
 }
 
-/// The event of a call, by the last replies to the calls of its block before it.
+/// Returns the event of a call, given the last replies to the calls of its block before it.
 pub fn event_of(replies: &[Reply], call: Call<'_>) -> Event
     ensures { result ≡ event_by replies.now call.entry }
 {

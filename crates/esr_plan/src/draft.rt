@@ -1,13 +1,13 @@
-//! Makes the plan of a drive file, line after line, or tells what is wrong with the first line at fault, by the lowest
-//! of its numbers.
+//! Makes the plan of a drive file, line after line, or reports the lowest error number of the first line with a
+//! fault.
 //!
 //! A line mostly names the transaction of the line before it, and often its item. So a name is compared with that line's
 //! before it is looked up; the line is there, and nothing has to be kept for it.
 //!
-//! The weight that was given, or that none was, stays in the plan: an item's line is answered as it was written.
+//! The plan keeps whether a weight was given: an item's line is echoed as it was written.
 //!
-//! What is kept beside the plan agrees with it (`IsSound`). That is no invariant of the type, since an error may leave a
-//! draft half changed; it is then let go of.
+//! The data kept alongside the plan agrees with it (`IsSound`). That is not an invariant of the type, since an error
+//! may leave a draft half changed; it is then dropped.
 
 ghost use Rattle.esr_grammar.specs.declared.limits.TheConstants.{MAX_LINES};
 ghost use Rattle.std.specs.Prelude.{◌≡◌, ◌+◌, ◌-◌, ◌<◌, ◌≤◌, ◌⊎◌, ◌^◌, true, false, Ok, Err, Some, None, OnOk, IfOk, IfErr, IfSome, length, slice_get, option_copied};
@@ -28,7 +28,7 @@ use esr_report::Names;
 use esr_session::MAX_SESSIONS;
 use std::alloc::Global;
 
-/// The most blocks of a file: each has a session of its own.
+/// The maximum number of blocks in a file: each has its own session.
 pub const MAX_BLOCKS: usize = MAX_SESSIONS;
 
 /// A plan that is being made: the items, the blocks that are done, and the one that is open, with
@@ -37,7 +37,7 @@ pub const MAX_BLOCKS: usize = MAX_SESSIONS;
 pub struct Draft<'a> {
     pub names: Names,
     pub values: Vec<i64>,
-    /// The weights that were given.
+    /// The given weights.
     pub weights: Vec<Option<u32>>,
     pub done: Vec<Vec<Call<'a>>>,
     pub current: Option<Vec<Call<'a>>>,
@@ -51,12 +51,12 @@ pub struct Draft<'a> {
 /// Why a line does not go into the plan.
 #[derive(Clone, Copy)]
 pub enum PlanError {
-    /// What is wrong with the line.
+    /// The number of the line's error.
     Line(u32),
     NoMemory,
 }
 
-/// The weight that an item is given, if it may have it.
+/// Checks the weight of an item.
 fn weight_of(given: Option<u64>) -> Result<Option<u32>, PlanError>
     ensures ok { IfOk result (λ weight. (weight ≡ given) × (is_weight (weight_in given) ≡ true)) }
     ensures err { IfErr result (λ e. (e ≡ PlanError.Line 8) × (is_weight (weight_in given) ≡ false)) }
@@ -85,7 +85,7 @@ impl<'a> Draft<'a> {
         }
     }
 
-    /// Declares an item, with a weight where one is given.
+    /// Declares an item, with a weight if one is given.
     fn add_item(&mut self, name: &str, value: i64, weight: Option<u64>) -> Result<(), PlanError>
         requires { IsSound self.old }
         ensures ok { OnOk result (IsSound self.new × (with_item (plan_in self.old) name.now value weight
@@ -138,7 +138,7 @@ impl<'a> Draft<'a> {
         Ok(())
     }
 
-    /// The place in the open block of the line that begins the transaction with this name.
+    /// Returns the place in the open block of the line that begins the transaction with this name.
     fn place_of(&self, name: &str) -> Option<usize>
         requires { IsSound self.now }
         ensures { result ≡ place_of (current_calls self.now) name.now }
@@ -150,7 +150,7 @@ impl<'a> Draft<'a> {
         self.places.get(number).copied()
     }
 
-    /// The last call of the open block.
+    /// Returns the last call of the open block.
     fn last_call(&self) -> Option<&Call<'a>>
         ensures { option_copied result ≡ slice_get (current_calls self.now) (length (current_calls self.now) - 1) }
     {
@@ -160,7 +160,7 @@ impl<'a> Draft<'a> {
         }
     }
 
-    /// The transaction that the line before names, where it begins none.
+    /// Returns the transaction that the previous line names, if that is not a begin.
     fn last_caller(&self) -> Option<Caller<'a>>
         requires { IsSound self.now }
         ensures { IfSome result (IsCaller (current_calls self.now)) }
@@ -168,7 +168,7 @@ impl<'a> Draft<'a> {
         self.last_call()?.caller()
     }
 
-    /// The item that the line before names.
+    /// Returns the item that the previous line names.
     #[tactic(auto, using(crate::proofs::Placing::last_operand))]
     fn last_operand(&self) -> Option<Operand<'a>>
         requires { IsSound self.now }
@@ -177,7 +177,7 @@ impl<'a> Draft<'a> {
         self.last_call()?.operand()
     }
 
-    /// The transaction that a line names.
+    /// Returns the transaction that a line names.
     fn caller(&self, name: &'a str) -> Caller<'a>
         requires { IsSound self.now }
         ensures name { result.name.now ≡ name.entry.now }
@@ -190,7 +190,7 @@ impl<'a> Draft<'a> {
         Caller { name, begin }
     }
 
-    /// The item that a line names.
+    /// Returns the item that a line names.
     fn operand(&self, name: &'a str) -> Operand<'a>
         requires { IsSound self.now }
         ensures name { result.name.now ≡ name.entry.now }
@@ -203,7 +203,7 @@ impl<'a> Draft<'a> {
         Operand { name, item }
     }
 
-    /// The number that an item's name stands for.
+    /// Returns the number of an item's name.
     fn item_of(&self, name: &str) -> ItemId
         ensures { result ≡ item_called self.now.names name.now }
     {
@@ -259,7 +259,7 @@ impl<'a> Draft<'a> {
         Ok(())
     }
 
-    /// Adds what a line of a script spells.
+    /// Adds the command of a line.
     fn add_command(&mut self, line: Line<'a>) -> Result<(), PlanError>
         requires sound { IsSound self.old }
         requires fits { length self.old.begun < 2 ^ 32 }
@@ -325,7 +325,7 @@ impl<'a> Draft<'a> {
     }
 }
 
-/// The plan of the lines.
+/// Returns the plan of the lines.
 pub fn draft_of<'a>(alloc: Global, bytes: &'a [u8]) -> Result<Draft<'a>, DriveFault>
     requires { length (lines bytes.now) ≤ MAX_LINES }
     ensures ok { IfOk result (λ d. IsSound d × (plan_from 1 nothing (lines bytes.entry.now) ≡ Ok (plan_in d))) }

@@ -12,17 +12,17 @@ use crate::fault::DriveFault;
 use esr_report::Names;
 use std::alloc::{AllocError, Global};
 
-/// What a drive file asks for.
+/// The plan of a drive file.
 #[derive(Drop)]
 pub struct DrivePlan<'a> {
     pub names: Names,
     pub values: Vec<i64>,
-    /// The weights that were given.
+    /// The given weights.
     pub weights: Vec<Option<u32>>,
     pub blocks: Vec<Vec<Call<'a>>>,
 }
 
-/// The plan with its last block.
+/// Completes the plan with its last block.
 fn finish<'a>(draft: Draft<'a>) -> Result<DrivePlan<'a>, AllocError>
     requires { drafts.IsSound draft }
     ensures plan { IfOk result (λ s. plan_in s ≡ drafts.plan_in draft.entry) }
@@ -51,7 +51,7 @@ fn finish<'a>(draft: Draft<'a>) -> Result<DrivePlan<'a>, AllocError>
     })
 }
 
-/// What the lines of the file ask for, or the first line at fault.
+/// Parses the lines of the file into a plan, or returns the first line with a fault.
 pub fn drive_plan_of<'a>(alloc: Global, bytes: &'a [u8]) -> Result<DrivePlan<'a>, DriveFault>
     requires { cut_fault 0 (lines bytes.now) ≡ None }
     ensures plan { IfOk result (λ s. plan_of bytes.entry.now ≡ Ok (plan_in s)) }

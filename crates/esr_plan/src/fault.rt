@@ -10,7 +10,7 @@ use thiserror::Error;
 /// Why a drive ended without its whole text.
 #[derive(Clone, Copy, Debug, PartialEq, Eq, Error)]
 pub enum DriveFault {
-    /// A read failed, in whatever way.
+    /// A read failed.
     #[error("read failed")]
     Read,
     /// A write or a flush failed, or a write took none of some bytes.
@@ -28,7 +28,7 @@ pub enum DriveFault {
     /// There are more lines than a script may have.
     #[error("too many lines")]
     TooManyLines,
-    /// The first line at fault, counted from 1, and the number of what is wrong with it.
+    /// The first line with a fault, counted from 1, and the number of its error.
     #[error("line {line}: error {error}")]
     BadScript { line: u64, error: u32 },
     /// The receipts of the sessions do not match the history.

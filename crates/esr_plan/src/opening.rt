@@ -1,4 +1,4 @@
-//! The distances of a plan's items, as a machine opens with them: weight 1 where none was given.
+//! The distances of a plan's items, as a machine opens with them: weight 1 by default.
 
 ghost use Rattle.esr_base.specs.declared.limits.TheConstants.{MAX_ITEMS};
 ghost use Rattle.std.specs.Prelude.{◌≡◌, ◌≤◌, All, IfOk, length};
@@ -8,7 +8,7 @@ ghost use Rattle.esr_plan.specs.Plan.{weights_of};
 use esr_items::Weighted;
 use std::alloc::{AllocError, Global};
 
-/// The distance by the weights: 1 where none was given.
+/// Returns the distance by the weights, 1 by default.
 pub fn metric_of(alloc: Global, given: &[Option<u32>]) -> Result<Weighted, AllocError>
     requires many { length given.now ≤ MAX_ITEMS }
     requires range { All IsWeight (weights_of given.now) }

@@ -1,6 +1,5 @@
 //! Reads a drive file, and cuts it into lines. Reading stops at the first line that is too long, or is one too many:
-//! the fault of a line is that of the file, whatever follows, so a stream that does not end does not take memory
-//! without end.
+//! this fault is that of the file, whatever follows, so an endless stream does not take endless memory.
 
 ghost use Rattle.esr_grammar.specs.declared.limits.TheConstants.{MAX_LINES, MAX_LINE_BYTES};
 ghost use Rattle.std.specs.Prelude.{◌≡◌, ℕ, List, false, ◌<◌, ◌≤◌, ◌↔◌, [], ◌∷◌, ◌++◌, None, Some, IfOk, IfErr, IsErrOf, IsTrue, MatchOption, MatchResult, length, nat_eq, position};
@@ -22,7 +21,7 @@ fn find_line_feed(bytes: &[u8]) -> Option<usize>
     bytes.iter().position(|b| *b == b'\n')
 }
 
-/// The first line, and what follows its line feed.
+/// Returns the first line, and the bytes after its line feed.
 #[tactic(auto, using(crate::proofs::Cuts::at_feed, crate::proofs::Cuts::shorter))]
 pub fn first_line(bytes: &[u8]) -> Option<(&[u8], &[u8])>
     ensures { MatchOption result (bytes.now ≡ []) (λ p. (lines bytes.now ≡ p.0.now ∷ lines p.1.now)
@@ -37,15 +36,15 @@ pub fn first_line(bytes: &[u8]) -> Option<(&[u8], &[u8])>
     }
 }
 
-/// How far the lines of a file were looked at: where the first line begins that is not whole yet, and how many
-/// lines are before it.
+/// How far the lines of a file were checked: the start of the first incomplete line, and the number of lines before
+/// it.
 #[derive(Clone, Copy)]
 pub struct Mark {
     pub start: usize,
     pub lines: u64,
 }
 
-/// Whether a line of at least so many bytes may be read after so many lines.
+/// Checks that a line of at least `bytes` bytes may be read after `lines` lines.
 fn check_line(lines: u64, bytes: usize) -> Result<(), DriveFault>
     ensures { MatchResult result (λ _. (lines ≡ MAX_LINES → ⊥) × (bytes ≤ MAX_LINE_BYTES)) (IsLineFault lines bytes) }
 {
@@ -58,7 +57,7 @@ fn check_line(lines: u64, bytes: usize) -> Result<(), DriveFault>
     Ok(())
 }
 
-/// Looks at the lines from the mark on. The fault of a line is that of the file, whatever follows.
+/// Checks the lines from the mark on. The fault of a line is that of the file, whatever follows.
 fn check_lines(bytes: &[u8], mark: Mark) -> Result<Mark, DriveFault>
     requires { IsMark bytes.now mark }
     ensures mark { IfOk result (IsMark bytes.now) }
@@ -84,7 +83,7 @@ fn check_lines(bytes: &[u8], mark: Mark) -> Result<Mark, DriveFault>
     Ok(mark)
 }
 
-/// Room for the bytes of one read.
+/// Returns a buffer for the bytes of one read.
 fn chunk_buffer(alloc: Global) -> Result<Vec<u8>, AllocError>
     ensures { IfOk result (λ v. 0 < length v.items) }
 {

@@ -56,7 +56,7 @@ impl<'a> BegunNames<'a> {
     }
 }
 
-/// The names that the transactions of a history began by, in the blocks with these replies.
+/// Returns the names with which the transactions of a history began, in the blocks with these replies.
 pub fn begun_names<'a>(
     alloc: Global,
     history: &History<Weighted>,

@@ -1,5 +1,5 @@
-//! The text of a drive, part by part: items, blocks, what was found of each query. The text of a block is a piece of its
-//! own, since threads make them.
+//! The text of a drive, part by part: items, blocks, the findings of queries. The text of a block is a separate
+//! piece, since threads make them.
 
 ghost use Rattle.esr_base.specs.declared.limits.TheConstants.{MAX_ITEMS};
 ghost use Rattle.std.specs.Prelude.{◌≡◌, ◌<◌, ◌≤◌, slice_index_or, ◌++◌, [], IfOk, OnOk, length, map, flat_map};
@@ -18,7 +18,7 @@ use esr_report::{
 };
 use std::alloc::{AllocError, Global};
 
-/// The name at a place.
+/// Returns the name at a place.
 fn name_at(names: &Names, place: usize) -> &str
     requires { place < MAX_ITEMS }
     ensures { result.now ≡ slice_index_or names.now place [] }
@@ -29,7 +29,7 @@ fn name_at(names: &Names, place: usize) -> &str
     }
 }
 
-/// Appends the line of an item, with its weight where one was given.
+/// Appends the line of an item, with its weight if it has one.
 fn push_item(
     out: &mut Vec<u8>,
     name: &str,
@@ -93,7 +93,7 @@ fn push_replies(
     Ok(())
 }
 
-/// The lines of the block of this number.
+/// Returns the lines of the block with this number.
 pub fn block_text(
     alloc: Global,
     names: &BegunNames<'_>,
@@ -111,7 +111,7 @@ pub fn block_text(
     Ok(text)
 }
 
-/// Appends the line of what was found of a query.
+/// Appends the line of a query's summary.
 fn push_summary(
     out: &mut Vec<u8>,
     names: &BegunNames<'_>,
@@ -130,7 +130,7 @@ fn push_summary(
     )
 }
 
-/// Appends the lines of what was found of queries.
+/// Appends the lines of the queries' summaries.
 #[tactic(auto, using(crate::proofs::Rendered::lines_more))]
 pub fn push_summaries(
     out: &mut Vec<u8>,

@@ -17,7 +17,7 @@ one_separated c out x xs y before parted after before_it part grew =
     ∙ append_assoc out (join_with_byte c (x ∷ xs)) (c ∷ y) ∙ ap (λ l. out ++ l) (sym (join_push c x xs y))
 
 module _ {X : Type 0} (spell : X → List ℕ) (c : ℕ) (out first : List ℕ) (xs : List X) where
-  -- a word more behind those before it
+  -- one more word after those before it
   pub one_more : (i : ℕ) (d : X) (word before after : List ℕ) → i < length xs
       → before ≡ out ++ join_with_byte c (first ∷ map spell (take i xs))
       → word ≡ spell (get_or xs i d) → after ≡ before ++ c ∷ word

@@ -1,4 +1,4 @@
--- The place of a name in its table, seen through what it is looked up by.
+-- The place of a name in its table, given its key.
 use Rattle.std.proofs.Common.{◌≡◌, ℕ, suc, ◌+◌, ◌<◌, ◌≤◌, List, [], ◌∷◌, ◌++◌, inl, inr, Bool, true, false, ◌&&◌, not, cond, nat_lt, map, length, All, refl, sym, ◌∙◌, ap, arith, rules, Some, None, nat_eq, bytes_eq, eqb-true, eq-eqb}
 use Rattle.std.specs.List.{position, position_or_len, list_any}
 use Rattle.std.proofs.lemmas.Bool.{cases_Bool, and_parts}
@@ -26,7 +26,7 @@ same_of : (k l : Key) (a b : List ℕ) → IsKeyOf k a → IsKeyOf l b → a ≡
 same_of k l a b ka lb e =
     rw (eq-eqb _ _ (ka.low ∙ ap low_of e ∙ sym lb.low), eq-eqb _ _ (ka.high ∙ ap high_of e ∙ sym lb.high), eq-eqb _ _ (ka.length ∙ ap length e ∙ sym lb.length)) refl
 
--- keys are the same where the names are
+-- keys are equal if and only if the names are
 distinguished : (k l : Key) (a b : List ℕ) → IsKeyOf k a → IsKeyOf l b → same_key k l ≡ bytes_eq a b
 distinguished k l a b ka lb = elim (cases_Bool (same_key k l)) [
   | inl t ↦ t ∙ sym ((bytes_eq-Decides a b).1 (one_key k l a b ka lb t))

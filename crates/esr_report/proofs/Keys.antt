@@ -1,4 +1,4 @@
--- Why the two numbers and the length of a name tell it from each other.
+-- The two numbers and the length of a name distinguish it from all others.
 use Rattle.std.proofs.Common.{◌≡◌, ℕ, zero, suc, ◌+◌, ◌-◌, ◌*◌, ◌<◌, ◌≤◌, List, [], ◌∷◌, ◌++◌, inl, inr, true, false, length, take, drop, get_or, refl, sym, ◌∙◌, ap, arith, nat_le, length-take, length-drop, leb-true, rules}
 use Rattle.std.specs.Int.{from_le_bytes, w32, w64}
 use Rattle.std.proofs.lemmas.Nat.{le_bytes_4, le_bytes_8}

@@ -1,4 +1,4 @@
--- Where names are in their table, and how words are joined.
+-- The places of names in their table, and the joining of words.
 
 pub mod Positions
 pub mod Joins

@@ -50,7 +50,7 @@ module _ {X : Type 0} (g : X → List ℕ) where
       sym (position_seen g (bytes_eq name) xs)
       ∙ ap (λ v. cond v (Some (position_or_len (λ x. bytes_eq name (g x)) xs)) None) (le-ltb (position_or_len (λ x. bytes_eq name (g x)) xs) (length xs) (all_differ xs name most h l))
 
-  -- names of at most so many bytes, and one more of them
+  -- names of at most `most` bytes, and one more of them
   pub short_push : (xs : List X) (x : X) (most : ℕ) → All (λ y. length (g y) ≤ most) xs → length (g x) ≤ most → All (λ y. length (g y) ≤ most) (xs ++ x ∷ [])
   short_push xs x most h l =
       let one : All (λ y. length (g y) ≤ most) (x ∷ []) = search rules in

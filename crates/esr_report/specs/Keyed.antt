@@ -1,4 +1,4 @@
--- What a name is looked up by.
+-- The key of a name.
 use Rattle.std.specs.Prelude.{◌≡◌, ℕ, ◌≤◌, List, length}
 use Rattle.esr_report.specs.declared.key.Key.{Key}
 use Rattle.esr_report.specs.Keys.{low_of, high_of, AreBytes}

@@ -45,20 +45,21 @@ committed_line txn = line (codes "committed" ∷ txn ∷ [])
 abbrev pub aborted_line : List ℕ → List ℕ
 aborted_line txn = line (codes "aborted" ∷ txn ∷ [])
 
--- an event that was refused, and one that was blocked, by the number of the refusal, its words, and whom it names
+-- a refused event, and a blocked one: the number of the refusal, its text, and the transaction that it names
 abbrev pub refused : ℕ → List ℕ → List ℕ
 refused number words = line (codes "refused" ∷ decimal number ∷ words ∷ [])
 
 abbrev pub blocked : ℕ → List ℕ → List ℕ → List ℕ
 blocked number words name = line (codes "blocked" ∷ decimal number ∷ words ∷ name ∷ [])
 
--- why an event was refused; where the refusal names a transaction, that one blocks the event
+-- why an event was refused; if the refusal names a transaction, that one blocks the event
 abbrev pub reason_line : List (List ℕ) → Refusal → Option TxnId → List ℕ
 reason_line names why None = refused (refusal_number why) (refusal_words why)
 reason_line names why (Some txn) =
     blocked (refusal_number why) (refusal_words why) (name_of_transaction names txn.0)
 
--- the same for whom it names itself; the names are those of the transactions, in the order of their numbers
+-- the reason, with the transaction that the refusal itself names; the names are those of the transactions, in the
+-- order of their numbers
 abbrev pub refusal_line : List (List ℕ) → Refusal → List ℕ
 refusal_line names why = reason_line names why (refusal_blocker why)
 
@@ -83,12 +84,12 @@ totals_line imports exports entries =
     line (codes "totals import" ∷ decimal imports ∷ codes "export" ∷ decimal exports ∷ codes "entries" ∷ decimal entries
     ∷ [])
 
--- the names of transactions, separated by commas; a minus where there is none
+-- the names of transactions, separated by commas; a minus for the empty list
 abbrev pub listed : (names : List (List ℕ)) (txns : List ℕ) → List ℕ
 listed names [] = codes "-"
 listed names (txn ∷ txns) = join_with_byte 44 (map (name_of_transaction names) (txn ∷ txns))
 
--- what the audit of a query found: its distance, what it imported, and the updates before its position
+-- the finding of a query: its distance, its import, and the updates before its position
 abbrev pub audit_words : (names : List (List ℕ)) (name : List ℕ) (distance import : ℕ) (before : List ℕ) → List (List ℕ)
 audit_words names name distance import before =
     codes "audit" ∷ name ∷ codes "distance" ∷ decimal distance ∷ codes "import" ∷ decimal import ∷ codes "before"
@@ -105,7 +106,7 @@ names_line first names txns = line (first ∷ listed names txns ∷ [])
 abbrev pub order_line : (names : List (List ℕ)) (txns : List ℕ) → List ℕ
 order_line names txns = names_line (codes "order") names txns
 
--- what is wrong with a line that makes no event
+-- the error of a line that makes no event
 abbrev pub error_line : LineError → List ℕ
 error_line error.NotACommand = line (codes "error 1 not a command" ∷ [])
 error_line error.ItemsAreClosed = line (codes "error 2 items are closed" ∷ [])

@@ -2,7 +2,7 @@
 use Rattle.std.specs.Prelude.{ℕ, List, [], ◌∷◌, Bool, true, not, ◌&&◌, Option, is_some, slice_index_or, ◌-◌, bytes_eq}
 use Rattle.std.specs.List.{position, list_any}
 
--- the position of a name, where it is bound
+-- the position of a name, if it is bound
 abbrev pub position_of : List (List ℕ) → List ℕ → Option ℕ
 position_of names name = position (bytes_eq name) names
 

@@ -1,10 +1,10 @@
-//! A name as two numbers and its length, by which it is looked up: they are hashed and compared in a few steps, where
-//! its bytes would be copied and compared in pieces by their number.
+//! A name as two numbers and its length, by which it is looked up: these are hashed and compared in a few steps,
+//! whereas its bytes would be copied and compared in pieces, depending on their number.
 
 ghost use Rattle.std.specs.Prelude.{◌≡◌, ◌<◌, length, slice_index_or};
 ghost use Rattle.esr_report.specs.Keys.{low_of, high_of};
 
-/// What a name of at most 16 bytes is looked up by.
+/// The key of a name of at most 16 bytes.
 #[derive(Clone, Copy, PartialEq, Eq, Hash)]
 pub struct Key {
     low: u64,
@@ -12,7 +12,7 @@ pub struct Key {
     length: usize,
 }
 
-/// The byte at a place, or 0 after the end.
+/// Returns the byte at a place, or 0 after the end.
 #[inline(always)]
 fn byte_at(bytes: &[u8], place: usize) -> u64
     ensures value { result ≡ slice_index_or bytes.now place 0 }
@@ -24,7 +24,7 @@ fn byte_at(bytes: &[u8], place: usize) -> u64
     }
 }
 
-/// The first bytes as a number.
+/// Returns the first bytes as a number.
 #[inline(always)]
 fn low(bytes: &[u8]) -> u64
     ensures { result ≡ low_of bytes.now }
@@ -38,7 +38,7 @@ fn low(bytes: &[u8]) -> u64
     byte_at(bytes, 0)
 }
 
-/// The last bytes as a number.
+/// Returns the last bytes as a number.
 #[inline(always)]
 fn high(bytes: &[u8]) -> u64
     ensures { result ≡ high_of bytes.now }
@@ -52,7 +52,7 @@ fn high(bytes: &[u8]) -> u64
     byte_at(bytes, 1) + 256 * byte_at(bytes, 2)
 }
 
-/// The key of a name.
+/// Returns the key of a name.
 #[inline(always)]
 pub fn key_of(name: &str) -> Key
     ensures low { result.low ≡ low_of name.now }

@@ -1,4 +1,5 @@
-//! The lines of a report. A line is appended whole or not at all, so what is written after a fault is whole lines.
+//! The lines of a report. A line is appended whole or not at all, so the output before a fault consists of whole
+//! lines.
 
 ghost use Rattle.std.specs.Prelude.{◌≡◌, ◌≤◌, [], ◌++◌, ◌∷◌, OnOk, OnErr, IsOk, map, take, length};
 ghost use Rattle.std.specs.List.{join_with_byte};
@@ -11,7 +12,7 @@ use crate::names::TransactionNames;
 use esr_history::{Refusal, Reply, TxnId};
 use std::alloc::AllocError;
 
-/// What is wrong with a line that makes no event.
+/// The error of a line that makes no event.
 #[derive(Clone, Copy)]
 pub enum LineError {
     NotACommand,
@@ -23,8 +24,7 @@ pub enum LineError {
     WeightOutOfRange,
 }
 
-/// What an event names, for the line that answers it: a transaction, an item and
-/// a value to write, as far as it has them.
+/// The names in an event, for the line of its reply: a transaction, an item and a value to write, if it has them.
 #[derive(Clone, Copy)]
 pub struct ReplyNames<'a> {
     pub txn: &'a str,
@@ -56,7 +56,7 @@ fn push_words(out: &mut Vec<u8>, first: &str, rest: &[&str]) -> Result<(), Alloc
     Ok(())
 }
 
-/// Ends a line that begins at the mark, or takes it away where memory was refused.
+/// Ends a line that begins at the mark, or removes it if an allocation failed.
 fn end_line(
     out: &mut Vec<u8>,
     mark: usize,
@@ -115,7 +115,7 @@ pub fn weighted_item_line(
     push_line(out, "item", &words)
 }
 
-/// Appends the line that begins what a session answered.
+/// Appends the first line of a session's replies.
 pub fn session_line(out: &mut Vec<u8>, number: u64) -> Result<(), AllocError>
     ensures ok { OnOk result (out.new.items ≡ out.old.items ++ session_line number) }
     ensures err { OnErr result (out.new.items ≡ out.old.items) }
@@ -148,7 +148,7 @@ fn wrote_line(out: &mut Vec<u8>, txn: &str, item: &str, value: i64) -> Result<()
     push_line(out, "wrote", &[txn, item, digits.format(value)])
 }
 
-/// The name of a transaction, whose number is one more than its name's position.
+/// Returns the name of a transaction, whose number is one more than its name's position.
 pub fn name_of_transaction<N: TransactionNames>(names: &N, txn: TxnId) -> &str
     ensures { result.now ≡ name_of_transaction (N.names names.now) txn.0 }
 {
@@ -241,7 +241,7 @@ pub fn totals_line(
     push_line(out, "totals import", &words)
 }
 
-/// Appends the names of transactions separated by commas, or a minus where there is none.
+/// Appends the names of transactions separated by commas, or a minus for the empty list.
 fn push_names<N: TransactionNames>(
     out: &mut Vec<u8>,
     names: &N,
@@ -279,9 +279,8 @@ fn push_listed<N: TransactionNames>(
     push_names(out, names, txns)
 }
 
-/// Appends the line of what the audit of a query found: its distance, what it
-/// imported, and the updates before its position. The names are those of the
-/// transactions, in the order of their numbers.
+/// Appends the line of a query's finding: its distance, its import, and the updates before its position. The names
+/// are those of the transactions, in the order of their numbers.
 pub fn audit_line<N: TransactionNames>(
     out: &mut Vec<u8>,
     names: &N,
@@ -309,7 +308,7 @@ pub fn audit_line<N: TransactionNames>(
     end_line(out, mark, listed)
 }
 
-/// Appends a line of a word and the names of transactions, separated by commas, or a minus where there is none. The
+/// Appends a line of a word and the names of transactions, separated by commas, or a minus for the empty list. The
 /// names are those of the transactions, in the order of their numbers.
 pub fn names_line<N: TransactionNames>(
     out: &mut Vec<u8>,
@@ -340,7 +339,7 @@ pub fn order_line<N: TransactionNames>(
     names_line(out, "order", names, txns)
 }
 
-/// Appends the line of what is wrong with a line that makes no event.
+/// Appends the line of the error of a line that makes no event.
 pub fn error_line(out: &mut Vec<u8>, error: LineError) -> Result<(), AllocError>
     ensures ok { OnOk result (out.new.items ≡ out.old.items ++ error_line error) }
     ensures err { OnErr result (out.new.items ≡ out.old.items) }

@@ -1,8 +1,8 @@
 //! A table of names, in the order in which they were bound; none is bound twice.
 //!
-//! A name is looked up by three numbers (`key`), so that none is copied or compared byte by byte to be found; its text,
-//! of at most 16 bytes, is next to them, 48 bytes in all. A longer name, which no line spells, does not fit and fails
-//! as an allocation does.
+//! A name is looked up by three numbers (`key`), so that none is copied or compared byte by byte to be found; its
+//! text, of at most 16 bytes, is next to them, 48 bytes in all. A longer name, which no line can contain, does not
+//! fit, and fails like an allocation.
 
 ghost use Rattle.std.specs.Prelude.{◌≡◌, ℕ, ◌+◌, ◌<◌, ◌≤◌, ◌^◌, List, [], ◌∷◌, ◌++◌, map, length, All, IfOk, OnOk, OnErr, slice_get, option_map, Option, None, true};
 ghost use Rattle.esr_report.specs.Names.{position_of, all_distinct};
@@ -19,12 +19,12 @@ pub trait TransactionNames {
     /// The names by position, which is one less than the transaction's number.
     ghost names: { Self → List (List ℕ) };
 
-    /// The name at the position.
+    /// Returns the name at the position.
     fn name_at(&self, position: u32) -> Option<&str>
         ensures { option_map (λ name. name.now) result ≡ slice_get (names self.now) position };
 }
 
-/// A name, which lies in the table itself: a spelling has at most 16 bytes.
+/// A name, which is stored in the table itself: it has at most 16 bytes.
 type Name = ArrayString<16>;
 
 /// A table of names, in the order in which they were bound. No name is bound twice.
@@ -52,7 +52,7 @@ impl Names {
         }
     }
 
-    /// How many names are bound.
+    /// Returns the number of bound names.
     pub fn len(&self) -> usize
         ensures len { result ≡ length self.now }
         ensures most { result ≤ 2 ^ 32 }
@@ -61,7 +61,7 @@ impl Names {
         self.names.len()
     }
 
-    /// The position of the name, where it is bound.
+    /// Returns the position of the name, if it is bound.
     pub fn number_of(&self, name: &str) -> Option<u32>
         ensures { result ≡ position_of self.now name.now }
     {
@@ -76,7 +76,7 @@ impl Names {
         }
     }
 
-    /// The name at the position.
+    /// Returns the name at the position.
     pub fn name_of(&self, number: u32) -> Option<&str>
         ensures { option_map (λ name. name.now) result ≡ slice_get self.now number }
     {
@@ -89,8 +89,8 @@ impl Names {
     /// Binds the name to the next position.
     ///
     /// # Errors
-    /// Where memory was refused. A name of more than 16 bytes, which no line spells, has no room in the table and is
-    /// refused too. Then nothing has changed.
+    /// If an allocation fails, or the name has more than 16 bytes: no line contains such a name, and the table cannot
+    /// hold it. Then nothing has changed.
     pub fn bind(&mut self, name: &str) -> Result<u32, AllocError>
         requires unbound { position_of self.old name.now ≡ None }
         requires fits { length self.old < 2 ^ 32 }

@@ -1,4 +1,4 @@
--- What a run's last state answers of a query.
+-- The reply of a run's last state about a query.
 use Rattle.std.proofs.Common.{◌≡◌, ℕ, List, Bool, true, map, sym, ◌∙◌, ap, subst, arith}
 use Rattle.esr_items.specs.Weights.{weighted}
 use Rattle.esr_base.specs.declared.numbers.TxnId.{TxnId}

@@ -31,15 +31,15 @@ module _ (items moved ahead : List ℕ) (s e len : ℕ) (order : s ≤ e) (withi
     abbrev after : List ℕ
     after = put_mid (e - s) part moved read
 
-    -- the buffer holds what was put into it
+    -- the buffer contains the bytes put into it
     held : take len (after ++ drop (length after) before) ≡ after
     held = grind (arith, same_len_mid (e - s) part moved read fits, long, take-append_seam after (drop (length after) before))
 
-    -- where nothing was read
+    -- if nothing was read
     pub kept : take ((e - s) - 0) (drop 0 (take len (after ++ drop (length after) before))) ≡ ahead
     kept = grind (arith, size, post_of (e - s) part moved, held, front, take-append_seam)
 
-    -- where so many bytes were read behind them
+    -- if `count` bytes were read, they follow the moved ones
     pub filled : (count : ℕ) → count ≤ length read → take (((e - s) + count) - 0) (drop 0 (take len (after ++ drop (length after) before))) ≡ ahead ++ take count read
     filled count received =
         let more : ((e - s) + count) - 0 ≡ length ahead + count = omega (arith, size) in
@@ -47,7 +47,7 @@ module _ (items moved ahead : List ℕ) (s e len : ℕ) (order : s ≤ e) (withi
         ap (take (((e - s) + count) - 0)) held ∙ ap (λ n. take n after) more ∙ ap (λ l. take (length ahead + count) (l ++ (read ++ rest))) front
         ∙ take-append-add ahead (read ++ rest) count ∙ ap (λ l. ahead ++ l) (take-append-le count read rest received)
 
-    -- there is room behind few bytes
+    -- a buffer with few bytes has capacity for more
     pub has_capacity : length ahead ≤ 200 → len ≡ 65536 → 0 < length read
     has_capacity few all = omega (arith, fits, size, long, whole, few, all, length-take part (drop (e - s) moved), length-drop (e - s) moved)
 

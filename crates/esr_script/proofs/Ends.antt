@@ -12,7 +12,7 @@ use Rattle.esr_script.specs.Ends.{IsWhole, IsReachedBy, IsWrittenBy}
 use Rattle.std.proofs.lemmas.Grind.{common_steps}
 
 module _ (input : List ℕ) (left : Option (List ℕ)) where
-  -- a fault says the same of whatever was to be reached, and less where a refusal says less
+  -- a fault means the same for every result that was to be reached, and less if a refusal means less
   pub reached_fault : {T U : Type 0} (P : T → Type 0) (Q : U → Type 0) (M N : Type 0) → (M → N) → (f : RunFault)
       → IsReachedBy P M input left (Err f) → IsReachedBy Q N input left (Err f)
   reached_fault P Q M N less fault.Read h = tt
@@ -23,19 +23,19 @@ module _ (input : List ℕ) (left : Option (List ℕ)) where
   reached_fault P Q M N less fault.TooManyLines h = h
   reached_fault P Q M N less fault.NotACommittedQuery h = less h
 
-  -- what is made after a replay
+  -- a value made after a replay
   pub reached_then : {T : Type 0} (P : T → Type 0) (N : Type 0) (r : Result T RunFault) → Consumes (Some input) left input → IsWhole input
       → IfOk r P → IfErr r (λ f. f ≡ fault.NoMemory) → IsReachedBy P N input left r
   reached_then P N (Ok value) read whole ok err = (read, whole, ok)
   reached_then P N (Err f) read whole ok err = rw err tt
 
-  -- what is made of an answer
+  -- a value made from a result
   pub reached_made : {T E : Type 0} (P Q : T → Type 0) (N : Type 0) (made : Result T E) (r : Result T RunFault) → Consumes (Some input) left input → IsWhole input
       → IfOk made P → ((value : T) → P value → Q value) → IfOk r (λ value. made ≡ Ok value) → IfErr r (λ f. f ≡ fault.NoMemory) → IsReachedBy Q N input left r
   reached_made P Q N made (Ok value) read whole holds more ok err = (read, whole, more value (rw ok at holds))
   reached_made P Q N made (Err f) read whole holds more ok err = rw err tt
 
-  -- the same where there may be nothing to tell
+  -- like `reached`, if the query may also not be a committed one
   pub reached_or_none : {T : Type 0} (P : T → Type 0) (r : Result T RunFault) → Consumes (Some input) left input → IsWhole input
       → IfOk r P → IfErr r (λ f. (f ≡ fault.NoMemory) ⊎ (f ≡ fault.NotACommittedQuery)) → IsReachedBy P (IsWhole input) input left r
   reached_or_none P (Ok value) read whole ok err = (read, whole, ok)
@@ -63,7 +63,7 @@ module _ (input : List ℕ) (left : Option (List ℕ)) where
   written_sent Q N text read whole is (Ok u) old new out ok err = (text, ok.1, (read, whole, is))
   written_sent Q N text read whole is (Err e) old new out ok err = grind (arith, common_steps)
 
--- what is asked after a replay
+-- the audit of a query after a replay
 pub audited_after : (input name : List ℕ) (left : Option (List ℕ)) (s : ScriptState) (r : Result AuditedQuery RunFault) → Consumes (Some input) left input → IsWhole input → final input ≡ s
     → IfOk r (IsAnswered s name) → (IsErrOf r fault.NotACommittedQuery → is_committed_query s.history (transaction_called s name).0 ≡ false)
     → IfErr r (λ f. (f ≡ fault.NoMemory) ⊎ (f ≡ fault.NotACommittedQuery)) → IsAuditedQuery input name left r

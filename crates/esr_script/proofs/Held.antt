@@ -14,22 +14,22 @@ use Rattle.esr_grammar.proofs.Prefix.{line_len-le}
 use Rattle.esr_script.proofs.Steps.{advance, all_read, text_begins, at_memory, at_long, at_too_many, at_fault_line, at_last, at_fault_last, at_read}
 use Rattle.std.proofs.lemmas.Grind.{common_steps}
 
--- there are bytes ahead where it need not be read on
+-- there are buffered bytes if no more need be read
 pub has_bytes : (found : Next) (bytes : List ℕ) → IsNext found bytes → (found ≡ next.More → ⊥) → 0 < length bytes
 has_bytes (next.Line n) bytes h other = omega (arith, h.1)
 has_bytes next.TooLong bytes h other = omega (arith, h, line_len-le bytes)
 has_bytes next.More bytes h other = absurd (other refl)
 
--- where all output was sent
+-- if all output was sent
 pub all_sent : {input : List ℕ} {left : Option (List ℕ)} {bytes : List ℕ} {n : ℕ} {s : ScriptState} (w : List ℕ) → InputProgress input left bytes n s w → InputProgress input left bytes n s (w ++ [])
 all_sent w here = rw append-nil here
 
--- where the output has grown, and some of it is gone
+-- if the output has grown, and some of it is sent
 pub all_grown : {input : List ℕ} {left : Option (List ℕ)} {bytes : List ℕ} {n : ℕ} {s : ScriptState} (sent out t gone grown : List ℕ) → out ++ t ≡ gone ++ grown
     → InputProgress input left bytes n s ((sent ++ out) ++ t) → InputProgress input left bytes n s ((sent ++ gone) ++ grown)
 all_grown sent out t gone grown grew here = rw (append_assoc sent out t ∙ ap (λ w. sent ++ w) grew ∙ sym (append_assoc sent gone grown)) at here
 
--- where some of the output is gone
+-- if some of the output is sent
 pub some_gone : {input : List ℕ} {left : Option (List ℕ)} {bytes : List ℕ} {n : ℕ} {s : ScriptState} (sent out gone rest : List ℕ) → out ≡ gone ++ rest
     → InputProgress input left bytes n s (sent ++ out) → InputProgress input left bytes n s ((sent ++ gone) ++ rest)
 some_gone sent out gone rest is here = rw (ap (λ w. sent ++ w) is ∙ sym (append_assoc sent gone rest)) at here
@@ -48,7 +48,7 @@ pub held_same : (taken : Option (List ℕ)) (input : List ℕ) (left : Option (L
     → (gone : List ℕ) × IsUnread taken gone × IsHeldRun input left out r (sent ++ gone)
 held_same taken input left out r sent held = ([], nothing_gone taken, subst (λ w. IsHeldRun input left out r w) (sym (append-nil sent)) held)
 
--- a line that was answered in full
+-- a line whose reply is complete
 pub answered_in_full : (taken : Option (List ℕ)) (due : Result (ScriptState × List ℕ) RunFault) (new : ScriptState) (out grown : List ℕ) (r : Result (Unit {0}) RunFault)
     → Executes due new out grown r → IsAnswer taken due new out grown r
 answered_in_full taken due new out grown (Ok done) h = record { ok = (h.ok.0, [], h.ok.1, sym h.ok.2, nothing_gone taken); err = tt; faults = tt }
@@ -69,7 +69,7 @@ nothing_read None after h = tt
 nothing_read (Some x) None h = absurd h
 nothing_read (Some x) (Some y) h = sym h
 
--- where a read gave nothing
+-- if a read returned no bytes
 pub unread : (input : List ℕ) (before after : Option (List ℕ)) (bytes same : List ℕ) (n : ℕ) (s : ScriptState) (w : List ℕ) → InputProgress input before bytes n s w → same ≡ bytes → Keeps before after
     → InputProgress input after same n s w
 unread input before after bytes same n s w here is kept = advance input n s w before after bytes same [] here (is ∙ sym (append-nil bytes)) (nothing_read before after kept)
@@ -119,7 +119,7 @@ module _ (input : List ℕ) (left : Option (List ℕ)) (bytes : List ℕ) (n : �
     pub held_full_last : 0 < length bytes → n ≢ MAX_LINES → answer s bytes ≡ Err fault.HistoryFull → IsHeldRun input left out (Err fault.HistoryFull) sent
     held_full_last some few full = (text, at_fault_last input left bytes n s (sent ++ out) here end plain some short few fault.HistoryFull full)
 
--- the last line, by how it was answered
+-- the last line, by its result
 pub held_last : (taken : Option (List ℕ)) (input : List ℕ) (left : Option (List ℕ)) (bytes : List ℕ) (n : ℕ) (s : ScriptState) (sent out : List ℕ)
     → InputProgress input left bytes n s (sent ++ out) → IsAtEnd left → line_len bytes ≡ length bytes → length bytes ≤ MAX_LINE_BYTES → 0 < length bytes → n ≢ MAX_LINES
     → (r : Result (Unit {0}) RunFault) (s' : ScriptState) (grown : List ℕ) → IsAnswer taken (answer s bytes) s' out grown r

@@ -1,4 +1,4 @@
--- Each end of a run whose text is dropped, and what is certified after it.
+-- Each end of a run whose text is dropped, and the certificate made after it.
 use Rattle.std.proofs.Common.{◌≡◌, ◌≢◌, ℕ, ◌+◌, ◌<◌, ◌≤◌, List, ◌++◌, inl, inr, Bool, true, false, length, take, drop, refl, sym, ◌∙◌, ap, arith, Option, Result, Ok, Err, filter_map, slice_get}
 use Rattle.std.specs.Io.KnownBytes.{IsAtEnd}
 use Rattle.esr_history.specs.Machine.{Schedule}
@@ -46,7 +46,7 @@ module _ (input : List ℕ) (left : Option (List ℕ)) (bytes : List ℕ) (n : �
     | inr h ↦ rw h.0 (ap fault_of (at_fault_last input left bytes n s w here end plain some short few fault.HistoryFull h.1))
   ]
 
--- ---- what is certified
+-- ---- the certificate
 
 -- another certificate of the problem with its smallest closed set of least cost has the set of the finding
 bundled : (steps : Bool) (h : Schedule) (q : ℕ) (f : Finding) → IsFound h q f.problem (certificate_of f.certificate) → (line : List ℕ) → IsLineOf steps f line → IsBundleLine steps h q line
@@ -57,7 +57,7 @@ bundled true h q f found line (c, certified, smallest, counted, is) =
     let same : c.set ≡ (certificate_of f.certificate).set = same_set f.problem c (certificate_of f.certificate) certified found.certified smallest found.smallest in
     (bundle f.problem c, record { problem = f.problem; certificate = c; of_query = found.of_query; near = found.near; certified = certified; set_is = ap (filter_map (slice_get f.problem.updates)) same ∙ found.set_is; reported = counted; text_is = refl }, is)
 
--- the bundle of what was asked for, with a line feed
+-- the bundle of the audited query, with a line feed
 pub bundle_rendered : (steps : Bool) (s : ScriptState) (name : List ℕ) (a : AuditedQuery) → IsAnswered s name a → (line : List ℕ)
     → IsLineOf steps a.finding line → IsBundleLine steps s.history (transaction_called s name).0 line
 bundle_rendered steps s name a h line is = bundled steps s.history (transaction_called s name).0 a.finding h.finding.found line is

@@ -1,4 +1,4 @@
--- An event with the numbers of the names that it was given by.
+-- An event with the numbers of the names in its line.
 use Rattle.std.proofs.Common.{◌≡◌, ℕ, List, Result}
 use Rattle.esr_history.specs.declared.event.Event.{Event}
 use Rattle.esr_report.specs.Lines.{Named}

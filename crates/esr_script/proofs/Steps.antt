@@ -1,4 +1,4 @@
--- How a run goes on, and how it ends.
+-- How a run continues, and how it ends.
 use Rattle.std.proofs.Common.{◌≡◌, ◌≢◌, ℕ, ◌+◌, ◌<◌, ◌≤◌, List, [], ◌∷◌, ◌++◌, length, take, refl, sym, ◌∙◌, ap, arith, Option, Some, None, Ok, Err, append_assoc, append-nil, length-append, length-take, le-ltb, lt-ltb, ne_eqb, eq-eqb}
 use Rattle.std.proofs.Math.Seq.{take-append_seam}
 use Rattle.std.specs.Io.KnownBytes.{IsAtEnd, Consumes}
@@ -43,7 +43,7 @@ preceded_by-done a n s = ap (λ (t : List ℕ). let r : Outcome = record { text 
 next-is : (s s' : ScriptState) (line t : List ℕ) → answer s line ≡ Ok (s', t) → next_state s line ≡ s'
 next-is s s' line t is = rw (is, next_state) refl
 
--- a line more is answered
+-- one more line is executed
 pub state-more : (a s s' : ScriptState) (ls : List (List ℕ)) (line t : List ℕ) → state_after a ls ≡ s → answer s line ≡ Ok (s', t) → state_after a (ls ++ line ∷ []) ≡ s'
 state-more a s s' [] line t at is = ap (λ z. next_state z line) at ∙ next-is s s' line t is
 state-more a s s' (l ∷ ls) line t at is = state-more (next_state a l) s s' ls line t at is
@@ -74,7 +74,7 @@ module _ (input : List ℕ) (n : ℕ) (s : ScriptState) (w : List ℕ) where
       ∙ ap (preceded_by w) (outcome-line n s s' l t more few size is) ∙ preceded_by-preceded_by w t (outcome_from (n + 1) s' more) in
       record { used = p.used ++ (l ++ 10 ∷ []); answered = p.answered ++ l ∷ []; split = split; counted = counted; cut = cut; cut_whole = cut_whole; reached = reached; ran = ran }
 
-  -- the outcome of all of the input, by the lines of what is left
+  -- the outcome of the whole input, from the lines of the unread rest
   pub whole : (unread : List ℕ) (ls : List (List ℕ)) → Progress input unread n s w → lines unread ≡ ls → outcome input ≡ preceded_by w (outcome_from n s ls)
   whole unread ls p e = ap outcome p.split ∙ ap outcome_of_lines (p.cut unread ∙ ap (λ m. p.answered ++ m) e) ∙ p.ran ls
 
@@ -89,7 +89,7 @@ module _ (input : List ℕ) (n : ℕ) (s : ScriptState) (w : List ℕ) where
       let text : outcome_of_lines p.answered ≡ record { text = w; fault = None } = ap outcome_of_lines (sym (append-nil p.answered)) ∙ p.ran [] ∙ preceded_by-done w n s in
       (length p.answered, (omega (arith, lengths)), ap outcome_of_lines front ∙ text)
 
-  -- where one line is left
+  -- if one line is left
   pub last_state : (unread line : List ℕ) → Progress input unread n s w → lines unread ≡ line ∷ [] → (s' : ScriptState) (t : List ℕ) → answer s line ≡ Ok (s', t) → final input ≡ s'
   last_state unread line p e s' t is = ap final p.split ∙ ap (state_after start) (p.cut unread ∙ ap (λ m. p.answered ++ m) e) ∙ state-more start s s' p.answered line t p.reached is
 
@@ -164,6 +164,6 @@ module _ (input : List ℕ) (left : Option (List ℕ)) (bytes : List ℕ) (n : �
   at_fault_last here end plain some short few f is =
       last_line here end plain some ∙ ap (preceded_by w) (outcome-fault n s bytes f [] few short is) ∙ preceded_by-stopped w f
 
-  -- where a read failed
+  -- if a read failed
   pub at_read : InputProgress input left bytes n s w → line_len bytes ≡ length bytes → (taken : List ℕ) × Consumes (Some input) left taken × IsWholeText (outcome_of_lines (whole_lines taken)) w
   at_read here plain = grind (arith, append_assoc, whole-none bytes plain, append-nil, preceded_by-done w n s, consumed)

@@ -1,4 +1,4 @@
--- A line that is answered where nobody reads the text: what it leads to is what it would lead to.
+-- A line whose text is dropped leads to the same state as a line whose text is written.
 use Rattle.std.proofs.Common.{◌≡◌, List, ℕ, false, inl, sym, ap, Some, Result, Ok, Err, OnOk, IfErr}
 use Rattle.esr_grammar.specs.Command as command
 use Rattle.esr_grammar.specs.Command.{Command, is_skipped, reading}

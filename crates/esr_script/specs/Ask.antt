@@ -5,6 +5,6 @@ use Rattle.esr_views.specs.Ask.{IsAnswered}
 use Rattle.esr_script.specs.Text.{final, RunFault}
 use Rattle.esr_script.specs.Ends.{IsReachedBy, IsNoQuery}
 
--- Asking for the query of that name, given the input, left these bytes of it and ended so.
+-- The relation between the input of a request for the query of that name, the unread rest, and the result.
 abbrev pub IsAuditedQuery : List ℕ → List ℕ → Option (List ℕ) → Result AuditedQuery RunFault → Type 0
 IsAuditedQuery input name left r = IsReachedBy (IsAnswered (final input) name) (IsNoQuery input name) input left r

@@ -10,8 +10,8 @@ use Rattle.esr_script.specs.Text.{ScriptState, final, RunFault}
 use Rattle.esr_script.specs.declared.audited_script.AuditedScript.{AuditedScript}
 use Rattle.esr_script.specs.Ends.{IsWrittenBy}
 
--- the line of what is told of a query, by the names of the transactions: the query, its distance, its import, and the
--- updates before its position
+-- the line of a query, by the names of the transactions: the query, its distance, its import, and the updates before
+-- its position
 abbrev pub finding_line : List (List ℕ) → ℕ × ℕ × ℕ × List ℕ → List ℕ
 finding_line names t = audit_line names (name_of_transaction names t.0) t.1 t.2 t.3
 
@@ -25,7 +25,8 @@ audit_output s =
     ++ flat_map (finding_line s.transactions) (map (summary_of weighted h) (committed_queries h))
     ++ totals_line (all_imports weighted h) (all_exports weighted h) (length h.entries)
 
--- The audit of a script, given the input, left these bytes of it, ended so and wrote this. It asks for no one query.
+-- The relation between the input of a script's audit, the unread rest, the result, and the text written. It requests
+-- no single query.
 abbrev pub IsAuditedBy : List ℕ → Option (List ℕ) → Result (Unit {0}) RunFault → List ℕ → Type 0
 IsAuditedBy input left r written = IsWrittenBy (λ text. text ≡ audit_output (final input)) ⊥ input left r written
 

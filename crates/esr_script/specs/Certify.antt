@@ -12,13 +12,13 @@ use Rattle.esr_bundle.specs.Bundle.{bundle}
 use Rattle.esr_script.specs.Text.{final, RunFault}
 use Rattle.esr_script.specs.Ends.{query_of, IsReportedBy}
 
--- the certificate tells the count of augmentations, or does not
+-- whether the certificate contains the count of augmentations
 abbrev pub HasAugmentations : Bool → Problem → Certificate → Type 0
 HasAugmentations true p c = IsCounted p c
 HasAugmentations false p c = c.augmentations ≡ None
 
--- The text is the bundle of a problem of the near updates that stands for the query, and of a certificate of it with the
--- smallest least set.
+-- The text is the bundle of the query's problem of the near updates, and of a certificate of it with the smallest
+-- least set.
 pub record IsBundleOf (steps : Bool) (h : Schedule) (q : ℕ) (text : List ℕ) : Type 0 where
   pub problem : Problem
   pub certificate : Certificate
@@ -29,12 +29,12 @@ pub record IsBundleOf (steps : Bool) (h : Schedule) (q : ℕ) (text : List ℕ) 
   pub reported : HasAugmentations steps problem certificate
   pub text_is : text ≡ bundle problem certificate
 
--- the same with a line feed
+-- the text of such a bundle with a line feed
 abbrev pub IsBundleLine : Bool → Schedule → ℕ → List ℕ → Type 0
 IsBundleLine steps h q line = (text : List ℕ) × IsBundleOf steps h q text × (line ≡ text ++ 10 ∷ [])
 
--- Certifying the query of that name, given the input, left these bytes of it, ended so and wrote this: the bundle and a
--- line feed.
+-- The relation between the input of certifying the query of that name, the unread rest, the result, and the text
+-- written: the bundle and a line feed.
 abbrev pub IsCertifiedBy : Bool → List ℕ → List ℕ → Option (List ℕ) → Result (Unit {0}) RunFault → List ℕ → Type 0
 IsCertifiedBy steps input name left r written =
     IsReportedBy (IsBundleLine steps (final input).history (query_of input name)) input name left r written

@@ -1,4 +1,4 @@
--- How it ends to go over a whole script for what it leads to.
+-- The ends of a run over a whole script for its final state.
 use Rattle.std.specs.Prelude.{◌≡◌, ⊤, ℕ, List, [], Bool, true, false, Option, Some, None, Result, Ok, Err}
 use Rattle.std.specs.Io.KnownBytes.{Consumes}
 use Rattle.esr_history.specs.Queries.{is_committed_query}
@@ -14,7 +14,7 @@ IsWhole input = (outcome input).fault ≡ None
 abbrev pub EndsBy : List ℕ → RunFault → Type 0
 EndsBy input f = (outcome input).fault ≡ Some f
 
--- the number that the name stands for after the script
+-- the number of the name after the script
 abbrev pub query_of : List ℕ → List ℕ → ℕ
 query_of input name = (transaction_called (final input) name).0
 
@@ -26,8 +26,8 @@ is_query input name = is_committed_query (final input).history (query_of input n
 abbrev pub IsNoQuery : List ℕ → List ℕ → Type 0
 IsNoQuery input name = IsWhole input × (is_query input name ≡ false)
 
--- Going over the input left these bytes of it and gave a value of which this holds, or a fault.
--- Refused is what a refusal of the query says.
+-- The run over the input left these bytes unread and returned a value of which this holds, or a fault. Refused is the
+-- meaning of a refusal of the query.
 abbrev pub IsReachedBy : {T : Type 0} → (T → Type 0) → Type 0 → List ℕ → Option (List ℕ) → Result T RunFault → Type 0
 -- the input was read to its end
 IsReachedBy Holds Refused input left (Ok value) = Consumes (Some input) left input × IsWhole input × Holds value
@@ -40,7 +40,7 @@ IsReachedBy Holds Refused input left (Err fault.HistoryFull) = EndsBy input faul
 IsReachedBy Holds Refused input left (Err fault.TooManyLines) = EndsBy input fault.TooManyLines
 IsReachedBy Holds Refused input left (Err fault.NotACommittedQuery) = Refused
 
--- The same where a text of which this holds was then written.
+-- The run over the input, after which a text of which this holds was written.
 abbrev pub IsWrittenBy : (List ℕ → Type 0) → Type 0 → List ℕ → Option (List ℕ) → Result (Unit {0}) RunFault
     → List ℕ → Type 0
 IsWrittenBy Holds Refused input left (Ok done) written =
@@ -51,8 +51,8 @@ IsWrittenBy Holds Refused input left (Err fault.Write) written =
 -- nothing was written
 IsWrittenBy Holds Refused input left r written = IsReachedBy (λ done. ⊤) Refused input left r × (written ≡ [])
 
--- Telling of the query of that name, given the input, left these bytes of it, ended so and wrote this: a text of which
--- this holds.
+-- The relation between the input of a view of the query of that name, the unread rest, the result, and the text
+-- written, of which this holds.
 abbrev pub IsReportedBy : (List ℕ → Type 0) → List ℕ → List ℕ → Option (List ℕ) → Result (Unit {0}) RunFault
     → List ℕ → Type 0
 IsReportedBy Holds input name left r written =

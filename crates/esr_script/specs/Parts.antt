@@ -16,7 +16,7 @@ abbrev pub is_write_fault : {T : Type 0} → Result T RunFault → Bool
 is_write_fault (Err fault.Write) = true
 is_write_fault _ = false
 
--- A run over the input that has answered or skipped count lines, wrote this, and has these bytes before it.
+-- A run over the input that has executed or skipped `count` lines, wrote this text, and has these bytes before it.
 pub record Progress (input unread : List ℕ) (count : ℕ) (state : ScriptState) (written : List ℕ) : Type 0 where
   pub used : List ℕ
   pub answered : List (List ℕ)
@@ -28,7 +28,7 @@ pub record Progress (input unread : List ℕ) (count : ℕ) (state : ScriptState
   pub ran : (more : List (List ℕ)) → outcome_of_lines (answered ++ more)
       ≡ preceded_by written (outcome_from count state more)
 
--- the same, where the bytes before it are these ahead and those that the reader has left
+-- like `Progress`, if the bytes before it are the buffered ones and those left in the reader
 pub record InputProgress (input : List ℕ) (left : Option (List ℕ)) (bytes : List ℕ) (count : ℕ) (state : ScriptState)
     (written : List ℕ) : Type 0 where
   pub rest : List ℕ
@@ -41,12 +41,12 @@ abbrev pub IsHeldRun : List ℕ → Option (List ℕ) → List ℕ → Result (U
 IsHeldRun input left out (Err fault.Write) sent = BeginsWith (outcome input).text sent
 IsHeldRun input left out r sent = BeginsWith (outcome input).text (sent ++ out) × IsRunBy input left r (sent ++ out)
 
--- This much of an output counts as taken, though nothing took it: none of it, where it is known what was taken.
+-- The output counts as taken although nothing took it. If the taken bytes are known, none of it does.
 abbrev pub IsUnread : Option (List ℕ) → List ℕ → Type 0
 IsUnread taken gone = Appends taken taken gone
 
--- A line was to be answered so, and was: the state is that, and the text is behind the output, less what nobody reads.
--- An error is out of memory, or the full history that was to come.
+-- A line was executed as due: the state is the due state, and the due text follows the output, less the dropped part.
+-- An error is out of memory, or the due full history.
 pub record IsAnswer (taken : Option (List ℕ)) (due : Result (ScriptState × List ℕ) RunFault) (new : ScriptState)
     (out_old out_new : List ℕ) (result : Result (Unit {0}) RunFault) : Type 0 where
   pub ok : OnOk result ((text gone : List ℕ) × (due ≡ Ok (new, text)) × (out_old ++ text ≡ gone ++ out_new)

@@ -6,9 +6,9 @@ use Rattle.esr_base.specs.declared.watched.Watched.{Watched}
 use Rattle.esr_script.specs.Text.{RunFault}
 use Rattle.esr_script.specs.Parts.{is_read_fault, is_write_fault}
 
--- Such a call ended so. Whatever the input was, it ended by Ends, which is of the input, what is left of it, the result
--- and what was written. The reader has failed exactly where the result is that a read failed, and the writer exactly
--- where it is that a write did.
+-- The end of a call that reads and writes. Whatever the input was, the call ended by Ends, a relation of the input,
+-- the unread rest, the result and the text written. The reader has failed exactly if the result is a failed read, and
+-- the writer exactly if the result is a failed write.
 pub record ReadsAndWrites {R W : Type 0} (remaining : R → Option (List ℕ)) (contents : W → Option (List ℕ))
     (reader_old reader_new : Watched R) (writer_old writer_new : Watched W)
     (Ends : List ℕ → Option (List ℕ) → Result (Unit {0}) RunFault → List ℕ → Type 0)

@@ -13,7 +13,7 @@ use Rattle.esr_script.specs.Ends.{IsReachedBy}
 abbrev pub IsReplay : List ℕ → Option (List ℕ) → Result (Unit {0}) RunFault → ScriptState → Type 0
 IsReplay input left r s = IsReachedBy (λ done. final input ≡ s) ⊥ input left r
 
--- The bundle of a finding's problem, and a line feed: with its certificate, or with one that tells the count of
+-- The bundle of a finding's problem, and a line feed: with its certificate, or with one that contains the count of
 -- augmentations.
 abbrev pub IsLineOf : Bool → Finding → List ℕ → Type 0
 IsLineOf false f line = line ≡ bundle f.problem (certificate_of f.certificate) ++ 10 ∷ []

@@ -1,4 +1,4 @@
--- What a run may have written, by how it ended.
+-- The permitted output of a run, by its end.
 use Rattle.std.specs.Prelude.{◌≡◌, ℕ, ◌≤◌, List, Option, Result, Ok, Err, Some, None, take, length}
 use Rattle.std.specs.Io.KnownBytes.{Consumes}
 use Rattle.esr_base.specs.Watch.{BeginsWith}
@@ -14,7 +14,7 @@ IsWholeText o written = o ≡ record { text = written; fault = None }
 abbrev pub IsTextBefore : Outcome → RunFault → List ℕ → Type 0
 IsTextBefore o f written = o ≡ record { text = written; fault = Some f }
 
--- A run that was given the input, left these bytes of it and ended so wrote this.
+-- The relation between the input of a run, the unread rest, the result, and the text written.
 abbrev pub IsRunBy : List ℕ → Option (List ℕ) → Result (Unit {0}) RunFault → List ℕ → Type 0
 -- the input was read to its end, and the whole text was written
 IsRunBy input left (Ok done) written = Consumes (Some input) left input × IsWholeText (outcome input) written
@@ -23,7 +23,7 @@ IsRunBy input left (Err fault.Read) written =
     (taken : List ℕ) × Consumes (Some input) left taken × IsWholeText (outcome_of_lines (whole_lines taken)) written
 -- a prefix of the output
 IsRunBy input left (Err fault.Write) written = BeginsWith (outcome input).text written
--- the text of the lines before the one where memory ran out
+-- the text of the lines before the one at which memory ran out
 IsRunBy input left (Err fault.NoMemory) written =
     (count : ℕ) × (count ≤ length (lines input)) × IsWholeText (outcome_of_lines (take count (lines input))) written
 -- the text of the lines before the one that ends the run so

@@ -1,4 +1,4 @@
--- The text of a script: what a run over its lines writes, and how it ends.
+-- The text of a script: the output of a run over its lines, and the end of the run.
 use Rattle.std.specs.Prelude.{◌≡◌, ◌⊎◌, OnOk, OnErr, IfErr, ℕ, ◌+◌, ◌==◌, ℤ, pos, List, [], ◌∷◌, ◌++◌, true, false, not, nat_lt, nat_eq, cond, Option, Some, None, Result, Ok, Err, length, unwrap_or, if◌then◌else◌}
 use Rattle.esr_items.specs.Values.{is_value}
 use Rattle.esr_items.specs.Weights.{is_weight, weighted}
@@ -31,11 +31,11 @@ start = record {
   history = record { opening = []; weights = []; entries = [] };
 }
 
--- where no more items may be declared
+-- the state in which no more items may be declared
 abbrev pub closed : ScriptState → ScriptState
 closed s = record s { closed = true }
 
--- items are numbered from 0; a name that is not bound stands for a number that no item has
+-- items are numbered from 0; an unbound name denotes a number that no item has
 abbrev pub item_called : ScriptState → List ℕ → ItemId
 item_called s name = record { 0 = unwrap_or (position_of s.items name) MAX_ITEMS }
 
@@ -44,14 +44,14 @@ abbrev pub bound : List (List ℕ) → List ℕ → Reply → List (List ℕ)
 bound names name (reply.Begun number) = names ++ name ∷ []
 bound names name _ = names
 
--- an event is given to the machine, whose reply is an entry of the history
+-- the machine executes an event, whose reply is an entry of the history
 abbrev pub ask : ScriptState → Named → Event → Result (ScriptState × List ℕ) RunFault
 ask s named e =
     if length s.history.entries == MAX_ENTRIES then Err fault.HistoryFull
     else (let r = reply_to weighted s.history e in let names = bound s.transactions named.txn r in
     Ok (record s { closed = true; transactions = names; history = extended s.history e r }, reply_line names named r))
 
--- a begin, whose name may not be bound already
+-- a begin, whose name must not be bound already
 abbrev pub begin : ScriptState → List ℕ → Event → Result (ScriptState × List ℕ) RunFault
 begin s name e =
     if is_bound s.transactions name then Ok (record s { closed = true }, error_line NameInUse)
@@ -66,7 +66,7 @@ with_item s name value weight =
       history = record h { opening = h.opening ++ value ∷ []; weights = h.weights ++ weight ∷ [] };
     }
 
--- what is wrong with the declaration of an item, if something is
+-- the error of an item's declaration, if it has one
 abbrev pub item_error : ScriptState → List ℕ → ℤ → ℕ → Option LineError
 item_error s name value weight =
     if s.closed then Some ItemsAreClosed
@@ -76,7 +76,7 @@ item_error s name value weight =
     else if not (is_weight weight) then Some WeightOutOfRange
     else None
 
--- an item is declared, which is answered by the line, or the error is
+-- declares an item and returns the line, or returns the error
 abbrev pub declare_or : Option LineError → ScriptState → List ℕ → ℤ → ℕ → List ℕ → ScriptState × List ℕ
 declare_or None s name value weight line = (with_item s name value weight, line)
 declare_or (Some error) s name value weight line = (s, error_line error)
@@ -124,21 +124,21 @@ answer s line =
       | None ↦ Ok (s, error_line NotACommand)
     ])
 
--- A line was to be answered so, and was: the state is that, and the text is behind the output. An error leaves the
--- output, and is out of memory, or the full history that was to come.
+-- A line was executed as due: the state is the due state, and the due text follows the output. An error leaves the
+-- output unchanged, and is out of memory, or the due full history.
 pub record Executes (due : Result (ScriptState × List ℕ) RunFault) (new : ScriptState) (out_old out_new : List ℕ)
     (result : Result (Unit {0}) RunFault) : Type 0 where
   pub ok : OnOk result ((text : List ℕ) × (due ≡ Ok (new, text)) × (out_new ≡ out_old ++ text))
   pub err : OnErr result (out_new ≡ out_old)
   pub faults : IfErr result (λ e. (e ≡ fault.NoMemory) ⊎ ((e ≡ fault.HistoryFull) × (due ≡ Err fault.HistoryFull)))
 
--- the same where the text is nobody's
+-- like `Executes`, if the text is dropped
 pub record EndsIn (due : Result (ScriptState × List ℕ) RunFault) (new : ScriptState) (result : Result (Unit {0}) RunFault)
     : Type 0 where
   pub ok : OnOk result ((text : List ℕ) × (due ≡ Ok (new, text)))
   pub faults : IfErr result (λ e. (e ≡ fault.NoMemory) ⊎ ((e ≡ fault.HistoryFull) × (due ≡ Err fault.HistoryFull)))
 
--- the text of the answered lines, and the fault of the line that ends the run, if one does
+-- the text of the executed lines, and the fault of the line that ends the run, if one does
 pub record Outcome : Type 0 where
   pub text : List ℕ
   pub fault : Option RunFault
@@ -147,11 +147,11 @@ pub record Outcome : Type 0 where
 abbrev pub stopped : RunFault → Outcome
 stopped f = record { text = []; fault = Some f }
 
--- the same outcome behind a text
+-- an outcome whose text follows another text
 abbrev pub preceded_by : List ℕ → Outcome → Outcome
 preceded_by front o = record { text = front ++ o.text; fault = o.fault }
 
--- the run over the lines from a state on, of which count are answered or skipped already
+-- the run over the lines from a state on, of which `count` are executed or skipped already
 abbrev pub outcome_from : ℕ → ScriptState → List (List ℕ) → Outcome
 outcome_from count state [] = record { text = []; fault = None }
 outcome_from count state (line ∷ more) =

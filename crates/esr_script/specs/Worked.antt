@@ -1,4 +1,4 @@
--- Scripts with the texts that they give.
+-- Scripts with their texts.
 use Rattle.std.specs.Prelude.{codes, refl, []}
 use Rattle.std.specs.Fmt.{digits}
 use Rattle.esr_script.specs.Run.{IsWholeText}

@@ -1,6 +1,6 @@
-//! Answers the lines in the bytes ahead, whether their text is to be written or dropped. A line is looked at where it
-//! lies in the input buffer; none is copied. Who looks on sees each with its answer, and changes nothing. Where nobody
-//! reads the text, it is dropped line by line, so what is not made of it does not show.
+//! Executes the lines of the buffered bytes. A line is read in the input buffer and not copied. The observer sees
+//! each line with its reply, and changes nothing. If the text is to be dropped, it is dropped line by line, so text
+//! that was not produced makes no difference.
 
 ghost use Rattle.esr_grammar.specs.declared.limits.TheConstants.{MAX_LINES, MAX_LINE_BYTES};
 ghost use Rattle.std.specs.Prelude.{◌≡◌, ◌≢◌, ℕ, List, ◌+◌, ◌++◌, ◌≤◌, ◌⊎◌, [], Option, Err, OnOk, IfOk, IfErr, IsErrOf, false, length};
@@ -17,7 +17,7 @@ use crate::sink::{Audience, Sink};
 use esr_grammar::{MAX_LINES, Next};
 use esr_lint::Observer;
 
-/// The count of bytes of the line that is next, where it may be answered.
+/// Returns the number of bytes of the next line, if it can be executed.
 fn next_length(next: Next, count: u64) -> Result<usize, RunFault>
     requires { next ≢ Next.More }
     ensures ok { IfOk result (λ length. (next ≡ Next.Line length) × (count ≢ MAX_LINES)) }
@@ -35,7 +35,7 @@ fn next_length(next: Next, count: u64) -> Result<usize, RunFault>
     }
 }
 
-/// Answers a line that has so many before it, and lets the observer see it with its answer.
+/// Executes the line after `count` lines, and passes it and its reply to the observer.
 #[inline(always)]
 fn answer<S: Sink, O: Observer>(
     line: &[u8],
@@ -60,7 +60,7 @@ fn answer<S: Sink, O: Observer>(
     ended
 }
 
-/// Answers the next line, and goes on after its line feed.
+/// Executes the next line, and continues after its line feed.
 #[tactic(auto, using(crate::proofs::Handed::handed_on))]
 pub fn answer_next<S: Sink, O: Observer>(
     next: Next,
@@ -100,7 +100,7 @@ pub fn answer_next<S: Sink, O: Observer>(
     Ok(())
 }
 
-/// Answers the line that has no line feed, where there is one.
+/// Executes the last line, if it has no line feed.
 pub fn answer_last<S: Sink, O: Observer>(
     pending: &InputBuffer,
     count: u64,

@@ -1,5 +1,5 @@
-//! Audits a whole script: it is run without its output, and the serial order, what is found of each committed query,
-//! and the totals are written. All of it is a function of the history, so the number of workers does not show.
+//! Audits a whole script: it is run without its output, and the serial order, the finding of each committed query,
+//! and the totals are written. All of it is a function of the history, so the number of workers makes no difference.
 
 ghost use Rattle.esr_board.specs.declared.board.TheConstants.{MAX_SEATS};
 ghost use Rattle.std.specs.Prelude.{◌≡◌, ◌≤◌, ℕ, List, Some, false};
@@ -21,7 +21,7 @@ use std::alloc::Global;
 use std::io::{Read, Write};
 use std::thread::Threads;
 
-/// The output.
+/// Runs a script and returns the output of its audit.
 #[tactic(auto, using(crate::proofs::Handed::handed_on))]
 fn prepare<T: Threads + Sync, R: Read, G: Gate + Sync, O: Observer>(
     rt: &T,
@@ -68,13 +68,13 @@ pub fn audit_silently<T: Threads + Sync, R: Read, G: Gate + Sync, O: Observer>(
     script.into_audited(rt, workers, gate)
 }
 
-/// Runs a script without writing its output, audits its whole history by so many workers, 1 to 64, and writes the
-/// committed updates in a serial order, what is found of each committed query, and the totals. A worker calls the gate
+/// Runs a script without writing its output, audits its whole history with `workers` threads, 1 to 64, and writes the
+/// committed updates in a serial order, the result of each committed query, and the totals. A worker calls the gate
 /// before each audit.
 ///
 /// # Errors
-/// `LineTooLong`, `HistoryFull` and `TooManyLines` where `run` would end so. After a fault other than `Write` nothing
-/// was written, after `Write` a prefix of the output. `NotACommittedQuery` never comes.
+/// `LineTooLong`, `HistoryFull` and `TooManyLines` if `run` would return them. After a fault other than `Write`
+/// nothing was written, after `Write` a prefix of the output. `NotACommittedQuery` is never returned.
 #[tactic(auto, using(crate::proofs::Handed::handed_on))]
 pub fn audit<T: Threads + Sync, R: Read, W: Write, G: Gate + Sync, O: Observer>(
     rt: &T,

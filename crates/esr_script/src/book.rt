@@ -1,4 +1,4 @@
-//! The lines of the audit of a whole history, in the words that the lines `audit` and `totals` of a script have.
+//! Writes the lines of the audit of a whole history, in the format of a script's `audit` and `totals` lines.
 
 ghost use Rattle.std.specs.Prelude.{◌≡◌, ◌++◌, OnOk, map, flat_map};
 ghost use Rattle.esr_report.specs.Lines.{order_line, totals_line};
@@ -10,7 +10,7 @@ use esr_core::Totals;
 use esr_report::{Names, audit_line, name_of_transaction, order_line, totals_line};
 use std::alloc::AllocError;
 
-/// Appends the line of what was found of a query.
+/// Appends the line of a query's summary.
 fn push_summary(out: &mut Vec<u8>, names: &Names, summary: &Summary) -> Result<(), AllocError>
     ensures { OnOk result (out.new.items ≡ out.old.items ++ finding_line names.now (seen_summary summary.now)) }
 {
@@ -25,7 +25,7 @@ fn push_summary(out: &mut Vec<u8>, names: &Names, summary: &Summary) -> Result<(
     )
 }
 
-/// Appends the lines of what was found of queries.
+/// Appends the lines of the queries' summaries.
 #[tactic(auto, using(crate::proofs::Audited::lines_more))]
 fn push_summaries(out: &mut Vec<u8>, names: &Names, summaries: &[Summary]) -> Result<(), AllocError>
     ensures { OnOk result (out.new.items ≡ out.old.items
@@ -37,7 +37,7 @@ fn push_summaries(out: &mut Vec<u8>, names: &Names, summaries: &[Summary]) -> Re
     Ok(())
 }
 
-/// Appends the lines of an audit: the serial order, what was found of each query, and the totals.
+/// Appends the lines of an audit: the serial order, the finding of each query, and the totals.
 pub fn push_audit(
     out: &mut Vec<u8>,
     names: &Names,

@@ -1,8 +1,8 @@
 //! Certifies a query of a script: the whole script is run without its output, and the query's bundle is written.
 //!
-//! The count of augmentations is told only where it is asked for: the check can bound it and not verify it, so a bundle
-//! for a stranger is better without. The audit's own certificate has none, so with `--steps` the problem is solved
-//! again from the flow of zeros; its set is the same, since the smallest least set is one alone.
+//! A bundle contains the count of augmentations only on request: the check can bound it and not verify it, so a
+//! bundle for another party is better without it. The audit's own certificate has none, so with `--steps` the problem
+//! is solved again from the zero flow; its set is the same, since the smallest least set is unique.
 
 ghost use Rattle.std.specs.Prelude.{◌≡◌, ◌++◌, ◌∷◌, [], true, false, IfOk};
 ghost use Rattle.esr_bundle.specs.Bundle.{bundle};
@@ -24,7 +24,7 @@ use esr_views::{AuditedQuery, QueryView};
 use std::alloc::{AllocError, Global};
 use std::io::{Read, Write};
 
-/// The bundle of a problem and a certificate, and a line feed.
+/// Returns the bundle of a problem and a certificate, and a line feed.
 fn line_of(
     alloc: Global,
     problem: &Problem,
@@ -39,8 +39,8 @@ fn line_of(
     Ok(text)
 }
 
-/// The same of a finding's problem: with its certificate, or with one that tells the count of augmentations if `steps`,
-/// for which the problem is solved again.
+/// Returns the bundle of a finding's problem, and a line feed: with its certificate, or, if `steps`, with one that
+/// contains the count of augmentations, for which the problem is solved again.
 fn bundle_line(alloc: Global, finding: &Finding, steps: bool) -> Result<Vec<u8>, AllocError>
     ensures { IfOk result (λ v. IsLineOf steps finding.now v.items) }
 {
@@ -69,7 +69,7 @@ impl QueryView for Bundling {
 
 /// Runs a script without writing its output, and writes the bundle of its query of that name, and a line feed.
 ///
-/// `NotACommittedQuery` exactly where the run has no fault and the name is that of no committed query. After a fault
+/// `NotACommittedQuery` exactly if the run has no fault and the name does not denote a committed query. After a fault
 /// other than `Write` nothing was written, after `Write` a prefix of the bundle and its line feed.
 pub fn certify<R: Read, W: Write, O: Observer>(
     alloc: Global,
@@ -93,7 +93,7 @@ pub fn certify<R: Read, W: Write, O: Observer>(
     )
 }
 
-/// The same with the count of augmentations.
+/// Writes a bundle like [`certify`], but its certificate contains the count of augmentations.
 pub fn certify_steps<R: Read, W: Write, O: Observer>(
     alloc: Global,
     reader: &mut Watched<R>,

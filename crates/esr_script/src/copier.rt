@@ -1,4 +1,5 @@
-//! A reader that keeps a copy of what passes, for who tells of a line at fault, or looks at a bundle once more.
+//! A reader that keeps a copy of the bytes read, for a caller that shows the line with a fault, or reads a bundle
+//! twice.
 
 ghost use Rattle.std.specs.Prelude.{◌≡◌};
 ghost use Rattle.std.specs.Io.{ReadsAtMost};
@@ -9,7 +10,7 @@ use std::alloc::Global;
 use std::io;
 use std::io::Read;
 
-/// A reader with a copy of what was read from it.
+/// A reader with a copy of the bytes read from it.
 #[derive(Drop)]
 pub struct TeeReader<R> {
     lower: R,
@@ -28,7 +29,7 @@ impl<R> TeeReader<R> {
         }
     }
 
-    /// What was read, unless memory was refused for it.
+    /// Returns the bytes read, unless an allocation for them failed.
     pub fn copy(&self) -> Option<&[u8]> {
         if self.is_whole {
             Some(&self.copy)
@@ -37,7 +38,7 @@ impl<R> TeeReader<R> {
         }
     }
 
-    /// Keeps what was read.
+    /// Appends the bytes read to the copy.
     fn keep(&mut self, bytes: &[u8])
         ensures { lower self.new ≡ lower self.old }
     {

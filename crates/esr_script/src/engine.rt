@@ -1,8 +1,9 @@
 //! The machine of a script, and an index of its history.
 //!
-//! A script may ask for one audit after another, and each needs to know who committed and what updates did. The index is kept from one to the
-//! next: a line that asks for an audit reads the entries that are new, and a script that asks for none pays nothing. What
-//! the index has read stays the beginning of the log, since the machine only adds to it.
+//! A script may request one audit after another, and each needs the committed transactions and the operations of
+//! updates. The index is kept between audits: an `audit` line reads the new entries only, and a script without audits
+//! pays nothing. The part of the log that the index has read stays its beginning, since the machine only appends to
+//! it.
 ghost use Rattle.std.specs.Prelude.{◌≡◌, IfOk, OnErr, IsErrOf, false, true, length};
 ghost use Rattle.esr_base.specs.declared.limits.TheConstants.{MAX_ENTRIES};
 ghost use Rattle.esr_history.specs.Machine.{reply_to, extended};
@@ -60,7 +61,7 @@ impl IndexedMachine {
         self.machine.step(event)
     }
 
-    /// The imports and exports together, and the number of entries.
+    /// Returns the imports and exports together, and the number of entries.
     pub fn totals(&self) -> Totals
         ensures import { result.import ≡ all_imports weighted self.now }
         ensures export { result.export ≡ all_exports weighted self.now }
@@ -69,21 +70,21 @@ impl IndexedMachine {
         self.machine.totals()
     }
 
-    /// The history so far.
+    /// Returns the history so far.
     pub fn history(&self) -> &History<Weighted>
         ensures { result.now.schedule ≡ self.now }
     {
         self.machine.history()
     }
 
-    /// The history.
+    /// Returns the history, and drops the rest.
     pub fn into_history(self) -> History<Weighted>
         ensures { result.schedule ≡ self }
     {
         self.machine.close()
     }
 
-    /// What the audit of a transaction finds.
+    /// Audits a transaction.
     pub fn audit(&mut self, alloc: Global, q: TxnId) -> Result<Finding, AuditError>
         ensures same { self.new ≡ self.old }
         ensures query { IfOk result (λ f. f.query ≡ q) }

@@ -1,11 +1,11 @@
-//! The line of each entry. A history knows no lines, so who surveys a script has them kept while it is answered: 4 bytes
-//! an entry. Before, a copy of the script was kept, of some twenty bytes a line, and cut into lines once more. No clause
-//! says which they are, as none speaks of what an observer sees.
+//! The line of each entry. A history has no lines, so a view of a script records them during the run: 4 bytes an
+//! entry. Rejected: a copy of the script, of some twenty bytes a line, which must be cut into lines again. No clause
+//! specifies these lines, as none covers what an observer sees.
 
 use esr_lint::{Observer, TxnSummary, is_error};
 use std::alloc::Global;
 
-/// Whether a line made an entry: it gave the machine an event, and was answered by no error.
+/// Returns whether a line made an entry: it sent the machine an event, and its reply is not an error.
 fn makes_entry(line: &[u8], answer: &[u8]) -> bool {
     let has_event = line.starts_with(b"read ")
         || line.starts_with(b"write ")
@@ -15,7 +15,7 @@ fn makes_entry(line: &[u8], answer: &[u8]) -> bool {
     has_event && !is_error(answer)
 }
 
-/// Keeps the number of each line that made an entry, and lets another observer look on.
+/// Records the line of each entry, and passes each call on to another observer.
 #[derive(Drop)]
 pub struct EntryLines<'a, O> {
     observer: &'a mut O,
@@ -32,7 +32,7 @@ impl<'a, O> EntryLines<'a, O> {
         }
     }
 
-    /// The line of each entry, unless memory was refused for one.
+    /// Returns the line of each entry, unless an allocation for one failed.
     pub fn lines(&self) -> Option<&[u32]> {
         if self.is_whole {
             Some(&self.lines)

@@ -1,11 +1,11 @@
-//! Why a run ended before the end of its input, or a query was not told of.
+//! The reasons why a run ends before the end of its input, or a query is not shown.
 
 use thiserror::Error;
 
 /// Why a run ended before the end of its input, or a query was not certified.
 #[derive(Clone, Copy, Debug, PartialEq, Eq, Error)]
 pub enum RunFault {
-    /// A read failed, in whatever way.
+    /// A read failed.
     #[error("read failed")]
     Read,
     /// A write or a flush failed, or a write took none of some bytes.

@@ -1,5 +1,5 @@
-//! Bytes that were read and are not yet used, in one buffer that never grows: a line has at most 200 bytes, so 65,536
-//! always have room for one more read.
+//! Bytes that were read and not yet used, in one buffer that never grows: a line has at most 200 bytes, so a buffer
+//! of 65,536 bytes always has capacity for one more read.
 
 ghost use Rattle.esr_grammar.specs.declared.limits.TheConstants.{MAX_LINE_BYTES, INPUT_ROOM};
 ghost use Rattle.std.specs.Prelude.{◌≡◌, ℕ, ◌<◌, ◌≤◌, List, [], ◌++◌, IfOk, IfErr, drop, take, ◌-◌, length, ◌||◌};
@@ -58,7 +58,7 @@ impl InputBuffer {
         self.start += count;
     }
 
-    /// Reads once, and gives the count of bytes that came: none at the end of the input.
+    /// Reads once, and returns the number of bytes read: 0 at the end of the input.
     pub fn fill<R: Read>(&mut self, reader: &mut Watched<R>) -> Result<usize, RunFault>
         requires { length self.old ≤ MAX_LINE_BYTES }
         ensures ok { IfOk result (λ n. (more : List ℕ) × (length more ≡ n) × (self.new ≡ self.old ++ more)

@@ -1,5 +1,4 @@
-//! Goes over a script for what is wrong in it: nothing is written, and the observer sees the lines and then the
-//! transactions.
+//! Checks a script for faults: nothing is written, and the observer sees the lines and then the transactions.
 
 ghost use Rattle.std.specs.Prelude.{◌≡◌, ⊤, ℕ, List, Some, false};
 ghost use Rattle.esr_base.specs.Watch.{inner, failed};

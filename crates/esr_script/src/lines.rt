@@ -1,9 +1,9 @@
 //! Goes over the lines of a script, from its reader to a sink.
 //!
-//! Bytes that were read and not used yet are in `input`, text that the sink has not taken yet in `out`. Between two
-//! steps the lines so far, answered one after another, have led to the script's state and to the text that was taken
-//! with that in `out` after it (`InputProgress`). The text is taken before the input is waited for, so that whoever
-//! types lines sees each answered, and where much of it has come together.
+//! Bytes that were read and not yet used are in `input`, text that the sink has not yet taken in `out`. Between two
+//! steps, the lines so far, executed one after another, have led to the script's state and to the text taken so far,
+//! followed by that in `out` (`InputProgress`). The sink takes the text before the run waits for input, so that a
+//! person at a terminal sees each reply, and also when much text has accumulated.
 
 ghost use Rattle.esr_grammar.specs.declared.limits.TheConstants.{MAX_LINE_BYTES};
 ghost use Rattle.std.specs.Prelude.{◌≡◌, ℕ, List, [], ◌++◌, Some, IsErrOf, IfErr, IfOk, false, ◌≤◌, ◌⊎◌, length};
@@ -25,7 +25,7 @@ use std::io::Read;
 
 const OUTPUT_FULL: usize = 32768;
 
-/// Answers line after line. What is answered and not taken yet is in `out`.
+/// Executes line after line. Output that is not yet taken is in `out`.
 #[tactic(auto, using(crate::proofs::Handed::handed_on))]
 pub fn answer_lines<R: Read, S: Sink, O: Observer>(
     reader: &mut Watched<R>,
@@ -67,8 +67,7 @@ pub fn answer_lines<R: Read, S: Sink, O: Observer>(
     }
 }
 
-/// Has the sink take what is answered, and then reads once. Gives the count of bytes that came: none at the end of the
-/// input.
+/// Lets the sink take the output, and then reads once. Returns the number of bytes read: 0 at the end of the input.
 #[tactic(auto, using(crate::proofs::Handed::handed_on))]
 fn read_on<R: Read, S: Sink>(
     reader: &mut Watched<R>,

@@ -1,5 +1,5 @@
-//! Writes out what a run has answered. The line of an audit names all updates before the query, half a megabyte where
-//! there are 65,000, so a buffer that was written out gives back what it has beyond its usual room.
+//! Writes the output of a run. The line of an audit names all updates before the query, half a megabyte for 65,000
+//! updates, so after a write the buffer releases its capacity beyond the usual one.
 
 ghost use Rattle.std.specs.Prelude.{◌≡◌, ℕ, List, [], OnOk, IfErr, ◌||◌};
 ghost use Rattle.std.specs.Io.KnownBytes.{Appends};
@@ -10,7 +10,7 @@ use crate::fault::RunFault;
 use esr_history::Watched;
 use std::io::Write;
 
-/// The room that an empty output buffer has. A line of names may make it larger.
+/// The capacity of an empty output buffer. A line of names may increase it.
 pub const OUTPUT_ROOM: usize = 65536;
 
 /// Writes out what the buffer holds, flushes it and empties the buffer.

@@ -1,6 +1,6 @@
-//! Asks a script for one of its queries: the whole script is run without its output, and the query is audited. A name
-//! that is bound to nothing stands for transaction 0, as in a script, so it is no committed query, and no rule for the
-//! spelling of an argument is needed.
+//! Asks a script for one of its queries: the whole script is run without its output, and the query is audited. An
+//! unbound name denotes transaction 0, as in a script, which is not a committed query, so no rule for the syntax of
+//! the argument is needed.
 
 ghost use Rattle.std.specs.Prelude.{◌≡◌, ℕ, List, Some, false};
 ghost use Rattle.esr_base.specs.Watch.{inner, failed};
@@ -15,11 +15,11 @@ use esr_views::AuditedQuery;
 use std::alloc::Global;
 use std::io::Read;
 
-/// Runs a script without writing its output, and tells of its query of that name.
+/// Runs a script without writing its output, and returns its audited query of that name.
 ///
 /// # Errors
-/// `NotACommittedQuery` exactly where the run has no fault and the name is that of no committed query. `LineTooLong`,
-/// `HistoryFull` and `TooManyLines` where `run` would end so. `Write` never comes.
+/// `NotACommittedQuery` exactly if the run has no fault and the name does not denote a committed query.
+/// `LineTooLong`, `HistoryFull` and `TooManyLines` if `run` would return them. `Write` is never returned.
 #[tactic(auto, using(crate::proofs::Handed::handed_on))]
 pub fn ask<R: Read, O: Observer>(
     alloc: Global,

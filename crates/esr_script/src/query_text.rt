@@ -1,5 +1,5 @@
-//! Tells of a query of a script: the whole script is run without its output, and a text of the query is written,
-//! whatever the telling. After a fault other than a failed write nothing was written.
+//! Writes a text of a query of a script: the whole script is run without its output, and a view renders the query.
+//! After a fault other than a failed write nothing was written.
 
 ghost use Rattle.std.specs.Prelude.{◌≡◌, ℕ, List, IfOk, IfErr, Ok, true, false, Some};
 ghost use Rattle.esr_base.specs.Watch.{inner, failed};
@@ -17,7 +17,7 @@ use esr_views::QueryView;
 use std::alloc::{AllocError, Global};
 use std::io::{Read, Write};
 
-/// What was made, with the fault of the run where it was not.
+/// Returns the text, or the fault of the run if there is none.
 fn text_or_fault(text: Result<Vec<u8>, AllocError>) -> Result<Vec<u8>, RunFault>
     ensures ok { IfOk result (λ made. text ≡ Ok made) }
     ensures faults { IfErr result (λ e. e ≡ RunFault.NoMemory) }
@@ -30,7 +30,7 @@ fn text_or_fault(text: Result<Vec<u8>, AllocError>) -> Result<Vec<u8>, RunFault>
     }
 }
 
-/// The text of what a script tells of its query of that name.
+/// Returns the view's text of the script's query of that name.
 #[tactic(auto, using(crate::proofs::Handed::handed_on))]
 fn view_text<R: Read, T: QueryView, O: Observer>(
     alloc: Global,
@@ -51,11 +51,11 @@ fn view_text<R: Read, T: QueryView, O: Observer>(
     text_or_fault(view.text_of(alloc, &mut audited))
 }
 
-/// Runs a script without writing its output, and writes the text of what it tells of its query of that name.
+/// Runs a script without writing its output, and writes the view's text of its query of that name.
 ///
 /// # Errors
-/// As `ask` has them; `NoMemory` also where no text is made. After a fault other than `Write` nothing was written,
-/// after `Write` a prefix of the text.
+/// Those of `ask`; `NoMemory` also if no text is made. After a fault other than `Write` nothing was written, after
+/// `Write` a prefix of the text.
 #[tactic(auto, using(crate::proofs::Handed::handed_on))]
 pub fn render_query<R: Read, W: Write, T: QueryView, O: Observer>(
     alloc: Global,

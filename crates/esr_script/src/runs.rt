@@ -1,6 +1,6 @@
 //! A run over a script, from its reader to its writer.
 //!
-//! What is answered is written before the run waits for more input, so the program can be used at a terminal and as a
+//! The output is written before the run waits for more input, so the program can be used at a terminal and as a
 //! coprocess; the last flush is checked, so an Ok means that the last bytes were taken too.
 
 ghost use Rattle.std.specs.Prelude.{◌≡◌, ℕ, List, [], ◌++◌, Option, Err, IsErrOf, false, ◌||◌};
@@ -22,9 +22,8 @@ use std::io::{Read, Write};
 
 /// Reads a script to its end and writes its text.
 ///
-/// What is answered is written before the run waits for more of the input. After
-/// a fault other than `Write` the text of the lines before it was written, and
-/// nothing else; after `Write` a prefix of the output was.
+/// The output is written before the run waits for more input. After a fault other than `Write`, exactly the text of
+/// the lines before it was written; after `Write` a prefix of the output was.
 pub fn run<R: Read, W: Write, O: Observer>(
     alloc: Global,
     reader: &mut Watched<R>,
@@ -56,7 +55,7 @@ pub fn run<R: Read, W: Write, O: Observer>(
     ended
 }
 
-/// Whether the reader or the writer has failed.
+/// Returns whether the reader or the writer has failed.
 fn is_lost(ended: Result<(), RunFault>) -> bool
     ensures { result ≡ (is_read_fault ended || is_write_fault ended) }
 {

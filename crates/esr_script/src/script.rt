@@ -1,6 +1,6 @@
-//! What a run keeps of the lines so far, and its answer to a line.
+//! The state of a run after the lines so far, and its reply to a line.
 //!
-//! A name that is not bound is asked of the machine all the same, as a transaction and an item that do not exist: so
+//! A request with an unbound name still goes to the machine, as a transaction or an item that does not exist: so
 //! there is one order of refusals, and the refusal is an entry like any other.
 
 ghost use Rattle.esr_board.specs.declared.board.TheConstants.{MAX_SEATS};
@@ -78,7 +78,7 @@ impl Script {
         }
     }
 
-    /// The transaction that the name stands for: 0 where it is not bound.
+    /// Returns the transaction of a name: 0 if the name is not bound.
     fn transaction(&self, name: &str) -> TxnId
         ensures { result ≡ transaction_called self.now name.now }
     {
@@ -88,7 +88,7 @@ impl Script {
         }
     }
 
-    /// The item that the name stands for: one that does not exist where it is not bound.
+    /// Returns the item of a name: one that does not exist if the name is not bound.
     fn item(&self, name: &str) -> ItemId
         ensures { result ≡ item_called self.now name.now }
     {
@@ -98,7 +98,7 @@ impl Script {
         }
     }
 
-    /// What is wrong with the declaration of an item, if something is.
+    /// Returns the error of an item's declaration, if it has one.
     fn item_error(&self, name: &str, value: i64, weight: u64) -> Option<LineError>
         ensures { result ≡ item_error self.now name.now value weight }
     {
@@ -164,7 +164,7 @@ impl Script {
         line_or_fault(weighted_item_line(out, name, value, weight))
     }
 
-    /// Gives the machine an event, and answers with its reply. What it repeats of the line is copied from it.
+    /// Executes an event on the machine, and appends its reply. The names in the reply are copied from the line.
     #[inline(always)]
     fn ask(
         &mut self,
@@ -187,7 +187,7 @@ impl Script {
         line_or_fault(push_reply(out, &self.transactions, subject, echo, reply))
     }
 
-    /// Begins a transaction, whose name may not be bound already.
+    /// Begins a transaction, whose name must not be bound already.
     fn begin(&mut self, name: &str, event: Event, out: &mut Vec<u8>) -> Result<(), RunFault>
         ensures { Executes (begin self.old name.now event) self.new out.old.items out.new.items result }
     {
@@ -271,7 +271,7 @@ impl Script {
         line_or_fault(totals_line(out, totals.import, totals.export, totals.entries))
     }
 
-    /// What the audit of the transaction of that name finds. The machine is made, where it is not made yet.
+    /// Returns the finding of the audit of the transaction of that name. Creates the machine if necessary.
     fn find(&mut self, name: &str) -> Result<Finding, RunFault>
         ensures ok { OnOk result (self.new ≡ closed self.old) }
         ensures found { IfOk result (IsFoundOf self.old name.now) }
@@ -298,7 +298,7 @@ impl Script {
             }
             Err(fault) => return Err(fault),
         };
-        // let go before the line is made, which may be long
+        // dropped before the line is made, which may be long
         drop(found.problem);
         drop(found.certificate);
         line_or_fault(audit_line(
@@ -311,8 +311,8 @@ impl Script {
         ))
     }
 
-    /// Takes the line as answered, and says only where there is no such query: an audit changes nothing but that no more
-    /// items may be declared. What is said is promised by nothing.
+    /// Accepts the line without an audit, and reports only whether the query exists: an audit changes nothing, except
+    /// that no more items may be declared. The message is not specified.
     fn pass_audit(&mut self, txn: &str, out: &mut Vec<u8>) -> Result<(), RunFault>
         ensures ok { OnOk result (self.new ≡ closed self.old) }
         ensures faults { IfErr result (λ e. e ≡ RunFault.NoMemory) }
@@ -330,7 +330,7 @@ impl Script {
         }
     }
 
-    /// Ends the run, and tells of the query of that name.
+    /// Ends the run, and returns the audited query of that name.
     pub fn audited_query<O: Observer>(
         mut self,
         name: &str,
@@ -350,7 +350,7 @@ impl Script {
         }
     }
 
-    /// Lets the observer see each transaction, and what became of it.
+    /// Shows the observer each transaction, and its status.
     pub fn show_transactions<O: Observer>(&self, observer: &mut O) {
         for position in 0..self.transactions.len() {
             if let Some((name, status)) = self.transaction_at(position) {
@@ -359,7 +359,7 @@ impl Script {
         }
     }
 
-    /// The name of a transaction, and what became of it.
+    /// Returns the name of a transaction, and its status.
     fn transaction_at(&self, position: usize) -> Option<(&str, TxnSummary)> {
         let position = u32::try_from(position).ok()?;
         let name = self.transactions.name_of(position)?;
@@ -367,7 +367,7 @@ impl Script {
         Some((name, status))
     }
 
-    /// What it tells, and what was found of a query.
+    /// Combines the script's data with the finding of a query.
     fn with(self, finding: Finding) -> AuditedQuery
         requires { self.closed ≡ true }
         ensures items { result.items ≡ self.items }
@@ -389,7 +389,7 @@ impl Script {
         }
     }
 
-    /// Ends the run, and gives what it leads to, with the line of each entry.
+    /// Ends the run, and returns its final state, with the line of each entry.
     pub fn recording(mut self, lines: &[u32]) -> Result<Recording<'_>, RunFault>
         ensures recorded { IfOk result (IsRecorded self) }
         ensures faults { IfErr result (λ e. e ≡ RunFault.NoMemory) }
@@ -435,7 +435,7 @@ impl Script {
         })
     }
 
-    /// The audit of the whole history, by so many workers.
+    /// Audits the whole history with `workers` threads.
     pub fn audit_all<T: Threads + Sync, G: Gate + Sync>(
         &mut self,
         rt: &T,
@@ -456,7 +456,7 @@ impl Script {
         }
     }
 
-    /// Obeys the command that the text spells.
+    /// Executes the command of a line.
     fn execute(&mut self, text: &[u8], line: Line<'_>, out: &mut Vec<u8>) -> Result<(), RunFault>
         requires { IsSyntaxOf text.now (view line) }
         ensures { Executes (execute self.old (view line.entry)) self.new out.old.items out.new.items result }
@@ -496,8 +496,8 @@ impl Script {
         }
     }
 
-    /// Answers a line at the end of the output. An error leaves the output as it was. For nobody no query is audited, and
-    /// what is put behind the output is promised by nothing.
+    /// Executes a line, and appends its text to the output. An error leaves the output as it was. If the text is to
+    /// be dropped, no query is audited, and the text appended is not specified.
     #[tactic(auto, using(crate::proofs::Unread::executed))]
     pub fn answer(
         &mut self,
@@ -520,7 +520,7 @@ impl Script {
     }
 }
 
-/// A transaction alone is named.
+/// Returns the names for a reply that names a transaction alone.
 fn alone(txn: &str) -> ReplyNames<'_>
     ensures { named_by result ≡ record { txn = txn.now; item = []; value = pos 0 } }
 {
@@ -531,7 +531,7 @@ fn alone(txn: &str) -> ReplyNames<'_>
     }
 }
 
-/// The fault of a run of which the audit of a query ended so.
+/// Converts the error of a query's audit into a fault of the run.
 fn fault_of(error: AuditError) -> RunFault
     requires { error ≢ AuditError.WorkersOutOfRange }
     ensures query { (result ≡ RunFault.NotACommittedQuery) ↔ (error ≡ AuditError.NotACommittedQuery) }
@@ -544,7 +544,7 @@ fn fault_of(error: AuditError) -> RunFault
     }
 }
 
-/// The result of appending a line, as a fault of the run.
+/// Converts the result of appending a line into a fault of the run.
 fn line_or_fault(appended: Result<(), AllocError>) -> Result<(), RunFault>
     ensures ok { IsOk result ↔ IsOk appended }
     ensures faults { IfErr result (λ e. e ≡ RunFault.NoMemory) }

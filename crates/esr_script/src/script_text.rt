@@ -1,5 +1,5 @@
-//! Surveys a script: it is run without its output, and a text of all that it leads to is written, whatever the survey.
-//! After a fault other than a failed write nothing was written.
+//! Writes a text of a whole script: it is run without its output, and a view renders its final state. After a fault
+//! other than a failed write nothing was written.
 
 ghost use Rattle.std.specs.Prelude.{◌≡◌, ◌⊎◌, ℕ, List, IfOk, IfErr, false, Some};
 ghost use Rattle.esr_base.specs.Watch.{inner, failed};
@@ -21,7 +21,7 @@ use esr_views::{Recording, ScriptView};
 use std::alloc::Global;
 use std::io::{Read, Write};
 
-/// The text of a survey, with the fault of the run where there is none.
+/// Returns the text of a view, or the fault of the run if there is none.
 fn text_about<S: ScriptView>(
     alloc: Global,
     recording: &Recording<'_>,
@@ -40,7 +40,7 @@ fn text_about<S: ScriptView>(
     }
 }
 
-/// The text of a survey of what a script leads to.
+/// Returns the text of a view of a script's final state.
 fn text_of<S: ScriptView>(
     alloc: Global,
     script: Script,
@@ -61,7 +61,7 @@ fn text_of<S: ScriptView>(
     }
 }
 
-/// The text of a survey of a script.
+/// Runs a script, and returns the text of a view of it.
 #[tactic(auto, using(crate::proofs::Handed::handed_on))]
 fn script_view_text<R: Read, S: ScriptView, O: Observer>(
     alloc: Global,
@@ -85,8 +85,8 @@ fn script_view_text<R: Read, S: ScriptView, O: Observer>(
 /// Runs a script without writing its output, and writes the text of a survey of it.
 ///
 /// # Errors
-/// `LineTooLong`, `HistoryFull` and `TooManyLines` where `run` would end so; `NotACommittedQuery` where the survey has
-/// nothing to tell; `NoMemory` also where no text is made. After a fault other than `Write` nothing was written, after
+/// `LineTooLong`, `HistoryFull` and `TooManyLines` if `run` would return them; `NotACommittedQuery` if the view has
+/// nothing to show; `NoMemory` also if no text is made. After a fault other than `Write` nothing was written, after
 /// `Write` a prefix of the text.
 #[tactic(auto, using(crate::proofs::Handed::handed_on))]
 pub fn render_script<R: Read, W: Write, S: ScriptView, O: Observer>(

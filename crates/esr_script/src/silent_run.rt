@@ -17,7 +17,7 @@ use esr_lint::Observer;
 use std::alloc::Global;
 use std::io::Read;
 
-/// What a run keeps after all lines of the input. Their output is dropped.
+/// Runs all lines of the input, and returns the final state. Their output is dropped.
 #[tactic(auto, using(crate::proofs::Handed::handed_on))]
 pub fn replay<R: Read, O: Observer>(
     alloc: Global,

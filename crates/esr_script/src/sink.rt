@@ -1,8 +1,8 @@
-//! Where the text of lines goes: to a writer, or nowhere.
+//! The sinks of the text of lines: a writer, or none.
 //!
-//! A run writes what a script answers; a replay needs only the state that the script leads to. Both go over the same
-//! lines, so there is one loop over them (`lines`), and what becomes of the text is its sink's. Where nobody reads it, the
-//! text need not be made either: a replay audits no query for a line `audit` of the script.
+//! A run writes the replies of a script; a replay needs only the state that the script leads to. Both process the
+//! same lines, so there is one loop over them (`lines`), and its sink decides about the text. If the text is dropped,
+//! it need not be made: a replay audits no query for an `audit` line of the script.
 
 ghost use Rattle.std.specs.Prelude.{◌≡◌, ℕ, List, [], Bool, false, Option, None, OnOk, IfErr, ◌||◌};
 ghost use Rattle.std.specs.Io.KnownBytes.{Appends};
@@ -27,7 +27,7 @@ pub trait Sink {
 
     ghost has_failed: { Self → Bool };
 
-    /// Who reads what it takes.
+    /// Returns whether anyone reads the text.
     fn audience(&self) -> Audience
         ensures { result ≡ Audience.NoReader → contents self.now ≡ None };
 

@@ -104,7 +104,7 @@ impl Stage {
         }
     }
 
-    /// The imports and exports together, and the number of entries.
+    /// Returns the imports and exports together, and the number of entries.
     pub fn totals(&self) -> Totals
         ensures import { result.import ≡ all_imports weighted (history_of self.now) }
         ensures export { result.export ≡ all_exports weighted (history_of self.now) }
@@ -120,7 +120,7 @@ impl Stage {
         }
     }
 
-    /// What became of a transaction, if it has begun.
+    /// Returns the status of a transaction, if it has begun.
     pub fn status_of(&self, t: TxnId) -> Option<TxnSummary> {
         let Stage::Running(engine) = self else {
             return None;
@@ -141,7 +141,7 @@ impl Stage {
         })
     }
 
-    /// The history of the machine.
+    /// Returns the history of the machine.
     pub fn into_history(self) -> History<Weighted>
         requires { is_running self ≡ true }
         ensures { result.schedule ≡ history_of self }
@@ -152,7 +152,7 @@ impl Stage {
         }
     }
 
-    /// What the audit of a transaction finds.
+    /// Audits a transaction.
     #[tactic(auto, using(crate::proofs::Audits::distance_is, crate::proofs::Audits::import_is, crate::proofs::Audits::before_is, crate::proofs::Audits::shown_is, crate::proofs::Audits::near_is))]
     pub fn audit(&mut self, alloc: Global, q: TxnId) -> Result<Finding, AuditError>
         requires { is_running self.old ≡ true }
@@ -177,7 +177,7 @@ impl Stage {
         }
     }
 
-    /// What the audit of the whole history by so many workers finds, in summaries: of each finding a line is told.
+    /// Audits the whole history with `workers` threads, and returns a summary of each finding.
     pub fn audit_all<T: Threads + Sync, G: Gate + Sync>(
         &self,
         rt: &T,

@@ -9,7 +9,7 @@ use Rattle.std.proofs.lemmas.Option.{slice_get_within, get_or_from_slice_get}
 pub take_next : {X : Type 0} (xs : List X) (i : ℕ) (x : X) → slice_get xs i ≡ Some x → take (i + 1) xs ≡ take i xs ++ x ∷ []
 take_next xs i x is = take_more xs i x (slice_get_within xs i x is) ∙ ap (λ y. take i xs ++ y ∷ []) (get_or_from_slice_get xs i x x is)
 
--- what stands in a list of the values of a function
+-- an element of a list of a function's values
 pub value_there : (f : ℕ → ℕ) (n t : ℕ) (xs : List ℕ) (x : ℕ) → xs ≡ map f (range_with_len 0 (n + 1)) → t ≤ n → x ≡ get_or xs t x → x ≡ f t
 value_there f n t xs x is low same =
     same ∙ (ap (λ (l : List ℕ). get_or l t x) is ∙ get_or-map-range_with_len f 0 (n + 1) t t x (omega (arith, low)) (omega arith))
@@ -19,7 +19,7 @@ value_missing f n t xs is low past =
     let long : length xs ≡ n + 1 = ap length is ∙ length-map-range_with_len f 0 (n + 1) in
     omega (arith, long, low, past)
 
--- the same of the values from transaction 1 on
+-- an element of a list of the values from transaction 1 on
 pub begun_there : {X : Type 0} (f : ℕ → X) (n t : ℕ) (xs : List X) (x : X) → xs ≡ map f (range_with_len 1 n) → 1 ≤ t → t ≤ n → x ≡ get_or xs (t - 1) x → x ≡ f t
 begun_there f n t xs x is low high same =
     same ∙ (ap (λ l. get_or l (t - 1) x) is ∙ get_or-map-range_with_len f 1 n (t - 1) t x (omega (arith, low, high)) (omega (arith, low)))

@@ -1,4 +1,4 @@
--- The parts of a row, by what is found of all transactions at once.
+-- The parts of a row, from the columns of all transactions.
 use Rattle.std.proofs.Common.{◌≡◌, ℕ, zero, suc, ◌-◌, ◌≤◌, Bool, false, List, [], sym, ◌∙◌, ap, ap₂, arith, Option, Some, map, is_some, slice_get, unwrap_or, if◌then◌else◌}
 use Rattle.std.proofs.lemmas.Option.{slice_get-map}
 use Rattle.esr_base.specs.declared.numbers.TxnId.{TxnId}
@@ -33,7 +33,7 @@ end_there d h legal t f some =
     ap (end_at h.entries) is
     ∙ ap (λ (b : Bool). if b then Committed else (if is_some (last_place accepted_end t h.entries) then Aborted else Active)) (commit_at_end d h legal t)
 
--- what it was charged as an update
+-- the charges to an update
 pub charged_there : (h : Schedule) (t x : ℕ) → is_query (accepted_in h) t ≡ false → x ≡ export_in (charges_in weighted h) t → x ≡ charged_of weighted h t
 charged_there h t x is same = same ∙ sym (ap (λ (b : Bool). if b then import_in (charges_in weighted h) t else export_in (charges_in weighted h) t) is)
 

@@ -1,4 +1,4 @@
--- The ledger of what a script leads to.
+-- The ledger of a script.
 use Rattle.std.proofs.Common.{◌≡◌, ◌∙◌, ℕ, List, ap, IfOk, Result, Ok, Err}
 use Rattle.esr_items.specs.Weights.{weighted}
 use Rattle.esr_history.specs.Machine.{Schedule}
@@ -19,13 +19,13 @@ ledger_written s c recorded first last text is = (
       ∙ ap (λ names. ledger_csv weighted s.history names first last) recorded.transactions),
 )
 
--- the same of a text that is made, if it is
+-- the CSV of a recording, if it is made
 pub csv_written : {T E : Type 0} (items : T → List ℕ) (s : ScriptState) (c : Recording) → IsRecorded s c → (first last : ℕ → ℕ) (r : Result T E)
     → IfOk r (λ v. items v ≡ ledger_csv weighted c.history.schedule c.transactions first last) → IfOk r (λ v. IsLedger Csv s (items v))
 csv_written items s c recorded first last (Ok v) is = ledger_written s c recorded first last (items v) is
 csv_written items s c recorded first last (Err e) is = tt
 
--- the same of a history
+-- the CSV of a history, if it is made
 pub csv_of : {T E : Type 0} (items : T → List ℕ) (h : Schedule) (names : List (List ℕ)) (first last : ℕ → ℕ) (r : Result T E)
     → IfOk r (λ v. items v ≡ ledger_csv weighted h names first last) → IfOk r (λ v. IsLedgerOf h names (items v))
 csv_of items h names first last (Ok v) is = (first, last, is)

@@ -49,7 +49,7 @@ tally_more es e t =
     (λ i. tally (counted_one is_read es e t i) (counted_one is_write es e t i) (counted_one by_lock es e t i) (counted_one by_import es e t i) (counted_one by_export es e t i))
     ∙ one_more (count_of is_read es t) (count_of is_write es t) (count_of by_lock es t) (count_of by_import es t) (count_of by_export es t) (is_key (txn_in e) t) e.reply
 
--- the tallies where it is of transaction n
+-- the tallies after an entry of transaction n
 pub is_counted : (es : List Entry) (e : Entry) (tallies : List Tally) (n : ℕ) (d : Tally) → n < length tallies → txn_in e ≡ Some n → AreTallies es tallies
     → AreTallies (es ++ e ∷ []) (set tallies n (with_answer (get_or tallies n d) e.reply))
 is_counted es e tallies n d within is are t l f =

@@ -25,7 +25,7 @@ pub all_rows : {X : Type 0} (f : X → List ℕ) (row : ℕ → X) (out : List �
     → after ≡ out ++ flat_map f (map row (range_with_len 1 i)) → after ≡ out ++ flat_map f (map row (range_with_len 1 n))
 all_rows f row out n i after all before_it = before_it ∙ ap (λ k. out ++ flat_map f (map row (range_with_len 1 k))) all
 
--- ---- fields behind commas
+-- ---- fields after commas
 
 abbrev comma : List ℕ → List ℕ
 comma field = 44 ∷ field
@@ -61,7 +61,7 @@ field_more out xs i d before after within before_it grew =
     (sym (flat_map-append comma (map f (take i xs)) (f (get_or xs i d) ∷ []))
     ∙ ap separated (sym (ap (map f) (take_more xs i d within) ∙ map-append f (take i xs) (get_or xs i d ∷ []))))))
 
--- a field that is another word for the same
+-- a field that equals another text
 pub field_is : (before after word same : List ℕ) → after ≡ before ++ separated (word ∷ []) → word ≡ same → after ≡ before ++ separated (same ∷ [])
 field_is before after word same grew is = grew ∙ ap (λ w. before ++ separated (w ∷ [])) is
 

@@ -10,7 +10,7 @@ use Rattle.esr_tables.specs.declared.rows.RowEnd.TheVariants.{Committed, Aborted
 use Rattle.esr_tables.specs.declared.rows.Row.{Row}
 use Rattle.esr_tables.specs.Rows.{rows_of}
 
--- fields, each behind a comma
+-- fields, each after a comma
 abbrev pub separated : List (List ℕ) → List ℕ
 separated fields = flat_map (λ field. 44 ∷ field) fields
 
@@ -28,7 +28,7 @@ end_word Committed = codes "committed"
 end_word Aborted = codes "aborted"
 end_word Active = codes "active"
 
--- a number where there is one, else nothing
+-- a number, or the empty text for None
 abbrev pub optional : Option ℕ → List ℕ
 optional None = []
 optional (Some n) = decimal n
@@ -51,7 +51,7 @@ row_line name r first last = csv_line (decimal r.number.0) (
     name ∷ kind_word r.kind ∷ amounts r ++ end_word r.end ∷ optional r.distance ∷ decimal first ∷ decimal last ∷ []
     )
 
--- the same, where transactions have these names, and go from and to these lines
+-- the line of a row, given the names of the transactions and their first and last lines
 abbrev pub named_line : (names : List (List ℕ)) → (first last : ℕ → ℕ) → Row → List ℕ
 named_line names first last r = row_line (name_of_transaction names r.number.0) r (first r.number.0) (last r.number.0)
 

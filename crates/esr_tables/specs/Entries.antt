@@ -42,11 +42,11 @@ pub record IsCountable (t : Tally) : Type 0 where
 abbrev pub AreTallies : List Entry → List Tally → Type 0
 AreTallies es tallies = (t : ℕ) → t < length tallies → (d : Tally) → slice_index_or tallies t d ≡ tally_of es t
 
--- the end of a transaction whose accepted commit or abort is at this place, if there is one
+-- the end of a transaction, given the place of its accepted commit or abort, if there is one
 abbrev pub end_at : List Entry → Option ℕ → RowEnd
 end_at es end = if is_commit_at es end then Committed else (if is_some end then Aborted else Active)
 
--- what is found of all transactions at once
+-- the columns of all transactions
 pub record AreColumns (h : Schedule) (c : Columns) : Type 0 where
   pub kinds : c.kinds.items ≡ map kind_of (beginnings (accepted_in h))
   pub many : begun_count h.entries < length c.tallies.items

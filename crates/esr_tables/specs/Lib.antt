@@ -1,4 +1,4 @@
--- The rows of a ledger, as what a history says of each transaction, and the text of them in CSV.
+-- The rows of a ledger, from a history, and their text in CSV.
 
 pub mod Rows
 pub mod Entries

@@ -1,4 +1,4 @@
--- The rows of a ledger: what a history says of each transaction.
+-- The rows of a ledger: a history's data about each transaction.
 use Rattle.std.specs.Prelude.{ℕ, ◌-◌, ◌&&◌, List, Bool, true, false, Option, None, Some, map, count_by, is_some, if◌then◌else◌, option_map, unwrap_or}
 use Rattle.esr_history.specs.declared.event.Reply.{Reply}
 use Rattle.esr_history.specs.declared.event.Entry.{Entry}
@@ -24,7 +24,7 @@ kind_of b = if b.query then (if b.strict then Strict else Query) else Update
 abbrev pub kind_at : Schedule → ℕ → RowKind
 kind_at h t = unwrap_or (option_map kind_of (beginning (accepted_in h) t)) Update
 
--- ---- how often its lines were answered, and how
+-- ---- the counts of its lines, by their replies
 
 -- an accepted read, an accepted write
 abbrev pub is_read : Reply → Bool
@@ -35,7 +35,7 @@ abbrev pub is_write : Reply → Bool
 is_write Wrote = true
 is_write _ = false
 
--- what was blocked, and by what
+-- blocked replies, by the reason
 abbrev pub by_lock : Reply → Bool
 by_lock (Refused (BlockedByLock u)) = true
 by_lock _ = false
@@ -71,7 +71,7 @@ end_of h t =
 
 -- ---- amounts
 
--- what it imported as a query, or exported as an update
+-- the import of a query, or the export of an update
 abbrev pub charged_of : Distance → Schedule → ℕ → ℕ
 charged_of d h t = if is_query (accepted_in h) t then import_in (charges_in d h) t else export_in (charges_in d h) t
 

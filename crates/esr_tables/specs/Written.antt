@@ -1,4 +1,4 @@
--- What a ledger is, of a history and of a script.
+-- The ledger of a history and of a script.
 use Rattle.std.specs.Prelude.{◌≡◌, ℕ, List, ⊤}
 use Rattle.esr_items.specs.Weights.{weighted}
 use Rattle.esr_history.specs.Machine.{Schedule}
@@ -7,8 +7,8 @@ use Rattle.esr_tables.specs.declared.format.Format.{Format}
 use Rattle.esr_tables.specs.declared.format.Format.TheVariants.{Text, Csv, Json}
 use Rattle.esr_tables.specs.Csv.{ledger_csv}
 
--- The ledger of a history: each row says what the history says, beside the numbers of two lines, of which nothing is
--- promised: a history knows no lines.
+-- The ledger of a history: each row contains the history's data, and the numbers of two lines, which are not
+-- specified: a history has no lines.
 abbrev pub IsLedgerOf : Schedule → List (List ℕ) → List ℕ → Type 0
 IsLedgerOf h names text = (first : ℕ → ℕ) × (last : ℕ → ℕ) × (text ≡ ledger_csv weighted h names first last)
 

@@ -4,7 +4,7 @@ use crate::csv::{end_word, kind_word};
 use crate::rows::Row;
 use crate::spans::LineSpan;
 
-/// What a row has of a transaction, in the order of its fields.
+/// The fields of a row, in their order.
 #[derive(Clone, Copy)]
 pub enum Cell {
     Number,
@@ -43,7 +43,7 @@ pub const CELLS: [(Cell, &str, &str); 15] = [
     (Cell::Last, "last_line", "to"),
 ];
 
-/// What is in a cell.
+/// The content of a cell.
 #[derive(Clone, Copy)]
 pub enum Content<'a> {
     Number(u64),
@@ -51,7 +51,7 @@ pub enum Content<'a> {
     Nothing,
 }
 
-/// What a row has in a cell.
+/// Returns the content of a row's cell.
 pub fn content_of<'a>(cell: Cell, name: &'a str, row: &Row, span: LineSpan) -> Content<'a> {
     match cell {
         Cell::Number => Content::Number(u64::from(row.number.0)),

@@ -17,7 +17,7 @@ use esr_items::Weighted;
 use esr_report::{Names, name_of_transaction};
 use std::alloc::AllocError;
 
-/// The word for a kind.
+/// Returns the name of a kind.
 pub fn kind_word(kind: RowKind) -> &'static str
     ensures { result.now ≡ kind_word kind }
 {
@@ -28,7 +28,7 @@ pub fn kind_word(kind: RowKind) -> &'static str
     }
 }
 
-/// The word for an end.
+/// Returns the name of an end.
 pub fn end_word(end: RowEnd) -> &'static str
     ensures { result.now ≡ end_word end }
 {
@@ -55,7 +55,7 @@ fn push_field(out: &mut Vec<u8>, field: &str) -> Result<(), AllocError>
     out.extend_from_slice(field.as_bytes())
 }
 
-/// Appends fields, each behind a comma.
+/// Appends fields, each after a comma.
 fn push_all_fields(out: &mut Vec<u8>, fields: &[&str]) -> Result<(), AllocError>
     ensures { OnOk result (out.new.items ≡ out.old.items ++ separated (map (λ field. field.now) fields.now)) }
 {
@@ -65,7 +65,7 @@ fn push_all_fields(out: &mut Vec<u8>, fields: &[&str]) -> Result<(), AllocError>
     Ok(())
 }
 
-/// A number where there is one, else nothing.
+/// Returns a number in decimal, or the empty text for `None`.
 fn optional(digits: &mut itoa::Buffer, number: Option<u64>) -> &str
     ensures { result.now ≡ optional number }
 {

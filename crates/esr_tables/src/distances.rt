@@ -15,7 +15,7 @@ use esr_items::Weighted;
 use esr_order::committed;
 use std::alloc::{AllocError, Global};
 
-/// The transaction that began behind so many others.
+/// Returns the transaction that began after `place` others.
 pub fn txn_at(history: &History<Weighted>, place: usize) -> TxnId
     requires { place < begun_count history.now.schedule.entries }
     ensures { result.0 ≡ place + 1 }
@@ -24,7 +24,8 @@ pub fn txn_at(history: &History<Weighted>, place: usize) -> TxnId
     TxnId(place as u32 + 1)
 }
 
-/// The distance of a committed query, none of another transaction, beside the list of all that committed.
+/// Returns the distance of a committed query, and `None` for another transaction, from the list of all committed
+/// ones.
 fn distance(
     alloc: Global,
     history: &History<Weighted>,
@@ -49,7 +50,7 @@ fn push_next(distances: &mut Vec<Option<u64>>, next: Option<u64>) -> Result<(), 
     Ok(())
 }
 
-/// The distances of the transactions, the first that of transaction 1.
+/// Returns the distances of the transactions, starting with transaction 1.
 pub fn distances(alloc: Global, history: &History<Weighted>) -> Result<Vec<Option<u64>>, NoMemory>
     ensures { IfOk result (λ v. v.items ≡ map (distance_of weighted history.now.schedule)
         (range_with_len 1 (begun_count history.now.schedule.entries))) }
@@ -64,7 +65,7 @@ pub fn distances(alloc: Global, history: &History<Weighted>) -> Result<Vec<Optio
     Ok(distances)
 }
 
-/// The distance of a transaction that has begun.
+/// Returns the distance of a transaction that has begun.
 pub fn distance_at(distances: &[Option<u64>], t: TxnId) -> Option<u64>
     requires { 1 ≤ t.0 }
     ensures { (h : Schedule) → distances.now ≡ map (distance_of weighted h) (range_with_len 1 (begun_count h.entries))

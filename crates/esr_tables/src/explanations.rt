@@ -1,5 +1,5 @@
-//! What is explained of a query, for programs. The fields are the words of the explanation's own text, line by line, and
-//! nothing is computed once more: so the two cannot differ.
+//! The explanation of a query, for programs. The fields are the words of the explanation's own text, line by line,
+//! and nothing is recomputed: so the two cannot differ.
 
 use crate::format::Data;
 use crate::words::push_word;
@@ -37,7 +37,7 @@ const CHARGE: [Field; 9] = [
 /// The fields of the sums.
 const SUMS: [Field; 2] = [("distance", 1), ("import", 3)];
 
-/// The columns of an explanation, behind the one that says what kind of row it is.
+/// The columns of an explanation after the first, which contains the kind of the row.
 const COLUMNS: [&str; 14] = [
     "item",
     "value",
@@ -55,7 +55,7 @@ const COLUMNS: [&str; 14] = [
     "import",
 ];
 
-/// The fields of a line, by its first word; none of a line that lists names.
+/// Returns the fields of a line, given its first word; none for a line that lists names.
 fn fields_of(first: &str) -> &'static [Field] {
     match first {
         "read" => &READ,
@@ -65,12 +65,12 @@ fn fields_of(first: &str) -> &'static [Field] {
     }
 }
 
-/// A word of a line, counted from 0.
+/// Returns a word of a line, counted from 0.
 fn word_at(line: &str, place: usize) -> &str {
     line.split(' ').nth(place).unwrap_or("")
 }
 
-/// The names that a line lists behind its first word.
+/// Returns the names that a line lists after its first word.
 fn names_in(line: &str) -> &str {
     match word_at(line, 1) {
         "-" => "",
@@ -78,7 +78,7 @@ fn names_in(line: &str) -> &str {
     }
 }
 
-/// The word of a line in a column, if it has one.
+/// Returns the word of a line in a column, if it has one.
 fn word_in<'a>(line: &'a str, column: &str) -> &'a str {
     for (field, place) in fields_of(word_at(line, 0)) {
         if *field == column {
@@ -114,7 +114,7 @@ fn push_names(out: &mut String, line: &str) -> Result<(), AllocError> {
     Ok(())
 }
 
-/// An explanation as CSV.
+/// Returns an explanation as CSV.
 fn explanation_csv(alloc: Global, text: &str) -> Result<String, AllocError> {
     let mut out = String::new(alloc);
     out.push_str("row")?;
@@ -172,7 +172,7 @@ fn push_list(out: &mut String, line: &str) -> Result<(), AllocError> {
     out.push_str(if is_empty { "[]" } else { "]" })
 }
 
-/// The line that has this first word.
+/// Returns the line with this first word.
 fn line_of<'a>(text: &'a str, first: &str) -> &'a str {
     for line in text.lines() {
         if word_at(line, 0) == first {
@@ -182,7 +182,7 @@ fn line_of<'a>(text: &'a str, first: &str) -> &'a str {
     ""
 }
 
-/// An explanation as JSON.
+/// Returns an explanation as JSON.
 fn explanation_json(alloc: Global, name: &str, text: &str) -> Result<String, AllocError> {
     let mut out = String::new(alloc);
     out.push_str("{\"name\":")?;

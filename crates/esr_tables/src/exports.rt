@@ -1,7 +1,7 @@
-//! What each update exported. A history keeps what queries imported, and of exports nothing: so it is made again, entry
-//! by entry, by a machine, which knows its accounts. That takes the time and memory of a second run; the machine is
-//! gone before rows are made. Where no query imported anything, no update exported anything either, as there are no
-//! other charges, and nothing is made again.
+//! What each update exported. A history stores what queries imported, and no exports: so a machine, which knows its
+//! accounts, replays it entry by entry. That takes the time and memory of a second run; the machine is dropped before
+//! rows are made. If no query imported anything, no update exported anything either, as there are no other charges,
+//! and nothing is replayed.
 
 ghost use Rattle.std.specs.Prelude.{◌≡◌, ◌<◌, ◌≤◌, ◌+◌, true, map, replicate, IfOk, OnOk, length};
 ghost use Rattle.std.specs.List.{range_with_len};
@@ -17,7 +17,7 @@ use esr_history::{History, NoMemory, TxnId};
 use esr_items::{Store, Weighted, WeightedRef};
 use std::alloc::{AllocError, Global};
 
-/// A machine that is to make a history again.
+/// Creates a machine to replay a history.
 fn replayer<'a>(
     alloc: Global,
     history: &'a History<Weighted>,
@@ -61,7 +61,7 @@ fn replay(
     Ok(())
 }
 
-/// What the transactions of a machine exported, the first transaction 0, which there is not.
+/// Returns what the transactions of a machine exported, starting with the nonexistent transaction 0.
 fn exports_in(
     alloc: Global,
     machine: &Machine<WeightedRef<'_>>,
@@ -77,7 +77,7 @@ fn exports_in(
     Ok(exports)
 }
 
-/// Whether no transaction imported anything.
+/// Returns whether no transaction imported anything.
 fn imports_nothing(history: &History<Weighted>) -> bool
     ensures { result ≡ true → all_imports weighted history.now.schedule ≡ 0 }
 {
@@ -89,7 +89,7 @@ fn imports_nothing(history: &History<Weighted>) -> bool
     true
 }
 
-/// What each transaction exported, as a machine that makes the history again knows it.
+/// Returns what each transaction exported, from a machine that replays the history.
 fn replayed_exports(
     alloc: Global,
     history: &History<Weighted>,
@@ -105,14 +105,14 @@ fn replayed_exports(
     Ok(exports)
 }
 
-/// No export of so many transactions.
+/// Returns zero exports for `count` transactions.
 fn no_exports(alloc: Global, count: usize) -> Result<Vec<u64>, AllocError>
     ensures { IfOk result (λ v. v.items ≡ replicate count 0) }
 {
     vec![in alloc; 0u64; count]
 }
 
-/// What each transaction exported, by their numbers; there is no transaction 0.
+/// Returns what each transaction exported, by number; transaction 0 does not exist.
 pub fn exports(alloc: Global, history: &History<Weighted>) -> Result<Vec<u64>, NoMemory>
     ensures { IfOk result (λ v. v.items ≡ map (export_in (charges_in weighted history.now.schedule))
         (range_with_len 0 (begun_count history.now.schedule.entries + 1))) }

@@ -11,7 +11,7 @@ pub enum Format {
     Json,
 }
 
-/// How audits and explanations are written for programs; for people they have texts of their own.
+/// The formats of audits and explanations for programs; for people they have separate texts.
 #[derive(Clone, Copy)]
 pub enum Data {
     /// Rows of fields separated by commas, below a row of their names.

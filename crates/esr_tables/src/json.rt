@@ -12,7 +12,7 @@ use esr_items::Weighted;
 use esr_report::{Names, name_of_transaction};
 use std::alloc::{AllocError, Global};
 
-/// Appends what is in a cell.
+/// Appends the content of a cell.
 fn push_content(out: &mut String, content: Content<'_>) -> Result<(), AllocError> {
     match content {
         Content::Number(number) => push_number(out, number),
@@ -34,7 +34,7 @@ fn push_row(out: &mut String, name: &str, row: &Row, span: LineSpan) -> Result<(
     out.push_str("}\n")
 }
 
-/// A ledger as JSON.
+/// Returns a ledger as JSON.
 pub fn ledger_json(
     alloc: Global,
     transactions: &Names,

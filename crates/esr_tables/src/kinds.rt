@@ -21,7 +21,7 @@ pub enum RowKind {
     Strict,
 }
 
-/// The kind of the transaction that an entry begins, if that is accepted.
+/// Returns the kind of the transaction that an entry begins, if that is accepted.
 fn kind_in(entry: Entry) -> Option<RowKind>
     ensures { result ≡ kind_in entry }
 {
@@ -52,7 +52,7 @@ fn push_kind(kinds: &mut Vec<RowKind>, entry: Entry) -> Result<(), AllocError>
     Ok(())
 }
 
-/// The kinds of the transactions, the first that of transaction 1.
+/// Returns the kinds of the transactions, starting with transaction 1.
 pub fn kinds(alloc: Global, history: &History<Weighted>) -> Result<Vec<RowKind>, AllocError>
     ensures { IfOk result (λ v. v.items ≡ map kind_of (beginnings (accepted_in history.now.schedule))) }
 {

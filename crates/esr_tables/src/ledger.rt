@@ -21,14 +21,14 @@ use esr_report::Names;
 use esr_views::{Recording, ScriptView};
 use std::alloc::{AllocError, Global};
 
-/// What each transaction of a script did: its kind and limit, what it was charged, how its lines were answered, how it
-/// ended and, of a committed query, how far it was from the nearest serial placement.
+/// The data of each transaction of a script: its kind and limit, its charges, the replies to its lines, its end and,
+/// for a committed query, its distance from the nearest serial placement.
 #[derive(Clone, Copy)]
 pub struct Ledger {
     pub format: Format,
 }
 
-/// A ledger as CSV.
+/// Returns a ledger as CSV.
 fn ledger_csv(
     alloc: Global,
     transactions: &Names,
@@ -45,7 +45,8 @@ fn ledger_csv(
     Ok(out)
 }
 
-/// The ledger of a history that came from no script, as CSV. Its lines are those of the script that gives it again.
+/// Returns the ledger, as CSV, of a history that was not made by a script. Its lines are those of the script that
+/// recreates the history.
 pub fn history_ledger(
     alloc: Global,
     history: &History<Weighted>,
@@ -60,7 +61,7 @@ pub fn history_ledger(
     ledger_csv(alloc, transactions, history, &columns, &spans)
 }
 
-/// The ledger of a script in this form.
+/// Returns the ledger of a script in this form.
 fn text_in(alloc: Global, recording: &Recording<'_>, format: Format) -> Result<Vec<u8>, AllocError>
     ensures { (s : ScriptState) → IsRecorded s recording.now → IfOk result (λ text. IsLedger format s text.items) }
 {

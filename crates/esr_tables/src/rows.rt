@@ -1,5 +1,5 @@
-//! The rows of a ledger: what a history says of each transaction. A row is made where it is written, from a few numbers
-//! that are found of all transactions at once: of 65,000 transactions all rows would take 6 MB.
+//! The rows of a ledger: a history's data about each transaction. A row is made when it is written, from a few
+//! columns computed for all transactions at once: all rows of 65,000 transactions would take 6 MB.
 
 ghost use Rattle.std.specs.Prelude.{◌≡◌, ◌<◌, ◌≤◌, ◌+◌, List, Some, length, map, IfOk};
 ghost use Rattle.esr_order.specs.Scans.{commits_in};
@@ -28,15 +28,15 @@ pub enum RowEnd {
     Active,
 }
 
-/// What a history says of a transaction.
+/// A history's data about a transaction.
 #[derive(Clone, Copy)]
 pub struct Row {
     pub number: TxnId,
     pub kind: RowKind,
     pub limit: u64,
-    /// What it imported as a query, or exported as an update.
+    /// The import of a query, or the export of an update.
     pub charged: u64,
-    /// What is left of the limit.
+    /// The rest of the limit.
     pub left: u64,
     pub tally: Tally,
     pub end: RowEnd,
@@ -44,7 +44,7 @@ pub struct Row {
     pub distance: Option<u64>,
 }
 
-/// What is found of all transactions at once.
+/// The columns of all transactions.
 #[derive(Drop)]
 pub struct Columns {
     kinds: Vec<RowKind>,
@@ -53,7 +53,7 @@ pub struct Columns {
     distances: Vec<Option<u64>>,
 }
 
-/// What is found of all transactions at once.
+/// Computes the columns of all transactions.
 pub fn columns_of(alloc: Global, history: &History<Weighted>) -> Result<Columns, NoMemory>
     ensures { IfOk result (λ c. AreColumns history.now.schedule c) }
 {
@@ -69,7 +69,7 @@ pub fn columns_of(alloc: Global, history: &History<Weighted>) -> Result<Columns,
     })
 }
 
-/// Whether an entry is an accepted commit.
+/// Returns whether an entry is an accepted commit.
 fn is_commit(entry: Entry) -> bool
     ensures { result ≡ commits_in (Some entry) }
 {
@@ -79,7 +79,7 @@ fn is_commit(entry: Entry) -> bool
     matches!(entry.event, Event::Commit { txn: _ })
 }
 
-/// How a transaction ended whose accepted commit or abort is at this place, if there is one.
+/// Returns how a transaction ended, given the place of its accepted commit or abort, if there is one.
 fn end_at(log: &Log, place: Option<u64>) -> RowEnd
     ensures { result ≡ end_at log.now.entries place }
 {
@@ -92,7 +92,7 @@ fn end_at(log: &Log, place: Option<u64>) -> RowEnd
     }
 }
 
-/// How a transaction ended.
+/// Returns how a transaction ended.
 fn end_of(history: &History<Weighted>, t: TxnId) -> RowEnd
     requires { (1 ≤ t.0) × (t.0 ≤ begun_count history.now.schedule.entries) }
     ensures { result ≡ end_of history.now.schedule t.0 }
@@ -103,7 +103,7 @@ fn end_of(history: &History<Weighted>, t: TxnId) -> RowEnd
     end_at(history.log(), facts.end)
 }
 
-/// The kind of a transaction.
+/// Returns the kind of a transaction.
 fn kind_at(kinds: &[RowKind], t: TxnId) -> RowKind
     requires { 1 ≤ t.0 }
     ensures { (h : Schedule) → kinds.now ≡ map kind_of (beginnings (accepted_in h)) → result ≡ kind_at h t.0 }
@@ -114,7 +114,7 @@ fn kind_at(kinds: &[RowKind], t: TxnId) -> RowKind
     }
 }
 
-/// The limit of a transaction.
+/// Returns the limit of a transaction.
 fn limit_of(history: &History<Weighted>, t: TxnId) -> u64
     ensures { result ≡ limit_of (accepted_in history.now.schedule) t.0 }
 {
@@ -124,7 +124,7 @@ fn limit_of(history: &History<Weighted>, t: TxnId) -> u64
     }
 }
 
-/// Whether a transaction is a query.
+/// Returns whether a transaction is a query.
 fn is_query(history: &History<Weighted>, t: TxnId) -> bool
     ensures { result ≡ is_query (accepted_in history.now.schedule) t.0 }
 {
@@ -134,7 +134,7 @@ fn is_query(history: &History<Weighted>, t: TxnId) -> bool
     }
 }
 
-/// What a transaction imported as a query, or exported as an update, beside what all exported.
+/// Returns what a transaction imported as a query, or exported as an update, given the exports of all.
 fn charged_of(history: &History<Weighted>, exports: &[u64], t: TxnId) -> u64
     requires exports { exports.now ≡ map (export_in (charges_in weighted history.now.schedule))
         (range_with_len 0 (begun_count history.now.schedule.entries + 1)) }
@@ -150,7 +150,7 @@ fn charged_of(history: &History<Weighted>, exports: &[u64], t: TxnId) -> u64
     }
 }
 
-/// The tally of a transaction.
+/// Returns the tally of a transaction.
 fn tally_at(tallies: &[Tally], t: TxnId) -> Tally
     requires { t.0 < length tallies.now }
     ensures { (es : List Entry) → AreTallies es tallies.now → result ≡ tally_of es t.0 }
@@ -158,7 +158,7 @@ fn tally_at(tallies: &[Tally], t: TxnId) -> Tally
     tallies[t.0 as usize]
 }
 
-/// The row of a transaction that has begun.
+/// Returns the row of a transaction that has begun.
 fn row_of(history: &History<Weighted>, columns: &Columns, t: TxnId) -> Row
     requires columns { AreColumns history.now.schedule columns.now }
     requires begun { (1 ≤ t.0) × (t.0 ≤ begun_count history.now.schedule.entries) }
@@ -178,7 +178,7 @@ fn row_of(history: &History<Weighted>, columns: &Columns, t: TxnId) -> Row
     }
 }
 
-/// The row of the transaction that began behind so many others.
+/// Returns the row of the transaction that began after `place` others.
 pub fn row_at(history: &History<Weighted>, columns: &Columns, place: usize) -> Row
     requires columns { AreColumns history.now.schedule columns.now }
     requires begun { place < begun_count history.now.schedule.entries }

@@ -1,5 +1,5 @@
-//! From which line of the script to which a transaction goes. The history knows no lines: they were kept while the script
-//! was answered, or are counted for the script that the history would have. No clause says which they are.
+//! The first and the last line of each transaction. The history has no lines: they are recorded while the script
+//! runs, or counted for the script that the history would have. No clause specifies them.
 
 ghost use Rattle.std.specs.Prelude.{◌≡◌};
 ghost use Rattle.esr_tables.specs.Spans.{first_of, last_of};
@@ -10,7 +10,7 @@ use esr_items::Weighted;
 use esr_views::Recording;
 use std::alloc::{AllocError, Global};
 
-/// The numbers of two lines of a script, from 1; 0 where there is none.
+/// The numbers of two lines of a script, from 1; 0 if there is none.
 #[derive(Clone, Copy)]
 pub struct LineSpan {
     /// The line that begins the transaction.
@@ -25,7 +25,7 @@ pub struct Spans(Vec<LineSpan>);
 
 const NOWHERE: LineSpan = LineSpan { first: 0, last: 0 };
 
-/// Whether a line was refused for another reason than a lock or a limit.
+/// Returns whether a line was refused for a reason other than a lock or a limit.
 fn is_mistaken(reply: Reply) -> bool {
     match reply {
         Reply::Refused(why) => !matches!(
@@ -37,7 +37,7 @@ fn is_mistaken(reply: Reply) -> bool {
 }
 
 impl Spans {
-    /// The span of a transaction.
+    /// Returns the span of a transaction.
     pub fn of(&self, t: TxnId) -> LineSpan
         ensures first { result.first ≡ first_of self.now t.0 }
         ensures last { result.last ≡ last_of self.now t.0 }
@@ -71,7 +71,7 @@ fn nowhere(alloc: Global, history: &History<Weighted>) -> Result<Spans, AllocErr
     Ok(Spans(vec![in alloc; NOWHERE; count]?))
 }
 
-/// The spans of the transactions of a script.
+/// Returns the spans of the transactions of a script.
 pub fn spans_of(alloc: Global, recording: &Recording<'_>) -> Result<Spans, AllocError> {
     let history = &recording.history;
     let mut spans = nowhere(alloc, history)?;
@@ -83,8 +83,8 @@ pub fn spans_of(alloc: Global, recording: &Recording<'_>) -> Result<Spans, Alloc
     Ok(spans)
 }
 
-/// The spans of the transactions of a history that came from no script, in the script that gives it again: that has a
-/// line for each item, and one for each entry that was accepted or blocked.
+/// Returns the spans of the transactions of a history that was not made by a script, in the script that recreates it:
+/// that has a line for each item, and one for each entry that was accepted or blocked.
 pub fn spans_in(alloc: Global, history: &History<Weighted>) -> Result<Spans, AllocError> {
     let mut spans = nowhere(alloc, history)?;
     let mut line = history.items();

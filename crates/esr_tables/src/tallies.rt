@@ -11,7 +11,7 @@ use esr_history::{Entry, Event, History, Refusal, Reply};
 use esr_items::Weighted;
 use std::alloc::{AllocError, Global};
 
-/// How often lines of a transaction were answered, and how.
+/// The counts of a transaction's lines, by their replies.
 #[derive(Clone, Copy)]
 pub struct Tally {
     /// Accepted reads.
@@ -35,7 +35,7 @@ const NONE: Tally = Tally {
     by_export: 0,
 };
 
-/// The number of the transaction that begins, if one does.
+/// Returns the number of the transaction that begins, if one does.
 fn begun_by(reply: Reply) -> Option<u32>
     ensures { result ≡ begun_by reply }
 {
@@ -45,7 +45,7 @@ fn begun_by(reply: Reply) -> Option<u32>
     }
 }
 
-/// The number of the transaction that a line is of; of an accepted begin the one that begins.
+/// Returns the number of a line's transaction; for an accepted begin, that of the transaction that begins.
 pub fn txn_of(event: Event, reply: Reply) -> Option<u32>
     ensures { result ≡ txn_of event reply }
 {
@@ -65,7 +65,7 @@ pub fn txn_of(event: Event, reply: Reply) -> Option<u32>
     }
 }
 
-/// The tally with one more answer.
+/// Returns the tally with one more reply.
 fn with_answer(tally: Tally, reply: Reply) -> Tally
     requires { IsCountable tally }
     ensures { result ≡ with_answer tally reply }
@@ -111,7 +111,7 @@ fn count(tallies: &mut Vec<Tally>, entry: Entry)
     }
 }
 
-/// The tallies of the transactions, by their numbers; there is no transaction 0.
+/// Returns the tallies of the transactions, by number; transaction 0 does not exist.
 pub fn tallies(alloc: Global, history: &History<Weighted>) -> Result<Vec<Tally>, AllocError>
     ensures length { IfOk result (λ v. begun_count history.now.schedule.entries < length v.items) }
     ensures tallies { IfOk result (λ v. AreTallies history.now.schedule.entries v.items) }

@@ -12,18 +12,18 @@ use esr_items::Weighted;
 use esr_report::{Names, name_of_transaction};
 use std::alloc::{AllocError, Global};
 
-/// Whether the words of a column stand on its left.
+/// Returns whether the text of a column is left-aligned.
 fn is_of_words(cell: Cell) -> bool {
     matches!(cell, Cell::Name | Cell::Kind | Cell::End)
 }
 
-/// How many decimal digits a number has.
+/// Returns the number of a number's decimal digits.
 fn digits_of(number: u64) -> usize {
     let mut digits = itoa::Buffer::new();
     digits.format(number).len()
 }
 
-/// How wide a cell is.
+/// Returns the width of a cell.
 fn width_of(content: Content<'_>) -> usize {
     match content {
         Content::Number(number) => digits_of(number),
@@ -54,7 +54,7 @@ impl Widths {
     }
 }
 
-/// Appends so many blanks.
+/// Appends `count` spaces.
 fn push_spaces(out: &mut String, count: usize) -> Result<(), AllocError> {
     for _ in 0..count {
         out.push_str(" ")?;
@@ -62,7 +62,7 @@ fn push_spaces(out: &mut String, count: usize) -> Result<(), AllocError> {
     Ok(())
 }
 
-/// Appends what is in a cell, on its side.
+/// Appends the content of a cell, aligned.
 fn push_cell(
     out: &mut String,
     cell: Cell,
@@ -84,7 +84,7 @@ fn push_cell(
     Ok(())
 }
 
-/// Appends the heads. Those of what blocked stand below the words "blocked by".
+/// Appends the heads. Those of the blocking reasons are below the words "blocked by".
 fn push_heads(out: &mut String, widths: &Widths) -> Result<(), AllocError> {
     let mut before = 0usize;
     for (width, (cell, _, _)) in widths.0.iter().zip(CELLS.iter()) {
@@ -120,7 +120,7 @@ fn push_row(
     out.push_str("\n")
 }
 
-/// The widths of the columns of a ledger.
+/// Returns the widths of the columns of a ledger.
 fn widths_of(
     transactions: &Names,
     history: &History<Weighted>,
@@ -138,7 +138,7 @@ fn widths_of(
     widths
 }
 
-/// A ledger for people.
+/// Returns a ledger for people.
 pub fn ledger_text(
     alloc: Global,
     transactions: &Names,

@@ -1,5 +1,6 @@
-//! Worked histories and the orders of their queries. An order is proved to be as a definition says, or out of memory.
-//! That there is one where there is memory, and that the definition is what one would count by hand, no clause can say.
+//! Worked histories and the orders of their queries. The contract of an order permits out of memory or the order that
+//! a definition specifies. No clause can state that it is found if memory suffices, or that the definition agrees
+//! with a count by hand.
 
 mod audits;
 mod placements;
@@ -57,7 +58,7 @@ fn event(asked: Asked) -> Event {
     }
 }
 
-/// The answer to an event, which is given once more where memory is refused.
+/// Returns the reply to an event, and retries once if an allocation fails.
 fn answer(m: &mut Machine<Plain>, asked: Asked) -> Result<Reply, StepError> {
     let event = event(asked);
     match m.step(event) {
@@ -66,12 +67,12 @@ fn answer(m: &mut Machine<Plain>, asked: Asked) -> Result<Reply, StepError> {
     }
 }
 
-/// Steps the machine, and tells whether the event was accepted.
+/// Steps the machine, and returns whether the event was accepted.
 fn accepts(m: &mut Machine<Plain>, asked: Asked) -> bool {
     !matches!(answer(m, asked), Err(_) | Ok(Reply::Refused(_)))
 }
 
-/// Plays the events, and tells whether each was accepted.
+/// Executes the events, and returns whether each was accepted.
 fn play(m: &mut Machine<Plain>, events: &[Asked]) -> bool {
     for asked in events {
         if !accepts(m, *asked) {
@@ -86,7 +87,7 @@ fn play_all(rt: &impl Abort, m: &mut Machine<Plain>, events: &[Asked]) {
     assert!(rt; play(m, events), "a history");
 }
 
-/// The order of a query, asked for once more where memory is refused.
+/// Returns the order of a query, and retries once if an allocation fails.
 fn order_of(alloc: Global, m: &Machine<Plain>, q: u32) -> Result<Order, OrderError> {
     match Order::of(alloc, m.history(), TxnId(q)) {
         Err(OrderError::NoMemory) => Order::of(alloc, m.history(), TxnId(q)),
@@ -94,7 +95,7 @@ fn order_of(alloc: Global, m: &Machine<Plain>, q: u32) -> Result<Order, OrderErr
     }
 }
 
-/// Whether the updates that wrote an item are these, with these values.
+/// Returns whether the updates that wrote an item are these, with these values.
 fn has_chain(order: &Order, x: u32, writers: &[u32], values: &[i64]) -> bool {
     match order.chain(ItemId(x)) {
         Some(links) => links.writers.as_slice() == writers && links.values.as_slice() == values,
@@ -102,7 +103,7 @@ fn has_chain(order: &Order, x: u32, writers: &[u32], values: &[i64]) -> bool {
     }
 }
 
-/// The order of a query, which has one.
+/// Returns the order of a query, which must have one.
 fn order_now(rt: &impl Abort, alloc: Global, m: &Machine<Plain>, q: u32) -> Order {
     let Ok(order) = order_of(alloc, m, q) else {
         panic!(rt; "an order")
@@ -110,18 +111,18 @@ fn order_now(rt: &impl Abort, alloc: Global, m: &Machine<Plain>, q: u32) -> Orde
     order
 }
 
-/// The order of a query in the history of these events, all of which are accepted.
+/// Returns the order of a query in the history of these events, all of which are accepted.
 fn order_in(rt: &impl Abort, alloc: Global, opening: &[i64], events: &[Asked], q: u32) -> Order {
     let m = play_machine(rt, alloc, opening, events);
     order_now(rt, alloc, &m, q)
 }
 
-/// Whether a transaction has no order.
+/// Returns whether a transaction has no order.
 fn is_without(alloc: Global, m: &Machine<Plain>, t: u32) -> bool {
     matches!(order_of(alloc, m, t), Err(OrderError::NotACommittedQuery))
 }
 
-/// Whether the events are accepted, and a transaction has no order then.
+/// Returns whether the events are accepted, and a transaction then has no order.
 fn has_none(alloc: Global, opening: &[i64], events: &[Asked], t: u32) -> bool {
     match machine_after(alloc, opening, events) {
         Some(m) => is_without(alloc, &m, t),
@@ -129,7 +130,8 @@ fn has_none(alloc: Global, opening: &[i64], events: &[Asked], t: u32) -> bool {
     }
 }
 
-/// A query reads one item before an update and another behind the next, which read a third that the first wrote.
+/// A query reads one item before an update and another after the next update, which reads a third item that the first
+/// wrote.
 const THROUGH_A_THIRD_ITEM: [Asked; 12] = [
     Query(9),
     Update(9),
@@ -145,7 +147,7 @@ const THROUGH_A_THIRD_ITEM: [Asked; 12] = [
     Commit(1),
 ];
 
-/// Two updates write over what a report read, before it reads again.
+/// Two updates overwrite values that a report has read, before it reads again.
 const OVER_A_REPORT: [Asked; 11] = [
     Query(100),
     Update(100),
@@ -204,7 +206,7 @@ const BEHIND_AN_UPDATE: [Asked; 9] = [
     Commit(2),
 ];
 
-/// The same of a strict query.
+/// Like [`BEHIND_AN_UPDATE`], but the query is strict.
 const STRICTLY_BEHIND_AN_UPDATE: [Asked; 9] = [
     Update(9),
     Write(1, 0, 5),
@@ -217,7 +219,7 @@ const STRICTLY_BEHIND_AN_UPDATE: [Asked; 9] = [
     Commit(2),
 ];
 
-/// Whether one update comes before a query, which must have seen so many.
+/// Returns whether one update precedes a query, and `must` updates are required to.
 fn has_must(rt: &impl Abort, alloc: Global, events: &[Asked], must: usize) -> bool {
     let order = order_in(rt, alloc, &[0], events, 2);
     order.commits() == &[TxnId(1)][..] && order.must().len() == must
@@ -230,7 +232,7 @@ fn strict_report(rt: HostRuntime) {
     assert!(rt; has_must(&rt, rt.alloc(), &BEHIND_AN_UPDATE, 0));
 }
 
-/// A query, and ten updates of one item, each after the one before it.
+/// Returns the history of a query, and ten updates of one item, one after another.
 fn one_after_another(rt: &impl Abort, alloc: Global) -> Machine<Plain> {
     let mut m = play_machine(rt, alloc, &[0], &[Query(9)]);
     for u in 2..12u32 {
@@ -247,7 +249,7 @@ fn ten_updates_of_one_item(rt: HostRuntime) {
     check_line(&rt, &order_now(&rt, rt.alloc(), &m, 1));
 }
 
-/// That the order ties ten updates in one line.
+/// Checks that the order ties ten updates in one line.
 fn check_line(rt: &impl Abort, order: &Order) {
     let before = order.before();
     assert!(rt; before.len() == 9);

@@ -1,5 +1,5 @@
-//! A file for each kind of input, and one for the devices that fail. Contracts speak of readers and writers that tell
-//! their bytes, let any call run out of memory, and rest on definitions: the bytes are compared where these stop.
+//! A file for each kind of input, and one for the devices that fail. Contracts cover readers and writers that specify
+//! their bytes, permit out of memory in any call, and rest on definitions: these tests compare the bytes beyond that.
 
 mod bundles;
 mod claims;

@@ -28,7 +28,7 @@ pub starting : (path tag name attributes remainder : List ℕ) → tag ≡ name 
     → IsName name → Attributes attributes → Tag path tag remainder
 starting path tag name attributes remainder t b named given = rw (t, b) (opens path name attributes named given)
 
--- a text behind a tag
+-- a text after a tag
 pub continuing : (path text plain tag remainder rest : List ℕ) → text ≡ plain ++ (60 ∷ (tag ++ (62 ∷ rest)))
     → IsPlain plain → Tag path tag remainder → Closes remainder rest → Closes path text
 continuing path text plain tag remainder rest e flat tagged closed = rw e (next path plain tag remainder rest flat tagged closed)

@@ -23,8 +23,8 @@ pub data Attributes : List ℕ → Type 0 where
   one : (name value rest : List ℕ) → IsName name → IsPlain value → HasNo 39 value → Attributes rest
       → Attributes (32 ∷ (name ++ (codes "='" ++ (value ++ (39 ∷ rest)))))
 
--- which elements are open before a tag, what stands in the tag, and which are open behind it: the names of those that
--- are open, the outermost first, each after a slash
+-- the elements open before a tag, the content of the tag, and the elements open after it: the names of the open
+-- elements, the outermost first, each after a slash
 pub data Tag : List ℕ → List ℕ → List ℕ → Type 0 where
   opens : (path name attributes : List ℕ) → IsName name → Attributes attributes
       → Tag path (name ++ attributes) (path ++ (47 ∷ name))
@@ -38,6 +38,6 @@ pub data Closes : List ℕ → List ℕ → Type 0 where
   next : (path plain tag remainder rest : List ℕ) → IsPlain plain → Tag path tag remainder → Closes remainder rest
       → Closes path (plain ++ (60 ∷ (tag ++ (62 ∷ rest))))
 
--- what may stand within an element: it closes what it opens
+-- the permitted content of an element: it closes what it opens
 abbrev pub IsMarkup : List ℕ → Type 0
 IsMarkup text = Closes [] text

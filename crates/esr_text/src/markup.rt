@@ -1,23 +1,23 @@
-//! Whether a text is markup: each element that is opened is closed in its turn, and attributes are in quotes.
+//! Checks that a text is markup: each element is closed in its turn, and attributes are in quotes.
 //!
-//! What writes pictures and pages promises nothing of that. To prove it of each function that writes would state for
-//! each which elements are open before and behind it. So the whole text is read once more, tag by tag, before anything
-//! rests on it: a few functions, with a contract that says what is wanted. The names of the elements that are open are
-//! one text, each after a slash, so that what is open before and behind a tag is said by texts alone.
+//! The functions that write pictures and pages do not promise this. A proof of each would have to state, for each,
+//! the elements open before and after it. So the whole text is read once more, tag by tag, before it is used: a few
+//! functions, with a contract that states the requirement. The names of the open elements are one text, each after a
+//! slash, so texts alone describe the elements open before and after a tag.
 
 ghost use Rattle.std.specs.Prelude.{◌≡◌, ◌<◌, ◌++◌, ◌∷◌, ℕ, List, IfOk, IfSome, length, string_bytes, true};
 ghost use Rattle.esr_text.specs.Markup.{Attributes, Closes, HasNo, IsMarkup, IsName, IsNameByte, IsPlain, Tag};
 
 use std::alloc::{AllocError, Global};
 
-/// Whether a byte may be in a name.
+/// Returns whether a byte may be in a name.
 fn is_name_byte(byte: u8) -> bool
     ensures { result ≡ true → IsNameByte byte }
 {
     matches!(byte, b'a'..=b'z' | b'A'..=b'Z' | b'0'..=b'9' | b'-')
 }
 
-/// Whether a text is a name.
+/// Returns whether a text is a name.
 fn is_name(text: &str) -> bool
     ensures { result ≡ true → IsName text.now }
 {
@@ -29,7 +29,7 @@ fn is_name(text: &str) -> bool
     !text.is_empty()
 }
 
-/// Whether no character of a text is that one, of ASCII.
+/// Returns whether no character of a text is that one, of ASCII.
 fn has_no(text: &str, mark: char) -> bool
     requires { mark < 128 }
     ensures { result ≡ true → HasNo mark text.now }
@@ -37,14 +37,14 @@ fn has_no(text: &str, mark: char) -> bool
     !text.contains(mark)
 }
 
-/// Whether a text has nothing that would have to be escaped.
+/// Returns whether a text has nothing that would have to be escaped.
 fn is_plain(text: &str) -> bool
     ensures { result ≡ true → IsPlain text.now }
 {
     has_no(text, '<') && has_no(text, '&')
 }
 
-/// What is behind the first attribute of a text.
+/// Returns the text after the first attribute.
 fn after_attribute(text: &str) -> Option<&str>
     ensures shorter { IfSome result (λ remainder. length remainder.now < length text.now) }
     ensures continues { IfSome result (λ remainder. Attributes remainder.now → Attributes text.now) }
@@ -59,7 +59,7 @@ fn after_attribute(text: &str) -> Option<&str>
     }
 }
 
-/// Whether a text is attributes.
+/// Returns whether a text is attributes.
 pub fn is_attributes(text: &str) -> bool
     ensures { result ≡ true → Attributes text.now }
 {
@@ -73,7 +73,7 @@ pub fn is_attributes(text: &str) -> bool
     true
 }
 
-/// The name of the element that a tag begins with, if attributes follow it.
+/// Returns the name of the element at the start of a tag, if attributes follow it.
 fn element_of(tag: &str) -> Option<&str>
     ensures { IfSome result (λ name. (attributes : List ℕ) × (tag.now ≡ name.now ++ attributes) × IsName name.now × Attributes attributes) }
 {
@@ -89,14 +89,14 @@ fn element_of(tag: &str) -> Option<&str>
     }
 }
 
-/// The elements that are open around the innermost, if that has such a name.
+/// Returns the elements open around the innermost one, if that has this name.
 fn around<'a>(path: &'a str, name: &str) -> Option<&'a str>
     ensures { IfSome result (λ outer. path.now ≡ outer.now ++ (47 ∷ name.now)) }
 {
     path.strip_suffix(name)?.strip_suffix('/')
 }
 
-/// The elements that are open within one more.
+/// Returns the open elements after one more is opened within them.
 fn within(alloc: Global, path: &str, name: &str) -> Result<String, AllocError>
     ensures { IfOk result (λ inner. string_bytes inner ≡ path.now ++ (47 ∷ name.now)) }
 {
@@ -106,7 +106,7 @@ fn within(alloc: Global, path: &str, name: &str) -> Result<String, AllocError>
     Ok(inner)
 }
 
-/// The elements that are open behind the tag that closes an element, if it is the innermost.
+/// Returns the elements open after the tag that closes an element, if it is the innermost.
 fn after_end(alloc: Global, path: &str, name: &str) -> Result<Option<String>, AllocError>
     ensures { IfOk result (λ found. IfSome found (λ remainder. Tag path.now (47 ∷ name.now) (string_bytes remainder))) }
 {
@@ -116,7 +116,7 @@ fn after_end(alloc: Global, path: &str, name: &str) -> Result<Option<String>, Al
     }
 }
 
-/// The elements that are open behind a tag that does not close an element that was open.
+/// Returns the elements open after a tag that does not close an earlier element.
 fn after_start(alloc: Global, path: &str, tag: &str) -> Result<Option<String>, AllocError>
     ensures { IfOk result (λ found. IfSome found (λ remainder. Tag path.now tag.now (string_bytes remainder))) }
 {
@@ -132,7 +132,7 @@ fn after_start(alloc: Global, path: &str, tag: &str) -> Result<Option<String>, A
     }
 }
 
-/// The elements that are open behind a tag, if it may stand where these are open.
+/// Returns the elements open after a tag, if the tag is permitted in these open elements.
 fn open_after(alloc: Global, path: &str, tag: &str) -> Result<Option<String>, AllocError>
     ensures { IfOk result (λ found. IfSome found (λ remainder. Tag path.now tag.now (string_bytes remainder))) }
 {
@@ -142,7 +142,7 @@ fn open_after(alloc: Global, path: &str, tag: &str) -> Result<Option<String>, Al
     }
 }
 
-/// What stands before the first tag of a text, in it, and behind it.
+/// Returns the text before the first tag, the tag's content, and the text after it.
 fn parts(text: &str) -> Option<(&str, &str, &str)>
     ensures plain { IfSome result (λ p. IsPlain p.0.now) }
     ensures shorter { IfSome result (λ p. length p.2.now < length text.now) }
@@ -157,18 +157,18 @@ fn parts(text: &str) -> Option<(&str, &str, &str)>
     }
 }
 
-/// Whether a text behind which nothing more comes closes all elements that are open.
+/// Returns whether the rest of a text, after which nothing follows, closes all open elements.
 fn is_end(path: &str, text: &str) -> bool
     ensures { result ≡ true → Closes path.now text.now }
 {
     path.is_empty() && is_plain(text)
 }
 
-/// Whether a text is markup.
+/// Returns whether a text is markup.
 ///
 /// # Errors
 ///
-/// Where there is no memory.
+/// If an allocation fails.
 pub fn is_markup(alloc: Global, text: &str) -> Result<bool, AllocError>
     ensures { IfOk result (λ is. is ≡ true → IsMarkup text.now) }
 {
@@ -184,11 +184,11 @@ pub fn is_markup(alloc: Global, text: &str) -> Result<bool, AllocError>
     Ok(is_end(path.as_str(), rest))
 }
 
-/// A text, or nothing where it is not markup.
+/// Returns a text, or the empty text if it is not markup.
 ///
 /// # Errors
 ///
-/// Where there is no memory.
+/// If an allocation fails.
 pub fn markup_or_nothing(alloc: Global, text: String) -> Result<String, AllocError>
     ensures { IfOk result (λ kept. IsMarkup (string_bytes kept)) }
 {

@@ -4,7 +4,7 @@ ghost use Rattle.std.specs.Prelude.{◌≤◌};
 
 use std::alloc::AllocError;
 
-/// Digits in groups of three.
+/// Appends digits in groups of three.
 fn push_digits(out: &mut String, digits: &str) -> Result<(), AllocError> {
     let count = digits.len();
     for (place, digit) in digits.chars().enumerate() {
@@ -16,13 +16,13 @@ fn push_digits(out: &mut String, digits: &str) -> Result<(), AllocError> {
     Ok(())
 }
 
-/// A number in groups of three digits: `1,000,000`.
+/// Appends a number in groups of three digits: `1,000,000`.
 pub fn push_number(out: &mut String, number: u64) -> Result<(), AllocError> {
     let mut digits = itoa::Buffer::new();
     push_digits(out, digits.format(number))
 }
 
-/// A value in groups of three digits.
+/// Appends a value in groups of three digits.
 pub fn push_value(out: &mut String, value: i64) -> Result<(), AllocError> {
     if value < 0 {
         out.push('-')?;
@@ -30,13 +30,13 @@ pub fn push_value(out: &mut String, value: i64) -> Result<(), AllocError> {
     push_number(out, value.unsigned_abs())
 }
 
-/// So many of something: `1 update`, `2 updates`.
+/// Appends a count and its noun: `1 update`, `2 updates`.
 pub fn push_count(out: &mut String, count: u64, one: &str, many: &str) -> Result<(), AllocError> {
     push_number(out, count)?;
     out.push_str(if count == 1 { one } else { many })
 }
 
-/// How many letters a number has, at most.
+/// Returns an upper bound of the number of characters of a number.
 pub fn number_letters(number: u64) -> usize
     ensures { result ≤ 26 }
 {
@@ -45,7 +45,7 @@ pub fn number_letters(number: u64) -> usize
     count + count / 3
 }
 
-/// How many letters a value has, at most.
+/// Returns an upper bound of the number of characters of a value.
 pub fn letters_of(value: i64) -> usize
     ensures { result ≤ 30 }
 {

@@ -1,4 +1,4 @@
--- What a script answers of one of its queries.
+-- A script's reply about one of its queries.
 use Rattle.std.specs.Prelude.{◌≡◌, ℕ, List, true, None, filter_map, slice_get}
 use Rattle.esr_items.specs.Weights.{weighted}
 use Rattle.esr_history.specs.Machine.{Schedule}
@@ -15,8 +15,8 @@ use Rattle.esr_views.specs.declared.query.AuditedQuery.{AuditedQuery}
 use Rattle.esr_views.specs.declared.recording.Recording.{Recording}
 use Rattle.esr_views.specs.State.{ScriptState, transaction_called}
 
--- The problem stands for the query of the history, and is one of just its near updates; the certificate certifies it,
--- with the smallest least set, and does not tell how many augmentations lead to its flow.
+-- The problem is that of the query of the history, and has just its near updates; the certificate certifies it, with
+-- the smallest least set, and does not contain the number of augmentations that lead to its flow.
 pub record IsFound (h : Schedule) (q : ℕ) (problem : Problem) (certificate : Certificate) : Type 0 where
   pub of_query : IsProblemOf weighted h q problem
   pub near : AreNear h q problem.updates
@@ -25,21 +25,21 @@ pub record IsFound (h : Schedule) (q : ℕ) (problem : Problem) (certificate : C
   pub smallest : IsSmallestLeast problem (in_set certificate.set)
   pub without_count : certificate.augmentations ≡ None
 
--- What is found of the query of that name, which has committed: what the audit tells of it, and the problem with its
+-- The finding of the query of that name, which has committed: the summary of its audit, and the problem with its
 -- certificate.
 pub record IsFoundOf (s : ScriptState) (name : List ℕ) (f : Finding) : Type 0 where
   pub committed : is_committed_query s.history (transaction_called s name).0 ≡ true
   pub reported : summary f ≡ summary_of weighted s.history (transaction_called s name).0
   pub found : IsFound s.history (transaction_called s name).0 f.problem (certificate_of f.certificate)
 
--- The names that are bound, the history, and what is found of the query of that name.
+-- The bound names, the history, and the finding of the query of that name.
 pub record IsAnswered (s : ScriptState) (name : List ℕ) (a : AuditedQuery) : Type 0 where
   pub items : a.items ≡ s.items
   pub transactions : a.transactions ≡ s.transactions
   pub history : a.history.schedule ≡ s.history
   pub finding : IsFoundOf s name a.finding
 
--- The names that are bound, and the history.
+-- The bound names, and the history.
 pub record IsRecorded (s : ScriptState) (c : Recording) : Type 0 where
   pub items : c.items ≡ s.items
   pub transactions : c.transactions ≡ s.transactions

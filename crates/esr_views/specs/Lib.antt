@@ -1,4 +1,4 @@
--- What a script answers to one who asks for a query, and the state that it was left in.
+-- A script's reply about a query, and the final state of the script.
 
 pub mod State
 pub mod Ask

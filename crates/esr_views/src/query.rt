@@ -1,11 +1,11 @@
-//! What a script answers to one who asks for one of its queries: its names, its history, and what the audit finds.
+//! A script's reply about one of its queries: its names, its history, and the finding of the audit.
 
 use esr_audit::Finding;
 use esr_history::History;
 use esr_items::Weighted;
 use esr_report::Names;
 
-/// What a script tells of one of its queries.
+/// A script's reply about one of its queries.
 #[derive(Drop)]
 pub struct AuditedQuery {
     /// The names of the items, in the order of their numbers, from 0.

@@ -1,10 +1,10 @@
-//! What a whole script leads to, for those who ask for more than one query, or for one that has not committed.
+//! The final state of a script, for views of more than one query, or of one that has not committed.
 
 use esr_history::History;
 use esr_items::Weighted;
 use esr_report::Names;
 
-/// What a whole script leads to.
+/// The final state of a script.
 #[derive(Drop)]
 pub struct Recording<'a> {
     /// The names of the items, in the order of their numbers, from 0.

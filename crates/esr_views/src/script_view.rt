@@ -5,7 +5,7 @@ ghost use Rattle.std.specs.Prelude.{ℕ, List, IfOk, IfSome, ◌≡◌};
 use crate::recording::Recording;
 use std::alloc::{AllocError, Global};
 
-/// A text that is told of a script.
+/// A text about a script.
 pub trait ScriptView {
     ghost use Rattle.esr_views.specs.Ask.{IsRecorded};
     ghost use Rattle.esr_views.specs.State.{ScriptState};
@@ -13,7 +13,7 @@ pub trait ScriptView {
     /// Whether it is the text of a script that leads to this state.
     ghost IsTextOf: { Self → ScriptState → List ℕ → Type 0 };
 
-    /// The text, or none where nothing can be told.
+    /// Returns the text, or `None` if there is nothing to show.
     fn text_of(
         &self,
         alloc: Global,

@@ -1,5 +1,5 @@
--- Why one pass over the log knows who holds what at each blocked line, what the charges due lack, and that each
--- ring told is one of waits.
+-- One pass over the log determines the lock holders at each blocked line, the shortfalls of the charges due, and that
+-- each reported cycle is one of waits.
 
 mod Places
 mod Amounts

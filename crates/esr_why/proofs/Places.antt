@@ -6,7 +6,7 @@ use Rattle.esr_history.specs.Machine.{Distance, Schedule, IsLegal, IsLegalAfter,
 use Rattle.esr_history.proofs.Onward.{legal_parts}
 use Rattle.esr_why.specs.Replays.{until}
 
--- a list in three parts: before the entry at a place, the entry, and behind it
+-- a list in three parts: before the entry at a place, the entry, and after it
 parts_at : (es : List Entry) (i : ℕ) (e : Entry) → slice_get es i ≡ Some e → es ≡ take i es ++ e ∷ drop (suc i) es
 parts_at [] i e is = absurd (cc)
 parts_at (x ∷ es) zero e is = ap (λ y. y ∷ es) (same_Some x e is)

@@ -1,4 +1,4 @@
--- The last places of transactions, entry after entry; and those who wait in a ring.
+-- The last places of transactions, entry after entry; and the cycles of waits.
 use Rattle.std.proofs.Common.{◌≡◌, ℕ, ◌<◌, ◌≤◌, List, [], ◌∷◌, ◌++◌, length, set, get_or, get_or-set_other, get_or-set_same, refl, sym, ◌∙◌, ap, subst, arith, inl, inr, Option, None, Some, slice_get, map, All, true, false}
 use Rattle.std.specs.List.{AllByRecursion}
 use Rattle.std.proofs.Math.ListN.{length-set}

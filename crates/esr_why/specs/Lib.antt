@@ -1,4 +1,4 @@
--- What keeps a blocked line back: the lock and who holds it, what a limit lacks, and rings of waits.
+-- What blocks a line: the lock and its holder, the shortfall of a limit, and cycles of waits.
 
 pub mod Locks
 pub mod Notes

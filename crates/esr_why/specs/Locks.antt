@@ -6,7 +6,7 @@ use Rattle.esr_history.specs.Machine.{Schedule, accepted_in, writer}
 use Rattle.esr_why.specs.declared.replay.Lock.{Lock}
 use Rattle.esr_why.specs.declared.replay.Lock.TheVariants as lock
 
--- the write lock where it is the item's writer
+-- the write lock, if `holder` is the item's writer
 abbrev pub lock_by : Option ℕ → ℕ → Lock
 lock_by None holder = lock.Read
 lock_by (Some u) holder = if u == holder then lock.Write else lock.Read

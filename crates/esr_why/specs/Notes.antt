@@ -1,4 +1,4 @@
--- What a blocked event names, in range.
+-- The range of the names in a blocked event.
 use Rattle.std.specs.Prelude.{ℕ, ◌<◌, ⊤}
 use Rattle.esr_items.specs.Values.{IsValue}
 use Rattle.esr_history.specs.declared.event.Event.{Event}

@@ -1,4 +1,4 @@
--- What a blocked event would have added to limits that it would have passed.
+-- The charges of a blocked event to the limits that it would have exceeded.
 use Rattle.std.specs.Prelude.{ℕ, ◌+◌, List, [], ◌∷◌, ◌++◌, Option, Some, None, nat_lt, if◌then◌else◌}
 use Rattle.std.specs.List.{filter_map}
 use Rattle.esr_history.specs.declared.event.Event.{Event}
@@ -8,8 +8,8 @@ use Rattle.esr_why.specs.declared.shortfall.Side.{Side}
 use Rattle.esr_why.specs.declared.shortfall.Side.TheVariants.{Import, Export}
 use Rattle.esr_why.specs.declared.shortfall.Shortfall.{Shortfall}
 
--- What a transaction lacks that has been charged so much of its limit and would be charged this much more: nothing where
--- that is within the limit. The smallest limit that would do is what it would have been charged then.
+-- The shortfall of a transaction that has been charged `used` of its limit and would be charged `due` more: none if
+-- the sum is within the limit. The smallest sufficient limit is the sum.
 abbrev pub lack : Side → ℕ → (due used limit : ℕ) → Option Shortfall
 lack side t due used limit =
     if nat_lt limit (used + due)
@@ -23,7 +23,7 @@ lack side t due used limit =
     })
     else None
 
--- a query, to import so much more; an update, to export it
+-- the shortfall of a query to import this amount, and of an update to export it
 abbrev pub import_lack : Distance → Schedule → ℕ → ℕ → Option Shortfall
 import_lack d h q due = lack Import q due (import_in (charges_in d h) q) (limit_of (accepted_in h) q)
 
@@ -34,15 +34,15 @@ abbrev pub listed : Option Shortfall → List Shortfall
 listed None = []
 listed (Some s) = s ∷ []
 
--- the update whose charges these are lacks it of them all together
+-- the shortfall of the update for all these charges together
 abbrev pub export_shortfall : Distance → Schedule → List Charge → List Shortfall
 export_shortfall d h [] = []
 export_shortfall d h (c ∷ cs) = listed (export_lack d h c.update (total (c ∷ cs)))
 
--- what is lacking for charges: of the queries' limits, and then of the update's
+-- the shortfalls for charges: of the queries' limits, and then of the update's
 abbrev pub shortfalls_of : Distance → Schedule → List Charge → List Shortfall
 shortfalls_of d h cs = filter_map (λ c. import_lack d h c.query c.amount) cs ++ export_shortfall d h cs
 
--- what an event that comes after a history lacks for the charges that are due
+-- the shortfalls of the event after a history for the charges due
 abbrev pub shortfalls : Distance → Schedule → Event → List Shortfall
 shortfalls d h e = shortfalls_of d h (due_in d h e)

@@ -1,5 +1,5 @@
-//! The lines of a script that were blocked, and the rings of those who wait for one another, told entry by entry. A ring
-//! is told behind the line that closes it: where that line is tried again, the ring was there before.
+//! Reports the lines of a script that were blocked, and the cycles of transactions that wait for one another, entry
+//! by entry. A cycle is reported after the line that closes it; when that line is retried, the cycle existed before.
 
 ghost use Rattle.std.specs.Prelude.{◌≡◌, ◌<◌, ◌+◌, [], length, take, OnOk};
 ghost use Rattle.esr_items.specs.Weights.{weighted};
@@ -20,11 +20,11 @@ use std::alloc::{AllocError, Global};
 /// Why the lines of a script were blocked.
 #[derive(Drop)]
 pub struct Why<'a> {
-    /// The transaction whose lines are told, if not all are.
+    /// The transaction whose lines are reported; all lines if `None`.
     pub name: Option<&'a str>,
 }
 
-/// Which transactions are told of.
+/// The transactions to report.
 #[derive(Clone, Copy)]
 enum Sought {
     All,
@@ -32,7 +32,7 @@ enum Sought {
 }
 
 impl Sought {
-    /// Whether a transaction is told of.
+    /// Returns whether a transaction is to be reported.
     fn has(self, t: TxnId) -> bool {
         match self {
             Sought::All => true,
@@ -40,13 +40,13 @@ impl Sought {
         }
     }
 
-    /// Whether one of those in a ring is told of.
+    /// Returns whether a transaction of a cycle is to be reported.
     fn has_any(self, cycle: &[Wait]) -> bool {
         cycle.iter().any(|wait| self.has(wait.txn))
     }
 }
 
-/// The lock by which an update keeps an event back that comes next.
+/// Returns the lock by which an update blocks the next event.
 fn lock_of(replay: &Replay<'_>, event: Event, holder: TxnId) -> Lock
     requires { IsInRange event (length replay.now.opening) }
     ensures { result ≡ lock_in_way replay.now event holder.0 }
@@ -74,7 +74,7 @@ struct Reporter<'a> {
 }
 
 impl Reporter<'_> {
-    /// Tells why an entry of a transaction was blocked, which comes next.
+    /// Reports why the next entry, of a transaction, was blocked.
     fn report_entry(&mut self, place: usize, entry: Entry, txn: TxnId) -> Result<(), AllocError>
         requires { entry.reply ≡ reply_to weighted self.old.replay entry.event }
         ensures replay { self.new.replay ≡ self.old.replay }
@@ -98,7 +98,7 @@ impl Reporter<'_> {
         }
     }
 
-    /// Tells of the ring that a transaction closes, if it closes one: it did not wait for the same one before.
+    /// Reports the cycle that a transaction closes, if it closes one: it did not wait for the same holder before.
     fn report_cycle(&mut self, txn: TxnId, before: Option<Wait>) -> Result<(), AllocError>
         requires { AreLastEntries self.old.replay.entries self.old.last_entries.places.items }
         ensures replay { self.new.replay ≡ self.old.replay }
@@ -121,7 +121,7 @@ impl Reporter<'_> {
         Ok(())
     }
 
-    /// Tells of the entry at a place, of the transaction, and goes on behind it.
+    /// Reports the entry at a place, of the transaction, and continues after it.
     fn report_of(&mut self, place: usize, entry: Entry, txn: TxnId) -> Result<(), NoMemory>
         requires reply { entry.reply ≡ reply_to weighted self.old.replay entry.event }
         requires place { place ≡ length self.old.replay.entries }
@@ -137,7 +137,7 @@ impl Reporter<'_> {
         Ok(())
     }
 
-    /// Tells of the entry at a place, and goes on behind it.
+    /// Reports the entry at a place, and continues after it.
     fn report(&mut self, place: usize, entry: Entry) -> Result<(), NoMemory>
         requires reply { entry.reply ≡ reply_to weighted self.old.replay entry.event }
         requires place { place ≡ length self.old.replay.entries }
@@ -153,7 +153,7 @@ impl Reporter<'_> {
         Ok(())
     }
 
-    /// Tells of the entry of a history at a place, and goes on behind it.
+    /// Reports the entry of a history at a place, and continues after it.
     fn report_at(&mut self, history: &History<Weighted>, place: usize) -> Result<(), NoMemory>
         requires place { place < length history.now.schedule.entries }
         requires replay { self.old.replay ≡ until place history.now.schedule }
@@ -181,7 +181,7 @@ impl Reporter<'_> {
     }
 }
 
-/// Why the lines of a script were blocked, of those that are sought.
+/// Returns the reasons why the sought lines of a script were blocked.
 fn text_about(
     alloc: Global,
     recording: &Recording<'_>,
@@ -200,7 +200,7 @@ fn text_about(
     Ok(reporter.out)
 }
 
-/// The one line where there is nothing to tell.
+/// Appends the one line of an empty report.
 fn push_nothing(out: &mut String, name: Option<&str>) -> Result<(), AllocError> {
     match name {
         Some(name) => writeln!(out, "no line of {name} was blocked"),
@@ -209,7 +209,7 @@ fn push_nothing(out: &mut String, name: Option<&str>) -> Result<(), AllocError> 
 }
 
 impl Why<'_> {
-    /// Which transactions are told of, unless there is none of that name.
+    /// Returns the transactions to report, unless the name is unknown.
     fn sought(&self, recording: &Recording<'_>) -> Option<Sought> {
         let Some(name) = self.name else {
             return Some(Sought::All);
@@ -218,7 +218,7 @@ impl Why<'_> {
         Some(Sought::One(TxnId(position.saturating_add(1))))
     }
 
-    /// The text, of those that are sought.
+    /// Returns the text about the sought transactions.
     fn text(
         &self,
         alloc: Global,

@@ -1,4 +1,4 @@
-//! A replay of a history, entry by entry: what a blocked event met is asked of the machine that it was put to.
+//! Replays a history, entry by entry: the machine knows what a blocked event met.
 
 ghost use Rattle.std.specs.Prelude.{◌≡◌, ◌<◌, length, map, All, ◌≤◌, IfOk, OnOk, OnErr};
 ghost use Rattle.esr_items.specs.Values.{IsValue};
@@ -38,7 +38,7 @@ impl<'a> Model for Replay<'a> {
     ghost view = { λ r. r.machine };
 }
 
-/// A machine that is to make a history again.
+/// Creates a machine to replay a history.
 fn replayer<'a>(
     alloc: Global,
     history: &'a History<Weighted>,
@@ -49,7 +49,7 @@ fn replayer<'a>(
     Machine::new(alloc, store, WeightedRef(history.metric()))
 }
 
-/// Whether a transaction is a query.
+/// Returns whether a transaction is a query.
 fn is_query(machine: &Machine<WeightedRef<'_>>, t: TxnId) -> bool
     ensures { result ≡ is_query (accepted_in machine.now) t.0 }
 {
@@ -60,7 +60,7 @@ fn is_query(machine: &Machine<WeightedRef<'_>>, t: TxnId) -> bool
 }
 
 impl<'a> Replay<'a> {
-    /// A replay before the first entry.
+    /// Returns a replay before the first entry.
     pub fn new(alloc: Global, history: &'a History<Weighted>) -> Result<Replay<'a>, NoMemory>
         ensures { IfOk result (λ r. r ≡ empty_schedule history.entry.now.schedule) }
     {
@@ -80,14 +80,14 @@ impl<'a> Replay<'a> {
         }
     }
 
-    /// The entries so far.
+    /// Returns the entries so far.
     pub fn log(&self) -> &Log
         ensures { result.now.entries ≡ self.now.entries }
     {
         self.machine.log()
     }
 
-    /// The lock by which an update keeps another from an item: that of its writes, where it is the item's writer.
+    /// Returns the lock by which an update blocks others from an item: its write lock, if it is the item's writer.
     pub fn lock_of(&self, x: ItemId, holder: TxnId) -> Lock
         requires { x.0 < length self.now.opening }
         ensures { result ≡ lock_by (writer (accepted_in self.now) x.0) holder.0 }
@@ -98,7 +98,7 @@ impl<'a> Replay<'a> {
         }
     }
 
-    /// The current value of an item.
+    /// Returns the current value of an item.
     pub fn current(&self, x: ItemId) -> i64
         requires { x.0 < length self.now.opening }
         ensures value { result ≡ current_value self.now.opening (accepted_in self.now) x.0 }
@@ -107,14 +107,14 @@ impl<'a> Replay<'a> {
         self.machine.current(x)
     }
 
-    /// Whether a transaction is a query.
+    /// Returns whether a transaction is a query.
     pub fn is_query(&self, t: TxnId) -> bool
         ensures { result ≡ is_query (accepted_in self.now) t.0 }
     {
         is_query(&self.machine, t)
     }
 
-    /// Whether a transaction is an update.
+    /// Returns whether a transaction is an update.
     #[tactic(auto, using(esr_core::proofs::Exports::kind_of))]
     pub fn is_update(&self, t: TxnId) -> bool
         ensures { result ≡ is_update (accepted_in self.now) t.0 }
@@ -125,7 +125,7 @@ impl<'a> Replay<'a> {
         }
     }
 
-    /// The queries that have read an item and have not ended, with their counts.
+    /// Returns the queries that have read an item and have not ended, with their counts.
     pub fn query_reads(&self, x: ItemId) -> &[QueryReads]
         requires { x.0 < length self.now.opening }
         ensures reads { map query_and_count result.now ≡ (item_locks (accepted_in self.now) x.0).queries }

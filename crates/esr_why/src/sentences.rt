@@ -1,4 +1,4 @@
-//! The words of a line: what was asked, what kept it back, and when that ended.
+//! The text of a line: the event, what blocked it, and when the blocker ended.
 
 use crate::replay::Lock;
 use crate::shortfall::{Shortfall, Side};
@@ -20,7 +20,7 @@ pub struct NumberedScript<'a> {
 }
 
 impl<'a> NumberedScript<'a> {
-    /// What a script leads to, with the line of each entry.
+    /// Creates the view of a script's final state, with the line of each entry.
     pub fn new(recording: &'a Recording<'_>) -> NumberedScript<'a> {
         NumberedScript {
             items: &recording.items,
@@ -30,28 +30,28 @@ impl<'a> NumberedScript<'a> {
         }
     }
 
-    /// The name of a transaction.
+    /// Returns the name of a transaction.
     pub fn name(&self, t: TxnId) -> &'a str {
         name_of_transaction(self.transactions, t)
     }
 
-    /// The name of an item.
+    /// Returns the name of an item.
     fn item(&self, x: ItemId) -> &'a str {
         self.items.name_of(x.0).unwrap_or("")
     }
 
-    /// The line of the entry at a place.
+    /// Returns the line of the entry at a place.
     fn line(&self, place: usize) -> u32 {
         self.lines.get(place).copied().unwrap_or(0)
     }
 
-    /// The line of the end of a transaction, if it has ended.
+    /// Returns the line of the end of a transaction, if it has ended.
     fn end_line(&self, t: TxnId) -> Option<u32> {
         let place = self.history.facts(t)?.end?;
         Some(self.line(usize::try_from(place).ok()?))
     }
 
-    /// When a transaction ended: `closer ended at line 14`.
+    /// Appends when a transaction ended: `closer ended at line 14`.
     fn push_end(&self, out: &mut String, t: TxnId) -> Result<(), AllocError> {
         let name = self.name(t);
         match self.end_line(t) {
@@ -60,7 +60,7 @@ impl<'a> NumberedScript<'a> {
         }
     }
 
-    /// What was asked, and where: `line 13: write again savings 1700: blocked by `.
+    /// Appends an event and its line: `line 13: write again savings 1700: blocked by `.
     fn push_asked(&self, out: &mut String, place: usize, event: Event) -> Result<(), AllocError> {
         let line = self.line(place);
         match event {
@@ -76,7 +76,7 @@ impl<'a> NumberedScript<'a> {
         }
     }
 
-    /// Appends the line of an event that a lock kept back.
+    /// Appends the line of an event that a lock blocked.
     pub fn push_lock_line(
         &self,
         out: &mut String,
@@ -96,7 +96,7 @@ impl<'a> NumberedScript<'a> {
         out.push('\n')
     }
 
-    /// How much was asked of a limit, and what was left.
+    /// Appends the charge due to a limit, and the rest of the limit.
     fn push_shortfall(&self, out: &mut String, shortfall: Shortfall) -> Result<(), AllocError> {
         let name = self.name(shortfall.txn);
         let side = match shortfall.side {
@@ -127,7 +127,7 @@ impl<'a> NumberedScript<'a> {
         out.push_str(" would suffice")
     }
 
-    /// A limit that would do, with whose it is where there are several.
+    /// Appends a sufficient limit, with its transaction if there are several.
     fn push_enough(
         &self,
         out: &mut String,
@@ -143,7 +143,7 @@ impl<'a> NumberedScript<'a> {
         Ok(())
     }
 
-    /// Appends the line of an event that limits kept back: the first is the reason of its refusal.
+    /// Appends the line of an event that limits blocked: the first is the reason of its refusal.
     pub fn push_limits_line(
         &self,
         out: &mut String,
@@ -158,7 +158,7 @@ impl<'a> NumberedScript<'a> {
         out.push('\n')
     }
 
-    /// The limits, with what was asked of each.
+    /// Appends the limits, with the charge due to each.
     fn push_limits(&self, out: &mut String, shortfalls: &[Shortfall]) -> Result<(), AllocError> {
         for (place, shortfall) in shortfalls.iter().enumerate() {
             out.push_str(if place == 0 { "" } else { "; then by " })?;
@@ -167,7 +167,7 @@ impl<'a> NumberedScript<'a> {
         Ok(())
     }
 
-    /// When those ended whose limits they are.
+    /// Appends the ends of the transactions with these limits.
     fn push_ends(&self, out: &mut String, shortfalls: &[Shortfall]) -> Result<(), AllocError> {
         for shortfall in shortfalls {
             out.push_str("; ")?;
@@ -176,7 +176,7 @@ impl<'a> NumberedScript<'a> {
         Ok(())
     }
 
-    /// Who waits for whom in a ring, from the one that waits the longest behind the one that closed it.
+    /// Appends the waits of a cycle: the first wait, which closed it, comes last.
     pub fn push_cycle(&self, out: &mut String, cycle: &[Wait]) -> Result<(), AllocError> {
         let Some((first, rest)) = cycle.split_first() else {
             return Ok(());
@@ -190,7 +190,7 @@ impl<'a> NumberedScript<'a> {
         out.push('\n')
     }
 
-    /// Who waits for whom: `first waits for second at line 7`.
+    /// Appends a wait: `first waits for second at line 7`.
     fn push_wait(&self, out: &mut String, wait: Wait) -> Result<(), AllocError> {
         let (name, holder, line) = (
             self.name(wait.txn),

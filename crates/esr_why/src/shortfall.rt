@@ -1,8 +1,8 @@
-//! What a blocked event would have added to the limits that it would have passed.
+//! The charges of a blocked event to the limits that it would have exceeded.
 //!
-//! A refusal names one transaction, the first in the order of reasons. But a write may be too much for several queries,
-//! and for its update besides: a limit that is told to let it pass has to be told of each. So all charges that are due
-//! are looked at, as the machine's definition has them.
+//! A refusal names one transaction, the first in the order of reasons. But a write may exceed the limits of several
+//! queries, and of its own update as well: the report lists every limit that would have to be raised. So all charges
+//! due are checked, as the machine's definition has them.
 
 ghost use Rattle.std.specs.Prelude.{◌≡◌, ◌<◌, ◌≤◌, ◌-◌, ◌*◌, ◌^◌, ◌++◌, true, length, map, filter_map, sum_by, All, IfOk, OnOk};
 ghost use Rattle.esr_items.specs.Values.{IsValue, max_distance};
@@ -20,7 +20,7 @@ use esr_items::{ItemId, Metric};
 use esr_locks::QueryReads;
 use std::alloc::{AllocError, Global};
 
-/// Whose limit it is: a query's, of what it imports, or an update's, of what it exports.
+/// The limit: a query's, on its imports, or an update's, on its exports.
 #[derive(Clone, Copy)]
 pub enum Side {
     Import,
@@ -34,7 +34,7 @@ pub struct Shortfall {
     pub txn: TxnId,
     /// What would have been charged.
     pub due: u128,
-    /// What had been charged before.
+    /// The charges before.
     pub used: u64,
     pub limit: u64,
     /// The smallest limit that this would be within.
@@ -42,7 +42,7 @@ pub struct Shortfall {
 }
 
 impl Shortfall {
-    /// What is left of the limit.
+    /// Returns the rest of the limit.
     pub fn rest(self) -> u64
         ensures { result ≡ self.limit - self.used }
     {
@@ -50,7 +50,7 @@ impl Shortfall {
     }
 }
 
-/// What a transaction lacks that has been charged so much of its limit and would be charged this much more.
+/// Returns the shortfall of a transaction that has been charged `used` of its limit and would be charged `due` more.
 fn lack(side: Side, txn: TxnId, due: u128, used: u64, limit: u64) -> Option<Shortfall>
     requires { due ≤ 2 ^ 126 }
     ensures { result ≡ lack side txn.0 due used limit }
@@ -82,7 +82,7 @@ fn push_if(found: &mut Vec<Shortfall>, more: Option<Shortfall>) -> Result<(), Al
     }
 }
 
-/// What the queries that have read an item are charged together, where one read of each costs this amount.
+/// Returns the total charge to the queries that have read an item, if one read of each costs this amount.
 fn total(reads: &[QueryReads], amount: u64) -> u128
     requires few { All (λ r. r.count ≤ MAX_READS) reads.now }
     requires amount { amount ≤ max_distance }
@@ -97,7 +97,7 @@ fn total(reads: &[QueryReads], amount: u64) -> u128
 }
 
 impl Replay<'_> {
-    /// The limit of a transaction.
+    /// Returns the limit of a transaction.
     fn limit(&self, t: TxnId) -> u64
         ensures { result ≡ limit_of (accepted_in self.now) t.0 }
     {
@@ -107,7 +107,7 @@ impl Replay<'_> {
         }
     }
 
-    /// What a query lacks to import this much more.
+    /// Returns the shortfall of a query to import `due` more.
     fn import_lack(&self, q: TxnId, due: u64) -> Option<Shortfall>
         ensures { result ≡ import_lack weighted self.now q.0 due }
     {
@@ -115,7 +115,7 @@ impl Replay<'_> {
         lack(Side::Import, q, u128::from(due), used, self.limit(q))
     }
 
-    /// What an update lacks to export this much more.
+    /// Returns the shortfall of an update to export `due` more.
     fn export_lack(&self, u: TxnId, due: u128) -> Option<Shortfall>
         requires { due ≤ 2 ^ 126 }
         ensures { result ≡ export_lack weighted self.now u.0 due }
@@ -124,7 +124,7 @@ impl Replay<'_> {
         lack(Side::Export, u, due, used, self.limit(u))
     }
 
-    /// What a query's read lacks.
+    /// Returns the shortfalls of a query's read.
     fn read_shortfalls(
         &self,
         alloc: Global,
@@ -151,7 +151,7 @@ impl Replay<'_> {
         Ok(found)
     }
 
-    /// What a query lacks that has read an item so often, where one read costs this amount.
+    /// Returns the shortfall of a query that has read an item `reads.count` times, if one read costs this amount.
     fn reads_lack(&self, reads: QueryReads, amount: u64) -> Option<Shortfall>
         requires few { reads.count ≤ MAX_READS }
         requires amount { amount ≤ max_distance }
@@ -160,7 +160,7 @@ impl Replay<'_> {
         self.import_lack(reads.query, u64::from(reads.count) * amount)
     }
 
-    /// Appends what the queries lack that have read an item, where one read of each costs this amount.
+    /// Appends the shortfalls of the queries that have read an item, if one read of each costs this amount.
     fn push_imports(
         &self,
         found: &mut Vec<Shortfall>,
@@ -178,7 +178,7 @@ impl Replay<'_> {
         Ok(())
     }
 
-    /// What an update's write lacks.
+    /// Returns the shortfalls of an update's write.
     fn write_shortfalls(
         &self,
         alloc: Global,
@@ -203,7 +203,7 @@ impl Replay<'_> {
         Ok(found)
     }
 
-    /// What an event that comes next lacks for the charges that are due.
+    /// Returns the shortfalls of the next event for the charges due.
     pub fn shortfalls(&self, alloc: Global, event: Event) -> Result<Vec<Shortfall>, AllocError>
         requires { IsInRange event (length self.now.opening) }
         ensures { IfOk result (λ v. v.items ≡ shortfalls weighted self.now event) }

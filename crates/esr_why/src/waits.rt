@@ -1,8 +1,9 @@
-//! Who waits for whom, and the rings of those who wait for one another.
+//! The waits among transactions, and the cycles of transactions that wait for one another.
 //!
-//! Kept is for each transaction the place of its last entry, so an entry costs one place. Where one is blocked by a lock,
-//! whoever holds it may wait too, and so on: the walk goes on to the first who does not wait or was met before, and what
-//! comes back to its begin is a ring. The walk is a draft: what it found is tested before it is told.
+//! The place of each transaction's last entry is kept, so an entry costs one place. If a transaction is blocked by a
+//! lock, its holder may wait too, and so on: the walk continues to the first transaction that does not wait or was
+//! met before, and a walk that returns to its start is a cycle. The walk is a draft: its result is tested before it
+//! is reported.
 
 ghost use Rattle.std.specs.Prelude.{◌≡◌, ◌++◌, ◌∷◌, [], List, Some, All, IsTrue, IfOk, IfSome, length, map, option_map};
 ghost use Rattle.esr_history.specs.BackLinks.{last_place, txn_in};
@@ -16,13 +17,13 @@ use std::alloc::{AllocError, Global};
 #[derive(Clone, Copy)]
 pub struct Wait {
     pub txn: TxnId,
-    /// Who holds the lock.
+    /// The holder of the lock.
     pub holder: TxnId,
     /// The place of the event in the log.
     pub place: usize,
 }
 
-/// The transaction of an entry: of an accepted begin the one that begins, of a refused one none.
+/// Returns the transaction of an entry: for an accepted begin, the one that begins; for a refused begin, none.
 pub fn transaction_of(entry: Entry) -> Option<TxnId>
     ensures { option_map (λ t. t.0) result ≡ txn_in entry }
 {
@@ -45,7 +46,7 @@ pub fn transaction_of(entry: Entry) -> Option<TxnId>
     }
 }
 
-/// Whether each waits for the next, and the last for the first.
+/// Returns whether each waits for the next, and the last for the first.
 fn is_round(waits: &[Wait]) -> bool
     ensures { IsTrue result → map (λ w. w.holder) waits.now ≡ turned (map (λ w. w.txn) waits.now) }
 {
@@ -71,7 +72,7 @@ pub struct LastEntries {
 }
 
 impl LastEntries {
-    /// Before the first entry, of so many transactions.
+    /// Creates the state before the first entry of a history with `transactions` transactions.
     pub fn new(alloc: Global, transactions: usize) -> Result<LastEntries, AllocError>
         ensures { IfOk result (λ l. AreLastEntries [] l.places.items) }
     {
@@ -96,7 +97,7 @@ impl LastEntries {
         }
     }
 
-    /// The place of the last entry of a transaction.
+    /// Returns the place of the last entry of a transaction.
     fn place(&self, txn: TxnId) -> Option<usize>
         ensures { (es : List Entry) → AreLastEntries es self.now.places.items
             → IfSome result (λ place. last_place txn_in txn.0 es ≡ Some place) }
@@ -122,7 +123,7 @@ impl LastEntries {
         }
     }
 
-    /// Whether a walk from the entry at a place comes by a transaction for the first time.
+    /// Returns whether a walk from the entry at a place meets a transaction for the first time.
     fn meets(&mut self, txn: TxnId, place: usize) -> bool
         ensures { self.new.places ≡ self.old.places }
     {

@@ -1,4 +1,3 @@
--- Why `esr_abort` keeps its contract: the goals that are left to a proof of ours.
 use Rattle.std.proofs.Common.{rules}
 use Rattle.esr_c.proofs.esr_abort.Goals as goal
 

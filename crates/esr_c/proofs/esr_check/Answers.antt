@@ -1,4 +1,3 @@
--- Why `esr_check` keeps its contract: the goals that are left to a proof of ours.
 use Rattle.std.proofs.Common.{◌∙◌, sym}
 use Rattle.esr_c.proofs.esr_check.Goals as goal
 

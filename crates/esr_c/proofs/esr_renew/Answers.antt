@@ -1,4 +1,3 @@
--- Why `esr_renew` keeps its contract: the goals that are left to a proof of ours.
 use Rattle.std.proofs.Common.{◌≡◌, ◌∙◌, ap, subst, sym, Option, Some, IfSome}
 use Rattle.esr_history.specs.Machine.{Schedule}
 use Rattle.esr_core.specs.Renewed.{renewed}

@@ -1,4 +1,3 @@
--- Why `command` keeps its contract: the goals that are left to a proof of ours.
 use Rattle.std.proofs.Common.{[], ◌≡◌, Some, None, Result, Ok}
 use Rattle.clap.specs.Words.{HasKind}
 use Rattle.clap.specs.Walk.{texts}

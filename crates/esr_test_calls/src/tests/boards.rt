@@ -5,11 +5,11 @@ use esr_board::{Board, BoardError, BoardSeat, ClaimsMissing};
 use std::alloc::Global;
 use std::process::Abort;
 
-/// A board of three jobs, and its two seats.
+/// Returns a board of three jobs, and its two seats.
 fn three_jobs(rt: &impl Abort, alloc: Global) -> (Board, BoardSeat, BoardSeat)
     ensures { IsSeatOf result.0 result.1 × IsSeatOf result.0 result.2 }
 {
-    // Where memory is refused, it is asked for once more.
+    // If the allocation fails, it is retried once.
     let made = match Board::new(alloc, 3, 2) {
         Err(_) => Board::new(alloc, 3, 2),
         made => made,
@@ -23,7 +23,7 @@ fn three_jobs(rt: &impl Abort, alloc: Global) -> (Board, BoardSeat, BoardSeat)
     (board, first, second)
 }
 
-/// The next claim of a seat.
+/// Compares the next claim of a seat.
 fn claims(rt: &impl Abort, board: &Board, seat: &mut BoardSeat, job: Option<u64>)
     requires { IsSeatOf board.now seat.old }
     ensures { IsSeatOf board.now seat.new }
@@ -31,7 +31,7 @@ fn claims(rt: &impl Abort, board: &Board, seat: &mut BoardSeat, job: Option<u64>
     assert!(rt; board.claim(seat) == job);
 }
 
-/// The first seat claims two jobs, and the second the third.
+/// Lets the first seat claim two jobs, and the second seat the third.
 fn claim_three(rt: &impl Abort, alloc: Global) -> (Board, BoardSeat, BoardSeat)
     ensures { IsSeatOf result.0 result.1 × IsSeatOf result.0 result.2 }
 {
@@ -57,7 +57,7 @@ fn close_with(
     board.close(given)
 }
 
-/// Since others may claim in between, no clause says which number a claim gives; by one thread they come in order.
+/// Since others may claim in between, no clause specifies the number of a claim; with one thread they are in order.
 #[test]
 fn every_claim_closes_the_board(rt: HostRuntime) {
     let (board, mut first, second) = claim_three(&rt, rt.alloc());
@@ -76,7 +76,8 @@ fn a_seat_that_drew_is_missing(rt: HostRuntime) {
     assert!(rt; close_with(&rt, rt.alloc(), board, second) == Err(ClaimsMissing));
 }
 
-/// The clause lets a close be refused wherever a seat is kept back; one that drew nothing is no reason for it.
+/// The clause permits an error for a close whenever a seat is missing; a seat that claimed nothing is no reason for
+/// one.
 #[test]
 fn a_seat_that_drew_nothing_is_not_missed(rt: HostRuntime) {
     let (board, mut first, second) = three_jobs(&rt, rt.alloc());
@@ -89,7 +90,7 @@ fn a_seat_that_drew_nothing_is_not_missed(rt: HostRuntime) {
     assert!(rt; close_with(&rt, rt.alloc(), board, first) == Ok(()));
 }
 
-/// The clause lets a close without seats be refused; where nobody has drawn anything, nothing can be missing.
+/// The clause permits an error for a close without seats; if no job was claimed, nothing can be missing.
 #[test]
 fn an_unused_board_closes_with_no_seat(rt: HostRuntime) {
     let (board, first, second) = three_jobs(&rt, rt.alloc());
@@ -98,7 +99,7 @@ fn an_unused_board_closes_with_no_seat(rt: HostRuntime) {
     assert!(rt; board.close(Vec::new(rt.alloc())) == Ok(()));
 }
 
-/// Why there is no board of so many jobs and seats.
+/// Returns the error of creating a board with these numbers of jobs and seats.
 fn refusal_of(alloc: Global, jobs: u64, seats: u64) -> Option<BoardError> {
     Board::new(alloc, jobs, seats).err()
 }

@@ -1,5 +1,5 @@
-//! Certificates with one part changed, and parts that are no problem. What the check answers is what a definition says
-//! of the first fault. That the faults have the order and the numbers of the formats no clause can say.
+//! Certificates with one part changed, and parts that do not form a problem. The check returns the first fault by a
+//! definition. No clause can state that the faults have the order and the numbers of the formats.
 
 use Change::{Backs, Count, FirstChain, Musts, Nothing, Set, Worth};
 use esr_cert::{BundleFault, Certificate, Chain, Fault, Problem, check};
@@ -33,7 +33,7 @@ const TOO_DEAR: &[Item<'static>] = &[
     (1, &[1], &[2_000_000_000_000_000_001, 0]),
 ];
 
-/// Two updates in a row, each of an item of its own.
+/// Two updates in a row, each of a separate item.
 const THIRD_ITEM: OneItemEvent<'static> = OneItemEvent {
     items: &[(0, &[0], &[0, 6]), (1, &[1], &[2, 0])],
     ..REPORT
@@ -77,7 +77,7 @@ const BOTH: Parts<'static> = Parts {
     worth: 1,
 };
 
-/// That no update is, where each wrote an item of its own.
+/// No update is a member of the set; each wrote a separate item.
 const NEITHER: Parts<'static> = Parts {
     set: &[],
     chains: &[&[0, 2], &[2, 0]],
@@ -109,7 +109,7 @@ const SEEN: Parts<'static> = Parts {
     worth: 5,
 };
 
-/// What is put in the place of one part of a certificate.
+/// A replacement of one part of a certificate.
 #[derive(Clone, Copy)]
 enum Change<'a> {
     Nothing,
@@ -162,9 +162,9 @@ fn faulty_problems() -> &'static [(OneItemEvent<'static>, BundleFault)] {
     &REFUSED
 }
 
-/// Parts that are no problem, and the rule that each breaks.
+/// Parts that do not form a problem, and the rule that each breaks.
 static REFUSED: [(OneItemEvent<'static>, BundleFault); 5] = [
-    // Neighbours of a chain are no pair.
+    // Neighbours of a chain do not form a pair.
     (
         OneItemEvent {
             before: &[],
@@ -172,7 +172,7 @@ static REFUSED: [(OneItemEvent<'static>, BundleFault); 5] = [
         },
         BundleFault::Shape,
     ),
-    // 0 is no transaction.
+    // 0 is not a transaction.
     (
         OneItemEvent {
             updates: &[2, 0],
@@ -188,7 +188,7 @@ static REFUSED: [(OneItemEvent<'static>, BundleFault); 5] = [
         },
         BundleFault::Range,
     ),
-    // An update is there twice, which is of shape and told before the cost.
+    // An update occurs twice, which is a fault of shape and reported before the cost.
     (
         OneItemEvent {
             updates: &[2, 2],
@@ -265,7 +265,7 @@ fn certificate(alloc: Global, parts: Parts) -> Result<Certificate, AllocError> {
     })
 }
 
-/// The certificate with its change.
+/// Returns the certificate with its change.
 fn change_certificate(
     alloc: Global,
     parts: Parts,
@@ -305,7 +305,7 @@ fn check_all(rt: &impl Abort, alloc: Global, asked: OneItemEvent, parts: Parts, 
     }
 }
 
-/// Which fault is told, and by which number, is a definition's: with two of them swapped the check would be as sound.
+/// A definition determines the fault reported and its number: with two of them swapped the check would be as sound.
 #[test]
 fn each_fault_of_a_certificate(rt: HostRuntime) {
     check_all(&rt, rt.alloc(), REPORT, BOTH, &OF_BOTH);
@@ -319,14 +319,15 @@ fn a_count_of_augmentations_is_at_most_nodes_times_arcs(rt: HostRuntime) {
     check_all(&rt, rt.alloc(), THIRD_ITEM, NEITHER, &OF_NEITHER);
 }
 
-/// Without an arc no augmentation may be told, and a chain without writers is one arc: a definition could say else.
+/// Without an arc, no augmentation may be claimed, and a chain without writers is one arc: a definition could say
+/// otherwise.
 #[test]
 fn a_problem_with_no_update(rt: HostRuntime) {
     check_all(&rt, rt.alloc(), NOTHING, FREE, &OF_FREE);
     check_all(&rt, rt.alloc(), ONE_ITEM, PAID, &[(Nothing, None)]);
 }
 
-/// Which fault is told is a definition's: a set without what it must hold has to be told as not closed.
+/// A definition determines the fault reported: a set that lacks a required member must be reported as not closed.
 #[test]
 fn a_set_has_to_hold_must(rt: HostRuntime) {
     check_all(&rt, rt.alloc(), STRICT, SEEN, &OF_SEEN);
@@ -344,7 +345,7 @@ fn a_problem_keeps_its_parts(rt: HostRuntime) {
     assert!(rt; problem.must().len() == 0);
 }
 
-/// The contract lets out of memory come in place of each fault; and that shape comes before range is a definition's.
+/// The contract permits out of memory in place of each fault; and a definition determines that shape precedes range.
 #[test]
 fn a_problem_keeps_its_rules(rt: HostRuntime) {
     for (i, (asked, fault)) in faulty_problems().iter().enumerate() {

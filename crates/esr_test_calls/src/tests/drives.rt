@@ -1,4 +1,4 @@
-//! Blocks of a drive run at the same time.
+//! Blocks of a drive run concurrently.
 
 use crate::tests::meeting::Meeting;
 use esr_drive::{DriveOutput, drive};

@@ -1,5 +1,5 @@
-//! Stores and distances by hand. That a store finds memory no clause can say; what its bounds are, and which of all
-//! metrics is meant, stands in constants and definitions, which could have other numbers in them and be proved.
+//! Stores and distances by hand. No clause can state that a store's allocation succeeds; its bounds, and the metric
+//! meant, are in constants and definitions, which could contain other numbers and be proved.
 
 ghost use Rattle.std.specs.Prelude.{◌≡◌, length};
 
@@ -9,7 +9,7 @@ use std::process::Abort;
 
 const MAX_VALUE: i64 = 1_000_000_000_000;
 
-/// A store of these values.
+/// Returns a store of these values.
 fn store_of(rt: &impl Abort, alloc: Global, values: &[i64]) -> Store
     ensures { length result ≡ length values.now }
 {
@@ -39,7 +39,7 @@ fn a_store_keeps_two_values_of_each_item(rt: HostRuntime) {
     assert!(rt; store.read(b) == -MAX_VALUE);
 }
 
-/// Whether a store of these values is refused so.
+/// Returns whether a store of these values is refused with this error.
 fn refuses(alloc: Global, values: &[i64], wanted: ItemsError) -> bool {
     match values.to_vec(alloc) {
         Ok(values) => Store::new(alloc, values).err() == Some(wanted),
@@ -63,7 +63,7 @@ fn plain_distances_are_differences(rt: HostRuntime) {
     assert!(rt; Plain.distance(x, 3, 3) == 0);
 }
 
-/// A metric of these weights.
+/// Returns a metric of these weights.
 fn metric_of(rt: &impl Abort, alloc: Global, weights: &[u32]) -> Weighted {
     let Ok(weights) = weights.to_vec(alloc) else {
         panic!(rt; "memory")
@@ -83,7 +83,7 @@ fn weighted_distances_are_differences_times_weights(rt: HostRuntime) {
     assert!(rt; metric.distance(ItemId(2), 3, 5) == 2);
 }
 
-/// Whether these weights are refused so.
+/// Returns whether these weights are refused with this error.
 fn refuses_weights(alloc: Global, weights: &[u32], wanted: ItemsError) -> bool {
     match weights.to_vec(alloc) {
         Ok(weights) => Weighted::new(weights).err() == Some(wanted),

@@ -1,5 +1,5 @@
-//! Limits asked and charged by hand. Each call of the ledgers does what a definition says; that the definition is the
-//! one that is meant, and that an account finds memory, no clause can say.
+//! Limits and charges by hand. Each call of the ledgers satisfies a definition; no clause can state that the
+//! definition is the intended one, and that an account's allocation succeeds.
 
 ghost use Rattle.std.specs.Prelude.{◌≡◌, []};
 

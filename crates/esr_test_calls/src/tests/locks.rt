@@ -1,5 +1,6 @@
-//! Locks taken and given back. Each call is proved against lists of who holds what, but a lock is taken only where room
-//! was found for it, and no clause can say that it is: a table without any room would keep its contract.
+//! Locks acquired and released. Each call is proved against lists of the lock holders, but a lock is acquired only if
+//! the table has capacity for it, and no clause can state that it has: a table without any capacity would keep its
+//! contract.
 
 ghost use Rattle.std.specs.Prelude.{◌≡◌, ◌<◌, length, map};
 ghost use Rattle.std.specs.List.{range_with_len};
@@ -51,7 +52,8 @@ fn release(locks: &mut LockTable, t: TxnId)
     locks.release(t);
 }
 
-/// By the clauses room may be refused always, and `items_of` list more than is locked: here it lists what is.
+/// By the clauses, a lock may always fail for lack of capacity, and `items_of` may list extra items: here it is
+/// exact.
 #[test]
 fn an_upgrade_waits_for_the_smallest_other_reader(rt: HostRuntime) {
     let mut locks = table(&rt, rt.alloc());
@@ -78,8 +80,8 @@ fn an_upgrade_waits_for_the_smallest_other_reader(rt: HostRuntime) {
     assert!(rt; locks.items_of(u).is_empty());
 }
 
-/// No clause can say that the lock of a query finds room: a table that never has any would be proved. A second read of
-/// one query counts with the first.
+/// No clause can state that a query's lock finds capacity: a table that never has any would be proved. A second read
+/// by one query is counted with the first.
 #[test]
 fn queries_are_in_order_with_counts(rt: HostRuntime) {
     let mut locks = table(&rt, rt.alloc());

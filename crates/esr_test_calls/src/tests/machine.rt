@@ -54,7 +54,7 @@ fn open(alloc: Global, value: i64) -> Result<Machine<Plain>, NoMemory> {
     }
 }
 
-/// Like [`open`], but retries once if an allocation fails.
+/// Opens a machine like [`open`], but retries once if an allocation fails.
 fn open_with_retry(rt: &impl Abort, alloc: Global, value: i64) -> Machine<Plain> {
     match open(alloc, value) {
         Ok(machine) => machine,
@@ -133,8 +133,8 @@ const OVER_QUERIES: [(OneItemEvent, Reply); 9] = [
     (Write(4, 5), Wrote),
 ];
 
-/// A definition that refused a write whose charge equals what is left of the limit would also be safe. Here a limit of
-/// 15 suffices, and 14 does not.
+/// A definition that refused a write whose charge equals the rest of the limit would also be safe. Here a limit of 15
+/// suffices, and 14 does not.
 #[test]
 fn export_limit_over_queries(rt: HostRuntime) {
     check_run(&rt, rt.alloc(), 0, &OVER_QUERIES, 15);

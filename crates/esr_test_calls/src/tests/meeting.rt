@@ -7,7 +7,7 @@ use std::sync::atomic::{AtomicBool, AtomicU64};
 
 const MAX_TURNS: u32 = 100_000_000;
 
-/// Holds job 0 until job 1 has entered, for so many turns, and counts how often each job came.
+/// Holds job 0 until job 1 has entered, for at most `turns` turns, and counts the entries of each job.
 #[derive(Drop)]
 pub struct Meeting {
     first: AtomicU64,
@@ -40,7 +40,7 @@ impl Meeting {
         }
     }
 
-    /// That each job came once, and job 0 was held until job 1 had come.
+    /// Checks that each job entered once, and that job 0 was held until job 1 had entered.
     pub fn check(&self, rt: &impl Abort) {
         assert!(rt; !self.gave_up.load(SeqCst), "no gate ran out of turns");
         assert!(rt;

@@ -61,7 +61,7 @@ const A_SECOND_REPORT: [Event; 3] = [
     Event::Commit { txn: TxnId(4) },
 ];
 
-/// A machine with the items a and b.
+/// Returns a machine with the items a and b.
 fn machine(rt: &impl Abort, alloc: Global) -> Machine<Plain> {
     let Ok(values) = [0i64, 0].to_vec(alloc) else {
         panic!(rt; "two values")
@@ -86,7 +86,7 @@ fn run_events(rt: &impl Abort, machine: &mut Machine<Plain>, events: &[Event]) {
     }
 }
 
-/// The audit of a history by so many workers.
+/// Audits a history with `workers` threads.
 fn audit_by<G: Gate + Sync, R: Threads + Abort + Sync>(
     rt: &R,
     alloc: Global,
@@ -100,7 +100,7 @@ fn audit_by<G: Gate + Sync, R: Threads + Abort + Sync>(
     book
 }
 
-/// What there is to find of the first report.
+/// Returns whether a finding is that of the first report.
 fn is_of_the_first_report(found: &Finding) -> bool {
     found.query == TxnId(1)
         && found.distance == 1
@@ -108,21 +108,21 @@ fn is_of_the_first_report(found: &Finding) -> bool {
         && found.before.as_slice() == [TxnId(2), TxnId(3)].as_slice()
 }
 
-/// A machine that played the two updates over a report.
+/// Returns a machine that executed the two updates over a report.
 fn machine_after_report(rt: &impl Abort, alloc: Global) -> Machine<Plain> {
     let mut machine = machine(rt, alloc);
     run_events(rt, &mut machine, &TWO_UPDATES_OVER_A_REPORT);
     machine
 }
 
-/// Whether an audit finds the order of the updates, and this of the first report.
+/// Returns whether an audit finds the order of the updates, and the finding of the first report.
 fn is_of_two_updates(book: &Book) -> bool {
     book.order.as_slice() == [TxnId(2), TxnId(3)].as_slice()
         && book.findings.len() == 1
         && is_of_the_first_report(&book.findings[0])
 }
 
-/// By its contract each audit may be out of memory: here one, two and the most workers find all that there is.
+/// By its contract each audit may be out of memory: here one, two and the maximum number of workers find the same.
 #[test]
 fn each_number_of_workers_finds_the_same(rt: HostRuntime) {
     let m = machine_after_report(&rt, rt.alloc());
@@ -142,7 +142,7 @@ fn an_audit_has_1_to_64_workers(rt: HostRuntime) {
     }
 }
 
-/// No contract gives a thread time or memory: four workers have nothing to claim here, and the audit still ends.
+/// No contract guarantees a thread time or memory: four workers have nothing to claim here, and the audit still ends.
 #[test]
 fn an_empty_history_has_no_findings(rt: HostRuntime) {
     let m = machine(&rt, rt.alloc());
@@ -162,7 +162,7 @@ fn two_workers_at_once(rt: HostRuntime) {
     gate.check(&rt);
 }
 
-/// A board of so many jobs, and its one seat.
+/// Returns a board of `jobs` jobs, and its one seat.
 fn one_seat(rt: &impl Abort, alloc: Global, jobs: u64) -> (Board, BoardSeat)
     ensures jobs { jobs_of result.0 ≡ jobs }
     ensures seat { IsSeatOf result.0 result.1 }

@@ -1,4 +1,5 @@
-//! Why a line is no command: the texts are in no clause, and a reason that fits all lines would be proved too.
+//! The reasons why a line is not a command: no clause contains the texts, and a reason that fits all lines would be
+//! proved too.
 
 use esr_lint::find_reason;
 use std::alloc::Global;
@@ -6,7 +7,7 @@ use std::process::Abort;
 
 type Row = (&'static [u8], usize, &'static str);
 
-/// Lines that are no command, the column of what is wrong, and the reason.
+/// Lines that are not commands, the column of the error, and the reason.
 static ROWS: [Row; 34] = [
     // The ways to misspell one line, each with its own reason: a blank at its end,
     (b"item a 1 ", 9, "trailing space"),
@@ -98,7 +99,7 @@ static ROWS: [Row; 34] = [
         8,
         "missing value; usage: item NAME VALUE [weight W]",
     ),
-    // a comment behind it.
+    // a comment after it.
     (
         b"item a 1 # one",
         10,
@@ -120,7 +121,7 @@ static ROWS: [Row; 34] = [
         15,
         "\"-5\" is negative; limits and weights must not be negative",
     ),
-    // Only a report is placed behind what had committed.
+    // Only a report is placed after earlier commits.
     (b"begin u update 5 strict", 18, "only queries can be strict"),
     // A misspelled last word.
     (
@@ -136,7 +137,7 @@ static ROWS: [Row; 34] = [
     ),
     // The first word alone.
     (b"commit", 7, "missing name; usage: commit TRANSACTION"),
-    // What `totals` is asked with.
+    // The argument of `totals`.
     (b"totals q", 8, "unexpected \"q\"; usage: totals"),
     // A line of another kind of file.
     (

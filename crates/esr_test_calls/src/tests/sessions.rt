@@ -1,4 +1,4 @@
-//! Sessions on threads of their own.
+//! Sessions on separate threads.
 ghost use Rattle.std.specs.Prelude.{◌≡◌, ◌≤◌, [], map};
 ghost use Rattle.esr_session.specs.declared.engine_name.TheConstants.{LEDGER_PARTS, MAX_SESSIONS};
 
@@ -17,7 +17,7 @@ use std::sync::ledger::Blank;
 use std::thread;
 use std::thread::{JoinHandle, Threads};
 
-/// Opening values of so many items, all zero.
+/// Returns `count` opening values, all zero.
 fn zeros(rt: &impl Abort, alloc: Global, count: usize) -> Store {
     let Ok(values) = Vec::from_elem(alloc, 0, count) else {
         panic!(rt; "memory")
@@ -28,7 +28,7 @@ fn zeros(rt: &impl Abort, alloc: Global, count: usize) -> Store {
     items
 }
 
-/// An engine over these items, and so many sessions on it. Where memory is refused for these, it is asked for once more.
+/// Opens an engine over these items, with `count` sessions. If an allocation fails, it is retried once.
 fn open_sessions<N: Naming, R: Abort>(
     rt: &R,
     alloc: Global,
@@ -67,7 +67,8 @@ fn four_sessions(rt: HostRuntime) {
     check_foreign(&rt, alloc, closed, other);
 }
 
-/// Each session called 200 times, and each receipt has the event and the reply of the entry at its place.
+/// Checks that each session called 200 times, and that each receipt has the event and the reply of the entry at its
+/// place.
 fn check_receipts(rt: &impl Abort, closed: &Closed<Plain>) {
     let log = closed.history.log();
     assert!(rt; log.len() == 800);
@@ -88,7 +89,7 @@ fn are_placed(log: &Log, list: &[Receipt]) -> bool {
     true
 }
 
-/// The receipts of another engine's session do not match.
+/// Checks that the receipts of another engine's session do not match.
 fn check_foreign(rt: &impl Abort, alloc: Global, closed: Closed<Plain>, other: Closed<Plain>) {
     let mut lists = closed.receipts;
     let mut theirs = other.receipts;
@@ -100,8 +101,8 @@ fn check_foreign(rt: &impl Abort, alloc: Global, closed: Closed<Plain>, other: C
     assert!(rt; matches!(answer, Err(CloseError::ForeignReceipt(_))));
 }
 
-/// Four sessions begin and commit 100 updates each, on threads of their own. With one session
-/// kept back the engine is not closed; with it, it is.
+/// Lets four sessions begin and commit 100 updates each, on separate threads, and closes the engine, which fails
+/// until the last session is returned.
 fn begin_and_commit<N, R>(
     rt: R,
     alloc: Global,
@@ -122,7 +123,7 @@ where
     close_twice(&rt, engine, back)
 }
 
-/// Runs each session on a thread of its own.
+/// Runs each session on its own thread.
 fn run_all<N, R>(
     rt: R,
     alloc: Global,
@@ -145,7 +146,7 @@ where
     back
 }
 
-/// Closes the engine with one session kept back, which is refused, and then with all.
+/// Closes the engine without one session, which fails, and then with all.
 fn close_twice<N: Naming, R: Wait + Abort>(
     rt: &R,
     engine: Engine<Plain, N>,
@@ -227,7 +228,7 @@ fn a_read_finds_what_another_session_wrote(rt: HostRuntime) {
     read_back::<Brand, _>(rt, alloc, Blank::new(LEDGER_PARTS), items);
 }
 
-/// One session writes on a thread of its own, then the other reads.
+/// Lets one session write on its own thread, and then the other read.
 fn read_back<N, R>(rt: R, alloc: Global, blank: Blank, items: Store)
 where
     N: Naming + Send + Sync + 'static,
@@ -269,7 +270,7 @@ fn release<N: Naming>(
     sessions.push(second).expect(rt, "memory");
 }
 
-/// The session writes on a thread of its own.
+/// Lets the session write on its own thread.
 fn write_apart<N, R>(rt: R, session: Session<Plain, N>) -> Session<Plain, N>
 where
     N: Naming + Send + Sync + 'static,
@@ -282,7 +283,7 @@ where
     thread.join(&rt)
 }
 
-/// A call, of which nothing is known afterwards but its receipt.
+/// Makes a call, of which nothing but its receipt is known afterwards.
 fn call<N: Naming, R: Wait>(
     rt: &R,
     session: &mut Session<Plain, N>,
@@ -291,7 +292,7 @@ fn call<N: Naming, R: Wait>(
     session.call(rt, event).ok()
 }
 
-/// The second transaction reads item 0, as the fifth entry.
+/// Lets the second transaction read item 0, as the fifth entry.
 fn read_five<N: Naming, R: Wait + Abort>(rt: &R, session: &mut Session<Plain, N>) {
     let _begun = call(rt, session, Event::BeginUpdate { limit: 0 });
     let Some(read) = call(rt, session, read_event(2)) else {
@@ -302,7 +303,7 @@ fn read_five<N: Naming, R: Wait + Abort>(rt: &R, session: &mut Session<Plain, N>
     assert!(rt; read.at == 4);
 }
 
-/// One of two lists of as many receipts, given in the place of both.
+/// Checks that a list of receipts passed twice, in place of two lists of the same length, does not match.
 fn check_list_given_twice(rt: &impl Abort, alloc: Global, closed: Closed<Plain>) {
     let mut lists = closed.receipts;
     let Some(list) = lists.pop() else {
@@ -314,7 +315,7 @@ fn check_list_given_twice(rt: &impl Abort, alloc: Global, closed: Closed<Plain>)
     assert!(rt; matches!(answer, Err(CloseError::ForeignReceipt(_))));
 }
 
-/// The first transaction writes 5 to item 0 and commits.
+/// Lets the first transaction write 5 to item 0 and commit.
 fn write_five<N: Naming, R: Wait>(rt: &R, session: Session<Plain, N>) -> Session<Plain, N> {
     let mut session = session;
     let _begun = call(rt, &mut session, Event::BeginUpdate { limit: 0 });
@@ -338,7 +339,8 @@ fn write_event(txn: u32) -> Event {
     }
 }
 
-/// By their clauses a patient call may find the engine closed at once, and a call behind the close still be answered.
+/// By their clauses, a patient call may find the engine closed at once, and a call after the close may still get a
+/// reply.
 #[test]
 fn a_patient_call_takes_its_turns(rt: HostRuntime) {
     let alloc = rt.alloc();
@@ -346,8 +348,8 @@ fn a_patient_call_takes_its_turns(rt: HostRuntime) {
     wait_for_a_lock::<Brand, _>(rt, alloc, Blank::new(LEDGER_PARTS), items);
 }
 
-/// The second update reads, in three turns, what the first has written and not committed. A third
-/// session is kept back without a call, and answers after the close that the engine is closed.
+/// Lets the second update read, in three turns, a value that the first has written and not committed. A third session
+/// makes no call until the engine is closed, and its call then returns that the engine is closed.
 fn wait_for_a_lock<N, R>(rt: R, alloc: Global, blank: Blank, items: Store)
 where
     N: Naming,
@@ -370,7 +372,7 @@ where
     assert!(rt; late == Err(StepError::EngineClosed));
 }
 
-/// The second session's transaction reads in three turns what the first session's has written.
+/// Lets the second session's transaction read, in three turns, a value that the first session's has written.
 fn block_on_a_write<N: Naming, R: Wait + Abort>(
     rt: &R,
     first: &mut Session<Plain, N>,
@@ -386,7 +388,7 @@ fn block_on_a_write<N: Naming, R: Wait + Abort>(
     assert!(rt; blocked.at == 5);
 }
 
-/// A patient call with three turns.
+/// Makes a patient call with three turns.
 fn call_in_three_turns<N: Naming, R: Wait>(
     rt: &R,
     session: &mut Session<Plain, N>,
@@ -395,7 +397,7 @@ fn call_in_three_turns<N: Naming, R: Wait>(
     session.call_patient(rt, event, 3).ok()
 }
 
-/// Two calls of the first session; a begin and three turns of the second.
+/// Checks the two calls of the first session, and the begin and three turns of the second.
 fn check_turns(rt: &impl Abort, closed: &Closed<Plain>) {
     assert!(rt; closed.history.log().len() == 6);
     let receipts = &closed.receipts;
@@ -404,8 +406,8 @@ fn check_turns(rt: &impl Abort, closed: &Closed<Plain>) {
     assert!(rt; receipts[1].len() == 4);
 }
 
-/// No contract makes memory: where it is refused, each call is made once more. What is lost of a call that was refused,
-/// shows where each request is refused in turn (checks/faults).
+/// No contract guarantees memory: after a failed allocation, each call is retried once. The effect of each failed
+/// allocation in turn is tested by checks/faults.
 #[test]
 fn each_call_is_made_once_more(rt: HostRuntime) {
     let alloc = rt.alloc();
@@ -413,7 +415,7 @@ fn each_call_is_made_once_more(rt: HostRuntime) {
     call_once_more::<Brand, _>(rt, alloc, Blank::new(LEDGER_PARTS), items);
 }
 
-/// A session writes, and commits in a patient call; the engine is closed and its receipts are compared again.
+/// Lets sessions write, and commit in a patient call, closes the engine, and compares its receipts.
 fn call_once_more<N, R>(rt: R, alloc: Global, blank: Blank, items: Store)
 where
     N: Naming,
@@ -432,7 +434,7 @@ where
     match_once_more(&rt, alloc, &closed);
 }
 
-/// The session begins an update, writes and commits.
+/// Lets the session begin an update, write and commit.
 fn write_once_more<N: Naming, R: Wait + Abort>(rt: &R, session: &mut Session<Plain, N>) {
     let begun = insist(rt, session, Event::BeginUpdate { limit: 0 });
     let Reply::Begun(txn) = begun else {
@@ -444,7 +446,7 @@ fn write_once_more<N: Naming, R: Wait + Abort>(rt: &R, session: &mut Session<Pla
     assert!(rt; committed == Reply::Committed);
 }
 
-/// The reply to a call, which is made once more where memory is refused, as a patient one.
+/// Returns the reply to a patient call, which is retried once if an allocation fails.
 fn insist<N: Naming, R: Wait + Abort>(
     rt: &R,
     session: &mut Session<Plain, N>,
@@ -460,7 +462,7 @@ fn insist<N: Naming, R: Wait + Abort>(
     receipt.reply
 }
 
-/// Closes the engine, once more where memory is refused.
+/// Closes the engine, and retries once if an allocation fails.
 fn close_once_more<N: Naming, R: Wait + Abort>(
     rt: &R,
     engine: Engine<Plain, N>,
@@ -477,7 +479,7 @@ fn close_once_more<N: Naming, R: Wait + Abort>(
     }
 }
 
-/// Compares the receipts, once more where memory is refused.
+/// Compares the receipts, and retries once if an allocation fails.
 fn match_once_more(rt: &impl Abort, alloc: Global, closed: &Closed<Plain>) {
     let answer = match match_receipts(alloc, &closed.history, closed.receipts.as_slice()) {
         Err(CloseError::NoMemory) => {

@@ -1,5 +1,5 @@
-//! Problems solved by the search from the flow of zeros, and what is found of them by hand. The contract of `solve`
-//! gives worth and smallest set. It leaves open which maximum flow is found, and lets it be out of memory always.
+//! Problems solved by the search from the zero flow, and their solutions by hand. The contract of `solve` specifies
+//! the worth and the smallest set. It leaves open which maximum flow is found, and permits out of memory always.
 
 use super::certificates::{Item, chains};
 use esr_cert::{Certificate, Problem};
@@ -8,7 +8,7 @@ use esr_history::{NoMemory, TxnId};
 use std::alloc::Global;
 use std::process::Abort;
 
-/// A problem, and what is found of it.
+/// A problem, and its solution.
 struct Row {
     name: &'static str,
     updates: &'static [TxnId],
@@ -88,7 +88,7 @@ static ROWS: [Row; 4] = [
     },
 ];
 
-/// The answer to a problem. Where memory is refused once, a second try gives it.
+/// Solves a problem, and retries once if an allocation fails.
 fn answer(alloc: Global, problem: &Problem) -> Result<Solved, NoMemory> {
     match answer_once(alloc, problem) {
         Err(NoMemory) => answer_once(alloc, problem),
@@ -109,7 +109,7 @@ fn problem(alloc: Global, row: &Row) -> Option<Problem> {
     Problem::new(alloc, updates, before, chains, must).ok()
 }
 
-/// Whether a certificate has these amounts.
+/// Returns whether a certificate has these amounts.
 fn has_flow(certificate: &Certificate, flow: Flow) -> bool {
     for (row, amounts) in certificate.chain_flow.iter().zip(flow.chains.iter()) {
         if row.as_slice() != *amounts {
@@ -121,7 +121,7 @@ fn has_flow(certificate: &Certificate, flow: Flow) -> bool {
         && certificate.must_flow.as_slice() == flow.musts
 }
 
-/// Whether this is found of a row's problem.
+/// Returns whether a solution is that of a row's problem.
 fn is_found(solved: &Solved, row: &Row) -> bool {
     solved.certificate.set.as_slice() == row.set
         && solved.certificate.worth == row.worth
@@ -151,7 +151,7 @@ fn problems_are_solved(rt: HostRuntime) {
     }
 }
 
-/// What begins with a draft. Where memory is refused once, a second try gives it.
+/// Solves a problem from a draft, and retries once if an allocation fails.
 fn from_draft(alloc: Global, problem: &Problem) -> Result<FromDraft, NoMemory> {
     match from_draft_once(alloc, problem) {
         Err(NoMemory) => from_draft_once(alloc, problem),

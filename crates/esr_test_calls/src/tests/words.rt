@@ -1,5 +1,6 @@
-//! Command lines, by what they ask for. Which words spell a job is proved from the commands that `clap` is told of.
-//! That these are the ones of the pages, that a job is got if there is memory, and what help says, no clause can say.
+//! Command lines and the jobs that they request. The arguments of a job are proved from the commands passed to
+//! `clap`. No clause can state that these are the commands of the manual pages, that parsing succeeds if memory
+//! suffices, or what the help says.
 
 use clap::Error;
 use clap::error::ErrorKind;
@@ -9,7 +10,7 @@ use std::process::Abort;
 
 type Words = &'static [&'static str];
 
-/// Words of the command line, and the work that each line asks for.
+/// Command lines, and the task that each requests.
 static TASKS: [(Words, Task<'static>); 25] = [
     // `run` takes no name: it answers every line.
     (&["esr", "run"], Task::Run),
@@ -39,7 +40,7 @@ static TASKS: [(Words, Task<'static>); 25] = [
             verbose: true,
         },
     ),
-    // A name is enough, and steps are not told unless they are asked for.
+    // A name is enough, and the steps are omitted unless requested.
     (
         &["esr", "certify", "q"],
         Task::Certify {
@@ -47,7 +48,7 @@ static TASKS: [(Words, Task<'static>); 25] = [
             steps: false,
         },
     ),
-    // The option may stand before the name.
+    // The option may precede the name.
     (
         &["esr", "certify", "--steps", "q"],
         Task::Certify {
@@ -55,7 +56,7 @@ static TASKS: [(Words, Task<'static>); 25] = [
             steps: true,
         },
     ),
-    // It may stand behind the name as well.
+    // It may follow the name as well.
     (
         &["esr", "certify", "q", "--steps"],
         Task::Certify {
@@ -63,7 +64,7 @@ static TASKS: [(Words, Task<'static>); 25] = [
             steps: true,
         },
     ),
-    // Behind `--` the same word is a name.
+    // After `--`, the same argument is a name.
     (
         &["esr", "certify", "--", "--steps"],
         Task::Certify {
@@ -87,7 +88,7 @@ static TASKS: [(Words, Task<'static>); 25] = [
             prose: false,
         },
     ),
-    // Sentences are asked for behind the name too.
+    // The option for sentences may follow the name too.
     (
         &["esr", "explain", "q", "--prose"],
         Task::Explain {
@@ -97,19 +98,19 @@ static TASKS: [(Words, Task<'static>); 25] = [
     ),
     // A picture is of one query too.
     (&["esr", "picture", "q"], Task::Picture { name: "q" }),
-    // Where no workers are asked for, there are four.
+    // The default number of workers is four.
     (&["esr", "audit"], Task::Audit { workers: 4 }),
     // The fewest workers.
     (
         &["esr", "audit", "--workers", "1"],
         Task::Audit { workers: 1 },
     ),
-    // The most workers, and the other spelling of an option with its value.
+    // The maximum number of workers, and the other syntax of an option with its value.
     (
         &["esr", "audit", "--workers=64"],
         Task::Audit { workers: 64 },
     ),
-    // Where a drive asks for no workers, there are four as well.
+    // The default number of workers of a drive is four as well.
     (
         &["esr", "drive"],
         Task::Drive {
@@ -133,7 +134,7 @@ static TASKS: [(Words, Task<'static>); 25] = [
             script: true,
         },
     ),
-    // Interleavings are drawn, so many where nobody says how many.
+    // Interleavings are sampled; their number has a default.
     (
         &["esr", "explore"],
         Task::Explore {
@@ -153,15 +154,15 @@ static TASKS: [(Words, Task<'static>); 25] = [
     ),
     // A ledger is of a whole script.
     (&["esr", "ledger"], Task::Ledger),
-    // So is what was blocked, where no transaction is named.
+    // So are the blocked events, if no transaction is named.
     (&["esr", "why"], Task::Why { name: None }),
-    // The transaction stands behind the file.
+    // The transaction follows the file.
     (&["esr", "why", "-", "u"], Task::Why { name: Some("u") }),
-    // A script is looked at without a name.
+    // A script is checked without a name.
     (&["esr", "lint"], Task::Lint),
-    // A page tells ten queries in full where no number is given.
+    // A page shows ten queries in full if no number is given.
     (&["esr", "page"], Task::Page { worst: 10 }),
-    // The most that it tells.
+    // The maximum.
     (&["esr", "page", "--worst=64"], Task::Page { worst: 64 }),
 ];
 
@@ -169,12 +170,12 @@ fn tasks() -> &'static [(Words, Task<'static>)] {
     &TASKS
 }
 
-/// The job that the words ask for, or why there is none.
+/// Returns the job that the arguments request, or the error.
 fn job_of(alloc: Global, words: Words) -> Result<Job<'static>, Error> {
     command(alloc, words)
 }
 
-/// The work that the words ask for.
+/// Returns the task that the arguments request.
 fn task_of(alloc: Global, words: Words) -> Option<Task<'static>> {
     match job_of(alloc, words) {
         Ok(job) => Some(job.task),
@@ -191,19 +192,19 @@ fn words_ask_for_their_work(rt: HostRuntime) {
     }
 }
 
-/// Words, the file that they name, and whether they ask for `--bail`.
+/// Command lines, the file that they name, and whether they contain `--bail`.
 static FILES: [(Words, Option<&str>, bool); 6] = [
-    // Standard input where no file is named.
+    // Standard input if no file is named.
     (&["esr", "run"], None, false),
     // The file is the last word.
     (&["esr", "run", "a.esr"], Some("a.esr"), false),
-    // It stands behind the name.
+    // It follows the name.
     (&["esr", "certify", "q", "a.esr"], Some("a.esr"), false),
     // `-` is a file, and no option.
     (&["esr", "audit", "--workers", "2", "-"], Some("-"), false),
-    // The flag may stand behind the file.
+    // The flag may follow the file.
     (&["esr", "audit", "a.esr", "--bail"], Some("a.esr"), true),
-    // Behind `--` a file may have any name.
+    // After `--`, a file may have any name.
     (
         &["esr", "explain", "--bail", "q", "--", "-a"],
         Some("-a"),
@@ -215,7 +216,7 @@ fn files() -> &'static [(Words, Option<&'static str>, bool)] {
     &FILES
 }
 
-/// Whether the words name this file, and ask so for `--bail`.
+/// Returns whether the arguments name this file, and contain `--bail` if `bail`.
 fn names_file(alloc: Global, words: Words, file: Option<&str>, bail: bool) -> bool {
     match job_of(alloc, words) {
         Ok(job) => job.file == file && job.bail == bail,
@@ -223,7 +224,7 @@ fn names_file(alloc: Global, words: Words, file: Option<&str>, bail: bool) -> bo
     }
 }
 
-/// The same of the file and the flag.
+/// Checks the file and the flag of each command line.
 #[test]
 fn words_name_their_file(rt: HostRuntime) {
     for (words, file, bail) in files() {
@@ -233,7 +234,7 @@ fn words_name_their_file(rt: HostRuntime) {
 
 /// Words, when they want progress to be shown, and how they want it written.
 static WAYS: [(Words, Progress, Option<Format>); 7] = [
-    // Nothing is said: where there is a terminal, and as text.
+    // The defaults: progress at a terminal, and text.
     (&["esr", "run"], Progress::AtATerminal, Some(Format::Text)),
     // A script that is watched from elsewhere.
     (
@@ -265,7 +266,7 @@ static WAYS: [(Words, Progress, Option<Format>); 7] = [
         Progress::AtATerminal,
         Some(Format::Json),
     ),
-    // What is no format is told by the program.
+    // The program reports an unknown format.
     (
         &["esr", "audit", "--format", "xml"],
         Progress::AtATerminal,
@@ -277,7 +278,7 @@ fn ways() -> &'static [(Words, Progress, Option<Format>)] {
     &WAYS
 }
 
-/// Whether the words ask for this.
+/// Returns whether the arguments request this.
 fn requests(alloc: Global, words: Words, progress: Progress, format: Option<Format>) -> bool {
     match job_of(alloc, words) {
         Ok(job) => job.progress == progress && job.format == format,
@@ -285,7 +286,7 @@ fn requests(alloc: Global, words: Words, progress: Progress, format: Option<Form
     }
 }
 
-/// The same of how progress is shown and tables are written.
+/// Checks the progress and the format of each command line.
 #[test]
 fn options_choose_the_format(rt: HostRuntime) {
     for (words, progress, format) in ways() {
@@ -297,7 +298,7 @@ fn options_choose_the_format(rt: HostRuntime) {
     }
 }
 
-/// Words that ask for no job, what is said of them, and the exit status.
+/// Command lines that request no job, their error, and the exit status.
 static OTHERS: [(Words, ErrorKind, i32); 18] = [
     // A job has to be named.
     (&["esr"], ErrorKind::MissingSubcommand, 2),
@@ -315,7 +316,7 @@ static OTHERS: [(Words, ErrorKind, i32); 18] = [
         ErrorKind::UnknownArgument,
         2,
     ),
-    // `check` has no `--bail`: its status says what is judged.
+    // `check` has no `--bail`: its status is the verdict.
     (&["esr", "check", "--bail"], ErrorKind::UnknownArgument, 2),
     // An explanation needs a name too.
     (&["esr", "explain"], ErrorKind::MissingRequiredArgument, 2),
@@ -347,17 +348,17 @@ static OTHERS: [(Words, ErrorKind, i32); 18] = [
     ),
     // An option needs its value.
     (&["esr", "drive", "--workers"], ErrorKind::InvalidValue, 2),
-    // Help that was asked for is no mistake.
+    // Help on request is not a mistake.
     (&["esr", "--help"], ErrorKind::DisplayHelp, 0),
-    // Help on one job, asked for by a word.
+    // Help on one job, requested by a subcommand.
     (&["esr", "help", "run"], ErrorKind::DisplayHelp, 0),
-    // The same, asked for by an option.
+    // Help on one job, requested by an option.
     (&["esr", "run", "--help"], ErrorKind::DisplayHelp, 0),
-    // The version is no mistake either.
+    // Neither is the version.
     (&["esr", "--version"], ErrorKind::DisplayVersion, 0),
 ];
 
-/// Compares what is said of words with this, and the exit status.
+/// Compares the error of a command line, and the exit status.
 fn check_words(rt: &impl Abort, alloc: Global, words: Words, kind: ErrorKind, status: i32) {
     let Err(error) = job_of(alloc, words) else {
         panic!(rt; "{:?} asks for no job", words)
@@ -373,7 +374,8 @@ fn others() -> &'static [(Words, ErrorKind, i32)] {
     &OTHERS
 }
 
-/// By its contract each mistake may be told as out of memory; and which words are a mistake is a definition's.
+/// By its contract, each mistake may be reported as out of memory; a definition determines which arguments are a
+/// mistake.
 #[test]
 fn other_words_are_mistakes_or_ask_for_help(rt: HostRuntime) {
     for (words, kind, status) in others() {
@@ -381,7 +383,7 @@ fn other_words_are_mistakes_or_ask_for_help(rt: HostRuntime) {
     }
 }
 
-/// Whether the help that these words ask for teaches the lines of a script.
+/// Returns whether the help requested by these arguments explains the lines of a script.
 fn teaches_lines(alloc: Global, words: Words) -> bool {
     let Err(error) = job_of(alloc, words) else {
         return false;

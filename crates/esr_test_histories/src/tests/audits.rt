@@ -15,14 +15,14 @@ use esr_items::{Plain, Store};
 use std::alloc::Global;
 use std::process::Abort;
 
-/// A machine over items that open with these values, or None where memory is refused.
+/// Creates a machine over items that open with these values. Returns `None` if an allocation fails.
 fn open_once(alloc: Global, opening: &[i64]) -> Option<Machine<Plain>> {
     let values = opening.to_vec(alloc).ok()?;
     let store = Store::new(alloc, values).ok()?;
     Machine::new(alloc, store, Plain).ok()
 }
 
-/// The same, once more where memory is refused.
+/// Creates a machine like [`open_once`], and retries once if an allocation fails.
 pub(super) fn open_machine(alloc: Global, opening: &[i64]) -> Option<Machine<Plain>> {
     match open_once(alloc, opening) {
         None => open_once(alloc, opening),
@@ -30,7 +30,7 @@ pub(super) fn open_machine(alloc: Global, opening: &[i64]) -> Option<Machine<Pla
     }
 }
 
-/// A machine that accepted all the events.
+/// Returns a machine that accepted all events.
 pub(super) fn machine_after(
     alloc: Global,
     opening: &[i64],
@@ -40,7 +40,7 @@ pub(super) fn machine_after(
     if play(&mut m, events) { Some(m) } else { None }
 }
 
-/// A machine that played these events, all of which it accepts.
+/// Returns a machine that executed these events, all of which must be accepted.
 pub(super) fn play_machine(
     rt: &impl Abort,
     alloc: Global,
@@ -53,7 +53,7 @@ pub(super) fn play_machine(
     m
 }
 
-/// The audit of a query, asked for once more where memory is refused.
+/// Audits a query, and retries once if an allocation fails.
 pub(super) fn audit_of(alloc: Global, m: &Machine<Plain>, q: u32) -> Result<Finding, AuditError> {
     match audit_query(alloc, m.history(), TxnId(q)) {
         Err(AuditError::NoMemory) => audit_query(alloc, m.history(), TxnId(q)),
@@ -61,7 +61,7 @@ pub(super) fn audit_of(alloc: Global, m: &Machine<Plain>, q: u32) -> Result<Find
     }
 }
 
-/// The audit of the whole history, asked for once more where memory is refused.
+/// Audits the whole history, and retries once if an allocation fails.
 fn book_of(alloc: Global, m: &Machine<Plain>) -> Result<Book, AuditError> {
     match audit_history(alloc, m.history()) {
         Err(AuditError::NoMemory) => audit_history(alloc, m.history()),
@@ -69,7 +69,7 @@ fn book_of(alloc: Global, m: &Machine<Plain>) -> Result<Book, AuditError> {
     }
 }
 
-/// What is found of a query.
+/// The finding of a query.
 #[derive(Clone, Copy)]
 struct Row<'a> {
     query: u32,
@@ -78,7 +78,7 @@ struct Row<'a> {
     before: &'a [TxnId],
 }
 
-/// Whether this was found, with a certificate that passes the check.
+/// Returns whether this is the finding, with a certificate that passes the check.
 fn has(found: &Finding, row: Row) -> bool {
     found.query == TxnId(row.query)
         && found.distance == row.distance
@@ -87,8 +87,8 @@ fn has(found: &Finding, row: Row) -> bool {
         && check(&found.problem, &found.certificate) == Ok(())
 }
 
-/// Whether the audit of a query finds these, and the plain program too, and whether links, locks and
-/// orders are the plain ones.
+/// Returns whether the audit of a query has this result, the plain program too, and whether links, locks and orders
+/// are the plain ones.
 fn finds(alloc: Global, m: &Machine<Plain>, row: Row) -> bool {
     match audit_of(alloc, m, row.query) {
         Ok(found) => {
@@ -100,7 +100,7 @@ fn finds(alloc: Global, m: &Machine<Plain>, row: Row) -> bool {
     }
 }
 
-/// The same, of the history of these events, all of which are accepted.
+/// Returns whether the events are accepted, and the audit of their history has this result, like [`finds`].
 fn finds_in(alloc: Global, opening: &[i64], events: &[Asked], row: Row) -> bool {
     match machine_after(alloc, opening, events) {
         Some(m) => finds(alloc, &m, row),
@@ -108,7 +108,7 @@ fn finds_in(alloc: Global, opening: &[i64], events: &[Asked], row: Row) -> bool 
     }
 }
 
-/// Whether the events are accepted, and the audit of a transaction is refused then.
+/// Returns whether the events are accepted, and the audit of a transaction is then refused.
 fn refuses_in(alloc: Global, opening: &[i64], events: &[Asked], t: u32) -> bool {
     match machine_after(alloc, opening, events) {
         Some(m) => is_refused(alloc, &m, t),
@@ -116,12 +116,12 @@ fn refuses_in(alloc: Global, opening: &[i64], events: &[Asked], t: u32) -> bool 
     }
 }
 
-/// Whether the audit of a transaction is refused.
+/// Returns whether the audit of a transaction is refused.
 fn is_refused(alloc: Global, m: &Machine<Plain>, t: u32) -> bool {
     matches!(audit_of(alloc, m, t), Err(AuditError::NotACommittedQuery))
 }
 
-/// The audit of a whole history, which has one.
+/// Audits a whole history, which must succeed.
 fn book_now(rt: &impl Abort, alloc: Global, m: &Machine<Plain>) -> Book {
     let Ok(book) = book_of(alloc, m) else {
         panic!(rt; "a book")
@@ -129,13 +129,13 @@ fn book_now(rt: &impl Abort, alloc: Global, m: &Machine<Plain>) -> Book {
     book
 }
 
-/// The audit of the whole history of these events, all of which are accepted.
+/// Audits the whole history of these events, all of which must be accepted.
 fn book_in(rt: &impl Abort, alloc: Global, opening: &[i64], events: &[Asked]) -> Book {
     let m = play_machine(rt, alloc, opening, events);
     book_now(rt, alloc, &m)
 }
 
-/// A history, and what is found of a query.
+/// A history, and the finding of a query.
 struct Case {
     name: &'static str,
     opening: &'static [i64],
@@ -276,7 +276,7 @@ static CASES: [Case; 9] = [
     },
 ];
 
-/// A wrong definition of distance or import would be proved: what is found by hand and by plain programs must agree.
+/// A wrong definition of distance or import would be proved: the findings by hand and by plain programs must agree.
 #[test]
 fn queries_are_audited(rt: HostRuntime) {
     for case in &CASES {
@@ -305,7 +305,7 @@ fn two_updates_over_a_report(rt: HostRuntime) {
     check_book(&rt, &book_in(&rt, alloc, &[0, 0], events), row);
 }
 
-/// That this alone is found, with the order of the updates.
+/// Checks that this is the only finding, with the order of the updates.
 fn check_book(rt: &impl Abort, book: &Book, row: Row) {
     assert!(rt; book.order.as_slice() == row.before);
     assert!(rt; book.findings.len() == 1);

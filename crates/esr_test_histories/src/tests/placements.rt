@@ -1,4 +1,4 @@
-//! A plain program beside the audit: it lists all placements of small histories.
+//! A plain program to compare with the audit: it lists all placements of small histories.
 ghost use Rattle.std.specs.Prelude.{◌<◌};
 
 use super::Asked::{Commit, Query, Read, Strict, Update, Write};
@@ -16,7 +16,7 @@ pub(super) struct Draws {
 }
 
 impl Draws {
-    /// The next number, below the bound where that is above 0.
+    /// Returns the next number, below the bound if the bound is above 0.
     pub fn next(&mut self, below: u32) -> u32
         ensures { 0 < below → result < below }
     {
@@ -28,7 +28,7 @@ impl Draws {
         if below == 0 { 0 } else { high % below }
     }
 
-    /// An event of this query or of one of three updates, of which this is the first.
+    /// Draws an event of this query or of one of three updates, of which this is the first.
     fn event(&mut self, query: u32, first: u32) -> Asked {
         let kind = self.next(8);
         let item = self.next(2);
@@ -92,7 +92,7 @@ fn operations_in(alloc: Global, log: &Log) -> Result<Vec<Operation>, AllocError>
     Ok(operations)
 }
 
-/// Whether an operation of v comes before this one and conflicts with it.
+/// Returns whether an operation of v precedes this one and conflicts with it.
 fn follows(operations: &[Operation], v: u32, late: Operation) -> bool {
     for early in operations {
         let conflicts = early.item == late.item && (early.write || late.write);
@@ -103,7 +103,7 @@ fn follows(operations: &[Operation], v: u32, late: Operation) -> bool {
     false
 }
 
-/// Whether an operation comes before one of u that it conflicts with, and is v's.
+/// Returns whether an operation of v precedes an operation of u that it conflicts with.
 fn is_after(operations: &[Operation], u: u32, v: u32) -> bool {
     for late in operations {
         if late.txn == u && follows(operations, v, *late) {
@@ -113,7 +113,7 @@ fn is_after(operations: &[Operation], u: u32, v: u32) -> bool {
     false
 }
 
-/// Whether none of these updates has to come behind another one.
+/// Returns whether none of these updates has to follow `late`.
 fn may_precede(operations: &[Operation], before: &[u32], late: u32) -> bool {
     for early in before {
         if is_after(operations, *early, late) {
@@ -123,7 +123,7 @@ fn may_precede(operations: &[Operation], before: &[u32], late: u32) -> bool {
     true
 }
 
-/// Whether no update of the order has an update behind it that has to come before it.
+/// Returns whether no update of the order precedes an update that it has to follow.
 fn keeps_conflicts(operations: &[Operation], order: &[u32]) -> bool {
     for i in 0..order.len() {
         if !may_precede(operations, &order[..i], order[i]) {
@@ -133,7 +133,7 @@ fn keeps_conflicts(operations: &[Operation], order: &[u32]) -> bool {
     true
 }
 
-/// What a transaction leaves in an item, if it wrote it.
+/// Returns the last value that a transaction wrote to an item, if it wrote it.
 fn value_from(operations: &[Operation], u: u32, item: u32) -> Option<i64> {
     let mut value = None;
     for o in operations {
@@ -144,7 +144,7 @@ fn value_from(operations: &[Operation], u: u32, item: u32) -> Option<i64> {
     value
 }
 
-/// The update that begins in an entry, if one does.
+/// Returns the update that begins in an entry, if one does.
 fn update_in(entry: Entry) -> Option<u32> {
     match (entry.event, entry.reply) {
         (Event::BeginUpdate { .. }, Reply::Begun(txn)) => Some(txn.0),
@@ -152,7 +152,7 @@ fn update_in(entry: Entry) -> Option<u32> {
     }
 }
 
-/// Whether a strict query begins in an entry, and is this one.
+/// Returns whether this strict query begins in an entry.
 fn begins_strictly(entry: Entry, q: u32) -> bool {
     match (entry.event, entry.reply) {
         (Event::BeginQuery { strict: true, .. }, Reply::Begun(txn)) => txn.0 == q,
@@ -160,7 +160,7 @@ fn begins_strictly(entry: Entry, q: u32) -> bool {
     }
 }
 
-/// Whether a transaction is an update.
+/// Returns whether a transaction is an update.
 fn is_update(log: &Log, t: u32) -> bool {
     for i in 0..log.len() {
         if let Some(entry) = log.get(i) {
@@ -172,13 +172,13 @@ fn is_update(log: &Log, t: u32) -> bool {
     false
 }
 
-/// The update that commits in the entry at a place, if one does.
+/// Returns the update that commits in the entry at a place, if one does.
 fn committed_update(log: &Log, i: usize) -> Option<u32> {
     let t = commit_in(log.get(i)?)?;
     if is_update(log, t) { Some(t) } else { None }
 }
 
-/// The updates that committed in so many first entries.
+/// Returns the updates that committed in the first `first` entries.
 fn updates_in(alloc: Global, log: &Log, first: usize) -> Result<Vec<u32>, AllocError> {
     let mut updates = Vec::new(alloc);
     for i in 0..first {
@@ -189,7 +189,7 @@ fn updates_in(alloc: Global, log: &Log, first: usize) -> Result<Vec<u32>, AllocE
     Ok(updates)
 }
 
-/// How many entries come before the commit of a query.
+/// Returns the number of entries before the commit of a query.
 fn count_before(log: &Log, q: u32) -> usize {
     for i in 0..log.len() {
         if let Some(entry) = log.get(i) {
@@ -201,7 +201,7 @@ fn count_before(log: &Log, q: u32) -> usize {
     log.len()
 }
 
-/// How many entries come before the begin of a strict query; of another, none.
+/// Returns the number of entries before the begin of a strict query; 0 for another query.
 fn count_seen(log: &Log, q: u32) -> usize {
     for i in 0..log.len() {
         if let Some(entry) = log.get(i) {
@@ -252,7 +252,7 @@ impl Small {
         })
     }
 
-    /// The value of an item after these updates.
+    /// Returns the value of an item after these updates.
     fn value_after(&self, before: &[u32], item: u32) -> i64 {
         let mut value = self.opening.get(item as usize).copied().unwrap_or(0);
         for u in before {
@@ -261,7 +261,7 @@ impl Small {
         value
     }
 
-    /// The distance of what the query read from the values after these updates.
+    /// Returns the distance of what the query read from the values after these updates.
     fn distance_after(&self, before: &[u32]) -> u64 {
         let mut sum = 0u64;
         for o in &self.operations {
@@ -272,7 +272,7 @@ impl Small {
         sum
     }
 
-    /// Whether these have what the query must have seen.
+    /// Returns whether these include the updates that the query must have seen.
     fn are_enough(&self, before: &[u32]) -> bool {
         for u in &self.must {
             if !before.contains(u) {
@@ -282,8 +282,8 @@ impl Small {
         true
     }
 
-    /// The least distance of the positions in an order that have what the query must have seen
-    /// before them, with the first such.
+    /// Returns the least distance of the positions in an order that follow all updates that the query must have seen,
+    /// with the first such position.
     fn least_in(&self, order: &[u32]) -> (u64, usize) {
         let mut least = (u64::MAX, 0);
         for n in 0..=order.len() {
@@ -296,7 +296,7 @@ impl Small {
         least
     }
 
-    /// The updates at these positions, where there are so many.
+    /// Returns the updates at these positions, if all of them exist.
     fn order_at(&self, alloc: Global, positions: &[usize]) -> Result<Vec<u32>, AllocError> {
         let mut order = Vec::new(alloc);
         for i in positions {
@@ -307,8 +307,8 @@ impl Small {
         Ok(order)
     }
 
-    /// The same of all orders of up to three updates, and how many updates are before the
-    /// position in those that have the fewest.
+    /// Returns the least distance of all orders of up to three updates, and the smallest number of updates before the
+    /// position of a placement with it.
     fn least(&self, alloc: Global) -> Result<(u64, usize), AllocError> {
         let mut least = (u64::MAX, 0);
         for positions in &ORDERS {
@@ -323,13 +323,13 @@ impl Small {
     }
 }
 
-/// The least distance of all placements of a query in a history with up to three updates, and
-/// how many updates are before the position in those that have the fewest.
+/// Returns the least distance of all placements of a query in a history with up to three updates, and the smallest
+/// number of updates before the position of a placement with it.
 fn least(alloc: Global, m: &Machine<Plain>, q: u32) -> Result<(u64, usize), AllocError> {
     Small::of(alloc, m, q)?.least(alloc)
 }
 
-/// The same, once more where memory is refused.
+/// Returns the result of [`least`], and retries once if an allocation fails.
 pub(super) fn least_or_abort(alloc: Global, m: &Machine<Plain>, q: u32) -> Option<(u64, usize)> {
     match least(alloc, m, q) {
         Ok(found) => Some(found),
@@ -351,7 +351,7 @@ fn commit_all(m: &mut Machine<Plain>) {
     }
 }
 
-/// A history of query 1 and the updates 2, 3 and 4, which begin at once.
+/// Draws a history of query 1 and the updates 2, 3 and 4, which begin at once.
 fn small_history(alloc: Global, seed: u64) -> Option<Machine<Plain>> {
     let begins = [Query(1000), Update(1000), Update(1000), Update(1000)];
     let mut m = machine_after(alloc, &[0, 0], &begins)?;
@@ -360,8 +360,8 @@ fn small_history(alloc: Global, seed: u64) -> Option<Machine<Plain>> {
     Some(m)
 }
 
-/// A history of the updates 1, 2 and 3 and the strict query 4, which begins when some of them have
-/// committed. One that has not committed aborts, at most.
+/// Draws a history of the updates 1, 2 and 3 and the strict query 4, which begins when some of them have committed.
+/// At most one update aborts, which has not committed by then.
 fn strict_history(alloc: Global, seed: u64) -> Option<Machine<Plain>> {
     let mut draws = Draws { state: seed };
     let mut m = machine_after(alloc, &[0, 0], &[Update(1000), Update(1000), Update(1000)])?;
@@ -374,20 +374,19 @@ fn strict_history(alloc: Global, seed: u64) -> Option<Machine<Plain>> {
     Some(m)
 }
 
-/// The least distance of a query, and how many updates are before the position, as the audit
-/// finds them.
+/// Returns the audit's least distance of a query, and its number of updates before the position.
 fn audit_result(alloc: Global, m: &Machine<Plain>, q: u32) -> Option<(u64, usize)> {
     let found = audit_of(alloc, m, q).ok()?;
     Some((found.distance, found.before.len()))
 }
 
-/// What the audit finds of the query of a history, and what the plain program does.
+/// Returns the results of the audit and of the plain program for the query of a history.
 fn small_row(alloc: Global, seed: u64) -> Option<((u64, usize), Option<(u64, usize)>)> {
     let m = small_history(alloc, seed)?;
     compare(alloc, &m, 1)
 }
 
-/// What the audit finds of a query, and what the plain program does.
+/// Returns the results of the audit and of the plain program for a query.
 fn compare(
     alloc: Global,
     m: &Machine<Plain>,
@@ -414,7 +413,7 @@ fn least_of_all_placements(rt: HostRuntime) {
     assert!(rt; !far.contains(&0));
 }
 
-/// The least distance of the placements of a query as if it were not strict.
+/// Returns the least distance of the placements of a query as if it were not strict.
 fn least_if_free(alloc: Global, m: &Machine<Plain>, q: u32) -> Option<u64> {
     let mut small = Small::of(alloc, m, q).ok()?;
     small.must.clear();
@@ -422,14 +421,14 @@ fn least_if_free(alloc: Global, m: &Machine<Plain>, q: u32) -> Option<u64> {
     Some(distance)
 }
 
-/// What the audit finds of the strict query of a history, what the plain program does, and the least distance if it
-/// were not strict.
+/// Returns the results of the audit and of the plain program for the strict query of a history, and the least
+/// distance if it were not strict.
 fn strict_row(alloc: Global, seed: u64) -> Option<((u64, usize), Option<(u64, usize)>, u64)> {
     let m = strict_history(alloc, seed)?;
     compare_all(alloc, &m, 4)
 }
 
-/// The same of a query.
+/// Compares like [`compare`], and adds the least distance if the query were not strict.
 fn compare_all(
     alloc: Global,
     m: &Machine<Plain>,

@@ -1,4 +1,5 @@
-//! Plain forms beside the fast ones: scans of the log, a plain list of locks, and all pairs of updates that conflict.
+//! Plain forms to compare with the fast ones: scans of the log, a plain list of locks, and all pairs of conflicting
+//! updates.
 
 use super::Asked::{Commit, Query, Read, Strict, Update, Write};
 use super::audits::open_machine;
@@ -11,7 +12,7 @@ use esr_order::{Order, OrderError};
 use std::alloc::{AllocError, Global};
 use std::process::Abort;
 
-/// The entry at a place, if there is one and it is accepted.
+/// Returns the entry at a place, if there is one and it is accepted.
 fn accepted_entry(log: &Log, i: usize) -> Option<Entry> {
     match log.get(i) {
         Some(entry) if !entry.is_refused() => Some(entry),
@@ -19,7 +20,7 @@ fn accepted_entry(log: &Log, i: usize) -> Option<Entry> {
     }
 }
 
-/// The item of a read or a write.
+/// Returns the item of a read or a write.
 fn item_in(entry: Entry) -> Option<u32> {
     match entry.event {
         Event::Read { item, .. } => Some(item.0),
@@ -28,7 +29,7 @@ fn item_in(entry: Entry) -> Option<u32> {
     }
 }
 
-/// The entry at a place, if it is an accepted operation on an item.
+/// Returns the entry at a place, if it is an accepted operation on an item.
 fn accepted_on(log: &Log, i: usize, x: u32) -> Option<Entry> {
     match accepted_entry(log, i) {
         Some(entry) if item_in(entry) == Some(x) => Some(entry),
@@ -36,7 +37,7 @@ fn accepted_on(log: &Log, i: usize, x: u32) -> Option<Entry> {
     }
 }
 
-/// The entry at a place, if it is accepted and a transaction's.
+/// Returns the entry at a place, if it is accepted and belongs to a transaction.
 fn accepted_of(log: &Log, i: usize, t: u32) -> Option<Entry> {
     match accepted_entry(log, i) {
         Some(entry) if txn_in(entry) == Some(t) => Some(entry),
@@ -44,7 +45,7 @@ fn accepted_of(log: &Log, i: usize, t: u32) -> Option<Entry> {
     }
 }
 
-/// The transaction that begins in an entry.
+/// Returns the transaction that begins in an entry.
 fn begun_in(reply: Reply) -> Option<u32> {
     match reply {
         Reply::Begun(txn) => Some(txn.0),
@@ -52,7 +53,7 @@ fn begun_in(reply: Reply) -> Option<u32> {
     }
 }
 
-/// The transaction of an entry; of an accepted begin the one that begins.
+/// Returns the transaction of an entry; for an accepted begin, the one that begins.
 fn txn_in(entry: Entry) -> Option<u32> {
     match entry.event {
         Event::Read { txn, .. } => Some(txn.0),
@@ -63,7 +64,7 @@ fn txn_in(entry: Entry) -> Option<u32> {
     }
 }
 
-/// The value that an entry writes.
+/// Returns the value that an entry writes.
 fn written_in(entry: Entry) -> Option<i64> {
     match entry.event {
         Event::Write { value, .. } => Some(value),
@@ -71,12 +72,12 @@ fn written_in(entry: Entry) -> Option<i64> {
     }
 }
 
-/// Whether a transaction ends in an entry.
+/// Returns whether a transaction ends in an entry.
 fn is_end(entry: Entry) -> bool {
     matches!(entry.event, Event::Commit { .. }) || matches!(entry.event, Event::Abort { .. })
 }
 
-/// The last of the first places with an accepted operation on an item.
+/// Returns the last of the first places with an accepted operation on an item.
 fn last_on_item(log: &Log, first: usize, x: u32) -> Option<u64> {
     for i in (0..first).rev() {
         if accepted_on(log, i, x).is_some() {
@@ -86,7 +87,7 @@ fn last_on_item(log: &Log, first: usize, x: u32) -> Option<u64> {
     None
 }
 
-/// The last of the first places with an accepted entry of a transaction.
+/// Returns the last of the first places with an accepted entry of a transaction.
 fn last_of_txn(log: &Log, first: usize, t: u32) -> Option<u64> {
     for i in (0..first).rev() {
         if accepted_of(log, i, t).is_some() {
@@ -96,7 +97,7 @@ fn last_of_txn(log: &Log, first: usize, t: u32) -> Option<u64> {
     None
 }
 
-/// The place at which a transaction ended.
+/// Returns the place at which a transaction ended.
 fn end_of(log: &Log, t: u32) -> Option<u64> {
     for i in 0..log.len() {
         match accepted_of(log, i, t) {
@@ -107,7 +108,7 @@ fn end_of(log: &Log, t: u32) -> Option<u64> {
     None
 }
 
-/// The place at which a transaction began.
+/// Returns the place at which a transaction began.
 fn begin_of(log: &Log, t: u32) -> Option<usize> {
     for i in 0..log.len() {
         match log.get(i) {
@@ -118,7 +119,7 @@ fn begin_of(log: &Log, t: u32) -> Option<usize> {
     None
 }
 
-/// What is known of a transaction.
+/// Returns the facts of a transaction.
 fn facts_of(log: &Log, t: u32) -> Option<Facts> {
     let end = end_of(log, t);
     let begin = log.get(begin_of(log, t)?)?;
@@ -137,17 +138,17 @@ fn facts_of(log: &Log, t: u32) -> Option<Facts> {
     }
 }
 
-/// The last accepted operation before a place on the item of the entry there.
+/// Returns the last accepted operation before a place on the item of the entry there.
 fn earlier_on_item(log: &Log, i: usize) -> Option<u64> {
     last_on_item(log, i, item_in(log.get(i)?)?)
 }
 
-/// The last accepted entry before a place of the transaction of the entry there.
+/// Returns the last accepted entry before a place of the transaction of the entry there.
 fn earlier_of_txn(log: &Log, i: usize) -> Option<u64> {
     last_of_txn(log, i, txn_in(log.get(i)?)?)
 }
 
-/// Whether the links of each entry are those that scans give.
+/// Returns whether the links of each entry are those found by scans.
 fn entries_agree(history: &History<Plain>) -> bool {
     let log = history.log();
     for i in 0..log.len().saturating_add(2) {
@@ -182,7 +183,7 @@ fn txns_agree(history: &History<Plain>) -> bool {
     true
 }
 
-/// How many transactions began.
+/// Returns the number of transactions begun.
 fn count_begun(log: &Log) -> u32 {
     let mut count = 0;
     for i in 0..log.len() {
@@ -193,7 +194,7 @@ fn count_begun(log: &Log) -> u32 {
     count
 }
 
-/// What each transaction is: a query or not, and where it ended, if it did.
+/// Returns for each transaction whether it is a query, and where it ended, if it did.
 fn facts_in(alloc: Global, log: &Log) -> Result<Vec<Option<Facts>>, AllocError> {
     let mut facts = Vec::new(alloc);
     for t in 0..count_begun(log).saturating_add(1) {
@@ -216,7 +217,7 @@ fn is_query(facts: &[Option<Facts>], t: u32) -> bool {
     }
 }
 
-/// Whether a transaction that has begun has not ended before a place.
+/// Returns whether a transaction that has begun has not ended before a place.
 fn is_active(facts: &[Option<Facts>], t: u32, i: usize) -> bool {
     let Some(known) = facts_at(facts, t) else {
         return false;
@@ -227,8 +228,8 @@ fn is_active(facts: &[Option<Facts>], t: u32, i: usize) -> bool {
     }
 }
 
-/// The update that holds, by the entry at a place, a lock on an item before the place i: one that
-/// is in the way of a write, or of every operation.
+/// Returns the update that, by the entry at a place, holds a lock on an item before the place i: a lock that blocks a
+/// write, or every operation.
 fn holder(
     log: &Log,
     facts: &[Option<Facts>],
@@ -247,7 +248,7 @@ fn holder(
     }
 }
 
-/// The smaller of a number and one that may be there.
+/// Returns the smaller of a number and an optional one.
 fn smaller(least: Option<u32>, u: u32) -> Option<u32> {
     match least {
         Some(v) if v < u => least,
@@ -255,7 +256,7 @@ fn smaller(least: Option<u32>, u: u32) -> Option<u32> {
     }
 }
 
-/// The smallest other update than t whose lock on an item is in the way of an operation at a place.
+/// Returns the smallest update other than t whose lock on an item blocks an operation at a place.
 fn conflicting_holder(
     log: &Log,
     facts: &[Option<Facts>],
@@ -274,14 +275,14 @@ fn conflicting_holder(
     least
 }
 
-/// The smallest other update whose lock is in the way of the entry at a place.
+/// Returns the smallest other update whose lock blocks the entry at a place.
 fn blocker(log: &Log, facts: &[Option<Facts>], i: usize, entry: Entry) -> Option<u32> {
     let x = item_in(entry)?;
     let t = txn_in(entry)?;
     conflicting_holder(log, facts, t, x, i, written_in(entry).is_some())
 }
 
-/// Whether an entry is a read by a query.
+/// Returns whether an entry is a read by a query.
 fn is_query_read(facts: &[Option<Facts>], entry: Entry) -> bool {
     match (entry.event, txn_in(entry)) {
         (Event::Write { .. }, _) | (_, None) => false,
@@ -289,7 +290,7 @@ fn is_query_read(facts: &[Option<Facts>], entry: Entry) -> bool {
     }
 }
 
-/// Whether the entry at a place was blocked exactly where the list of locks says so.
+/// Returns whether the entry at a place was blocked exactly if the list of locks says so.
 fn lock_agrees(log: &Log, facts: &[Option<Facts>], i: usize) -> bool {
     let Some(entry) = log.get(i) else {
         return true;
@@ -310,7 +311,7 @@ fn locks_agree(log: &Log, facts: &[Option<Facts>]) -> bool {
     true
 }
 
-/// The entry in which a transaction ended before the place i.
+/// Returns the entry in which a transaction ended before the place i.
 fn end_before(log: &Log, facts: &[Option<Facts>], t: u32, i: usize) -> Option<Entry> {
     let end = facts_at(facts, t)?.end?;
     if end < i as u64 {
@@ -320,8 +321,8 @@ fn end_before(log: &Log, facts: &[Option<Facts>], t: u32, i: usize) -> Option<En
     }
 }
 
-/// Whether what a transaction wrote holds at the place i: it has not aborted before that, and has committed where that
-/// is asked for.
+/// Returns whether the writes of a transaction are in effect at the place i: it has not aborted before, and has
+/// committed if `committed`.
 fn persists(log: &Log, facts: &[Option<Facts>], t: u32, i: usize, committed: bool) -> bool {
     match end_before(log, facts, t, i) {
         None => !committed,
@@ -329,7 +330,7 @@ fn persists(log: &Log, facts: &[Option<Facts>], t: u32, i: usize, committed: boo
     }
 }
 
-/// What was written to an item by the entry at a place, where it holds at the place i.
+/// Returns the value written to an item by the entry at a place, if it is in effect at the place i.
 fn left_by(
     log: &Log,
     facts: &[Option<Facts>],
@@ -347,7 +348,7 @@ fn left_by(
     }
 }
 
-/// The current value of an item before a place, or its committed one.
+/// Returns the current value of an item before a place, or its committed one.
 fn value_at(
     history: &History<Plain>,
     facts: &[Option<Facts>],
@@ -367,7 +368,7 @@ fn value_at(
     }
 }
 
-/// How often a query has read an item from one place to another.
+/// Returns the number of a query's reads of an item between two places.
 fn count_reads(log: &Log, q: u32, x: u32, begin: usize, end: usize) -> u64 {
     let mut count = 0u64;
     for i in begin..end {
@@ -379,7 +380,7 @@ fn count_reads(log: &Log, q: u32, x: u32, begin: usize, end: usize) -> u64 {
     count
 }
 
-/// What a query that began at a place is charged for the entry at the place i, while it is active.
+/// Returns the charge for the entry at the place i to a query that began at a place, while it is active.
 fn charge_at(
     history: &History<Plain>,
     facts: &[Option<Facts>],
@@ -404,7 +405,7 @@ fn charge_at(
     }
 }
 
-/// The place at which a transaction ended, or the end of the log.
+/// Returns the place at which a transaction ended, or the end of the log.
 fn end_or_last(log: &Log, facts: &[Option<Facts>], q: u32) -> usize {
     match facts_at(facts, q) {
         Some(Facts { end: Some(end), .. }) => end as usize,
@@ -412,7 +413,7 @@ fn end_or_last(log: &Log, facts: &[Option<Facts>], q: u32) -> usize {
     }
 }
 
-/// What a transaction imported, summed over the entries from its begin to its end.
+/// Returns the import of a transaction, summed over the entries from its begin to its end.
 fn import_of(history: &History<Plain>, facts: &[Option<Facts>], q: u32) -> u64 {
     let begin = begin_of(history.log(), q).unwrap_or(0);
     let mut sum = 0u64;
@@ -440,7 +441,7 @@ fn imports_agree(history: &History<Plain>, facts: &[Option<Facts>]) -> bool {
     true
 }
 
-/// Whether locks and imports are those of the plain lists.
+/// Returns whether locks and imports are those of the plain lists.
 fn lists_agree(alloc: Global, history: &History<Plain>) -> bool {
     match facts_in(alloc, history.log()) {
         Ok(facts) => locks_agree(history.log(), &facts) && imports_agree(history, &facts),
@@ -466,7 +467,7 @@ fn position_of(commits: &[TxnId], t: u32) -> Option<usize> {
     None
 }
 
-/// The operation in the entry at a place, if it is one of these updates.
+/// Returns the operation in the entry at a place, if it is one of these updates.
 fn operation_at(log: &Log, at: usize, commits: &[TxnId]) -> Option<Operation> {
     let entry = accepted_entry(log, at)?;
     let item = item_in(entry)?;
@@ -494,7 +495,7 @@ fn operations_in(
     Ok(operations)
 }
 
-/// The operations of the update at a position.
+/// Returns the operations of the update at a position.
 fn own_operations(
     alloc: Global,
     operations: &[Operation],
@@ -509,7 +510,7 @@ fn own_operations(
     Ok(own)
 }
 
-/// Whether an operation is behind one of these that it conflicts with.
+/// Returns whether an operation follows one of these that it conflicts with.
 fn follows(own: &[Operation], late: Operation) -> bool {
     for early in own {
         let conflicts = early.item == late.item && (early.write || late.write);
@@ -520,7 +521,7 @@ fn follows(own: &[Operation], late: Operation) -> bool {
     false
 }
 
-/// Whether an operation of an update is behind one of these that it conflicts with.
+/// Returns whether an operation of an update follows one of these that it conflicts with.
 fn conflict(operations: &[Operation], own: &[Operation], j: usize) -> bool {
     for late in operations {
         if late.position == j && follows(own, *late) {
@@ -540,8 +541,8 @@ fn mark(marks: &mut [bool], i: usize) {
     }
 }
 
-/// The updates to which a row of an order's pairs leads from one, itself among them. The pairs are
-/// in order and go upward.
+/// Returns the updates that are reachable from one by an order's pairs, including itself. The pairs are in order and
+/// go upward.
 fn reach_of(alloc: Global, order: &Order, i: usize) -> Result<Vec<bool>, AllocError> {
     let mut marks = vec![in alloc; false; order.commits().len()]?;
     mark(&mut marks, i);
@@ -553,7 +554,7 @@ fn reach_of(alloc: Global, order: &Order, i: usize) -> Result<Vec<bool>, AllocEr
     Ok(marks)
 }
 
-/// Whether all operations that are behind one of these, and conflict with it, are of marked updates.
+/// Returns whether all operations that follow one of these, and conflict with it, are of marked updates.
 fn are_all_marked(operations: &[Operation], own: &[Operation], marks: &[bool]) -> bool {
     for late in operations {
         if !is_marked(marks, late.position) && follows(own, *late) {
@@ -563,8 +564,7 @@ fn are_all_marked(operations: &[Operation], own: &[Operation], marks: &[bool]) -
     true
 }
 
-/// Whether rows of an order's pairs lead from an update to all that conflict with it and come after
-/// it.
+/// Returns whether an order's pairs lead from an update to all later ones that conflict with it.
 fn row_agrees(alloc: Global, order: &Order, operations: &[Operation], i: usize) -> Option<bool> {
     let marks = reach_of(alloc, order, i).ok()?;
     let own = own_operations(alloc, operations, i).ok()?;
@@ -580,7 +580,7 @@ fn rows_agree(alloc: Global, order: &Order, operations: &[Operation]) -> Option<
     Some(true)
 }
 
-/// Whether the updates of each pair of an order are two that conflict.
+/// Returns whether the updates of each pair of an order conflict.
 fn pairs_conflict(alloc: Global, order: &Order, operations: &[Operation]) -> Option<bool> {
     for (i, j) in order.before() {
         let own = own_operations(alloc, operations, *i as usize).ok()?;
@@ -591,7 +591,7 @@ fn pairs_conflict(alloc: Global, order: &Order, operations: &[Operation]) -> Opt
     Some(true)
 }
 
-/// Whether an order's pairs tie its updates as all pairs of updates that conflict do, and are few.
+/// Returns whether an order's pairs tie its updates as all pairs of conflicting updates do, and are few.
 fn pairs_agree(alloc: Global, log: &Log, order: &Order) -> Option<bool> {
     let operations = operations_in(alloc, log, order.commits()).ok()?;
     let few = order.before().len() <= operations.len().saturating_mul(2);
@@ -599,7 +599,7 @@ fn pairs_agree(alloc: Global, log: &Log, order: &Order) -> Option<bool> {
     Some(few && conflict && rows_agree(alloc, order, &operations)?)
 }
 
-/// Whether an update wrote an item.
+/// Returns whether an update wrote an item.
 fn has_written(operations: &[Operation], i: usize, x: u32) -> bool {
     for o in operations {
         if o.position == i && o.item == x && o.write {
@@ -618,7 +618,7 @@ fn is_listed(writers: &[u32], position: usize) -> bool {
     false
 }
 
-/// Whether each update that wrote an item is among these.
+/// Returns whether each update that wrote an item is among these.
 fn all_writers(operations: &[Operation], x: u32, writers: &[u32]) -> bool {
     for o in operations {
         if o.item == x && o.write && !is_listed(writers, o.position) {
@@ -628,7 +628,7 @@ fn all_writers(operations: &[Operation], x: u32, writers: &[u32]) -> bool {
     true
 }
 
-/// Whether each of these updates wrote an item.
+/// Returns whether each of these updates wrote an item.
 fn each_wrote(operations: &[Operation], x: u32, writers: &[u32]) -> bool {
     for writer in writers {
         if !has_written(operations, *writer as usize, x) {
@@ -638,7 +638,7 @@ fn each_wrote(operations: &[Operation], x: u32, writers: &[u32]) -> bool {
     true
 }
 
-/// Whether a chain of an order has the updates that wrote the item.
+/// Returns whether a chain of an order consists of the updates that wrote the item.
 fn chain_agrees(order: &Order, operations: &[Operation], x: u32) -> bool {
     let writers: &[u32] = match order.chain(ItemId(x)) {
         None => &[],
@@ -647,12 +647,12 @@ fn chain_agrees(order: &Order, operations: &[Operation], x: u32) -> bool {
     all_writers(operations, x, writers) && each_wrote(operations, x, writers)
 }
 
-/// Whether a query read an item.
+/// Returns whether a query read an item.
 fn has_read(log: &Log, q: u32, x: u32) -> bool {
     count_reads(log, q, x, 0, log.len()) > 0
 }
 
-/// The marks at the updates that wrote an item which a query read, and at those that it must have
+/// Returns the marks of the updates that wrote an item which a query read, and of those that the query must have
 /// seen.
 fn seeds_of(alloc: Global, log: &Log, order: &Order, q: u32) -> Result<Vec<bool>, AllocError> {
     let mut seeds = vec![in alloc; false; order.commits().len()]?;
@@ -676,7 +676,7 @@ fn mark_back(order: &Order, marks: &mut [bool]) {
     }
 }
 
-/// The near updates of a query: those from which a row of pairs leads to a seed, or which are one.
+/// Returns the near updates of a query: the seeds, and the updates from which pairs lead to a seed.
 fn near_of(alloc: Global, log: &Log, order: &Order, q: u32) -> Result<Vec<TxnId>, AllocError> {
     let mut marks = seeds_of(alloc, log, order, q)?;
     mark_back(order, &mut marks);
@@ -690,7 +690,7 @@ fn near_of(alloc: Global, log: &Log, order: &Order, q: u32) -> Result<Vec<TxnId>
     Ok(near)
 }
 
-/// Whether the chains of an order have the writers of each item.
+/// Returns whether the chains of an order have the writers of each item.
 fn chains_agree(alloc: Global, history: &History<Plain>, order: &Order) -> Option<bool> {
     let operations = operations_in(alloc, history.log(), order.commits()).ok()?;
     for x in 0..history.items() {
@@ -701,12 +701,12 @@ fn chains_agree(alloc: Global, history: &History<Plain>, order: &Order) -> Optio
     Some(true)
 }
 
-/// The order of a query among its near updates, or None where memory is refused.
+/// Returns the order of a query among its near updates, or `None` if an allocation fails.
 fn near_order(alloc: Global, m: &Machine<Plain>, q: u32) -> Option<Order> {
     Order::near(alloc, m.history(), TxnId(q)).ok()
 }
 
-/// The order of a query, where it is a committed one; or None where memory is refused.
+/// Returns the order of a query, if it is committed; or `None` if an allocation fails.
 fn order_if(alloc: Global, m: &Machine<Plain>, q: u32) -> Option<Option<Order>> {
     match order_of(alloc, m, q) {
         Ok(order) => Some(Some(order)),
@@ -715,7 +715,7 @@ fn order_if(alloc: Global, m: &Machine<Plain>, q: u32) -> Option<Option<Order>> 
     }
 }
 
-/// Whether an order and the one among the near updates are those that all pairs give.
+/// Returns whether an order and the one among the near updates are those of all pairs.
 fn both_agree(
     alloc: Global,
     m: &Machine<Plain>,
@@ -729,7 +729,7 @@ fn both_agree(
     Some(same && pairs_agree(alloc, log, whole)? && pairs_agree(alloc, log, near)?)
 }
 
-/// Whether the order of a query, and that among its near updates, are those of all pairs.
+/// Returns whether the order of a query, and that among its near updates, are those of all pairs.
 fn order_agrees(alloc: Global, m: &Machine<Plain>, q: u32) -> Option<bool> {
     let Some(whole) = order_if(alloc, m, q)? else {
         return Some(true);
@@ -738,7 +738,7 @@ fn order_agrees(alloc: Global, m: &Machine<Plain>, q: u32) -> Option<bool> {
     Some(chains_agree(alloc, m.history(), &whole)? && both_agree(alloc, m, q, &whole, &near)?)
 }
 
-/// Whether the orders of one query in so many agree.
+/// Returns whether the orders agree, of every `each`-th transaction.
 fn orders_agree(alloc: Global, m: &Machine<Plain>, each: u32) -> Option<bool> {
     for q in 0..count_begun(m.log()).saturating_add(2) {
         if q.checked_rem(each) == Some(0) && !order_agrees(alloc, m, q)? {
@@ -748,8 +748,7 @@ fn orders_agree(alloc: Global, m: &Machine<Plain>, each: u32) -> Option<bool> {
     Some(true)
 }
 
-/// Whether the fast forms of a history agree with the plain ones; the orders of one transaction in
-/// so many.
+/// Returns whether the fast forms of a history agree with the plain ones; the orders for every `each`-th transaction.
 fn is_same(alloc: Global, m: &Machine<Plain>, each: u32) -> bool {
     let history = m.history();
     entries_agree(history)
@@ -759,12 +758,12 @@ fn is_same(alloc: Global, m: &Machine<Plain>, each: u32) -> bool {
         && orders_agree(alloc, m, each) == Some(true)
 }
 
-/// The same, once more where memory is refused.
+/// Returns whether the forms agree, like [`is_same`], and retries once if an allocation fails.
 pub(super) fn agrees(alloc: Global, m: &Machine<Plain>, each: u32) -> bool {
     is_same(alloc, m, each) || is_same(alloc, m, each)
 }
 
-/// An event of one of the last eight transactions, or of one that has not begun.
+/// Draws an event of one of the last eight transactions, or of one that has not begun.
 fn any_event(draws: &mut Draws, begun: u32) -> Asked {
     let t = begun.saturating_add(1).saturating_sub(draws.next(9));
     let item = draws.next(66);
@@ -776,7 +775,7 @@ fn any_event(draws: &mut Draws, begun: u32) -> Asked {
     }
 }
 
-/// The begin of an update, a query or a strict query.
+/// Draws the begin of an update, a query or a strict query.
 fn any_begin(draws: &mut Draws) -> Asked {
     let limit = u64::from(draws.next(4000));
     match draws.next(4) {
@@ -786,7 +785,7 @@ fn any_begin(draws: &mut Draws) -> Asked {
     }
 }
 
-/// The end of a transaction.
+/// Draws the end of a transaction.
 fn any_end(draws: &mut Draws, t: u32) -> Asked {
     if draws.next(6) == 0 {
         Asked::Abort(t)
@@ -804,7 +803,7 @@ fn round(m: &mut Machine<Plain>, draws: &mut Draws, begun: u32) {
     let _ = accepts(m, any_end(draws, begun.saturating_sub(8)));
 }
 
-/// A history of 64 items and 500 transactions, of which eight run at a time.
+/// Draws a history of 64 items and 500 transactions, of which eight run at a time.
 fn draw_history(alloc: Global, seed: u64) -> Option<Machine<Plain>> {
     let mut m = open_machine(alloc, &[0; 64])?;
     let mut draws = Draws { state: seed };
@@ -814,7 +813,7 @@ fn draw_history(alloc: Global, seed: u64) -> Option<Machine<Plain>> {
     Some(m)
 }
 
-/// How many entries are refused by a lock, are aborts, and are begins of strict queries.
+/// Returns the numbers of entries that are refused by a lock, that are aborts, and that are begins of strict queries.
 fn counts(log: &Log) -> (u32, u32, u32) {
     let (mut blocked, mut aborts, mut strict) = (0u32, 0u32, 0u32);
     for i in 0..log.len() {
@@ -846,7 +845,7 @@ fn counts(log: &Log) -> (u32, u32, u32) {
     (blocked, aborts, strict)
 }
 
-/// Fast forms are proved against definitions that may be wrong: scans that share nothing with them must say the same.
+/// Fast forms are proved against definitions that may be wrong: scans that share no code with them must agree.
 #[test]
 fn fast_forms_are_the_plain_ones(rt: HostRuntime) {
     let Some(m) = draw_history(rt.alloc(), 11) else {

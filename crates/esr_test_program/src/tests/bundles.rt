@@ -11,7 +11,7 @@ use rows::{BACK_FLOW, EMPTY, Row, STRICT, TWO_UPDATES, table};
 use std::alloc::{AllocError, Global};
 use std::process::Abort;
 
-/// The bundle of the row with its change.
+/// Returns the bundle of the row with its change.
 fn change_bundle(alloc: Global, row: &Row) -> Result<String, AllocError> {
     let (before, after) = match row.bundle.split_once(row.old) {
         Some(parts) => parts,
@@ -23,7 +23,7 @@ fn change_bundle(alloc: Global, row: &Row) -> Result<String, AllocError> {
     Ok(text)
 }
 
-/// Judges the bundle, and compares what is written with the line.
+/// Judges the bundle, and compares the output with the line.
 fn has_verdict(rt: &impl Abort, alloc: Global, text: &str, line: &str) {
     let mut reader = Watched::new(text.as_bytes());
     let mut writer = Watched::new(Vec::new(alloc));
@@ -32,7 +32,7 @@ fn has_verdict(rt: &impl Abort, alloc: Global, text: &str, line: &str) {
     check_written(rt, &writer, line, text);
 }
 
-/// A verdict is proved against definitions; one that gives a fault another number would be proved as well.
+/// A verdict is proved against definitions; one that assigns another number to a fault would be proved as well.
 #[test]
 fn bundles_have_their_verdicts(rt: HostRuntime) {
     for row in table() {
@@ -41,7 +41,7 @@ fn bundles_have_their_verdicts(rt: HostRuntime) {
     }
 }
 
-/// JSON leaves the order of keys and white space free; a definition that knows one spelling alone would be proved.
+/// JSON permits any order of keys and any white space; a definition that permits a single form would be proved.
 #[test]
 fn keys_may_come_in_any_order_with_white_space(rt: HostRuntime) {
     has_verdict(
@@ -66,7 +66,7 @@ fn rewrite(alloc: Global, text: &str) -> Option<Vec<u8>> {
     to_json(alloc, &problem, &certificate).ok()
 }
 
-/// Whether a bundle is written as it was read.
+/// Returns whether a bundle is written as it was read.
 fn is_rewritten(alloc: Global, text: &str) -> bool {
     match rewrite(alloc, text) {
         Some(written) => written.as_slice() == text.as_bytes(),
@@ -79,7 +79,7 @@ fn is_rewritten(alloc: Global, text: &str) -> bool {
 fn bundles_are_written_as_they_were_read(rt: HostRuntime) {
     let alloc = rt.alloc();
     for text in [TWO_UPDATES, BACK_FLOW, EMPTY, STRICT] {
-        // Where memory is refused, it is asked for once more.
+        // If an allocation fails, it is retried once.
         let written = is_rewritten(alloc, text) || is_rewritten(alloc, text);
         assert!(rt; written, "{} is written", text);
     }
@@ -93,7 +93,8 @@ static SHOWN: [(JudgeFault, &str); 4] = [
     (JudgeFault::NoMemory, "out of memory"),
 ];
 
-/// The words of a fault are in no clause: with two of them swapped, a failed write would be told as a failed read.
+/// No clause contains the texts of a fault: with two of them swapped, a failed write would be reported as a failed
+/// read.
 #[test]
 fn faults_show_their_texts(rt: HostRuntime) {
     for (fault, text) in &SHOWN {

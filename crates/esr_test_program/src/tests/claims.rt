@@ -1,5 +1,5 @@
-//! Bundles beside the script that they are about. What a claim is, is proved; its line is compared byte for byte, and
-//! the words about a fault are in no clause.
+//! Bundles with the scripts that they are about. A claim is proved; its line is compared byte for byte, and no clause
+//! contains the text of a fault.
 
 use esr_commands::{claim_of, detail_of};
 use esr_history::Watched;
@@ -30,14 +30,14 @@ const SCRIPT: &str = "item a 0\n\
 const BUNDLE: &str =
     r#"{"certificate":{"back_flow":[0],"chain_flow":[[0,0,1],[1,0]],"set":[0,1],"worth":1},"problem":{"before":[[0,1]],"chains":[{"costs":[0,10,1],"item":0,"writers":[0,1]},{"costs":[8,0],"item":1,"writers":[1]}],"updates":[2,3]}}"#;
 
-/// The same updates, of which one left another value: it is valid, and of another problem.
+/// The same updates, one of which left another value: the bundle is valid, and of another problem.
 const UNLIKE: &str =
     r#"{"certificate":{"back_flow":[0],"chain_flow":[[0,0,1],[1,0]],"set":[0,1],"worth":1},"problem":{"before":[[0,1]],"chains":[{"costs":[0,9,1],"item":0,"writers":[0,1]},{"costs":[8,0],"item":1,"writers":[1]}],"updates":[2,3]}}"#;
 
 const CHANGED: &str =
     r#"{"certificate":{"back_flow":[0],"chain_flow":[[0,0,1],[1,0]],"set":[0,1],"worth":0},"problem":{"before":[[0,1]],"chains":[{"costs":[0,10,1],"item":0,"writers":[0,1]},{"costs":[8,0],"item":1,"writers":[1]}],"updates":[2,3]}}"#;
 
-/// The line about a bundle and a query that was asked for.
+/// Returns the line of the claim of a bundle about a query.
 fn line_of(
     alloc: Global,
     audited: &AuditedQuery,
@@ -48,7 +48,7 @@ fn line_of(
     claim.line(alloc, name)
 }
 
-/// Whether that line is this one.
+/// Returns whether that line is this one.
 fn is_line(alloc: Global, audited: &AuditedQuery, name: &str, bundle: &str, wanted: &str) -> bool {
     match line_of(alloc, audited, name, bundle) {
         Ok(line) => from_utf8(&line) == Ok(wanted),
@@ -69,7 +69,7 @@ fn claims(rt: &impl Abort, alloc: Global, name: &str, bundle: &str, wanted: &str
     );
 }
 
-/// The same problem, another query's, one of as many updates, a fault, and no bundle.
+/// The same problem, another query's, one of as many updates, a fault, and bytes that are not a bundle.
 #[test]
 fn a_bundle_is_of_one_query(rt: HostRuntime) {
     let alloc = rt.alloc();

@@ -1,4 +1,4 @@
-//! Devices that fail, and what is checked of them.
+//! Devices that fail, and the checks of them.
 ghost use Rattle.std.specs.Prelude.{◌≡◌, false};
 ghost use Rattle.esr_base.specs.Watch.{failed};
 
@@ -8,7 +8,7 @@ use std::io;
 use std::io::{Read, Write};
 use std::process::Abort;
 
-/// Gives up to `most` bytes at a time, and fails after so many calls.
+/// Yields up to `most` bytes at a time, and fails after `left` calls.
 #[derive(Drop)]
 pub struct Cut<'a> {
     pub rest: &'a [u8],
@@ -27,7 +27,7 @@ impl Read for Cut<'_> {
     }
 }
 
-/// A reader of the text, which fails after so many calls.
+/// Returns a reader of the text that fails after `left` calls.
 pub fn cut_after(text: &str, most: usize, left: usize) -> Watched<Cut<'_>>
     ensures { failed result ≡ false }
 {
@@ -45,7 +45,7 @@ pub enum Way {
     TakesNone,
 }
 
-/// Takes up to `most` bytes at a time, and fails after so many calls.
+/// Takes up to `most` bytes at a time, and fails after `left` calls.
 #[derive(Drop)]
 pub struct Narrow {
     pub taken: Vec<u8>,
@@ -77,7 +77,7 @@ impl Write for Narrow {
     }
 }
 
-/// A writer that has taken nothing yet, and fails after so many calls.
+/// Returns a writer that has taken nothing yet, and fails after `left` calls.
 pub fn narrow_until(alloc: Global, most: usize, left: usize, way: Way) -> Watched<Narrow>
     ensures { failed result ≡ false }
 {
@@ -89,14 +89,14 @@ pub fn narrow_until(alloc: Global, most: usize, left: usize, way: Way) -> Watche
     })
 }
 
-/// That a read has failed, no write has, and nothing was written.
+/// Checks that a read has failed, no write has, and nothing was written.
 pub fn check_cut(rt: &impl Abort, reader: &Watched<Cut<'_>>, writer: &Watched<Vec<u8>>) {
     assert!(rt; reader.failed());
     assert!(rt; !writer.failed());
     assert!(rt; writer.inner().is_empty());
 }
 
-/// That a run which ended well has written the whole text, and another one a part of it, since a write failed.
+/// Checks that a run that ended well has written the whole text, and another one a part of it, since a write failed.
 pub fn check_narrow(rt: &impl Abort, writer: &Watched<Narrow>, ended_well: bool, whole: &str) {
     let taken = writer.inner().taken.as_slice();
     assert!(rt; writer.failed() != ended_well);
@@ -104,7 +104,7 @@ pub fn check_narrow(rt: &impl Abort, writer: &Watched<Narrow>, ended_well: bool,
     assert!(rt; !ended_well || taken.len() == whole.len());
 }
 
-/// That this text was written.
+/// Checks that this text was written.
 pub fn check_written(rt: &impl Abort, writer: &Watched<Vec<u8>>, text: &str, name: &str) {
     assert!(rt;
         writer.inner().as_slice() == text.as_bytes(),

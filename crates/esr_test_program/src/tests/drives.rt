@@ -1,5 +1,5 @@
-//! Drive files with the texts that they give. A drive's text is proved to be one of many, and a drive may answer a full
-//! history, receipts that do not match or out of memory whenever it likes: that it ends well only a test can show.
+//! Drive files with their texts. A drive's text is proved to be one of many, and a drive may always report a full
+//! history, receipts that do not match, or out of memory: only a test can show that it succeeds.
 
 ghost use Rattle.std.specs.Prelude.{◌≡◌, ◌≤◌, false};
 ghost use Rattle.esr_base.specs.Watch.{failed};
@@ -15,7 +15,7 @@ use std::io::{Read, Write};
 use std::sync::Wait;
 use std::thread::Threads;
 
-/// A drive file, how its drive ends, and what is written.
+/// A drive file, the end of its drive, and the output.
 struct Row {
     name: &'static str,
     file: &'static str,
@@ -260,7 +260,7 @@ static ROWS: [Row; 30] = [
     },
 ];
 
-/// Runs a drive file, and audits its queries by so many workers.
+/// Runs a drive file, and audits its queries with `workers` threads.
 fn drive_by<T: Threads + Wait + Sync, R: Read, W: Write>(
     rt: &T,
     alloc: Global,
@@ -276,7 +276,8 @@ fn drive_by<T: Threads + Wait + Sync, R: Read, W: Write>(
     drive(rt, alloc, reader, writer, form, &NoGate, &mut Unobserved)
 }
 
-/// Which history comes is open, so a drive could always call it full; of one busy block only one can come.
+/// The contract leaves the history open, so a drive could always report it as full; a single busy block permits only
+/// one.
 #[test]
 fn files_have_their_texts(rt: HostRuntime) {
     for row in table() {

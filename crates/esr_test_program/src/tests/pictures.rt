@@ -25,7 +25,7 @@ pub const BANK: &str = "item checking 500\n\
         read report savings\n\
         commit report\n";
 
-/// What is drawn of it, without the first line, the style and the legend.
+/// The picture of the bank, without the first line, the style and the legend.
 static BANK_DRAWN: [&str; 20] = [
     "<title id='report-title'>Audit of report</title>\n",
     "<desc id='report-desc'>Distance 100, import 100. In order: [report], transfer. checking: read 500, as at its place. savings: read 1,600, off by 100 from its place.</desc>\n",
@@ -53,7 +53,7 @@ static BANK_DRAWN: [&str; 20] = [
 const NOTHING_READ: &str =
     "item a 7\nbegin q query 0\nbegin u update 0\nwrite u a 8\ncommit u\ncommit q\n";
 
-/// An item that is read twice, before and behind an update; a weight of 3.
+/// An item that is read twice, before and after an update; a weight of 3.
 const TWICE: &str = "item a 7 weight 3\n\
         begin q query 99\n\
         read q a\n\
@@ -76,7 +76,7 @@ fn draw<R: Read, W: Write>(
     render_query(alloc, reader, writer, name, &Drawing, &mut Unobserved)
 }
 
-/// Draws the query of that name, and looks for texts in what is written.
+/// Draws the query of that name, and searches the output for texts.
 fn has(rt: &impl Abort, alloc: Global, script: &str, name: &str, texts: &[&str]) {
     let mut reader = Watched::new(script.as_bytes());
     let mut writer = Watched::new(Vec::new(alloc));
@@ -89,7 +89,8 @@ fn has(rt: &impl Abort, alloc: Global, script: &str, name: &str, texts: &[&str])
     }
 }
 
-/// No clause says what a picture shows: with each lane green on the wrong side of the update it would be proved.
+/// No clause specifies the content of a picture: with each lane green on the wrong side of the update, it would be
+/// proved.
 #[test]
 fn a_report_of_the_bank_is_drawn(rt: HostRuntime) {
     has(&rt, rt.alloc(), BANK, "report", &BANK_DRAWN);
@@ -144,8 +145,8 @@ fn lines_with_errors_are_drawn(rt: HostRuntime) {
     }
 }
 
-/// A value that was read and given up, one that was read twice, one that its writer wrote over, and one that was given up
-/// and is the item's own all the same.
+/// A read value that was undone, one that was read twice, one that its writer overwrote, and one that was undone but
+/// is also the item's own value.
 #[test]
 fn values_that_were_undone_are_described(rt: HostRuntime) {
     let texts = [
@@ -183,8 +184,8 @@ fn values_that_were_undone_are_described(rt: HostRuntime) {
     );
 }
 
-/// A report beside so many updates of one item, which reads it after the first one, and then another that is not
-/// written.
+/// Returns the script of a report that is concurrent with `updates` updates of one item, reads it after the first
+/// update, and then reads another item that is not written.
 fn beside(alloc: Global, updates: u32) -> Result<String, AllocError> {
     let mut script = String::from_str(alloc, "item a 0\nitem b 0\nitem c 5\nbegin q query 999\n")?;
     for i in 0..updates {
@@ -202,7 +203,7 @@ fn add_update(script: &mut String, i: u32) -> Result<(), AllocError> {
     write!(script, "write u{i} b {i}\ncommit u{i}\n")
 }
 
-/// How often a text occurs in what is drawn.
+/// Returns the number of occurrences of a text in the picture.
 fn count(alloc: Global, script: &str, text: &str) -> usize {
     let mut reader = Watched::new(script.as_bytes());
     let mut writer = Watched::new(Vec::new(alloc));
@@ -211,8 +212,8 @@ fn count(alloc: Global, script: &str, text: &str) -> usize {
     written.matches(text).count()
 }
 
-/// Of few updates all are drawn, of more those that bound what is seen of the lanes: here three, with the lane that is as
-/// read and keeps the line from the end, where the other one would be exact.
+/// Few updates are all drawn; of many, those that bound the visible part of the lanes: here three, with the lane
+/// whose value is as read and keeps the line from the end, where the other one would be exact.
 #[test]
 fn of_many_updates_the_bounding_ones_are_drawn(rt: HostRuntime) {
     let lanes = ("class='m n' x='20'", 3);
@@ -232,7 +233,7 @@ fn of_many_updates_the_bounding_ones_are_drawn(rt: HostRuntime) {
     occurs(&rt, rt.alloc(), 30, &of_many);
 }
 
-/// Draws the query beside so many updates, and counts texts in what is written.
+/// Draws the query that is concurrent with `updates` updates, and counts texts in the picture.
 fn occurs(rt: &impl Abort, alloc: Global, updates: u32, wanted: &[(&str, usize)]) {
     let script = beside(alloc, updates).expect(rt, "memory");
     for (text, times) in wanted {
@@ -258,7 +259,7 @@ fn only_committed_queries_are_drawn(rt: HostRuntime) {
     }
 }
 
-/// Of a reader that does not tell its bytes no clause says what is written: a picture of half a script could be.
+/// No clause states what is written if the reader does not specify its bytes: it could be a picture of half a script.
 #[test]
 fn each_read_fails_in_turn(rt: HostRuntime) {
     let alloc = rt.alloc();
@@ -284,7 +285,7 @@ fn writes_fail(rt: HostRuntime) {
     }
 }
 
-/// A writer that fails after so many calls of three bytes has taken just the beginning of the picture.
+/// Checks that a writer that fails after `left` calls of three bytes has taken just the beginning of the picture.
 fn fails_after(rt: &impl Abort, alloc: Global, left: usize, whole: &[u8]) {
     let mut reader = Watched::new(BANK.as_bytes());
     let mut writer = narrow_until(alloc, 3, left, Way::Errs);

@@ -1,4 +1,4 @@
-//! Prose and pages. No clause says what is in them.
+//! Prose and pages. No clause specifies their content.
 
 use crate::tests::pictures::BANK;
 use esr_history::Watched;
@@ -39,7 +39,7 @@ Charges are made before the outcome is known: of the 100 that it was charged,
 all were necessary.
 ";
 
-/// Lines that make no entry, a value that was given up, an item with a weight, a strict query, one that aborted and one
+/// Lines that make no entry, a value that was undone, an item with a weight, a strict query, one that aborted and one
 /// that is active.
 const DAY: &str = "# a day\n\
         item till 0\n\
@@ -63,7 +63,7 @@ const DAY: &str = "# a day\n\
         abort other\n\
         commit report\n";
 
-/// Surveys a script, and compares how that ends and what is written.
+/// Renders a view of a script, and compares its result and its output.
 pub fn script_views<S: ScriptView>(
     rt: &impl Abort,
     alloc: Global,
@@ -80,7 +80,7 @@ pub fn script_views<S: ScriptView>(
     assert!(rt; written == text, "it is {}", written);
 }
 
-/// Surveys a script, and looks for texts in what is written.
+/// Renders a view of a script, and searches the output for texts.
 fn has<S: ScriptView>(rt: &impl Abort, alloc: Global, script: &str, view_of: &S, texts: &[&str]) {
     let mut reader = Watched::new(script.as_bytes());
     let mut writer = Watched::new(Vec::new(alloc));

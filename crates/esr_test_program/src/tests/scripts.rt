@@ -1,5 +1,6 @@
-//! Scripts that are run, audited, certified and explained. What is written is proved against definitions, up to out of
-//! memory; that definitions say what the formats say, and that a run comes to its end, are tried on texts made by hand.
+//! Scripts that are run, audited, certified and explained. The output is proved against definitions, up to out of
+//! memory; these tests compare handwritten texts, to check that the definitions agree with the formats and that a run
+//! reaches its end.
 
 ghost use Rattle.std.specs.Prelude.{◌≡◌, false};
 ghost use Rattle.esr_base.specs.Watch.{failed};
@@ -32,7 +33,7 @@ pub fn run_script<R: Read, W: Write>(
     run(alloc, reader, writer, &mut Unobserved)
 }
 
-/// Runs a script, and compares what is written with the text.
+/// Runs a script, and compares the output with the text.
 fn answers(
     rt: &impl Abort,
     alloc: Global,
@@ -74,7 +75,8 @@ static SHOWN: [(RunFault, &str); 7] = [
     (RunFault::NotACommittedQuery, "not a committed query"),
 ];
 
-/// The words of a fault are in no clause: with two of them swapped, a failed write would be told as a failed read.
+/// No clause contains the texts of a fault: with two of them swapped, a failed write would be reported as a failed
+/// read.
 #[test]
 fn faults_show_their_texts(rt: HostRuntime) {
     for (fault, text) in &SHOWN {

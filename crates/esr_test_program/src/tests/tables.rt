@@ -11,7 +11,7 @@ use std::alloc::Global;
 use std::process::Abort;
 use std::thread::Threads;
 
-/// Each kind, each end, and each way to be blocked; a line that is refused, behind the last line of its transaction.
+/// Each kind, each end, and each way to be blocked; a line that is refused, after the last line of its transaction.
 const DAY: &str = "# One day of a shop\n\
         item till 0\n\
         item gold 5 weight 3\n\
@@ -69,7 +69,7 @@ number  name     kind    limit  charged  left  reads  writes  lock  import  expo
      6  late     query       7        0     7      0       0     0       0       0  active            -    24  24
 ";
 
-/// A report that reads what a transfer has written and not committed.
+/// A report that reads an uncommitted write of a transfer.
 const BANK: &str = "item checking 500\n\
         item savings 1400\n\
         begin early update 0\n\
@@ -84,12 +84,12 @@ const BANK: &str = "item checking 500\n\
         commit transfer\n\
         commit report\n";
 
-/// Compares what a survey of a script writes.
+/// Compares the output of a view of a script.
 fn writes<S: ScriptView>(rt: &impl Abort, alloc: Global, script: &str, view_of: &S, text: &str) {
     script_views(rt, alloc, script, view_of, Ok(()), text);
 }
 
-/// Compares what is told of the report of the bank.
+/// Compares the view of the bank's report.
 fn explains_as<T: QueryView>(rt: &impl Abort, alloc: Global, view: &T, text: &str) {
     let mut reader = Watched::new(BANK.as_bytes());
     let mut writer = Watched::new(Vec::new(alloc));

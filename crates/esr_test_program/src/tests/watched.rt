@@ -1,4 +1,4 @@
-//! That a watched device is asked, and that bytes are handed on: no clause can say either.
+//! A watched device is called, and its bytes are passed on: no clause can state either.
 
 use super::scripts::rows::table;
 use super::scripts::run_script;
@@ -6,7 +6,7 @@ use esr_history::Watched;
 use std::io;
 use std::io::{Read, Write};
 
-/// Counts its calls, and gives or takes nothing.
+/// Counts its calls, and reads and writes nothing.
 #[derive(Drop)]
 struct Counting {
     reads: u32,
@@ -39,7 +39,7 @@ impl Write for Counting {
     }
 }
 
-/// Of a real device clauses know nothing, so `Watched` could answer each call by itself and would be proved.
+/// Clauses state nothing about a real device, so `Watched` could make up the result of each call and would be proved.
 #[test]
 fn each_call_reaches_the_device_once(rt: HostRuntime) {
     let mut device = Watched::new(UNASKED);
@@ -51,7 +51,7 @@ fn each_call_reaches_the_device_once(rt: HostRuntime) {
     assert!(rt; (audited.reads, audited.writes, audited.flushes) == (1, 1, 1));
 }
 
-/// Hands bytes on where it is flushed, and not before.
+/// Passes bytes on when it is flushed, and not before.
 #[derive(Drop)]
 struct Holding {
     held: Vec<u8>,
@@ -71,7 +71,7 @@ impl Write for Holding {
     }
 }
 
-/// No clause asks for a flush: a run that leaves its output in a buffer below it would end well, and show nothing.
+/// No clause requires a flush: a run that leaves its output in a lower buffer would succeed, and show nothing.
 #[test]
 fn a_run_hands_its_whole_output_on(rt: HostRuntime) {
     let alloc = rt.alloc();

@@ -1,4 +1,5 @@
-//! Why lines were blocked, and who waits for whom. The amounts and the rings are proved; the words are in no clause.
+//! The reasons why lines were blocked, and the waits among transactions. The amounts and the cycles are proved; no
+//! clause contains the texts.
 
 use crate::tests::script_views::script_views;
 use esr_script::RunFault;
@@ -68,7 +69,7 @@ line 22: read up a: blocked by the write lock of second; second is still active
 line 23: read third a: blocked by the write lock of second; second is still active
 ";
 
-/// Whether this is told of a script.
+/// Compares the text about a script with the expected one.
 fn explains_as(rt: &impl Abort, alloc: Global, script: &str, name: Option<&str>, wanted: &str) {
     script_views(rt, alloc, script, &Why { name }, Ok(()), wanted);
 }

@@ -1,4 +1,3 @@
--- What holds at each turn of the loop in `measure_sessions`.
 use Rattle.std.proofs.Common.{[], map}
 use Rattle.esr_bench.proofs.sessions.measure_sessions.Given as goal
 

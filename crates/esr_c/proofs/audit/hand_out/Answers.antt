@@ -1,4 +1,3 @@
--- Why `hand_out` keeps its contract: the goals that are left to a proof of ours.
 use Rattle.std.proofs.Common.{rules}
 use Rattle.esr_c.proofs.audit.hand_out.Goals as goal
 

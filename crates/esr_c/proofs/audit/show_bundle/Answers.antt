@@ -1,4 +1,3 @@
--- Why `show_bundle` keeps its contract: the goals that are left to a proof of ours.
 use Rattle.std.proofs.Common.{◌∙◌, ◌<◌, ℕ, ap, length, subst, sym}
 use Rattle.esr_c.specs.Answers.{IsBundleOf}
 use Rattle.esr_c.proofs.audit.show_bundle.Goals as goal

@@ -1,4 +1,3 @@
--- Why `answer_all` keeps its contract: the goals that are left to a proof of ours.
 use Rattle.std.proofs.Common.{◌≡◌, ◌∙◌, ◌<◌, ℕ, pos, true, refl, ap, Err, sym, subst, arith, length}
 use Rattle.std.proofs.lemmas.Bool.{true≢false}
 use Rattle.esr_c.specs.Answers.{status_number}

@@ -1,4 +1,3 @@
--- Why `end` keeps its contract: the goals that are left to a proof of ours.
 use Rattle.std.proofs.Common.{subst}
 use Rattle.esr_c.specs.Answers.{IsSound}
 use Rattle.esr_c.proofs.engine.end.Goals as goal

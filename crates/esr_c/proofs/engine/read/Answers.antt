@@ -1,4 +1,3 @@
--- Why `read` keeps its contract: the goals that are left to a proof of ours.
 use Rattle.std.proofs.Common.{◌≡◌, Some, rules}
 use Rattle.esr_history.specs.declared.event.Event.TheVariants.{Read}
 use Rattle.esr_c.proofs.Called.{called}

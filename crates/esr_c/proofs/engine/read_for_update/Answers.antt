@@ -1,4 +1,3 @@
--- Why `read_for_update` keeps its contract: the goals that are left to a proof of ours.
 use Rattle.std.proofs.Common.{◌≡◌, ◌∙◌, ap, sym, subst, Option, Some}
 use Rattle.esr_history.specs.Machine.{Schedule}
 use Rattle.esr_c.specs.Answers.{IsForUpdateCall, status_number}

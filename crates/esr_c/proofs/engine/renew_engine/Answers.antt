@@ -1,4 +1,3 @@
--- Why `renew_engine` keeps its contract: the goals that are left to a proof of ours.
 use Rattle.std.proofs.Common.{List, subst, rules}
 use Rattle.esr_items.specs.Weights.{weighted}
 use Rattle.esr_history.specs.declared.event.Entry.{Entry}

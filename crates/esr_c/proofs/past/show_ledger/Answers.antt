@@ -1,4 +1,3 @@
--- Why `show_ledger` keeps its contract: the goals that are left to a proof of ours.
 use Rattle.std.proofs.Common.{◌∙◌, ◌<◌, ℕ, ap, length, subst, sym}
 use Rattle.esr_c.specs.Dumps.{IsLedgerOf}
 use Rattle.esr_c.proofs.past.show_ledger.Goals as goal

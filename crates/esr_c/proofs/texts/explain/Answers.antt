@@ -1,4 +1,3 @@
--- Why `explain` keeps its contract: the goals that are left to a proof of ours.
 use Rattle.esr_c.proofs.Explained.{explained}
 use Rattle.esr_c.proofs.texts.explain.Goals as goal
 

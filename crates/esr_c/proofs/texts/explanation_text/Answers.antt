@@ -1,4 +1,3 @@
--- Why `explanation_text` keeps its contract: the goals that are left to a proof of ours.
 use Rattle.esr_c.proofs.Explained.{explained_as}
 use Rattle.esr_c.proofs.texts.explanation_text.Goals as goal
 

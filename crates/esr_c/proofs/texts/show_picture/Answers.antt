@@ -1,4 +1,3 @@
--- Why `show_picture` keeps its contract: the goals that are left to a proof of ours.
 use Rattle.std.proofs.Common.{◌∙◌, ◌<◌, ℕ, ap, length, subst, sym}
 use Rattle.esr_picture.specs.Picture.{IsSvg}
 use Rattle.esr_c.proofs.texts.show_picture.Goals as goal

@@ -1,4 +1,3 @@
--- Why `certify` keeps its contract: the goals that are left to a proof of ours.
 use Rattle.std.proofs.Common.{codes}
 use Rattle.esr_cli.specs.Program as spec
 use Rattle.esr_cli.proofs.commands.certify.Goals as goal

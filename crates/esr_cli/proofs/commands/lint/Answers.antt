@@ -1,4 +1,3 @@
--- Why `lint` keeps its contract: the goals that are left to a proof of ours.
 use Rattle.std.proofs.Common.{codes}
 use Rattle.clap.specs.Words.{new_app}
 use Rattle.esr_cli.proofs.commands.lint.Goals as goal

@@ -1,4 +1,3 @@
--- Why `page` keeps its contract: the goals that are left to a proof of ours.
 use Rattle.std.proofs.Common.{codes}
 use Rattle.clap.specs.Words.{new_app}
 use Rattle.esr_cli.specs.Program as spec

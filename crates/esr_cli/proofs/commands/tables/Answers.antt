@@ -1,4 +1,3 @@
--- Why `tables` keeps its contract: the goals that are left to a proof of ours.
 use Rattle.esr_cli.specs.Program as spec
 use Rattle.esr_cli.proofs.commands.tables.Goals as goal
 

@@ -1,4 +1,3 @@
--- Why `with_name` keeps its contract: the goals that are left to a proof of ours.
 use Rattle.clap.specs.Words.{new_app, with_rule}
 use Rattle.esr_cli.specs.Program as spec
 use Rattle.esr_cli.proofs.commands.with_name.Goals as goal

@@ -1,4 +1,3 @@
--- Why `claim_of` keeps its contract: the goals that are left to a proof of ours.
 use Rattle.std.proofs.Common.{◌≡◌, Ok}
 use Rattle.esr_cert.specs.Views.{certificate_of}
 use Rattle.esr_commands.specs.declared.claim.BundleClaim.TheVariants.{Of}

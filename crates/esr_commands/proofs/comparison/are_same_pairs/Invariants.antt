@@ -1,4 +1,3 @@
--- What holds at each turn of the loop in `are_same_pairs`.
 use Rattle.std.proofs.Common.{◌≡◌, take}
 use Rattle.esr_commands.proofs.comparison.are_same_pairs.Given as goal
 

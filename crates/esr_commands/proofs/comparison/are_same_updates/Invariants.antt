@@ -1,4 +1,3 @@
--- What holds at each turn of the loop in `are_same_updates`.
 use Rattle.std.proofs.Common.{◌≡◌, take, map}
 use Rattle.esr_commands.proofs.comparison.are_same_updates.Given as goal
 

@@ -1,4 +1,3 @@
--- Why `is_same` keeps its contract: the goals that are left to a proof of ours.
 use Rattle.std.proofs.Common.{◌≡◌, ◌∙◌, sym}
 use Rattle.esr_commands.proofs.Sameness.{same_problem}
 use Rattle.esr_commands.proofs.comparison.is_same.Goals as goal

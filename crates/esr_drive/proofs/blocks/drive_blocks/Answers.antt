@@ -1,4 +1,3 @@
--- Why `drive_blocks` keeps its contract: the goals that are left to a proof of ours.
 use Rattle.std.proofs.Common.{rules, ◌≡◌, ℕ, List, All, length, map, sym, subst, ◌∙◌}
 use Rattle.esr_session.specs.declared.receipt.Receipt.{Receipt}
 use Rattle.esr_plan.specs.declared.call.Call.{Call}

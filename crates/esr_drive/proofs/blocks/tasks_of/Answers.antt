@@ -1,4 +1,3 @@
--- Why `tasks_of` keeps its contract: the goals that are left to a proof of ours.
 use Rattle.std.proofs.Common.{rules, ◌≡◌, []}
 use Rattle.esr_drive.proofs.Tasks.{all_before, last_of, all_more, tasks_more}
 use Rattle.esr_drive.proofs.blocks.tasks_of.Goals as goal

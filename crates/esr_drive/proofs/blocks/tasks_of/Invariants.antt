@@ -1,4 +1,3 @@
--- What holds at each turn of the loop in `tasks_of`.
 use Rattle.std.proofs.Common.{◌≡◌, ◌+◌, ◌≤◌, [], All, length, map, take, vec_len, vec_capacity}
 use Rattle.esr_drive.proofs.blocks.tasks_of.Given as goal
 

@@ -1,4 +1,3 @@
--- Why `push_findings` keeps its contract: the goals that are left to a proof of ours.
 use Rattle.std.proofs.Common.{◌≡◌, ℕ, List, ◌++◌, Result, OnOk, ap, sym, ◌∙◌, append-nil, subst, map, flat_map}
 use Rattle.esr_items.specs.Weights.{weighted}
 use Rattle.esr_audit.specs.Findings.{seen_summary, summary_of}

@@ -1,4 +1,3 @@
--- Why `piece_at` keeps its contract: the goals that are left to a proof of ours.
 use Rattle.std.proofs.Common.{◌≡◌, [], List, get_or, IfOk, length, map, arith, ap, ap₂, sym, subst, ◌∙◌}
 use Rattle.std.proofs.lemmas.List.{length-map}
 use Rattle.esr_plan.specs.Blocks.{Answered}

@@ -1,4 +1,3 @@
--- Why `pieces_of` keeps its contract: the goals that are left to a proof of ours.
 use Rattle.std.proofs.Common.{arith}
 use Rattle.esr_plan.proofs.Noting.{length-blocks}
 use Rattle.esr_drive.proofs.pieces.pieces_of.Goals as goal

@@ -1,4 +1,3 @@
--- Why `push_blocks` keeps its contract: the goals that are left to a proof of ours.
 use Rattle.std.proofs.Common.{rules, ◌≤◌, length, map, arith}
 use Rattle.esr_plan.specs.Calls.{all_answers}
 use Rattle.esr_plan.specs.Tables.{names_in}

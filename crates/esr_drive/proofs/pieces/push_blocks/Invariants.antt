@@ -1,4 +1,3 @@
--- What holds at each turn of the loop in `push_blocks`.
 use Rattle.std.proofs.Common.{◌≡◌, ◌++◌, take, map}
 use Rattle.esr_plan.specs.Text.{blocks_text}
 use Rattle.esr_plan.specs.Calls.{all_answers}

@@ -1,4 +1,3 @@
--- Why `answers_from` keeps its contract: the goals that are left to a proof of ours.
 use Rattle.std.proofs.Common.{◌≡◌, ◌++◌, map, refl, ap, ap₂, ◌∙◌}
 use Rattle.esr_items.specs.Weights.{weighted}
 use Rattle.esr_history.specs.Totals.{all_imports, all_exports}

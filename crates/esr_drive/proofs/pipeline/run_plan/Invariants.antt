@@ -1,4 +1,3 @@
--- What holds at each turn of the loop in `run_plan`.
 use Rattle.std.proofs.Common.{map}
 use Rattle.esr_drive.proofs.pipeline.run_plan.Given as goal
 

@@ -1,4 +1,3 @@
--- Why `script_from` keeps its contract: the goals that are left to a proof of ours.
 use Rattle.std.proofs.Common.{◌≡◌, ℕ, List, IfOk, map, ap, ap₂, ◌∙◌, subst}
 use Rattle.esr_dump.specs.RoundTrip.{IsDump}
 use Rattle.esr_plan.specs.Calls.{all_answers}

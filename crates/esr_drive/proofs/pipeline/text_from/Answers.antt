@@ -1,4 +1,3 @@
--- Why `text_from` keeps its contract: the goals that are left to a proof of ours.
 use Rattle.esr_drive.proofs.Texts.{history_written, text_written}
 use Rattle.esr_drive.proofs.pipeline.text_from.Goals as goal
 

@@ -1,4 +1,3 @@
--- Why `text_in` keeps its contract: the goals that are left to a proof of ours.
 use Rattle.std.proofs.Common.{map}
 use Rattle.esr_drive.proofs.Texts.{text_fault, engine_fault, drive_text}
 use Rattle.esr_drive.proofs.pipeline.text_in.Goals as goal

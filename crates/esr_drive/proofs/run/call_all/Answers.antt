@@ -1,4 +1,3 @@
--- Why `call_all` keeps its contract: the goals that are left to a proof of ours.
 use Rattle.std.proofs.Common.{rules, arith, ap, ◌<◌, ◌≤◌, length, [], List, refl, sym, subst, ◌∙◌}
 use Rattle.esr_history.specs.declared.event.Reply.{Reply}
 use Rattle.esr_session.specs.declared.receipt.Receipt.{Receipt}

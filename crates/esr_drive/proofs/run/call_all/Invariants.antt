@@ -1,4 +1,3 @@
--- What holds at each turn of the loop in `call_all`.
 use Rattle.std.proofs.Common.{◌≡◌, ◌+◌, ◌-◌, ◌*◌, length}
 use Rattle.esr_drive.specs.Runs.{IsUnderWay}
 use Rattle.esr_drive.proofs.run.call_all.Given as goal

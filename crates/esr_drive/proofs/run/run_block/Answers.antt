@@ -1,4 +1,3 @@
--- Why `run_block` keeps its contract: the goals that are left to a proof of ours.
 use Rattle.std.proofs.Common.{rules}
 use Rattle.esr_drive.proofs.run.run_block.Goals as goal
 

@@ -1,4 +1,3 @@
--- Why `gather` keeps its contract: the goals that are left to a proof of ours.
 use Rattle.std.proofs.Common.{arith}
 use Rattle.std.proofs.lemmas.Grind.{common_steps}
 use Rattle.esr_drive.proofs.threads.gather.Goals as goal

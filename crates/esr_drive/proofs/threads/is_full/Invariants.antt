@@ -1,4 +1,3 @@
--- What holds at each turn of the loop in `is_full`.
 use Rattle.std.proofs.Common.{◌≡◌, ◌+◌, take}
 use Rattle.esr_base.specs.declared.limits.TheConstants.{MAX_ENTRIES}
 use Rattle.esr_session.specs.Receipts.{count_in}

@@ -1,4 +1,3 @@
--- Why `named_script` keeps its contract: the goals that are left to a proof of ours.
 use Rattle.std.proofs.Common.{arith}
 use Rattle.esr_dump.proofs.Names.{carried_past, few_begun}
 use Rattle.esr_dump.proofs.given_names.named_script.Goals as goal

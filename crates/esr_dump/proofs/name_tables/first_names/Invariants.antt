@@ -1,4 +1,3 @@
--- What holds at each turn of the loop in `first_names`.
 use Rattle.std.proofs.Common.{◌≡◌, map}
 use Rattle.esr_dump.specs.Naming.{first_names}
 use Rattle.esr_dump.proofs.name_tables.first_names.Given as goal

@@ -1,4 +1,3 @@
--- What holds at each turn of the loop in `names_by_number`.
 use Rattle.std.proofs.Common.{◌≡◌}
 use Rattle.esr_dump.specs.Naming.{all_numbered}
 use Rattle.esr_dump.proofs.name_tables.names_by_number.Given as goal

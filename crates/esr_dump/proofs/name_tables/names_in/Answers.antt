@@ -1,4 +1,3 @@
--- Why `names_in` keeps its contract: the goals that are left to a proof of ours.
 use Rattle.std.proofs.Common.{ℕ, nat_eq, rules}
 use Rattle.std.proofs.lemmas.Iterator.Consumers.{map_from_collect}
 use Rattle.std.proofs.lemmas.Iterator.Splits.{YieldsList-from_slice_split}

@@ -1,4 +1,3 @@
--- Why `table` keeps its contract: the goals that are left to a proof of ours.
 use Rattle.std.proofs.Common.{sym}
 use Rattle.esr_dump.proofs.Tables.{pushed, refused, repeated}
 use Rattle.esr_dump.proofs.name_tables.table.Goals as goal

@@ -1,4 +1,3 @@
--- What holds at each turn of the loop in `table`.
 use Rattle.std.proofs.Common.{◌≡◌, true, map, take}
 use Rattle.std.specs.List.{list_all}
 use Rattle.esr_grammar.specs.Command.{is_name}

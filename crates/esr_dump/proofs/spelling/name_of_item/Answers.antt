@@ -1,4 +1,3 @@
--- Why `name_of_item` keeps its contract: the goals that are left to a proof of ours.
 use Rattle.std.proofs.Common.{[], ap, ◌∙◌, unwrap_or}
 use Rattle.std.proofs.lemmas.Option.{unwrap_or-slice_get}
 use Rattle.esr_dump.proofs.spelling.name_of_item.Goals as goal

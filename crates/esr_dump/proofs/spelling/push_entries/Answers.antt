@@ -1,4 +1,3 @@
--- Why `push_entries` keeps its contract: the goals that are left to a proof of ours.
 use Rattle.std.proofs.Common.{◌∙◌, ◌++◌, ap, sym}
 use Rattle.esr_dump.specs.Lines.{entry_text}
 use Rattle.esr_dump.proofs.Texts.{entry_more}

@@ -1,4 +1,3 @@
--- What holds at each turn of the loop in `push_entries`.
 use Rattle.std.proofs.Common.{◌≡◌, ◌++◌, flat_map, take}
 use Rattle.esr_dump.specs.Lines.{entry_text}
 use Rattle.esr_dump.proofs.spelling.push_entries.Given as goal

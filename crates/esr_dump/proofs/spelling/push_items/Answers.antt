@@ -1,4 +1,3 @@
--- Why `push_items` keeps its contract: the goals that are left to a proof of ours.
 use Rattle.std.proofs.Common.{◌∙◌, ◌++◌, ap}
 use Rattle.esr_dump.specs.Lines.{item_text}
 use Rattle.esr_dump.proofs.Texts.{item_more}

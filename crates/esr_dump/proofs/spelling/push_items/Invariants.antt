@@ -1,4 +1,3 @@
--- What holds at each turn of the loop in `push_items`.
 use Rattle.std.proofs.Common.{◌≡◌, ◌++◌, flat_map}
 use Rattle.std.specs.List.{range_with_len}
 use Rattle.esr_dump.specs.Lines.{item_text}

@@ -1,4 +1,3 @@
--- Why `script` keeps its contract: the goals that are left to a proof of ours.
 use Rattle.esr_dump.specs.RoundTrip.{RoundTrips}
 use Rattle.esr_dump.specs.Lines.{script}
 use Rattle.esr_dump.proofs.RoundTrip.{carried, round_trips}

@@ -1,4 +1,3 @@
--- Why `put_all` keeps its contract: the goals that are left to a proof of ours.
 use Rattle.std.proofs.Common.{◌≡◌, ◌∙◌, ap, arith, get_or, length, pos, false, set, sym, w64, true≢false}
 use Rattle.std.proofs.lemmas.Int.{to_z-of_z}
 use Rattle.esr_audit.proofs.Gathered.{value_fits}

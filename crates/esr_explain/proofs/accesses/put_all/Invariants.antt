@@ -1,4 +1,3 @@
--- What holds at each turn of the loop in `put_all`.
 use Rattle.std.proofs.Common.{◌≡◌, take}
 use Rattle.esr_explain.specs.Accesses.{put_all}
 use Rattle.esr_explain.proofs.accesses.put_all.Given as goal

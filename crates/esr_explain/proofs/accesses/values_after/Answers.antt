@@ -1,4 +1,3 @@
--- Why `values_after` keeps its contract: the goals that are left to a proof of ours.
 use Rattle.std.proofs.Common.{◌≡◌, ◌∙◌, flat_map, map, arith, take_all}
 use Rattle.esr_base.specs.declared.numbers.TxnId.{TxnId}
 use Rattle.esr_order.specs.Scans.{accesses_in}

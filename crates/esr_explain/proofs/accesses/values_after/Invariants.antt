@@ -1,4 +1,3 @@
--- What holds at each turn of the loop in `values_after`.
 use Rattle.std.proofs.Common.{◌≡◌, flat_map, map, take}
 use Rattle.esr_order.specs.Scans.{accesses_in}
 use Rattle.esr_explain.specs.Accesses.{put_all}

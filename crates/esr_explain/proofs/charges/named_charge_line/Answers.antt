@@ -1,4 +1,3 @@
--- Why `named_charge_line` keeps its contract: the goals that are left to a proof of ours.
 use Rattle.esr_explain.proofs.charges.named_charge_line.Goals as goal
 
 pub returns : goal.returns

@@ -1,4 +1,3 @@
--- What holds at each turn of the loop in `push_all`.
 use Rattle.std.proofs.Common.{◌≡◌, ◌++◌, flat_map, slice_get}
 use Rattle.std.specs.List.{range_with_len}
 use Rattle.esr_items.specs.Weights.{weighted}

@@ -1,4 +1,3 @@
--- Why `others` keeps its contract: the goals that are left to a proof of ours.
 use Rattle.std.proofs.Common.{◌≡◌, ◌∙◌, Bool, List, ℕ, ap, filter, map, not}
 use Rattle.std.proofs.lemmas.Result.{IfOk-weaker}
 use Rattle.esr_base.specs.declared.numbers.TxnId.{TxnId}

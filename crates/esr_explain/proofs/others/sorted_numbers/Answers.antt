@@ -1,4 +1,3 @@
--- Why `sorted_numbers` keeps its contract: the goals that are left to a proof of ours.
 use Rattle.std.proofs.Common.{eqb, arith}
 use Rattle.std.proofs.lemmas.List.Sorted.{IsNonDecreasingBy-from_sort, list_any-IsPermutation}
 use Rattle.esr_explain.proofs.others.sorted_numbers.Goals as goal

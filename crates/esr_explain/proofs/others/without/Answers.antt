@@ -1,4 +1,3 @@
--- Why `without` keeps its contract: the goals that are left to a proof of ours.
 use Rattle.std.proofs.Common.{arith}
 use Rattle.esr_explain.proofs.Amongst.{filter_fails, filter_passes}
 use Rattle.esr_explain.proofs.others.without.Goals as goal

@@ -1,4 +1,3 @@
--- What holds at each turn of the loop in `without`.
 use Rattle.std.proofs.Common.{◌≡◌, filter, not, take}
 use Rattle.esr_order.specs.Placements.{is_among}
 use Rattle.esr_explain.proofs.others.without.Given as goal

@@ -1,4 +1,3 @@
--- Why `push_lines` keeps its contract: the goals that are left to a proof of ours.
 use Rattle.std.proofs.Common.{◌≡◌, ◌∙◌, ◌+◌, ◌++◌, Bool, List, [], ℕ, ℤ, ap, append-nil, append_assoc, false, flat_map, get_or, if◌then◌else◌, of_z, pos, subst, sym, take, to_z, w64, arith, take_all}
 use Rattle.std.proofs.lemmas.Int.{to_z-of_z}
 use Rattle.esr_items.specs.Values.{value_at, IsValue}

@@ -1,4 +1,3 @@
--- What holds at each turn of the loop in `push_lines`.
 use Rattle.std.proofs.Common.{◌≡◌, ◌++◌, flat_map, take}
 use Rattle.esr_items.specs.Values.{value_at}
 use Rattle.esr_items.specs.Weights.{weighted}

@@ -1,4 +1,3 @@
--- Why `explanation` keeps its contract: the goals that are left to a proof of ours.
 use Rattle.std.proofs.Common.{◌≡◌, ◌∙◌, ◌++◌, List, ℕ, ap, codes, map}
 use Rattle.esr_items.specs.Weights.{weighted}
 use Rattle.esr_base.specs.declared.numbers.TxnId.{TxnId}

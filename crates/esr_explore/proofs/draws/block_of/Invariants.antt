@@ -1,4 +1,3 @@
--- What holds at each turn of the loop in `block_of`.
 use Rattle.std.proofs.Common.{◌≡◌, ◌+◌, sum, take}
 use Rattle.esr_explore.proofs.draws.block_of.Given as goal
 

@@ -1,4 +1,3 @@
--- What holds at each turn of the loop in `draw_order`.
 use Rattle.esr_explore.proofs.Drawn.{IsDrawn}
 use Rattle.esr_explore.proofs.draws.draw_order.Given as goal
 

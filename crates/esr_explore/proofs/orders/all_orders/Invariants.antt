@@ -1,4 +1,3 @@
--- What holds at each turn of the loop in `all_orders`.
 use Rattle.std.proofs.Common.{◌≡◌, map}
 use Rattle.esr_explore.specs.Orders.{first_turns}
 use Rattle.esr_explore.proofs.orders.all_orders.Given as goal

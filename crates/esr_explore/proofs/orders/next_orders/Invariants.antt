@@ -1,4 +1,3 @@
--- What holds at each turn of the loop in `next_orders`.
 use Rattle.std.proofs.Common.{◌≡◌, flat_map, map, take}
 use Rattle.esr_explore.specs.Orders.{longer}
 use Rattle.esr_explore.proofs.orders.next_orders.Given as goal

@@ -1,4 +1,3 @@
--- Why `push_longer` keeps its contract: the goals that are left to a proof of ours.
 use Rattle.std.proofs.Common.{◌∙◌, ◌++◌, ap, map}
 use Rattle.esr_explore.specs.Orders.{longer_by}
 use Rattle.esr_explore.proofs.Every.{one_more}

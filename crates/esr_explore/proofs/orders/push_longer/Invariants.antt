@@ -1,4 +1,3 @@
--- What holds at each turn of the loop in `push_longer`.
 use Rattle.std.proofs.Common.{◌≡◌, ◌++◌, flat_map, map}
 use Rattle.std.specs.List.{range_with_len}
 use Rattle.esr_explore.specs.Orders.{longer_by}

@@ -1,4 +1,3 @@
--- Why `drawn_summaries` keeps its contract: the goals that are left to a proof of ours.
 use Rattle.std.proofs.Common.{ℕ, List, map, subst}
 use Rattle.esr_plan.specs.Plan.{weights_of}
 use Rattle.esr_explore.specs.Summaries.{IsSummary}

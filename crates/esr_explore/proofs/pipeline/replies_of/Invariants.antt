@@ -1,4 +1,3 @@
--- What holds at each turn of the loop in `replies_of`.
 use Rattle.std.proofs.Common.{◌≡◌, map}
 use Rattle.esr_explore.proofs.pipeline.replies_of.Given as goal
 

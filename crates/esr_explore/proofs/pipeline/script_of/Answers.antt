@@ -1,4 +1,3 @@
--- Why `script_of` keeps its contract: the goals that are left to a proof of ours.
 use Rattle.std.proofs.Common.{◌∙◌, ap, map}
 use Rattle.esr_plan.specs.Tables.{names_in}
 use Rattle.esr_explore.proofs.Turning.{borrowed_result}

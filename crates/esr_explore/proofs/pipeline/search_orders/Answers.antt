@@ -1,4 +1,3 @@
--- Why `search_orders` keeps its contract: the goals that are left to a proof of ours.
 use Rattle.std.proofs.Common.{map}
 use Rattle.esr_plan.specs.Plan.{weights_of}
 use Rattle.esr_explore.specs.Searches.{orders_of}

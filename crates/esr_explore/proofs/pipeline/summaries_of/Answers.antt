@@ -1,4 +1,3 @@
--- Why `summaries_of` keeps its contract: the goal that is left to a proof of ours.
 use Rattle.std.proofs.Common.{◌≡◌, ◌<◌, ◌∙◌, ℕ, List, [], Vec, ap, arith, get_or, length, map, sym}
 use Rattle.std.specs.declared.alloc.Global.{Global}
 use Rattle.std.proofs.lemmas.List.{get_or-map, length-map}

@@ -1,4 +1,3 @@
--- What holds at each turn of the loop in `summaries_of`.
 use Rattle.std.proofs.Common.{map, take}
 use Rattle.esr_plan.specs.Plan.{weights_of}
 use Rattle.esr_explore.specs.Searches.{AreRunSummaries}

@@ -1,4 +1,3 @@
--- Why `text_of` keeps its contract: the goal that is left to a proof of ours.
 use Rattle.std.proofs.Common.{◌∙◌, List, Vec, ap, length, map}
 use Rattle.std.specs.declared.alloc.Global.{Global}
 use Rattle.esr_plan.specs.declared.call.Call.{Call}

@@ -1,4 +1,3 @@
--- What holds at each turn of the loop in `push_queries`.
 use Rattle.std.proofs.Common.{◌≡◌, ◌++◌, map, take}
 use Rattle.esr_explore.specs.Queries.{begun_query, queries_in}
 use Rattle.esr_explore.proofs.query.push_queries.Given as goal

@@ -1,4 +1,3 @@
--- Why `queries_of` keeps its contract: the goal that is left to a proof of ours.
 use Rattle.std.proofs.Common.{map}
 use Rattle.esr_explore.specs.Queries.{begun_query}
 use Rattle.esr_explore.proofs.Begun.{held_blocks_more}

@@ -1,4 +1,3 @@
--- What holds at each turn of the loop in `queries_of`.
 use Rattle.std.proofs.Common.{◌≡◌, map, take}
 use Rattle.esr_explore.specs.Queries.{all_queries, begun_query}
 use Rattle.esr_explore.proofs.query.queries_of.Given as goal

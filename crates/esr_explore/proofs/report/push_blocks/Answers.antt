@@ -1,4 +1,3 @@
--- Why `push_blocks` keeps its contract: the goal that is left to a proof of ours.
 use Rattle.esr_explore.specs.Report.{block_line}
 use Rattle.esr_explore.proofs.Texts.{number_more}
 use Rattle.esr_explore.proofs.report.push_blocks.Goals as goal

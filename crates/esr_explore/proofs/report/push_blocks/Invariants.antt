@@ -1,4 +1,3 @@
--- What holds at each turn of the loop in `push_blocks`.
 use Rattle.std.proofs.Common.{◌≡◌, ◌++◌, flat_map}
 use Rattle.std.specs.List.{range_with_len}
 use Rattle.esr_explore.specs.Report.{block_line}

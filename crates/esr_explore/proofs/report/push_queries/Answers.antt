@@ -1,4 +1,3 @@
--- Why `push_queries` keeps its contract: the goal that is left to a proof of ours.
 use Rattle.esr_explore.specs.Report.{query_line}
 use Rattle.esr_explore.proofs.Texts.{query_more}
 use Rattle.esr_explore.proofs.report.push_queries.Goals as goal

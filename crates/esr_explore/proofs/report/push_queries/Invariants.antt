@@ -1,4 +1,3 @@
--- What holds at each turn of the loop in `push_queries`.
 use Rattle.std.proofs.Common.{◌≡◌, ◌++◌, flat_map, map, take}
 use Rattle.std.specs.List.{enumerate_from}
 use Rattle.esr_explore.specs.Queries.{begun_query}

@@ -1,4 +1,3 @@
--- Why `push_query` keeps its contract: the goal that is left to a proof of ours.
 use Rattle.std.proofs.Common.{◌≡◌, ℕ, List, ◌++◌, ap, arith, codes, length}
 use Rattle.esr_explore.specs.declared.summary.Column.TheVariants.{Import, Distance}
 use Rattle.esr_explore.specs.Columns.{numbers_of}

@@ -1,4 +1,3 @@
--- What holds at each turn of the loop in `find_unfinished`.
 use Rattle.std.proofs.Common.{◌≡◌, ◌≤◌, ◌<◌, ℕ, [], length, map, slice_index_or}
 use Rattle.esr_explore.specs.Turns.{fresh}
 use Rattle.esr_explore.proofs.run.find_unfinished.Given as goal

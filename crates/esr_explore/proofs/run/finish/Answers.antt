@@ -1,4 +1,3 @@
--- Why `finish` keeps its contract: the goal that is left to a proof of ours.
 use Rattle.std.proofs.Common.{[], ◌∷◌, ◌++◌, ◌∙◌, ap, map, sym}
 use Rattle.esr_explore.specs.Turns.{Stage, stage, turn}
 use Rattle.esr_explore.proofs.Turning.{then_turn}

@@ -1,4 +1,3 @@
--- What holds at each turn of the loop in `finish`.
 use Rattle.std.proofs.Common.{◌≡◌, ℕ, List, length, map}
 use Rattle.esr_explore.specs.Turns.{stage, turns}
 use Rattle.esr_explore.proofs.run.finish.Given as goal

@@ -1,4 +1,3 @@
--- Why `new_runners` keeps its contract: the goal that is left to a proof of ours.
 use Rattle.esr_explore.proofs.Turning.{one_new_runner}
 use Rattle.esr_explore.proofs.run.new_runners.Goals as goal
 

@@ -1,4 +1,3 @@
--- What holds at each turn of the loop in `take_turns`.
 use Rattle.std.proofs.Common.{◌≡◌, length, map, take}
 use Rattle.esr_explore.specs.Turns.{stage, turns}
 use Rattle.esr_explore.proofs.run.take_turns.Given as goal

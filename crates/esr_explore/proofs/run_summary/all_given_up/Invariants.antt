@@ -1,4 +1,3 @@
--- What holds at each turn of the loop in `all_given_up`.
 use Rattle.std.proofs.Common.{◌≡◌, map, take}
 use Rattle.esr_explore.specs.Summaries.{given_up_in}
 use Rattle.esr_explore.proofs.run_summary.all_given_up.Given as goal

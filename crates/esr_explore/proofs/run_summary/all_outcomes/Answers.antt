@@ -1,4 +1,3 @@
--- Why `all_outcomes` keeps its contract: the goal that is left to a proof of ours.
 use Rattle.std.proofs.Common.{[]}
 use Rattle.esr_explore.specs.declared.query.Query.{Query}
 use Rattle.esr_explore.proofs.Telling.{outcomes_more}

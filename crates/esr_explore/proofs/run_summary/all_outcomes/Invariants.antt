@@ -1,4 +1,3 @@
--- What holds at each turn of the loop in `all_outcomes`.
 use Rattle.std.proofs.Common.{take}
 use Rattle.esr_explore.specs.Summaries.{AreOutcomes}
 use Rattle.esr_explore.proofs.run_summary.all_outcomes.Given as goal

@@ -1,4 +1,3 @@
--- What holds at each turn of the loop in `count_blocked`.
 use Rattle.std.proofs.Common.{◌≡◌, map, take}
 use Rattle.esr_explore.proofs.run_summary.count_blocked.Given as goal
 

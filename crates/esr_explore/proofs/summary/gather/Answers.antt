@@ -1,4 +1,3 @@
--- Why `gather` keeps its contract: the goal that is left to a proof of ours.
 use Rattle.std.proofs.Common.{◌∙◌, ℕ, List, [], ◌∷◌, ◌++◌, Option, ap, ap₂, get_or, sym, take}
 use Rattle.std.specs.List.{cons_option, filter_map}
 use Rattle.std.proofs.lemmas.List.{take_more}

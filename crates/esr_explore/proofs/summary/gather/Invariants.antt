@@ -1,4 +1,3 @@
--- What holds at each turn of the loop in `gather`.
 use Rattle.std.proofs.Common.{◌≡◌, take}
 use Rattle.esr_explore.specs.Columns.{numbers_of}
 use Rattle.esr_explore.proofs.summary.gather.Given as goal

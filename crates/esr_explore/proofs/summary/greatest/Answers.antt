@@ -1,4 +1,3 @@
--- Why `greatest` keeps its contract: the goal that is left to a proof of ours.
 use Rattle.std.proofs.Common.{◌∙◌, ap₂, max, sym}
 use Rattle.esr_explore.specs.Sizes.{amount_of}
 use Rattle.esr_explore.proofs.Greatest.{greatest_more}

@@ -1,4 +1,3 @@
--- What holds at each turn of the loop in `greatest`.
 use Rattle.std.proofs.Common.{◌≡◌, map, take}
 use Rattle.esr_explore.specs.Sizes.{amount_of, greatest}
 use Rattle.esr_explore.proofs.summary.greatest.Given as goal

@@ -1,4 +1,3 @@
--- Why `spread_of` keeps its contract: the goals that are left to a proof of ours.
 use Rattle.std.proofs.Common.{◌≡◌, ◌∙◌, ℕ, ◌-◌, ◌/◌, ◌<◌, ap, arith, get_or, length}
 use Rattle.std.proofs.lemmas.List.{get_or_read_under}
 use Rattle.esr_explore.proofs.Ascending.{spread_sorted}

@@ -1,4 +1,3 @@
--- What holds at each turn of the loop in `sum_of`.
 use Rattle.std.proofs.Common.{◌≡◌, sum, take}
 use Rattle.esr_explore.specs.Turns.{capped}
 use Rattle.esr_explore.proofs.summary.sum_of.Given as goal

@@ -1,4 +1,3 @@
--- Why `worst_of` keeps its contract: the goals that are left to a proof of ours.
 use Rattle.std.proofs.Common.{◌≡◌, ◌+◌, ◌∙◌, ℕ, ap, arith, length, map, subst, take, take_all}
 use Rattle.esr_explore.specs.Sizes.{first_greatest, size_of, worst_of}
 use Rattle.esr_explore.proofs.Greatest.{IsFirst, first_all, first_more}

@@ -1,4 +1,3 @@
--- What holds at each turn of the loop in `worst_of`.
 use Rattle.std.proofs.Common.{map, take}
 use Rattle.esr_explore.specs.Sizes.{size_of}
 use Rattle.esr_explore.proofs.Greatest.{IsFirst}

@@ -1,4 +1,3 @@
--- What holds at each turn of the loop in `line_counts`.
 use Rattle.std.proofs.Common.{◌≡◌, length, map, take}
 use Rattle.esr_explore.proofs.ways.line_counts.Given as goal
 

@@ -1,4 +1,3 @@
--- Why `next_line` keeps its contract: the goals that are left to a proof of ours.
 use Rattle.std.proofs.Common.{arith}
 use Rattle.esr_grammar.proofs.Prefix.{line_len-le}
 use Rattle.esr_grammar.proofs.next.next_line.Goals as goal

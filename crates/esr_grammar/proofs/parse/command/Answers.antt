@@ -1,4 +1,3 @@
--- Why `command` keeps its contract: the goals that are left to a proof of ours.
 use Rattle.std.proofs.Common.{sym}
 use Rattle.esr_grammar.proofs.Spelling.{spelled}
 use Rattle.esr_grammar.specs.Command.{view}

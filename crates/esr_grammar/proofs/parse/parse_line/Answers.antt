@@ -1,4 +1,3 @@
--- Why `parse_line` keeps its contract: the goals that are left to a proof of ours.
 use Rattle.std.proofs.Common.{sym, ◌∙◌}
 use Rattle.esr_grammar.proofs.Spelling.{spelled, read_back}
 use Rattle.esr_grammar.proofs.parse.parse_line.Goals as goal

@@ -1,4 +1,3 @@
--- Why `begin_update` keeps its contract: the goals that are left to a proof of ours.
 use Rattle.std.proofs.Common.{sym, ap, ◌++◌, ◌∷◌, ◌^◌}
 use Rattle.esr_grammar.proofs.Laws.{number_found}
 use Rattle.esr_grammar.proofs.quick.begin_update.Goals as goal

@@ -1,4 +1,3 @@
--- Why `front_name` keeps its contract: the goals that are left to a proof of ours.
 use Rattle.std.proofs.Common.{◌≡◌, sym, ◌∙◌, ap, arith, true, take, subst, Some}
 use Rattle.std.specs.List.{position}
 use Rattle.std.proofs.lemmas.List.Quantifiers.{position-Some}

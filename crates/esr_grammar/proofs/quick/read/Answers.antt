@@ -1,4 +1,3 @@
--- Why `read` keeps its contract: the goals that are left to a proof of ours.
 use Rattle.std.proofs.Common.{◌≡◌, sym, ap, ◌∙◌, ◌++◌, ◌∷◌}
 use Rattle.esr_grammar.proofs.Spelling.{name_found}
 use Rattle.esr_grammar.proofs.quick.read.Goals as goal

@@ -1,4 +1,3 @@
--- Why `write` keeps its contract: the goals that are left to a proof of ours.
 use mir.Val.{to_z, of_z}
 use Rattle.std.proofs.Common.{w64, ◌≡◌, sym, ap, ◌∙◌, ◌++◌, ◌∷◌}
 use Rattle.std.proofs.lemmas.Int.{to_z-of_z}

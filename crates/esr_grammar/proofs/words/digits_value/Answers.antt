@@ -1,4 +1,3 @@
--- Why `digits_value` keeps its contract: the goals that are left to a proof of ours.
 use Rattle.std.proofs.Common.{refl, sym, arith}
 use Rattle.esr_grammar.proofs.Laws.{one_digit, fits, all_read}
 use Rattle.esr_grammar.proofs.words.digits_value.Goals as goal

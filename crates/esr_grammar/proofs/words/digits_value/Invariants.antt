@@ -1,4 +1,3 @@
--- What holds at each turn of the loop in `digits_value`.
 use Rattle.esr_grammar.proofs.Laws.{IsValueOf}
 use Rattle.esr_grammar.proofs.words.digits_value.Given as goal
 

@@ -1,4 +1,3 @@
--- Why `is_name_byte` keeps its contract: the goals that are left to a proof of ours.
 use Rattle.std.proofs.Common.{◌≡◌, ◌+◌, ◌∙◌, ap, arith}
 use Rattle.esr_grammar.specs.Command.{is_name_byte}
 use Rattle.esr_grammar.proofs.Classes.{described}

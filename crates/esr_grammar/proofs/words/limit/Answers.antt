@@ -1,4 +1,3 @@
--- Why `limit` keeps its contract: the goals that are left to a proof of ours.
 use Rattle.std.proofs.Common.{sym, ◌∙◌, arith}
 use Rattle.std.proofs.lemmas.Option.{get_or_from_slice_get}
 use Rattle.esr_grammar.proofs.Laws.{by_digits}

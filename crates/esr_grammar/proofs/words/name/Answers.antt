@@ -1,4 +1,3 @@
--- Why `name` keeps its contract: the goals that are left to a proof of ours.
 use Rattle.std.proofs.Common.{arith}
 use Rattle.esr_grammar.proofs.Spaces.{name_utf8}
 use Rattle.esr_grammar.proofs.words.name.Goals as goal

@@ -1,4 +1,3 @@
--- Why `one_word` keeps its contract: the goals that are left to a proof of ours.
 use Rattle.std.proofs.Common.{arith}
 use Rattle.esr_grammar.proofs.Spaces.{one_of_more}
 use Rattle.esr_grammar.proofs.words.one_word.Goals as goal

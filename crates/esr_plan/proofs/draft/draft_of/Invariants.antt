@@ -1,11 +1,10 @@
--- What holds at each turn of the loop in `draft_of`.
 use Rattle.std.proofs.Common.{◌≡◌, ◌+◌, ◌<◌, length}
 use Rattle.esr_grammar.specs.Lines.{lines}
 use Rattle.esr_plan.specs.Plan.{plan_from, nothing}
 use Rattle.esr_plan.specs.Drafts.{IsSound, plan_in}
 use Rattle.esr_plan.proofs.draft.draft_of.Given as goal
 
--- the lines that are left go on to the plan of all
+-- the remaining lines extend the plan to that of all lines
 abbrev pub invariant-loop-line : goal.invariant-loop-line
 invariant-loop-line l =
     IsSound l.draft

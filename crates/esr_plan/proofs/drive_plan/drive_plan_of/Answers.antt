@@ -1,4 +1,3 @@
--- Why `drive_plan_of` keeps its contract: the goals that are left to a proof of ours.
 use Rattle.std.proofs.Common.{arith}
 use Rattle.esr_grammar.specs.Lines.{lines}
 use Rattle.esr_plan.proofs.Cuts.{few_lines}

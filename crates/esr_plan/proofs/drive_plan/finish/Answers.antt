@@ -1,4 +1,3 @@
--- Why `finish` keeps its contract: the goals that are left to a proof of ours.
 use Rattle.std.proofs.Common.{rules}
 use Rattle.esr_plan.proofs.Adding.{done_with, done_alone, plan_made}
 use Rattle.esr_plan.proofs.drive_plan.finish.Goals as goal

@@ -1,4 +1,3 @@
--- Why `check_lines` keeps its contract: the goals that are left to a proof of ours.
 use Rattle.std.proofs.Common.{rules}
 use Rattle.esr_plan.proofs.Cuts.{line_fault, line_next, begun_fault, begun_fine}
 use Rattle.esr_plan.proofs.reader.check_lines.Goals as goal

@@ -1,4 +1,3 @@
--- What holds at each turn of the loop in `check_lines`.
 use Rattle.std.proofs.Common.{◌-◌, length}
 use Rattle.esr_plan.specs.Readings.{IsMark}
 use Rattle.esr_plan.proofs.reader.check_lines.Given as goal

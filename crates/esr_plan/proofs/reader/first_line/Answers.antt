@@ -1,4 +1,3 @@
--- Why `first_line` keeps its contract: the goals that are left to a proof of ours.
 use Rattle.std.proofs.Common.{sym, ◌∙◌, length, ◌<◌}
 use Rattle.esr_plan.proofs.Cuts.{no_feed, some}
 use Rattle.esr_plan.proofs.reader.first_line.Goals as goal

@@ -1,4 +1,3 @@
--- What holds at each turn of the loop in `read_all`.
 use Rattle.std.proofs.Common.{◌≡◌, ◌<◌, false, None, length}
 use Rattle.std.specs.Io.KnownBytes.{Consumes}
 use Rattle.esr_base.specs.Watch.{inner, failed}

@@ -1,4 +1,3 @@
--- Why `begun_names` keeps its contract: the goals that are left to a proof of ours.
 use Rattle.std.proofs.Common.{rules, ◌≡◌, ◌+◌, ◌-◌, ◌<◌, [], length, map, drop, replicate, sym, ap, ◌∙◌, arith, flat_map}
 use Rattle.esr_history.specs.BackLinks.{begun_count}
 use Rattle.std.proofs.lemmas.List.{length-map}

@@ -1,4 +1,3 @@
--- What holds at each turn of the loop in `begun_names`.
 use Rattle.std.proofs.Common.{◌≡◌, ◌≤◌, [], length, drop, map, replicate, flat_map}
 use Rattle.esr_history.specs.BackLinks.{begun_count}
 use Rattle.esr_plan.specs.Calls.{all_answers}

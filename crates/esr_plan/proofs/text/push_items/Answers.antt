@@ -1,4 +1,3 @@
--- Why `push_items` keeps its contract: the goals that are left to a proof of ours.
 use Rattle.std.proofs.Common.{rules, pos, None}
 use Rattle.esr_plan.proofs.Rendered.{items_text_more}
 use Rattle.esr_plan.proofs.text.push_items.Goals as goal

@@ -1,4 +1,3 @@
--- What holds at each turn of the loop in `push_items`.
 use Rattle.std.proofs.Common.{◌≡◌, ◌++◌, take}
 use Rattle.esr_plan.specs.Text.{items_text}
 use Rattle.esr_plan.proofs.text.push_items.Given as goal

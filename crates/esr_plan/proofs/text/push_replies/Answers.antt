@@ -1,4 +1,3 @@
--- Why `push_replies` keeps its contract: the goals that are left to a proof of ours.
 use Rattle.std.proofs.Common.{rules, ◌≤◌, length, arith}
 use Rattle.esr_report.specs.Lines.{reply_line}
 use Rattle.esr_plan.specs.Calls.{answers_of}

@@ -1,4 +1,3 @@
--- What holds at each turn of the loop in `push_replies`.
 use Rattle.std.proofs.Common.{◌≡◌, ◌++◌, take}
 use Rattle.esr_plan.specs.Calls.{answers_of}
 use Rattle.esr_plan.specs.Text.{replies_text}

@@ -1,4 +1,3 @@
--- Why `push_summaries` keeps its contract: the goals that are left to a proof of ours.
 use Rattle.std.proofs.Common.{rules, ◌++◌, ◌∙◌, ap, flat_map, take_all}
 use Rattle.esr_audit.specs.Findings.{seen_summary}
 use Rattle.esr_plan.specs.Text.{finding_text}

@@ -1,4 +1,3 @@
--- What holds at each turn of the loop in `push_summaries`.
 use Rattle.std.proofs.Common.{◌≡◌, ◌++◌, take, flat_map}
 use Rattle.esr_audit.specs.Findings.{seen_summary}
 use Rattle.esr_plan.specs.Text.{finding_text}

@@ -1,4 +1,3 @@
--- Why `error_line` keeps its contract: the goals that are left to a proof of ours.
 use Rattle.std.proofs.Common.{arith}
 use Rattle.std.proofs.lemmas.Grind.{common_steps}
 use Rattle.esr_report.proofs.lines.error_line.Goals as goal

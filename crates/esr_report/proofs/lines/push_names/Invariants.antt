@@ -1,4 +1,3 @@
--- What holds at each turn of the loop in `push_names`.
 use Rattle.std.proofs.Common.{◌≡◌, ◌++◌, ◌∷◌, map, take}
 use Rattle.std.specs.List.{join_with_byte}
 use Rattle.esr_base.specs.declared.numbers.TxnId.{TxnId}

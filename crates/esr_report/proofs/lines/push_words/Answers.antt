@@ -1,4 +1,3 @@
--- Why `push_words` keeps its contract: the goals that are left to a proof of ours.
 use Rattle.std.proofs.Common.{ℕ, List, Bor, refl}
 use Rattle.esr_report.proofs.Joins.{one_more, all_joined}
 use Rattle.esr_report.proofs.lines.push_words.Goals as goal

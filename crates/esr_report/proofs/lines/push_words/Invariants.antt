@@ -1,4 +1,3 @@
--- What holds at each turn of the loop in `push_words`.
 use Rattle.std.proofs.Common.{◌≡◌, ℕ, List, ◌++◌, ◌∷◌, map, take, Bor}
 use Rattle.std.specs.List.{join_with_byte}
 use Rattle.esr_report.proofs.lines.push_words.Given as goal

@@ -1,4 +1,3 @@
--- Why `refusal_line` keeps its contract: the goals that are left to a proof of ours.
 use Rattle.std.proofs.Common.{rules}
 use Rattle.esr_report.proofs.lines.refusal_line.Goals as goal
 

@@ -1,4 +1,3 @@
--- Why `reply_line` keeps its contract: the goals that are left to a proof of ours.
 use Rattle.std.proofs.Common.{rules}
 use Rattle.esr_report.proofs.lines.reply_line.Goals as goal
 

@@ -1,4 +1,3 @@
--- Why `answer` keeps its contract: the goals that are left to a proof of ours.
 use Rattle.esr_script.proofs.Held.{answered_in_full, answered_unread}
 use Rattle.esr_script.proofs.answers.answer.Goals as goal
 

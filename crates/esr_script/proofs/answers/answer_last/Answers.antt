@@ -1,4 +1,3 @@
--- Why `answer_last` keeps its contract: the goals that are left to a proof of ours.
 use Rattle.std.proofs.Common.{Err}
 use Rattle.esr_script.specs.declared.fault.RunFault.TheVariants.{TooManyLines}
 use Rattle.esr_script.proofs.Held.{is_some, held_many, held_last, held_same}

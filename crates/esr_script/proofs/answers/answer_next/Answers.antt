@@ -1,4 +1,3 @@
--- Why `answer_next` keeps its contract: the goals that are left to a proof of ours.
 use Rattle.std.proofs.Common.{Err, inl, inr, refl, ap, ◌++◌}
 use Rattle.esr_script.proofs.Handed.{handed_on}
 use Rattle.esr_script.proofs.Held.{has_bytes, held_memory, held_long, held_many, held_full, held_same, some_gone}

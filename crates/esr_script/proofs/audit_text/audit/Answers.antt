@@ -1,4 +1,3 @@
--- Why `audit` keeps its contract: the goals that are left to a proof of ours.
 use Rattle.std.proofs.Common.{◌≡◌, [], ℕ, Vec, arith, rules}
 use Rattle.std.specs.declared.alloc.Global.{Global}
 use Rattle.esr_base.specs.Watch.{inner}

@@ -1,4 +1,3 @@
--- Why `prepare` keeps its contract: the goals that are left to a proof of ours.
 use Rattle.std.proofs.Common.{◌≡◌, IfOk, subst, sym, arith, Vec, ℕ}
 use Rattle.std.specs.declared.alloc.Global.{Global}
 use Rattle.esr_base.specs.Watch.{inner}

@@ -1,4 +1,3 @@
--- Why `bundle_line` keeps its contract: the goals that are left to a proof of ours.
 use Rattle.std.proofs.Common.{sym, subst}
 use Rattle.esr_cert.specs.Views.{certificate_of}
 use Rattle.esr_script.specs.Replays.{IsLineOf}

@@ -1,4 +1,3 @@
--- Why `certify` keeps its contract: the goals that are left to a proof of ours.
 use Rattle.esr_script.proofs.bundles.certify.Goals as goal
 
 -- by what the call ensures, and by nothing else

@@ -1,4 +1,3 @@
--- Why `answer_lines` keeps its contract: the goals that are left to a proof of ours.
 use Rattle.std.proofs.Common.{rules, ◌≡◌, [], ◌++◌, Err, inl, inr, length, arith, sym, ◌∙◌, ap, subst, refl}
 use Rattle.std.proofs.KnownBytes.{Appends-trans}
 use Rattle.esr_base.specs.Watch.{inner}

@@ -1,4 +1,3 @@
--- Why `send_all` keeps its contract: the goals that are left to a proof of ours.
 use Rattle.std.proofs.Common.{rules}
 use Rattle.esr_script.proofs.output.send_all.Goals as goal
 

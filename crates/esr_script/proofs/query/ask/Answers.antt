@@ -1,4 +1,3 @@
--- Why `ask` keeps its contract: the goals that are left to a proof of ours.
 use Rattle.std.proofs.Common.{arith}
 use Rattle.esr_base.specs.Watch.{inner}
 use Rattle.esr_script.proofs.Handed.{handed_on}

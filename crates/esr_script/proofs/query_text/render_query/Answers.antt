@@ -1,4 +1,3 @@
--- Why `render_query` keeps its contract: the goals that are left to a proof of ours.
 use Rattle.std.proofs.Common.{[], arith, rules}
 use Rattle.std.proofs.KnownBytes.{Appends-nil}
 use Rattle.esr_script.proofs.Handed.{handed_on}

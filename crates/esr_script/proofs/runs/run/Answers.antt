@@ -1,4 +1,3 @@
--- Why `run` keeps its contract: the goals that are left to a proof of ours.
 use Rattle.std.proofs.Common.{◌++◌, ◌∙◌, sym}
 use Rattle.std.proofs.KnownBytes.{Appends-trans}
 use Rattle.esr_script.proofs.runs.run.Goals as goal

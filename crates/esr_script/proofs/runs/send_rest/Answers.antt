@@ -1,4 +1,3 @@
--- Why `send_rest` keeps its contract: the goals that are left to a proof of ours.
 use Rattle.std.proofs.Common.{[], sym, subst, append-nil}
 use Rattle.std.proofs.KnownBytes.{Appends-nil}
 use Rattle.esr_script.specs.Parts.{is_read_fault, is_write_fault}

@@ -1,4 +1,3 @@
--- Why `text_about` keeps its contract: the goals that are left to a proof of ours.
 use Rattle.esr_script.proofs.script_text.text_about.Goals as goal
 
 pub returns-in-Ok-Some-clause-text : goal.returns-in-Ok-Some-clause-text

@@ -1,4 +1,3 @@
--- Why `push_all_fields` keeps its contract: the goals that are left to a proof of ours.
 use Rattle.std.proofs.Common.{◌∙◌, ℕ, List, Bor, ◌++◌, ap, map, take_all}
 use Rattle.esr_tables.specs.Csv.{separated}
 use Rattle.esr_tables.proofs.Texts.{field_more}

@@ -1,4 +1,3 @@
--- What holds at each turn of the loop in `push_all_fields`.
 use Rattle.std.proofs.Common.{◌≡◌, ◌++◌, ℕ, List, Bor, map, take}
 use Rattle.esr_tables.specs.Csv.{separated}
 use Rattle.esr_tables.proofs.csv.push_all_fields.Given as goal

@@ -1,4 +1,3 @@
--- Why `push_amounts` keeps its contract: the goals that are left to a proof of ours.
 use Rattle.esr_tables.proofs.csv.push_amounts.Goals as goal
 
 pub returns : goal.returns

@@ -1,4 +1,3 @@
--- Why `push_rows` keeps its contract: the goals that are left to a proof of ours.
 use Rattle.std.proofs.Common.{◌≡◌, arith}
 use Rattle.esr_items.specs.Weights.{weighted}
 use Rattle.esr_history.specs.BackLinks.{begun_count}

@@ -1,4 +1,3 @@
--- What holds at each turn of the loop in `push_rows`.
 use Rattle.std.proofs.Common.{◌≡◌, ◌++◌, map}
 use Rattle.std.specs.List.{flat_map, range_with_len}
 use Rattle.esr_items.specs.Weights.{weighted}

@@ -1,4 +1,3 @@
--- Why `row_line` keeps its contract: the goals that are left to a proof of ours.
 use Rattle.std.proofs.Common.{◌∷◌, [], decimal}
 use Rattle.esr_tables.specs.Csv.{amounts, end_word, kind_word, optional}
 use Rattle.esr_tables.proofs.Texts.{field_is, line_of_parts}

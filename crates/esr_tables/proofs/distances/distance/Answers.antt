@@ -1,4 +1,3 @@
--- Why `distance` keeps its contract: the goals that are left to a proof of ours.
 use Rattle.std.proofs.Common.{rules}
 use Rattle.esr_tables.proofs.Found.{distance_found, distance_missing}
 use Rattle.esr_tables.proofs.distances.distance.Goals as goal

@@ -1,4 +1,3 @@
--- Why `distance_at` keeps its contract: the goals that are left to a proof of ours.
 use Rattle.esr_items.specs.Weights.{weighted}
 use Rattle.esr_history.specs.BackLinks.{begun_count}
 use Rattle.esr_tables.specs.Rows.{distance_of}

@@ -1,4 +1,3 @@
--- What holds at each turn of the loop in `exports_in`.
 use Rattle.std.proofs.Common.{◌≡◌, map}
 use Rattle.std.specs.List.{range_with_len}
 use Rattle.esr_items.specs.Weights.{weighted}

@@ -1,4 +1,3 @@
--- Why `imports_nothing` keeps its contract: the goals that are left to a proof of ours.
 use Rattle.std.proofs.Common.{◌≡◌, ◌∙◌, ap, arith, sum_by, sym}
 use Rattle.std.specs.List.{range_with_len}
 use Rattle.esr_items.specs.Weights.{weighted}

@@ -1,4 +1,3 @@
--- What holds at each turn of the loop in `imports_nothing`.
 use Rattle.std.proofs.Common.{◌≡◌, sum_by}
 use Rattle.std.specs.List.{range_with_len}
 use Rattle.esr_items.specs.Weights.{weighted}

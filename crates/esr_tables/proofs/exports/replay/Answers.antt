@@ -1,4 +1,3 @@
--- Why `replay` keeps its contract: the goals that are left to a proof of ours.
 use Rattle.std.proofs.Common.{◌≡◌, ◌∙◌, ◌≤◌, List, ap, arith, length, take_all}
 use Rattle.esr_history.specs.declared.event.Entry.{Entry}
 use Rattle.esr_tables.proofs.exports.replay.Goals as goal

@@ -1,4 +1,3 @@
--- What holds at each turn of the loop in `replay`.
 use Rattle.std.proofs.Common.{◌≡◌}
 use Rattle.esr_explain.specs.Explain.{until}
 use Rattle.esr_tables.proofs.exports.replay.Given as goal

@@ -1,4 +1,3 @@
--- Why `replay_one` keeps its contract: the goals that are left to a proof of ours.
 use Rattle.std.proofs.Common.{◌≡◌, ◌∙◌, ap, sym, Some, slice_get}
 use Rattle.esr_explain.proofs.Replaying.{stepped}
 use Rattle.esr_tables.proofs.exports.replay_one.Goals as goal

@@ -1,4 +1,3 @@
--- What holds at each turn of the loop in `kinds`.
 use Rattle.std.proofs.Common.{◌≡◌, take}
 use Rattle.std.specs.List.{filter_map}
 use Rattle.esr_tables.specs.Entries.{kind_in}

@@ -1,4 +1,3 @@
--- Why `history_ledger` keeps its contract: the goals that are left to a proof of ours.
 use Rattle.std.proofs.Common.{ℕ, Vec}
 use Rattle.std.specs.declared.alloc.Global.{Global}
 use Rattle.esr_tables.specs.Spans.{first_of, last_of}

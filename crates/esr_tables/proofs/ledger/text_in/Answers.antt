@@ -1,4 +1,3 @@
--- Why `text_in` keeps its contract: the goals that are left to a proof of ours.
 use Rattle.std.proofs.Common.{ℕ, Vec, IfOk, subst, sym}
 use Rattle.std.specs.declared.alloc.Global.{Global}
 use Rattle.esr_tables.specs.declared.format.Format.{Format}

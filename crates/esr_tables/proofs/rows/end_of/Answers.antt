@@ -1,4 +1,3 @@
--- Why `end_of` keeps its contract: the goals that are left to a proof of ours.
 use Rattle.std.proofs.Common.{◌∙◌, ap, sym}
 use Rattle.esr_items.specs.Weights.{weighted}
 use Rattle.esr_tables.specs.Entries.{end_at}

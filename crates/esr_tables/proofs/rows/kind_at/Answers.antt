@@ -1,4 +1,3 @@
--- Why `kind_at` keeps its contract: the goals that are left to a proof of ours.
 use Rattle.std.proofs.Common.{◌∙◌, ◌-◌, ap, sym, unwrap_or}
 use Rattle.std.proofs.lemmas.Option.{slice_get_past, unwrap_or-slice_get}
 use Rattle.esr_tables.specs.declared.kinds.RowKind.TheVariants.{Update}

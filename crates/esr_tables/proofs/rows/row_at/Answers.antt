@@ -1,4 +1,3 @@
--- Why `row_at` keeps its contract: the goal that is left to a proof of ours.
 use Rattle.std.proofs.Common.{◌∙◌, ap}
 use Rattle.esr_items.specs.Weights.{weighted}
 use Rattle.esr_tables.specs.Rows.{row_of}

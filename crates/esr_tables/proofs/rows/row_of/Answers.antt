@@ -1,4 +1,3 @@
--- Why `row_of` keeps its contract: the goals that are left to a proof of ours.
 use Rattle.std.proofs.Common.{◌∙◌, sym, subst}
 use Rattle.esr_tables.specs.Entries.{AreTallies}
 use Rattle.esr_tables.proofs.Rowed.{row_there}

@@ -1,4 +1,3 @@
--- Why `count` keeps its contract: the goals that are left to a proof of ours.
 use Rattle.std.proofs.Common.{◌≡◌, ◌∙◌, ◌<◌, ◌∷◌, [], ◌++◌, ap, arith, get_or, length, sym, subst, slice_set}
 use Rattle.esr_tables.specs.declared.tallies.Tally.{Tally}
 use Rattle.esr_tables.specs.Entries.{AreTallies, with_answer}

@@ -1,4 +1,3 @@
--- Why `tallies` keeps its contract: the goals that are left to a proof of ours.
 use Rattle.std.proofs.Common.{◌≡◌, ◌∙◌, List, ap, sym, subst, arith, take, Some, slice_get}
 use Rattle.esr_history.specs.declared.event.Entry.{Entry}
 use Rattle.esr_tables.specs.Entries.{AreTallies}

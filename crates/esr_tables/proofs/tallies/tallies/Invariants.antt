@@ -1,4 +1,3 @@
--- What holds at each turn of the loop in `tallies`.
 use Rattle.std.proofs.Common.{◌<◌, length, take}
 use Rattle.esr_history.specs.BackLinks.{begun_count}
 use Rattle.esr_tables.specs.Entries.{AreTallies}

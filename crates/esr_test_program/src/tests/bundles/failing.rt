@@ -11,7 +11,7 @@ use std::process::Abort;
 
 const LINE: &str = "valid 2\n";
 
-/// Gives so many bytes that are no JSON.
+/// Yields `left` zero bytes, which are not JSON.
 #[derive(Drop)]
 struct Zeros {
     left: usize,
@@ -25,7 +25,7 @@ impl Read for Zeros {
     }
 }
 
-/// Of a reader that does not tell its bytes no clause says what is written: a verdict on half a bundle could be.
+/// No clause states what is written if the reader does not specify its bytes: it could be a verdict on half a bundle.
 #[test]
 fn each_read_fails_in_turn(rt: HostRuntime) {
     let alloc = rt.alloc();
@@ -38,7 +38,7 @@ fn each_read_fails_in_turn(rt: HostRuntime) {
     }
 }
 
-/// Whether the verdict is written by a writer that fails at this call.
+/// Returns whether the verdict is written by a writer that fails at this call.
 fn is_written(rt: &impl Abort, alloc: Global, left: usize) -> bool {
     let mut reader = Watched::new(BACK_FLOW.as_bytes());
     let mut writer = narrow_until(alloc, 3, left, Way::TakesNone);
@@ -59,7 +59,7 @@ fn each_write_fails_in_turn(rt: HostRuntime) {
     }
 }
 
-/// Of a device that does not tell its bytes no clause says how many are taken: an endless one could fill the memory.
+/// No clause bounds the bytes taken from a device that does not specify them: an endless one could fill the memory.
 #[test]
 fn too_many_bytes_are_not_judged(rt: HostRuntime) {
     let alloc = rt.alloc();

@@ -1,18 +1,18 @@
-//! Bytes that are no bundle.
+//! Bytes that do not form a bundle.
 
 use super::rows::TWO_UPDATES;
 use esr_bundle::{JudgeFault, Verdict, judge};
 use esr_history::Watched;
 use std::alloc::Global;
 
-/// What is judged of the bytes.
+/// Returns the verdict on the bytes.
 fn verdict_on(alloc: Global, bytes: &[u8]) -> Result<Verdict, JudgeFault> {
     let mut reader = Watched::new(bytes);
     let mut writer = Watched::new(Vec::new(alloc));
     judge(alloc, &mut reader, &mut writer)
 }
 
-/// What is JSON is a definition's: one that forgives a missing end would be proved, and take a cut file for whole.
+/// A definition specifies JSON: one that permits a missing end would be proved, and accept a truncated file.
 #[test]
 fn no_proper_prefix_is_json(rt: HostRuntime) {
     let bytes = TWO_UPDATES.as_bytes();
@@ -33,7 +33,7 @@ fn two_hundred_brackets_are_no_json(rt: HostRuntime) {
     assert!(rt; verdict_on(alloc, brackets.as_slice()) == Ok(Verdict::Bad(1)));
 }
 
-/// What is text is a definition's: one that passes over a byte of no text would be proved, and judge what is not there.
+/// A definition specifies text: one that skips an invalid byte would be proved, and judge a bundle that is not there.
 #[test]
 fn a_byte_that_is_no_text_is_no_json(rt: HostRuntime) {
     let alloc = rt.alloc();

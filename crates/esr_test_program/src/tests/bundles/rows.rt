@@ -1,4 +1,4 @@
-//! Worked bundles, each with a change and what is said of it.
+//! Worked bundles, each with a change and the verdict.
 
 /// Two updates over a report: the set holds both.
 pub const TWO_UPDATES: &str =
@@ -43,14 +43,14 @@ static ROWS: [Row; 44] = [
         new: r#""set":[1,0]"#,
         line: "invalid 1\n",
     },
-    // The set has a position at which there is no update.
+    // The set has a position without an update.
     Row {
         bundle: TWO_UPDATES,
         old: r#""set":[0,1]"#,
         new: r#""set":[0,2]"#,
         line: "invalid 2\n",
     },
-    // The set lacks an update that comes before one of its own.
+    // The set lacks a predecessor of one of its updates.
     Row {
         bundle: TWO_UPDATES,
         old: r#""set":[0,1]"#,
@@ -71,7 +71,7 @@ static ROWS: [Row; 44] = [
         new: r#""back_flow":[]"#,
         line: "invalid 4\n",
     },
-    // At an update more comes in than leaves.
+    // The flow into an update exceeds the flow out of it.
     Row {
         bundle: TWO_UPDATES,
         old: "[0,0,1],[1,0]",
@@ -92,14 +92,14 @@ static ROWS: [Row; 44] = [
         new: r#""set":[]"#,
         line: "invalid 6\n",
     },
-    // It is no JSON.
+    // It is not JSON.
     Row {
         bundle: TWO_UPDATES,
         old: "[2,3]}}",
         new: "[2,3]}",
         line: "bad 1\n",
     },
-    // Neighbours of a chain are no pair.
+    // Neighbours of a chain do not form a pair.
     Row {
         bundle: TWO_UPDATES,
         old: r#""before":[[0,1]]"#,
@@ -113,7 +113,7 @@ static ROWS: [Row; 44] = [
         new: r#""worth":-1"#,
         line: "bad 2\n",
     },
-    // 0 is no transaction.
+    // 0 is not a transaction.
     Row {
         bundle: TWO_UPDATES,
         old: "[2,3]}}",
@@ -127,7 +127,7 @@ static ROWS: [Row; 44] = [
         new: "[2000000000000000001,0]",
         line: "bad 3\n",
     },
-    // Pairs stand twice: the shape.
+    // Pairs occur twice: the shape.
     Row {
         bundle: TWO_UPDATES,
         old: r#""before":[[0,1]]"#,
@@ -141,7 +141,7 @@ static ROWS: [Row; 44] = [
         new: r#""before":[[0,1],[1,18446744073709551615]]"#,
         line: "bad 3\n",
     },
-    // One of more than 64 bits is no number of a bundle.
+    // A number of more than 64 bits is not permitted in a bundle.
     Row {
         bundle: TWO_UPDATES,
         old: r#""before":[[0,1]]"#,
@@ -176,7 +176,7 @@ static ROWS: [Row; 44] = [
         new: r#""set":[4294967295]"#,
         line: "invalid 2\n",
     },
-    // What has no name here is not passed over.
+    // An unknown field is not ignored.
     Row {
         bundle: TWO_UPDATES,
         old: r#""updates":[2,3]"#,
@@ -281,21 +281,21 @@ static ROWS: [Row; 44] = [
         new: r#""augmentations":0,"back_flow""#,
         line: "valid 0\n",
     },
-    // Where there is no arc there is none.
+    // Without an arc, the count of augmentations must be 0.
     Row {
         bundle: EMPTY,
         old: r#""back_flow""#,
         new: r#""augmentations":1,"back_flow""#,
         line: "invalid 7\n",
     },
-    // An empty list may stand there all the same.
+    // An empty list is permitted all the same.
     Row {
         bundle: EMPTY,
         old: r#""set""#,
         new: r#""must_flow":[],"set""#,
         line: "valid 0\n",
     },
-    // As it was written, with what a set has to hold.
+    // The bundle as written, with the required updates of a set.
     Row {
         bundle: STRICT,
         old: "",
@@ -316,7 +316,7 @@ static ROWS: [Row; 44] = [
         new: r#""must_flow":[]"#,
         line: "invalid 4\n",
     },
-    // Its amount is not what leaves there.
+    // Its amount differs from the flow out of the update.
     Row {
         bundle: STRICT,
         old: r#""must_flow":[5]"#,

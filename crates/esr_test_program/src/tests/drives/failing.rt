@@ -29,7 +29,7 @@ impl Read for Endless {
     }
 }
 
-/// Of a reader that does not tell its bytes no clause says what is written: the drive of half a file could be.
+/// No clause states what is written if the reader does not specify its bytes: it could be the drive of half a file.
 #[test]
 fn a_failed_read_leaves_nothing_written(rt: HostRuntime) {
     let alloc = rt.alloc();
@@ -58,7 +58,7 @@ fn a_failed_write_ends_the_text(rt: HostRuntime) {
     }
 }
 
-/// Of a device that does not tell its bytes no clause says how many are taken: this one could fill the memory first.
+/// No clause bounds the bytes taken from a device that does not specify them: this one could fill the memory first.
 #[test]
 fn a_stream_without_end_is_not_read_to_its_end(rt: HostRuntime) {
     let streams = [

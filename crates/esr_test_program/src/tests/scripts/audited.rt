@@ -17,7 +17,7 @@ static AUDITS: [(&str, &str); 7] = [
         "item a 1\nitem b 2\n",
         "order -\ntotals import 0 export 0 entries 0\n",
     ),
-    // An update without a query beside it is in the order, and has no audit.
+    // An update without a concurrent query is in the order, and has no audit.
     (
         "item a 100\nbegin u update 0\nwrite u a 105\nread u a\ncommit u\n",
         "order u\ntotals import 0 export 0 entries 4\n",
@@ -86,7 +86,7 @@ static AUDITS: [(&str, &str); 7] = [
     ),
 ];
 
-/// Audits a script by so many workers, and compares what is written.
+/// Audits a script with `workers` threads, and compares the output.
 fn audits<R: Abort + Threads + Sync>(
     rt: &R,
     alloc: Global,

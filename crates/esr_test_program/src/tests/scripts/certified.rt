@@ -43,7 +43,7 @@ const LITTLE: &str = "item a 7\n\
 
 /// Two scripts whose queries are not certified, with the fault that ends the run.
 static CUT_SHORT: [(&str, RunFault); 2] = [
-    // The query is committed, but the line behind it is too long.
+    // The query is committed, but the line after it is too long.
     (
         "item a 0\n\
             begin q query 9\n\
@@ -175,18 +175,18 @@ fn strict_report_is_certified(rt: HostRuntime) {
     );
 }
 
-/// The contract lets out of memory come in place of this refusal, whatever else the name stands for.
+/// The contract permits out of memory in place of this refusal, whatever else the name denotes.
 #[test]
 fn what_is_no_committed_query_is_refused(rt: HostRuntime) {
     let refused = Err(RunFault::NotACommittedQuery);
-    // The name of an item, a word that is no name, the name of an update, and a name in an empty script.
+    // The name of an item, a text that is not a name, the name of an update, and a name in an empty script.
     check_bundle(&rt, rt.alloc(), LITTLE, "a", false, refused, "");
     check_bundle(&rt, rt.alloc(), LITTLE, "no name", true, refused, "");
     check_bundle(&rt, rt.alloc(), THIRD_ITEM, "u1", false, refused, "");
     check_bundle(&rt, rt.alloc(), "", "q", false, refused, "");
 }
 
-/// The contract lets out of memory come in place of each fault: the one that ended the script has to be told.
+/// The contract permits out of memory in place of each fault: the fault that ended the script must be reported.
 #[test]
 fn nothing_is_written_after_a_fault(rt: HostRuntime) {
     for (script, fault) in &CUT_SHORT {
@@ -195,7 +195,7 @@ fn nothing_is_written_after_a_fault(rt: HostRuntime) {
     }
 }
 
-/// Of a reader that does not tell its bytes no clause says what is written: a bundle of half a script could be.
+/// No clause states what is written if the reader does not specify its bytes: it could be a bundle of half a script.
 #[test]
 fn each_read_fails_in_turn(rt: HostRuntime) {
     let alloc = rt.alloc();
@@ -208,7 +208,7 @@ fn each_read_fails_in_turn(rt: HostRuntime) {
     }
 }
 
-/// Whether the bundle is written by a writer that fails at this call.
+/// Returns whether the bundle is written by a writer that fails at this call.
 fn is_written(rt: &impl Abort, alloc: Global, left: usize, way: Way) -> bool {
     let mut reader = Watched::new(THIRD_ITEM.as_bytes());
     let mut writer = narrow_until(alloc, 3, left, way);

@@ -73,7 +73,7 @@ const TORN_EXPLAINED: &str = "read a 10 nearest 10 off 0\n\
         after u\n\
         distance 900 import 1800\n";
 
-// the values of the nearest placement are those after v and before w; what is read twice is told twice
+// the values of the nearest placement are those after v and before w; a repeated read is shown twice
 const BETWEEN: &str = "item a 1\n\
         item b 7\n\
         begin v update 9\n\
@@ -126,13 +126,15 @@ fn check_explanation(
     check_written(rt, &writer, text, name);
 }
 
-/// The lines are those of a definition: one that tells a charge's step, or what it left, an event late would be proved.
+/// A definition specifies the lines: one that shows a charge's step, or the rest of its limit, an event late would be
+/// proved.
 #[test]
 fn charges_of_the_bank_are_explained(rt: HostRuntime) {
     check_explanation(&rt, rt.alloc(), BANK, "report", Ok(()), BANK_EXPLAINED);
 }
 
-/// A definition could forget weights: values 2 apart are charged 1800 here; or what a strict report must be behind.
+/// A definition could omit weights: values 2 apart are charged 1800 here; or the updates that a strict report must
+/// follow.
 #[test]
 fn strict_and_weighted_queries_are_explained(rt: HostRuntime) {
     check_explanation(
@@ -150,14 +152,14 @@ fn strict_and_weighted_queries_are_explained(rt: HostRuntime) {
     check_explanation(&rt, rt.alloc(), WEIGHTED, "q", Ok(()), WEIGHTED_EXPLAINED);
 }
 
-/// A definition could set current values beside the reads, or tell one that is made twice once, and would be proved.
+/// A definition could show current values next to the reads, or show a repeated read once, and would be proved.
 #[test]
 fn reads_are_described_next_to_the_nearest_placement(rt: HostRuntime) {
     check_explanation(&rt, rt.alloc(), TORN, "q", Ok(()), TORN_EXPLAINED);
     check_explanation(&rt, rt.alloc(), BETWEEN, "q", Ok(()), BETWEEN_EXPLAINED);
 }
 
-/// The contract lets out of memory come in place of this refusal, also where the query is still active.
+/// The contract permits out of memory in place of this refusal, also if the query is still active.
 #[test]
 fn only_committed_queries_are_explained(rt: HostRuntime) {
     let none = Err(RunFault::NotACommittedQuery);

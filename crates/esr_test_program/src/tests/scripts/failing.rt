@@ -28,7 +28,7 @@ const SCRIPT: &str = "item a 100\nbegin u update 0\nhello\nwrite u a 105\nread u
 const TEXT: &str =
     "item a 100\nbegun u 1\nerror 1 not a command\nwrote u a 105\nu a 105\ncommitted u\n";
 
-/// How much text there is of the lines that are whole in so many bytes of the script.
+/// Returns the length of the output of the lines that are complete in the first `read` bytes of the script.
 fn count_written(read: usize) -> usize {
     let mut end: usize = 0;
     let mut written: usize = 0;
@@ -41,7 +41,7 @@ fn count_written(read: usize) -> usize {
     written
 }
 
-/// Of a reader that does not tell its bytes no clause says what is written: half a line could get an answer.
+/// No clause states what is written if the reader does not specify its bytes: half a line could get a reply.
 #[test]
 fn each_read_fails_in_turn(rt: HostRuntime) {
     let alloc = rt.alloc();
@@ -55,7 +55,7 @@ fn each_read_fails_in_turn(rt: HostRuntime) {
     }
 }
 
-/// Whether the run ends well over a writer that fails at this call.
+/// Returns whether the run ends well over a writer that fails at this call.
 fn is_written(rt: &impl Abort, alloc: Global, left: usize, way: Way) -> bool {
     let mut reader = Watched::new(SCRIPT.as_bytes());
     let mut writer = narrow_until(alloc, 3, left, way);
@@ -95,7 +95,7 @@ fn audit_by_two<T: Threads + Sync, R: Read, W: Write>(
     audit(rt, alloc, reader, writer, 2, &NoGate, &mut Unobserved)
 }
 
-/// Of a reader that does not tell its bytes no clause says what is written: the audit of half a script could be.
+/// No clause states what is written if the reader does not specify its bytes: it could be the audit of half a script.
 #[test]
 fn each_read_of_an_audit_fails_in_turn(rt: HostRuntime) {
     let alloc = rt.alloc();
@@ -108,7 +108,7 @@ fn each_read_of_an_audit_fails_in_turn(rt: HostRuntime) {
     }
 }
 
-/// Whether the audit ends well over a writer that fails at this call.
+/// Returns whether the audit ends well over a writer that fails at this call.
 fn audit_is_written<R: Abort + Threads + Sync>(
     rt: &R,
     alloc: Global,

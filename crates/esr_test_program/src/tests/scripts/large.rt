@@ -6,7 +6,7 @@ use esr_script::RunFault;
 use std::alloc::{AllocError, Global};
 use std::process::Abort;
 
-/// A head, a line so many times, and a tail.
+/// A head, a line repeated `count` times, and a tail.
 #[derive(Clone, Copy)]
 struct Long {
     head: &'static str,
@@ -15,7 +15,7 @@ struct Long {
     tail: &'static str,
 }
 
-/// A script, how it ends, and what it writes.
+/// A script, its result, and its output.
 struct Row {
     name: &'static str,
     script: Long,
@@ -144,7 +144,7 @@ fn written_out(alloc: Global, long: Long) -> Result<String, AllocError> {
     Ok(text)
 }
 
-/// Runs the scripts, and compares what is written with their texts.
+/// Runs the scripts, and compares their output with the texts.
 fn have_texts(rt: &impl Abort, alloc: Global, rows: &[Row]) {
     for row in rows {
         let script = written_out(alloc, row.script).expect(rt, "memory");
@@ -166,7 +166,7 @@ fn a_line_has_at_most_two_hundred_bytes(rt: HostRuntime) {
     have_texts(&rt, rt.alloc(), &ROWS[..2]);
 }
 
-/// What counts as a line is a definition's: one that counts an empty line behind the last line feed would be proved.
+/// A definition specifies lines: one that counts an empty line after the last line feed would be proved.
 #[test]
 fn there_are_at_most_two_million_lines(rt: HostRuntime) {
     have_texts(&rt, rt.alloc(), &ROWS[2..5]);
@@ -184,7 +184,7 @@ fn a_query_reads_at_most_a_thousand_times(rt: HostRuntime) {
     have_texts(&rt, rt.alloc(), &ROWS[6..]);
 }
 
-/// What a line of bytes that are no text is answered is a definition's: a run that ends there would be proved as well.
+/// A definition specifies the reply to a line that is not text: a run that ends there would be proved as well.
 #[test]
 fn bytes_that_are_no_text(rt: HostRuntime) {
     let script = b"item \xff 1\n\xc3\nitem a \x80\nitem a 1";
@@ -199,7 +199,7 @@ fn bytes_that_are_no_text(rt: HostRuntime) {
     );
 }
 
-/// The lines of so many numbers, and then others.
+/// Returns a line for each of the first `count` numbers, and then others.
 fn number_lines(
     alloc: Global,
     before: &str,
@@ -215,7 +215,7 @@ fn number_lines(
     Ok(script)
 }
 
-/// Runs a script to its end, and compares the end of what is written.
+/// Runs a script to its end, and compares the end of the output.
 fn ends_with(rt: &impl Abort, alloc: Global, script: &str, last: &str) {
     let mut reader = Watched::new(script.as_bytes());
     let mut writer = Watched::new(Vec::new(alloc));

@@ -1,4 +1,4 @@
-//! Scripts with the texts that they give.
+//! Scripts with their texts.
 
 use esr_script::RunFault;
 
@@ -14,7 +14,7 @@ pub fn table() -> &'static [Row] {
 }
 
 static ROWS: [Row; 39] = [
-    // Nothing asked, nothing answered, and no fault.
+    // No input, no output, and no fault.
     Row {
         name: "empty_input",
         script: "",
@@ -58,7 +58,7 @@ static ROWS: [Row; 39] = [
             committed u\n",
         ended: Ok(()),
     },
-    // An abort puts the committed value back, for whoever reads next.
+    // An abort restores the committed value for later reads.
     Row {
         name: "abort_puts_back",
         script: "item a 1\nbegin u update 0\nwrite u a 5\nabort u\nbegin v update 0\nread v a\n",
@@ -124,14 +124,14 @@ static ROWS: [Row; 39] = [
         text: "item a 1\nbegun u 1\nerror 1 not a command\n",
         ended: Ok(()),
     },
-    // A line that is no command closes nothing: items may still be declared.
+    // An invalid line closes nothing: items may still be declared.
     Row {
         name: "an_unknown_line_leaves_the_items_open",
         script: "item a 1\nhello\nitem b 2\nbegin u update 0\nitem c 3\n",
         text: "item a 1\nerror 1 not a command\nitem b 2\nbegun u 1\nerror 2 items are closed\n",
         ended: Ok(()),
     },
-    // The first command that is no item closes the items, whatever it is answered.
+    // The first command other than `item` closes the items, whatever its reply.
     Row {
         name: "any_other_command_closes_the_items",
         script: "item a 1\ncommit u\nitem b 2\nitem a 2\n",
@@ -141,7 +141,7 @@ static ROWS: [Row; 39] = [
             error 2 items are closed\n",
         ended: Ok(()),
     },
-    // Each fault of a declaration, and the lowest where several apply.
+    // Each fault of a declaration, and the lowest if several apply.
     Row {
         name: "items_at_fault",
         script: "item a 1000000000000\n\
@@ -156,7 +156,7 @@ static ROWS: [Row; 39] = [
             error 3 name in use\n",
         ended: Ok(()),
     },
-    // One spelling for each line: doubled blanks, tabs and carriage returns are none.
+    // Each line has a single form: doubled spaces, tabs and carriage returns are errors.
     Row {
         name: "blanks_and_endings",
         script: "item a 1\r\n\
@@ -180,7 +180,7 @@ static ROWS: [Row; 39] = [
             error 1 not a command\n",
         ended: Ok(()),
     },
-    // One spelling for each number: no leading zero, no sign of plus, no minus zero.
+    // Each number has a single form: no leading zero, no plus sign, no minus zero.
     Row {
         name: "numbers_that_are_no_spelling",
         script: "item a -0\n\
@@ -226,7 +226,7 @@ static ROWS: [Row; 39] = [
             error 1 not a command\n",
         ended: Ok(()),
     },
-    // A read whose charge alone would pass the import limit is refused, and changes nothing.
+    // A read whose charge alone would exceed the import limit is refused, and changes nothing.
     Row {
         name: "import_limit_reached_at_once",
         script: "item a 100\n\
@@ -264,7 +264,7 @@ static ROWS: [Row; 39] = [
             totals import 7 export 7 entries 5\n",
         ended: Ok(()),
     },
-    // An update's limit is on what it exports to all queries together.
+    // An update's limit bounds its exports to all queries together.
     Row {
         name: "export_limit_over_queries",
         script: "item a 0\n\
@@ -291,7 +291,7 @@ static ROWS: [Row; 39] = [
             totals import 15 export 15 entries 9\n",
         ended: Ok(()),
     },
-    // Where several reasons apply, the first of their order is told.
+    // If several reasons apply, the first in their order is reported.
     Row {
         name: "every_refusal_in_order",
         script: "item a 0\n\
@@ -322,7 +322,7 @@ static ROWS: [Row; 39] = [
             refused 1 no such transaction\n",
         ended: Ok(()),
     },
-    // Lines at fault, each with its own error, among lines that are answered.
+    // Lines with faults, each with its own error, among valid lines.
     Row {
         name: "lines_and_names",
         script: "item a 1\n\
@@ -346,7 +346,7 @@ static ROWS: [Row; 39] = [
             totals import 0 export 0 entries 2\n",
         ended: Ok(()),
     },
-    // A report reads what has not been committed, and the update commits.
+    // A report reads an uncommitted value, and the update commits.
     Row {
         name: "report_beside_a_writer",
         script: "item a 100\n\
@@ -369,7 +369,7 @@ static ROWS: [Row; 39] = [
             totals import 7 export 7 entries 6\n",
         ended: Ok(()),
     },
-    // A report read what was then taken back: no placement has it.
+    // A report read a value that was then undone: no placement has it.
     Row {
         name: "aborted_write_was_read",
         script: "item a 100\n\
@@ -442,7 +442,7 @@ static ROWS: [Row; 39] = [
             totals import 0 export 0 entries 7\n",
         ended: Ok(()),
     },
-    // The same on the side of the update.
+    // The export limit at the largest distance of two values.
     Row {
         name: "values_at_the_edge_of_the_export",
         script: "item a -1000000000000\n\
@@ -467,7 +467,7 @@ static ROWS: [Row; 39] = [
             totals import 0 export 0 entries 7\n",
         ended: Ok(()),
     },
-    // What was read is nearer to the state before an update than behind it.
+    // The value read is nearer to the state before an update than to the state after it.
     Row {
         name: "nearer_before_the_update",
         script: "item x 0\n\
@@ -494,7 +494,7 @@ static ROWS: [Row; 39] = [
             audit q distance 3 import 5 before -\n",
         ended: Ok(()),
     },
-    // Two sets cost the same: the smaller is told.
+    // Two sets cost the same: the smaller is reported.
     Row {
         name: "smaller_of_two_sets",
         script: "item a 0\n\
@@ -654,7 +654,7 @@ static ROWS: [Row; 39] = [
             error 1 not a command\n",
         ended: Ok(()),
     },
-    // The same with weights: charges and distances are multiplied.
+    // With weights, charges and distances are multiplied.
     Row {
         name: "weighted_report_beside_a_writer",
         script: "item a 100 weight 3\n\
@@ -677,7 +677,7 @@ static ROWS: [Row; 39] = [
             totals import 21 export 21 entries 6\n",
         ended: Ok(()),
     },
-    // A read of what was taken back, with a weight.
+    // A read of a write that is later undone, with a weight.
     Row {
         name: "weighted_aborted_write_was_read",
         script: "item a 100 weight 3\n\
@@ -736,7 +736,7 @@ static ROWS: [Row; 39] = [
             error 1 not a command\n",
         ended: Ok(()),
     },
-    // A report that is not strict may be placed before what had committed when it began.
+    // A report that is not strict may be placed before updates that committed before its begin.
     Row {
         name: "report_that_is_not_strict",
         script: "item a 0\n\
@@ -763,7 +763,7 @@ static ROWS: [Row; 39] = [
             audit q distance 0 import 5 before -\n",
         ended: Ok(()),
     },
-    // The same report, strict: it may not, and is off.
+    // The same report, strict: it must be placed after them, and is off.
     Row {
         name: "strict_report",
         script: "item a 0\n\
@@ -790,7 +790,7 @@ static ROWS: [Row; 39] = [
             audit q distance 5 import 5 before u\n",
         ended: Ok(()),
     },
-    // The word stands behind a query's limit, once.
+    // The word follows a query's limit, once.
     Row {
         name: "words_that_are_not_strict",
         script: "item a 0\n\

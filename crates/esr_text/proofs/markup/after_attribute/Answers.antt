@@ -1,4 +1,3 @@
--- Why `after_attribute` keeps its contract: the goals that are left to a proof of ours.
 use Rattle.std.proofs.Common.{Some, lit<}
 use Rattle.std.specs.Prelude.{codes}
 use Rattle.std.proofs.lemmas.Str.Pattern.{strip_prefix_char, split_text_parts, split_parts}

@@ -1,4 +1,3 @@
--- Why `after_end` keeps its contract: the goals that are left to a proof of ours.
 use Rattle.esr_text.proofs.Building.{closing}
 use Rattle.std.proofs.Common.{string_bytes}
 use Rattle.esr_text.proofs.markup.after_end.Goals as goal

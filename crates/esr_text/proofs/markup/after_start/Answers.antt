@@ -1,4 +1,3 @@
--- Why `after_start` keeps its contract: the goals that are left to a proof of ours.
 use Rattle.std.proofs.Common.{string_bytes, Some, lit<}
 use Rattle.std.proofs.lemmas.Str.Pattern.{strip_suffix_char}
 use Rattle.esr_text.proofs.Building.{single, starting}

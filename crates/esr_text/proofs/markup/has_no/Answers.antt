@@ -1,4 +1,3 @@
--- Why `has_no` keeps its contract: the goals that are left to a proof of ours.
 use Rattle.std.proofs.Common.{◌≡◌, true}
 use Rattle.std.proofs.lemmas.Str.Pattern.{contains_char}
 use Rattle.esr_text.proofs.markup.has_no.Goals as goal

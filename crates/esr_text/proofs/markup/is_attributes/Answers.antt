@@ -1,4 +1,3 @@
--- Why `is_attributes` keeps its contract: the goals that are left to a proof of ours.
 use Rattle.std.proofs.Common.{rules, ◌≡◌, true, sym, ◌∙◌}
 use Rattle.esr_text.proofs.Building.{none_of}
 use Rattle.esr_text.proofs.markup.is_attributes.Goals as goal

@@ -1,4 +1,3 @@
--- What holds at each turn of the loop in `is_attributes`.
 use Rattle.std.proofs.Common.{length}
 use denote.Text.{Utf8}
 use denote.Shadow.{shadow}

@@ -1,4 +1,3 @@
--- Why `is_end` keeps its contract: the goals that are left to a proof of ours.
 use Rattle.std.proofs.Common.{sym, ◌∙◌}
 use Rattle.esr_text.proofs.Building.{ending}
 use Rattle.esr_text.proofs.markup.is_end.Goals as goal

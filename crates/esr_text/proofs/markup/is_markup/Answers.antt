@@ -1,4 +1,3 @@
--- Why `is_markup` keeps its contract: the goals that are left to a proof of ours.
 use Rattle.std.proofs.Common.{rules, string_bytes}
 use Rattle.esr_text.proofs.Building.{continuing}
 use Rattle.esr_text.proofs.markup.is_markup.Goals as goal

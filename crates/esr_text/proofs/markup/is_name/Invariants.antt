@@ -1,4 +1,3 @@
--- What holds at each turn of the loop in `is_name`.
 use Rattle.std.proofs.Common.{ℕ, ◌<◌}
 use Rattle.std.specs.Prelude.{slice_index}
 use Rattle.esr_text.specs.Markup.{IsNameByte}

@@ -1,4 +1,3 @@
--- Why `markup_or_nothing` keeps its contract: the goals that are left to a proof of ours.
 use Rattle.std.proofs.Common.{string_bytes}
 use Rattle.esr_text.proofs.Building.{nothing}
 use Rattle.esr_text.proofs.markup.markup_or_nothing.Goals as goal

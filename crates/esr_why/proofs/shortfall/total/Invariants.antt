@@ -1,4 +1,3 @@
--- What holds at each turn of the loop in `total`.
 use Rattle.std.proofs.Common.{◌≡◌, ◌≤◌, ◌*◌, take, map, sum_by}
 use Rattle.esr_locks.specs.Rows.{query_and_count}
 use Rattle.esr_why.proofs.shortfall.total.Given as goal

@@ -1,4 +1,3 @@
--- What holds at each turn of the loop in `is_round`.
 use Rattle.std.proofs.Common.{◌≡◌, ◌∷◌, ◌++◌, [], take, map}
 use Rattle.esr_why.proofs.waits.is_round.Given as goal
 

@@ -1,4 +1,3 @@
--- Why `BlockProgressEventSource::on_reply` keeps its contract: the goals that are left to a proof of ours.
 use Rattle.std.proofs.Common.{◌≡◌, ◌+◌, ◌++◌, ◌∷◌, [], List, true, false, arith, sym, subst, ◌∙◌}
 use Rattle.esr_history.specs.declared.event.Reply.{Reply}
 use Rattle.esr_session.specs.Receipts.{is_blocked}

@@ -1,4 +1,3 @@
--- Why `ExplainingQueryView::text_of` keeps its contract: the goals that are left to a proof of ours.
 use Rattle.esr_explain.proofs.Sent.{explained_summary, audited_summary}
 use Rattle.esr_explain.proofs.query.ExplainingQueryView.text_of.Goals as goal
 

@@ -1,4 +1,3 @@
--- Why `Draft::add_begin` keeps its contract: the goals that are left to a proof of ours.
 use Rattle.std.proofs.Common.{rules}
 use Rattle.esr_plan.specs.declared.call.Call.TheVariants.{Begin}
 use Rattle.esr_plan.proofs.Adding.{begin_added, begins_name}

@@ -1,4 +1,3 @@
--- Why `Draft::add_item` keeps its contract: the goals that are left to a proof of ours.
 use Rattle.std.proofs.Common.{rules}
 use Rattle.esr_plan.proofs.Adding.{item_added}
 use Rattle.esr_plan.proofs.draft.Draft.add_item.Goals as goal

@@ -1,4 +1,3 @@
--- Why `Draft::add_operation` keeps its contract: the goals that are left to a proof of ours.
 use Rattle.std.proofs.Common.{rules}
 use Rattle.esr_plan.proofs.Adding.{operation_added}
 use Rattle.esr_plan.proofs.draft.Draft.add_operation.Goals as goal

@@ -1,4 +1,3 @@
--- Why `Draft::add_session` keeps its contract: the goals that are left to a proof of ours.
 use Rattle.std.proofs.Common.{rules}
 use Rattle.esr_plan.proofs.Adding.{opens_none, opens_some, session_after}
 use Rattle.esr_plan.proofs.draft.Draft.add_session.Goals as goal

@@ -1,4 +1,3 @@
--- Why `Draft::last_caller` keeps its contract: the goals that are left to a proof of ours.
 use Rattle.std.proofs.Common.{rules}
 use Rattle.esr_plan.specs.Drafts.{current_calls}
 use Rattle.esr_plan.proofs.Placing.{last_caller}

@@ -1,4 +1,3 @@
--- What holds at each turn of the loop in `BegunNames::note_block`.
 use Rattle.std.proofs.Common.{◌≡◌, ◌≤◌, length, drop}
 use Rattle.esr_plan.specs.Calls.{answers_of}
 use Rattle.esr_plan.specs.Tables.{names_in, noted}

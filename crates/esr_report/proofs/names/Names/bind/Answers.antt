@@ -1,4 +1,3 @@
--- Why `Names::bind` keeps its contract: the goals that are left to a proof of ours.
 use Rattle.std.proofs.Common.{◌≡◌, ℕ, ◌≤◌, ◌<◌, ◌^◌, length-append, List, length, ◌∙◌, sym, map, ap, ◌++◌, ◌∷◌, [], false, arith, rules, None, bytes_eq}
 use Rattle.arrayvec.specs.declared.array_string.ArrayString.{ArrayString}
 use Rattle.esr_report.specs.Names.{position_of}

@@ -1,4 +1,3 @@
--- Why `Names::number_of` keeps its contract: the goals that are left to a proof of ours.
 use Rattle.std.proofs.Common.{◌≡◌, sym, ◌∙◌, ap, None, arith}
 use Rattle.esr_report.specs.Names.{position_of}
 use Rattle.esr_report.specs.Keyed.{IsKeyOf}

@@ -1,4 +1,3 @@
--- Why `BundlingQueryView::text_of` keeps its contract: the goals that are left to a proof of ours.
 use Rattle.std.proofs.lemmas.Result.{IfOk-weaker}
 use Rattle.esr_script.proofs.Replays.{bundle_rendered}
 use Rattle.esr_script.proofs.bundles.BundlingQueryView.text_of.Goals as goal

@@ -1,4 +1,3 @@
--- Why `IndexedMachine::audit` keeps its contract: the goals that are left to a proof of ours.
 use Rattle.std.proofs.Common.{◌≡◌, ◌∙◌, Result, Ok, Err, OnOk, false, is_err, length, sym}
 use Rattle.esr_script.proofs.engine.IndexedMachine.audit.Goals as goal
 

@@ -1,4 +1,3 @@
--- Why `InputBuffer::fill` keeps its contract: the goals that are left to a proof of ours.
 use Rattle.std.proofs.Common.{refl, ◌∙◌, arith}
 use Rattle.esr_script.proofs.Buffers.{has_capacity, kept, filled}
 use Rattle.esr_script.proofs.input.InputBuffer.fill.Goals as goal

@@ -1,4 +1,3 @@
--- Why `Script::add_item` keeps its contract: the goals that are left to a proof of ours.
 use Rattle.std.proofs.Common.{rules}
 use Rattle.esr_script.proofs.script.Script.add_item.Goals as goal
 

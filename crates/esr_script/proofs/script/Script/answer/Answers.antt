@@ -1,4 +1,3 @@
--- Why `Script::answer` keeps its contract: the goals that are left to a proof of ours.
 use Rattle.esr_script.proofs.Unread.{passed}
 use Rattle.esr_script.proofs.script.Script.answer.Goals as goal
 

@@ -1,4 +1,3 @@
--- Why `Script::audit_all` keeps its contract: the goals that are left to a proof of ours.
 use Rattle.std.proofs.Common.{map, ◌∙◌}
 use Rattle.esr_audit.specs.Findings.{seen_summary}
 use Rattle.esr_script.specs.Stages.{is_running, history_of}

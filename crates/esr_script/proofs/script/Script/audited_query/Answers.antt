@@ -1,4 +1,3 @@
--- Why `Script::audited_query` keeps its contract: the goals that are left to a proof of ours.
 use Rattle.std.proofs.Common.{◌∙◌, ap, sym, subst}
 use Rattle.esr_views.specs.Ask.{IsFoundOf}
 use Rattle.esr_script.specs.Text.{ScriptState}

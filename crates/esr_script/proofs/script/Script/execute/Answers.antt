@@ -1,4 +1,3 @@
--- Why `Script::execute` keeps its contract: the goals that are left to a proof of ours.
 use Rattle.std.proofs.Common.{◌≡◌, ℤ, subst, w64, to_z-of_z, rules}
 use mir.Val.{to_z, of_z}
 use Rattle.esr_grammar.specs.Command as command

@@ -1,4 +1,3 @@
--- Why `Script::find` keeps its contract: the goals that are left to a proof of ours.
 use Rattle.esr_script.specs.Stages.{is_running, history_of}
 use Rattle.esr_script.proofs.Answering.{found_of}
 use Rattle.esr_script.proofs.script.Script.find.Goals as goal

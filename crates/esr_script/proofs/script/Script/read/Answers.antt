@@ -1,4 +1,3 @@
--- Why `Script::read` keeps its contract: the goals that are left to a proof of ours.
 use Rattle.std.proofs.Common.{ap₂, refl, pos}
 use Rattle.esr_history.specs.declared.event.Event.TheVariants.{Read}
 use Rattle.esr_report.specs.Lines.{Named}

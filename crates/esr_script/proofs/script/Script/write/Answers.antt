@@ -1,4 +1,3 @@
--- Why `Script::write` keeps its contract: the goals that are left to a proof of ours.
 use Rattle.std.proofs.Common.{◌≡◌, ◌∙◌, ap, ap₂, ℤ, w64, to_z-of_z}
 use mir.Val.{to_z, of_z}
 use Rattle.esr_history.specs.declared.event.Event.TheVariants.{Write}

@@ -1,4 +1,3 @@
--- Why `Stage::audit` keeps its contract: the goals that are left to a proof of ours.
 use Rattle.std.proofs.Common.{◌≡◌, IfOk, map, sym, ap, subst}
 use Rattle.esr_order.specs.Least.{least_set, least_cost}
 use Rattle.esr_items.specs.Weights.{weighted}

@@ -1,4 +1,3 @@
--- What holds at each turn of the loop in `a_patient_call_takes_its_turns`.
 use Rattle.std.proofs.Common.{[], map}
 use Rattle.esr_test_calls.proofs.tests.sessions.a_patient_call_takes_its_turns.Given as goal
 

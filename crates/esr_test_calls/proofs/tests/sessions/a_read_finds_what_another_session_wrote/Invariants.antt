@@ -1,4 +1,3 @@
--- What holds at each turn of the loop in `a_read_finds_what_another_session_wrote`.
 use Rattle.std.proofs.Common.{[], map}
 use Rattle.esr_test_calls.proofs.tests.sessions.a_read_finds_what_another_session_wrote.Given as goal
 

@@ -1,4 +1,3 @@
--- What holds at each turn of the loop in `each_call_is_made_once_more`.
 use Rattle.std.proofs.Common.{[], map}
 use Rattle.esr_test_calls.proofs.tests.sessions.each_call_is_made_once_more.Given as goal
 

@@ -1,4 +1,3 @@
--- What holds at each turn of the loop in `four_sessions`.
 use Rattle.std.proofs.Common.{[], map}
 use Rattle.esr_test_calls.proofs.tests.sessions.four_sessions.Given as goal
 

@@ -1,4 +1,3 @@
--- What holds at each turn of the loop in `Reporter::report_all`.
 use Rattle.std.proofs.Common.{◌≡◌, take}
 use Rattle.esr_why.specs.Replays.{until}
 use Rattle.esr_why.specs.Waits.{AreLastEntries}

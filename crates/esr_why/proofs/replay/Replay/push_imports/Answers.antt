@@ -1,4 +1,3 @@
--- Why `Replay::push_imports` keeps its contract: the goals that are left to a proof of ours.
 use Rattle.std.proofs.Common.{◌*◌, ℕ, arith}
 use Rattle.esr_items.specs.Weights.{weighted}
 use Rattle.esr_why.specs.Shortfalls.{import_lack}

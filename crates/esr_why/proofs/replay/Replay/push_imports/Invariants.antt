@@ -1,4 +1,3 @@
--- What holds at each turn of the loop in `Replay::push_imports`.
 use Rattle.std.proofs.Common.{◌≡◌, ◌*◌, ◌++◌, take, map, filter_map}
 use Rattle.esr_items.specs.Weights.{weighted}
 use Rattle.esr_locks.specs.Rows.{query_and_count}

@@ -1,4 +1,3 @@
--- Why `Replay::write_shortfalls` keeps its contract: the goals that are left to a proof of ours.
 use Rattle.std.proofs.Common.{◌≡◌, ◌∙◌, ◌++◌, ◌*◌, ◌≤◌, [], List, ℕ, ℤ, Option, ap, ap₂, sym, subst, map, filter_map, sum_by, w64, to_z, of_z}
 use Rattle.std.proofs.lemmas.Int.{to_z-of_z}
 use Rattle.esr_items.specs.Values.{IsValue, max_distance}

@@ -1,4 +1,3 @@
--- Why `LastEntries::note` keeps its contract: the goals that are left to a proof of ours.
 use Rattle.std.proofs.Common.{arith}
 use Rattle.esr_why.proofs.Waiting.{last_entries_none, last_entries_past, last_entries_some}
 use Rattle.esr_why.proofs.waits.LastEntries.note.Goals as goal
