@@ -90,7 +90,7 @@ pub findings_stay : (d : Distance) (h : Schedule) (r : Result Book AuditError)
     → IfOk r (IsBook d h)
     → IfOk r (λ b. (rest : List Entry) → IsLegal d (along h rest) → All (λ (f : Finding). IsAnswer d (along h rest) f.query.0 f.distance f.import (map (λ (t : TxnId). t.0) f.before.items)) b.findings.items)
 findings_stay d h (Err e) book = tt
-findings_stay d h (Ok b) book = findings_answer d h b.findings.items book.queries book.findings
+findings_stay d h (Ok b) book = findings_answer d h b.findings.items book.queries book.found
 
 -- the results of summaries are those of the findings
 abbrev IsAnswerIn : Distance → Schedule → ℕ × ℕ × ℕ × List ℕ → Type 0
@@ -102,8 +102,8 @@ pub summaries_stay : (d : Distance) (h : Schedule) (r : Result Summaries AuditEr
 summaries_stay d h (Err e) are = tt
 summaries_stay d h (Ok b) are = λ rest legal.
     each_of (IsAnswerIn d (along h rest)) b.summaries.items
-    (All-same (IsAnswerIn d (along h rest)) (map seen_summary b.summaries.items) (map summary are.findings) are.of_findings
-    (All-map (IsAnswerIn d (along h rest)) summary are.findings (findings_answer d h are.findings are.queries are.found rest legal)))
+    (All-same (IsAnswerIn d (along h rest)) (map seen_summary b.summaries.items) (map summary are.0) are.1.of_findings
+    (All-map (IsAnswerIn d (along h rest)) summary are.0 (findings_answer d h are.0 are.1.queries are.1.found rest legal)))
   where
     each_of : (P : ℕ × ℕ × ℕ × List ℕ → Type 0) (ss : List Summary) → All P (map seen_summary ss) → All (λ (s : Summary). P (seen_summary s)) ss
     each_of P [] a = All-nil (λ (s : Summary). P (seen_summary s))

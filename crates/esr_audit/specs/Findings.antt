@@ -82,20 +82,21 @@ seen_summary s = (s.query.0, s.distance, s.import, listed s.before)
 abbrev pub summary_of : Distance → Schedule → ℕ → ℕ × ℕ × ℕ × List ℕ
 summary_of d h q = (q, least_cost d h q, import_in (charges_in d h) q, least_set d h q)
 
--- the result of auditing a history: its committed updates, in commit order, and a finding of each committed query,
--- whose summary is the query's
-pub record IsBook (d : Distance) (h : Schedule) (b : Book) : Type 0 where
-  pub order : map (λ t. t.0) b.order.items ≡ committed_updates h
-  pub queries : map (λ f. f.query.0) b.findings.items ≡ committed_queries h
-  pub findings : All (IsFinding d h) b.findings.items
-  pub summaries : map summary b.findings.items ≡ map (summary_of d h) (committed_queries h)
-
--- the result of auditing a history, as summaries: its committed updates, in commit order, and the summaries of the
--- findings that a book has of the committed queries
-pub record AreSummaries (d : Distance) (h : Schedule) (s : Summaries) : Type 0 where
-  pub order : map (λ t. t.0) s.order.items ≡ committed_updates h
-  pub findings : List Finding
+-- The audits of a history: its committed updates in commit order, a finding of each committed query in commit order, and
+-- the results in short, which the history determines.
+pub record AreAudits (d : Distance) (h : Schedule) (updates : List ℕ) (findings : List Finding)
+    (results : List (ℕ × ℕ × ℕ × List ℕ)) : Type 0 where
+  pub order : updates ≡ committed_updates h
   pub queries : map (λ f. f.query.0) findings ≡ committed_queries h
   pub found : All (IsFinding d h) findings
-  pub of_findings : map seen_summary s.summaries.items ≡ map summary findings
-  pub summaries : map seen_summary s.summaries.items ≡ map (summary_of d h) (committed_queries h)
+  pub of_findings : results ≡ map summary findings
+  pub summaries : results ≡ map (summary_of d h) (committed_queries h)
+
+-- the audits as a book stores them, with all findings
+abbrev pub IsBook : Distance → Schedule → Book → Type 0
+IsBook d h b = AreAudits d h (map (λ t. t.0) b.order.items) b.findings.items (map summary b.findings.items)
+
+-- the audits as summaries store them, without their findings
+abbrev pub AreSummaries : Distance → Schedule → Summaries → Type 0
+AreSummaries d h s =
+    (findings : List Finding) × AreAudits d h (map (λ t. t.0) s.order.items) findings (map seen_summary s.summaries.items)

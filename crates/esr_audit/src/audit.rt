@@ -9,8 +9,7 @@ ghost use Rattle.esr_history.specs.Legal.{along};
 ghost use Rattle.esr_history.specs.Machine.{IsLegal, accepted_in};
 ghost use Rattle.esr_history.specs.Operations.{commit_order};
 ghost use Rattle.esr_history.specs.Queries.{is_committed_query};
-ghost use Rattle.esr_history.specs.Serial.{IsSerializable};
-ghost use Rattle.esr_history.specs.Totals.{IsWithinLimits};
+ghost use Rattle.esr_history.specs.Sound.{IsSound};
 ghost use Rattle.esr_cert.specs.Certificate.{Certifies};
 ghost use Rattle.esr_cert.specs.Problem.{in_set, IsSmallestLeast};
 ghost use Rattle.esr_cert.specs.Views.{certificate_of};
@@ -234,11 +233,8 @@ fn book_of<M: Metric>(alloc: Global, history: &History<M>) -> Result<Book, Audit
 ///
 /// # Errors
 /// `NoMemory` if an allocation failed.
-#[tactic(auto, using(esr_history::proofs::Laws::legal_serializable, esr_history::proofs::Charges::legal_within_limits))]
 pub fn audit_history<M: Metric>(alloc: Global, history: &History<M>) -> Result<Book, AuditError>
-    ensures legal { IsLegal M.distance_by history.now.schedule }
-    ensures serializable { IsSerializable history.now.schedule }
-    ensures limits { IsWithinLimits M.distance_by history.now.schedule }
+    ensures sound { IsSound M.distance_by history.now.schedule }
     ensures book { IfOk result (IsBook M.distance_by history.now.schedule) }
     ensures err { IfErr result (λ e. e ≡ AuditError.NoMemory) }
     ensures stays { IfOk result (λ b. (rest : List Entry) → IsLegal M.distance_by (along history.now.schedule rest)

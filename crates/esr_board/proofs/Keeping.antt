@@ -42,21 +42,24 @@ book_kept d h b order k =
     let found : All (IsFinding d h) b.findings.items = subst (All (IsFinding d h)) (sym same) k.found in record {
       order = order;
       queries = queries;
-      findings = found;
+      found = found;
+      of_findings = refl;
       summaries = all_summaries d h b.findings.items (committed_queries h) found queries;
     }
 
 -- if the values are summaries, they are those of the queries
 pub summaries_kept : (d : Distance) (h : Schedule) (s : Summaries) → map (λ (t : TxnId). t.0) s.order.items ≡ committed_updates h → KeepsFindings (λ (f : Finding) (x : Summary). seen_summary x ≡ summary f) d h (committed_queries h) s.summaries.items → AreSummaries d h s
 summaries_kept d h s order k =
-    let same = mapped k.findings s.summaries.items k.kept in record {
-      order = order;
-      findings = k.findings;
-      queries = k.queries;
-      found = k.found;
-      of_findings = same;
-      summaries = same ∙ all_summaries d h k.findings (committed_queries h) k.found k.queries;
-    }
+    let same = mapped k.findings s.summaries.items k.kept in (
+      k.findings,
+      record {
+        order = order;
+        queries = k.queries;
+        found = k.found;
+        of_findings = same;
+        summaries = same ∙ all_summaries d h k.findings (committed_queries h) k.found k.queries;
+      },
+    )
   where
     mapped : (fs : List Finding) (ss : List Summary) → AllZip (λ (f : Finding) (x : Summary). seen_summary x ≡ summary f) fs ss → map seen_summary ss ≡ map summary fs
     mapped [] [] a = refl

@@ -13,8 +13,8 @@ ghost use Rattle.std.specs.List.{AllZip};
 ghost use Rattle.esr_history.specs.declared.event.Entry.{Entry};
 ghost use Rattle.esr_history.specs.Legal.{along};
 ghost use Rattle.esr_history.specs.Machine.{IsLegal};
-ghost use Rattle.esr_history.specs.Serial.{IsSerializable, committed_updates};
-ghost use Rattle.esr_history.specs.Totals.{IsWithinLimits};
+ghost use Rattle.esr_history.specs.Serial.{committed_updates};
+ghost use Rattle.esr_history.specs.Sound.{IsSound};
 ghost use Rattle.esr_audit.specs.Findings.{IsAnswer, IsBook, AreSummaries, committed_queries};
 ghost use Rattle.esr_audit.specs.Stretches.{listed};
 ghost use Rattle.esr_order.specs.Index.{IsWholeIndexOf};
@@ -262,7 +262,6 @@ fn pages_by<M: Metric + Sync, R: Threads + Sync, G: Gate + Sync, T: From<Finding
 /// # Errors
 /// `WorkersOutOfRange` if and only if `workers` is not from 1 to 64. `NoMemory` if an allocation failed or a thread
 /// cannot be started.
-#[tactic(auto, using(esr_history::proofs::Laws::legal_serializable, esr_history::proofs::Charges::legal_within_limits))]
 pub fn audit_parallel<M: Metric + Sync, R: Threads + Sync, G: Gate + Sync>(
     rt: &R,
     alloc: Global,
@@ -270,9 +269,7 @@ pub fn audit_parallel<M: Metric + Sync, R: Threads + Sync, G: Gate + Sync>(
     workers: u64,
     gate: &G,
 ) -> Result<Book, AuditError>
-    ensures legal { IsLegal M.distance_by history.now.schedule }
-    ensures serializable { IsSerializable history.now.schedule }
-    ensures limits { IsWithinLimits M.distance_by history.now.schedule }
+    ensures sound { IsSound M.distance_by history.now.schedule }
     ensures book { IfOk result (IsBook M.distance_by history.now.schedule) }
     ensures workers { (result ≡ Err AuditError.WorkersOutOfRange) ↔ ((workers ≡ 0) ⊎ (MAX_SEATS < workers)) }
     ensures err { IfErr result (λ e. (e ≡ AuditError.NoMemory) ⊎ (e ≡ AuditError.WorkersOutOfRange)) }
@@ -295,7 +292,6 @@ pub fn audit_parallel<M: Metric + Sync, R: Threads + Sync, G: Gate + Sync>(
 ///
 /// # Errors
 /// Those of `audit_parallel`.
-#[tactic(auto, using(esr_history::proofs::Laws::legal_serializable, esr_history::proofs::Charges::legal_within_limits))]
 pub fn summarize_parallel<M: Metric + Sync, R: Threads + Sync, G: Gate + Sync>(
     rt: &R,
     alloc: Global,
@@ -303,9 +299,7 @@ pub fn summarize_parallel<M: Metric + Sync, R: Threads + Sync, G: Gate + Sync>(
     workers: u64,
     gate: &G,
 ) -> Result<Summaries, AuditError>
-    ensures legal { IsLegal M.distance_by history.now.schedule }
-    ensures serializable { IsSerializable history.now.schedule }
-    ensures limits { IsWithinLimits M.distance_by history.now.schedule }
+    ensures sound { IsSound M.distance_by history.now.schedule }
     ensures summaries { IfOk result (AreSummaries M.distance_by history.now.schedule) }
     ensures workers { (result ≡ Err AuditError.WorkersOutOfRange) ↔ ((workers ≡ 0) ⊎ (MAX_SEATS < workers)) }
     ensures err { IfErr result (λ e. (e ≡ AuditError.NoMemory) ⊎ (e ≡ AuditError.WorkersOutOfRange)) }

@@ -14,10 +14,8 @@ use Rattle.esr_history.specs.declared.event.Refusal.TheVariants.{BlockedByLock, 
 use Rattle.esr_history.specs.Events.{is_query_kind}
 use Rattle.esr_history.specs.Legal.{along}
 use Rattle.esr_history.specs.Machine.{Schedule, IsLegal, extended, reply_to}
-use Rattle.esr_history.specs.Queries.{ImportBoundsDistance}
 use Rattle.esr_history.specs.Refusals.{refusal_number}
-use Rattle.esr_history.specs.Serial.{IsSerializable}
-use Rattle.esr_history.specs.Totals.{IsWithinLimits, all_imports}
+use Rattle.esr_history.specs.Totals.{all_imports}
 use Rattle.esr_core.specs.Renewed.{committed_values, renewed, AreSerializableAsOne}
 use Rattle.esr_engine.specs.Accounts.{account_of}
 use Rattle.esr_engine.specs.ForUpdate.{after_for_update, no_pair, reply_for_update, IsPartlyDone}
@@ -113,13 +111,6 @@ AreValuesIn h count buffer = (take count buffer ≡ committed_values h) × (coun
 pub record IsRenewed (h : Schedule) : Type 0 where
   pub as_one : (later : List Entry) → IsLegal weighted (along (renewed h h.weights) later)
       → AreSerializableAsOne h (along (renewed h h.weights) later)
-
--- what holds of the history of an engine, at any time
-pub record IsSound (h : Schedule) : Type 0 where
-  pub legal : IsLegal weighted h
-  pub limits : IsWithinLimits weighted h
-  pub serializable : IsSerializable h
-  pub bounded : ImportBoundsDistance weighted h
 
 -- the number of each status
 abbrev pub status_number : Status → ℕ

@@ -8,9 +8,11 @@ ghost use Rattle.esr_base.specs.declared.limits.TheConstants.{MAX_ITEMS};
 ghost use Rattle.esr_items.specs.Values.{IsValue};
 ghost use Rattle.esr_items.specs.Weights.{IsWeight};
 ghost use Rattle.esr_history.specs.declared.event.Event.TheVariants.{Read, Write};
+ghost use Rattle.esr_items.specs.Weights.{weighted};
+ghost use Rattle.esr_history.specs.Sound.{IsSound};
 ghost use Rattle.esr_core.specs.Renewed.{has_active, renewed};
 ghost use Rattle.esr_engine.specs.ForUpdate.{after_for_update, no_pair, reply_for_update, IsPartlyDone};
-ghost use Rattle.esr_c.specs.Answers.{opened, reply_fields, status_number, IsEventCall, IsForUpdateCall, IsWeightedOpenStatus, IsRenewStatus, IsSound, IsRenewed};
+ghost use Rattle.esr_c.specs.Answers.{opened, reply_fields, status_number, IsEventCall, IsForUpdateCall, IsWeightedOpenStatus, IsRenewStatus, IsRenewed};
 
 use crate::handle::{EngineHandle, from_handle, into_handle, null_handle};
 use crate::reply::{EsrReply, to_reply};
@@ -306,7 +308,7 @@ pub(crate) fn renew_engine_aborting(alloc: Global, engine: &mut EmbeddedEngine) 
 
 /// Ends an engine, and drops its history.
 pub(crate) fn end(engine: Box<EmbeddedEngine, Global>)
-    ensures { IsSound engine.value }
+    ensures { IsSound weighted engine.value }
 {
     let _history = Box::into_inner(engine).close();
 }

@@ -16,13 +16,14 @@ ghost use Rattle.esr_history.specs.declared.event.Event.TheVariants.{BeginUpdate
 ghost use Rattle.esr_history.specs.Events.{is_begun};
 ghost use Rattle.esr_history.specs.Machine.{accepted_in};
 ghost use Rattle.esr_history.specs.Queries.{is_committed_query};
+ghost use Rattle.esr_history.specs.Sound.{IsSound};
 ghost use Rattle.esr_history.specs.Totals.{IsWithinLimits};
 ghost use Rattle.esr_core.specs.Renewed.{has_active, renewed};
 ghost use Rattle.esr_engine.specs.Capacity.{NeverStuck, counts_of};
 ghost use Rattle.esr_c.specs.Many.{AreAnswered, IsAnsweredStatus, IsEnd};
 ghost use Rattle.esr_picture.specs.Picture.{IsSvg};
 ghost use Rattle.esr_c.specs.Dumps.{AreNamed, IsExplanationOf, IsLedgerOf, IsScriptOf, IsScriptStatus, IsExplainStatus, IsTextInBuffer, IsTextLength, names_of};
-ghost use Rattle.esr_c.specs.Answers.{opened, IsEventCall, IsForUpdateCall, IsTotal, IsAccount, IsFound, IsCounted, IsBundleIn, IsBundleLong, AreValuesIn, IsRenewed, IsSound, IsOpenStatus, IsWeightedOpenStatus, IsRenewStatus, IsValuesStatus, IsAuditStatus, IsVerdictIn};
+ghost use Rattle.esr_c.specs.Answers.{opened, IsEventCall, IsForUpdateCall, IsTotal, IsAccount, IsFound, IsCounted, IsBundleIn, IsBundleLong, AreValuesIn, IsRenewed, IsOpenStatus, IsWeightedOpenStatus, IsRenewStatus, IsValuesStatus, IsAuditStatus, IsVerdictIn};
 
 mod account;
 mod audit;
@@ -591,7 +592,7 @@ pub extern "C" fn esr_renew_aborting(alloc: Global, engine: &mut EsrEngine) -> u
 #[unsafe(no_mangle)]
 pub extern "C" fn esr_close(alloc: Global, engine: &mut EsrEngine)
     ensures closed { engine.new.held.history ≡ None }
-    ensures sound { IfSome engine.old.held.history IsSound }
+    ensures sound { IfSome engine.old.held.history (IsSound weighted) }
 {
     if let Some(inner) = take_engine(alloc, engine) {
         end(inner);

@@ -11,8 +11,7 @@ ghost use Rattle.esr_items.specs.Weights.{IsWeight, weighted};
 ghost use Rattle.esr_history.specs.declared.event.Event.TheVariants.{Read, Write};
 ghost use Rattle.esr_history.specs.Events.{is_active};
 ghost use Rattle.esr_history.specs.Machine.{IsLegal, Schedule, accepted_in, extended, reply_to};
-ghost use Rattle.esr_history.specs.Queries.{ImportBoundsDistance};
-ghost use Rattle.esr_history.specs.Serial.{IsSerializable};
+ghost use Rattle.esr_history.specs.Sound.{IsSound};
 ghost use Rattle.esr_history.specs.Totals.{IsWithinLimits, all_imports, all_exports};
 ghost use Rattle.esr_order.specs.Index.{IsIndexOf};
 ghost use Rattle.esr_engine.specs.Capacity.{active_after, active_count, taken, transaction_count, is_end, is_full, NeverStuck, counts_of};
@@ -226,10 +225,7 @@ impl EmbeddedEngine {
     /// query was off by more than its import.
     pub fn close(self) -> History<Weighted>
         ensures schedule { result.schedule ≡ self }
-        ensures legal { IsLegal weighted self }
-        ensures limits { IsWithinLimits weighted self }
-        ensures serializable { IsSerializable self }
-        ensures bound { ImportBoundsDistance weighted self }
+        ensures sound { IsSound weighted self }
     {
         let EmbeddedEngine {
             machine,

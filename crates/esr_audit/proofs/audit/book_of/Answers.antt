@@ -16,6 +16,7 @@ returns-clause-book g c =
     let queries : map (λ (f : Finding). f.query.0) fs ≡ committed_queries h = mapped_twice (λ (t : TxnId). t.0) (λ (f : Finding). f.query) fs ∙ listed in record {
       order = search rules;
       queries = queries;
-      findings = c.in_ok-findings.ensures.findings;
+      found = c.in_ok-findings.ensures.findings;
+      of_findings = refl;
       summaries = all_summaries g.M.Metric.distance_by h fs (committed_queries h) c.in_ok-findings.ensures.findings queries;
     }

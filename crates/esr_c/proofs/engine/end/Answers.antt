@@ -1,8 +1,7 @@
 use Rattle.std.proofs.Common.{subst}
-use Rattle.esr_c.specs.Answers.{IsSound}
+use Rattle.esr_items.specs.Weights.{weighted}
+use Rattle.esr_history.specs.Sound.{IsSound}
 use Rattle.esr_c.proofs.engine.end.Goals as goal
 
 pub returns : goal.returns
-returns c =
-    let history = c.close-history.ensures in
-    subst IsSound c.into_inner.ensures (record { legal = history.legal; limits = history.limits; serializable = history.serializable; bounded = history.bound })
+returns c = subst (IsSound weighted) c.into_inner.ensures c.close-history.ensures.sound

@@ -10,7 +10,7 @@ same_end r all old a b is h = subst (λ (t : List ℕ). OnOk r (all ≡ old ++ t
 
 pub returns-in-Ok : goal.returns-in-Ok
 returns-in-Ok g c =
-    same_end _ _ _ _ _ (ap (flat_map (finding_text (names_in c.args.names.now))) (ap (map seen_summary) c.deref.ensures.value ∙ c.in-Ok.ensures.summaries.summaries)) c.push_summaries.ensures
+    same_end _ _ _ _ _ (ap (flat_map (finding_text (names_in c.args.names.now))) (ap (map seen_summary) c.deref.ensures.value ∙ c.in-Ok.ensures.summaries.1.summaries)) c.push_summaries.ensures
 
 pub returns-then-nothing : goal.returns-then-nothing
 returns-then-nothing g c =

@@ -10,5 +10,5 @@ returns-in-Ok-clause-ok g c =
     let lines = book_lines c.self.inside.items c.self.inside.transactions (is_running c.self.inside.stage)
     (history_of c.self.inside.stage) (history_of c.ensure_started.new.self) c.args.self.now
     (map (λ t. t.0) found.order.items) (map seen_summary found.summaries.items) totals.result.import totals.result.export totals.result.entries
-    c.self.view_is c.in_ok-ensure_started.ensures.ok.1 c.in_ok-found.ensures.summaries.order c.in_ok-found.ensures.summaries.summaries totals.ensures.import totals.ensures.export totals.ensures.entries in
+    c.self.view_is c.in_ok-ensure_started.ensures.ok.1 c.in_ok-found.ensures.summaries.1.order c.in_ok-found.ensures.summaries.1.summaries totals.ensures.import totals.ensures.export totals.ensures.entries in
     c.in-Ok.ensures ∙ rw c.new-out.ensures.items lines
