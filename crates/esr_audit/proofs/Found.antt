@@ -30,51 +30,58 @@ pub reads_inside : (d : Distance) (h : Schedule) (q : ℕ) → All IsValue h.ope
 reads_inside d h q opened legal =
     Each-filter (λ (o : Operation). o.item < length h.opening) (λ (o : Operation). not o.writes && eqb o.txn q) (operations h) (recursion_from_All (λ (o : Operation). o.item < length h.opening) (operations h) (legal_within_ranges d h opened legal).items)
 
-module _ (d : Distance) (h : Schedule) (q : ℕ) (opened : All IsValue h.opening) (legal : IsLegal d h) (bound : ImportBoundsDistance d h) (committed : IsTrue (is_committed_query h q)) where
-  pub answer_from : (p : Problem) (c : Certificate) → IsProblemOf d h q p → is_sound p ≡ true → Certifies p c → IsSmallestLeast p (in_set c.set)
-      → IsAnswer d h q c.worth (import_in (charges_in d h) q) (filter_map (slice_get p.updates) c.set)
-  answer_from p c of_query sound certified s =
-      let ok : IsProblem p = facts p sound in
-      let f : IsFaultless p c = faultless p c certified in
-      let dist : is_distinct p.updates ≡ true = (shape_facts p (and_parts _ _ sound).0).distinct in
-      let before : List ℕ = filter_map (slice_get p.updates) c.set in
-      let inside : AllByRecursion (λ (o : Operation). o.item < length h.opening) (reads_by h q) = reads_inside d h q opened legal in
-      let same : (u : ℕ) → u < size p → in_set c.set u ≡ passes_at p.updates (is_among before) u = λ u l. sym (passes_as_set p.updates dist c.set f.ascending f.known u l) in
-      let smallest : IsSmallestLeastSet d h q (is_among before) =
-      smallest_is_least d h q p of_query ok inside (is_among before) (known_at p.updates c.set) (smallest_same p ok (in_set c.set) (passes_at p.updates (is_among before)) same s) in
-      let costs : c.worth ≡ cost d h q (is_among before) =
-      cost_is p c f ∙ same_cost p ok (in_set c.set) (passes_at p.updates (is_among before)) same ∙ cost_is_distance d h q p of_query inside (is_among before) in
+-- A certificate of the problem that was built for a query.
+module _ (d : Distance) (h : Schedule) (q : ℕ) (opened : All IsValue h.opening) (legal : IsLegal d h) (p : Problem) (c : Certificate) (built : IsProblemOf d h q p) (sound : is_sound p ≡ true) (certified : Certifies p c) where
+  -- the certificate's set, as transactions
+  abbrev members : List ℕ
+  members = filter_map (slice_get p.updates) c.set
+
+  problem : IsProblem p
+  problem = facts p sound
+
+  faults : IsFaultless p c
+  faults = faultless p c certified
+
+  distinct : is_distinct p.updates ≡ true
+  distinct = (shape_facts p (and_parts _ _ sound).0).distinct
+
+  inside : AllByRecursion (λ (o : Operation). o.item < length h.opening) (reads_by h q)
+  inside = reads_inside d h q opened legal
+
+  same : (u : ℕ) → u < size p → in_set c.set u ≡ passes_at p.updates (is_among members) u
+  same u l = sym (passes_as_set p.updates distinct c.set faults.ascending faults.known u l)
+
+  costs : problems.cost p (in_set c.set) ≡ problems.cost p (passes_at p.updates (is_among members))
+  costs = same_cost p problem (in_set c.set) (passes_at p.updates (is_among members)) same
+
+  distance : c.worth ≡ cost d h q (is_among members)
+  distance = cost_is p c faults ∙ costs ∙ cost_is_distance d h q p built inside (is_among members)
+
+  least : IsLeastSet d h q (is_among members)
+  least =
+      closed_is_least d h q p built problem inside (is_among members) (known_at p.updates c.set)
+      (closed_same p problem (in_set c.set) (passes_at p.updates (is_among members)) same faults.closed)
+      (λ has closed. let l : c.worth ≤ problems.cost p has = worth_least p c sound certified has closed in omega (arith, l, costs, cost_is p c faults))
+
+  -- Any certificate shows the query's least distance, whichever of the sets of least cost it has.
+  pub certified_is_least : IsLeastDistance d h q c.worth
+  certified_is_least = let parts : ClosedSetsAreParts d h q = law_of_placements d h q legal in (parts.least c.worth).1 (is_among members, least, sym distance)
+
+  -- A certificate with the smallest set of least cost gives the audit's answer.
+  pub answer_from : ImportBoundsDistance d h → IsTrue (is_committed_query h q) → IsSmallestLeast p (in_set c.set) → IsAnswer d h q c.worth (import_in (charges_in d h) q) members
+  answer_from bound committed s =
+      let smallest : IsSmallestLeastSet d h q (is_among members) =
+      smallest_is_least d h q p built problem inside (is_among members) (known_at p.updates c.set) (smallest_same p problem (in_set c.set) (passes_at p.updates (is_among members)) same s) in
       let all_closed : IsClosed h q (λ u. true) = record { downward = λ u v cu cv b t. refl; holds_must = λ u m. refl } in
-      let parts : ClosedSetsAreParts d h q = law_of_placements d h q legal in
       record {
         committed = committed;
-        least = (parts.least c.worth).1 (is_among before, smallest.least, sym costs);
-        in_order = before_members p.updates dist c.set f.ascending f.known (updates_of h q) of_query.updates;
+        least = certified_is_least;
+        in_order = before_members p.updates distinct c.set faults.ascending faults.known (updates_of h q) built.updates;
         smallest = smallest;
-        distance_is = costs;
+        distance_is = distance;
         import_is = refl;
-        bounded = omega (arith, costs, smallest.least.none_less (λ u. true) all_closed, bound q committed);
+        bounded = omega (arith, distance, smallest.least.none_less (λ u. true) all_closed, bound q committed);
       }
-
--- Any certificate of the query's problem shows the query's least distance, whichever of the sets of least cost it has.
-module _ (d : Distance) (h : Schedule) (q : ℕ) (opened : All IsValue h.opening) (legal : IsLegal d h) where
-  pub certified_is_least : (p : Problem) (c : Certificate) → IsProblemOf d h q p → is_sound p ≡ true → Certifies p c
-      → IsLeastDistance d h q c.worth
-  certified_is_least p c of_query sound certified =
-      let ok : IsProblem p = facts p sound in
-      let f : IsFaultless p c = faultless p c certified in
-      let dist : is_distinct p.updates ≡ true = (shape_facts p (and_parts _ _ sound).0).distinct in
-      let before : List ℕ = filter_map (slice_get p.updates) c.set in
-      let inside : AllByRecursion (λ (o : Operation). o.item < length h.opening) (reads_by h q) = reads_inside d h q opened legal in
-      let same : (u : ℕ) → u < size p → in_set c.set u ≡ passes_at p.updates (is_among before) u = λ u l. sym (passes_as_set p.updates dist c.set f.ascending f.known u l) in
-      let costs : problems.cost p (in_set c.set) ≡ problems.cost p (passes_at p.updates (is_among before)) =
-      same_cost p ok (in_set c.set) (passes_at p.updates (is_among before)) same in
-      let least : IsLeastSet d h q (is_among before) =
-      closed_is_least d h q p of_query ok inside (is_among before) (known_at p.updates c.set)
-      (closed_same p ok (in_set c.set) (passes_at p.updates (is_among before)) same f.closed)
-      (λ has closed. let l : c.worth ≤ problems.cost p has = worth_least p c sound certified has closed in omega (arith, l, costs, cost_is p c f)) in
-      let parts : ClosedSetsAreParts d h q = law_of_placements d h q legal in
-      (parts.least c.worth).1 (is_among before, least, sym (cost_is p c f ∙ costs ∙ cost_is_distance d h q p of_query inside (is_among before)))
 
 -- the finding, with its list of updates
 pub found_of : (p : Problem) (us vs : List TxnId) → map (λ (t : TxnId). t.0) us ≡ p.updates → (set : List ℕ) → vs ≡ filter_map (slice_get us) set → map (λ (t : TxnId). t.0) vs ≡ filter_map (slice_get p.updates) set
