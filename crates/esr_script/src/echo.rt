@@ -20,7 +20,7 @@ pub enum Echo<'a> {
     Write(&'a [u8]),
 }
 
-/// Appends the reply to a write, whose words these are.
+/// Appends the reply to a write, given the words of its line.
 #[inline(always)]
 fn append_wrote(out: &mut Vec<u8>, words: &[u8]) -> Result<(), AllocError>
     ensures ok { OnOk result (out.new.items ≡ out.old.items ++ (codes "wrote " ++ (words.now ++ 10 ∷ []))) }
@@ -32,7 +32,7 @@ fn append_wrote(out: &mut Vec<u8>, words: &[u8]) -> Result<(), AllocError>
     Ok(())
 }
 
-/// Appends the reply to a read, whose words these are.
+/// Appends the reply to a read, given the words of its line.
 #[inline(always)]
 fn append_value(out: &mut Vec<u8>, words: &[u8], value: &[u8]) -> Result<(), AllocError>
     ensures ok { OnOk result (out.new.items ≡ out.old.items ++ (words.now ++ (32 ∷ (value.now ++ 10 ∷ [])))) }
@@ -59,7 +59,7 @@ fn whole(out: &mut Vec<u8>, mark: usize, appended: Result<(), AllocError>) -> Re
     appended
 }
 
-/// Appends the line of the machine's reply to an event that names the subject, whose words these are.
+/// Appends the line of the machine's reply to an event that names the subject, given the words of its line.
 #[inline(always)]
 pub fn push_reply(
     out: &mut Vec<u8>,
