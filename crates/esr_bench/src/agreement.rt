@@ -12,7 +12,7 @@ use std::alloc::Global;
 /// A problem has fewer updates than this.
 const UPDATES: u32 = 12;
 
-/// How many drafts were maximum flows, flows that were raised, and no flows.
+/// The numbers of drafts that were maximum flows, that were raised to one, and that were not flows.
 #[derive(Clone, Copy)]
 struct Outcomes {
     maximum: u64,
@@ -20,7 +20,7 @@ struct Outcomes {
     no_flow: u64,
 }
 
-/// Which pairs of updates a problem has: place u * UPDATES + v is that of u and v.
+/// The pairs of updates of a problem: place u * UPDATES + v is that of u and v.
 #[derive(Drop)]
 struct Pairs {
     marks: Vec<bool>,

@@ -22,7 +22,7 @@ explained h k items names q f r text found is same ok reported =
     subst (λ (x : Result (Vec ℕ Global) _). IfOk x (λ v. v.items ≡ explanation weighted k items names f.query.0)) ok (reported here) in
     text_is ∙ (ap (λ (s : Schedule). explanation weighted s items names f.query.0) same ∙ ap (explanation weighted h items names) is)
 
--- the explanation in the words of the history that the engine had before
+-- the explanation, from the history that the engine had before
 module _ (h : Schedule) (q : ℕ) (names : List ℕ) (items transactions : List (List ℕ)) (text : List ℕ) where
   at_first : names_of h names ≡ Some items → transactions ≡ transaction_names (transaction_count h) → text ≡ explanation weighted h items transactions q → IsExplanationOf h q names text
   at_first named numbered reported = record {

@@ -73,7 +73,7 @@ IsReply event old new reply =
 abbrev pub IsTotal : EsrTotals → Schedule → Type 0
 IsTotal t h = (t.high * 2 ^ 64 + t.low ≡ all_imports weighted h) × (t.entries ≡ length h.entries)
 
--- the answer of an audit, with the count of the updates before the position, which are listed
+-- the result of an audit, with the number of the updates before the position, which are listed
 abbrev pub IsFinding : Schedule → ℕ → EsrFinding → List ℕ → Type 0
 IsFinding h q f before = IsAnswer weighted h q f.distance f.import before × (f.count ≡ length before)
 
@@ -99,7 +99,7 @@ pub record IsBundleOf (h : Schedule) (q : ℕ) (bytes : List ℕ) : Type 0 where
 abbrev pub IsBundleIn : Schedule → ℕ → ℕ → List ℕ → Type 0
 IsBundleIn h q count buffer = IsBundleOf h q (take count buffer) × (count ≡ length (take count buffer))
 
--- such bytes are this many
+-- the length of such bytes
 abbrev pub IsBundleLong : Schedule → ℕ → ℕ → Type 0
 IsBundleLong h q count = (bytes : List ℕ) × IsBundleOf h q bytes × (count ≡ length bytes)
 

@@ -48,7 +48,7 @@ abbrev pub replies_to : Schedule → List Event → List Reply
 replies_to h [] = []
 replies_to h (e ∷ more) = reply_to weighted h e ∷ replies_to (after_one h e) more
 
--- none but the last is a refusal
+-- only the last may be a refusal
 abbrev pub none_refused_before : List Reply → Bool
 none_refused_before [] = true
 none_refused_before (r ∷ []) = true

@@ -15,8 +15,8 @@ use esr_engine::EmbeddedEngine;
 use esr_history::TxnId;
 use std::alloc::{AllocError, Global};
 
-/// What all queries have imported, which is what all updates have exported, as its high and its low 64 bits, and how
-/// many entries the history has.
+/// The imports of all queries together, which equal the exports of all updates, as the high and the low 64 bits, and
+/// the number of entries in the history.
 #[repr(C)]
 #[derive(Clone, Copy)]
 pub struct EsrTotals {
@@ -25,7 +25,7 @@ pub struct EsrTotals {
     pub entries: u64,
 }
 
-/// What an audit finds of a query: the least distance, its import, and how many updates are before the position.
+/// The finding of a query: its least distance, its import, and the number of updates before the position.
 #[repr(C)]
 #[derive(Clone, Copy)]
 pub struct EsrFinding {

@@ -12,8 +12,8 @@ use esr_engine::{EmbeddedEngine, Unanswered};
 use esr_history::{Event, Reply, TxnId};
 use esr_items::ItemId;
 
-/// An event: its kind (1 begins an update, 2 reads, 3 writes, 4 commits, 5 aborts, 6 begins a query, 7 a strict one), and
-/// what the kind has.
+/// An event: its kind (1 begins an update, 2 reads, 3 writes, 4 commits, 5 aborts, 6 begins a query, 7 a strict one),
+/// and the data of the kind.
 #[repr(C)]
 #[derive(Clone, Copy)]
 pub struct EsrEvent {

@@ -154,7 +154,7 @@ pub(crate) fn open(
     }
 }
 
-/// Tells a reply, or why there is none.
+/// Writes a reply, or returns the status of the failure.
 fn answer(answered: Result<Reply, Unanswered>, reply: &mut EsrReply) -> Status
     ensures ok { IfOk answered (λ r. (result ≡ Status.Done) × (reply.new ≡ reply_fields r)) }
     ensures full { result ≡ Status.Full ↔ IsErrOf answered Unanswered.Full }

@@ -1,4 +1,4 @@
--- The words of which the program finds no fault.
+-- Arguments in which the program finds no fault.
 use Rattle.std.proofs.Common.{◌≡◌, ◌∙◌, ◌≤◌, ◌||◌, ℕ, Bool, cond, codes, not, true, false, refl, sym, ap, subst, List, [], ◌∷◌, Option, Some, None, IsSomeAnd, ⊎_elim, ◌⊎◌, inl, inr, is_some, true≢false, arith, find, length, option_map, bytes_eq}
 use Rattle.std.specs.Option.{option_map_or}
 use Rattle.clap.proofs.ValueTestLemmas.{Accepts-accepts, accepts-Accepts}
@@ -303,11 +303,11 @@ faultless_requests words none =
     entered_requests end.stopped (walk_elsewhere shell.top (names_of shell) (walk_from nothing_held) given refl tt (first_none first _ none))
     (needs_one (finished shell.top.rules end.held) _ last) (first_none below _ after)
 
--- what clap says of the faults of a command that is the program
+-- the faults that clap reports for a command that is the program
 pub of_program : (P : Kinds → Type 0) (app : App) (words : List Text) → app ≡ program → (is_simple_and_free app ≡ true → P (fault_of app words)) → P (fault_of program words)
 of_program P app words is of_app = subst P (ap (λ a. fault_of a words) is) (of_app (ap is_simple_and_free is ∙ simple))
 
--- what clap says of its matches
+-- the matches that clap reports
 pub found_by_program : (app : App) (words : List Text) (m : ArgMatches) → app ≡ program → HasMatchesOf app words m → subcommand_rows_of m ≡ subcommand_of program words
 found_by_program app words m is has = (has (ap is_simple is ∙ known)).1 ∙ ap (λ a. subcommand_of a words) is
 

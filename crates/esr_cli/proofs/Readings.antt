@@ -1,4 +1,4 @@
--- What the getters of `clap` read.
+-- The results of `clap`'s getters.
 use Rattle.std.proofs.Common.{◌≡◌, ◌≢◌, ◌^◌, ◌<◌, ℕ, Bool, cond, codes, true, false, refl, ap, List, Option, Some, None, Result, Ok, Err, arith, option_and_then, bytes_eq}
 use Rattle.std.specs.Str.Parse.{IsNumeral, ParsesBool, ParsesUnsigned, digits_value, without_leading_plus}
 use Rattle.std.proofs.lemmas.Slice.Eq.{bytes_eq-Decides}

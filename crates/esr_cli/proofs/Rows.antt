@@ -1,4 +1,4 @@
--- Of words with no fault each value of an argument has passed the argument's parser.
+-- If the arguments have no fault, each value of an argument has passed the argument's parser.
 use Rattle.std.proofs.Common.{◌≡◌, ℕ, Bool, arith, cond, true, false, zero, suc, refl, sym, List, [], ◌∷◌, ◌++◌, length, Option, Some, None, IfSome, is_some, true≢false, fold, find, min, slice_get, ◌&&◌, ◌+◌, ◌||◌, drop, encode_utf8, ne_eqb, bytes_eq, chars}
 use Rattle.std.specs.Option.{option_map_or}
 use Rattle.clap.specs.Lexer.{long_of, short_of}

@@ -91,7 +91,7 @@ explain_in rows = option_map (λ name. explain name (flag_in (codes "prose") row
 abbrev pub check_in : List Row → RequestedTask
 check_in rows = check (first_of (codes "script") rows) (first_of (codes "query") rows) (flag_in (codes "verbose") rows)
 
--- when progress is shown; not to show it goes first
+-- when progress is shown; `--no-progress` takes precedence
 abbrev pub progress_in : List Row → Progress
 progress_in rows = if flag_in (codes "no-progress") rows then Never
     else (if flag_in (codes "progress") rows then Always else AtATerminal)
@@ -115,7 +115,7 @@ workers_in = count_in (codes "workers")
 abbrev pub drive_in : List Row → Option RequestedTask
 drive_in rows = option_map (λ workers. drive workers (flag_in (codes "as-script") rows)) (workers_in rows)
 
--- which interleavings are tried, and which is written
+-- the interleavings to run, and the one to write
 abbrev pub explore_in : List Row → RequestedTask
 explore_in rows = explore (count_in (codes "seeds") rows) (flag_in (codes "all") rows) (first_of (codes "worst") rows)
 

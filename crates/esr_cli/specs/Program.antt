@@ -48,7 +48,7 @@ seeds_rule = record (new_rule (codes "seeds")) {
 abbrev pub all_rule : Rule
 all_rule = record (new_rule (codes "all")) { long = Some (codes "all"); action = Some SetTrue }
 
--- what the worst interleaving is the worst by
+-- the measure of the worst interleaving
 abbrev pub worst_by_rule : Rule
 worst_by_rule = record (new_rule (codes "worst")) { long = Some (codes "worst"); value_names = 1 }
 

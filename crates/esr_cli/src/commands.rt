@@ -1,4 +1,4 @@
-//! The commands of the program `esr`, and what help says of each.
+//! The commands of the program `esr`, and their help texts.
 //!
 //! The contract states which commands, arguments and ranges `clap` gets, all at once. A function that takes both adds
 //! a command to the program, and each command is made with one `?`: if two commands are owned at once, each `?` may

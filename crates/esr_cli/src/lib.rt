@@ -85,7 +85,7 @@ pub enum Task<'a> {
     Lint,
 }
 
-/// How a table is written.
+/// The format of a table.
 #[derive(Clone, Copy, PartialEq, Eq)]
 pub enum Format {
     /// For people.

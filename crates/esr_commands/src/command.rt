@@ -43,7 +43,7 @@ pub trait Command {
         requires writer { failed writer.old ≡ false };
 }
 
-/// Writes the answers.
+/// Writes the replies.
 #[derive(Drop)]
 pub struct RunScript;
 

@@ -3,7 +3,7 @@
 use esr_cli::Progress;
 use std::io::IsTerminal;
 
-/// Which additional output goes to standard error.
+/// The additional output to standard error.
 #[derive(Clone, Copy)]
 pub struct Console {
     /// Whether a progress indicator is shown.

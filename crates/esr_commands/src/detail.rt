@@ -130,7 +130,7 @@ fn push_excess(
     push_counts(out, "required updates", must, flow)
 }
 
-/// What flows into an update, and out of it.
+/// The flow into an update, and out of it.
 #[derive(Clone, Copy)]
 struct Balance {
     into: u128,

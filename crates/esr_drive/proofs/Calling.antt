@@ -103,7 +103,7 @@ number_same calls replies name begin e is =
     same None = refl
     same (Some place) = reply_got calls replies place e
 
--- the event of a call is the one that the file says
+-- the event of a call is the one in the file
 pub event_resolved : (names : List (List ℕ)) (calls : List Call) (replies : List Reply) (c : Call) → length calls ≡ length replies → IsResolved names calls c
     → event_of names (answers_of calls replies) (command_of c) ≡ Some (event_by replies c)
 event_resolved names calls replies (call.Read txn x) e is =

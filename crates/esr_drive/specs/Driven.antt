@@ -1,4 +1,4 @@
--- What the engine of a drive leaves.
+-- The result of a drive's engine.
 use Rattle.std.specs.Prelude.{◌≡◌, ◌≤◌, ℕ, ℤ, List, All, Result, Ok, Err, length, map}
 use Rattle.esr_items.specs.Weights.{weighted}
 use Rattle.esr_base.specs.declared.limits.TheConstants.{MAX_ENTRIES}
@@ -29,7 +29,7 @@ pub record IsDriven (opening : List ℤ) (weights : List ℕ) (blocks : List (Li
       → AreBlocks names (all_answers blocks replies) receipts
   pub matching : Matches history.entries receipts
 
--- what the engine leaves of blocks, or the fault of the engine, or of memory
+-- the result of the engine after running blocks, or its fault, or out of memory
 abbrev pub DrivesTo : List ℤ → List ℕ → List (List Call) → Result Driven DriveFault → Type 0
 DrivesTo opening weights blocks (Ok d) =
     IsDriven opening weights blocks d.history.schedule (map (λ r. r.items) d.replies.items)

@@ -8,7 +8,7 @@ use Rattle.esr_plan.specs.Plan.{Plan, plan_of}
 use Rattle.esr_plan.specs.declared.fault.DriveFault.{DriveFault}
 use Rattle.esr_plan.specs.declared.fault.DriveFault.TheVariants as fault
 
--- the faults of the engine, and of memory
+-- the faults of the engine, and out of memory
 abbrev pub is_engine_fault : DriveFault → Bool
 is_engine_fault fault.NoMemory = true
 is_engine_fault fault.HistoryFull = true
@@ -19,7 +19,7 @@ is_engine_fault _ = false
 abbrev pub CanFill : {X : Type 0} → List (List X) → Type 0
 CanFill blocks = MAX_ENTRIES ≤ 100 * sum_by length blocks
 
--- a fault of the engine that runs these blocks, or of memory
+-- a fault of the engine that runs these blocks, or out of memory
 abbrev pub IsEngineFault : {X : Type 0} → List (List X) → DriveFault → Type 0
 IsEngineFault blocks fault.NoMemory = Unit {0}
 IsEngineFault blocks fault.HistoryFull = CanFill blocks

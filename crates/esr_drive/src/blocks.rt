@@ -17,7 +17,7 @@ use std::sync::Wait;
 use std::sync::ledger::Blank;
 use std::thread::Threads;
 
-/// What the engine leaves: the history with its totals, and the last replies of each block.
+/// The result of the engine: the history with its totals, and the last replies of each block.
 #[derive(Drop)]
 pub struct Driven {
     pub history: History<Weighted>,

@@ -1,4 +1,5 @@
-//! What workers find of the queries, as text. Of each finding a worker keeps its summary alone, of which the line is made.
+//! The workers' findings of the queries, as text. A worker keeps only the summary of each finding, from which the
+//! line is made.
 //!
 //! An audit begins with an index of the whole history, a twentieth of a drive. If no query has committed there is
 //! nothing to find, and no index is made.

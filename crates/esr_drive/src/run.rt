@@ -24,7 +24,7 @@ use esr_session::{EventSource, Naming, Receipt, Session, is_blocked};
 use std::alloc::{AllocError, Global};
 use std::sync::Wait;
 
-/// The most calls for one line.
+/// The maximum number of calls for one line.
 const TURNS: u32 = 100;
 
 /// The maximum number of lines that a block executes in one hold of the lock.

@@ -1,5 +1,5 @@
--- Why the script's lines are read back as the history's entries: names by numbers, a line for each entry, and the
--- run over all of them.
+-- The script's lines are parsed as the history's entries: names by numbers, a line for each entry, and the run over
+-- all of them.
 
 pub mod Numbers
 pub mod Tables

@@ -1,4 +1,4 @@
--- Names by numbers: none is another.
+-- Names by numbers are distinct.
 use Rattle.std.proofs.Common.{◌≡◌, ◌≢◌, ℕ, ◌+◌, ◌<◌, ◌^◌, List, [], false, cond, Some, None, inl, inr, refl, ◌∙◌, ap, arith, length, decimal, bytes_eq, le-ltb}
 use Rattle.std.specs.List.{position_or_len}
 use Rattle.std.proofs.lemmas.Bool.{cases_Bool}
@@ -19,7 +19,7 @@ differs word m n lm ln other = elim (cases_Bool (bytes_eq (numbered word m) (num
   | inr apart ↦ apart
 ]
 
--- the next number's name is none of those before
+-- the next number's name differs from those before
 pub unbound : (word : List ℕ) (first count : ℕ) → first + count < 2 ^ 32 → position_of (all_numbered word first count) (numbered word (first + count)) ≡ None
 unbound word first count fits =
     let names = all_numbered word first count in

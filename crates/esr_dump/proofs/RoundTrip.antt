@@ -302,7 +302,7 @@ module _ (items transactions : List (List ℕ)) (h : Schedule) (names : AreNames
         same_answers = kept_legal weighted (empty_schedule h) (empty_schedule h) h.entries legal refl refl refl;
       }
 
--- what holds of the text holds of the bytes
+-- a property of the text holds of the bytes
 pub carried : {V E : Type 0} (bytes : V → List ℕ) (P : List ℕ → Type 0) (text : List ℕ) (r : Result V E) → IfOk r (λ v. bytes v ≡ text) → P text → IfOk r (λ v. P (bytes v))
 carried bytes P text (Ok v) is p = subst P (sym is) p
 carried bytes P text (Err e) is p = tt

@@ -1,4 +1,4 @@
--- What keeps words from being a table of names.
+-- The defects by which words fail to form a table of names.
 use Rattle.std.proofs.Common.{◌≡◌, ℕ, zero, suc, ◌+◌, ◌<◌, List, [], ◌∷◌, ◌++◌, Bool, true, false, not, ◌&&◌, cond, bytes_eq, Option, Some, None, is_some, inl, inr, refl, ◌∙◌, ap, sym, arith, length, get_or, take, map}
 use Rattle.std.specs.Borrow.{Bor}
 use Rattle.std.specs.List.{list_all}

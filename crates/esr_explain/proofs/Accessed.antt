@@ -66,7 +66,7 @@ pub put_all_length : (vs : List ℤ) (xs : List Access) → length (put_all vs x
 put_all_length vs [] = refl
 put_all_length vs (a ∷ xs) = put_all_length (put vs a) xs ∙ put_length vs a
 
--- the value of item x after some accesses is the last that they put there
+-- the value of item x after some accesses is the last that they write there
 pub put_all_value : (xs : List Access) (vs : List ℤ) (x : ℕ) → x < length vs → value_at (put_all vs xs) x ≡ last_value (value_at vs x) (filter_map (put_in x) xs)
 put_all_value [] vs x l = refl
 put_all_value (a ∷ xs) vs x l =
@@ -88,7 +88,7 @@ put_append vs (a ∷ xs) bs = put_append (put vs a) xs bs
 pub put_more : (vs : List ℤ) (xs : List Access) (k : ℕ) (d : Access) → k < length xs → put_all vs (take (k + 1) xs) ≡ put (put_all vs (take k xs)) (get_or xs k d)
 put_more vs xs k d l = ap (put_all vs) (take_more xs k d l) ∙ put_append vs (take k xs) (get_or xs k d ∷ [])
 
--- what the accesses of one update more leave
+-- the effect of one more update's accesses
 pub put_update : (h : Schedule) (us : List TxnId) (k : ℕ) (d : TxnId) → k < length us
     → put_all (put_all h.opening (flat_map (accesses_in h.entries) (map (λ (t : TxnId). t.0) (take k us)))) (accesses_in h.entries (get_or us k d).0)
     ≡ put_all h.opening (flat_map (accesses_in h.entries) (map (λ (t : TxnId). t.0) (take (k + 1) us)))
@@ -101,7 +101,7 @@ put_update h us k d l =
     ∙ (sym (flat_map-append A before (u.0 ∷ []))
     ∙ ap (flat_map A) (sym (map-append (λ (t : TxnId). t.0) (take k us) (u ∷ [])) ∙ ap (map (λ (t : TxnId). t.0)) (sym (take_more us k d l)))))
 
--- what one access more leaves
+-- the effect of one more access
 pub put_one : (vs : List ℤ) (a : Access) → a.writes ≡ true → set vs a.item.0 a.value ≡ put vs a
 put_one vs a w = sym (ap (λ (b : Bool). if b then set vs a.item.0 a.value else vs) w)
 
@@ -170,7 +170,7 @@ module _ (d : Distance) (h : Schedule) (opened : All IsValue h.opening) (legal :
   pub accesses_valued : (t : ℕ) → All (λ (a : Access). IsValue a.value) (accesses_in h.entries t)
   accesses_valued t = grind (arith, All-from_recursion, accesses_inside t)
 
-  -- what updates leave are values
+  -- the values after updates are in range
   pub left_in_range : (us : List ℕ) (x : ℕ) → IsValue (value_at (put_all h.opening (flat_map (accesses_in h.entries) us)) x)
   left_in_range us x = ⊎_elim
       (λ l. subst IsValue (sym (left_by h us x l)) (state_in_range h (legal_within_ranges d h opened legal) opened us x))

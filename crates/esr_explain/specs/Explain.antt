@@ -50,7 +50,7 @@ others h q us = filter (λ u. not (is_among us u)) (updates_of h q)
 abbrev pub until : ℕ → Schedule → Schedule
 until i h = record h { entries = take i h.entries }
 
--- what q had imported by then, and what u had exported
+-- the import of q by then, and the export of u
 abbrev pub imported : Distance → Schedule → ℕ → ℕ → ℕ
 imported d h q i = import_in (charges_in d (until i h)) q
 

@@ -1,4 +1,4 @@
--- What explaining a query of a script writes.
+-- The output of explaining a query of a script.
 use Rattle.std.specs.Prelude.{ℕ, List}
 use Rattle.esr_items.specs.Weights.{weighted}
 use Rattle.esr_views.specs.State.{ScriptState, transaction_called}

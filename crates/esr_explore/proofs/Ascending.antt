@@ -74,7 +74,7 @@ greatest_ascending : (ns : List ℕ) → greatest (ascending ns) ≡ greatest ns
 greatest_ascending [] = refl
 greatest_ascending (n ∷ ns) = omega (arith, greatest_placed n (ascending ns), greatest_ascending ns)
 
--- how far numbers are below one above n, in all
+-- the sum of the distances by which numbers are below one above n
 abbrev below : ℕ → List ℕ → ℕ
 below n ns = sum_by (λ m. (n + 1) - m) ns
 

@@ -22,7 +22,7 @@ drawn_none counts left is = record {
   lines = λ block. omega (arith, ap (λ (l : List ℕ). lines_of l block) is);
 }
 
--- how often a block occurs in a list of one block
+-- the number of times that a block occurs in a list of one block
 abbrev once : ℕ → ℕ → ℕ
 once block b = cond (b == block) 1 0
 

@@ -50,7 +50,7 @@ step counts turns order is k lt =
     let here : Contains (longer_by counts before b) (take (suc k) order) = rw good (0, omega arith, sym more) in
     in_flat (longer_by counts before) (range_with_len 0 (length counts)) b (take (suc k) order) (in_range (length counts) b (within counts b (omega (arith, left)))) here
 
--- what an order begins with is among the first turns
+-- a prefix of an order is among the first turns
 reach : (counts : List ℕ) (turns : ℕ) (order : List ℕ) → IsOrder counts turns order → (k : ℕ) → k ≤ length order → Contains (first_turns counts k) (take k order)
 reach counts turns order is zero le = (0, omega arith, refl)
 reach counts turns order is (suc k) le =

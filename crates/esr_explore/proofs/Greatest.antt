@@ -1,4 +1,4 @@
--- The greatest of numbers that are read one after another, and the place of the first such.
+-- The greatest of numbers that are read one after another, and its first place.
 use Rattle.std.proofs.Common.{◌≡◌, ℕ, ◌+◌, ◌<◌, ◌≤◌, ◌==◌, List, [], ◌∷◌, ◌++◌, max, refl, ◌∙◌, ap, sym, arith, inl, inr, get_or, length, length-take-le, map, subst, take}
 use Rattle.std.proofs.lemmas.Bool.{cases_lt}
 use Rattle.std.proofs.lemmas.Bool.Decides.{nat_tests}

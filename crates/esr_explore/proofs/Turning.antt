@@ -37,7 +37,7 @@ pub one_new_runner : (n : ℕ) (rs new : List RunnerView) (r : RunnerView)
 one_new_runner n rs new r rs_is r_is new_is =
     new_is ∙ (ap₂ (λ (l : List RunnerView) (one : RunnerView). l ++ one ∷ []) rs_is r_is ∙ sym (map-range_with_len_more (λ _. fresh) 0 n n (omega arith)))
 
--- how a run begins
+-- the start of a run
 pub started : (opening : List ℤ) (weights : List ℕ) (blocks : List (List Call)) (h : Schedule) (rs : List RunnerView) (n : ℕ)
     → h ≡ (begun opening weights blocks).history → rs ≡ map (λ _. fresh) (range_with_len 0 n) → n ≡ length blocks → stage h rs ≡ begun opening weights blocks
 started opening weights blocks h rs n h_is rs_is n_is = ap₂ stage h_is (rs_is ∙ ap (λ (m : ℕ). map (λ _. fresh) (range_with_len 0 m)) n_is)

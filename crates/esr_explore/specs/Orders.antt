@@ -2,11 +2,11 @@
 use Rattle.std.specs.Prelude.{◌≡◌, ◌<◌, ◌≤◌, ℕ, zero, suc, ◌==◌, List, [], ◌∷◌, ◌++◌, cond, length, flat_map, count_by, nat_lt, slice_index_or}
 use Rattle.std.specs.List.{range_with_len}
 
--- how often a block occurs in an order
+-- the number of a block's turns in an order
 abbrev pub turns_of : ℕ → List ℕ → ℕ
 turns_of block order = count_by (λ b. b == block) order
 
--- how many lines a block has
+-- the number of lines in a block
 abbrev pub lines_of : List ℕ → ℕ → ℕ
 lines_of counts block = slice_index_or counts block 0
 

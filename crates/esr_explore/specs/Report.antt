@@ -15,7 +15,7 @@ count_text word count = word ++ decimal count
 abbrev pub spread_text : List ℕ → List ℕ → List ℕ
 spread_text word numbers = word ++ count_text (codes " max ") (greatest numbers) ++ count_text (codes " median ") (median numbers)
 
--- how many interleavings there are, if that is at most 10^18
+-- the number of interleavings, if it is at most 10^18
 abbrev pub total_text : Option ℕ → List ℕ
 total_text (Some count) = count_text (codes " of ") count
 total_text None = codes " of more than 1000000000000000000"
@@ -23,7 +23,7 @@ total_text None = codes " of more than 1000000000000000000"
 abbrev pub head_line : (runs : ℕ) → (total : Option ℕ) → List ℕ
 head_line runs total = count_text (codes "interleavings ") runs ++ total_text total ++ codes "\n"
 
--- how often the lines of a block were blocked, and in how many runs one was given up
+-- the number of times that the lines of a block were blocked, and the number of runs in which one was given up
 abbrev pub block_line : List RunSummary → ℕ → List ℕ
 block_line summaries block =
     count_text (codes "session ") block ++ spread_text (codes " blocked") (numbers_of (Blocked block) summaries)

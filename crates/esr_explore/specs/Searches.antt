@@ -8,7 +8,7 @@ use Rattle.esr_explore.specs.declared.ways.Ways.{Ways}
 use Rattle.esr_explore.specs.declared.ways.Ways.TheVariants as ways
 use Rattle.esr_explore.specs.Summaries.{IsSummary}
 
--- how many lines each block has
+-- the number of lines in each block
 abbrev pub line_counts : List (List Call) → List ℕ
 line_counts blocks = map length blocks
 
@@ -16,12 +16,12 @@ line_counts blocks = map length blocks
 abbrev pub all_orders : List (List Call) → List (List ℕ)
 all_orders blocks = first_turns (line_counts blocks) (sum (line_counts blocks))
 
--- the orders of a search that goes through a list of them
+-- the orders of a search over a list of them
 abbrev pub orders_of : Ways → Option (List (List ℕ))
 orders_of (ways.All orders) = Some (map (λ o. o.items) orders.items)
 orders_of (ways.Drawn seeds) = None
 
--- how many orders a search draws
+-- the number of orders that a search draws
 abbrev pub drawn_of : Ways → Option ℕ
 drawn_of (ways.All orders) = None
 drawn_of (ways.Drawn seeds) = Some seeds

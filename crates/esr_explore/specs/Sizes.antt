@@ -1,4 +1,4 @@
--- How bad a run is by a measure, and which of many is the worst.
+-- The size of a run by a measure, and the worst of many runs.
 use Rattle.std.specs.Prelude.{ℕ, ◌==◌, List, [], ◌∷◌, Option, Some, None, map, max, sum}
 use Rattle.std.specs.List.{position_or_len}
 use Rattle.esr_explore.specs.declared.measure.Measure.{Measure}

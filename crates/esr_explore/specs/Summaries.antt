@@ -27,7 +27,7 @@ AreOutcomes h runners [] [] = Unit {0}
 AreOutcomes h runners (q ∷ queries) (outcomes ∷ more) = IsOutcome h (number_of runners q.block q.place) outcomes × AreOutcomes h runners queries more
 AreOutcomes h runners _ _ = ⊥
 
--- how many lines of a block were given up: their last reply is that they are blocked
+-- the number of lines of a block that were given up: their last reply is that they are blocked
 abbrev pub given_up_in : RunnerView → ℕ
 given_up_in runner = count_by is_blocked runner.replies
 

@@ -1,5 +1,5 @@
-//! How many orders there are: a multinomial coefficient, line by line. Each quotient is a whole number, since it counts
-//! the orders of the lines so far.
+//! The number of orders: a multinomial coefficient, line by line. Each quotient is an integer, since it counts the
+//! orders of the lines so far.
 
 /// The largest count that is reported.
 const MAX_REPORTED: u128 = 1_000_000_000_000_000_000;

@@ -1,6 +1,6 @@
 //! The measures of a run.
 
-/// What the worst run is the worst by.
+/// The measure of the worst run.
 #[derive(Clone, Copy)]
 pub enum Measure {
     Import,

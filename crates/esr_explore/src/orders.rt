@@ -6,7 +6,7 @@ ghost use Rattle.esr_explore.specs.Orders.{AreMoreThan, IsOrder, first_turns, lo
 
 use std::alloc::{AllocError, Global};
 
-/// The most orders that are made.
+/// The maximum number of orders that are made.
 pub const MAX_ORDERS: usize = 100_000;
 
 /// Returns how often a block occurs in an order.

@@ -25,9 +25,9 @@ pub struct QueryOutcome {
 pub struct RunSummary {
     /// The outcome of each query of the file, if it committed.
     pub outcomes: Vec<Option<QueryOutcome>>,
-    /// How often the lines of each block were blocked.
+    /// The number of times that the lines of each block were blocked.
     pub blocked: Vec<u64>,
-    /// How many lines of each block were given up.
+    /// The number of lines of each block that were given up.
     pub given_up: Vec<u64>,
 }
 

@@ -17,7 +17,7 @@ use std::fmt;
 /// The maximum number of lines in blocks if all orders are run.
 pub const MAX_LINES: usize = 1_000;
 
-/// Why a search has no result.
+/// The reasons why a search has no result.
 #[derive(Clone, Copy)]
 pub enum ExploreFault {
     /// A fault of the file, the engine, a device or memory, as for a drive.

@@ -1,4 +1,4 @@
--- What names and numbers are made of: bytes of names, and so none that separates words or lines.
+-- The bytes of names and numbers: none of them separates words or lines.
 use Rattle.std.proofs.Common.{◌≡◌, ℕ, suc, ◌<◌, ◌^◌, ℤ, pos, negsuc, nat_abs, List, [], ◌∷◌, Bool, true, false, not, ◌&&◌, ◌||◌, length, inl, inr, refl, sym, ◌∙◌, ap, arith, nat_eq, nat_le, decimal, eqb-true}
 use Rattle.std.specs.List.{list_all}
 use Rattle.std.specs.Str.{all_ascii_digits}
@@ -35,7 +35,7 @@ digit_bytes (b ∷ bs) h =
     let parts = and_parts (is_ascii_digit b) (all_ascii_digits bs) h in
     rw (digit_byte b parts.0, digit_bytes bs parts.1) refl
 
--- whether none of these bytes is this one
+-- whether a byte is absent from these bytes
 abbrev pub lacks : ℕ → List ℕ → Bool
 lacks s bs = list_all (λ b. not (nat_eq b s)) bs
 

@@ -1,4 +1,4 @@
--- What the first line feed in the bytes ahead says of the lines.
+-- The lines of the buffered bytes, from their first line feed.
 use Rattle.std.proofs.Common.{◌≡◌, ℕ, suc, ◌+◌, ◌<◌, ◌≤◌, List, [], ◌∷◌, ◌++◌, inl, inr, true, false, length, take, drop, refl, sym, ◌∙◌, ap, arith, nat_eq, one-add, add-one, eqb-true}
 use Rattle.std.specs.List.{onto_first}
 use Rattle.std.proofs.lemmas.Bool.{cases_Bool}

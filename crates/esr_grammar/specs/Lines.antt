@@ -21,7 +21,7 @@ abbrev pub whole_lines : List ℕ → List (List ℕ)
 whole_lines [] = []
 whole_lines (b ∷ bs) = cond (b == 10) ([] ∷ whole_lines bs) (onto_first_whole b (whole_lines bs))
 
--- how many bytes are before the first line feed
+-- the number of bytes before the first line feed
 abbrev pub line_len : List ℕ → ℕ
 line_len bytes = position_or_len (λ b. nat_eq b 10) bytes
 

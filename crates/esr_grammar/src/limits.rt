@@ -3,8 +3,8 @@
 /// The maximum number of bytes requested at once: many lines, so that reads are few.
 pub const INPUT_ROOM: usize = 65536;
 
-/// The most lines of an input.
+/// The maximum number of lines in an input.
 pub const MAX_LINES: u64 = 2_000_000;
 
-/// The most bytes of a line, its line feed aside.
+/// The maximum number of bytes in a line, without its line feed.
 pub const MAX_LINE_BYTES: usize = 200;

@@ -1,4 +1,4 @@
-//! The words of a line, and what each may be: names, limits and whole numbers, in their one decimal form.
+//! The words of a line: names, limits and integers, in their one decimal form.
 
 ghost use Rattle.esr_grammar.specs.declared.words.TheConstants.{INT_END};
 ghost use Rattle.std.specs.Prelude.{◌≡◌, ◌∷◌, ◌<◌, ◌≤◌, ◌^◌, Option, option_map, length, IfSome, IfNone, IsTrue, true, false};
@@ -73,7 +73,7 @@ pub fn is_letter(byte: u8) -> bool
     matches!(byte, b'a'..=b'z' | b'A'..=b'Z')
 }
 
-/// Whether a name may have the byte, for each byte: a line looks up most of its bytes.
+/// Whether a name may contain the byte, for each byte: most bytes of a line are looked up.
 static NAME_BYTES: [bool; 256] = [
     false, false, false, false, false, false, false, false, false, false, false, false, false,
     false, false, false, false, false, false, false, false, false, false, false, false, false,

@@ -25,10 +25,10 @@ pub struct Listing<'a, W> {
     failed: Option<Unlisted>,
 }
 
-/// Why something of a list was not written.
+/// The reason why something of a list was not written.
 #[derive(Clone, Copy, PartialEq, Eq, Debug)]
 pub enum Unlisted {
-    /// There was no memory for it.
+    /// An allocation for it failed.
     NoMemory,
     /// The writer did not take it.
     Write,

@@ -315,7 +315,7 @@ pub fn find_reason(line: &[u8]) -> Diagnosis<'_> {
     }
 }
 
-/// The most bytes that are shown.
+/// The maximum number of bytes that are shown.
 const SHOWN: usize = 40;
 
 /// Shows bytes of an input as one line of printable ASCII.

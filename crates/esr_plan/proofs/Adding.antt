@@ -132,7 +132,7 @@ begin_added d block grown begun places call name sound is more named free bound 
           ∙ (begin_onto d.names d.values.items d.weights.items (done_in d) cur c name (subst (λ (l : List (List ℕ)). position_of l name ≡ None) was free) ∙ ap (λ l. Ok (plan d.names d.values.items d.weights.items (done_in d ++ l ∷ []))) (sym (pushed block grown call more))),
     )
 
--- a block that is opened, after those that are done
+-- a block that is opened, after the completed ones
 pub session_opened : (d : Draft) (done : Vec (Vec Call Global) Global) (fresh : Vec Call Global) (since : ℕ) → IsSound d
     → blocks_of d ≡ map (λ b. commands_in b.items) done.items → All (λ b. AreResolved d.names b.items) done.items → length done.items < 64 → fresh.items ≡ [] → since ≡ length d.begun
     → IsSound (record d { done = done; current = Some fresh; earlier = since })

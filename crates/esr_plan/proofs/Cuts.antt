@@ -1,4 +1,4 @@
--- What the first line feed says of the lines, and what the lines say of the reading.
+-- The lines of a file from its first line feed, and the reading of the file from its lines.
 use Rattle.std.proofs.Common.{◌≡◌, ℕ, ◌+◌, ◌-◌, ◌<◌, ◌≤◌, List, [], ◌∷◌, ◌++◌, Bool, true, false, length, take, drop, refl, sym, ◌∙◌, ap, subst, arith, inl, inr, Result, Ok, Err, nat_eq, Some, None, ltb-true, length-drop, length-take, length-append, nat_lt, IfSome, Option, if◌then◌else◌}
 use Rattle.std.proofs.Math.Seq.{take-length}
 use Rattle.std.proofs.lemmas.List.{drop-append-le, drop-drop, append-nil, append_assoc}

@@ -103,7 +103,7 @@ length-all [] (y ∷ replies) are = absurd are
 length-all (x ∷ blocks) [] are = absurd are
 length-all (x ∷ blocks) (y ∷ replies) are = ap suc (length-all blocks replies are.1)
 
--- the answers to the blocks from a place on
+-- the replies to the blocks from a place on
 pub all_drop : (blocks : List (List Call)) (replies : List (List Reply)) (i : ℕ) (b : List Call) (r : List Reply) → AreAnswered blocks replies → i < length blocks
     → b ≡ get_or blocks i b → r ≡ get_or replies i r
     → flat (all_answers (drop i blocks) (drop i replies)) ≡ answers_of b r ++ flat (all_answers (drop (i + 1) blocks) (drop (i + 1) replies))

@@ -1,4 +1,4 @@
--- What sessions do with the commands of their blocks.
+-- The calls of sessions for the commands of their blocks.
 use Rattle.std.specs.Prelude.{◌≡◌, ℕ, ◌≤◌, List, [], ◌∷◌, ◌++◌, Bool, true, false, Option, Some, None, All, length, map, slice_get, unwrap_or, position, option_and_then, bytes_eq}
 use Rattle.esr_base.specs.declared.limits.TheConstants.{MAX_ITEMS}
 use Rattle.esr_base.specs.declared.numbers.ItemId.{ItemId}

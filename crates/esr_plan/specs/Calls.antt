@@ -87,7 +87,7 @@ operand_of (call.Read txn x) = Some x
 operand_of (call.Write txn x value) = Some x
 operand_of _ = None
 
--- what the call names, after these calls of its block
+-- the names in the call, after these calls of its block
 abbrev pub IsResolved : List (List ℕ) → List Call → Call → Type 0
 IsResolved names earlier (call.Read txn x) = IsCaller earlier txn × IsOperand names x
 IsResolved names earlier (call.Write txn x value) = IsCaller earlier txn × IsOperand names x

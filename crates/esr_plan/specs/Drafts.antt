@@ -1,4 +1,4 @@
--- A plan that is being made, as contracts see it.
+-- The value of an unfinished plan in contracts.
 use Rattle.std.specs.Prelude.{◌≡◌, ◌≤◌, ℕ, List, [], ◌∷◌, ◌++◌, All, Option, Some, None, Result, Err, map, length, nat_lt, slice_get, if◌then◌else◌, option_map}
 use Rattle.esr_base.specs.declared.limits.TheConstants.{MAX_ITEMS}
 use Rattle.esr_items.specs.Values.{IsValue}
@@ -15,7 +15,7 @@ use Rattle.esr_plan.specs.Plan.{Plan, new_names, weights_of}
 abbrev pub commands_in : List Call → List Command
 commands_in calls = map command_of calls
 
--- the blocks that are done, and the one that is not
+-- the completed blocks, and the open one
 abbrev pub blocks_with : List (List Command) → Option (List Command) → List (List Command)
 blocks_with done None = done
 blocks_with done (Some current) = done ++ current ∷ []

@@ -1,4 +1,4 @@
--- A plan as contracts see it.
+-- The value of a plan in contracts.
 use Rattle.std.specs.Prelude.{◌≡◌, ◌≤◌, All, length, map}
 use Rattle.esr_base.specs.declared.limits.TheConstants.{MAX_ITEMS}
 use Rattle.esr_items.specs.Values.{IsValue}

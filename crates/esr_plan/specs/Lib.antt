@@ -1,5 +1,5 @@
--- The work of a drive file, and the text of its result, by its plan and its history. `Drafts`, `DrivePlans`,
--- `Tables` and `Readings` are what contracts see of the values on the way.
+-- The plan of a drive file, and the text of its result, from its plan and its history. `Drafts`, `DrivePlans`,
+-- `Tables` and `Readings` define the values of intermediate results in contracts.
 
 pub mod Plan
 pub mod Blocks

@@ -23,7 +23,7 @@ IsLineFault count len fault.TooManyLines = count ≡ MAX_LINES
 IsLineFault count len fault.LineTooLong = (count ≡ MAX_LINES → ⊥) × (MAX_LINE_BYTES < len)
 IsLineFault count len _ = ⊥
 
--- how reading may end before the end, by all bytes that there are
+-- the possible faults of reading, given all bytes
 abbrev pub IsReadFault : Option (List ℕ) → DriveFault → Type 0
 IsReadFault known fault.Read = Unit {0}
 IsReadFault known fault.LineTooLong = IfSome known (λ input. plan_of input ≡ Err fault.LineTooLong)

@@ -64,7 +64,7 @@ blocks_text names k (b ∷ blocks) = block_text names k b ++ blocks_text names (
 abbrev pub finding_text : List (List ℕ) → ℕ × ℕ × ℕ × List ℕ → List ℕ
 finding_text names t = audit_line names (name_of_transaction names t.0) t.1 t.2 t.3
 
--- what the audit finds of the committed queries: of each its least distance, its import, and the smallest least set
+-- the findings of the committed queries: the least distance, the import, and the smallest least set of each
 abbrev pub findings_text : Schedule → List (List ℕ) → List ℕ
 findings_text h names = flat_map (finding_text names) (map (summary_of weighted h) (committed_queries h))
 

@@ -1,8 +1,8 @@
 //! Makes the plan of a drive file, line after line, or reports the lowest error number of the first line with a
 //! fault.
 //!
-//! A line mostly names the transaction of the line before it, and often its item. So a name is compared with that line's
-//! before it is looked up; the line is there, and nothing has to be kept for it.
+//! Most lines name the transaction of the previous line, and many its item. So a name is compared with that line's
+//! before it is looked up; the line is available, and nothing has to be stored for it.
 //!
 //! The plan keeps whether a weight was given: an item's line is echoed as it was written.
 //!
@@ -31,8 +31,8 @@ use std::alloc::Global;
 /// The maximum number of blocks in a file: each has its own session.
 pub const MAX_BLOCKS: usize = MAX_SESSIONS;
 
-/// A plan that is being made: the items, the blocks that are done, and the one that is open, with
-/// the names of the transactions that begin in them.
+/// A plan that is being made: the items, the completed blocks, and the open one, with the names of the transactions
+/// that begin in them.
 #[derive(Drop)]
 pub struct Draft<'a> {
     pub names: Names,
@@ -44,11 +44,11 @@ pub struct Draft<'a> {
     pub begun: Names,
     /// The place of each begin in its block.
     pub places: Vec<usize>,
-    /// How many transactions begin in the blocks that are done.
+    /// The number of transactions that begin in the completed blocks.
     pub earlier: usize,
 }
 
-/// Why a line does not go into the plan.
+/// The reason why a line is not added to the plan.
 #[derive(Clone, Copy)]
 pub enum PlanError {
     /// The number of the line's error.

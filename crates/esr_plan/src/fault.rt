@@ -1,4 +1,4 @@
-//! Why a drive ended without its whole text.
+//! The faults that end a drive without its whole text.
 
 ghost use Rattle.std.specs.Prelude.{◌≡◌};
 ghost use Rattle.esr_plan.specs.declared.fault.DriveFault.TheVariants.{NoMemory};
@@ -7,13 +7,13 @@ use esr_history::NoMemory;
 use std::alloc::AllocError;
 use thiserror::Error;
 
-/// Why a drive ended without its whole text.
+/// A fault that ends a drive without its whole text.
 #[derive(Clone, Copy, Debug, PartialEq, Eq, Error)]
 pub enum DriveFault {
     /// A read failed.
     #[error("read failed")]
     Read,
-    /// A write or a flush failed, or a write took none of some bytes.
+    /// A write or a flush failed, or a write of some bytes took none.
     #[error("write failed")]
     Write,
     /// A line has more bytes than a line of a script may have.

@@ -1,5 +1,6 @@
-//! Which name each transaction of a history began by. The table is filled from the last line on, so that the first line
-//! of a number decides, as in the definition; so it needs no proof that no two lines have one number.
+//! The name with which each transaction of a history began. The table is filled from the last line to the first, so
+//! that the first line of a number decides, as in the definition; so it needs no proof that the numbers of lines are
+//! distinct.
 
 ghost use Rattle.std.specs.Prelude.{◌≡◌, IfOk, length, map};
 ghost use Rattle.esr_plan.specs.Calls.{answers_of, AreAnswered, all_answers};

@@ -3,12 +3,12 @@ use Rattle.std.proofs.Common.{◌≡◌, ℕ, ◌+◌, ◌<◌, ◌≤◌, List,
 use Rattle.std.proofs.lemmas.List.{take_more, take_all, map-append}
 use Rattle.std.specs.List.{join_with_byte}
 
--- a word more at the end
+-- one more word at the end
 join_push : (c : ℕ) (x : List ℕ) (xs : List (List ℕ)) (y : List ℕ) → join_with_byte c (x ∷ xs ++ y ∷ []) ≡ join_with_byte c (x ∷ xs) ++ c ∷ y
 join_push c x [] y = refl
 join_push c x (z ∷ zs) y = ap (λ l. x ++ (c ∷ l)) (join_push c z zs y) ∙ sym (append_assoc x (c ∷ join_with_byte c (z ∷ zs)) (c ∷ y))
 
--- words, the byte, and a word more
+-- words, the byte, and one more word
 pub one_separated : (c : ℕ) (out x : List ℕ) (xs : List (List ℕ)) (y before parted after : List ℕ)
     → before ≡ out ++ join_with_byte c (x ∷ xs) → parted ≡ before ++ c ∷ [] → after ≡ parted ++ y
     → after ≡ out ++ join_with_byte c (x ∷ xs ++ y ∷ [])

@@ -63,7 +63,7 @@ key_place k name is entries h =
     ap (λ n. cond (nat_lt n (length (map (λ (e : Entry). e.0) entries))) (Some n) None) (place_of k name is entries h)
     ∙ ap (λ m. cond (nat_lt at m) (Some at) None) (as_many entries)
 
--- a name of more than 16 bytes is none of them
+-- a name of more than 16 bytes is not one of them
 pub no_longer : (entries : List Entry) (name : List ℕ) → AreKeyed entries → 16 < length name → position_of (map (λ (e : Entry). e.1.bytes) entries) name ≡ None
 no_longer entries name h l = longer (λ (e : Entry). e.1.bytes) entries name 16 (λ i d m. (h i d m).short) l
 
@@ -73,7 +73,7 @@ keyed_push entries e h k =
     let one : AreKeyed (e ∷ []) = All-cons (λ (x : Entry). IsKeyOf x.0 x.1.bytes) e [] k (All-nil (λ (x : Entry). IsKeyOf x.0 x.1.bytes)) in
     All-append (λ (x : Entry). IsKeyOf x.0 x.1.bytes) entries (e ∷ []) h one
 
--- a name that is none of them goes last
+-- a name that is not one of them is added at the end
 pub entered : (k : Key) (name : List ℕ) (text : ArrayString 16) → IsKeyOf k name → (entries : List Entry) → AreKeyed entries
     → list_any (bytes_eq name) (map (λ (e : Entry). e.1.bytes) entries) ≡ false → insert_entry same_key entries k text ≡ entries ++ (k, text) ∷ []
 entered k name text is [] h none = refl

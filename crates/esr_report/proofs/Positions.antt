@@ -1,4 +1,4 @@
--- Positions of names, seen through the keys that hold them, and a name more.
+-- Positions of names, given their keys, and one more name.
 use Rattle.std.proofs.Common.{◌≡◌, ℕ, suc, ◌+◌, ◌<◌, ◌≤◌, List, [], ◌∷◌, ◌++◌, ◌⊎◌, inl, inr, Bool, true, false, ◌||◌, ◌&&◌, not, cond, nat_lt, map, length, All, refl, sym, ◌∙◌, ap, arith, rules, Some, None, ltb-false, le-ltb, bytes_eq}
 use Rattle.std.specs.List.{position, position_or_len, list_any}
 use Rattle.std.proofs.lemmas.List.Elements.{All-append}
@@ -44,7 +44,7 @@ module _ {X : Type 0} (g : X → List ℕ) where
         omega (arith, later, all_differ xs name most (λ k d i. h (suc k) d (omega (arith, i))) l)
   ]
 
-  -- a name that is longer than all names is none of them
+  -- a name that is longer than all names is not one of them
   pub longer : (xs : List X) (name : List ℕ) (most : ℕ) → All (λ x. length (g x) ≤ most) xs → most < length name → position_of (map g xs) name ≡ None
   longer xs name most h l =
       sym (position_seen g (bytes_eq name) xs)
@@ -67,7 +67,7 @@ none_before p (x ∷ xs) h = elim (which (p x)) [
   | inr e ↦ let later : position_or_len p (x ∷ xs) ≡ 1 + position_or_len p xs = rw e refl in rw e (none_before p xs (omega (arith, h, later)))
 ]
 
--- a name with no position is none of the names
+-- a name without a position is not one of the names
 pub nowhere : (names : List (List ℕ)) (name : List ℕ) → position_of names name ≡ None → list_any (bytes_eq name) names ≡ false
 nowhere names name e = none_before (bytes_eq name) names (ltb-false _ _ (chosen_none _ _ e))
 
@@ -89,7 +89,7 @@ not_true : (b : Bool) → not b ≡ true → b ≡ false
 not_true true e = cc
 not_true false e = refl
 
--- a name that is none of the names may be added
+-- a name that is not one of the names may be added
 pub all_distinct-push : (names : List (List ℕ)) (name : List ℕ) → all_distinct names ≡ true → list_any (bytes_eq name) names ≡ false → all_distinct (names ++ name ∷ []) ≡ true
 all_distinct-push [] name h n = refl
 all_distinct-push (x ∷ xs) name h n =

@@ -24,7 +24,7 @@ abbrev pub weighted_item_line : List ℕ → ℤ → ℕ → List ℕ
 weighted_item_line name value weight =
     line (codes "item" ∷ name ∷ signed_decimal value ∷ codes "weight" ∷ decimal weight ∷ [])
 
--- what begins the lines of a session, with its number
+-- the first line of a session, with its number
 abbrev pub session_line : ℕ → List ℕ
 session_line number = line (codes "session" ∷ decimal number ∷ [])
 
@@ -63,7 +63,7 @@ reason_line names why (Some txn) =
 abbrev pub refusal_line : List (List ℕ) → Refusal → List ℕ
 refusal_line names why = reason_line names why (refusal_blocker why)
 
--- what an event names: a transaction, an item and a value to write, as far as it has them
+-- the names in an event: a transaction, an item and a value to write, if it has them
 pub record Named : Type 0 where
   pub txn : List ℕ
   pub item : List ℕ

@@ -1,4 +1,4 @@
--- What an event names, read from the struct that lends it.
+-- The names in an event, read from the struct that borrows them.
 use Rattle.esr_report.specs.declared.lines.ReplyNames.{ReplyNames}
 use Rattle.esr_report.specs.Lines.{Named}
 

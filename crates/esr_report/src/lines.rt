@@ -32,7 +32,7 @@ pub struct ReplyNames<'a> {
     pub value: i64,
 }
 
-/// Appends a byte that separates, and a word.
+/// Appends a separator byte, and a word.
 #[inline(always)]
 fn push_separated(out: &mut Vec<u8>, byte: u8, word: &str) -> Result<(), AllocError>
     ensures ok { OnOk result (out.new.items ≡ out.old.items ++ byte ∷ word.now) }

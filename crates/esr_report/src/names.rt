@@ -1,4 +1,4 @@
-//! A table of names, in the order in which they were bound; none is bound twice.
+//! A table of names, in the order in which they were bound; the names are distinct.
 //!
 //! A name is looked up by three numbers (`key`), so that none is copied or compared byte by byte to be found; its
 //! text, of at most 16 bytes, is next to them, 48 bytes in all. A longer name, which no line can contain, does not

@@ -21,7 +21,7 @@ module _ (s : ScriptState) (items names : List (List ℕ)) (was : Bool) (first h
   history_is : h ≡ s.history
   history_is = same ∙ ap (λ (z : ScriptState). z.history) seen
 
-  -- what holds of the machine's history and of the number holds of the state's and of the name's
+  -- a property of the machine's history and of the number holds of the state's and of the name's
   both : (P : Schedule → ℕ → Type 0) → P h q.0 → P s.history (transaction_called s name).0
   both P p = subst (P s.history) (ap (λ (t : TxnId). t.0) called) (subst (λ k. P k q.0) history_is p)
 

@@ -1,4 +1,4 @@
--- What an audit finds is what its line says.
+-- The line of an audit agrees with its finding.
 use Rattle.std.proofs.Common.{◌≡◌, ℕ, Result, Ok, Err, IfOk, map, ◌∙◌}
 use Rattle.esr_history.specs.Machine.{Distance, Schedule, charges_in, import_in}
 use Rattle.esr_cert.specs.Views.{certificate_of}

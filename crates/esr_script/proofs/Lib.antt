@@ -1,5 +1,5 @@
--- Why the loop over lines, with its buffer, its stages and its ends, writes what the definitions say. Only the
--- bodies of this crate use them.
+-- The loop over lines, with its buffer, its stages and its ends, writes the defined text. Only the bodies of this
+-- crate use these lemmas.
 
 pub mod Handed
 pub mod Steps

@@ -1,4 +1,4 @@
--- What the audit of a whole script writes.
+-- The output of the audit of a whole script.
 use Rattle.std.specs.Prelude.{◌≡◌, ℕ, List, ◌++◌, Option, Result, map, length, flat_map}
 use Rattle.esr_history.specs.Serial.{committed_updates}
 use Rattle.esr_history.specs.Totals.{all_imports, all_exports}

@@ -1,4 +1,4 @@
--- What an answer may repeat of its line: the words of what the event names, separated by single blanks.
+-- The words of its line that a reply may repeat: the names in the event, separated by single blanks.
 use Rattle.std.specs.Prelude.{◌≡◌, ◌∷◌, []}
 use Rattle.std.specs.List.{join_with_byte}
 use Rattle.std.specs.Fmt.{signed_decimal}

@@ -1,5 +1,5 @@
--- What each subcommand that reads a script may write, by its bytes alone: `Text` for a run, and a module for each
--- of the others. Lines are passed on from the crate of lines, since the two are read together.
+-- The permitted output of each subcommand that reads a script, given its bytes alone: `Text` for a run, and a module
+-- for each of the others. The definition of lines is re-exported from `esr_grammar`, since the two are read together.
 
 pub use Rattle.esr_grammar.specs.Lines
 pub use Rattle.esr_grammar.specs.Command

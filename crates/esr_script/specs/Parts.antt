@@ -1,4 +1,4 @@
--- What the private parts of a run speak of.
+-- The definitions for the private parts of a run.
 use Rattle.std.specs.Prelude.{◌≡◌, ℕ, List, ◌++◌, ◌⊎◌, Bool, true, false, length, Option, Some, Result, Ok, Err, OnOk, OnErr, IfErr}
 use Rattle.std.specs.Io.KnownBytes.{Appends}
 use Rattle.esr_base.specs.Watch.{BeginsWith}
@@ -35,7 +35,7 @@ pub record InputProgress (input : List ℕ) (left : Option (List ℕ)) (bytes : 
   pub known : left ≡ Some rest
   pub progress : Progress input (bytes ++ rest) count state written
 
--- A run that has sent this and holds this output, to be sent yet. After a failed write the output is lost, and after a
+-- A run that has sent this text and still holds this output. After a failed write the output is lost, and after a
 -- failed read there is none.
 abbrev pub IsHeldRun : List ℕ → Option (List ℕ) → List ℕ → Result (Unit {0}) RunFault → List ℕ → Type 0
 IsHeldRun input left out (Err fault.Write) sent = BeginsWith (outcome input).text sent

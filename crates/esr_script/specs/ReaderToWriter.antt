@@ -1,4 +1,4 @@
--- A call that goes over an input, from a reader to a writer.
+-- A call that processes an input, from a reader to a writer.
 use Rattle.std.specs.Prelude.{◌≡◌, ℕ, List, Option, Some, Result}
 use Rattle.std.specs.Io.KnownBytes.{Appends}
 use Rattle.esr_base.specs.Watch.{inner, failed}

@@ -1,4 +1,4 @@
--- What the private parts of certifying and of auditing speak of.
+-- The definitions for the private parts of certifying and of auditing.
 use Rattle.std.specs.Prelude.{◌≡◌, List, [], ◌∷◌, ◌++◌, ℕ, Bool, true, false, Option, Result}
 use Rattle.esr_cert.specs.Problem.{in_set, IsSmallestLeast}
 use Rattle.esr_cert.specs.Certificate.{Certificate, Certifies}

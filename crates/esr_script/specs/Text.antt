@@ -115,7 +115,7 @@ execute s totals = Ok (
   totals_line (all_imports weighted s.history) (all_exports weighted s.history) (length s.history.entries),
 )
 
--- the state after a line, and its answer
+-- the state after a line, and its reply
 abbrev pub answer : ScriptState → List ℕ → Result (ScriptState × List ℕ) RunFault
 answer s line =
     if is_skipped line then Ok (s, [])

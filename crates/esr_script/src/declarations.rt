@@ -1,7 +1,7 @@
 //! The declared items of a script, before its machine exists.
 //!
-//! Their type keeps that each value and each weight is in range and that there are at most 4,096 of them. So the machine
-//! can be made of them without a check, and only an allocation can fail.
+//! Their type ensures that each value and each weight is in range and that there are at most 4,096 of them. So the
+//! machine can be made from them without a check, and only an allocation can fail.
 
 ghost use Rattle.std.specs.Prelude.{◌≡◌, ◌+◌, ◌<◌, ◌≤◌, ◌++◌, ◌∷◌, [], length, map, All, IfOk, OnOk, OnErr};
 ghost use Rattle.esr_base.specs.declared.limits.TheConstants.{MAX_ITEMS};

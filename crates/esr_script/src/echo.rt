@@ -1,4 +1,4 @@
-//! Answers that repeat the words of their line: these are copied from it in one piece, and no number is formatted.
+//! Replies that repeat the words of their line: these are copied from it in one piece, and no number is formatted.
 
 ghost use Rattle.std.specs.Prelude.{◌≡◌, ◌≤◌, ◌∷◌, ◌++◌, [], OnOk, OnErr, codes, length, take};
 ghost use Rattle.esr_base.specs.Watch.{BeginsWith};
@@ -10,7 +10,7 @@ use esr_history::Reply;
 use esr_report::{Names, ReplyNames, reply_line};
 use std::alloc::AllocError;
 
-/// What an answer may repeat of the line that it answers.
+/// The words that a reply may repeat from its line.
 #[derive(Clone, Copy)]
 pub enum Echo<'a> {
     Nothing,
@@ -20,7 +20,7 @@ pub enum Echo<'a> {
     Write(&'a [u8]),
 }
 
-/// Appends the answer to a write, of which these words were read.
+/// Appends the reply to a write, given the words of its line.
 #[inline(always)]
 fn append_wrote(out: &mut Vec<u8>, words: &[u8]) -> Result<(), AllocError>
     ensures ok { OnOk result (out.new.items ≡ out.old.items ++ (codes "wrote " ++ (words.now ++ 10 ∷ []))) }
@@ -32,7 +32,7 @@ fn append_wrote(out: &mut Vec<u8>, words: &[u8]) -> Result<(), AllocError>
     Ok(())
 }
 
-/// Appends the answer to a read, of which these words were read.
+/// Appends the reply to a read, given the words of its line.
 #[inline(always)]
 fn append_value(out: &mut Vec<u8>, words: &[u8], value: &[u8]) -> Result<(), AllocError>
     ensures ok { OnOk result (out.new.items ≡ out.old.items ++ (words.now ++ (32 ∷ (value.now ++ 10 ∷ [])))) }
@@ -59,7 +59,7 @@ fn whole(out: &mut Vec<u8>, mark: usize, appended: Result<(), AllocError>) -> Re
     appended
 }
 
-/// Appends the line of the machine's reply to an event that names the subject, of which these words were read.
+/// Appends the line of the machine's reply to an event that names the subject, given the words of its line.
 #[inline(always)]
 pub fn push_reply(
     out: &mut Vec<u8>,

@@ -2,13 +2,13 @@
 
 use thiserror::Error;
 
-/// Why a run ended before the end of its input, or a query was not certified.
+/// The reasons why a run ends before the end of its input, or a query is not certified.
 #[derive(Clone, Copy, Debug, PartialEq, Eq, Error)]
 pub enum RunFault {
     /// A read failed.
     #[error("read failed")]
     Read,
-    /// A write or a flush failed, or a write took none of some bytes.
+    /// A write or a flush failed, or a write of some bytes took none.
     #[error("write failed")]
     Write,
     /// A line has more bytes than `MAX_LINE_BYTES`.

@@ -14,8 +14,7 @@ use std::alloc::{AllocError, Global};
 use std::io::Read;
 use std::marker::Model;
 
-/// Bytes that were read and are not yet used, seen as the list of them. They are
-/// in one buffer from `start` to `end`.
+/// Bytes that were read and not yet used; its value is their list. They are in one buffer from `start` to `end`.
 #[derive(Drop)]
 pub struct InputBuffer {
     buffer: Vec<u8>,

@@ -12,7 +12,7 @@ use esr_lint::Observer;
 use std::alloc::Global;
 use std::io::Read;
 
-/// Runs a script without writing its output, and lets the observer see each line, and then each transaction.
+/// Runs a script without writing its output, and shows the observer each line, and then each transaction.
 #[tactic(auto, using(crate::proofs::Handed::handed_on))]
 pub fn lint<R: Read, O: Observer>(
     alloc: Global,

@@ -82,7 +82,7 @@ fn script_view_text<R: Read, S: ScriptView, O: Observer>(
     text_of(alloc, script, numbering.lines(), render_script)
 }
 
-/// Runs a script without writing its output, and writes the text of a survey of it.
+/// Runs a script without writing its output, and writes the text of a view of it.
 ///
 /// # Errors
 /// `LineTooLong`, `HistoryFull` and `TooManyLines` if `run` would return them; `NotACommittedQuery` if the view has

@@ -14,14 +14,14 @@ use crate::output::send_all;
 use esr_history::Watched;
 use std::io::Write;
 
-/// Who reads the text that a sink takes.
+/// Whether anyone reads the text that a sink takes.
 #[derive(Clone, Copy, PartialEq)]
 pub enum Audience {
     Somebody,
     NoReader,
 }
 
-/// What takes the text of lines.
+/// A sink of the text of lines.
 pub trait Sink {
     ghost contents: { Self → Option (List ℕ) };
 

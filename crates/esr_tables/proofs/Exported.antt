@@ -8,7 +8,7 @@ use Rattle.esr_history.specs.Totals.{all_imports}
 use Rattle.esr_history.proofs.Charges.{range-push}
 use Rattle.esr_history.proofs.Sums.{imports_total}
 
--- of charges that are nothing together, none is anything
+-- if the sum of charges is zero, each charge is zero
 none_of : (cs : List Charge) (u : ℕ) → total cs ≡ 0 → export_in cs u ≡ 0
 none_of [] u none = refl
 none_of (c ∷ cs) u none =

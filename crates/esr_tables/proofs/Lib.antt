@@ -1,4 +1,4 @@
--- Why one pass over the log finds every row's columns, and the text is that of just these rows.
+-- One pass over the log finds every row's columns, and the text is that of just these rows.
 
 pub mod Begun
 pub mod Exported

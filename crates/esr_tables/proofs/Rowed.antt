@@ -26,7 +26,7 @@ kind_there h kinds (suc k) low is =
     ∙ (ap (λ (l : List RowKind). unwrap_or (slice_get l k) Update) is
     ∙ ap (λ o. unwrap_or o Update) (slice_get-map kind_of (beginnings (accepted_in h)) k))
 
--- how it ended
+-- the end of a transaction
 pub end_there : (d : Distance) (h : Schedule) → IsLegal d h → (t : ℕ) (f : Facts) → Some f ≡ facts_of h.entries t → end_at h.entries f.end ≡ end_of h t
 end_there d h legal t f some =
     let is : f.end ≡ last_place accepted_end t h.entries = end_some h.entries t f some in

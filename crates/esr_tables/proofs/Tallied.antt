@@ -1,4 +1,4 @@
--- What one more entry adds to the tallies.
+-- The effect of one more entry on the tallies.
 use Rattle.std.proofs.Common.{◌≡◌, ℕ, ◌+◌, ◌<◌, ◌&&◌, Bool, true, false, cond, if◌then◌else◌, List, [], ◌∷◌, ◌++◌, length, get_or, set, refl, sym, ◌∙◌, ap, ap₂, filter, length-append, arith, Some, count_by, get_or-set_same, get_or-set_other, length-set, ⊎_elim}
 use Rattle.std.proofs.lemmas.List.Sums.{length-filter}
 use Rattle.std.proofs.lemmas.Bool.{cases_eq, eq-eqb, ne_eqb}

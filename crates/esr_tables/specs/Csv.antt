@@ -45,7 +45,7 @@ amounts r =
     decimal r.limit ∷ decimal r.charged ∷ decimal r.left ∷ decimal r.tally.reads ∷ decimal r.tally.writes
     ∷ decimal r.tally.by_lock ∷ decimal r.tally.by_import ∷ decimal r.tally.by_export ∷ []
 
--- a row, with the name of its transaction and the lines that it goes from and to
+-- a row, with the name of its transaction and its first and last lines
 abbrev pub row_line : List ℕ → Row → (first last : ℕ) → List ℕ
 row_line name r first last = csv_line (decimal r.number.0) (
     name ∷ kind_word r.kind ∷ amounts r ++ end_word r.end ∷ optional r.distance ∷ decimal first ∷ decimal last ∷ []

@@ -1,4 +1,4 @@
--- What single entries add to the columns of a ledger.
+-- The contributions of single entries to the columns of a ledger.
 use Rattle.std.specs.Prelude.{◌≡◌, ℕ, ◌+◌, ◌<◌, ◌^◌, List, Option, None, is_some, map, length, slice_index_or, if◌then◌else◌, option_map}
 use Rattle.std.specs.List.{range_with_len}
 use Rattle.esr_history.specs.declared.event.Reply.{Reply}
@@ -21,7 +21,7 @@ use Rattle.esr_tables.specs.Rows.{distance_of, kind_of, tally_of}
 abbrev pub kind_in : Entry → Option RowKind
 kind_in e = if is_refusal e.reply then None else option_map kind_of (beginning_of e.event)
 
--- a tally with one more answer
+-- a tally with one more reply
 abbrev pub with_answer : Tally → Reply → Tally
 with_answer t (Value v) = record t { reads = t.reads + 1 }
 with_answer t Wrote = record t { writes = t.writes + 1 }

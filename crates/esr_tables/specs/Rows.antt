@@ -48,7 +48,7 @@ abbrev pub by_export : Reply → Bool
 by_export (Refused (BlockedByExport u)) = true
 by_export _ = false
 
--- how many entries of t have such a reply
+-- the number of entries of t with such a reply
 abbrev pub count_of : (Reply → Bool) → List Entry → ℕ → ℕ
 count_of p es t = count_by (λ e. is_key (txn_in e) t && p e.reply) es
 
@@ -75,7 +75,7 @@ end_of h t =
 abbrev pub charged_of : Distance → Schedule → ℕ → ℕ
 charged_of d h t = if is_query (accepted_in h) t then import_in (charges_in d h) t else export_in (charges_in d h) t
 
--- how far a committed query was from the nearest serial placement
+-- the distance of a committed query from the nearest serial placement
 abbrev pub distance_of : Distance → Schedule → ℕ → Option ℕ
 distance_of d h t = if is_committed_query h t then Some (least_cost d h t) else None
 

@@ -1,4 +1,4 @@
--- From which line to which a transaction goes, as it was found.
+-- The first and the last line of a transaction, as found.
 use Rattle.std.specs.Prelude.{ℕ, slice_index_or}
 use Rattle.esr_tables.specs.declared.spans.LineSpan.{LineSpan}
 use Rattle.esr_tables.specs.declared.spans.Spans.{Spans}

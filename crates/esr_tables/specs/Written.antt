@@ -12,7 +12,7 @@ use Rattle.esr_tables.specs.Csv.{ledger_csv}
 abbrev pub IsLedgerOf : Schedule → List (List ℕ) → List ℕ → Type 0
 IsLedgerOf h names text = (first : ℕ → ℕ) × (last : ℕ → ℕ) × (text ≡ ledger_csv weighted h names first last)
 
--- That of a script, in CSV. Nothing is promised of the other forms.
+-- The ledger of a script, in CSV. The other formats are not specified.
 abbrev pub IsLedger : Format → ScriptState → List ℕ → Type 0
 IsLedger Csv s text = IsLedgerOf s.history s.transactions text
 IsLedger Text s text = ⊤

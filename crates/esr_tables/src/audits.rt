@@ -11,7 +11,7 @@ use esr_items::Weighted;
 use esr_report::{Names, name_of_transaction};
 use std::alloc::{AllocError, Global};
 
-/// The names of the fields. The updates before are separated by blanks.
+/// The names of the fields. The updates before the position are separated by blanks.
 const HEAD: &str = "number,name,limit,import,distance,before\n";
 
 /// The audit of a query.

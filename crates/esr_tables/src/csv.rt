@@ -110,7 +110,7 @@ fn push_distance(out: &mut Vec<u8>, distance: Option<u64>) -> Result<(), AllocEr
     push_field(out, optional(&mut digits, distance))
 }
 
-/// Appends the lines that a transaction goes from and to.
+/// Appends the first and the last line of a transaction.
 fn push_span(out: &mut Vec<u8>, span: LineSpan) -> Result<(), AllocError>
     ensures { OnOk result (out.new.items ≡ out.old.items ++ separated (decimal span.first ∷ decimal span.last ∷ [])) }
 {
@@ -119,7 +119,7 @@ fn push_span(out: &mut Vec<u8>, span: LineSpan) -> Result<(), AllocError>
     push_all_fields(out, &[first.format(span.first), last.format(span.last)])
 }
 
-/// Appends the line of a row, with the name of its transaction and the lines that it goes from and to.
+/// Appends the line of a row, with the name of its transaction and its first and last lines.
 fn row_line(out: &mut Vec<u8>, name: &str, row: &Row, span: LineSpan) -> Result<(), AllocError>
     ensures { OnOk result (out.new.items ≡ out.old.items ++ row_line name.now row.now span.first span.last) }
 {

@@ -1,5 +1,5 @@
-//! How far committed queries were from the nearest serial placement. Audits are made one after another, and of each no
-//! more is kept than its distance: so no more than one problem is in memory.
+//! The distances of committed queries from the nearest serial placement. Audits run one after another, and only the
+//! distance of each is kept: so at most one problem is in memory.
 
 ghost use Rattle.std.specs.Prelude.{◌≡◌, ◌<◌, ◌≤◌, ◌+◌, ◌++◌, ◌∷◌, [], map, IfOk, OnOk};
 ghost use Rattle.std.specs.List.{range_with_len};

@@ -15,7 +15,7 @@ pub struct ExplanationTable {
     pub data: Data,
 }
 
-/// A field, and which word of its line it is, from 0.
+/// A field, and the index of its word in the line, from 0.
 type Field = (&'static str, usize);
 
 /// The fields of a read.

@@ -1,6 +1,6 @@
 //! The forms of a sheet.
 
-/// How a ledger is written.
+/// The format of a ledger.
 #[derive(Clone, Copy, PartialEq, Eq)]
 pub enum Format {
     /// Aligned columns, for people.

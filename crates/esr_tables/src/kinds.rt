@@ -1,5 +1,5 @@
-//! What kind of transaction each accepted begin began, in the order of their numbers. A history keeps of a transaction
-//! whether it is a query, but not whether it is a strict one: that only its begin says.
+//! The kind of transaction that each accepted begin began, in the order of their numbers. A history stores whether a
+//! transaction is a query, but not whether it is strict: only its begin shows that.
 
 ghost use Rattle.std.specs.Prelude.{◌≡◌, ◌++◌, ◌∷◌, [], map, IfOk, OnOk};
 ghost use Rattle.std.specs.List.{filter_map};
@@ -12,7 +12,7 @@ use esr_history::{Entry, Event, History};
 use esr_items::Weighted;
 use std::alloc::{AllocError, Global};
 
-/// What kind of transaction there is.
+/// The kinds of transactions.
 #[derive(Clone, Copy)]
 pub enum RowKind {
     Update,

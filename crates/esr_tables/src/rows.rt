@@ -20,7 +20,7 @@ use esr_history::{Entry, Event, History, Log, NoMemory, TxnId};
 use esr_items::Weighted;
 use std::alloc::Global;
 
-/// How a transaction ended.
+/// How a transaction ended, if it did.
 #[derive(Clone, Copy)]
 pub enum RowEnd {
     Committed,
@@ -40,7 +40,7 @@ pub struct Row {
     pub left: u64,
     pub tally: Tally,
     pub end: RowEnd,
-    /// How far it was from the nearest serial placement, as a committed query.
+    /// The distance of a committed query from the nearest serial placement.
     pub distance: Option<u64>,
 }
 

@@ -1,5 +1,5 @@
-//! How often the lines of each transaction were accepted, and how often blocked and by what: one pass over the entries,
-//! with a few numbers for each transaction.
+//! The numbers of each transaction's lines that were accepted, and that were blocked for each reason: one pass over
+//! the entries, with a few numbers for each transaction.
 
 ghost use Rattle.std.specs.Prelude.{◌≡◌, ◌<◌, ◌++◌, ◌∷◌, [], List, length, All, IfOk};
 ghost use Rattle.esr_history.specs.declared.event.Entry.{Entry};

@@ -1,5 +1,5 @@
-//! A ledger for people: columns as wide as their widest cell, numbers on the right and words on the left. The rows are
-//! gone over twice, for the widths and for the text, so that no cell is kept.
+//! A ledger for people: columns as wide as their widest cell, numbers aligned right and words left. The rows are
+//! computed twice, for the widths and for the text, so that no cell is stored.
 
 ghost use Rattle.esr_tables.specs.Entries.{AreColumns};
 

@@ -1,5 +1,5 @@
-//! A file for each library, and `meeting` for what shows that two threads run at once. Each call is proved, but no
-//! contract makes memory or a thread, and none compares a definition with the formats: that is tried here.
+//! A file for each library, and `meeting`, which shows that two threads run concurrently. Each call is proved, but no
+//! contract guarantees memory or a thread, and none compares a definition with the formats: these tests do.
 
 mod boards;
 mod certificates;

@@ -225,7 +225,7 @@ fn has_must(rt: &impl Abort, alloc: Global, events: &[Asked], must: usize) -> bo
     order.commits() == &[TxnId(1)][..] && order.must().len() == must
 }
 
-/// A definition could pass over the word strict: two histories differ in it alone, and in what must be seen.
+/// A definition could ignore `strict`: two histories differ in it alone, and in the updates that must be seen.
 #[test]
 fn strict_report(rt: HostRuntime) {
     assert!(rt; has_must(&rt, rt.alloc(), &STRICTLY_BEHIND_AN_UPDATE, 1));

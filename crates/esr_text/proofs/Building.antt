@@ -1,4 +1,4 @@
--- How markup is put together: equations of its parts, as the code knows them, lead to the definitions.
+-- How markup is composed: equations of its parts, as the code has them, lead to the definitions.
 use Rattle.std.proofs.Common.{◌≡◌, ℕ, ◌==◌, List, [], ◌∷◌, ◌++◌, length, true, sym, ◌∙◌, ap, subst, arith}
 use Rattle.std.proofs.lemmas.Bool.{eqb-true}
 use Rattle.std.specs.Prelude.{codes}

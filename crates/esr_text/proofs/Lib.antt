@@ -1,3 +1,3 @@
--- How parts of markup make one that is well formed.
+-- Parts of markup compose to well-formed markup.
 
 pub mod Building

@@ -1,3 +1,3 @@
--- What markup is: pictures and pages are.
+-- The definition of markup, which pictures and pages are.
 
 pub mod Markup

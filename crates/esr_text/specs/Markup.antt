@@ -1,5 +1,5 @@
--- What markup is, as SVG and pages use it: each element that is opened is closed in its turn, and the values of
--- attributes are in quotes. It is less than XML allows: no comments, and no character that would have to be escaped.
+-- Markup, as SVG and pages use it: each element is closed in its turn, and the values of attributes are in quotes. It
+-- is a subset of XML: no comments, and no character that would have to be escaped.
 use Rattle.std.specs.Prelude.{◌≡◌, ◌≢◌, ◌<◌, ◌≤◌, ◌⊎◌, ℕ, List, [], ◌∷◌, ◌++◌, codes, length, slice_index}
 
 -- no byte of the text is that one

@@ -2,8 +2,8 @@
 
 use std::alloc::{AllocError, Global};
 
-/// Adds a sentence, on as many lines as it needs: a line ends at a blank, and has fewer letters than `width`, unless one
-/// word has more.
+/// Adds a sentence, on as many lines as it needs: a line ends at a blank, and has fewer characters than `width`,
+/// unless a single word has more.
 pub fn wrap(
     alloc: Global,
     lines: &mut Vec<String>,

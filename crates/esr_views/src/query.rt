@@ -14,6 +14,6 @@ pub struct AuditedQuery {
     pub transactions: Names,
     /// The history after the whole script.
     pub history: History<Weighted>,
-    /// What the audit finds of the query.
+    /// The finding of the query's audit.
     pub finding: Finding,
 }

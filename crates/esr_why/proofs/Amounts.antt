@@ -1,4 +1,4 @@
--- What an event lacks, by the charges that are due.
+-- The shortfalls of an event, from the charges due.
 use Rattle.std.proofs.Common.{◌≡◌, ℕ, ℤ, ◌+◌, ◌*◌, ◌<◌, ◌==◌, List, [], ◌∷◌, ◌++◌, length, map, take, get_or, append_assoc, true, false, refl, sym, ◌∙◌, ap, ap₂, arith, Option, None, Some, sum_by, if◌then◌else◌, FitsSigned, w64}
 use Rattle.std.specs.List.{filter_map, cons_option}
 use Rattle.std.proofs.lemmas.Bool.{false≢true, eq-eqb, eqb-true}

@@ -14,7 +14,7 @@ pub record IsWaiting (es : List Entry) (w : Wait) : Type 0 where
   pub last : last_place txn_in w.txn.0 es ≡ Some w.place
   pub blocked : option_map (λ e. e.reply) (slice_get es w.place) ≡ Some (Refused (BlockedByLock w.holder))
 
--- the first goes to the end
+-- the first element is moved to the end
 abbrev pub turned : List TxnId → List TxnId
 turned [] = []
 turned (t ∷ ts) = ts ++ t ∷ []

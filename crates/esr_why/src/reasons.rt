@@ -17,7 +17,7 @@ use esr_items::Weighted;
 use esr_views::{Recording, ScriptView};
 use std::alloc::{AllocError, Global};
 
-/// Why the lines of a script were blocked.
+/// The view that reports why the lines of a script were blocked.
 #[derive(Drop)]
 pub struct Why<'a> {
     /// The transaction whose lines are reported; all lines if `None`.
@@ -62,7 +62,7 @@ fn lock_of(replay: &Replay<'_>, event: Event, holder: TxnId) -> Lock
     }
 }
 
-/// A survey on its way over the entries.
+/// The state of a report over the entries.
 #[derive(Drop)]
 struct Reporter<'a> {
     alloc: Global,

@@ -27,12 +27,12 @@ pub enum Side {
     Export,
 }
 
-/// What an event would have added to a limit that it would have passed.
+/// The charge of an event to a limit that it would have exceeded.
 #[derive(Clone, Copy)]
 pub struct Shortfall {
     pub side: Side,
     pub txn: TxnId,
-    /// What would have been charged.
+    /// The charge due.
     pub due: u128,
     /// The charges before.
     pub used: u64,

@@ -104,7 +104,7 @@ fn refusal_of(alloc: Global, jobs: u64, seats: u64) -> Option<BoardError> {
     Board::new(alloc, jobs, seats).err()
 }
 
-/// The bounds are constants that no clause compares with the formats; and none says that the largest board is made.
+/// The bounds are constants that no clause compares with the formats; and none states that the largest board is made.
 #[test]
 fn a_board_has_few_jobs_and_seats(rt: HostRuntime) {
     let alloc = rt.alloc();

@@ -68,7 +68,7 @@ struct Parts<'a> {
     worth: u64,
 }
 
-/// That both updates of the report are in the set.
+/// Both updates of the report are in the set.
 const BOTH: Parts<'static> = Parts {
     set: &[0, 1],
     chains: &[&[0, 0, 1], &[1, 0]],
@@ -100,7 +100,7 @@ const PAID: Parts<'static> = Parts {
     ..FREE
 };
 
-/// That the update which the query must have seen is in the set.
+/// The update that the query must have seen is in the set.
 const SEEN: Parts<'static> = Parts {
     set: &[0],
     chains: &[&[0, 5]],
@@ -149,7 +149,7 @@ const OF_FREE: [Case; 2] = [
     (Count(1), Some(Fault::TooManyAugmentations)),
 ];
 
-/// A set has to hold what the query must have seen.
+/// A set must contain the update that the query must have seen.
 const OF_SEEN: [Case; 5] = [
     (Nothing, None),
     (Worth(4), Some(Fault::WorthNotCost)),
@@ -197,7 +197,7 @@ static REFUSED: [(OneItemEvent<'static>, BundleFault); 5] = [
         },
         BundleFault::Shape,
     ),
-    // What must be held is none of the updates.
+    // A required update is not one of the updates.
     (
         OneItemEvent {
             items: &[],
@@ -313,7 +313,7 @@ fn each_fault_of_a_certificate(rt: HostRuntime) {
     assert!(rt; Fault::TooManyAugmentations.number() == 7);
 }
 
-/// The least distance does not rest on the count: a definition with a larger bound, or none, would be proved.
+/// The least distance does not depend on the count: a definition with a larger bound, or none, would be proved.
 #[test]
 fn a_count_of_augmentations_is_at_most_nodes_times_arcs(rt: HostRuntime) {
     check_all(&rt, rt.alloc(), THIRD_ITEM, NEITHER, &OF_NEITHER);
@@ -333,7 +333,7 @@ fn a_set_has_to_hold_must(rt: HostRuntime) {
     check_all(&rt, rt.alloc(), STRICT, SEEN, &OF_SEEN);
 }
 
-/// No clause can say that a problem finds memory: with sound parts it could be refused each time, and be proved.
+/// No clause can state that a problem's allocation succeeds: with sound parts it could always fail, and be proved.
 #[test]
 fn a_problem_keeps_its_parts(rt: HostRuntime) {
     let Ok(problem) = problem(rt.alloc(), REPORT) else {

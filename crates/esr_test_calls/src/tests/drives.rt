@@ -5,7 +5,7 @@ use esr_drive::{DriveOutput, drive};
 use esr_history::Watched;
 use esr_lint::Unobserved;
 
-/// No clause says that blocks run at once: a drive of one after another would leave the first waiting in the gate.
+/// No clause states that blocks run concurrently: a sequential drive would leave the first waiting in the gate.
 #[test]
 fn two_blocks_are_in_the_gate_at_once(rt: HostRuntime) {
     let gate = Meeting::new();

@@ -22,7 +22,7 @@ fn store_of(rt: &impl Abort, alloc: Global, values: &[i64]) -> Store
     store
 }
 
-/// No clause can say that a store finds memory: one that never does would be proved, and keep no value at all.
+/// No clause can state that a store's allocation succeeds: one that always fails would be proved, and keep no value.
 #[test]
 fn a_store_keeps_two_values_of_each_item(rt: HostRuntime) {
     let mut store = store_of(&rt, rt.alloc(), &[7, -MAX_VALUE]);

@@ -7,7 +7,8 @@ use esr_history::TxnId;
 use esr_ledgers::{Ledgers, Quote};
 use std::process::Abort;
 
-/// Which query is named, and that a charge may fill a limit, is a definition's: one off by 1 would be proved.
+/// A definition determines the query that is named, and that a charge may reach a limit: one off by 1 would be
+/// proved.
 #[test]
 fn an_export_limit_bounds_the_sum_over_queries(rt: HostRuntime) {
     check_the_sum(&rt, &mut Ledgers::new(rt.alloc()));

@@ -106,7 +106,7 @@ fn queries_are_in_order_with_counts(rt: HostRuntime) {
     assert!(rt; locks.query_reads(B) == [QueryReads { query: r, count: 1 }].as_slice());
 }
 
-/// A row holds four readers without an allocation; that the fifth gets one no clause can say.
+/// A row holds four readers without an allocation; no clause can state that the fifth gets one.
 #[test]
 fn more_readers_than_a_row_holds_are_in_order(rt: HostRuntime) {
     let mut locks = table(&rt, rt.alloc());
@@ -120,7 +120,7 @@ fn more_readers_than_a_row_holds_are_in_order(rt: HostRuntime) {
     assert!(rt; locks.may_write(TxnId(11), A) == Some(TxnId(13)));
 }
 
-/// A row holds two queries without an allocation; that the third gets one no clause can say.
+/// A row holds two queries without an allocation; no clause can state that the third gets one.
 #[test]
 fn more_queries_than_a_row_holds_are_in_order(rt: HostRuntime) {
     let mut locks = table(&rt, rt.alloc());

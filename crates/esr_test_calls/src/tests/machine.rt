@@ -115,7 +115,7 @@ const REPORT_AND_WRITER: [(OneItemEvent, Reply); 6] = [
     (Commit(2), Committed),
 ];
 
-/// Contracts allow a machine that is always out of memory, and a definition could charge more than the distance.
+/// Contracts permit a machine that is always out of memory, and a definition could charge more than the distance.
 #[test]
 fn report_concurrent_with_writer(rt: HostRuntime) {
     check_run(&rt, rt.alloc(), 100, &REPORT_AND_WRITER, 7);

@@ -1,4 +1,4 @@
-//! A gate that holds one job until another has come.
+//! A gate that holds one job until another has entered.
 
 use esr_board::Gate;
 use std::process::Abort;

@@ -132,7 +132,7 @@ fn each_number_of_workers_finds_the_same(rt: HostRuntime) {
     }
 }
 
-/// The most workers are a constant that no clause compares with the formats: one that lets 65 in could be proved.
+/// The maximum number of workers is a constant that no clause compares with the formats: 65 could be proved.
 #[test]
 fn an_audit_has_1_to_64_workers(rt: HostRuntime) {
     let m = machine_after_report(&rt, rt.alloc());
@@ -150,7 +150,8 @@ fn an_empty_history_has_no_findings(rt: HostRuntime) {
     assert!(rt; book.order.is_empty() && book.findings.is_empty());
 }
 
-/// No clause says that threads run at once or call the gate: one worker for both jobs would wait there in vain.
+/// No clause states that threads run concurrently or call the gate: one worker for both jobs would wait there in
+/// vain.
 #[test]
 fn two_workers_at_once(rt: HostRuntime) {
     let mut m = machine_after_report(&rt, rt.alloc());
@@ -176,7 +177,7 @@ fn one_seat(rt: &impl Abort, alloc: Global, jobs: u64) -> (Board, BoardSeat)
     (board, seat)
 }
 
-/// The contract lets out of memory come in place of this refusal; what the seat drew is not lost by it.
+/// The contract permits out of memory in place of this refusal; the job that the seat claimed is not lost by it.
 #[test]
 fn a_worker_refuses_what_is_no_committed_query(rt: HostRuntime) {
     let m = machine_after_report(&rt, rt.alloc());
@@ -195,7 +196,7 @@ fn a_worker_refuses_what_is_no_committed_query(rt: HostRuntime) {
     assert!(rt; board.close(given) == Ok(()));
 }
 
-/// By its contract a worker may draw its job and be out of memory, each time: here its share has the job's finding.
+/// By its contract, a worker may claim its job and always be out of memory: here its share has the job's finding.
 #[test]
 fn a_worker_alone_does_all_jobs(rt: HostRuntime) {
     let m = machine_after_report(&rt, rt.alloc());

@@ -105,7 +105,7 @@ static ROWS: [Row; 34] = [
         10,
         "comment after a command; comments must be on their own line",
     ),
-    // A word that is near none has no hint.
+    // A word that is not near any other has no hint.
     (b"hello", 1, "unknown command \"hello\""),
     // A letter is missing.
     (b"comit q", 1, "unknown command \"comit\"; commit?"),
@@ -129,7 +129,7 @@ static ROWS: [Row; 34] = [
         17,
         "expected strict, found \"strickt\"; strict?",
     ),
-    // A word too many.
+    // One word too many.
     (
         b"read q a b",
         10,

@@ -176,7 +176,7 @@ fn check_draft(rt: &impl Abort, alloc: Global, row: &Row) {
     assert!(rt; found.certificate.set.as_slice() == row.set, "{}", row.name);
 }
 
-// No clause says that a draft is a maximum flow: one that is none costs time alone.
+// No clause states that a draft is a maximum flow: another draft costs only time.
 #[test]
 fn drafts_of_known_problems_are_maximum_flows(rt: HostRuntime) {
     for row in rows() {

@@ -12,7 +12,7 @@ type Words = &'static [&'static str];
 
 /// Command lines, and the task that each requests.
 static TASKS: [(Words, Task<'static>); 25] = [
-    // `run` takes no name: it answers every line.
+    // `run` takes no name: it replies to every line.
     (&["esr", "run"], Task::Run),
     // `check` takes no name: a bundle is of one query.
     (
@@ -23,7 +23,7 @@ static TASKS: [(Words, Task<'static>); 25] = [
             verbose: false,
         },
     ),
-    // A bundle may be said to be of a query of a script.
+    // A bundle may be checked as that of a query of a script.
     (
         &[
             "esr",
@@ -143,7 +143,7 @@ static TASKS: [(Words, Task<'static>); 25] = [
             worst: None,
         },
     ),
-    // The most that may be drawn.
+    // The maximum number of samples.
     (
         &["esr", "explore", "--seeds", "100000", "--worst", "import"],
         Task::Explore {
@@ -183,7 +183,7 @@ fn task_of(alloc: Global, words: Words) -> Option<Task<'static>> {
     }
 }
 
-/// By its contract each command line may be out of memory, and then no words would get their job.
+/// By its contract, each command line may be out of memory, and then no arguments would get their job.
 #[test]
 fn words_ask_for_their_work(rt: HostRuntime) {
     for (words, wanted) in tasks() {
@@ -196,7 +196,7 @@ fn words_ask_for_their_work(rt: HostRuntime) {
 static FILES: [(Words, Option<&str>, bool); 6] = [
     // Standard input if no file is named.
     (&["esr", "run"], None, false),
-    // The file is the last word.
+    // The file is the last argument.
     (&["esr", "run", "a.esr"], Some("a.esr"), false),
     // It follows the name.
     (&["esr", "certify", "q", "a.esr"], Some("a.esr"), false),
@@ -232,7 +232,7 @@ fn words_name_their_file(rt: HostRuntime) {
     }
 }
 
-/// Words, when they want progress to be shown, and how they want it written.
+/// Command lines, when progress is shown, and the format.
 static WAYS: [(Words, Progress, Option<Format>); 7] = [
     // The defaults: progress at a terminal, and text.
     (&["esr", "run"], Progress::AtATerminal, Some(Format::Text)),
@@ -248,7 +248,7 @@ static WAYS: [(Words, Progress, Option<Format>); 7] = [
         Progress::Never,
         Some(Format::Text),
     ),
-    // Of both, not to show it goes first.
+    // Of both, `--no-progress` takes precedence.
     (
         &["esr", "page", "--progress", "--no-progress"],
         Progress::Never,
@@ -398,7 +398,7 @@ fn has_lines(text: &str) -> bool {
     text.contains("begin NAME query LIMIT") && text.contains("audit q")
 }
 
-/// The words of help are in no clause: help that says nothing of a script's lines would be proved.
+/// No clause contains the help texts: help that does not mention a script's lines would be proved.
 #[test]
 fn help_teaches_the_lines_of_a_script(rt: HostRuntime) {
     assert!(rt; teaches_lines(rt.alloc(), &["esr", "--help"]));

@@ -223,8 +223,8 @@ static ORDERS: [[usize; 3]; 6] = [
     [2, 1, 0],
 ];
 
-/// What the plain program looks at: the opening values and the accepted operations of a
-/// history, a query, the updates that committed before it, and those that it must have seen.
+/// The input of the plain program: the opening values and the accepted operations of a history, a query, the updates
+/// that committed before it, and those that it must have seen.
 #[derive(Drop)]
 struct Small {
     opening: Vec<i64>,
@@ -337,7 +337,7 @@ pub(super) fn least_or_abort(alloc: Global, m: &Machine<Plain>, q: u32) -> Optio
     }
 }
 
-/// Lets the machine answer events of a query and of three updates by the rule.
+/// Lets the machine execute drawn events of a query and of three updates.
 fn draw(m: &mut Machine<Plain>, draws: &mut Draws, query: u32, first: u32) {
     for _ in 0..24 {
         let _ = accepts(m, draws.event(query, first));
@@ -439,7 +439,7 @@ fn compare_all(
     Some((found, plain, free))
 }
 
-/// A definition could ask nothing more of a strict query: some have to be farther here than if they were not strict.
+/// A definition could treat a strict query like any other: some must be farther here than if they were not strict.
 #[test]
 fn least_of_all_strict_placements(rt: HostRuntime) {
     let mut farther = 0u32;

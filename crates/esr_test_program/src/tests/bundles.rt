@@ -53,7 +53,7 @@ fn keys_may_come_in_any_order_with_white_space(rt: HostRuntime) {
     );
 }
 
-/// Which fault is of JSON and which of a bundle's shape is a definition's: the least input of each is tried.
+/// A definition determines the faults of JSON and those of a bundle's shape: the least input of each is tested.
 #[test]
 fn the_empty_input_is_no_json(rt: HostRuntime) {
     has_verdict(&rt, rt.alloc(), "", "bad 1\n");
@@ -74,7 +74,7 @@ fn is_rewritten(alloc: Global, text: &str) -> bool {
     }
 }
 
-/// No clause can say that a bundle finds memory: reading or writing could always run out of it and be proved.
+/// No clause can state that a bundle's allocation succeeds: reading or writing could always fail, and be proved.
 #[test]
 fn bundles_are_written_as_they_were_read(rt: HostRuntime) {
     let alloc = rt.alloc();

@@ -80,7 +80,7 @@ fn a_bundle_is_of_one_query(rt: HostRuntime) {
     claims(&rt, alloc, "report", "{}", "bad 2\n");
 }
 
-/// The words for people.
+/// The texts for people.
 #[test]
 fn faults_are_described(rt: HostRuntime) {
     let detail = detail_of(rt.alloc(), CHANGED.as_bytes());

@@ -302,7 +302,7 @@ static TWO_TEXTS: [&str; 2] = [
         audit q distance 0 import 0 before -\ntotals import 0 export 0 entries 6\n",
 ];
 
-/// No clause says which block begins first, or that a drive ends well: two texts are right here, and no third.
+/// No clause states which block begins first, or that a drive succeeds: exactly two texts are right here.
 #[test]
 fn two_blocks_begin_in_one_of_two_orders(rt: HostRuntime) {
     for workers in 1..4 {
@@ -330,7 +330,7 @@ static SHOWN: [(DriveFault, &str); 8] = [
     (DriveFault::Close, "receipts do not match"),
 ];
 
-/// The words of a fault are in no clause: the line of a file and its error could change places in them.
+/// No clause contains the texts of a fault: the line of a file and its error could be swapped in them.
 #[test]
 fn faults_show_their_texts(rt: HostRuntime) {
     for (fault, text) in &SHOWN {

@@ -246,7 +246,7 @@ fn occurs(rt: &impl Abort, alloc: Global, updates: u32, wanted: &[(&str, usize)]
     }
 }
 
-/// The contract lets out of memory come in place of this refusal, for an update's or an item's name as for none.
+/// The contract permits out of memory in place of this refusal, for the name of an update or an item as for no name.
 #[test]
 fn only_committed_queries_are_drawn(rt: HostRuntime) {
     let alloc = rt.alloc();

@@ -99,7 +99,7 @@ fn a_report_of_the_bank_is_described(rt: HostRuntime) {
     has(&rt, rt.alloc(), BANK, &prose, &[BANK_TOLD]);
 }
 
-/// What README's example does not have: each of these was wrong, or nowhere, in some draft.
+/// Cases that the README's example lacks: each of these was wrong, or missing, in some draft.
 #[test]
 fn outcomes_of_values_and_queries_are_described(rt: HostRuntime) {
     let alloc = rt.alloc();
@@ -121,7 +121,7 @@ fn outcomes_of_values_and_queries_are_described(rt: HostRuntime) {
     has(&rt, alloc, DAY, &Prose { name: "active" }, &active);
 }
 
-/// The contract lets out of memory come in place of this refusal.
+/// The contract permits out of memory in place of this refusal.
 #[test]
 fn only_queries_are_described(rt: HostRuntime) {
     let alloc = rt.alloc();

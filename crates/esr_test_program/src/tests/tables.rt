@@ -1,5 +1,5 @@
-//! Ledgers, audits and explanations as sheets. No clause says what JSON and the text in columns have in them, nor which
-//! lines a transaction goes from and to.
+//! Ledgers, audits and explanations as tables. No clause specifies the content of JSON and of the text in columns,
+//! nor the first and the last line of a transaction.
 
 use crate::tests::script_views::script_views;
 use esr_history::Watched;

@@ -31,8 +31,9 @@ deadlock: transfer waits for other at line 10, other waits for transfer at line 
 line 13: write transfer savings 1700: blocked by the import limit of closer: charge 100, remaining 0 of 100; a limit of 200 would suffice; closer ended at line 14
 ";
 
-/// Lines that make no entry; a write that is too much for one query of two and for its update; a read that is too much
-/// for both sides; three in a ring, closed by a second try, and a third that finds it closed.
+/// Lines that make no entry; a write that exceeds the limits of one query of two and of its update; a read that
+/// exceeds the limits of both sides; three transactions in a cycle, closed by a second try, and a third try that
+/// finds it closed.
 const NIGHT: &str = "# a night\n\
         item a 0 weight 2\n\
         item b 0\n\
@@ -74,7 +75,7 @@ fn explains_as(rt: &impl Abort, alloc: Global, script: &str, name: Option<&str>,
     script_views(rt, alloc, script, &Why { name }, Ok(()), wanted);
 }
 
-/// Each kind of line that there is, in the words of the guide.
+/// Each kind of line, in the text of the guide.
 #[test]
 fn blocked_lines_and_cycles_are_described(rt: HostRuntime) {
     let alloc = rt.alloc();
@@ -89,7 +90,7 @@ fn blocked_lines_and_cycles_are_described(rt: HostRuntime) {
     );
 }
 
-/// The lines of one transaction, and the rings that it is in.
+/// The lines of one transaction, and the cycles that it is in.
 #[test]
 fn one_transaction_is_described(rt: HostRuntime) {
     let alloc = rt.alloc();
@@ -102,7 +103,7 @@ deadlock: transfer waits for other at line 10, other waits for transfer at line 
     explains_as(&rt, alloc, CLOSING, Some("closer"), closer);
 }
 
-/// The contract lets out of memory come in place of this refusal.
+/// The contract permits out of memory in place of this refusal.
 #[test]
 fn unknown_transactions_are_refused(rt: HostRuntime) {
     let alloc = rt.alloc();

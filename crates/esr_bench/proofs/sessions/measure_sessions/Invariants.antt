@@ -1,7 +1,7 @@
 use Rattle.std.proofs.Common.{[], map}
 use Rattle.esr_bench.proofs.sessions.measure_sessions.Given as goal
 
--- which engine it is
+-- the engine
 abbrev pub ghosts-measure_engine-N-Naming : goal.ghosts-measure_engine-N-Naming
 ghosts-measure_engine-N-Naming g a = record { opening = map (λ w. w.committed) a.items; weights = [] }
 

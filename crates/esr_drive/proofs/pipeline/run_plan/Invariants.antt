@@ -1,7 +1,7 @@
 use Rattle.std.proofs.Common.{map}
 use Rattle.esr_drive.proofs.pipeline.run_plan.Given as goal
 
--- which engine it is
+-- the engine
 abbrev pub ghosts-drive_blocks-N-Naming : goal.ghosts-drive_blocks-N-Naming
 ghosts-drive_blocks-N-Naming g a = record { opening = map (λ w. w.committed) a.items; weights = a.metric }
 

@@ -106,7 +106,7 @@ static ROWS: [Row; 44] = [
         new: r#""before":[]"#,
         line: "bad 2\n",
     },
-    // A negative number is none of these.
+    // A negative number is not permitted.
     Row {
         bundle: TWO_UPDATES,
         old: r#""worth":1"#,
@@ -274,7 +274,7 @@ static ROWS: [Row; 44] = [
         new: "",
         line: "valid 0\n",
     },
-    // No augmentation is none.
+    // A count of 0 augmentations is valid.
     Row {
         bundle: EMPTY,
         old: r#""back_flow""#,
@@ -330,7 +330,7 @@ static ROWS: [Row; 44] = [
         new: r#""worth":4"#,
         line: "invalid 6\n",
     },
-    // What must be held is one of the updates.
+    // A required update is one of the updates.
     Row {
         bundle: STRICT,
         old: r#""must":[0]"#,

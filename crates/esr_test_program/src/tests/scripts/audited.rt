@@ -128,7 +128,8 @@ const TOO_LONG: &str =
     "item a 1\nxxxxxxxxxxxxxxxxxxxxxxxxxxxxxxxxxxxxxxxxxxxxxxxxxxxxxxxxxxxxxxxxxxxxxxxxxxxxxxxxxxxxxxxxxx\
     xxxxxxxxxxxxxxxxxxxxxxxxxxxxxxxxxxxxxxxxxxxxxxxxxxxxxxxxxxxxxxxxxxxxxxxxxxxxxxxxxxxxxxxxxxxxxxxxxxxxxxxxxxxxxxx";
 
-/// The contract lets out of memory come in place of each fault: a line of 201 bytes has to end the audit by its own.
+/// The contract permits out of memory in place of each fault: a line of 201 bytes must end the audit by its own
+/// fault.
 #[test]
 fn a_fault_leaves_nothing_written(rt: HostRuntime) {
     let ends = Err(RunFault::LineTooLong);

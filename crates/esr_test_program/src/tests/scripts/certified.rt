@@ -90,7 +90,7 @@ fn check_bundle(
     check_written(rt, &writer, text, name);
 }
 
-/// Which maximum flow a bundle holds no clause says; here there is one alone, and it goes back along the pair.
+/// No clause specifies which maximum flow a bundle contains; here there is only one, and it goes back along the pair.
 #[test]
 fn order_through_a_third_item_is_certified(rt: HostRuntime) {
     check_bundle(&rt, rt.alloc(), THIRD_ITEM, "q", false, Ok(()), BUNDLE);
@@ -152,7 +152,7 @@ fn an_update_without_a_part_is_left_out(rt: HostRuntime) {
     );
 }
 
-/// A strict query's bundle says what its set must hold, and what flows to that.
+/// A strict query's bundle contains the required updates of its set, and the flow to them.
 #[test]
 fn strict_report_is_certified(rt: HostRuntime) {
     check_bundle(

@@ -172,7 +172,7 @@ fn there_are_at_most_two_million_lines(rt: HostRuntime) {
     have_texts(&rt, rt.alloc(), &ROWS[2..5]);
 }
 
-/// No clause can say that a million entries find memory: a run could be out of it before its history is full.
+/// No clause can state that memory suffices for a million entries: a run could fail before its history is full.
 #[test]
 fn a_full_history_ends_at_the_next_event(rt: HostRuntime) {
     have_texts(&rt, rt.alloc(), &ROWS[5..6]);
@@ -224,7 +224,8 @@ fn ends_with(rt: &impl Abort, alloc: Global, script: &str, last: &str) {
     assert!(rt; writer.inner().as_slice().ends_with(last.as_bytes()));
 }
 
-/// No clause can say that 4,096 items find memory: a run that is always out of it before the bound would be proved.
+/// No clause can state that memory suffices for 4,096 items: a run that always fails before the bound would be
+/// proved.
 #[test]
 fn at_most_4096_items_are_declared(rt: HostRuntime) {
     let others = "begin u update 0\nread u x4095\nread u x4096\n";
@@ -234,7 +235,7 @@ fn at_most_4096_items_are_declared(rt: HostRuntime) {
     ends_with(&rt, rt.alloc(), script.as_str(), last);
 }
 
-/// No clause can say that 65,535 transactions find memory: a run that is always out of it before would be proved.
+/// No clause can state that memory suffices for 65,535 transactions: a run that always fails before would be proved.
 #[test]
 fn at_most_65535_transactions_begin(rt: HostRuntime) {
     let script = number_lines(rt.alloc(), "begin t", " update 0\n", 65536, "").expect(

@@ -35,7 +35,7 @@ static ROWS: [Row; 39] = [
         text: "item a 100\nbegun u 1\nwrote u a 105\nu a 105\ncommitted u\n",
         ended: Ok(()),
     },
-    // Two readers of an item, one of which wants to write it: it is blocked until the other has ended.
+    // Two readers of an item, one of which requests a write: it is blocked until the other has ended.
     Row {
         name: "upgrade_waits_for_a_reader",
         script: "item a 0\n\
@@ -65,7 +65,7 @@ static ROWS: [Row; 39] = [
         text: "item a 1\nbegun u 1\nwrote u a 5\naborted u\nbegun v 2\nv a 1\n",
         ended: Ok(()),
     },
-    // What an update may not do, each by its own number.
+    // The refused events of an update, each with its own number.
     Row {
         name: "refusals_of_updates",
         script: "item a 0\n\
@@ -90,7 +90,7 @@ static ROWS: [Row; 39] = [
             refused 2 already ended\n",
         ended: Ok(()),
     },
-    // Who has ended can do nothing more.
+    // A transaction that has ended can do nothing more.
     Row {
         name: "ended_transactions",
         script: "item a 1\n\
@@ -117,7 +117,7 @@ static ROWS: [Row; 39] = [
             refused 2 already ended\n",
         ended: Ok(()),
     },
-    // Comments and empty lines have no answer, so answers and lines count apart.
+    // Comments and empty lines have no reply, so replies and lines are counted separately.
     Row {
         name: "lines_that_are_skipped",
         script: "# a note\n\nitem a 1\n#\nbegin u update 0\n # no note\n",
@@ -587,7 +587,7 @@ static ROWS: [Row; 39] = [
             audit q distance 2 import 6 before -\n",
         ended: Ok(()),
     },
-    // Who read nothing, or nothing that was written, is exact.
+    // A query that read nothing, or nothing that was written, is exact.
     Row {
         name: "queries_that_read_little",
         script: "item a 7\n\

@@ -1,7 +1,7 @@
 use Rattle.std.proofs.Common.{[], map}
 use Rattle.esr_test_calls.proofs.tests.sessions.four_sessions.Given as goal
 
--- which engine it is
+-- the engine
 abbrev pub ghosts-begin_and_commit-N-Naming : goal.ghosts-begin_and_commit-N-Naming
 ghosts-begin_and_commit-N-Naming g a = record { opening = map (λ w. w.committed) a.items; weights = [] }
 
