@@ -10,7 +10,7 @@ use Rattle.esr_history.specs.Serial.{state}
 use Rattle.esr_history.specs.Queries.{reads_by}
 use Rattle.esr_history.proofs.WithinRanges.{legal_within_ranges}
 use Rattle.esr_order.specs.Orders.{Ordered, IsOrderAmong, chain_at}
-use Rattle.esr_order.specs.Near.{AreNear, has_written}
+use Rattle.esr_order.specs.Relevant.{AreRelevant, has_written}
 use Rattle.esr_cert.specs.declared.problem.Chain.{Chain}
 use Rattle.esr_cert.specs.Views.{chain_of, problem_of}
 use Rattle.esr_cert.specs.Problem.{Problem, is_sound}
@@ -21,13 +21,13 @@ use Rattle.esr_audit.proofs.Within.{state_in_range, sound, each_mapped}
 use Rattle.esr_audit.proofs.ItemReads as reads
 
 module _ (d : Distance) (h : Schedule) (q : ℕ) (legal : IsLegal d h) (opened : All IsValue h.opening) where
-  pub item_reads_few : (rs : List ItemRead) → rs ≡ map item_read_of (reads_by h q) → IsTrue (is_query (accepted_in h) q) → length rs ≤ 1000
-  item_reads_few rs are query = subst (λ (rs : List ItemRead). length rs ≤ 1000) (sym are) (reads.item_reads_few h q (legal_within_ranges d h opened legal) opened query)
+  pub item_reads_bounded : (rs : List ItemRead) → rs ≡ map item_read_of (reads_by h q) → IsTrue (is_query (accepted_in h) q) → length rs ≤ 1000
+  item_reads_bounded rs are query = subst (λ (rs : List ItemRead). length rs ≤ 1000) (sym are) (reads.item_reads_bounded h q (legal_within_ranges d h opened legal) opened query)
 
   pub item_reads_in_range : (rs : List ItemRead) → rs ≡ map item_read_of (reads_by h q) → All (λ (r : ItemRead). IsValue r.value) rs
   item_reads_in_range rs are = subst (All (λ (r : ItemRead). IsValue r.value)) (sym are) (reads.item_reads_in_range h q (legal_within_ranges d h opened legal) opened)
 
-  module _ (us : List ℕ) (near : AreNear h q us) (o : Ordered) (good : IsOrderAmong h q us o) where
+  module _ (us : List ℕ) (relevant : AreRelevant h q us) (o : Ordered) (good : IsOrderAmong h q us o) where
     pub versions_in_range : (x : ℕ) → All IsValue (values_in (chain_at o x))
     versions_in_range x =
         subst (All IsValue) (sym (versions_are h us o x (good.chains x)))
@@ -44,5 +44,5 @@ module _ (d : Distance) (h : Schedule) (q : ℕ) (legal : IsLegal d h) (opened :
         let E : List _ → Problem = λ cs. record { updates = map (λ (t : TxnId). t.0) o.commits; before = o.before; chains = cs; must = o.must } in
         ap A a ∙ ap B b ∙ ap C c ∙ ap E parts
 
-    pub posed_sound : length h.opening ≤ 4096 → IsTrue (is_query (accepted_in h) q) → ((w : List ℕ) (x : ℕ) (a b : ℤ) → IsValue a → IsValue b → d w x a b ≤ 2 * 10 ^ 15) → is_sound (problem_from d h q o) ≡ true
-    posed_sound few query bounded = sound d h q (legal_within_ranges d h opened legal) opened bounded legal us near o good few query
+    pub problem_sound : length h.opening ≤ 4096 → IsTrue (is_query (accepted_in h) q) → ((w : List ℕ) (x : ℕ) (a b : ℤ) → IsValue a → IsValue b → d w x a b ≤ 2 * 10 ^ 15) → is_sound (problem_from d h q o) ≡ true
+    problem_sound within_max query bounded = sound d h q (legal_within_ranges d h opened legal) opened bounded legal us relevant o good within_max query

@@ -79,8 +79,8 @@ distinct [] once = tt
 distinct (u ∷ us) once = (each_in (λ v. eqb u v ≡ false) us (λ v i. ne_eqb u v (each_at (λ w. u ≡ w → ⊥) us v once.0 i)), distinct us once.1)
 
 -- there are as many committed queries as begins at most
-pub few_queries : (d : Distance) (h : Schedule) → IsLegal d h → length (committed_queries h) ≤ 65535
-few_queries d h legal =
+pub bounded_queries : (d : Distance) (h : Schedule) → IsLegal d h → length (committed_queries h) ≤ 65535
+bounded_queries d h legal =
     let qs : List ℕ = committed_queries h in
     let begins : length (beginnings (accepted_in h)) ≤ 65535 = legal_begins d h legal in
     let none : AllByRecursion (λ q. 0 ≡ q → ⊥) qs = each_in (λ q. 0 ≡ q → ⊥) qs (λ q i e. let low : 1 ≤ q = (numbered q i).0 in omega (arith, low, e)) in

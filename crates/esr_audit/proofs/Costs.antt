@@ -13,7 +13,7 @@ use Rattle.esr_history.specs.Queries.{updates_of, reads_by, distance_from, membe
 use Rattle.esr_history.proofs.Membership.{In, each_in, each_at}
 use Rattle.esr_cert.specs.Problem as problems
 use Rattle.esr_cert.specs.Problem.{Problem, version, chain_cost}
-use Rattle.esr_order.specs.Near.{has_written}
+use Rattle.esr_order.specs.Relevant.{has_written}
 use Rattle.esr_audit.specs.Problems.{passes_at, places, items_read, writers_of, read_distance, version_cost, chain_for, IsProblemOf}
 use Rattle.esr_audit.proofs.Values.{state_by_version}
 use Rattle.esr_audit.proofs.Places.{places_version, version_le}
@@ -89,7 +89,7 @@ distance_by_item d h q w inside =
     read_here (p ∷ os) o (inl e) = ap (λ b. b || list_any (λ (p : Operation). eqb p.item o.item) os) (eq-eqb p.item o.item (ap (λ (r : Operation). r.item) e))
     read_here (p ∷ os) o (inr i) = let rest = read_here os o i in ap (λ b. eqb p.item o.item || b) rest ∙ or-true (eqb p.item o.item)
 
-module _ (d : Distance) (h : Schedule) (q : ℕ) (p : Problem) (of_query : IsProblemOf d h q p) (inside : AllByRecursion (λ (o : Operation). o.item < length h.opening) (reads_by h q)) where
+module _ (d : Distance) (h : Schedule) (q : ℕ) (p : Problem) (is_problem : IsProblemOf d h q p) (inside : AllByRecursion (λ (o : Operation). o.item < length h.opening) (reads_by h q)) where
   chain_is : (S : ℕ → Bool) (x : ℕ) → filter (has_written h x) p.updates ≡ writers_of h q x → chain_cost (passes_at p.updates S) (chain_for d h q p.updates x) ≡ read_distance d h q x (state h (members h q S) x)
   chain_is S x all =
       let v : version (passes_at p.updates S) (places p.updates (has_written h x)) ≡ version S (writers_of h q x) = places_version p.updates S (has_written h x) ∙ ap (version S) all in
@@ -100,9 +100,9 @@ module _ (d : Distance) (h : Schedule) (q : ℕ) (p : Problem) (of_query : IsPro
   -- the cost of a set of positions is that of the transactions there
   pub cost_is_distance : (S : ℕ → Bool) → problems.cost p (passes_at p.updates S) ≡ cost d h q S
   cost_is_distance S =
-      ap (sum_by (chain_cost (passes_at p.updates S))) of_query.chains
+      ap (sum_by (chain_cost (passes_at p.updates S))) is_problem.chains
       ∙ sum_mapped (chain_cost (passes_at p.updates S)) (chain_for d h q p.updates) (items_read h q)
       ∙ sum_same (λ x. chain_cost (passes_at p.updates S) (chain_for d h q p.updates x)) (λ x. read_distance d h q x (state h (members h q S) x)) (items_read h q)
       (each_in (λ x. chain_cost (passes_at p.updates S) (chain_for d h q p.updates x) ≡ read_distance d h q x (state h (members h q S) x)) (items_read h q)
-      (λ x i. chain_is S x (each_at (λ x. filter (has_written h x) p.updates ≡ writers_of h q x) (items_read h q) x (recursion_from_All (λ x. filter (has_written h x) p.updates ≡ writers_of h q x) (items_read h q) of_query.writers) i)))
+      (λ x i. chain_is S x (each_at (λ x. filter (has_written h x) p.updates ≡ writers_of h q x) (items_read h q) x (recursion_from_All (λ x. filter (has_written h x) p.updates ≡ writers_of h q x) (items_read h q) is_problem.writers) i)))
       ∙ distance_by_item d h q (state h (members h q S)) inside

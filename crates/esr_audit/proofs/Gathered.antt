@@ -122,9 +122,9 @@ some_read (r ∷ reads) x n = at (eqb r.item x) n (some_read reads x)
     at true n rest = refl
     at false n rest = rest n
 
-pub values_few : (reads : List ItemRead) (x : ℕ) → length (values_of reads x) ≤ length reads
-values_few [] x = omega arith
-values_few (r ∷ reads) x = at (eqb r.item x) (values_few reads x)
+pub values_bounded : (reads : List ItemRead) (x : ℕ) → length (values_of reads x) ≤ length reads
+values_bounded [] x = omega arith
+values_bounded (r ∷ reads) x = at (eqb r.item x) (values_bounded reads x)
   where
     at : (b : Bool) → length (values_of reads x) ≤ length reads → length (map (λ (s : ItemRead). s.value) (cond b (r ∷ filter (λ (s : ItemRead). eqb s.item x) reads) (filter (λ (s : ItemRead). eqb s.item x) reads))) ≤ length (r ∷ reads)
     at true l = omega arith

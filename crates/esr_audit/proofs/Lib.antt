@@ -18,4 +18,4 @@ pub mod BuiltProblem
 pub mod Committed
 pub mod SummaryLaws
 pub mod SameSet
-pub mod StretchLaws
+pub mod RangeLaws

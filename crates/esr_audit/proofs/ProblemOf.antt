@@ -14,8 +14,8 @@ use Rattle.esr_history.proofs.Membership.{In, In-any, In-of_filter, Pairs, each_
 use Rattle.esr_order.specs.Placements.{is_among, IsClosed}
 use Rattle.esr_order.specs.Chains.{nth}
 use Rattle.esr_order.specs.Orders.{Ordered, IsClosedAt, IsOrderAmong}
-use Rattle.esr_order.specs.Near.{AreNear, has_written}
-use Rattle.esr_order.proofs.NearLaws.{near_closed, near_writers}
+use Rattle.esr_order.specs.Relevant.{AreRelevant, has_written}
+use Rattle.esr_order.proofs.RelevantLaws.{relevant_closed, relevant_writers}
 use Rattle.esr_cert.specs.Problem.{Problem, is_closed, in_set, is_ascending}
 use Rattle.esr_cert.proofs.Sound as sound
 use Rattle.esr_audit.specs.Problems.{passes_at, places, items_read, writers_of, chain_for, IsProblemOf}
@@ -53,7 +53,7 @@ ascending_from_pairs : (xs : List ℕ) → Pairs (λ i j. i < j) xs → is_ascen
 ascending_from_pairs (x ∷ y ∷ rest) p = and_from (nat_lt x y) (is_ascending (y ∷ rest)) (lt-ltb x y (p.0).0) (ascending_from_pairs (y ∷ rest) p.1)
 ascending_from_pairs _ p = refl
 
-module _ (d : Distance) (h : Schedule) (q : ℕ) (legal : IsLegal d h) (us : List ℕ) (near : AreNear h q us) (o : Ordered) (good : IsOrderAmong h q us o) where
+module _ (d : Distance) (h : Schedule) (q : ℕ) (legal : IsLegal d h) (us : List ℕ) (relevant : AreRelevant h q us) (o : Ordered) (good : IsOrderAmong h q us o) where
   count : length o.commits ≡ length us
   count = sym (length-map o.commits (λ (t : TxnId). t.0)) ∙ ap length good.commits
 
@@ -101,7 +101,7 @@ module _ (d : Distance) (h : Schedule) (q : ℕ) (legal : IsLegal d h) (us : Lis
   pub all_writers : (x : ℕ) → In x (items_read h q) → filter (has_written h x) us ≡ writers_of h q x
   all_writers x i =
       let r = In-any (λ (p : Operation). eqb p.item x) (reads_by h q) (In-of_filter (λ x. list_any (λ (p : Operation). eqb p.item x) (reads_by h q)) (range_with_len 0 (length h.opening)) x i).1 in
-      subst (λ y. filter (has_written h y) us ≡ writers_of h q y) (eqb-true r.0.item x r.2) (near_writers d h q legal us near r.0 r.1)
+      subst (λ y. filter (has_written h y) us ≡ writers_of h q y) (eqb-true r.0.item x r.2) (relevant_writers d h q legal us relevant r.0 r.1)
 
   chains_same : (xs : List ℕ) → ((x : ℕ) → In x xs → In x (items_read h q)) → map (audit_chain (distance_in d h) h.opening o (map item_read_of (reads_by h q))) xs ≡ map (chain_for d h q us) xs
   chains_same [] inside = refl
@@ -143,12 +143,12 @@ module _ (d : Distance) (h : Schedule) (q : ℕ) (legal : IsLegal d h) (us : Lis
   same_closed : (S : ℕ → Bool) → (is_closed (problem_from d h q o) (passes_at us S) ≡ true) ↔ IsClosed h q (λ u. is_among us u && S u)
   same_closed S =
       let on = good.closed (λ u. is_among us u && S u) in
-      let all = near_closed d h q legal us near S in
+      let all = relevant_closed d h q legal us relevant S in
       ((λ c. all.0 (on.0 (closed_to S c))), (λ c. closed_from S (on.1 (all.1 c))))
 
-  pub of_query : IsProblemOf d h q (problem_from d h q o)
-  of_query = record {
-    updates = good.commits ∙ near.in_order ∙ ap (λ vs. filter (is_among vs) (updates_of h q)) (sym good.commits);
+  pub is_problem : IsProblemOf d h q (problem_from d h q o)
+  is_problem = record {
+    updates = good.commits ∙ relevant.in_order ∙ ap (λ vs. filter (is_among vs) (updates_of h q)) (sym good.commits);
     writers = All-from_recursion (λ x. filter (has_written h x) (map (λ (t : TxnId). t.0) o.commits) ≡ writers_of h q x) (items_read h q) (each_in (λ x. filter (has_written h x) (map (λ (t : TxnId). t.0) o.commits) ≡ writers_of h q x) (items_read h q) (λ x i. ap (filter (has_written h x)) good.commits ∙ all_writers x i));
     must = must_places ∙ ap (λ vs. places vs (is_among (must h q))) (sym good.commits);
     chains = ap (map (audit_chain (distance_in d h) h.opening o (map item_read_of (reads_by h q)))) items_same ∙ chains_same (items_read h q) (λ x i. i) ∙ ap (λ vs. map (chain_for d h q vs) (items_read h q)) (sym good.commits);

@@ -13,13 +13,13 @@ use Rattle.esr_order.specs.ConflictPairs.{IsLexLess}
 use Rattle.esr_order.specs.Chains as orders
 use Rattle.esr_order.specs.Chains.{nth, chain_from, if_written, last_among}
 use Rattle.esr_order.specs.Orders.{Ordered, IsOrderAmong}
-use Rattle.esr_order.specs.Near.{AreNear, has_written}
+use Rattle.esr_order.specs.Relevant.{AreRelevant, has_written}
 use Rattle.esr_cert.specs.Problem.{Chain, in_set, is_ascending, pair_lt, are_pairs_ascending, has_pair, are_linked, is_distinct, chain_has_shape, has_shape}
 use Rattle.esr_cert.proofs.Sound.{all_from}
 use Rattle.esr_audit.specs.Problems.{places, items_read, writers_of, passes_at, version_cost, chain_for}
 use Rattle.esr_audit.proofs.Places.{length-places}
 use Rattle.esr_audit.proofs.Versions.{chain_writers}
-use Rattle.esr_audit.proofs.ProblemOf.{problem_from, of_query, must_ascends, all_writers}
+use Rattle.esr_audit.proofs.ProblemOf.{problem_from, is_problem, must_ascends, all_writers}
 
 distinct_from : (us : List ℕ) → Pairs (λ u v. u ≢ v) us → is_distinct us ≡ true
 distinct_from [] p = refl
@@ -57,13 +57,13 @@ range_ascends P a (suc n) = pick (P a) (range_ascends_from P a (a + 1) n (omega 
     pick false with_it without = without
 
 linked_from : (before : List (ℕ × ℕ)) (ws : List ℕ) → ((i : ℕ) → i + 1 < length ws → Contains before (slice_index_or ws i 0, slice_index_or ws (i + 1) 0)) → are_linked before ws ≡ true
-linked_from before (w ∷ x ∷ rest) near =
+linked_from before (w ∷ x ∷ rest) relevant =
     and_from (has_pair before w x) (are_linked before (x ∷ rest))
-    (any-from_In (λ (e : ℕ × ℕ). eqb e.0 w && eqb e.1 x) before (w, x) (Contains-In before (w, x) (near 0 (omega arith))) (and_from (eqb w w) (eqb x x) (eq-eqb w w refl) (eq-eqb x x refl)))
-    (linked_from before (x ∷ rest) (λ i l. let e : suc i + 1 ≡ suc (i + 1) = omega arith in subst (λ k. Contains before (slice_index_or (x ∷ rest) i 0, slice_index_or (w ∷ x ∷ rest) k 0)) e (near (suc i) (omega arith))))
-linked_from before _ near = refl
+    (any-from_In (λ (e : ℕ × ℕ). eqb e.0 w && eqb e.1 x) before (w, x) (Contains-In before (w, x) (relevant 0 (omega arith))) (and_from (eqb w w) (eqb x x) (eq-eqb w w refl) (eq-eqb x x refl)))
+    (linked_from before (x ∷ rest) (λ i l. let e : suc i + 1 ≡ suc (i + 1) = omega arith in subst (λ k. Contains before (slice_index_or (x ∷ rest) i 0, slice_index_or (w ∷ x ∷ rest) k 0)) e (relevant (suc i) (omega arith))))
+linked_from before _ relevant = refl
 
-module _ (d : Distance) (h : Schedule) (q : ℕ) (legal : IsLegal d h) (us : List ℕ) (near : AreNear h q us) (o : Ordered) (good : IsOrderAmong h q us o) where
+module _ (d : Distance) (h : Schedule) (q : ℕ) (legal : IsLegal d h) (us : List ℕ) (relevant : AreRelevant h q us) (o : Ordered) (good : IsOrderAmong h q us o) where
   -- the writers of an item, each a pair with the next
   linked : (x i : ℕ) → i + 1 < length (places us (has_written h x)) → Contains o.before (slice_index_or (places us (has_written h x)) i 0, slice_index_or (places us (has_written h x)) (i + 1) 0)
   linked x i l =
@@ -79,7 +79,7 @@ module _ (d : Distance) (h : Schedule) (q : ℕ) (legal : IsLegal d h) (us : Lis
   one_more x i =
       length-map (range_with_len 0 (suc (length (writers_of h q x)))) (version_cost d h q x)
       ∙ length-range_with_len 0 (suc (length (writers_of h q x)))
-      ∙ ap suc (sym (length-places us (has_written h x) ∙ ap length (all_writers d h q legal us near o good x i)))
+      ∙ ap suc (sym (length-places us (has_written h x) ∙ ap length (all_writers d h q legal us relevant o good x i)))
 
   chain_shape : (x : ℕ) → In x (items_read h q) → chain_has_shape o.before (chain_for d h q us x) ≡ true
   chain_shape x i =
@@ -89,7 +89,7 @@ module _ (d : Distance) (h : Schedule) (q : ℕ) (legal : IsLegal d h) (us : Lis
       (linked_from o.before ws (linked x))
 
   pub chains_of : (problem_from d h q o).chains ≡ map (chain_for d h q us) (items_read h q)
-  chains_of = (of_query d h q legal us near o good).chains ∙ ap (λ vs. map (chain_for d h q vs) (items_read h q)) good.commits
+  chains_of = (is_problem d h q legal us relevant o good).chains ∙ ap (λ vs. map (chain_for d h q vs) (items_read h q)) good.commits
 
   all_shaped : (xs : List ℕ) → ((x : ℕ) → In x xs → In x (items_read h q)) → list_all (chain_has_shape o.before) (map (chain_for d h q us) xs) ≡ true
   all_shaped [] inside = refl
@@ -118,4 +118,4 @@ module _ (d : Distance) (h : Schedule) (q : ℕ) (legal : IsLegal d h) (us : Lis
 
   pub shaped : has_shape (problem_from d h q o) ≡ true
   shaped =
-      and_from _ _ (and_from _ _ (and_from _ _ (and_from _ _ (and_from _ _ distinct (pairs_ascend o.before (Pairs-from_all IsLexLess o.before good.ascending))) forward) items) chains) (must_ascends d h q legal us near o good)
+      and_from _ _ (and_from _ _ (and_from _ _ (and_from _ _ (and_from _ _ distinct (pairs_ascend o.before (Pairs-from_all IsLexLess o.before good.ascending))) forward) items) chains) (must_ascends d h q legal us relevant o good)

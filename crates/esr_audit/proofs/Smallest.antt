@@ -36,7 +36,7 @@ element [] i l = absurd (omega arith)
 element (u ∷ us) zero l = (u, refl)
 element (u ∷ us) (suc i) l = element us i (omega arith)
 
-module _ (d : Distance) (h : Schedule) (q : ℕ) (p : Problem) (of_query : IsProblemOf d h q p) (ok : IsProblem p) (inside : AllByRecursion (λ (o : Operation). o.item < length h.opening) (reads_by h q)) where
+module _ (d : Distance) (h : Schedule) (q : ℕ) (p : Problem) (is_problem : IsProblemOf d h q p) (ok : IsProblem p) (inside : AllByRecursion (λ (o : Operation). o.item < length h.opening) (reads_by h q)) where
   whole_passes : (i : ℕ) → i < size p → passes_at p.updates (λ u. true) i ≡ true
   whole_passes i l = let e = element p.updates i l in passes_here p.updates (λ u. true) i e.0 e.1
 
@@ -49,7 +49,7 @@ module _ (d : Distance) (h : Schedule) (q : ℕ) (p : Problem) (of_query : IsPro
 
   -- the problem's updates are a closed set
   updates_closed : IsClosed h q (λ u. is_among p.updates u && true)
-  updates_closed = (of_query.closed (λ u. true)).0 whole_closed
+  updates_closed = (is_problem.closed (λ u. true)).0 whole_closed
 
   part_closed : (T : ℕ → Bool) → IsClosed h q T → IsClosed h q (λ u. is_among p.updates u && T u)
   part_closed T c = record {
@@ -71,10 +71,10 @@ module _ (d : Distance) (h : Schedule) (q : ℕ) (p : Problem) (of_query : IsPro
   pub closed_is_least : (S : ℕ → Bool) → ((u : ℕ) → S u ≡ true → is_among p.updates u ≡ true) → is_closed p (passes_at p.updates S) ≡ true
       → ((has : ℕ → Bool) → is_closed p has ≡ true → problems.cost p (passes_at p.updates S) ≤ problems.cost p has) → IsLeastSet d h q S
   closed_is_least S known closed least = record {
-    closed = subst (IsClosed h q) (within_updates S known) ((of_query.closed S).0 closed);
+    closed = subst (IsClosed h q) (within_updates S known) ((is_problem.closed S).0 closed);
     none_less = λ T c.
-        let l = least (passes_at p.updates T) ((of_query.closed T).1 (part_closed T c)) in
-        omega (arith, l, cost_is_distance d h q p of_query inside S, cost_is_distance d h q p of_query inside T);
+        let l = least (passes_at p.updates T) ((is_problem.closed T).1 (part_closed T c)) in
+        omega (arith, l, cost_is_distance d h q p is_problem inside S, cost_is_distance d h q p is_problem inside T);
   }
 
   pub smallest_is_least : (S : ℕ → Bool) → ((u : ℕ) → S u ≡ true → is_among p.updates u ≡ true) → IsSmallestLeast p (passes_at p.updates S) → IsSmallestLeastSet d h q S
@@ -90,8 +90,8 @@ module _ (d : Distance) (h : Schedule) (q : ℕ) (p : Problem) (of_query : IsPro
       contained T t u su =
           let at : (i : ℕ) × (i < length p.updates) × (slice_get p.updates i ≡ Some u) = place_of p.updates u (known u su) in
           let cheap : cost d h q T ≤ cost d h q S = t.none_less S least.closed in
-          let dear : problems.cost p (passes_at p.updates T) ≤ problems.cost p (passes_at p.updates S) = omega (arith, cheap, cost_is_distance d h q p of_query inside S, cost_is_distance d h q p of_query inside T) in
-          sym (passes_here p.updates T at.0 u at.2) ∙ s.smallest (passes_at p.updates T) ((of_query.closed T).1 (part_closed T t.closed)) dear at.0 at.1 (passes_here p.updates S at.0 u at.2 ∙ su)
+          let dear : problems.cost p (passes_at p.updates T) ≤ problems.cost p (passes_at p.updates S) = omega (arith, cheap, cost_is_distance d h q p is_problem inside S, cost_is_distance d h q p is_problem inside T) in
+          sym (passes_here p.updates T at.0 u at.2) ∙ s.smallest (passes_at p.updates T) ((is_problem.closed T).1 (part_closed T t.closed)) dear at.0 at.1 (passes_here p.updates S at.0 u at.2 ∙ su)
 
 -- ---- the transactions at a list of positions
 

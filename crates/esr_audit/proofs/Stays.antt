@@ -8,7 +8,7 @@ use Rattle.esr_history.specs.Legal.{along}
 use Rattle.esr_history.specs.Machine.{Distance, Schedule, accepted_in, IsLegal}
 use Rattle.esr_history.proofs.Laws.{audit_stays}
 use Rattle.esr_history.proofs.Membership.{In, each_in, each_at}
-use Rattle.esr_history.specs.Queries.{updates_of, cost, IsAlike}
+use Rattle.esr_history.specs.Queries.{updates_of, cost, HasSameAudit}
 use Rattle.esr_order.specs.Placements.{is_among, IsClosed, IsLeastSet, IsSmallestLeastSet}
 use Rattle.esr_order.specs.Statements.{ClosedSetsAreParts}
 use Rattle.esr_order.proofs.Ordered.{law_of_placements}
@@ -16,10 +16,10 @@ use Rattle.esr_audit.specs.declared.finding.Book.{Book}
 use Rattle.esr_audit.specs.declared.finding.Summary.{Summary}
 use Rattle.esr_audit.specs.declared.finding.Summaries.{Summaries}
 use Rattle.esr_audit.specs.Findings.{IsAnswer, IsFinding, IsBook, AreSummaries, Finding, AuditError, committed_queries, summary, seen_summary}
-use Rattle.esr_audit.specs.Stretches.{listed}
+use Rattle.esr_audit.specs.Ranges.{listed}
 use Rattle.esr_audit.proofs.Committed.{query_committed}
 
-module _ (d : Distance) (h longer : Schedule) (q : ℕ) (alike : IsAlike d h longer q) where
+module _ (d : Distance) (h longer : Schedule) (q : ℕ) (alike : HasSameAudit d h longer q) where
   closed_then : (S : ℕ → Bool) → IsClosed h q S → IsClosed longer q S
   closed_then S c = record {
     downward = λ u v cu cv b t.

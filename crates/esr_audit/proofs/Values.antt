@@ -10,7 +10,7 @@ use Rattle.esr_history.specs.Machine.{Schedule, accepted_in}
 use Rattle.esr_history.specs.Serial.{values_by, state}
 use Rattle.esr_history.proofs.LastWriter.{last_value-append, last_value-some}
 use Rattle.esr_cert.specs.Problem.{version}
-use Rattle.esr_order.specs.Near.{has_written}
+use Rattle.esr_order.specs.Relevant.{has_written}
 
 none_pass : {X : Type 0} (S : X → Bool) (xs : List X) → list_any S xs ≡ false → filter S xs ≡ []
 none_pass S [] h = refl

@@ -14,7 +14,7 @@ use Rattle.esr_history.proofs.LastWriter.{last_value-append, last_value-some}
 use Rattle.esr_order.specs.Chains.{Chain, chain_from, some_chain, if_written, last_of, last_among, chain_among, writers_in}
 use Rattle.esr_order.specs.Orders.{Ordered, chain_at}
 use Rattle.esr_cert.specs.Problem as problems
-use Rattle.esr_order.specs.Near.{has_written}
+use Rattle.esr_order.specs.Relevant.{has_written}
 use Rattle.esr_audit.specs.Problems.{passes_at, places, writers_of, version_cost, chain_for}
 use Rattle.esr_audit.specs.Reads.{values_of, distance_sum, values_in, audit_chain, item_read_of, ItemRead}
 use Rattle.esr_audit.proofs.Values.{values_none, values_some, writers_leave}

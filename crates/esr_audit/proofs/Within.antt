@@ -11,7 +11,7 @@ use Rattle.esr_history.specs.declared.event.Event.{Event}
 use Rattle.esr_history.specs.declared.event.Event.TheVariants.{BeginUpdate, BeginQuery, Read, Write, Commit, Abort}
 use Rattle.esr_history.specs.declared.event.Reply.{Reply}
 use Rattle.esr_history.specs.declared.event.Entry.{Entry}
-use Rattle.esr_history.specs.Events.{Beginning, beginnings, is_query, is_update, is_refusal, reads_any, all_reads_of, last_value}
+use Rattle.esr_history.specs.Events.{Beginning, beginnings, is_query, is_update, is_refusal, reads_any, total_read_count, last_value}
 use Rattle.esr_history.specs.Machine.{Distance, Schedule, IsLegal, accepted_in, distance_in}
 use Rattle.esr_history.specs.Operations.{Operation, operations, operation_by, operation_of, answer, commit_order}
 use Rattle.esr_history.specs.Ranges.{IsWithinRanges}
@@ -22,8 +22,8 @@ use Rattle.esr_history.proofs.Versions.{wrote_by}
 use Rattle.esr_history.proofs.Words.{values_trace}
 use Rattle.esr_order.specs.Chains.{nth}
 use Rattle.esr_order.specs.Orders.{Ordered, IsOrderAmong}
-use Rattle.esr_order.specs.Near.{AreNear, has_written}
-use Rattle.esr_order.proofs.NearLaws.{near_updates}
+use Rattle.esr_order.specs.Relevant.{AreRelevant, has_written}
+use Rattle.esr_order.proofs.RelevantLaws.{relevant_updates}
 use Rattle.esr_base.specs.declared.limits.TheConstants.{MAX_ITEMS, MAX_TRANSACTIONS}
 use Rattle.esr_cert.specs.declared.range.TheConstants.{MAX_COST}
 use Rattle.esr_cert.specs.Problem.{Chain, Problem, size, greatest, chain_is_in_range, is_in_range, is_sound}
@@ -34,7 +34,7 @@ use Rattle.esr_audit.proofs.ProblemOf.{problem_from}
 use Rattle.esr_audit.proofs.Shape as shape
 
 -- a query's accepted reads are as many as its reads
-pub reads_counted : (h : Schedule) (q : ℕ) → length (reads_by h q) ≡ all_reads_of (accepted_in h) q
+pub reads_counted : (h : Schedule) (q : ℕ) → length (reads_by h q) ≡ total_read_count (accepted_in h) q
 reads_counted h q = go (filter (λ (e : Entry). not (is_refusal e.reply)) h.entries)
   where
     at : (t : ℕ) (ev : Event) (r : Reply) (os : List Operation) → length (filter (λ o. not o.writes && (eqb o.txn t)) (cons_option (operation_by ev r) os)) ≡ cond (reads_any t ev) 1 0 + length (filter (λ o. not o.writes && (eqb o.txn t)) os)
@@ -158,7 +158,7 @@ module _ (d : Distance) (h : Schedule) (q : ℕ) (range : IsWithinRanges h) (ope
       let all : sum_by (λ (o : Operation). B) (reads_by h q) ≤ length (reads_by h q) * B = sum_by-le (λ (o : Operation). B) B (reads_by h q) (All-from_recursion (λ (o : Operation). B ≤ B) (reads_by h q) (each_in (λ (o : Operation). B ≤ B) (reads_by h q) (λ o i. omega arith))) in
       omega arith
 
-  module _ (legal : IsLegal d h) (us : List ℕ) (near : AreNear h q us) (o : Ordered) (good : IsOrderAmong h q us o) (few : length h.opening ≤ 4096) (query : IsTrue (is_query (accepted_in h) q)) where
+  module _ (legal : IsLegal d h) (us : List ℕ) (relevant : AreRelevant h q us) (o : Ordered) (good : IsOrderAmong h q us o) (within_max : length h.opening ≤ 4096) (query : IsTrue (is_query (accepted_in h) q)) where
     abbrev p : Problem
     p = problem_from d h q o
 
@@ -167,7 +167,7 @@ module _ (d : Distance) (h : Schedule) (q : ℕ) (range : IsWithinRanges h) (ope
 
     numbers : list_all (λ t. nat_lt 0 t && nat_le t MAX_TRANSACTIONS) p.updates ≡ true
     numbers = all_from (λ t. nat_lt 0 t && nat_le t MAX_TRANSACTIONS) p.updates (λ t c.
-        let i : In t (updates_of h q) = Contains-In (updates_of h q) t (near_updates d h q legal us near t (subst (λ vs. Contains vs t) good.commits c)) in
+        let i : In t (updates_of h q) = Contains-In (updates_of h q) t (relevant_updates d h q legal us relevant t (subst (λ vs. Contains vs t) good.commits c)) in
         let r = number_in_range h range opened t (In-of_filter (is_update (accepted_in h)) (before_first (λ t. eqb t q) (commit_order (accepted_in h))) t i).1 in
         and_from (nat_lt 0 t) (nat_le t MAX_TRANSACTIONS) (lt-ltb 0 t r.0) (le-leb t MAX_TRANSACTIONS r.1))
 
@@ -202,14 +202,14 @@ module _ (d : Distance) (h : Schedule) (q : ℕ) (range : IsWithinRanges h) (ope
 
     costs : nat_le (sum_by (λ (c : Chain). greatest c.costs) p.chains) MAX_COST ≡ true
     costs =
-        let same : sum_by (λ (c : Chain). greatest c.costs) p.chains ≡ sum_by (λ (c : Chain). greatest c.costs) (map (chain_for d h q us) (items_read h q)) = ap (sum_by (λ (c : Chain). greatest c.costs)) (shape.chains_of d h q legal us near o good) in
+        let same : sum_by (λ (c : Chain). greatest c.costs) p.chains ≡ sum_by (λ (c : Chain). greatest c.costs) (map (chain_for d h q us) (items_read h q)) = ap (sum_by (λ (c : Chain). greatest c.costs)) (shape.chains_of d h q legal us relevant o good) in
         let sum = sum_of_greatest us in
         let many : length (reads_by h q) ≤ 1000 = subst (λ n. n ≤ 1000) (sym (reads_counted h q)) (range.reads q query) in
         le-leb (sum_by (λ (c : Chain). greatest c.costs) p.chains) MAX_COST (omega arith)
 
     pub within : is_in_range p ≡ true
     within =
-        and_from _ _ (and_from _ _ (and_from _ _ (and_from _ _ numbers (ap (list_all (chain_is_in_range (size p))) (shape.chains_of d h q legal us near o good) ∙ chains_within (items_read h q) (λ x i. i))) before) must_within) costs
+        and_from _ _ (and_from _ _ (and_from _ _ (and_from _ _ numbers (ap (list_all (chain_is_in_range (size p))) (shape.chains_of d h q legal us relevant o good) ∙ chains_within (items_read h q) (λ x i. i))) before) must_within) costs
 
     pub sound : is_sound p ≡ true
-    sound = and_from _ _ (shape.shaped d h q legal us near o good) within
+    sound = and_from _ _ (shape.shaped d h q legal us relevant o good) within

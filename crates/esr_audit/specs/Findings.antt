@@ -6,12 +6,12 @@ use Rattle.esr_history.specs.Operations.{commit_order}
 use Rattle.esr_history.specs.Queries.{is_committed_query, members, cost}
 use Rattle.esr_history.specs.Serial.{committed_updates}
 use Rattle.esr_order.specs.Placements.{is_among, IsLeastDistance, IsSmallestLeastSet}
-use Rattle.esr_order.specs.Near.{AreNear}
+use Rattle.esr_order.specs.Relevant.{AreRelevant}
 use Rattle.esr_order.specs.Least.{least_set, least_cost}
 use Rattle.esr_cert.specs.Problem.{Problem, in_set, IsSmallestLeast}
 use Rattle.esr_cert.specs.Certificate.{Certificate, Certifies, amounts}
 use Rattle.esr_cert.specs.Network.{network}
-use Rattle.esr_flow.specs.Augmentation.{Takes}
+use Rattle.esr_flow.specs.Augmentation.{AugmentsFromZero}
 use Rattle.esr_order.specs.declared.order.OrderError.{OrderError}
 use Rattle.esr_order.specs.declared.order.OrderError.TheVariants.{NotACommittedQuery, NoMemory}
 use Rattle.esr_cert.specs.Views.{certificate_of}
@@ -22,7 +22,7 @@ use Rattle.esr_audit.specs.declared.finding.Summaries.{Summaries}
 pub use Rattle.esr_audit.specs.declared.finding.AuditError.{AuditError}
 use Rattle.esr_audit.specs.declared.finding.AuditError.TheVariants as refusals
 use Rattle.esr_audit.specs.Problems.{IsProblemOf}
-use Rattle.esr_audit.specs.Stretches.{listed}
+use Rattle.esr_audit.specs.Ranges.{listed}
 
 -- the reason for a failed audit if no order was built
 abbrev pub refusal_of : OrderError → AuditError
@@ -43,13 +43,13 @@ pub record IsAnswer (d : Distance) (h : Schedule) (q distance import : ℕ) (bef
 
 -- the certificate contains the number of augmentations that led to its flow, each along a shortest path
 abbrev pub IsCounted : Problem → Certificate → Type 0
-IsCounted p c = (n : ℕ) × (c.augmentations ≡ Some n) × Takes (network p) n (amounts c)
+IsCounted p c = (n : ℕ) × (c.augmentations ≡ Some n) × AugmentsFromZero (network p) n (amounts c)
 
 -- A closed set and a flow of equal worth, of a problem that represents q, prove the distance. The set is the smallest
 -- of those of least cost.
 pub record IsShown (d : Distance) (h : Schedule) (q distance : ℕ) (before : List ℕ) (problem : Problem)
     (certificate : Certificate) : Type 0 where
-  pub of_query : IsProblemOf d h q problem
+  pub is_problem : IsProblemOf d h q problem
   pub certified : Certifies problem certificate
   pub set_is : before ≡ filter_map (slice_get problem.updates) certificate.set
   pub worth_is : certificate.worth ≡ distance
@@ -60,7 +60,7 @@ pub record IsShown (d : Distance) (h : Schedule) (q distance : ℕ) (before : Li
 pub record IsFindingOf (d : Distance) (h : Schedule) (q : ℕ) (f : Finding) : Type 0 where
   pub answer : IsAnswer d h q f.distance f.import (map (λ t. t.0) f.before.items)
   pub shown : IsShown d h q f.distance (map (λ t. t.0) f.before.items) f.problem (certificate_of f.certificate)
-  pub near : AreNear h q f.problem.updates
+  pub relevant : AreRelevant h q f.problem.updates
 
 -- the finding of the query that it names
 abbrev pub IsFinding : Distance → Schedule → Finding → Type 0

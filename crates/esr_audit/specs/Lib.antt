@@ -3,5 +3,5 @@
 pub mod Problems
 pub mod Findings
 pub mod Reads
-pub mod Stretches
+pub mod Ranges
 pub mod Worked

@@ -5,7 +5,7 @@ use Rattle.esr_history.specs.Machine.{Distance, Schedule, distance_in}
 use Rattle.esr_history.specs.Serial.{state}
 use Rattle.esr_history.specs.Queries.{updates_of, must, reads_by}
 use Rattle.esr_order.specs.Placements.{is_among, IsClosed}
-use Rattle.esr_order.specs.Near.{has_written}
+use Rattle.esr_order.specs.Relevant.{has_written}
 use Rattle.esr_cert.specs.Problem.{Chain, Problem, is_closed}
 
 -- the positions, in a list of transactions, of those that pass the test: as a test of positions, and as a list

@@ -15,7 +15,7 @@ ghost use Rattle.esr_cert.specs.Problem.{in_set, IsSmallestLeast};
 ghost use Rattle.esr_cert.specs.Views.{certificate_of};
 ghost use Rattle.esr_order.specs.Orders.{IsOrderAmong};
 ghost use Rattle.esr_order.specs.Index.{IsWholeIndexOf};
-ghost use Rattle.esr_order.specs.Near.{AreNear};
+ghost use Rattle.esr_order.specs.Relevant.{AreRelevant};
 ghost use Rattle.esr_audit.specs.Findings.{IsAnswer, IsCounted, IsFinding, IsFindingOf, IsBook};
 
 use crate::commits::{CommitLists, commit_lists};
@@ -67,7 +67,7 @@ pub fn certify_with_steps(alloc: Global, problem: &Problem) -> Result<Certificat
     Ok(solve(alloc, &network)?.certificate)
 }
 
-/// Returns the finding of a query, given the order of its near updates.
+/// Returns the finding of a query, given the order of its relevant updates.
 fn find<M: Metric>(
     alloc: Global,
     history: &History<M>,
@@ -75,7 +75,7 @@ fn find<M: Metric>(
     q: TxnId,
 ) -> Result<Finding, NoMemory>
     requires order { IsOrderAmong history.now.schedule q.0 (map (λ t. t.0) order.commits) order }
-    requires near { AreNear history.now.schedule q.0 (map (λ t. t.0) order.commits) }
+    requires relevant { AreRelevant history.now.schedule q.0 (map (λ t. t.0) order.commits) }
     requires committed { IsTrue (is_committed_query history.now.schedule q.0) }
     ensures query { IfOk result (λ f. f.query ≡ q) }
     ensures finding { IfOk result (IsFindingOf M.distance_by history.now.schedule q.0) }
@@ -96,7 +96,7 @@ fn find<M: Metric>(
 }
 
 /// Returns the least distance between the values that a committed query read and those of any serial placement of it,
-/// with a certificate. The result holds for every continuation of the history. The problem has exactly the near updates
+/// with a certificate. The result holds for every continuation of the history. The problem has exactly the relevant updates
 /// of the query: those that wrote an item that it read, those from which a chain of conflicts leads to such an update,
 /// and those that it must have seen.
 ///
@@ -118,7 +118,7 @@ pub fn audit_query<M: Metric>(
         (map (λ t. t.0) f.before.items)) }
 {
     let _legal = history.log(); // brings the invariant into the proof
-    let order = Order::near(alloc, history, q)?;
+    let order = Order::relevant(alloc, history, q)?;
     Ok(find(alloc, history, order, q)?)
 }
 
@@ -140,7 +140,7 @@ pub fn audit_query_in<M: Metric>(
         ↔ (is_committed_query history.now.schedule q.0 ≡ false) }
     ensures workers { ¬ IsErrOf result AuditError.WorkersOutOfRange }
 {
-    let order = Order::near_in(alloc, history, committed, q)?;
+    let order = Order::relevant_in(alloc, history, committed, q)?;
     Ok(find(alloc, history, order, q)?)
 }
 
@@ -162,7 +162,7 @@ pub fn audit_query_by_index<M: Metric>(
         ↔ (is_committed_query history.now.schedule q.0 ≡ false) }
     ensures workers { ¬ IsErrOf result AuditError.WorkersOutOfRange }
 {
-    let order = Order::near_by_index(alloc, history, index, q)?;
+    let order = Order::relevant_by_index(alloc, history, index, q)?;
     Ok(find(alloc, history, order, q)?)
 }
 
@@ -179,8 +179,8 @@ fn find_committed<M: Metric>(
     ensures finding { IfOk result (IsFindingOf M.distance_by history.now.schedule q.0) }
     ensures err { IfErr result (λ e. e ≡ AuditError.NoMemory) }
 {
-    let near = Order::near_in(alloc, history, committed, q)?;
-    Ok(find(alloc, history, near, q)?)
+    let relevant = Order::relevant_in(alloc, history, committed, q)?;
+    Ok(find(alloc, history, relevant, q)?)
 }
 
 /// Audits each of these committed queries, given the list of all committed transactions.

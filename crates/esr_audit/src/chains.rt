@@ -63,7 +63,7 @@ fn values_by_item(
 
 /// Returns the sum of the distances of the values from a version of the item.
 fn distance_to<M: Metric>(metric: &M, x: ItemId, values: &[i64], version: i64) -> u64
-    requires few { length values.now ≤ MAX_READS }
+    requires within_max { length values.now ≤ MAX_READS }
     requires values { All IsValue values.now }
     requires version { IsValue version }
     ensures { result ≡ distance_sum (M.distance_by (M.weights metric.now)) x.0 values.now version }
@@ -84,7 +84,7 @@ fn costs_of<M: Metric>(
     opening: i64,
     versions: &[i64],
 ) -> Result<Vec<u64>, AllocError>
-    requires few { length values.now ≤ MAX_READS }
+    requires within_max { length values.now ≤ MAX_READS }
     requires values { All IsValue values.now }
     requires opening { IsValue opening }
     requires versions { All IsValue versions.now }
@@ -125,7 +125,7 @@ fn chain_of<M: Metric>(
     x: ItemId,
 ) -> Result<Chain, AllocError>
     requires item { x.0 < length history.now.schedule.opening }
-    requires few { length values.now ≤ MAX_READS }
+    requires within_max { length values.now ≤ MAX_READS }
     requires values { All IsValue values.now }
     requires versions { All IsValue (values_in (option_map seen_links links)) }
     ensures { IfOk result (λ c. chain_view c ≡ audit_chain_by (M.distance_by history.now.schedule.weights)
@@ -154,7 +154,7 @@ pub fn chains_of<M: Metric>(
     order: &mut Order,
     reads: &[ItemRead],
 ) -> Result<Vec<Chain>, AllocError>
-    requires few { length reads.now ≤ MAX_READS }
+    requires within_max { length reads.now ≤ MAX_READS }
     requires reads { All (λ r. IsValue r.value) reads.now }
     requires versions { (x : ℕ) → All IsValue (values_in (chain_at order.old x)) }
     ensures chains { IfOk result (λ v. map chain_view v.items

@@ -5,7 +5,7 @@ ghost use Rattle.std.specs.Prelude.{◌≡◌};
 ghost use Rattle.esr_audit.specs.declared.finding.AuditError.TheVariants.{NoMemory};
 ghost use Rattle.esr_audit.specs.Findings.{refusal_of, seen_summary, summary};
 
-use crate::stretches::TxnList;
+use crate::ranges::TxnList;
 use esr_cert::{Certificate, Problem};
 use esr_history::{NoMemory, TxnId};
 use esr_order::OrderError;

@@ -1,6 +1,6 @@
 //! Audits of committed queries: the minimum distance of a query's reads from any serial placement, with a certificate.
 //!
-//! An audit needs only a history. It builds the query's problem, restricted to the near updates, solves it, and returns a
+//! An audit needs only a history. It builds the query's problem, restricted to the relevant updates, solves it, and returns a
 //! finding. A certificate is meaningless without its problem. That the problem is the query's is a promise of this crate
 //! (`IsProblemOf`), not of the checker.
 #![tactic(auto)]
@@ -10,12 +10,12 @@ mod chains;
 mod commits;
 mod finding;
 mod problem;
+mod ranges;
 mod reads;
-mod stretches;
 
 pub use audit::{
     audit_history, audit_query, audit_query_by_index, audit_query_in, certify_with_steps,
 };
 pub use commits::{CommitLists, commit_lists};
 pub use finding::{AuditError, Book, Finding, Summaries, Summary};
-pub use stretches::{TxnList, TxnRange};
+pub use ranges::{TxnList, TxnRange};

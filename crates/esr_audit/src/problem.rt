@@ -1,10 +1,10 @@
-//! Builds the problem of a committed query: near updates, pairs, required updates (of a strict query), and the chains of the
+//! Builds the problem of a committed query: relevant updates, pairs, required updates (of a strict query), and the chains of the
 //! items that it read. `Problem::of_sound` constructs it without validation, because it is proved to satisfy every rule.
 ghost use Rattle.std.specs.Prelude.{map, IfOk, IsTrue};
 ghost use Rattle.esr_history.specs.Events.{is_query};
 ghost use Rattle.esr_history.specs.Machine.{accepted_in};
 ghost use Rattle.esr_order.specs.Orders.{IsOrderAmong};
-ghost use Rattle.esr_order.specs.Near.{AreNear};
+ghost use Rattle.esr_order.specs.Relevant.{AreRelevant};
 ghost use Rattle.esr_audit.specs.Problems.{IsProblemOf};
 
 use crate::chains::chains_of;
@@ -15,7 +15,7 @@ use esr_items::Metric;
 use esr_order::Order;
 use std::alloc::{AllocError, Global};
 
-/// Builds the problem of a query from the order of its near updates.
+/// Builds the problem of a query from the order of its relevant updates.
 pub fn problem_of<M: Metric>(
     alloc: Global,
     history: &History<M>,
@@ -23,10 +23,10 @@ pub fn problem_of<M: Metric>(
     q: TxnId,
 ) -> Result<Problem, NoMemory>
     requires order { IsOrderAmong history.now.schedule q.0 (map (λ t. t.0) order.commits) order }
-    requires near { AreNear history.now.schedule q.0 (map (λ t. t.0) order.commits) }
+    requires relevant { AreRelevant history.now.schedule q.0 (map (λ t. t.0) order.commits) }
     requires query { IsTrue (is_query (accepted_in history.now.schedule) q.0) }
-    ensures of_query { IfOk result (λ p. IsProblemOf M.distance_by history.now.schedule q.0 p) }
-    ensures near { IfOk result (λ p. AreNear history.now.schedule q.0 p.updates) }
+    ensures is_problem { IfOk result (λ p. IsProblemOf M.distance_by history.now.schedule q.0 p) }
+    ensures relevant { IfOk result (λ p. AreRelevant history.now.schedule q.0 p.updates) }
 {
     let _legal = history.log(); // brings the invariant into the proof
     let reads = item_reads(alloc, history, q)?;

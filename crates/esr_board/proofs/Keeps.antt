@@ -45,7 +45,7 @@ has_pass p e = let n = false-eqb p 0 e in omega arith
 -- one number is claimed
 pub claims : (size : BoardSize) (slots id : ℕ) (me : Me (Unit {0}) Hand) → me.0.jobs ≡ size.jobs → size.jobs ≤ 65535 → size.seats ≤ 64 → 0 < me.0.passes
     → Allows (IsKept size) slots id me 0 (λ n. (n + 1) % 2 ^ 64) (Claimed (step slots 0 1 0 none) me)
-claims size slots id me its few_jobs few_seats some_pass s r _ at fits =
+claims size slots id me its bounded_jobs bounded_seats some_pass s r _ at fits =
     let word : ℕ = get_or s.words 0 0 in let v : Hand = me.0 in let w : Hand = with_claim v word in
     let fair : IsFair v.jobs size.seats word s.views = subst (λ (j : ℕ). IsFair j size.seats word s.views) (sym its) r.3 in
     let le = word_le v.jobs size.seats word s.views fair in

@@ -11,7 +11,7 @@ use Rattle.esr_audit.specs.declared.finding.AuditError.{AuditError}
 use Rattle.esr_audit.specs.declared.finding.AuditError.TheVariants.{NotACommittedQuery, NoMemory, WorkersOutOfRange}
 use Rattle.esr_board.specs.declared.worker.Share.{Share}
 use Rattle.esr_board.specs.Claims.{times, HasClaimed, count_past}
-use Rattle.esr_board.specs.Shares.{IsKeptOf, AreCommitted, AreKept, IsShareOf, IsFilled, AreRight, query_of}
+use Rattle.esr_board.specs.Shares.{IsKeptOf, AreCommitted, AreKept, IsShareOf, IsFilled, AreCorrect, query_of}
 use Rattle.esr_board.proofs.Closes.{all_popped}
 
 any_holds : (P : ℕ → Type 0) (xs : List ℕ) (a : Any P xs) → P a.1
@@ -38,8 +38,8 @@ module _ {T : Type 0} (keeps : Finding → T → Type 0) (d : Distance) (h : Sch
   pub put_kept : (k : ℕ) → IsFilled slots k → IsFilled after k
   put_kept k was = as_set (λ l. IsFilled l k) (grind (arith, same_here, get_or-set_other))
 
-  pub put_right : IsKeptOf keeps d h (query_of queries job) x → AreRight keeps d h queries slots → AreRight keeps d h queries after
-  put_right here right = as_set (AreRight keeps d h queries) (λ k l. elim (cases_eq k job) [
+  pub put_right : IsKeptOf keeps d h (query_of queries job) x → AreCorrect keeps d h queries slots → AreCorrect keeps d h queries after
+  put_right here right = as_set (AreCorrect keeps d h queries) (λ k l. elim (cases_eq k job) [
     | inl e ↦ subst (λ (n : ℕ). IfSome (get_or (set slots job (Some x)) n None) (IsKeptOf keeps d h (query_of queries n))) (sym e) (subst (λ (o : Option T). IfSome o (IsKeptOf keeps d h (query_of queries job))) (sym same_here) here)
     | inr ne ↦ subst (λ (o : Option T). IfSome o (IsKeptOf keeps d h (query_of queries k))) (sym (get_or-set_other slots job k (Some x) None ne)) (right k (omega (arith, length-set slots job (Some x))))
   ])

@@ -66,6 +66,6 @@ abbrev pub IsFilled : {T : Type 0} → List (Option T) → ℕ → Type 0
 IsFilled slots k = IsSome (slice_index_or slots k None)
 
 -- each value that is present is made of the finding of its job's query
-abbrev pub AreRight : {T : Type 0} → (Finding → T → Type 0) → Distance → Schedule → List TxnId → List (Option T) → Type 0
-AreRight keeps d h queries slots =
+abbrev pub AreCorrect : {T : Type 0} → (Finding → T → Type 0) → Distance → Schedule → List TxnId → List (Option T) → Type 0
+AreCorrect keeps d h queries slots =
     (k : ℕ) → k < length slots → IfSome (slice_index_or slots k None) (IsKeptOf keeps d h (query_of queries k))

@@ -32,8 +32,8 @@ pub struct Board {
     ghost slots: { table.shared.table_id.slots ≡ 0 },
     ghost jobs_known: { table.shared.key.jobs ≡ jobs },
     ghost seats_known: { table.shared.key.seats ≡ seats },
-    ghost few_jobs: { jobs ≤ MAX_JOBS },
-    ghost few_seats: { seats ≤ MAX_SEATS },
+    ghost bounded_jobs: { jobs ≤ MAX_JOBS },
+    ghost bounded_seats: { seats ≤ MAX_SEATS },
 }
 
 /// The right to claim numbers of one board, until a claim returns none.

@@ -16,12 +16,12 @@ ghost use Rattle.esr_history.specs.Machine.{IsLegal};
 ghost use Rattle.esr_history.specs.Serial.{committed_updates};
 ghost use Rattle.esr_history.specs.Sound.{IsSound};
 ghost use Rattle.esr_audit.specs.Findings.{IsAnswer, IsBook, AreSummaries, committed_queries};
-ghost use Rattle.esr_audit.specs.Stretches.{listed};
+ghost use Rattle.esr_audit.specs.Ranges.{listed};
 ghost use Rattle.esr_order.specs.Index.{IsWholeIndexOf};
 ghost use Rattle.esr_board.specs.declared.board.TheConstants.{MAX_JOBS};
 ghost use Rattle.esr_board.specs.Claims.{times, count_past};
 ghost use Rattle.esr_board.specs.Boards.{IsSeatOf, claimed, all_claimed, jobs_of};
-ghost use Rattle.esr_board.specs.Shares.{AreCommitted, AreKept, IsWorked, IsFilled, AreRight, IsKeptOf, KeepsFindings};
+ghost use Rattle.esr_board.specs.Shares.{AreCommitted, AreKept, IsWorked, IsFilled, AreCorrect, IsKeptOf, KeepsFindings};
 
 use crate::board::{Board, BoardError, BoardSeat, MAX_SEATS};
 use crate::gate::Gate;
@@ -51,9 +51,9 @@ fn put_in_order<M: Metric, T: From<Finding> + Drop>(
 )
     requires share { AreKept T.from_gives M.distance_by history.now.schedule jobs.now (vec_len slots.old)
         share.found.items }
-    requires right { AreRight T.from_gives M.distance_by history.now.schedule jobs.now slots.old.items }
+    requires right { AreCorrect T.from_gives M.distance_by history.now.schedule jobs.now slots.old.items }
     ensures len { vec_len slots.new ≡ vec_len slots.old }
-    ensures right { AreRight T.from_gives M.distance_by history.now.schedule jobs.now slots.new.items }
+    ensures right { AreCorrect T.from_gives M.distance_by history.now.schedule jobs.now slots.new.items }
     ensures kept { (k : ℕ) → IsFilled slots.old.items k → IsFilled slots.new.items k }
     ensures filled { (k : ℕ) → 0 < times k (map (λ p. p.0) share.found.items) → IsFilled slots.new.items k }
 {
@@ -123,7 +123,7 @@ fn gather<M: Metric, T: From<Finding> + Drop>(
     ensures seats { IfOk result (λ g. (vec_len g.seats ≡ vec_len all)
         × All (λ s. IsSeatOf board.now s × (0 < count_past (jobs_of board.now) (claimed s))) g.seats.items) }
     ensures slots { IfOk result (λ g. (vec_len g.slots ≡ length jobs.now)
-        × AreRight T.from_gives M.distance_by history.now.schedule jobs.now g.slots.items) }
+        × AreCorrect T.from_gives M.distance_by history.now.schedule jobs.now g.slots.items) }
     ensures filled { IfOk result (λ g. (k : ℕ) → k < jobs_of board.now → 0 < times k (all_claimed g.seats.items)
         → IsFilled g.slots.items k) }
     ensures err { IfErr result (λ e. e ≡ AuditError.NoMemory) }
@@ -154,7 +154,7 @@ fn unwrap_slots<M: Metric, T: From<Finding> + Drop>(
     mut slots: Vec<Option<T>>,
 ) -> Result<Vec<T>, AuditError>
     requires len { vec_len slots ≡ length jobs.now }
-    requires right { AreRight T.from_gives M.distance_by history.now.schedule jobs.now slots.items }
+    requires right { AreCorrect T.from_gives M.distance_by history.now.schedule jobs.now slots.items }
     requires filled { (k : ℕ) → k < vec_len slots → IsFilled slots.items k }
     ensures kept { IfOk result (λ v. AllZip (IsKeptOf T.from_gives M.distance_by history.now.schedule)
         jobs.now v.items) }

@@ -12,7 +12,7 @@ use Rattle.esr_bundle.specs.declared.judgement.Verdict.TheVariants.{Valid, Inval
 use Rattle.esr_bundle.specs.declared.judgement.JudgeFault.{JudgeFault}
 use Rattle.esr_bundle.specs.declared.judgement.JudgeFault.TheVariants as ends
 use Rattle.esr_bundle.specs.declared.judgement.TheConstants.{MAX_BYTES}
-use Rattle.esr_bundle.specs.Reading.{Means}
+use Rattle.esr_bundle.specs.Reading.{DecodesTo}
 
 -- ---- the verdict
 
@@ -27,7 +27,7 @@ verdict_on (Err f) = Bad (bundle_fault_number f)
 
 -- the verdict on the meaning of the bytes
 abbrev pub IsVerdictOf : List ℕ → Verdict → Type 0
-IsVerdictOf bytes v = (b : Result (Problem × Certificate) BundleFault) × Means bytes b × (v ≡ verdict_on b)
+IsVerdictOf bytes v = (b : Result (Problem × Certificate) BundleFault) × DecodesTo bytes b × (v ≡ verdict_on b)
 
 abbrev pub verdict_line : Verdict → List ℕ
 verdict_line (Valid worth) = codes "valid " ++ decimal worth ++ 10 ∷ []

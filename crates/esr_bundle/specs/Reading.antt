@@ -23,12 +23,12 @@ abbrev pub Encodes : List ℕ → Result (spec.Problem × certificates.Certifica
 Encodes bytes b = (d : Data) × IsTree bytes d × (problem_in d ≡ b)
 
 -- the meaning of the bytes: that of their tree, or that they are not valid JSON
-abbrev pub Means : List ℕ → Result (spec.Problem × certificates.Certificate) BundleFault → Type 0
-Means bytes (Ok b) = Encodes bytes (Ok b)
-Means bytes (Err Json) = HasNoTree bytes
-Means bytes (Err Shape) = Encodes bytes (Err Shape)
-Means bytes (Err Range) = Encodes bytes (Err Range)
-Means bytes (Err NoMemory) = ⊥
+abbrev pub DecodesTo : List ℕ → Result (spec.Problem × certificates.Certificate) BundleFault → Type 0
+DecodesTo bytes (Ok b) = Encodes bytes (Ok b)
+DecodesTo bytes (Err Json) = HasNoTree bytes
+DecodesTo bytes (Err Shape) = Encodes bytes (Err Shape)
+DecodesTo bytes (Err Range) = Encodes bytes (Err Range)
+DecodesTo bytes (Err NoMemory) = ⊥
 
 -- `NoMemory` is always allowed, and every other result is the meaning of the bytes
 abbrev pub IsReadingOf : List ℕ → Result (spec.Problem × Certificate) BundleFault → Type 0

@@ -149,7 +149,7 @@ fn positions(alloc: Global, numbers: &[u64]) -> Result<Vec<u32>, BundleFault>
 /// is out of range, since a problem in range has at most 65,535 updates.
 fn parts_of(alloc: Global, draft: &ProblemDraft) -> Result<ProblemParts, BundleFault>
     requires { spec.has_shape (drafted_problem draft.now) ≡ true }
-    ensures ok { IfOk result (λ parts. views.posed_by parts ≡ drafted_problem draft.now) }
+    ensures ok { IfOk result (λ parts. views.problem_by parts ≡ drafted_problem draft.now) }
     ensures err { IfErr result (λ e. e ≢ BundleFault.NoMemory → problem_fault (drafted_problem draft.now) ≡ Some e) }
 {
     let updates = list(alloc, &draft.updates)?;

@@ -15,7 +15,7 @@ use Rattle.esr_c.specs.Answers.{IsEventCall, reply_fields, status_number}
 module _ (event : Event) (h g : Schedule) (before after : EsrReply) where
   call_done : (r : Reply) → r ≡ reply_to weighted h event → g ≡ extended h event r → after ≡ reply_fields r → ¬ (is_full h event ≡ true) → IsEventCall event (Some h) (Some g) before after 0
   call_done r is added reported has_capacity = record {
-    known = inl refl;
+    statuses = inl refl;
     closed = (λ e. absurd (omega arith), λ e. absurd (cc));
     full = (λ e. absurd (omega arith), λ p. absurd (has_capacity p));
     reply = λ _. (ap (λ k. Some k) (added ∙ ap (extended h event) is), reported ∙ ap reply_fields is);
@@ -24,7 +24,7 @@ module _ (event : Event) (h g : Schedule) (before after : EsrReply) where
 
   call_full : is_full h event ≡ true → g ≡ h → after ≡ before → IsEventCall event (Some h) (Some g) before after 12
   call_full full same kept = record {
-    known = inr (inl refl);
+    statuses = inr (inl refl);
     closed = (λ e. absurd (omega arith), λ e. absurd (cc));
     full = (λ _. full, λ _. refl);
     reply = λ e. absurd (omega arith);
@@ -33,7 +33,7 @@ module _ (event : Event) (h g : Schedule) (before after : EsrReply) where
 
   call_refused : ¬ (is_full h event ≡ true) → g ≡ h → after ≡ before → IsEventCall event (Some h) (Some g) before after 13
   call_refused has_capacity same kept = record {
-    known = inr (inr (inl refl));
+    statuses = inr (inr (inl refl));
     closed = (λ e. absurd (omega arith), λ e. absurd (cc));
     full = (λ e. absurd (omega arith), λ p. absurd (has_capacity p));
     reply = λ e. absurd (omega arith);
@@ -45,11 +45,11 @@ module _ (event : Event) (h g : Schedule) (before after : EsrReply) where
       → IfOk answered (λ r. (s ≡ Done) × (after ≡ reply_fields r)) → (s ≡ Full ↔ IsErrOf answered unanswered.Full)
       → IfErr answered (λ _. ((s ≡ Full) ⊎ (s ≡ NoMemory)) × (after ≡ before)) → IsEventCall event (Some h) (Some g) before after (status_number s)
   called (Ok r) s reply added full same ok reported err =
-      subst (λ (k : Status). IsEventCall event (Some h) (Some g) before after (status_number k)) (sym ok.0) (call_done r reply added ok.1 (λ p. let bad : Ok r ≡ Err unanswered.Full = full.1 p in absurd (cc)))
+      subst (λ (k : Status). IsEventCall event (Some h) (Some g) before after (status_number k)) (sym ok.0) (call_done r reply added ok.1 (λ p. let bad_names : Ok r ≡ Err unanswered.Full = full.1 p in absurd (cc)))
   called (Err e) s reply added full same ok reported err = by_status err.0
     where
       by_status : (s ≡ Full) ⊎ (s ≡ NoMemory) → IsEventCall event (Some h) (Some g) before after (status_number s)
       by_status (inl is) = subst (λ (k : Status). IsEventCall event (Some h) (Some g) before after (status_number k)) (sym is) (call_full (full.0 (reported.0 is)) same err.1)
       by_status (inr is) =
-          let has_capacity : ¬ (is_full h event ≡ true) = λ p. let bad : s ≡ Full = reported.1 (full.1 p) in absurd (cc) in
+          let has_capacity : ¬ (is_full h event ≡ true) = λ p. let bad_names : s ≡ Full = reported.1 (full.1 p) in absurd (cc) in
           subst (λ (k : Status). IsEventCall event (Some h) (Some g) before after (status_number k)) (sym is) (call_refused has_capacity same err.1)

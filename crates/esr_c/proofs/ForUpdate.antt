@@ -12,9 +12,9 @@ use Rattle.esr_c.specs.Answers.{IsForUpdateCall, reply_fields, status_number}
 module _ (t : TxnId) (x : ItemId) (h g : Schedule) (before after : EsrReply) where
   pub call_done : (Done ≡ Full ↔ no_pair h ≡ true) → (g ≡ after_for_update h t x) × (after ≡ reply_fields (reply_for_update h t x)) → IsForUpdateCall t x (Some h) (Some g) before after 0
   call_done full done = record {
-    known = inl refl;
+    statuses = inl refl;
     closed = (λ e. absurd (omega arith), λ e. absurd (cc));
-    full = (λ e. absurd (omega arith), λ p. let bad : Done ≡ Full = full.1 p in absurd (cc));
+    full = (λ e. absurd (omega arith), λ p. let bad_names : Done ≡ Full = full.1 p in absurd (cc));
     reply = λ _. (ap (λ k. Some k) done.0, done.1);
     err = λ ne. absurd (ne refl);
     kept = λ e. absurd (omega arith);
@@ -22,7 +22,7 @@ module _ (t : TxnId) (x : ItemId) (h g : Schedule) (before after : EsrReply) whe
 
   pub call_full : (Full ≡ Full ↔ no_pair h ≡ true) → (after ≡ before) × IsPartlyDone h g t x → g ≡ h → IsForUpdateCall t x (Some h) (Some g) before after 12
   call_full full err same = record {
-    known = inr (inl refl);
+    statuses = inr (inl refl);
     closed = (λ e. absurd (omega arith), λ e. absurd (cc));
     full = (λ _. full.0 refl, λ _. refl);
     reply = λ e. absurd (omega arith);
@@ -32,9 +32,9 @@ module _ (t : TxnId) (x : ItemId) (h g : Schedule) (before after : EsrReply) whe
 
   pub call_refused : (NoMemory ≡ Full ↔ no_pair h ≡ true) → (after ≡ before) × IsPartlyDone h g t x → IsForUpdateCall t x (Some h) (Some g) before after 13
   call_refused full err = record {
-    known = inr (inr (inl refl));
+    statuses = inr (inr (inl refl));
     closed = (λ e. absurd (omega arith), λ e. absurd (cc));
-    full = (λ e. absurd (omega arith), λ p. let bad : NoMemory ≡ Full = full.1 p in absurd (cc));
+    full = (λ e. absurd (omega arith), λ p. let bad_names : NoMemory ≡ Full = full.1 p in absurd (cc));
     reply = λ e. absurd (omega arith);
     err = λ _. err;
     kept = λ e. absurd (omega arith);
@@ -43,9 +43,9 @@ module _ (t : TxnId) (x : ItemId) (h g : Schedule) (before after : EsrReply) whe
   pub call_of : (s : Status) → (s ≡ Done) ⊎ ((s ≡ Full) ⊎ (s ≡ NoMemory)) → (s ≡ Full ↔ no_pair h ≡ true)
       → (s ≡ Done → (g ≡ after_for_update h t x) × (after ≡ reply_fields (reply_for_update h t x)))
       → (s ≢ Done → (after ≡ before) × IsPartlyDone h g t x) → (s ≡ Full → g ≡ h) → IsForUpdateCall t x (Some h) (Some g) before after (status_number s)
-  call_of Done known full done err same = call_done full (done refl)
-  call_of Full known full done err same = call_full full (err (λ e. cc)) (same refl)
-  call_of NoMemory known full done err same = call_refused full (err (λ e. cc))
+  call_of Done statuses full done err same = call_done full (done refl)
+  call_of Full statuses full done err same = call_full full (err (λ e. cc)) (same refl)
+  call_of NoMemory statuses full done err same = call_refused full (err (λ e. cc))
   call_of _ (inl is) full done err same = absurd (cc)
   call_of _ (inr (inl is)) full done err same = absurd (cc)
   call_of _ (inr (inr is)) full done err same = absurd (cc)

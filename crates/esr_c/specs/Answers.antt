@@ -136,7 +136,7 @@ IsEventStatus n = (n ≡ 0) ⊎ ((n ≡ 12) ⊎ ((n ≡ 13) ⊎ (n ≡ 14)))
 -- The status of a call that executes an event: it is 0 exactly if the machine's reply is returned and is in the
 -- history. Otherwise nothing has changed.
 pub record IsEventCall (event : Event) (old new : Option Schedule) (before after : EsrReply) (status : ℕ) : Type 0 where
-  pub known : IsEventStatus status
+  pub statuses : IsEventStatus status
   pub closed : status ≡ 14 ↔ (old ≡ None)
   pub full : IfSome old (λ h. (status ≡ 12) ↔ (is_full h event ≡ true))
   pub reply : status ≡ 0 → IsReply event old new after
@@ -155,7 +155,7 @@ IsPartly (Some h) (Some g) t x = IsPartlyDone h g t x
 
 -- A call that reads an item for an update returns this status. With 13 the lock may have been taken; with 12 nothing has changed.
 pub record IsForUpdateCall (t : TxnId) (x : ItemId) (old new : Option Schedule) (before after : EsrReply) (status : ℕ) : Type 0 where
-  pub known : IsEventStatus status
+  pub statuses : IsEventStatus status
   pub closed : status ≡ 14 ↔ (old ≡ None)
   pub full : IfSome old (λ h. (status ≡ 12) ↔ (no_pair h ≡ true))
   pub reply : status ≡ 0 → IsForUpdateReply t x old new after

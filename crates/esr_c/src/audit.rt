@@ -65,7 +65,7 @@ fn fill<T: Copy>(buffer: &mut [T], list: &[T]) -> bool
 /// Stores the length of a list, and copies the list to the beginning of a buffer if it fits. The rest of the buffer is
 /// unchanged.
 pub(crate) fn hand_out<T: Copy>(buffer: &mut [T], count: &mut usize, list: &[T]) -> Status
-    ensures known { (result ≡ Status.Done) ⊎ (result ≡ Status.TooSmall) }
+    ensures statuses { (result ≡ Status.Done) ⊎ (result ≡ Status.TooSmall) }
     ensures count { count.new ≡ length list.now }
     ensures filled { result ≡ Status.Done → take count.new buffer.new ≡ list.now }
     ensures rest { drop count.new buffer.new ≡ drop count.new buffer.old }
@@ -86,7 +86,7 @@ pub(crate) fn show_values(
     values: &mut [i64],
     count: &mut usize,
 ) -> Status
-    ensures known { IsValuesStatus (status_number result) }
+    ensures statuses { IsValuesStatus (status_number result) }
     ensures open { result ≢ Status.Closed }
     ensures values { result ≡ Status.Done → AreValuesIn engine.now count.new values.new }
     ensures small { result ≡ Status.TooSmall → (length values.old < count.new)
@@ -134,7 +134,7 @@ pub(crate) fn show_finding(
     finding: &mut EsrFinding,
 ) -> Status
     ensures same { engine.new ≡ engine.old }
-    ensures known { IsAuditStatus (status_number result) }
+    ensures statuses { IsAuditStatus (status_number result) }
     ensures open { result ≢ Status.Closed }
     ensures refused { (result ≡ Status.NotACommittedQuery) ↔ (is_committed_query engine.old query ≡ false) }
     ensures found { result ≡ Status.Done → IsFound engine.old query finding.new before.new }
@@ -179,7 +179,7 @@ pub(crate) fn show_bundle(
     count: &mut usize,
 ) -> Status
     ensures same { engine.new ≡ engine.old }
-    ensures known { IsAuditStatus (status_number result) }
+    ensures statuses { IsAuditStatus (status_number result) }
     ensures open { result ≢ Status.Closed }
     ensures refused { (result ≡ Status.NotACommittedQuery) ↔ (is_committed_query engine.old query ≡ false) }
     ensures bundle { result ≡ Status.Done → IsBundleIn engine.old query count.new bytes.new }

@@ -59,7 +59,7 @@ fn answer_one(engine: &mut EmbeddedEngine, event: EsrEvent) -> Result<Reply, Sta
     ensures ok { IfOk result (λ reply. IsOne engine.old event engine.new reply) }
     ensures unknown { IsErrOf result Status.NoSuchEvent → event_of event ≡ None }
     ensures full { IsErrOf result Status.Full → IsFullFor engine.old event }
-    ensures known { IfErr result (λ e. IsAnsweredStatus (status_number e) × (e ≢ Status.Done)) }
+    ensures statuses { IfErr result (λ e. IsAnsweredStatus (status_number e) × (e ≢ Status.Done)) }
     ensures err { OnErr result (engine.new ≡ engine.old) }
 {
     let Some(event) = event_of(event) else {
@@ -89,7 +89,7 @@ pub(crate) fn answer_all(
     count: &mut usize,
 ) -> Status
     requires fits { length events.now ≤ length replies.old }
-    ensures known { IsAnsweredStatus (status_number result) }
+    ensures statuses { IsAnsweredStatus (status_number result) }
     ensures answered { AreAnswered engine.old engine.new events.now count.new replies.new }
     ensures end { IsEnd engine.old events.now stop count.new (status_number result) }
 {

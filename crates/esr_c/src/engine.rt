@@ -130,7 +130,7 @@ pub(crate) fn open(
     opening: &[i64],
     weights: &[u32],
 ) -> Status
-    ensures known { IsWeightedOpenStatus (status_number result) }
+    ensures statuses { IsWeightedOpenStatus (status_number result) }
     ensures open { result ≡ Status.Open ↔ IsSome variable.old.held.history }
     ensures many { result ≡ Status.TooManyItems ↔ (variable.old.held.history ≡ None)
         × ((MAX_ITEMS < length opening.now) ⊎ (MAX_ITEMS < length weights.now)) }
@@ -241,7 +241,7 @@ fn read_and_reply(
     item: ItemId,
     reply: &mut EsrReply,
 ) -> Status
-    ensures known { (result ≡ Status.Done) ⊎ ((result ≡ Status.Full) ⊎ (result ≡ Status.NoMemory)) }
+    ensures statuses { (result ≡ Status.Done) ⊎ ((result ≡ Status.Full) ⊎ (result ≡ Status.NoMemory)) }
     ensures full { result ≡ Status.Full ↔ (no_pair engine.old ≡ true) }
     ensures done { result ≡ Status.Done → (engine.new ≡ after_for_update engine.old txn item)
         × (reply.new ≡ reply_fields (reply_for_update engine.old txn item)) }
@@ -279,7 +279,7 @@ pub(crate) fn read_for_update(
 
 /// Renews an engine.
 pub(crate) fn renew_engine(alloc: Global, engine: &mut EmbeddedEngine) -> Status
-    ensures known { IsRenewStatus (status_number result) }
+    ensures statuses { IsRenewStatus (status_number result) }
     ensures open { result ≢ Status.Closed }
     ensures active { (result ≡ Status.Active) ↔ (has_active engine.old ≡ true) }
     ensures renewed { status_number result ≡ 0 → engine.new ≡ renewed engine.old engine.old.weights }
@@ -295,7 +295,7 @@ pub(crate) fn renew_engine(alloc: Global, engine: &mut EmbeddedEngine) -> Status
 
 /// Renews an engine, and aborts its active transactions.
 pub(crate) fn renew_engine_aborting(alloc: Global, engine: &mut EmbeddedEngine) -> Status
-    ensures known { (result ≡ Status.Done) ⊎ (result ≡ Status.NoMemory) }
+    ensures statuses { (result ≡ Status.Done) ⊎ (result ≡ Status.NoMemory) }
     ensures renewed { status_number result ≡ 0 → engine.new ≡ renewed engine.old engine.old.weights }
     ensures serializable { result ≡ Status.Done → IsRenewed engine.old }
     ensures err { result ≢ Status.Done → engine.new ≡ engine.old }

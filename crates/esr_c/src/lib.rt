@@ -297,7 +297,7 @@ pub extern "C" fn esr_account_of(
     account: &mut EsrAccount,
 ) -> u32
     ensures closed { result ≡ 14 ↔ (engine.old.held.history ≡ None) }
-    ensures known { (result ≡ 0) ⊎ ((result ≡ 3) ⊎ (result ≡ 14)) }
+    ensures statuses { (result ≡ 0) ⊎ ((result ≡ 3) ⊎ (result ≡ 14)) }
     ensures refused { IfSome engine.old.held.history (λ h. (result ≡ 3) ↔ (is_begun (accepted_in h) txn ≡ false)) }
     ensures same { engine.new.held.history ≡ engine.old.held.history }
     ensures account { result ≡ 0 → IfSome engine.old.held.history (λ h. IsAccount h txn account.new) }
@@ -419,7 +419,7 @@ pub extern "C" fn esr_history_script(
     ensures status { IsScriptStatus result }
     ensures closed { result ≡ 14 ↔ (engine.old.held.history ≡ None) }
     ensures same { engine.new.held.history ≡ engine.old.held.history }
-    ensures bad { result ≡ 5 → IfSome engine.old.held.history (λ h. names_of h names.now ≡ None) }
+    ensures bad_names { result ≡ 5 → IfSome engine.old.held.history (λ h. names_of h names.now ≡ None) }
     ensures script { result ≡ 0 → IfSome engine.old.held.history
         (λ h. IsTextInBuffer (IsScriptOf h names.now) count.new bytes.new) }
     ensures small { result ≡ 7 → (length bytes.old < count.new)
@@ -456,7 +456,7 @@ pub extern "C" fn esr_explain(
     ensures closed { result ≡ 14 ↔ (engine.old.held.history ≡ None) }
     ensures refused { IfSome engine.old.held.history (λ h. (result ≡ 6) ↔ (is_committed_query h query ≡ false)) }
     ensures same { engine.new.held.history ≡ engine.old.held.history }
-    ensures bad { result ≡ 5 → IfSome engine.old.held.history (λ h. names_of h names.now ≡ None) }
+    ensures bad_names { result ≡ 5 → IfSome engine.old.held.history (λ h. names_of h names.now ≡ None) }
     ensures explanation { result ≡ 0 → IfSome engine.old.held.history
         (λ h. IsTextInBuffer (IsExplanationOf h query names.now) count.new bytes.new) }
     ensures small { result ≡ 7 → (length bytes.old < count.new)
@@ -487,7 +487,7 @@ pub extern "C" fn esr_picture(
     ensures closed { result ≡ 14 ↔ (engine.old.held.history ≡ None) }
     ensures refused { IfSome engine.old.held.history (λ h. (result ≡ 6) ↔ (is_committed_query h query ≡ false)) }
     ensures same { engine.new.held.history ≡ engine.old.held.history }
-    ensures bad { result ≡ 5 → IfSome engine.old.held.history (λ h. names_of h names.now ≡ None) }
+    ensures bad_names { result ≡ 5 → IfSome engine.old.held.history (λ h. names_of h names.now ≡ None) }
     ensures named { (result ≡ 0) ⊎ (result ≡ 7) → IfSome engine.old.held.history (λ h. AreNamed h names.now) }
     ensures picture { result ≡ 0 → IsTextInBuffer IsSvg count.new bytes.new }
     ensures small { result ≡ 7 → (length bytes.old < count.new) × IsTextLength IsSvg count.new }

@@ -55,7 +55,7 @@ fn explanation_text(
     ensures same { engine.new ≡ engine.old }
     ensures ok { IfOk result (λ text. IsExplanationOf engine.old query names.now text.items) }
     ensures refused { IsErrOf result Status.NotACommittedQuery ↔ (is_committed_query engine.old query ≡ false) }
-    ensures bad { IsErrOf result Status.BadNames → names_of engine.old names.now ≡ None }
+    ensures bad_names { IsErrOf result Status.BadNames → names_of engine.old names.now ≡ None }
     ensures err { IfErr result (λ e. (e ≡ Status.NotACommittedQuery) ⊎ ((e ≡ Status.BadNames) ⊎ (e ≡ Status.NoMemory))) }
 {
     let found = find(alloc, engine, query)?;
@@ -101,7 +101,7 @@ fn picture_text(
     ensures ok { IfOk result (λ text. IsSvg text.items) }
     ensures named { IfOk result (λ _. AreNamed engine.old names.now) }
     ensures refused { IsErrOf result Status.NotACommittedQuery ↔ (is_committed_query engine.old query ≡ false) }
-    ensures bad { IsErrOf result Status.BadNames → names_of engine.old names.now ≡ None }
+    ensures bad_names { IsErrOf result Status.BadNames → names_of engine.old names.now ≡ None }
     ensures err { IfErr result (λ e. (e ≡ Status.NotACommittedQuery) ⊎ ((e ≡ Status.BadNames) ⊎ (e ≡ Status.NoMemory))) }
 {
     let found = find(alloc, engine, query)?;
@@ -122,10 +122,10 @@ pub(crate) fn show_explanation(
     count: &mut usize,
 ) -> Status
     ensures same { engine.new ≡ engine.old }
-    ensures known { IsExplainStatus (status_number result) }
+    ensures statuses { IsExplainStatus (status_number result) }
     ensures open { result ≢ Status.Closed }
     ensures refused { (result ≡ Status.NotACommittedQuery) ↔ (is_committed_query engine.old query ≡ false) }
-    ensures bad { result ≡ Status.BadNames → names_of engine.old names.now ≡ None }
+    ensures bad_names { result ≡ Status.BadNames → names_of engine.old names.now ≡ None }
     ensures explanation { result ≡ Status.Done
         → IsTextInBuffer (IsExplanationOf engine.old query names.now) count.new bytes.new }
     ensures small { result ≡ Status.TooSmall → (length bytes.old < count.new)
@@ -149,10 +149,10 @@ pub(crate) fn show_picture(
     count: &mut usize,
 ) -> Status
     ensures same { engine.new ≡ engine.old }
-    ensures known { IsExplainStatus (status_number result) }
+    ensures statuses { IsExplainStatus (status_number result) }
     ensures open { result ≢ Status.Closed }
     ensures refused { (result ≡ Status.NotACommittedQuery) ↔ (is_committed_query engine.old query ≡ false) }
-    ensures bad { result ≡ Status.BadNames → names_of engine.old names.now ≡ None }
+    ensures bad_names { result ≡ Status.BadNames → names_of engine.old names.now ≡ None }
     ensures named { (result ≡ Status.Done) ⊎ (result ≡ Status.TooSmall) → AreNamed engine.old names.now }
     ensures picture { result ≡ Status.Done → IsTextInBuffer IsSvg count.new bytes.new }
     ensures small { result ≡ Status.TooSmall → (length bytes.old < count.new) × IsTextLength IsSvg count.new }

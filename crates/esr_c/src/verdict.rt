@@ -33,7 +33,7 @@ fn fields(verdict: Verdict) -> EsrVerdict
 }
 
 pub(crate) fn show_verdict(alloc: Global, bytes: &[u8], verdict: &mut EsrVerdict) -> Status
-    ensures known { (result ≡ Status.Done) ⊎ (result ≡ Status.NoMemory) }
+    ensures statuses { (result ≡ Status.Done) ⊎ (result ≡ Status.NoMemory) }
     ensures verdict { status_number result ≡ 0 → IsVerdictIn bytes.now verdict.new }
     ensures err { result ≢ Status.Done → verdict.new ≡ verdict.old }
 {

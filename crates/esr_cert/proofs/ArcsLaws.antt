@@ -9,7 +9,7 @@ use Rattle.esr_cert.specs.Network.{arc_at, links, chain_links, back_arc, must_ar
 use Rattle.esr_cert.specs.Starts.{starts_from, joined, AreStarts}
 use Rattle.esr_base.specs.declared.numbers.TxnId.{TxnId}
 use Rattle.esr_cert.specs.Views.{chain_of, problem_of}
-use Rattle.esr_cert.proofs.Sound.{here, there, facts, few, are_few, IsProblem}
+use Rattle.esr_cert.proofs.Sound.{here, there, facts, within_max, are_bounded, IsProblem}
 use Rattle.esr_cert.proofs.Matched.{AreWhole, links_length}
 use Rattle.esr_cert.proofs.StartsLaws.{starts_long, row_ends, in_row, in_backs, in_musts, rows_end}
 
@@ -116,11 +116,11 @@ module _ (updates : List TxnId) (before : List (ℕ × ℕ)) (chains : List code
   ok : IsProblem parts
   ok = facts parts sound
 
-  pub updates_few : length updates ≤ 65535
-  updates_few = omega (arith, few parts sound, length-map updates (λ t. t.0))
+  pub updates_bounded : length updates ≤ 65535
+  updates_bounded = omega (arith, within_max parts sound, length-map updates (λ t. t.0))
 
-  pub chains_few : length chains ≤ 4096
-  chains_few = omega (arith, (are_few parts sound).chains, length-map chains chain_of)
+  pub chains_bounded : length chains ≤ 4096
+  chains_bounded = omega (arith, (are_bounded parts sound).chains, length-map chains chain_of)
 
   pub starts_are : AreStarts starts (map (chain_links (size parts)) parts.chains)
   starts_are = subst (λ list. AreStarts list (map (chain_links (size parts)) parts.chains)) (sym are) (links_starts parts ok)

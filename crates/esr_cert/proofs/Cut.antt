@@ -136,7 +136,7 @@ pub full_from : (has : ℕ → Bool) (arcs : List Arc) (flow : List ℕ) → len
 full_from has [] flow e w l g i k c = absurd (omega arith)
 full_from has (a ∷ arcs) [] e w l g i k c = absurd (omega arith)
 full_from has (a ∷ arcs) (x ∷ flow) e w l g zero k c =
-    let most : x ≤ capacity_or_zero a.capacity = at_most_limit a.capacity x (l 0 (omega arith) c) (w 0 (omega arith)) in
+    let upper_bound : x ≤ capacity_or_zero a.capacity = at_most_limit a.capacity x (l 0 (omega arith) c) (w 0 (omega arith)) in
     omega (
       arith,
       ap (λ b. pick b x) c,

@@ -109,16 +109,16 @@ at_most_one g zero h z = omega (arith, z)
 at_most_one g (suc n) h z = omega (arith, h (suc n), at_most_one g n h z)
 
 -- distinct numbers from 1 to n are at most n
-pub distinct_few : (n : ℕ) (xs : List ℕ) → is_distinct xs ≡ true → list_all (λ t. ltb 0 t && leb t n) xs ≡ true → length xs ≤ n
-distinct_few n xs d r =
+pub distinct_bounded : (n : ℕ) (xs : List ℕ) → is_distinct xs ≡ true → list_all (λ t. ltb 0 t && leb t n) xs ≡ true → length xs ≤ n
+distinct_bounded n xs d r =
     let range : (i : ℕ) → i < length xs → (0 < get_or xs i 0) × (get_or xs i 0 ≤ n) =
     λ i l. let b : (ltb 0 (get_or xs i 0) ≡ true) × (leb (get_or xs i 0) n ≡ true) = and_parts (ltb 0 (get_or xs i 0)) (leb (get_or xs i 0) n) (all_at (λ t. ltb 0 t && leb t n) xs r i 0 l) in (ltb-true 0 (get_or xs i 0) b.0, leb-true (get_or xs i 0) n b.1) in
     let none : times 0 xs ≡ 0 = none_times 0 xs (not_in_set xs 0 (λ k l e. omega (arith, (range k l).0))) in
     omega (arith, count_all (suc n) xs (λ i l. omega (arith, (range i l).1)), at_most_one (λ v. times v xs) n (distinct_times xs d) none)
 
 -- ascending numbers below n are at most n
-pub ascending_few : (n : ℕ) (xs : List ℕ) → is_ascending xs ≡ true → list_all (λ t. ltb t n) xs ≡ true → length xs ≤ n
-ascending_few n xs h r = go (length xs) refl
+pub ascending_bounded : (n : ℕ) (xs : List ℕ) → is_ascending xs ≡ true → list_all (λ t. ltb t n) xs ≡ true → length xs ≤ n
+ascending_bounded n xs h r = go (length xs) refl
   where
     go : (k : ℕ) → length xs ≡ k → length xs ≤ n
     go zero e = omega arith

@@ -13,7 +13,7 @@ pub mod Search
 pub mod Distinct
 pub mod StepsLaws
 pub mod RowsLaws
-pub mod Laid
+pub mod IsLaidOut
 pub mod ArcsLaws
 pub mod LinksLaws
 mod StartsLaws

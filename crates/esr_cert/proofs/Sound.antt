@@ -6,7 +6,7 @@ use Rattle.std.proofs.lemmas.List.{length-map}
 use Rattle.esr_base.specs.declared.limits.TheConstants.{MAX_ITEMS, MAX_TRANSACTIONS}
 use Rattle.esr_cert.specs.declared.range.TheConstants.{MAX_COST}
 use Rattle.esr_cert.specs.Problem.{Chain, Problem, size, is_closed, is_ascending, pair_lt, are_pairs_ascending, has_pair, are_linked, is_distinct, chain_has_shape, has_shape, greatest, chain_is_in_range, is_in_range, is_sound}
-use Rattle.esr_cert.proofs.Distinct.{distinct_few, ascending_few, all_at}
+use Rattle.esr_cert.proofs.Distinct.{distinct_bounded, ascending_bounded, all_at}
 
 pub here : {X : Type 0} → (x : X) (xs : List X) → Contains (x ∷ xs) x
 here x xs = (0, omega arith, refl)
@@ -150,10 +150,10 @@ facts p h =
     }
 
 -- positions fit 16 bits
-pub few : (p : Problem) → is_sound p ≡ true → size p ≤ 65535
-few p h =
+pub within_max : (p : Problem) → is_sound p ≡ true → size p ≤ 65535
+within_max p h =
     let both : (has_shape p ≡ true) × (is_in_range p ≡ true) = and_parts _ _ h in
-    distinct_few MAX_TRANSACTIONS p.updates (shape_facts p both.0).distinct (range_facts p both.1).numbers
+    distinct_bounded MAX_TRANSACTIONS p.updates (shape_facts p both.0).distinct (range_facts p both.1).numbers
 
 -- how many parts there are, so that their places fit 32 bits
 pub record AreFew (p : Problem) : Type 0 where
@@ -181,24 +181,24 @@ codes_ascend (a ∷ b ∷ pairs) h r =
           | inr r ↦ (let e : (eqb a.0 b.0 ≡ true) × (ltb a.1 b.1 ≡ true) = and_parts (eqb a.0 b.0) (ltb a.1 b.1) r in omega (arith, eqb-true a.0 b.0 e.0, ltb-true a.1 b.1 e.1))
         ]
 
-pub are_few : (p : Problem) → is_sound p ≡ true → AreFew p
-are_few p h =
+pub are_bounded : (p : Problem) → is_sound p ≡ true → AreFew p
+are_bounded p h =
     let both : (has_shape p ≡ true) × (is_in_range p ≡ true) = and_parts _ _ h in
     let s : HasShape p = shape_facts p both.0 in
     let r : InRange p = range_facts p both.1 in
-    let n : size p ≤ 65535 = few p h in
+    let n : size p ≤ 65535 = within_max p h in
     let small : (e : ℕ × ℕ) → Contains p.before e → (ltb e.0 65536 && ltb e.1 65536) ≡ true =
     λ e k. let f : (ltb e.0 (size p) ≡ true) × (ltb e.1 (size p) ≡ true) = and_parts _ _ (all_in (λ (e : ℕ × ℕ). ltb e.0 (size p) && ltb e.1 (size p)) p.before e r.pairs k) in
     and_from (ltb e.0 65536) (ltb e.1 65536) (lt-ltb e.0 65536 (omega (arith, ltb-true e.0 (size p) f.0))) (lt-ltb e.1 65536 (omega (arith, ltb-true e.1 (size p) f.1))) in
     let in_bounds : list_all (λ (e : ℕ × ℕ). ltb e.0 65536 && ltb e.1 65536) p.before ≡ true = all_from (λ (e : ℕ × ℕ). ltb e.0 65536 && ltb e.1 65536) p.before small in
     record {
-      pairs = omega (arith, ascending_few 4294967296 (map coded p.before) (codes_ascend p.before s.pairs in_bounds) (codes_small p.before in_bounds), length-map p.before coded);
-      chains = omega (arith, ascending_few 4096 (map (λ (chain : Chain). chain.item) p.chains) s.items (items_small p.chains r.chains), length-map p.chains (λ (chain : Chain). chain.item));
+      pairs = omega (arith, ascending_bounded 4294967296 (map coded p.before) (codes_ascend p.before s.pairs in_bounds) (codes_small p.before in_bounds), length-map p.before coded);
+      chains = omega (arith, ascending_bounded 4096 (map (λ (chain : Chain). chain.item) p.chains) s.items (items_small p.chains r.chains), length-map p.chains (λ (chain : Chain). chain.item));
       writers = λ i d l.
           let shape : chain_has_shape p.before (get_or p.chains i d) ≡ true = all_at (chain_has_shape p.before) p.chains s.chains i d l in
           let range : chain_is_in_range (size p) (get_or p.chains i d) ≡ true = all_at (chain_is_in_range (size p)) p.chains r.chains i d l in
-          omega (arith, ascending_few (size p) (get_or p.chains i d).writers (chain_facts p (get_or p.chains i d) shape range).ascending (and_parts (ltb (get_or p.chains i d).item MAX_ITEMS) (list_all (λ w. ltb w (size p)) (get_or p.chains i d).writers) range).1);
-      must = omega (arith, ascending_few (size p) p.must s.must r.must);
+          omega (arith, ascending_bounded (size p) (get_or p.chains i d).writers (chain_facts p (get_or p.chains i d) shape range).ascending (and_parts (ltb (get_or p.chains i d).item MAX_ITEMS) (list_all (λ w. ltb w (size p)) (get_or p.chains i d).writers) range).1);
+      must = omega (arith, ascending_bounded (size p) p.must s.must r.must);
     }
   where
     codes_small : (pairs : List (ℕ × ℕ)) → list_all (λ (e : ℕ × ℕ). ltb e.0 65536 && ltb e.1 65536) pairs ≡ true → list_all (λ t. ltb t 4294967296) (map coded pairs) ≡ true

@@ -9,7 +9,7 @@ pub mod Certificate
 pub mod Views
 pub mod Drafts
 pub mod Steps
-pub mod Short
+pub mod PackedArcs
 pub mod Rows
 pub mod Starts
 pub mod Links

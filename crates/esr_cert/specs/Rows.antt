@@ -47,13 +47,13 @@ pub record AreRows (arcs : List Arc) (n : ℕ) (spans : List Span) (steps : List
 
 -- the two steps of each of some arcs, each once, and few enough for their numbers
 pub record AreSteps (arcs : List Arc) (steps : List ResidualArc) : Type 0 where
-  pub few : length arcs ≤ MAX_ARCS
+  pub within_max : length arcs ≤ MAX_ARCS
   pub count : length steps ≡ 2 * length arcs
   pub in_arcs : (k : ℕ) → k < length steps → arc_of (step_at steps k) < length arcs
   pub once : AreOnce steps
 
 -- the rows of a network, in which no step occurs twice
-pub record AreLaid (net : Network) (r : Rows) : Type 0 where
+pub record AreLaidOut (net : Network) (r : Rows) : Type 0 where
   pub rows : AreRows net.arcs net.nodes r.spans.items r.steps.items
   pub steps : AreSteps net.arcs r.steps.items
 
@@ -84,7 +84,7 @@ pub record Filled (arcs : List Arc) (lengths : List ℕ) (done : List ResidualAr
       → step_at steps (sum (take v lengths) + k) ≡ step_at (steps_from arcs v done) k
 
 -- the rows after the first i arcs
-pub record Laid (arcs : List Arc) (nodes i : ℕ) (spans : List Span) (steps : List ResidualArc) : Type 0 where
+pub record IsLaidOut (arcs : List Arc) (nodes i : ℕ) (spans : List Span) (steps : List ResidualArc) : Type 0 where
   pub degrees : List ℕ
   pub are : AreDegrees arcs nodes degrees
   pub filled : Filled arcs degrees (first_steps i) spans steps

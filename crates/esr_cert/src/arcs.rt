@@ -88,7 +88,7 @@ impl<'a> Arcs<'a> {
     /// Returns the chains, whose arcs come first, and the source.
     pub fn chains(&self) -> (&'a [Chain], u32)
         ensures links { HaveLinks self.now result.1 result.0.now }
-        ensures few { result.1 ≤ MAX_TRANSACTIONS }
+        ensures within_max { result.1 ≤ MAX_TRANSACTIONS }
     {
         let source = self.updates.len() as u32;
         (self.chains, source)

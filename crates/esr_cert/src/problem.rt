@@ -11,9 +11,9 @@ ghost use Rattle.esr_base.specs.declared.limits.TheConstants.{MAX_TRANSACTIONS};
 ghost use Rattle.esr_cert.specs.Problem.{size, has_shape, is_sound};
 ghost use Rattle.esr_cert.specs.Faults.{problem_fault, bundle_fault_number};
 ghost use Rattle.esr_cert.specs.Network.{arc_at, network};
-ghost use Rattle.esr_cert.specs.Rows.{AreLaid};
+ghost use Rattle.esr_cert.specs.Rows.{AreLaidOut};
 ghost use Rattle.esr_cert.specs.Starts.{starts_from, owners_from};
-ghost use Rattle.esr_cert.specs.Views.{chain_of, posed_by, problem_of};
+ghost use Rattle.esr_cert.specs.Views.{chain_of, problem_by, problem_of};
 ghost use Rattle.esr_cert.specs.Problem as spec;
 
 use crate::arcs::{Arcs, arc_count};
@@ -100,10 +100,10 @@ pub struct Problem {
 
 /// Returns the arcs of the network of valid parts.
 fn arcs_of<'a>(parts: &'a ProblemParts, starts: &'a [u32], owners: &'a [u16]) -> Arcs<'a>
-    requires sound { is_sound (posed_by parts.now) ≡ true }
-    requires starts { starts.now ≡ starts_from 0 (posed_by parts.now).chains }
-    requires owners { owners.now ≡ owners_from 0 (posed_by parts.now).chains }
-    ensures { result ≡ (network (posed_by parts.now)).arcs }
+    requires sound { is_sound (problem_by parts.now) ≡ true }
+    requires starts { starts.now ≡ starts_from 0 (problem_by parts.now).chains }
+    requires owners { owners.now ≡ owners_from 0 (problem_by parts.now).chains }
+    ensures { result ≡ (network (problem_by parts.now)).arcs }
 {
     Arcs {
         updates: &parts.updates,
@@ -118,10 +118,10 @@ fn arcs_of<'a>(parts: &'a ProblemParts, starts: &'a [u32], owners: &'a [u16]) ->
 /// Returns the index of each chain's first arc, the chain of each of the chains' arcs, and the steps of each node, for
 /// valid parts.
 fn network_of(alloc: Global, parts: &ProblemParts) -> Result<(Vec<u32>, Vec<u16>, Rows), AllocError>
-    requires sound { is_sound (posed_by parts.now) ≡ true }
-    ensures starts { IfOk result (λ n. n.0.items ≡ starts_from 0 (posed_by parts.now).chains) }
-    ensures owners { IfOk result (λ n. n.1.items ≡ owners_from 0 (posed_by parts.now).chains) }
-    ensures laid { IfOk result (λ n. AreLaid (network (posed_by parts.now)) n.2) }
+    requires sound { is_sound (problem_by parts.now) ≡ true }
+    ensures starts { IfOk result (λ n. n.0.items ≡ starts_from 0 (problem_by parts.now).chains) }
+    ensures owners { IfOk result (λ n. n.1.items ≡ owners_from 0 (problem_by parts.now).chains) }
+    ensures laid_out { IfOk result (λ n. AreLaidOut (network (problem_by parts.now)) n.2) }
 {
     if arc_count(&parts.before, &parts.chains, &parts.must) > MAX_ARCS as u128 {
         return Err(AllocError);
@@ -139,12 +139,12 @@ fn network_of(alloc: Global, parts: &ProblemParts) -> Result<(Vec<u32>, Vec<u16>
 impl Model for Problem {
     ghost Value = { spec.Problem };
 
-    ghost view = { λ p. posed_by p.parts };
+    ghost view = { λ p. problem_by p.parts };
 
-    ghost invariant = { λ p. (spec.is_sound (posed_by p.parts) ≡ true)
-        × (p.starts.items ≡ starts_from 0 (posed_by p.parts).chains)
-        × (p.owners.items ≡ owners_from 0 (posed_by p.parts).chains)
-        × AreLaid (network (posed_by p.parts)) p.rows };
+    ghost invariant = { λ p. (spec.is_sound (problem_by p.parts) ≡ true)
+        × (p.starts.items ≡ starts_from 0 (problem_by p.parts).chains)
+        × (p.owners.items ≡ owners_from 0 (problem_by p.parts).chains)
+        × AreLaidOut (network (problem_by p.parts)) p.rows };
 }
 
 impl Problem {
@@ -183,10 +183,10 @@ impl Problem {
     /// # Errors
     /// `Range` if the parts break a rule of range; `NoMemory` if an allocation failed.
     pub fn of_shape(alloc: Global, parts: ProblemParts) -> Result<Problem, BundleFault>
-        requires shape { has_shape (posed_by parts) ≡ true }
-        ensures ok { IfOk result (λ p. p ≡ posed_by parts) }
-        ensures sound { IsOk result → problem_fault (posed_by parts) ≡ None }
-        ensures err { IfErr result (λ e. e ≢ BundleFault.NoMemory → problem_fault (posed_by parts) ≡ Some e) }
+        requires shape { has_shape (problem_by parts) ≡ true }
+        ensures ok { IfOk result (λ p. p ≡ problem_by parts) }
+        ensures sound { IsOk result → problem_fault (problem_by parts) ≡ None }
+        ensures err { IfErr result (λ e. e ≢ BundleFault.NoMemory → problem_fault (problem_by parts) ≡ Some e) }
     {
         if !is_in_range(&parts) {
             return Err(BundleFault::Range);
@@ -197,8 +197,8 @@ impl Problem {
 
     /// Creates a problem from valid parts, without checking them again.
     pub fn of_sound(alloc: Global, parts: ProblemParts) -> Result<Problem, AllocError>
-        requires sound { is_sound (posed_by parts) ≡ true }
-        ensures { IfOk result (λ p. p ≡ posed_by parts) }
+        requires sound { is_sound (problem_by parts) ≡ true }
+        ensures { IfOk result (λ p. p ≡ problem_by parts) }
     {
         let (starts, owners, rows) = network_of(alloc, &parts)?;
         Ok(Problem {
@@ -212,7 +212,7 @@ impl Problem {
     /// Returns the numbers of the updates. Elsewhere an update is named by its position here.
     pub fn updates(&self) -> &[TxnId]
         ensures list { map (λ t. t.0) result.now ≡ self.now.updates }
-        ensures few { size self.now ≤ MAX_TRANSACTIONS }
+        ensures within_max { size self.now ≤ MAX_TRANSACTIONS }
         ensures sound { is_sound self.now ≡ true }
     {
         &self.parts.updates
@@ -264,7 +264,7 @@ impl Problem {
 
     /// Returns for each node of the network the steps that start there.
     pub fn rows(&self) -> &Rows
-        ensures laid { AreLaid (network self.now) result.now }
+        ensures laid_out { AreLaidOut (network self.now) result.now }
         ensures sound { is_sound self.now ≡ true }
     {
         &self.rows

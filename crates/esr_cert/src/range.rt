@@ -3,7 +3,7 @@
 ghost use Rattle.std.specs.Prelude.{◌≡◌, ◌&&◌, map, nat_lt, nat_le};
 ghost use Rattle.std.specs.List.{list_all, sum_by};
 ghost use Rattle.esr_cert.specs.Problem.{greatest, chain_is_in_range, is_in_range};
-ghost use Rattle.esr_cert.specs.Views.{chain_of, posed_by};
+ghost use Rattle.esr_cert.specs.Views.{chain_of, problem_by};
 
 use crate::lists::are_below;
 use crate::problem::{Chain, ProblemParts};
@@ -61,13 +61,13 @@ fn are_pairs_in_range(pairs: &[(u32, u32)], n: usize) -> bool
 fn greatest(costs: &[u64]) -> u64
     ensures { result ≡ greatest costs.now }
 {
-    let mut most = 0;
+    let mut upper_bound = 0;
     for i in 0..costs.len() {
-        if costs[i] > most {
-            most = costs[i];
+        if costs[i] > upper_bound {
+            upper_bound = costs[i];
         }
     }
-    most
+    upper_bound
 }
 
 fn greatest_costs(chains: &[Chain]) -> u128
@@ -82,7 +82,7 @@ fn greatest_costs(chains: &[Chain]) -> u128
 
 /// Returns whether the rules of range are satisfied.
 pub fn is_in_range(parts: &ProblemParts) -> bool
-    ensures { result ≡ is_in_range (posed_by parts.now) }
+    ensures { result ≡ is_in_range (problem_by parts.now) }
 {
     let n = parts.updates.len();
     if !are_updates_in_range(&parts.updates) {

@@ -4,7 +4,7 @@ ghost use Rattle.std.specs.Prelude.{◌≡◌, ◌<◌};
 ghost use Rattle.std.proofs.Common.{ap};
 ghost use Rattle.esr_cert.specs.declared.residual.ResidualArc.{ResidualArc};
 ghost use Rattle.esr_cert.specs.Steps.{arc_of, order_of, opposite};
-ghost use Rattle.esr_cert.specs.Short.{step_of, packed_arc, packed_arc-step_of};
+ghost use Rattle.esr_cert.specs.PackedArcs.{step_of, packed_arc, packed_arc-step_of};
 
 use std::marker::Model;
 

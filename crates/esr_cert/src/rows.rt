@@ -9,7 +9,7 @@
 ghost use Rattle.std.specs.Prelude.{◌≡◌, ◌+◌, ◌<◌, ◌≤◌, length, set, sum, Contains, IfOk};
 ghost use Rattle.std.specs.List.Sorted.{IsNonDecreasingBy};
 ghost use Rattle.esr_cert.specs.Steps.{arc_of, order_of, step_at};
-ghost use Rattle.esr_cert.specs.Rows.{row_in, span_at, lengthen, first_steps, AreDegrees, AreBegun, AreRows, AreSteps, Counted, Laid};
+ghost use Rattle.esr_cert.specs.Rows.{row_in, span_at, lengthen, first_steps, AreDegrees, AreBegun, AreRows, AreSteps, Counted, IsLaidOut};
 ghost use Rattle.esr_cert.specs.Network.{HaveEnds};
 ghost use Rattle.esr_cert.specs.Links.{HasLinks};
 ghost use Rattle.esr_base.specs.declared.limits.TheConstants.{MAX_TRANSACTIONS};
@@ -39,7 +39,7 @@ fn count_links(
     _begin: usize,
     degrees: &mut Vec<u32>,
 )
-    requires few { length _arcs.now ≤ MAX_ARCS }
+    requires within_max { length _arcs.now ≤ MAX_ARCS }
     requires ends { HaveEnds _arcs.now _nodes }
     requires source { source ≤ MAX_TRANSACTIONS }
     requires links { HasLinks _arcs.now source chain.now _begin }
@@ -56,7 +56,7 @@ fn count_links(
 
 /// Counts the steps of the arcs from a number on.
 fn count_others(arcs: &Arcs, _nodes: usize, first: usize, degrees: &mut Vec<u32>)
-    requires few { length arcs.now ≤ MAX_ARCS }
+    requires within_max { length arcs.now ≤ MAX_ARCS }
     requires ends { HaveEnds arcs.now _nodes }
     requires first { first ≤ length arcs.now }
     requires counted { Counted arcs.now _nodes (first_steps first) degrees.old.items }
@@ -74,7 +74,7 @@ fn count_others(arcs: &Arcs, _nodes: usize, first: usize, degrees: &mut Vec<u32>
 /// Returns how many steps start at each node: its outgoing and its incoming arcs. The ends of a chain's arcs are read
 /// off the chain, since finding an arc by its number needs a look-up.
 fn degrees_of(alloc: Global, nodes: usize, arcs: &Arcs) -> Result<Vec<u32>, AllocError>
-    requires few { length arcs.now ≤ MAX_ARCS }
+    requires within_max { length arcs.now ≤ MAX_ARCS }
     requires ends { HaveEnds arcs.now nodes }
     ensures { IfOk result (λ degrees. AreDegrees arcs.now nodes degrees.items) }
 {
@@ -142,7 +142,7 @@ impl Rows {
         requires node { node < length self.old.spans.items }
         requires arc { arc_of step < 2147483648 }
         requires in_bounds { (span_at self.old.spans.items node).end < length self.old.steps.items }
-        requires few { length self.old.steps.items < 4294967296 }
+        requires within_max { length self.old.steps.items < 4294967296 }
         ensures spans { self.new.spans.items ≡ lengthen self.old.spans.items node }
         ensures steps { self.new.steps.items ≡ set self.old.steps.items (span_at self.old.spans.items node).end step }
     {
@@ -154,12 +154,12 @@ impl Rows {
 
 /// Puts the steps of the arcs of a chain, which begin at a number, into their rows.
 fn lay_links(_arcs: &Arcs, _nodes: usize, source: u32, chain: &Chain, begin: usize, rows: &mut Rows)
-    requires few { length _arcs.now ≤ MAX_ARCS }
+    requires within_max { length _arcs.now ≤ MAX_ARCS }
     requires ends { HaveEnds _arcs.now _nodes }
     requires source { source ≤ MAX_TRANSACTIONS }
     requires links { HasLinks _arcs.now source chain.now begin }
-    requires laid { Laid _arcs.now _nodes begin rows.old.spans.items rows.old.steps.items }
-    ensures { Laid _arcs.now _nodes (begin + length chain.now.costs.items) rows.new.spans.items rows.new.steps.items }
+    requires laid_out { IsLaidOut _arcs.now _nodes begin rows.old.spans.items rows.old.steps.items }
+    ensures { IsLaidOut _arcs.now _nodes (begin + length chain.now.costs.items) rows.new.spans.items rows.new.steps.items }
 {
     for j in 0..chain.costs.len() {
         let number = (begin + j) as u32;
@@ -172,11 +172,11 @@ fn lay_links(_arcs: &Arcs, _nodes: usize, source: u32, chain: &Chain, begin: usi
 
 /// Puts the steps of the arcs from a number on into their rows.
 fn lay_others(arcs: &Arcs, _nodes: usize, first: usize, rows: &mut Rows)
-    requires few { length arcs.now ≤ MAX_ARCS }
+    requires within_max { length arcs.now ≤ MAX_ARCS }
     requires ends { HaveEnds arcs.now _nodes }
     requires first { first ≤ length arcs.now }
-    requires laid { Laid arcs.now _nodes first rows.old.spans.items rows.old.steps.items }
-    ensures { Laid arcs.now _nodes (length arcs.now) rows.new.spans.items rows.new.steps.items }
+    requires laid_out { IsLaidOut arcs.now _nodes first rows.old.spans.items rows.old.steps.items }
+    ensures { IsLaidOut arcs.now _nodes (length arcs.now) rows.new.spans.items rows.new.steps.items }
 {
     for i in first..arcs.len() {
         let number = i as u32;
@@ -189,7 +189,7 @@ fn lay_others(arcs: &Arcs, _nodes: usize, first: usize, rows: &mut Rows)
 /// Returns for each node the steps that start at it: counts them, then puts each into its row.
 #[tactic(auto, using(crate::proofs::LinksLaws::starts_first))]
 pub fn rows_of(alloc: Global, nodes: usize, arcs: &Arcs) -> Result<Rows, AllocError>
-    requires few { length arcs.now ≤ MAX_ARCS }
+    requires within_max { length arcs.now ≤ MAX_ARCS }
     requires ends { HaveEnds arcs.now nodes }
     ensures rows { IfOk result (λ rows. AreRows arcs.now nodes rows.spans.items rows.steps.items) }
     ensures steps { IfOk result (λ rows. AreSteps arcs.now rows.steps.items) }

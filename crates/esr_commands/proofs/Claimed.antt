@@ -12,8 +12,8 @@ use Rattle.esr_cert.specs.declared.problem.BundleFault.{BundleFault}
 use Rattle.esr_cert.specs.declared.problem.BundleFault.TheVariants.{Json, Shape, Range, NoMemory}
 use Rattle.esr_audit.specs.Problems as problems
 use Rattle.esr_audit.proofs.Found.{certified_is_least}
-use Rattle.esr_bundle.specs.Reading.{IsReadingOf, Means}
-use Rattle.esr_views.specs.Ask.{IsAnswered}
+use Rattle.esr_bundle.specs.Reading.{IsReadingOf, DecodesTo}
+use Rattle.esr_views.specs.QueryAnswers.{IsAnswered}
 use Rattle.esr_views.specs.State.{ScriptState, transaction_called}
 use Rattle.esr_views.specs.declared.query.AuditedQuery.{AuditedQuery}
 use Rattle.esr_commands.specs.declared.claim.BundleClaim.{BundleClaim}
@@ -33,14 +33,14 @@ claims_bad asked bytes f (Err e) is other h = tt
 
 pub shown_by : (s : ScriptState) (name : List ℕ) (a : AuditedQuery) (bytes : List ℕ) (b : Problem × Certificate) (claim : BundleClaim) (worth : ℕ) → IsAnswered s name a
     → All IsValue a.history.schedule.opening → IsLegal weighted a.history.schedule → is_sound a.finding.problem ≡ true
-    → Means bytes (Ok b) → IsClaim a.finding.problem (Ok b) claim → claim ≡ Of worth → ShowsDistance s name bytes worth
+    → DecodesTo bytes (Ok b) → IsClaim a.finding.problem (Ok b) claim → claim ≡ Of worth → ShowsDistance s name bytes worth
 shown_by s name a bytes b claim worth answered opened legal sound means held is =
     let k : IsClaim a.finding.problem (Ok b) (Of worth) = subst (IsClaim a.finding.problem (Ok b)) is held in
     let q : ℕ = (transaction_called s name).0 in
-    let of_query : problems.IsProblemOf weighted s.history q b.0 =
-    subst (λ (p : Problem). problems.IsProblemOf weighted s.history q p) (sym k.2) answered.finding.found.of_query in
+    let is_problem : problems.IsProblemOf weighted s.history q b.0 =
+    subst (λ (p : Problem). problems.IsProblemOf weighted s.history q p) (sym k.2) answered.finding.found.is_problem in
     let least : IsLeastDistance weighted s.history q b.1.worth =
     certified_is_least weighted s.history q
     (subst (λ (h : Schedule). All IsValue h.opening) answered.history opened) (subst (IsLegal weighted) answered.history legal)
-    b.0 b.1 of_query (ap is_sound k.2 ∙ sound) k.0 in
-    (b, means, k.0, k.1, of_query, subst (IsLeastDistance weighted s.history q) (sym k.1) least)
+    b.0 b.1 is_problem (ap is_sound k.2 ∙ sound) k.0 in
+    (b, means, k.0, k.1, is_problem, subst (IsLeastDistance weighted s.history q) (sym k.1) least)

@@ -8,7 +8,7 @@ use Rattle.esr_cert.specs.Faults.{fault_number, bundle_fault_number}
 use Rattle.esr_cert.specs.declared.problem.BundleFault.{BundleFault}
 use Rattle.esr_audit.specs.Problems as problems
 use Rattle.esr_order.specs.Placements.{IsLeastDistance}
-use Rattle.esr_bundle.specs.Reading.{Means}
+use Rattle.esr_bundle.specs.Reading.{DecodesTo}
 use Rattle.esr_views.specs.State.{ScriptState, transaction_called}
 use Rattle.esr_commands.specs.declared.claim.BundleClaim.{BundleClaim}
 use Rattle.esr_commands.specs.declared.claim.BundleClaim.TheVariants.{Of, NotOf, Invalid, Bad}
@@ -24,12 +24,12 @@ IsClaim asked _ _ = ⊥
 
 -- the claim of what the bytes mean
 abbrev pub IsClaimOf : Problem → List ℕ → BundleClaim → Type 0
-IsClaimOf asked bytes claim = (b : Result (Problem × Certificate) BundleFault) × Means bytes b × IsClaim asked b claim
+IsClaimOf asked bytes claim = (b : Result (Problem × Certificate) BundleFault) × DecodesTo bytes b × IsClaim asked b claim
 
 -- the bytes are a bundle that shows this to be the distance of the query of that name after a script
 abbrev pub ShowsDistance : ScriptState → List ℕ → List ℕ → ℕ → Type 0
 ShowsDistance s name bytes worth =
-    (b : Problem × Certificate) × Means bytes (Ok b) × Certifies b.0 b.1 × (worth ≡ b.1.worth)
+    (b : Problem × Certificate) × DecodesTo bytes (Ok b) × Certifies b.0 b.1 × (worth ≡ b.1.worth)
     × problems.IsProblemOf weighted s.history (transaction_called s name).0 b.0
     × IsLeastDistance weighted s.history (transaction_called s name).0 worth
 

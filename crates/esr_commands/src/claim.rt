@@ -9,7 +9,7 @@
 ghost use Rattle.std.specs.Prelude.{◌≡◌, ◌≢◌, ℕ, List, Ok, IfOk, IsOk};
 ghost use Rattle.esr_cert.specs.Faults.{bundle_fault_number};
 ghost use Rattle.esr_cert.specs.Views.{certificate_of};
-ghost use Rattle.esr_views.specs.Ask.{IsAnswered};
+ghost use Rattle.esr_views.specs.QueryAnswers.{IsAnswered};
 ghost use Rattle.esr_views.specs.State.{ScriptState};
 ghost use Rattle.esr_commands.specs.Claims.{IsClaim, IsClaimOf, ShowsDistance, claim_line};
 

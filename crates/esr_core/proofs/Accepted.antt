@@ -6,8 +6,8 @@ use Rattle.std.proofs.lemmas.Bool.Decides.{nat_tests}
 use Rattle.std.proofs.lemmas.List.Elements.{All-from_recursion}
 use Rattle.std.proofs.lemmas.List.Sums.{sum_by-le-sum_by}
 use Rattle.esr_items.specs.Values.{versions_at}
-use Rattle.esr_core.specs.Words.{Versions, ItemId, TxnId, Event, BeginUpdate, BeginQuery, Read, Write, Commit, Abort, Refusal}
-use Rattle.esr_history.specs.Events.{numbers, reads, reads_any, is_query, is_update, is_active, holds_read, reads_of, all_reads_of}
+use Rattle.esr_core.specs.Types.{Versions, ItemId, TxnId, Event, BeginUpdate, BeginQuery, Read, Write, Commit, Abort, Refusal}
+use Rattle.esr_history.specs.Events.{txn_numbers, reads, reads_any, is_query, is_update, is_active, holds_read, read_count, total_read_count}
 use Rattle.esr_history.specs.Machine.{Distance, Schedule, accepted_in, due_in, first_reason, refusal, reasons, Charge, import_full, export_full}
 use Rattle.esr_history.specs.ItemLocks.{ItemLocks, query_reads}
 use Rattle.esr_history.proofs.Allowed.{none_applies, read_allowed}
@@ -28,7 +28,7 @@ pub fits_from : (q : Quote) → reason_of q ≡ None → q ≡ Fits
 fits_from Fits is = refl
 fits_from _ is = absurd (cc)
 
-reads_le : (es : List Event) (t x : ℕ) → reads_of es t x ≤ all_reads_of es t
+reads_le : (es : List Event) (t x : ℕ) → read_count es t x ≤ total_read_count es t
 reads_le es t x = sum_by-le-sum_by (λ e. if reads t x e then 1 else 0) (λ e. if reads_any t e then 1 else 0) es one
   where
     le : (a b : Bool) → (a ≡ true → b ≡ true) → (if a then 1 else 0) ≤ (if b then 1 else 0)
@@ -51,8 +51,8 @@ reads_le es t x = sum_by-le-sum_by (λ e. if reads t x e then 1 else 0) (λ e. i
 pub read_active : (d : Distance) (h : Schedule) (t : TxnId) (x : ItemId) → refusal d h (Read t x) ≡ None → is_active (accepted_in h) t.0 ≡ true
 read_active d h t x none = not_ended h t.0 (read_allowed d h t x (none_applies (reasons d h (Read t x)) none)).active
 
-pub read_few : (d : Distance) (h : Schedule) (t : TxnId) (x : ItemId) → refusal d h (Read t x) ≡ None → is_query (accepted_in h) t.0 ≡ true → all_reads_of (accepted_in h) t.0 < 1000
-read_few d h t x none query =
+pub read_bounded : (d : Distance) (h : Schedule) (t : TxnId) (x : ItemId) → refusal d h (Read t x) ≡ None → is_query (accepted_in h) t.0 ≡ true → total_read_count (accepted_in h) t.0 < 1000
+read_bounded d h t x none query =
     grind (arith, read_allowed d h t x (none_applies (reasons d h (Read t x)) none), none_applies (reasons d h (Read t x)) none, when_none, nat_tests)
 
 module _ (d : Distance) (h : Schedule) (items : List Versions) (table : List Transaction) (locks : List ItemLocks) (accounts : List Account) (rep : Represents (d h.weights) h.opening (accepted_in h) items table locks accounts) where
@@ -69,17 +69,17 @@ module _ (d : Distance) (h : Schedule) (items : List Versions) (table : List Tra
       ∙ (ap (λ (cs : List Charge). first_reason (import_full d h cs ∷ export_full d h cs ∷ [])) (sym owed) ∙ no_reason)))
 
   -- how often each query has read the item
-  pub few_here : (t x : ℕ) → x < length items → all_reads_of (accepted_in h) t < 1000 → All (λ (r : ℕ × ℕ). r.0 ≡ t → r.1 < 1000) (locks_at locks x).queries
-  few_here t x l few =
+  pub bounded_here : (t x : ℕ) → x < length items → total_read_count (accepted_in h) t < 1000 → All (λ (r : ℕ × ℕ). r.0 ≡ t → r.1 < 1000) (locks_at locks x).queries
+  bounded_here t x l within_max =
       subst (λ (g : ItemLocks). All (λ (r : ℕ × ℕ). r.0 ≡ t → r.1 < 1000) g.queries) (sym (ap (λ (ls : List ItemLocks). locks_at ls x) rep.locked ∙ locks_at_item (accepted_in h) (length h.opening) x (rw (← rep.count) l)))
-      (All-from_recursion (λ (r : ℕ × ℕ). r.0 ≡ t → r.1 < 1000) (filter_map (query_reads (accepted_in h) x) (numbers (accepted_in h))) (each (numbers (accepted_in h))))
+      (All-from_recursion (λ (r : ℕ × ℕ). r.0 ≡ t → r.1 < 1000) (filter_map (query_reads (accepted_in h) x) (txn_numbers (accepted_in h))) (each (txn_numbers (accepted_in h))))
     where
       each : (us : List ℕ) → AllByRecursion (λ (r : ℕ × ℕ). r.0 ≡ t → r.1 < 1000) (filter_map (query_reads (accepted_in h) x) us)
       each [] = tt
       each (q ∷ us) = at (is_query (accepted_in h) q && holds_read (accepted_in h) q x) (each us)
         where
-          at : (b : Bool) → AllByRecursion (λ (r : ℕ × ℕ). r.0 ≡ t → r.1 < 1000) (filter_map (query_reads (accepted_in h) x) us) → AllByRecursion (λ (r : ℕ × ℕ). r.0 ≡ t → r.1 < 1000) (cons_option (if b then Some (q, reads_of (accepted_in h) q x) else None) (filter_map (query_reads (accepted_in h) x) us))
-          at true later = ((λ e. let le : reads_of (accepted_in h) q x ≤ all_reads_of (accepted_in h) q = reads_le (accepted_in h) q x in let same : all_reads_of (accepted_in h) q ≡ all_reads_of (accepted_in h) t = ap (all_reads_of (accepted_in h)) e in omega arith), later)
+          at : (b : Bool) → AllByRecursion (λ (r : ℕ × ℕ). r.0 ≡ t → r.1 < 1000) (filter_map (query_reads (accepted_in h) x) us) → AllByRecursion (λ (r : ℕ × ℕ). r.0 ≡ t → r.1 < 1000) (cons_option (if b then Some (q, read_count (accepted_in h) q x) else None) (filter_map (query_reads (accepted_in h) x) us))
+          at true later = ((λ e. let le : read_count (accepted_in h) q x ≤ total_read_count (accepted_in h) q = reads_le (accepted_in h) q x in let same : total_read_count (accepted_in h) q ≡ total_read_count (accepted_in h) t = ap (total_read_count (accepted_in h)) e in omega arith), later)
           at false later = later
 
   -- the accounts after a read by a query

@@ -3,8 +3,8 @@ use Rattle.std.proofs.Common.{◌≡◌, ℕ, zero, suc, ℤ, ◌+◌, ◌<◌, 
 use Rattle.std.specs.List.{range_with_len}
 use Rattle.std.proofs.lemmas.Option.{slice_get_past}
 use Rattle.std.proofs.lemmas.List.FromFn.{map-range_with_len_more}
-use Rattle.esr_core.specs.Words.{Event}
-use Rattle.esr_history.specs.Events.{Beginning, kind_of, is_query_kind, beginning_of, beginnings, beginning, numbers, limit_of, is_begun, is_query, is_update}
+use Rattle.esr_core.specs.Types.{Event}
+use Rattle.esr_history.specs.Events.{Beginning, kind_of, is_query_kind, beginning_of, beginnings, beginning, txn_numbers, limit_of, is_begun, is_query, is_update}
 use Rattle.esr_history.specs.Machine.{Charge, due, charges, import_in, export_in}
 use Rattle.esr_history.proofs.KindLaws.{query_kind}
 use Rattle.esr_history.proofs.Charges.{import-push, export-push}
@@ -71,7 +71,7 @@ module _ (d : ℕ → ℤ → ℤ → ℕ) (opening : List ℤ) (events : List E
       let n = length (beginnings events) in
       placed_end number (account_after d opening events) (λ u. refl) (new_account (kind_of b.query) (record { 0 = suc n }) b.limit) (λ a. a) 1 n (omega arith)
       ∙ (ap (λ (as' : List Account). as' ++ new_account (kind_of b.query) (record { 0 = suc n }) b.limit ∷ []) (map_same (account_after d opening events) (account_after d opening (events ++ e ∷ [])) 1 n same)
-      ∙ (ap (λ (a : Account). map (account_after d opening (events ++ e ∷ [])) (numbers events) ++ a ∷ []) new
+      ∙ (ap (λ (a : Account). map (account_after d opening (events ++ e ∷ [])) (txn_numbers events) ++ a ∷ []) new
       ∙ (sym (map-range_with_len_more (account_after d opening (events ++ e ∷ [])) 1 n (suc n) (omega arith))
       ∙ ap (λ m. map (account_after d opening (events ++ e ∷ [])) (range_with_len 1 m)) (sym (ap length (beginnings-begin events e b is) ∙ length-append (beginnings events) (b ∷ []))))))
     where

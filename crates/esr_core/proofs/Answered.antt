@@ -1,6 +1,6 @@
 -- Executing an event yields the state of the longer history.
 use Rattle.std.proofs.Common.{◌≡◌, [], ◌∷◌, ◌++◌, ◌∙◌, ap, None, Some, arith}
-use Rattle.esr_core.specs.Words.{Event, Reply, Refused, Refusal}
+use Rattle.esr_core.specs.Types.{Event, Reply, Refused, Refusal}
 use Rattle.esr_history.specs.Events.{is_refusal}
 use Rattle.esr_history.specs.Machine.{Distance, Schedule, accepted_in, extended, refusal, acceptance, reply_to}
 use Rattle.esr_history.proofs.Lawful.{done-refused, done-accepted, acceptance_accepts}

@@ -1,6 +1,6 @@
 -- Begins of queries and of updates alike.
 use Rattle.std.proofs.Common.{◌≡◌, ℕ, ℤ, ◌+◌, List, [], ◌∷◌, length, Bool, true, false, ◌&&◌, refl, None}
-use Rattle.esr_core.specs.Words.{Begun, Event}
+use Rattle.esr_core.specs.Types.{Begun, Event}
 use Rattle.esr_history.specs.Events.{Beginning, beginnings, written}
 use Rattle.esr_history.specs.Machine.{Distance, Schedule, accepted_in, due, refusal, acceptance, first_reason, limit_too_high, too_many}
 use Rattle.esr_core.specs.States.{begin_event}

@@ -1,7 +1,7 @@
 -- A report over any number of histories.
 use Rattle.std.proofs.Common.{◌≡◌, ◌+◌, ◌≤◌, ℕ, true, List, ◌++◌, sym, ◌∙◌, ap, subst, inl, inr, ⊎_elim, arith, sum_by, unwrap_or, option_map, if◌then◌else◌}
 use Rattle.std.proofs.lemmas.Bool.{and_parts, and_from}
-use Rattle.esr_core.specs.Words.{Entry}
+use Rattle.esr_core.specs.Types.{Entry}
 use Rattle.esr_core.specs.Carried.{new_number, settled, charged_in, IsCarriedOver, IsReport, IsReport.reads, IsReport.continues, IsReport.is_carried, ReportsAreBounded, ReportsAreBoundedAtCommit, LawOfActiveQueries, LawOfReports}
 use Rattle.esr_history.specs.Events.{is_query, is_active, limit_of}
 use Rattle.esr_history.specs.Machine.{Distance, Schedule, accepted_in, charges_in, import_in, export_in, IsLegal}

@@ -5,8 +5,8 @@ use Rattle.std.proofs.lemmas.Bool.{cases_Bool, cases_eq, false≢true, eq-eqb, n
 use Rattle.std.proofs.lemmas.Option.{same_Some}
 use Rattle.std.proofs.lemmas.List.Sums.{sum_by-cons}
 use Rattle.std.proofs.lemmas.List.Elements.{All-from_recursion}
-use Rattle.esr_core.specs.Words.{ItemId, TxnId, Event, Write, Refusal, BlockedByImport, BlockedByExport}
-use Rattle.esr_history.specs.Events.{kind_of, beginning_of, beginnings, numbers, limit_of, is_begun, is_query, is_update, holds_read, reads_of, current_value}
+use Rattle.esr_core.specs.Types.{ItemId, TxnId, Event, Write, Refusal, BlockedByImport, BlockedByExport}
+use Rattle.esr_history.specs.Events.{kind_of, beginning_of, beginnings, txn_numbers, limit_of, is_begun, is_query, is_update, holds_read, read_count, current_value}
 use Rattle.esr_history.specs.Machine.{Distance, Schedule, Charge, accepted_in, due, charges, charges_in, charge_of_write, import_in, export_in, total, import_full, export_full, first_reason}
 use Rattle.esr_history.specs.ItemLocks.{query_reads}
 use Rattle.esr_history.specs.Ascending.{IsAscendingBy}
@@ -97,8 +97,8 @@ module _ (d : ℕ → ℤ → ℤ → ℕ) (opening : List ℤ) (events : List E
   pub books-charged : (e : Event) → beginning_of e ≡ None → (u : TxnId) (cs : List (TxnId × ℕ)) → is_update events u.0 ≡ true → due d opening events e ≡ charges_by u.0 cs
       → charged (books_of d opening events) u cs ≡ books_of d opening (events ++ e ∷ [])
   books-charged e none u cs update owed =
-      ap (raised u.0 (total_of cs)) (imported_row u.0 cs (account_after d opening events) (λ v. refl) (numbers events))
-      ∙ (raised_row u.0 (total_of cs) (λ v. more (import_in (charges_by u.0 cs) v) (account_after d opening events v)) (λ v. refl) (numbers events)
+      ap (raised u.0 (total_of cs)) (imported_row u.0 cs (account_after d opening events) (λ v. refl) (txn_numbers events))
+      ∙ (raised_row u.0 (total_of cs) (λ v. more (import_in (charges_by u.0 cs) v) (account_after d opening events v)) (λ v. refl) (txn_numbers events)
       ∙ (map_same (λ v. if v == u.0 then more (total_of cs) (more (import_in (charges_by u.0 cs) v) (account_after d opening events v)) else more (import_in (charges_by u.0 cs) v) (account_after d opening events v)) (account_after d opening (events ++ e ∷ [])) 1 (length (beginnings events)) same
       ∙ ap (map (account_after d opening (events ++ e ∷ []))) (sym (numbers-kept events e none))))
     where
@@ -133,19 +133,19 @@ module _ (d : ℕ → ℤ → ℤ → ℕ) (opening : List ℤ) (events : List E
 
   -- the charges of a write, by the queries that have read the item
   pub due-write : (u : TxnId) (x : ItemId) (v : ℤ) → is_update events u.0 ≡ true
-      → due d opening events (Write u x v) ≡ charges_by u.0 (charges_to (d x.0 v (current_value opening events x.0)) (filter_map (query_reads events x.0) (numbers events)))
-  due-write u x v update = rw update (each (numbers events))
+      → due d opening events (Write u x v) ≡ charges_by u.0 (charges_to (d x.0 v (current_value opening events x.0)) (filter_map (query_reads events x.0) (txn_numbers events)))
+  due-write u x v update = rw update (each (txn_numbers events))
     where
       each : (us : List ℕ) → filter_map (charge_of_write d opening events u.0 x.0 v) us ≡ charges_by u.0 (charges_to (d x.0 v (current_value opening events x.0)) (filter_map (query_reads events x.0) us))
       each [] = refl
       each (q ∷ us) = grind (arith, each us)
 
   -- they are of queries that have begun, ascending
-  pub are_charges-write : (u : TxnId) (x amount : ℕ) → is_update events u.0 ≡ true → AreCharges (books_of d opening events) u (charges_to amount (filter_map (query_reads events x) (numbers events)))
+  pub are_charges-write : (u : TxnId) (x amount : ℕ) → is_update events u.0 ≡ true → AreCharges (books_of d opening events) u (charges_to amount (filter_map (query_reads events x) (txn_numbers events)))
   are_charges-write u x amount update = record {
     update = open_update_is d opening events u.0 update;
-    queries = All-from_recursion (λ (c : TxnId × ℕ). is_open_query (books_of d opening events) c.0.0 ≡ true) (charges_to amount (filter_map (query_reads events x) (numbers events))) (each (numbers events));
-    ascending = rise (filter_map (query_reads events x) (numbers events)) (filter_map_ascends (λ (r : ℕ × ℕ). r.0) (query_reads events x) own 1 (length (beginnings events)));
+    queries = All-from_recursion (λ (c : TxnId × ℕ). is_open_query (books_of d opening events) c.0.0 ≡ true) (charges_to amount (filter_map (query_reads events x) (txn_numbers events))) (each (txn_numbers events));
+    ascending = rise (filter_map (query_reads events x) (txn_numbers events)) (filter_map_ascends (λ (r : ℕ × ℕ). r.0) (query_reads events x) own 1 (length (beginnings events)));
   }
     where
       each : (us : List ℕ) → AllByRecursion (λ (c : TxnId × ℕ). is_open_query (books_of d opening events) c.0.0 ≡ true) (charges_to amount (filter_map (query_reads events x) us))
@@ -153,15 +153,15 @@ module _ (d : ℕ → ℤ → ℤ → ℕ) (opening : List ℤ) (events : List E
       each (q ∷ us) = at (is_query events q && holds_read events q x) refl (each us)
         where
           at : (b : Bool) → (is_query events q && holds_read events q x) ≡ b → AllByRecursion (λ (c : TxnId × ℕ). is_open_query (books_of d opening events) c.0.0 ≡ true) (charges_to amount (filter_map (query_reads events x) us))
-              → AllByRecursion (λ (c : TxnId × ℕ). is_open_query (books_of d opening events) c.0.0 ≡ true) (charges_to amount (cons_option (if b then Some (q, reads_of events q x) else None) (filter_map (query_reads events x) us)))
+              → AllByRecursion (λ (c : TxnId × ℕ). is_open_query (books_of d opening events) c.0.0 ≡ true) (charges_to amount (cons_option (if b then Some (q, read_count events q x) else None) (filter_map (query_reads events x) us)))
           at true is later = (open_query_is d opening events q (and_parts (is_query events q) (holds_read events q x) is).0, later)
           at false is later = later
 
       own : (q : ℕ) (y : ℕ × ℕ) → query_reads events x q ≡ Some y → y.0 ≡ q
       own q y is = at (is_query events q && holds_read events q x) is
         where
-          at : (b : Bool) → (if b then Some (q, reads_of events q x) else None) ≡ Some y → y.0 ≡ q
-          at true is' = ap (λ (z : ℕ × ℕ). z.0) (sym (same_Some (q, reads_of events q x) y is'))
+          at : (b : Bool) → (if b then Some (q, read_count events q x) else None) ≡ Some y → y.0 ≡ q
+          at true is' = ap (λ (z : ℕ × ℕ). z.0) (sym (same_Some (q, read_count events q x) y is'))
           at false is' = absurd (cc)
 
       above : (a : ℕ) (rs : List (ℕ × ℕ)) → AllByRecursion (λ (r : ℕ × ℕ). a < r.0) rs → AllByRecursion (λ (c : TxnId × ℕ). a < c.0.0) (charges_to amount rs)

@@ -2,7 +2,7 @@
 use Rattle.std.proofs.Common.{◌≡◌, ℕ, ℤ, ◌+◌, ◌<◌, List, [], ◌∷◌, length, true, false, refl, sym, ◌∙◌, ap, Bool, Option, None, Some, ◌==◌, if◌then◌else◌}
 use Rattle.std.proofs.lemmas.List.Sums.{sum_by-cons}
 use Rattle.esr_items.specs.Values.{versions_at}
-use Rattle.esr_core.specs.Words.{Versions, ItemId, TxnId, Read, Write}
+use Rattle.esr_core.specs.Types.{Versions, ItemId, TxnId, Read, Write}
 use Rattle.esr_history.specs.Events.{is_query, is_update}
 use Rattle.esr_history.specs.Machine.{Distance, Schedule, Charge, accepted_in, due_in, charge_of_read, import_in, writer}
 use Rattle.esr_history.specs.ItemLocks.{ItemLocks}

@@ -1,6 +1,6 @@
 -- The facts of a transaction, and its export.
 use Rattle.std.proofs.Common.{◌≡◌, ℕ, List, false, not, refl, sym, Option, None, Some, unwrap_or, option_map}
-use Rattle.esr_core.specs.Words.{Entry}
+use Rattle.esr_core.specs.Types.{Entry}
 use Rattle.esr_history.specs.declared.back_links.Facts.{Facts}
 use Rattle.esr_history.specs.Events.{Beginning, accepted, beginning, is_update}
 use Rattle.esr_history.specs.BackLinks.{facts_by, facts_of}

@@ -4,16 +4,16 @@ use Rattle.std.specs.List.{filter_map, cons_option, range_with_len}
 use Rattle.std.proofs.lemmas.Bool.{and_parts, true≢false}
 use Rattle.std.proofs.lemmas.List.{length-map}
 use Rattle.std.proofs.lemmas.List.FromFn.{length-map-range_with_len}
-use Rattle.esr_core.specs.Words.{Event, BeginUpdate, BeginQuery, Read, Write, Commit, Abort, Value, Entry}
+use Rattle.esr_core.specs.Types.{Event, BeginUpdate, BeginQuery, Read, Write, Commit, Abort, Value, Entry}
 use Rattle.esr_core.specs.Carried.{active_numbers, new_number, carried_begin, carried_operation, carried_read, LawOfCarriedLength}
-use Rattle.esr_history.specs.Events.{is_refusal, beginning_of, beginnings, numbers, is_active, is_query, is_update, current_value}
+use Rattle.esr_history.specs.Events.{is_refusal, beginning_of, beginnings, txn_numbers, is_active, is_query, is_update, current_value}
 use Rattle.esr_history.specs.Machine.{Distance, Schedule, accepted_in}
 use Rattle.esr_history.specs.ReportBounds.{is_active_query}
 use Rattle.esr_history.proofs.Words.{query_not_update}
 
-kept_few : {X : Type 0} (p : X → Bool) (xs : List X) → length (filter p xs) ≤ length xs
-kept_few p [] = omega arith
-kept_few p (x ∷ xs) = at (p x) (kept_few p xs)
+kept_bounded : {X : Type 0} (p : X → Bool) (xs : List X) → length (filter p xs) ≤ length xs
+kept_bounded p [] = omega arith
+kept_bounded p (x ∷ xs) = at (p x) (kept_bounded p xs)
   where
     at : (b : Bool) → length (filter p xs) ≤ length xs → length (cond b (x ∷ filter p xs) (filter p xs)) ≤ suc (length xs)
     at true rest = omega (arith, rest)
@@ -70,12 +70,12 @@ pub law_of_carried_length : LawOfCarriedLength
 law_of_carried_length d h =
     let es : List Entry = filter (λ e. not (is_refusal e.reply)) h.entries in
     let begins : length (map (carried_begin d h) (active_numbers h)) ≡ length (active_numbers h) = length-map (active_numbers h) (carried_begin d h) in
-    let active : length (active_numbers h) ≤ length (numbers (accepted_in h)) = kept_few (is_active (accepted_in h)) (numbers (accepted_in h)) in
-    let all : length (numbers (accepted_in h)) ≡ length (beginnings (accepted_in h)) = range_length 1 (length (beginnings (accepted_in h))) in
-    let few : length (beginnings (accepted_in h)) + (length (filter_map (λ e. carried_operation h e.reply e.event) es) + length (filter_map (carried_read h) (accepted_in h))) ≤ length es = fewer d h es in
-    let kept : length es ≤ length h.entries = kept_few (λ e. not (is_refusal e.reply)) h.entries in
+    let active : length (active_numbers h) ≤ length (txn_numbers (accepted_in h)) = kept_bounded (is_active (accepted_in h)) (txn_numbers (accepted_in h)) in
+    let all : length (txn_numbers (accepted_in h)) ≡ length (beginnings (accepted_in h)) = range_length 1 (length (beginnings (accepted_in h))) in
+    let within_max : length (beginnings (accepted_in h)) + (length (filter_map (λ e. carried_operation h e.reply e.event) es) + length (filter_map (carried_read h) (accepted_in h))) ≤ length es = fewer d h es in
+    let kept : length es ≤ length h.entries = kept_bounded (λ e. not (is_refusal e.reply)) h.entries in
     rw (
       length-append (map (carried_begin d h) (active_numbers h)) (filter_map (λ e. carried_operation h e.reply e.event) es ++ filter_map (carried_read h) (accepted_in h)),
       length-append (filter_map (λ e. carried_operation h e.reply e.event) es) (filter_map (carried_read h) (accepted_in h)),
     )
-    (omega (arith, begins, active, all, few, kept))
+    (omega (arith, begins, active, all, within_max, kept))

@@ -2,8 +2,8 @@
 use Rattle.std.proofs.Common.{◌≡◌, ℕ, suc, ◌+◌, ◌<◌, ◌≤◌, List, [], ◌∷◌, ◌++◌, length, Bool, true, false, not, ◌&&◌, ◌||◌, ◌==◌, refl, sym, ◌∙◌, ap, arith, inl, inr, Option, None, Some, is_some, unwrap_or, slice_get, option_map}
 use Rattle.std.specs.List.{list_any, range_with_len}
 use Rattle.std.proofs.lemmas.Bool.{cases_Bool, false≢true, and_parts, and_right, or_right, or_left, or_cases, false_from_ne_true, not-true}
-use Rattle.esr_core.specs.Words.{TxnId, Event, BeginUpdate, BeginQuery, Read, Write, Commit, Abort}
-use Rattle.esr_history.specs.Events.{Beginning, beginning_of, beginnings, beginning, numbers, limit_of, commits, aborts, reads, reads_any, writes, is_committed, is_aborted, is_active, is_begun, is_query, is_update}
+use Rattle.esr_core.specs.Types.{TxnId, Event, BeginUpdate, BeginQuery, Read, Write, Commit, Abort}
+use Rattle.esr_history.specs.Events.{Beginning, beginning_of, beginnings, beginning, txn_numbers, limit_of, commits, aborts, reads, reads_any, writes, is_committed, is_aborted, is_active, is_begun, is_query, is_update}
 use Rattle.esr_history.proofs.Lists.{any_push, any_push_no, filter_map_push_none, filter_map_push_some, slice_get_push_last}
 use Rattle.esr_history.specs.Orderly.{IsWellFormed, names}
 use Rattle.esr_history.proofs.Orderly.{beginning-kept, beginning-push, is_begun-push}
@@ -78,7 +78,7 @@ pub begin_query : (limit : ℕ) (strict : Bool) → IsBegin (BeginQuery limit st
 begin_query limit strict = record { begins = refl; commits_none = λ t. refl; aborts_none = λ t. refl; reads_none = λ t x. refl; reads_any_none = λ t. refl; writes_none = λ t x. refl; names_none = λ t. refl }
 
 -- an event of a transaction that has begun
-pub numbers-kept : (events : List Event) (e : Event) → beginning_of e ≡ None → numbers (events ++ e ∷ []) ≡ numbers events
+pub numbers-kept : (events : List Event) (e : Event) → beginning_of e ≡ None → txn_numbers (events ++ e ∷ []) ≡ txn_numbers events
 numbers-kept events e none = ap (λ (bs : List Beginning). range_with_len 1 (length bs)) (filter_map_push_none beginning_of events e none)
 
 pub query-kept : (events : List Event) (e : Event) → beginning_of e ≡ None → (t : ℕ) → is_query (events ++ e ∷ []) t ≡ is_query events t

@@ -8,8 +8,8 @@ use Rattle.std.proofs.lemmas.List.Elements.{filter_agree, filter-append}
 use Rattle.std.proofs.lemmas.List.Sums.{sum_by_push}
 use mathlib.Core.List.{map-map}
 use mathlib.Core.Bool.{and-true}
-use Rattle.esr_core.specs.Words.{ItemId, TxnId, Event, Read, Write}
-use Rattle.esr_history.specs.Events.{Beginning, beginning_of, beginnings, beginning, numbers, commits, aborts, reads, writes, is_active, is_begun, is_query, is_update, holds_read, holds_write, reads_of}
+use Rattle.esr_core.specs.Types.{ItemId, TxnId, Event, Read, Write}
+use Rattle.esr_history.specs.Events.{Beginning, beginning_of, beginnings, beginning, txn_numbers, commits, aborts, reads, writes, is_active, is_begun, is_query, is_update, holds_read, holds_write, read_count}
 use Rattle.esr_history.specs.Machine.{writer}
 use Rattle.esr_history.specs.ItemLocks.{ItemLocks, query_reads, item_locks, locks_of}
 use Rattle.esr_history.specs.Orderly.{IsWellFormed}
@@ -73,7 +73,7 @@ module _ (events : List Event) (o : IsWellFormed events) where
     where
       found : (w : Option ℕ) → writer events x ≡ w → unwrap_or (option_map (λ v. v == u) w) false ≡ true → update_holds_write events x u ≡ true
       found None is it = absurd (false≢true it)
-      found (Some v) is it = ap (update_holds_write events x) (sym (eqb-true v u it)) ∙ find_some (update_holds_write events x) (numbers events) v is
+      found (Some v) is it = ap (update_holds_write events x) (sym (eqb-true v u it)) ∙ find_some (update_holds_write events x) (txn_numbers events) v is
 
   pub reader_is : (x u : ℕ) → is_reader (item_locks events x) u ≡ update_holds_read events x u
   reader_is x u =
@@ -81,11 +81,11 @@ module _ (events : List Event) (o : IsWellFormed events) where
         | inl is ↦
             let n : (1 ≤ u) × (u < 1 + length (beginnings events)) = holder_in_range events u (list_any (reads u x) events) (and_parts (is_update events u) (holds_read events u x) is).1 in
             filter_in_any (update_holds_read events x) u 1 (length (beginnings events)) is n.0 n.1 ∙ sym is
-        | inr isnt ↦ false_from_ne_true (is_reader (item_locks events x) u) (λ it. false≢true (sym isnt ∙ any_in_filter (update_holds_read events x) u (numbers events) it)) ∙ sym isnt
+        | inr isnt ↦ false_from_ne_true (is_reader (item_locks events x) u) (λ it. false≢true (sym isnt ∙ any_in_filter (update_holds_read events x) u (txn_numbers events) it)) ∙ sym isnt
       ]
 
   -- the search over all transactions finds the update that blocks a read
-  pub find_read_blocker : (t x : ℕ) (r : Option ℕ) → IsSmallest (blocks_read (item_locks events x) t) r → find (λ u. not (u == t) && update_holds_write events x u) (numbers events) ≡ r
+  pub find_read_blocker : (t x : ℕ) (r : Option ℕ) → IsSmallest (blocks_read (item_locks events x) t) r → find (λ u. not (u == t) && update_holds_write events x u) (txn_numbers events) ≡ r
   find_read_blocker t x r least =
       find_least (λ u. not (u == t) && update_holds_write events x u) (length (beginnings events)) r
       (IsSmallest-same (blocks_read (item_locks events x) t) (λ u. not (u == t) && update_holds_write events x u) r (λ u. ap (λ b. not (u == t) && b) (writer_is x u)) least)
@@ -94,7 +94,7 @@ module _ (events : List Event) (o : IsWellFormed events) where
   and_or_distributes : (u x : ℕ) → (update_holds_read events x u || update_holds_write events x u) ≡ (is_update events u && (holds_read events u x || holds_write events u x))
   and_or_distributes u x = grind (arith, common_steps)
 
-  pub find_write_blocker : (t x : ℕ) (r : Option ℕ) → IsSmallest (blocks_write (item_locks events x) t) r → find (λ u. not (u == t) && (is_update events u && (holds_read events u x || holds_write events u x))) (numbers events) ≡ r
+  pub find_write_blocker : (t x : ℕ) (r : Option ℕ) → IsSmallest (blocks_write (item_locks events x) t) r → find (λ u. not (u == t) && (is_update events u && (holds_read events u x || holds_write events u x))) (txn_numbers events) ≡ r
   find_write_blocker t x r least =
       find_least (λ u. not (u == t) && (is_update events u && (holds_read events u x || holds_write events u x))) (length (beginnings events)) r
       (IsSmallest-same (blocks_write (item_locks events x) t) (λ u. not (u == t) && (is_update events u && (holds_read events u x || holds_write events u x))) r
@@ -108,19 +108,19 @@ locks_congruent : (w v : Option ℕ) (r s : List ℕ) (q p : List (ℕ × ℕ)) 
 locks_congruent w v r s q p e f g = grind (arith, common_steps)
 
 -- lists of events with the same transactions and the same lock holders have the same locks on an item
-locks_extensional : (old new : List Event) (x : ℕ) → numbers new ≡ numbers old → ((u : ℕ) → update_holds_write new x u ≡ update_holds_write old x u) → ((u : ℕ) → update_holds_read new x u ≡ update_holds_read old x u) → ((u : ℕ) → query_reads new x u ≡ query_reads old x u)
+locks_extensional : (old new : List Event) (x : ℕ) → txn_numbers new ≡ txn_numbers old → ((u : ℕ) → update_holds_write new x u ≡ update_holds_write old x u) → ((u : ℕ) → update_holds_read new x u ≡ update_holds_read old x u) → ((u : ℕ) → query_reads new x u ≡ query_reads old x u)
     → item_locks new x ≡ item_locks old x
 locks_extensional old new x n w r q =
-    let writers : writer new x ≡ writer old x = ap (find (update_holds_write new x)) n ∙ find_same (update_holds_write new x) (update_holds_write old x) w (numbers old) in
-    let readers : filter (update_holds_read new x) (numbers new) ≡ filter (update_holds_read old x) (numbers old) = ap (filter (update_holds_read new x)) n ∙ filter_agree (update_holds_read new x) (update_holds_read old x) r (numbers old) in
-    let queries : filter_map (query_reads new x) (numbers new) ≡ filter_map (query_reads old x) (numbers old) = ap (filter_map (query_reads new x)) n ∙ filter_map_agree (query_reads new x) (query_reads old x) q (numbers old) in
-    locks_congruent (writer new x) (writer old x) (filter (update_holds_read new x) (numbers new)) (filter (update_holds_read old x) (numbers old)) (filter_map (query_reads new x) (numbers new)) (filter_map (query_reads old x) (numbers old)) writers readers queries
+    let writers : writer new x ≡ writer old x = ap (find (update_holds_write new x)) n ∙ find_same (update_holds_write new x) (update_holds_write old x) w (txn_numbers old) in
+    let readers : filter (update_holds_read new x) (txn_numbers new) ≡ filter (update_holds_read old x) (txn_numbers old) = ap (filter (update_holds_read new x)) n ∙ filter_agree (update_holds_read new x) (update_holds_read old x) r (txn_numbers old) in
+    let queries : filter_map (query_reads new x) (txn_numbers new) ≡ filter_map (query_reads old x) (txn_numbers old) = ap (filter_map (query_reads new x)) n ∙ filter_map_agree (query_reads new x) (query_reads old x) q (txn_numbers old) in
+    locks_congruent (writer new x) (writer old x) (filter (update_holds_read new x) (txn_numbers new)) (filter (update_holds_read old x) (txn_numbers old)) (filter_map (query_reads new x) (txn_numbers new)) (filter_map (query_reads old x) (txn_numbers old)) writers readers queries
 
 query_reads_own : (events : List Event) (x u : ℕ) (y : ℕ × ℕ) → query_reads events x u ≡ Some y → y.0 ≡ u
 query_reads_own events x u y is = at (is_query events u && holds_read events u x) is
   where
-    at : (b : Bool) → (if b then Some (u, reads_of events u x) else None) ≡ Some y → y.0 ≡ u
-    at true is' = ap (λ (z : ℕ × ℕ). z.0) (sym (same_Some (u, reads_of events u x) y is'))
+    at : (b : Bool) → (if b then Some (u, read_count events u x) else None) ≡ Some y → y.0 ≡ u
+    at true is' = ap (λ (z : ℕ × ℕ). z.0) (sym (same_Some (u, read_count events u x) y is'))
     at false is' = absurd (cc)
 
 -- An event other than a begin, a commit or an abort.
@@ -131,10 +131,10 @@ module _ (events : List Event) (e : Event) (none : beginning_of e ≡ None) (c :
   read-step : (u : ℕ) → update_holds_read (events ++ e ∷ []) x u ≡ (is_update events u && (is_active events u && (list_any (reads u x) events || reads u x e)))
   read-step u = rw (update-kept events e none u, active-kept events e none c a u, any_push (reads u x) events e) refl
 
-  count-step : (u : ℕ) → reads_of (events ++ e ∷ []) u x ≡ reads_of events u x + (if reads u x e then 1 else 0)
+  count-step : (u : ℕ) → read_count (events ++ e ∷ []) u x ≡ read_count events u x + (if reads u x e then 1 else 0)
   count-step u = sum_by_push (λ f. if reads u x f then 1 else 0) events e
 
-  query-step : (u : ℕ) → query_reads (events ++ e ∷ []) x u ≡ (if is_query events u && (is_active events u && (list_any (reads u x) events || reads u x e)) then Some (u, reads_of events u x + (if reads u x e then 1 else 0)) else None)
+  query-step : (u : ℕ) → query_reads (events ++ e ∷ []) x u ≡ (if is_query events u && (is_active events u && (list_any (reads u x) events || reads u x e)) then Some (u, read_count events u x + (if reads u x e then 1 else 0)) else None)
   query-step u = rw (query-kept events e none u, active-kept events e none c a u, any_push (reads u x) events e, count-step u) refl
 
   update_holds_write-same : (u : ℕ) → writes u x e ≡ false → update_holds_write (events ++ e ∷ []) x u ≡ update_holds_write events x u
@@ -144,7 +144,7 @@ module _ (events : List Event) (e : Event) (none : beginning_of e ≡ None) (c :
   read-same u fails = read-step u ∙ ap (λ b. is_update events u && (is_active events u && b)) (ap (λ b. list_any (reads u x) events || b) fails ∙ or_false (list_any (reads u x) events))
 
   query-same : (u : ℕ) → reads u x e ≡ false → query_reads (events ++ e ∷ []) x u ≡ query_reads events x u
-  query-same u fails = grind (arith, query-step u, or_false (list_any (reads u x) events), add-zero (reads_of events u x))
+  query-same u fails = grind (arith, query-step u, or_false (list_any (reads u x) events), add-zero (read_count events u x))
 
   -- an event that neither reads nor writes the item leaves its locks unchanged
   locks-other : ((u : ℕ) → writes u x e ≡ false) → ((u : ℕ) → reads u x e ≡ false) → item_locks (events ++ e ∷ []) x ≡ item_locks events x
@@ -159,22 +159,22 @@ module _ (events : List Event) (t : TxnId) (x : ItemId) where
   no_other_reads u ne = and_left (t.0 == u) (x.0 == x.0) (ne_eqb t.0 u (λ (f : t.0 ≡ u). ne (sym f)))
 
   writer-read : writer (events ++ Read t x ∷ []) x.0 ≡ writer events x.0
-  writer-read = ap (find (update_holds_write (events ++ Read t x ∷ []) x.0)) (numbers-kept events (Read t x) refl) ∙ find_same (update_holds_write (events ++ Read t x ∷ []) x.0) (update_holds_write events x.0) (λ u. update_holds_write-same events (Read t x) refl (λ v. refl) (λ v. refl) x.0 u refl) (numbers events)
+  writer-read = ap (find (update_holds_write (events ++ Read t x ∷ []) x.0)) (numbers-kept events (Read t x) refl) ∙ find_same (update_holds_write (events ++ Read t x ∷ []) x.0) (update_holds_write events x.0) (λ u. update_holds_write-same events (Read t x) refl (λ v. refl) (λ v. refl) x.0 u refl) (txn_numbers events)
 
   locks-read : is_update events t.0 ≡ true → is_active events t.0 ≡ true → item_locks (events ++ Read t x ∷ []) x.0 ≡ with_reader t.0 (item_locks events x.0)
   locks-read update act =
-      let r : filter (update_holds_read (events ++ Read t x ∷ []) x.0) (numbers (events ++ Read t x ∷ [])) ≡ upserted (λ u. u) t.0 t.0 (λ u. u) (filter (update_holds_read events x.0) (numbers events)) =
+      let r : filter (update_holds_read (events ++ Read t x ∷ []) x.0) (txn_numbers (events ++ Read t x ∷ [])) ≡ upserted (λ u. u) t.0 t.0 (λ u. u) (filter (update_holds_read events x.0) (txn_numbers events)) =
       ap (filter (update_holds_read (events ++ Read t x ∷ []) x.0)) (numbers-kept events (Read t x) refl)
-      ∙ (filter-filter_map (update_holds_read (events ++ Read t x ∷ []) x.0) (numbers events)
+      ∙ (filter-filter_map (update_holds_read (events ++ Read t x ∷ []) x.0) (txn_numbers events)
       ∙ (filter_map_placed (λ u. u) (kept_if (update_holds_read events x.0)) (kept_if_own (update_holds_read events x.0)) (kept_if (update_holds_read (events ++ Read t x ∷ []) x.0)) t.0 t.0 (λ u. u)
       (λ u ne. ap (λ b. if b then Some u else None) (read-same events (Read t x) refl (λ v. refl) (λ v. refl) x.0 u (no_other_reads u ne)))
       (ap (λ b. if b then Some t.0 else None) reads_now ∙ was (update_holds_read events x.0 t.0))
       1 (length (beginnings events)) number.0 number.1
-      ∙ ap (upserted (λ u. u) t.0 t.0 (λ u. u)) (sym (filter-filter_map (update_holds_read events x.0) (numbers events))))) in
-      let q : filter_map (query_reads (events ++ Read t x ∷ []) x.0) (numbers (events ++ Read t x ∷ [])) ≡ filter_map (query_reads events x.0) (numbers events) =
-      ap (filter_map (query_reads (events ++ Read t x ∷ []) x.0)) (numbers-kept events (Read t x) refl) ∙ filter_map_agree (query_reads (events ++ Read t x ∷ []) x.0) (query_reads events x.0) queries (numbers events) in
-      locks_congruent (writer (events ++ Read t x ∷ []) x.0) (writer events x.0) (filter (update_holds_read (events ++ Read t x ∷ []) x.0) (numbers (events ++ Read t x ∷ []))) (upserted (λ u. u) t.0 t.0 (λ u. u) (filter (update_holds_read events x.0) (numbers events)))
-      (filter_map (query_reads (events ++ Read t x ∷ []) x.0) (numbers (events ++ Read t x ∷ []))) (filter_map (query_reads events x.0) (numbers events)) writer-read r q
+      ∙ ap (upserted (λ u. u) t.0 t.0 (λ u. u)) (sym (filter-filter_map (update_holds_read events x.0) (txn_numbers events))))) in
+      let q : filter_map (query_reads (events ++ Read t x ∷ []) x.0) (txn_numbers (events ++ Read t x ∷ [])) ≡ filter_map (query_reads events x.0) (txn_numbers events) =
+      ap (filter_map (query_reads (events ++ Read t x ∷ []) x.0)) (numbers-kept events (Read t x) refl) ∙ filter_map_agree (query_reads (events ++ Read t x ∷ []) x.0) (query_reads events x.0) queries (txn_numbers events) in
+      locks_congruent (writer (events ++ Read t x ∷ []) x.0) (writer events x.0) (filter (update_holds_read (events ++ Read t x ∷ []) x.0) (txn_numbers (events ++ Read t x ∷ []))) (upserted (λ u. u) t.0 t.0 (λ u. u) (filter (update_holds_read events x.0) (txn_numbers events)))
+      (filter_map (query_reads (events ++ Read t x ∷ []) x.0) (txn_numbers (events ++ Read t x ∷ []))) (filter_map (query_reads events x.0) (txn_numbers events)) writer-read r q
     where
       number : (1 ≤ t.0) × (t.0 < 1 + length (beginnings events))
       number = begun_in_range events t.0 (update_begun events t.0 update)
@@ -196,16 +196,16 @@ module _ (events : List Event) (t : TxnId) (x : ItemId) where
   -- a read by a query
   locks-query : is_query events t.0 ≡ true → is_active events t.0 ≡ true → item_locks (events ++ Read t x ∷ []) x.0 ≡ with_query_read t.0 (item_locks events x.0)
   locks-query query act =
-      let r : filter (update_holds_read (events ++ Read t x ∷ []) x.0) (numbers (events ++ Read t x ∷ [])) ≡ filter (update_holds_read events x.0) (numbers events) =
-      ap (filter (update_holds_read (events ++ Read t x ∷ []) x.0)) (numbers-kept events (Read t x) refl) ∙ filter_agree (update_holds_read (events ++ Read t x ∷ []) x.0) (update_holds_read events x.0) readers (numbers events) in
-      let q : filter_map (query_reads (events ++ Read t x ∷ []) x.0) (numbers (events ++ Read t x ∷ [])) ≡ upserted (λ (p : ℕ × ℕ). p.0) t.0 (t.0, 1) (λ (p : ℕ × ℕ). (p.0, p.1 + 1)) (filter_map (query_reads events x.0) (numbers events)) =
+      let r : filter (update_holds_read (events ++ Read t x ∷ []) x.0) (txn_numbers (events ++ Read t x ∷ [])) ≡ filter (update_holds_read events x.0) (txn_numbers events) =
+      ap (filter (update_holds_read (events ++ Read t x ∷ []) x.0)) (numbers-kept events (Read t x) refl) ∙ filter_agree (update_holds_read (events ++ Read t x ∷ []) x.0) (update_holds_read events x.0) readers (txn_numbers events) in
+      let q : filter_map (query_reads (events ++ Read t x ∷ []) x.0) (txn_numbers (events ++ Read t x ∷ [])) ≡ upserted (λ (p : ℕ × ℕ). p.0) t.0 (t.0, 1) (λ (p : ℕ × ℕ). (p.0, p.1 + 1)) (filter_map (query_reads events x.0) (txn_numbers events)) =
       ap (filter_map (query_reads (events ++ Read t x ∷ []) x.0)) (numbers-kept events (Read t x) refl)
       ∙ filter_map_placed (λ (p : ℕ × ℕ). p.0) (query_reads events x.0) (query_reads_own events x.0) (query_reads (events ++ Read t x ∷ []) x.0) t.0 (t.0, 1) (λ (p : ℕ × ℕ). (p.0, p.1 + 1))
       (λ u ne. query-same events (Read t x) refl (λ v. refl) (λ v. refl) x.0 u (no_other_reads u ne))
       (reads_now ∙ was (list_any (reads t.0 x.0) events) refl)
       1 (length (beginnings events)) number.0 number.1 in
-      locks_congruent (writer (events ++ Read t x ∷ []) x.0) (writer events x.0) (filter (update_holds_read (events ++ Read t x ∷ []) x.0) (numbers (events ++ Read t x ∷ []))) (filter (update_holds_read events x.0) (numbers events))
-      (filter_map (query_reads (events ++ Read t x ∷ []) x.0) (numbers (events ++ Read t x ∷ []))) (upserted (λ (p : ℕ × ℕ). p.0) t.0 (t.0, 1) (λ (p : ℕ × ℕ). (p.0, p.1 + 1)) (filter_map (query_reads events x.0) (numbers events))) writer-read r q
+      locks_congruent (writer (events ++ Read t x ∷ []) x.0) (writer events x.0) (filter (update_holds_read (events ++ Read t x ∷ []) x.0) (txn_numbers (events ++ Read t x ∷ []))) (filter (update_holds_read events x.0) (txn_numbers events))
+      (filter_map (query_reads (events ++ Read t x ∷ []) x.0) (txn_numbers (events ++ Read t x ∷ []))) (upserted (λ (p : ℕ × ℕ). p.0) t.0 (t.0, 1) (λ (p : ℕ × ℕ). (p.0, p.1 + 1)) (filter_map (query_reads events x.0) (txn_numbers events))) writer-read r q
     where
       number : (1 ≤ t.0) × (t.0 < 1 + length (beginnings events))
       number = begun_in_range events t.0 (active_parts events t.0 act).0
@@ -213,16 +213,16 @@ module _ (events : List Event) (t : TxnId) (x : ItemId) where
       readers : (u : ℕ) → update_holds_read (events ++ Read t x ∷ []) x.0 u ≡ update_holds_read events x.0 u
       readers u = grind (arith, cases_eq u t.0, read-step events (Read t x) refl (λ v. refl) (λ v. refl) x.0 u, read-same events (Read t x) refl (λ v. refl) (λ v. refl) x.0 u, no_other_reads u, query_not_update events t.0 query)
 
-      reads_now : query_reads (events ++ Read t x ∷ []) x.0 t.0 ≡ Some (t.0, reads_of events t.0 x.0 + 1)
+      reads_now : query_reads (events ++ Read t x ∷ []) x.0 t.0 ≡ Some (t.0, read_count events t.0 x.0 + 1)
       reads_now =
           query-step events (Read t x) refl (λ v. refl) (λ v. refl) x.0 t.0
-          ∙ (ap (λ b. if b && (is_active events t.0 && (list_any (reads t.0 x.0) events || reads t.0 x.0 (Read t x))) then Some (t.0, reads_of events t.0 x.0 + (if reads t.0 x.0 (Read t x) then 1 else 0)) else None) query
-          ∙ (ap (λ b. if b && (list_any (reads t.0 x.0) events || reads t.0 x.0 (Read t x)) then Some (t.0, reads_of events t.0 x.0 + (if reads t.0 x.0 (Read t x) then 1 else 0)) else None) act
-          ∙ (ap (λ b. if list_any (reads t.0 x.0) events || b then Some (t.0, reads_of events t.0 x.0 + (if b then 1 else 0)) else None) reads_it
-          ∙ ap (λ b. if b then Some (t.0, reads_of events t.0 x.0 + 1) else None) (or_right (list_any (reads t.0 x.0) events) true refl))))
+          ∙ (ap (λ b. if b && (is_active events t.0 && (list_any (reads t.0 x.0) events || reads t.0 x.0 (Read t x))) then Some (t.0, read_count events t.0 x.0 + (if reads t.0 x.0 (Read t x) then 1 else 0)) else None) query
+          ∙ (ap (λ b. if b && (list_any (reads t.0 x.0) events || reads t.0 x.0 (Read t x)) then Some (t.0, read_count events t.0 x.0 + (if reads t.0 x.0 (Read t x) then 1 else 0)) else None) act
+          ∙ (ap (λ b. if list_any (reads t.0 x.0) events || b then Some (t.0, read_count events t.0 x.0 + (if b then 1 else 0)) else None) reads_it
+          ∙ ap (λ b. if b then Some (t.0, read_count events t.0 x.0 + 1) else None) (or_right (list_any (reads t.0 x.0) events) true refl))))
 
-      was : (b : Bool) → list_any (reads t.0 x.0) events ≡ b → ◌≡◌ {A = Option (ℕ × ℕ)} (Some (t.0, reads_of events t.0 x.0 + 1)) (Some (unwrap_or (option_map (λ (p : ℕ × ℕ). (p.0, p.1 + 1)) (query_reads events x.0 t.0)) (t.0, 1)))
-      was true did = ap (λ b. Some (unwrap_or (option_map (λ (p : ℕ × ℕ). (p.0, p.1 + 1)) (if b then Some (t.0, reads_of events t.0 x.0) else None)) (t.0, 1))) (sym (and_from (is_query events t.0) (holds_read events t.0 x.0) query (and_from (is_active events t.0) (list_any (reads t.0 x.0) events) act did)))
+      was : (b : Bool) → list_any (reads t.0 x.0) events ≡ b → ◌≡◌ {A = Option (ℕ × ℕ)} (Some (t.0, read_count events t.0 x.0 + 1)) (Some (unwrap_or (option_map (λ (p : ℕ × ℕ). (p.0, p.1 + 1)) (query_reads events x.0 t.0)) (t.0, 1)))
+      was true did = ap (λ b. Some (unwrap_or (option_map (λ (p : ℕ × ℕ). (p.0, p.1 + 1)) (if b then Some (t.0, read_count events t.0 x.0) else None)) (t.0, 1))) (sym (and_from (is_query events t.0) (holds_read events t.0 x.0) query (and_from (is_active events t.0) (list_any (reads t.0 x.0) events) act did)))
       was false did =
           grind (arith, count_none (reads t.0 x.0) events did, and_right, and_right (is_active events t.0) (list_any (reads t.0 x.0) events) did)
 
@@ -231,12 +231,12 @@ module _ (events : List Event) (t : TxnId) (x : ItemId) (v : ℤ) where
   pub locks-write : IsWellFormed (events ++ Write t x v ∷ []) → is_update events t.0 ≡ true → is_active events t.0 ≡ true → item_locks (events ++ Write t x v ∷ []) x.0 ≡ with_writer t.0 (item_locks events x.0)
   locks-write o update act =
       let w : writer (events ++ Write t x v ∷ []) x.0 ≡ Some t.0 = writer_found (events ++ Write t x v ∷ []) o x.0 t.0 writes_now in
-      let r : filter (update_holds_read (events ++ Write t x v ∷ []) x.0) (numbers (events ++ Write t x v ∷ [])) ≡ filter (update_holds_read events x.0) (numbers events) =
-      ap (filter (update_holds_read (events ++ Write t x v ∷ []) x.0)) (numbers-kept events (Write t x v) refl) ∙ filter_agree (update_holds_read (events ++ Write t x v ∷ []) x.0) (update_holds_read events x.0) (λ u. read-same events (Write t x v) refl (λ w. refl) (λ w. refl) x.0 u refl) (numbers events) in
-      let q : filter_map (query_reads (events ++ Write t x v ∷ []) x.0) (numbers (events ++ Write t x v ∷ [])) ≡ filter_map (query_reads events x.0) (numbers events) =
-      ap (filter_map (query_reads (events ++ Write t x v ∷ []) x.0)) (numbers-kept events (Write t x v) refl) ∙ filter_map_agree (query_reads (events ++ Write t x v ∷ []) x.0) (query_reads events x.0) (λ u. query-same events (Write t x v) refl (λ w. refl) (λ w. refl) x.0 u refl) (numbers events) in
-      locks_congruent (writer (events ++ Write t x v ∷ []) x.0) (Some t.0) (filter (update_holds_read (events ++ Write t x v ∷ []) x.0) (numbers (events ++ Write t x v ∷ []))) (filter (update_holds_read events x.0) (numbers events))
-      (filter_map (query_reads (events ++ Write t x v ∷ []) x.0) (numbers (events ++ Write t x v ∷ []))) (filter_map (query_reads events x.0) (numbers events)) w r q
+      let r : filter (update_holds_read (events ++ Write t x v ∷ []) x.0) (txn_numbers (events ++ Write t x v ∷ [])) ≡ filter (update_holds_read events x.0) (txn_numbers events) =
+      ap (filter (update_holds_read (events ++ Write t x v ∷ []) x.0)) (numbers-kept events (Write t x v) refl) ∙ filter_agree (update_holds_read (events ++ Write t x v ∷ []) x.0) (update_holds_read events x.0) (λ u. read-same events (Write t x v) refl (λ w. refl) (λ w. refl) x.0 u refl) (txn_numbers events) in
+      let q : filter_map (query_reads (events ++ Write t x v ∷ []) x.0) (txn_numbers (events ++ Write t x v ∷ [])) ≡ filter_map (query_reads events x.0) (txn_numbers events) =
+      ap (filter_map (query_reads (events ++ Write t x v ∷ []) x.0)) (numbers-kept events (Write t x v) refl) ∙ filter_map_agree (query_reads (events ++ Write t x v ∷ []) x.0) (query_reads events x.0) (λ u. query-same events (Write t x v) refl (λ w. refl) (λ w. refl) x.0 u refl) (txn_numbers events) in
+      locks_congruent (writer (events ++ Write t x v ∷ []) x.0) (Some t.0) (filter (update_holds_read (events ++ Write t x v ∷ []) x.0) (txn_numbers (events ++ Write t x v ∷ []))) (filter (update_holds_read events x.0) (txn_numbers events))
+      (filter_map (query_reads (events ++ Write t x v ∷ []) x.0) (txn_numbers (events ++ Write t x v ∷ []))) (filter_map (query_reads events x.0) (txn_numbers events)) w r q
     where
       writes_now : update_holds_write (events ++ Write t x v ∷ []) x.0 t.0 ≡ true
       writes_now =
@@ -261,13 +261,13 @@ module _ (events : List Event) (o : IsWellFormed events) (e : Event) (none : beg
   read-end : (u : ℕ) → update_holds_read (events ++ e ∷ []) x u ≡ (update_holds_read events x u && not (t == u))
   read-end u = rw (update-kept events e none u, ends u, any_push_no (reads u x) events e (no_reads u x)) (and_not_swap (is_update events u) (is_active events u) (t == u) (list_any (reads u x) events))
 
-  count-end : (u : ℕ) → reads_of (events ++ e ∷ []) u x ≡ reads_of events u x
-  count-end u = sum_by_push (λ f. if reads u x f then 1 else 0) events e ∙ (ap (λ b. reads_of events u x + (if b then 1 else 0)) (no_reads u x) ∙ add-zero (reads_of events u x))
+  count-end : (u : ℕ) → read_count (events ++ e ∷ []) u x ≡ read_count events u x
+  count-end u = sum_by_push (λ f. if reads u x f then 1 else 0) events e ∙ (ap (λ b. read_count events u x + (if b then 1 else 0)) (no_reads u x) ∙ add-zero (read_count events u x))
 
-  query-end : (u : ℕ) → query_reads (events ++ e ∷ []) x u ≡ (if (is_query events u && holds_read events u x) && not (t == u) then Some (u, reads_of events u x) else None)
+  query-end : (u : ℕ) → query_reads (events ++ e ∷ []) x u ≡ (if (is_query events u && holds_read events u x) && not (t == u) then Some (u, read_count events u x) else None)
   query-end u =
       ap (λ n. if is_query (events ++ e ∷ []) u && holds_read (events ++ e ∷ []) u x then Some (u, n) else None) (count-end u)
-      ∙ ap (λ b. if b then Some (u, reads_of events u x) else None) (rw (query-kept events e none u, ends u, any_push_no (reads u x) events e (no_reads u x)) (and_not_swap (is_query events u) (is_active events u) (t == u) (list_any (reads u x) events)))
+      ∙ ap (λ b. if b then Some (u, read_count events u x) else None) (rw (query-kept events e none u, ends u, any_push_no (reads u x) events e (no_reads u x)) (and_not_swap (is_query events u) (is_active events u) (t == u) (list_any (reads u x) events)))
 
   and_not_other : (b : Bool) (u : ℕ) → (u ≡ t → ⊥) → (b && not (t == u)) ≡ b
   and_not_other b u ne = ap (λ c. b && not c) (ne_eqb t u (λ (f : t ≡ u). ne (sym f))) ∙ and-true b
@@ -277,25 +277,25 @@ module _ (events : List Event) (o : IsWellFormed events) (e : Event) (none : beg
 
   pub locks-end : item_locks (events ++ e ∷ []) x ≡ released t (item_locks events x)
   locks-end =
-      let r : filter (update_holds_read (events ++ e ∷ []) x) (numbers (events ++ e ∷ [])) ≡ filter (λ u. not (u == t)) (filter (update_holds_read events x) (numbers events)) =
+      let r : filter (update_holds_read (events ++ e ∷ []) x) (txn_numbers (events ++ e ∷ [])) ≡ filter (λ u. not (u == t)) (filter (update_holds_read events x) (txn_numbers events)) =
       ap (filter (update_holds_read (events ++ e ∷ []) x)) (numbers-kept events e none)
-      ∙ (filter-filter_map (update_holds_read (events ++ e ∷ []) x) (numbers events)
+      ∙ (filter-filter_map (update_holds_read (events ++ e ∷ []) x) (txn_numbers events)
       ∙ (filter_map_dropped (λ u. u) (kept_if (update_holds_read events x)) (kept_if_own (update_holds_read events x)) (kept_if (update_holds_read (events ++ e ∷ []) x)) t
       (λ u ne. ap (λ b. if b then Some u else None) (read-end u ∙ and_not_other (update_holds_read events x u) u ne))
-      (ap (λ b. if b then Some t else None) (read-end t ∙ and_not_self (update_holds_read events x t))) (numbers events)
-      ∙ ap (filter (λ u. not (u == t))) (sym (filter-filter_map (update_holds_read events x) (numbers events))))) in
-      let q : filter_map (query_reads (events ++ e ∷ []) x) (numbers (events ++ e ∷ [])) ≡ filter (λ (p : ℕ × ℕ). not (p.0 == t)) (filter_map (query_reads events x) (numbers events)) =
+      (ap (λ b. if b then Some t else None) (read-end t ∙ and_not_self (update_holds_read events x t))) (txn_numbers events)
+      ∙ ap (filter (λ u. not (u == t))) (sym (filter-filter_map (update_holds_read events x) (txn_numbers events))))) in
+      let q : filter_map (query_reads (events ++ e ∷ []) x) (txn_numbers (events ++ e ∷ [])) ≡ filter (λ (p : ℕ × ℕ). not (p.0 == t)) (filter_map (query_reads events x) (txn_numbers events)) =
       ap (filter_map (query_reads (events ++ e ∷ []) x)) (numbers-kept events e none)
       ∙ filter_map_dropped (λ (p : ℕ × ℕ). p.0) (query_reads events x) (query_reads_own events x) (query_reads (events ++ e ∷ []) x) t
-      (λ u ne. query-end u ∙ ap (λ b. if b then Some (u, reads_of events u x) else None) (and_not_other (is_query events u && holds_read events u x) u ne))
-      (query-end t ∙ ap (λ b. if b then Some (t, reads_of events t x) else None) (and_not_self (is_query events t && holds_read events t x))) (numbers events) in
-      locks_congruent (writer (events ++ e ∷ []) x) (if is_writer (item_locks events x) t then None else writer events x) (filter (update_holds_read (events ++ e ∷ []) x) (numbers (events ++ e ∷ []))) (filter (λ u. not (u == t)) (filter (update_holds_read events x) (numbers events)))
-      (filter_map (query_reads (events ++ e ∷ []) x) (numbers (events ++ e ∷ []))) (filter (λ (p : ℕ × ℕ). not (p.0 == t)) (filter_map (query_reads events x) (numbers events)))
+      (λ u ne. query-end u ∙ ap (λ b. if b then Some (u, read_count events u x) else None) (and_not_other (is_query events u && holds_read events u x) u ne))
+      (query-end t ∙ ap (λ b. if b then Some (t, read_count events t x) else None) (and_not_self (is_query events t && holds_read events t x))) (txn_numbers events) in
+      locks_congruent (writer (events ++ e ∷ []) x) (if is_writer (item_locks events x) t then None else writer events x) (filter (update_holds_read (events ++ e ∷ []) x) (txn_numbers (events ++ e ∷ []))) (filter (λ u. not (u == t)) (filter (update_holds_read events x) (txn_numbers events)))
+      (filter_map (query_reads (events ++ e ∷ []) x) (txn_numbers (events ++ e ∷ []))) (filter (λ (p : ℕ × ℕ). not (p.0 == t)) (filter_map (query_reads events x) (txn_numbers events)))
       (ap (find (update_holds_write (events ++ e ∷ []) x)) (numbers-kept events e none) ∙ writers (update_holds_write events x t) refl) r q
     where
-      writers : (b : Bool) → update_holds_write events x t ≡ b → find (update_holds_write (events ++ e ∷ []) x) (numbers events) ≡ (if is_writer (item_locks events x) t then None else writer events x)
+      writers : (b : Bool) → update_holds_write events x t ≡ b → find (update_holds_write (events ++ e ∷ []) x) (txn_numbers events) ≡ (if is_writer (item_locks events x) t then None else writer events x)
       writers true is =
-          no_one (numbers events) ∙ ap (λ b. if b then None else writer events x) (sym (writer_is events o x t ∙ is))
+          no_one (txn_numbers events) ∙ ap (λ b. if b then None else writer events x) (sym (writer_is events o x t ∙ is))
         where
           fails : (u : ℕ) → update_holds_write (events ++ e ∷ []) x u ≡ false
           fails u =
@@ -308,7 +308,7 @@ module _ (events : List Event) (o : IsWellFormed events) (e : Event) (none : beg
           no_one [] = refl
           no_one (u ∷ us) = rw (fails u) (no_one us)
       writers false isnt =
-          find_same (update_holds_write (events ++ e ∷ []) x) (update_holds_write events x) same (numbers events)
+          find_same (update_holds_write (events ++ e ∷ []) x) (update_holds_write events x) same (txn_numbers events)
           ∙ ap (λ b. if b then None else writer events x) (sym (writer_is events o x t ∙ isnt))
         where
           same : (u : ℕ) → update_holds_write (events ++ e ∷ []) x u ≡ update_holds_write events x u
@@ -331,7 +331,7 @@ find_range_push p a n fails = ap (find p) (range-push a n) ∙ at (range_with_le
         ]
 
 module _ (events : List Event) (o : IsWellFormed events) (e : Event) (b : Beginning) (is : IsBegin e b) (x : ℕ) where
-  longer : numbers (events ++ e ∷ []) ≡ range_with_len 1 (length (beginnings events) + 1)
+  longer : txn_numbers (events ++ e ∷ []) ≡ range_with_len 1 (length (beginnings events) + 1)
   longer = ap (λ (bs : List Beginning). range_with_len 1 (length bs)) (beginnings-begin events e b is) ∙ ap (range_with_len 1) (length-append (beginnings events) (b ∷ []))
 
   holds-read : (u : ℕ) → holds_read (events ++ e ∷ []) u x ≡ holds_read events u x
@@ -356,8 +356,8 @@ module _ (events : List Event) (o : IsWellFormed events) (e : Event) (b : Beginn
 
   query-begin : (u : ℕ) → query_reads (events ++ e ∷ []) x u ≡ query_reads events x u
   query-begin u =
-      ap (λ n. if is_query (events ++ e ∷ []) u && holds_read (events ++ e ∷ []) u x then Some (u, n) else None) (sum_by_push (λ f. if reads u x f then 1 else 0) events e ∙ (ap (λ c. reads_of events u x + (if c then 1 else 0)) (is.reads_none u x) ∙ add-zero (reads_of events u x)))
-      ∙ ap (λ p. if p then Some (u, reads_of events u x) else None) (ap (λ p. is_query (events ++ e ∷ []) u && p) (holds-read u) ∙ kind-same (λ w. unwrap_or (option_map (λ c. c.query) w) false) u (holds_read events u x) (begun_holder u (list_any (reads u x) events)))
+      ap (λ n. if is_query (events ++ e ∷ []) u && holds_read (events ++ e ∷ []) u x then Some (u, n) else None) (sum_by_push (λ f. if reads u x f then 1 else 0) events e ∙ (ap (λ c. read_count events u x + (if c then 1 else 0)) (is.reads_none u x) ∙ add-zero (read_count events u x)))
+      ∙ ap (λ p. if p then Some (u, read_count events u x) else None) (ap (λ p. is_query (events ++ e ∷ []) u && p) (holds-read u) ∙ kind-same (λ w. unwrap_or (option_map (λ c. c.query) w) false) u (holds_read events u x) (begun_holder u (list_any (reads u x) events)))
 
   pub locks-begin : item_locks (events ++ e ∷ []) x ≡ item_locks events x
   locks-begin =
@@ -369,19 +369,19 @@ module _ (events : List Event) (o : IsWellFormed events) (e : Event) (b : Beginn
       ap (find (update_holds_write (events ++ e ∷ []) x)) longer
       ∙ (find_same (update_holds_write (events ++ e ∷ []) x) (update_holds_write events x) update_holds_write-begin (range_with_len 1 (n + 1))
       ∙ find_range_push (update_holds_write events x) 1 n (and_right (is_update events (1 + n)) (holds_write events (1 + n) x) no_write)) in
-      let r : filter (update_holds_read (events ++ e ∷ []) x) (numbers (events ++ e ∷ [])) ≡ filter (update_holds_read events x) (numbers events) =
+      let r : filter (update_holds_read (events ++ e ∷ []) x) (txn_numbers (events ++ e ∷ [])) ≡ filter (update_holds_read events x) (txn_numbers events) =
       ap (filter (update_holds_read (events ++ e ∷ []) x)) longer
       ∙ (filter_agree (update_holds_read (events ++ e ∷ []) x) (update_holds_read events x) read-begin (range_with_len 1 (n + 1))
       ∙ (ap (filter (update_holds_read events x)) (range-push 1 n)
-      ∙ (filter-append (update_holds_read events x) (numbers events) ((1 + n) ∷ [])
-      ∙ (ap (λ c. filter (update_holds_read events x) (numbers events) ++ (if c then (1 + n) ∷ [] else [])) (and_right (is_update events (1 + n)) (holds_read events (1 + n) x) no_read)
-      ∙ append-nil (filter (update_holds_read events x) (numbers events)))))) in
-      let q : filter_map (query_reads (events ++ e ∷ []) x) (numbers (events ++ e ∷ [])) ≡ filter_map (query_reads events x) (numbers events) =
+      ∙ (filter-append (update_holds_read events x) (txn_numbers events) ((1 + n) ∷ [])
+      ∙ (ap (λ c. filter (update_holds_read events x) (txn_numbers events) ++ (if c then (1 + n) ∷ [] else [])) (and_right (is_update events (1 + n)) (holds_read events (1 + n) x) no_read)
+      ∙ append-nil (filter (update_holds_read events x) (txn_numbers events)))))) in
+      let q : filter_map (query_reads (events ++ e ∷ []) x) (txn_numbers (events ++ e ∷ [])) ≡ filter_map (query_reads events x) (txn_numbers events) =
       ap (filter_map (query_reads (events ++ e ∷ []) x)) longer
       ∙ (filter_map_agree (query_reads (events ++ e ∷ []) x) (query_reads events x) query-begin (range_with_len 1 (n + 1))
       ∙ (ap (filter_map (query_reads events x)) (range-push 1 n)
-      ∙ filter_map_push_none (query_reads events x) (numbers events) (1 + n) (ap (λ c. if c then Some (1 + n, reads_of events (1 + n) x) else None) (and_right (is_query events (1 + n)) (holds_read events (1 + n) x) no_read)))) in
-      locks_congruent (writer (events ++ e ∷ []) x) (writer events x) (filter (update_holds_read (events ++ e ∷ []) x) (numbers (events ++ e ∷ []))) (filter (update_holds_read events x) (numbers events)) (filter_map (query_reads (events ++ e ∷ []) x) (numbers (events ++ e ∷ []))) (filter_map (query_reads events x) (numbers events)) w r q
+      ∙ filter_map_push_none (query_reads events x) (txn_numbers events) (1 + n) (ap (λ c. if c then Some (1 + n, read_count events (1 + n) x) else None) (and_right (is_query events (1 + n)) (holds_read events (1 + n) x) no_read)))) in
+      locks_congruent (writer (events ++ e ∷ []) x) (writer events x) (filter (update_holds_read (events ++ e ∷ []) x) (txn_numbers (events ++ e ∷ []))) (filter (update_holds_read events x) (txn_numbers events)) (filter_map (query_reads (events ++ e ∷ []) x) (txn_numbers (events ++ e ∷ []))) (filter_map (query_reads events x) (txn_numbers events)) w r q
 
 -- The locks on all items, after each event.
 

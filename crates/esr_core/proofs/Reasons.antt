@@ -5,8 +5,8 @@ use Rattle.std.proofs.lemmas.Bool.Decides.{nat_tests}
 use Rattle.std.proofs.lemmas.Option.{same_Some}
 use Rattle.std.proofs.lemmas.List.Elements.{All-from_recursion}
 use Rattle.esr_items.specs.Values.{versions_at}
-use Rattle.esr_core.specs.Words.{Versions, ItemId, TxnId, Event, Read, Refusal, TooManyReads, QueryMayNotWrite}
-use Rattle.esr_history.specs.Events.{is_query_kind, numbers, is_query, is_update, holds_write, all_reads_of}
+use Rattle.esr_core.specs.Types.{Versions, ItemId, TxnId, Event, Read, Refusal, TooManyReads, QueryMayNotWrite}
+use Rattle.esr_history.specs.Events.{is_query_kind, txn_numbers, is_query, is_update, holds_write, total_read_count}
 use Rattle.esr_history.specs.Machine.{Distance, Schedule, Charge, accepted_in, due_in, writer, charge_of_read, first_reason, not_begun, ended, no_item, many_reads, query_writes, out_of_range, read_blocked, write_blocked, blocked_by, import_full, export_full, refusal, when, other_writer, other_holder}
 use Rattle.esr_history.specs.ItemLocks.{ItemLocks, item_locks}
 use Rattle.esr_history.proofs.KindLaws.{query_kind}
@@ -37,7 +37,7 @@ alone None = refl
 alone (Some w) = refl
 
 pub writer_update : (events : List Event) (x u : ℕ) → writer events x ≡ Some u → is_update events u ≡ true
-writer_update events x u found = (and_parts (is_update events u) (holds_write events u x) (find_some (λ v. is_update events v && holds_write events v x) (numbers events) u found)).0
+writer_update events x u found = (and_parts (is_update events u) (holds_write events u x) (find_some (λ v. is_update events v && holds_write events v x) (txn_numbers events) u found)).0
 
 module _ (d : Distance) (h : Schedule) (items : List Versions) (table : List Transaction) (locks : List ItemLocks) (accounts : List Account) (rep : Represents (d h.weights) h.opening (accepted_in h) items table locks accounts) where
   pub locks_count : length locks ≡ length items
@@ -53,8 +53,8 @@ module _ (d : Distance) (h : Schedule) (items : List Versions) (table : List Tra
     pub row_query : is_query_kind r.kind ≡ is_query (accepted_in h) t
     row_query = ap (λ (q : Transaction). is_query_kind q.kind) row_known ∙ query_kind (is_query (accepted_in h) t)
 
-    pub row_reads : is_query (accepted_in h) t ≡ true → r.reads ≡ all_reads_of (accepted_in h) t
-    row_reads query = ap (λ (q : Transaction). q.reads) row_known ∙ ap (λ (b : Bool). if b then all_reads_of (accepted_in h) t else 0) query
+    pub row_reads : is_query (accepted_in h) t ≡ true → r.reads ≡ total_read_count (accepted_in h) t
+    row_reads query = ap (λ (q : Transaction). q.reads) row_known ∙ ap (λ (b : Bool). if b then total_read_count (accepted_in h) t else 0) query
 
   inside : (x : ℕ) → x < length items → x < length h.opening
   inside x l = rw (← rep.count) l
@@ -83,19 +83,19 @@ module _ (d : Distance) (h : Schedule) (items : List Versions) (table : List Tra
         ascending = (tt, tt);
       })
 
-  many_none : (t : ℕ) → all_reads_of (accepted_in h) t < 1000 → many_reads h t ≡ None
+  many_none : (t : ℕ) → total_read_count (accepted_in h) t < 1000 → many_reads h t ≡ None
   many_none t l = grind (arith, nat_tests)
 
   -- why a read by a query is refused
-  pub query_many : (t : TxnId) (x : ItemId) → is_query (accepted_in h) t.0 ≡ true → 1000 ≤ all_reads_of (accepted_in h) t.0
+  pub query_many : (t : TxnId) (x : ItemId) → is_query (accepted_in h) t.0 ≡ true → 1000 ≤ total_read_count (accepted_in h) t.0
       → Some TooManyReads ≡ first_reason (many_reads h t.0 ∷ import_full d h (due_in d h (Read t x)) ∷ export_full d h (due_in d h (Read t x)) ∷ [])
   query_many t x query l = grind (arith, nat_tests)
 
-  pub query_none : (t : TxnId) (x : ItemId) → all_reads_of (accepted_in h) t.0 < 1000 → due_in d h (Read t x) ≡ []
+  pub query_none : (t : TxnId) (x : ItemId) → total_read_count (accepted_in h) t.0 < 1000 → due_in d h (Read t x) ≡ []
       → None ≡ first_reason (many_reads h t.0 ∷ import_full d h (due_in d h (Read t x)) ∷ export_full d h (due_in d h (Read t x)) ∷ [])
   query_none t x l none = grind (arith, many_none t.0 l)
 
-  pub query_some : (t u : TxnId) (x : ItemId) (amount : ℕ) → is_query (accepted_in h) t.0 ≡ true → is_update (accepted_in h) u.0 ≡ true → all_reads_of (accepted_in h) t.0 < 1000 → due_in d h (Read t x) ≡ charges_by u.0 ((t, amount) ∷ [])
+  pub query_some : (t u : TxnId) (x : ItemId) (amount : ℕ) → is_query (accepted_in h) t.0 ≡ true → is_update (accepted_in h) u.0 ≡ true → total_read_count (accepted_in h) t.0 < 1000 → due_in d h (Read t x) ≡ charges_by u.0 ((t, amount) ∷ [])
       → reason_of (quote_of accounts u ((t, amount) ∷ [])) ≡ first_reason (many_reads h t.0 ∷ import_full d h (due_in d h (Read t x)) ∷ export_full d h (due_in d h (Read t x)) ∷ [])
   query_some t u x amount query update l owed =
       ap (λ (as' : List Account). reason_of (quote_of as' u ((t, amount) ∷ []))) rep.books
@@ -114,7 +114,7 @@ module _ (d : Distance) (h : Schedule) (items : List Versions) (table : List Tra
       let here : locks_at locks x.0 ≡ item_locks (accepted_in h) x.0 = ap (λ (ls : List ItemLocks). locks_at ls x.0) rep.locked ∙ locks_at_item (accepted_in h) (length h.opening) x.0 (inside x.0 l) in
       let found : other_writer (accepted_in h) t.0 x.0 ≡ r = find_read_blocker (accepted_in h) rep.orderly t.0 x.0 r (subst (λ (g : ItemLocks). IsSmallest (blocks_read g t.0) r) here least) in
       sym (skip (not_begun h t.0) (ended h t.0) (no_item h x.0) (many_reads h t.0 ∷ read_blocked h t.0 x.0 ∷ import_full d h (due_in d h (Read t x)) ∷ export_full d h (due_in d h (Read t x)) ∷ []) active item
-      ∙ (ap (λ (b : Bool). first_reason (when (b && nat_le 1000 (all_reads_of (accepted_in h) t.0)) TooManyReads ∷ (if b then None else blocked_by (other_writer (accepted_in h) t.0 x.0)) ∷ import_full d h (if b then charge_of_read (d h.weights) h.opening (accepted_in h) t.0 x.0 (writer (accepted_in h) x.0) else []) ∷ export_full d h (if b then charge_of_read (d h.weights) h.opening (accepted_in h) t.0 x.0 (writer (accepted_in h) x.0) else []) ∷ [])) no_query
+      ∙ (ap (λ (b : Bool). first_reason (when (b && nat_le 1000 (total_read_count (accepted_in h) t.0)) TooManyReads ∷ (if b then None else blocked_by (other_writer (accepted_in h) t.0 x.0)) ∷ import_full d h (if b then charge_of_read (d h.weights) h.opening (accepted_in h) t.0 x.0 (writer (accepted_in h) x.0) else []) ∷ export_full d h (if b then charge_of_read (d h.weights) h.opening (accepted_in h) t.0 x.0 (writer (accepted_in h) x.0) else []) ∷ [])) no_query
       ∙ (alone (blocked_by (other_writer (accepted_in h) t.0 x.0)) ∙ ap blocked_by found)))
 
   -- why a write is refused before its charges

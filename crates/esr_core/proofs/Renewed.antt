@@ -4,8 +4,8 @@ use Rattle.std.specs.List.{list_any, range_with_len}
 use Rattle.std.proofs.lemmas.List.{get_or-map, length-map, same_lists}
 use Rattle.std.proofs.lemmas.List.FromFn.{get_or-map-range_with_len, length-map-range_with_len}
 use Rattle.esr_items.specs.Values.{value_at, both_versions}
-use Rattle.esr_core.specs.Words.{Versions, Event}
-use Rattle.esr_history.specs.Events.{numbers, is_active, last_value, committed_value}
+use Rattle.esr_core.specs.Types.{Versions, Event}
+use Rattle.esr_history.specs.Events.{txn_numbers, is_active, last_value, committed_value}
 use Rattle.esr_history.specs.Machine.{Distance, Schedule, IsLegal}
 use Rattle.esr_history.specs.Serial.{committed_updates, state, values_by}
 use Rattle.esr_history.proofs.Laws.{legal_serializable}
@@ -19,8 +19,8 @@ active_in : (events : List Event) (ts : List ℕ) → list_any (λ (r : Transact
 active_in events [] = refl
 active_in events (t ∷ ts) = ap (λ b. is_active events t || b) (active_in events ts)
 
-pub active_rows : (events : List Event) → list_any (λ (r : Transaction). r.active) (transactions_after events) ≡ list_any (is_active events) (numbers events)
-active_rows events = active_in events (numbers events)
+pub active_rows : (events : List Event) → list_any (λ (r : Transaction). r.active) (transactions_after events) ≡ list_any (is_active events) (txn_numbers events)
+active_rows events = active_in events (txn_numbers events)
 
 -- the committed values of a state, in their order
 pub tied_values : (d : ℕ → ℤ → ℤ → ℕ) (opening : List ℤ) (events : List Event) (items : List Versions) (table : List Transaction) (locks : List ItemLocks) (accounts : List Account)

@@ -5,7 +5,7 @@ use Rattle.std.specs.List.{list_any}
 use Rattle.std.proofs.lemmas.Bool.{cases_Bool, false≢true, cases_eq, ne_eqb, and_parts, and_from, false_from_ne_true}
 use Rattle.std.proofs.lemmas.Option.{same_Some}
 use Rattle.esr_items.specs.Values.{current_at, committed_at, current_set, both_versions}
-use Rattle.esr_core.specs.Words.{Versions, ItemId, TxnId, Event, Read, Write, Commit, Abort}
+use Rattle.esr_core.specs.Types.{Versions, ItemId, TxnId, Event, Read, Write, Commit, Abort}
 use Rattle.esr_history.specs.Events.{Beginning, kind_of, beginning_of, beginnings, commits, aborts, reads, reads_any, writes, written, is_begun, is_committed, is_aborted, is_active, is_query, is_update, holds_write, committed_value, current_value}
 use Rattle.esr_history.specs.Machine.{due}
 use Rattle.esr_history.specs.ItemLocks.{ItemLocks}

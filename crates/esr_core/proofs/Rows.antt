@@ -6,8 +6,8 @@ use Rattle.std.proofs.lemmas.Option.{slice_get_past}
 use Rattle.std.proofs.lemmas.List.FromFn.{length-map-range_with_len, get_or-map-range_with_len, map-range_with_len_more}
 use Rattle.std.proofs.lemmas.List.Sums.{sum_by_push}
 use Rattle.std.proofs.lemmas.List.{length_push}
-use Rattle.esr_core.specs.Words.{Event, Read, AlreadyEnded, NoSuchTransaction}
-use Rattle.esr_history.specs.Events.{Beginning, kind_of, beginning_of, beginnings, numbers, commits, aborts, reads_any, is_active, is_begun, is_query, all_reads_of}
+use Rattle.esr_core.specs.Types.{Event, Read, AlreadyEnded, NoSuchTransaction}
+use Rattle.esr_history.specs.Events.{Beginning, kind_of, beginning_of, beginnings, txn_numbers, commits, aborts, reads_any, is_active, is_begun, is_query, total_read_count}
 use Rattle.esr_history.specs.Machine.{Schedule, accepted_in, when, first_reason, not_begun, ended}
 use Rattle.esr_history.specs.Orderly.{IsWellFormed, names}
 use Rattle.esr_history.proofs.Lists.{any_push_no}
@@ -64,14 +64,14 @@ pub rows-begin : (accepted_in : List Event) → IsWellFormed accepted_in → (e 
 rows-begin accepted_in o e b is table was =
     ap (λ (rs : List Transaction). rs ++ record { kind = kind_of b.query; active = true; reads = 0 } ∷ []) was
     ∙ (ap (λ (rs : List Transaction). rs ++ record { kind = kind_of b.query; active = true; reads = 0 } ∷ []) (map_same (transaction_after accepted_in) (transaction_after (accepted_in ++ e ∷ [])) 1 (length (beginnings accepted_in)) same)
-    ∙ (ap (λ (r : Transaction). map (transaction_after (accepted_in ++ e ∷ [])) (numbers accepted_in) ++ r ∷ []) new
+    ∙ (ap (λ (r : Transaction). map (transaction_after (accepted_in ++ e ∷ [])) (txn_numbers accepted_in) ++ r ∷ []) new
     ∙ (sym (map-range_with_len_more (transaction_after (accepted_in ++ e ∷ [])) 1 (length (beginnings accepted_in)) (suc (length (beginnings accepted_in))) (omega arith))
     ∙ ap (λ n. map (transaction_after (accepted_in ++ e ∷ [])) (range_with_len 1 n)) (sym (longer)))))
   where
     longer : length (beginnings (accepted_in ++ e ∷ [])) ≡ length (beginnings accepted_in) + 1
     longer = ap length (beginnings-begin accepted_in e b is) ∙ length_push (beginnings accepted_in) b
 
-    no_more : (t : ℕ) → all_reads_of (accepted_in ++ e ∷ []) t ≡ all_reads_of accepted_in t
+    no_more : (t : ℕ) → total_read_count (accepted_in ++ e ∷ []) t ≡ total_read_count accepted_in t
     no_more t = sum_by_push (λ f. if reads_any t f then 1 else 0) accepted_in e ∙ rw (is.reads_any_none t) (omega arith)
 
     same : (t : ℕ) → 1 ≤ t → t < 1 + length (beginnings accepted_in) → transaction_after accepted_in t ≡ transaction_after (accepted_in ++ e ∷ []) t
@@ -85,14 +85,14 @@ rows-begin accepted_in o e b is table was =
         grind (arith, no_more, count_none, not_named, reads_any_name, beginning-new accepted_in e b is, any_push_no, commits_name, names_aborter, row_same)
 
 module _ (accepted_in : List Event) (e : Event) (none : beginning_of e ≡ None) where
-  along : (table : List Transaction) → table ≡ map (transaction_after (accepted_in ++ e ∷ [])) (numbers accepted_in) → table ≡ transactions_after (accepted_in ++ e ∷ [])
+  along : (table : List Transaction) → table ≡ map (transaction_after (accepted_in ++ e ∷ [])) (txn_numbers accepted_in) → table ≡ transactions_after (accepted_in ++ e ∷ [])
   along table is = is ∙ ap (map (transaction_after (accepted_in ++ e ∷ []))) (sym (numbers-kept accepted_in e none))
 
-  more_reads : (t : ℕ) → all_reads_of (accepted_in ++ e ∷ []) t ≡ all_reads_of accepted_in t + (if reads_any t e then 1 else 0)
+  more_reads : (t : ℕ) → total_read_count (accepted_in ++ e ∷ []) t ≡ total_read_count accepted_in t + (if reads_any t e then 1 else 0)
   more_reads t = sum_by_push (λ f. if reads_any t f then 1 else 0) accepted_in e
 
-  after : (t : ℕ) (act : Bool) → is_active (accepted_in ++ e ∷ []) t ≡ act → transaction_after (accepted_in ++ e ∷ []) t ≡ row (is_query accepted_in t) act (all_reads_of accepted_in t + (if reads_any t e then 1 else 0))
-  after t act is = row_same (is_query (accepted_in ++ e ∷ []) t) (is_query accepted_in t) (is_active (accepted_in ++ e ∷ []) t) act (all_reads_of (accepted_in ++ e ∷ []) t) (all_reads_of accepted_in t + (if reads_any t e then 1 else 0)) (query-kept accepted_in e none t) is (more_reads t)
+  after : (t : ℕ) (act : Bool) → is_active (accepted_in ++ e ∷ []) t ≡ act → transaction_after (accepted_in ++ e ∷ []) t ≡ row (is_query accepted_in t) act (total_read_count accepted_in t + (if reads_any t e then 1 else 0))
+  after t act is = row_same (is_query (accepted_in ++ e ∷ []) t) (is_query accepted_in t) (is_active (accepted_in ++ e ∷ []) t) act (total_read_count (accepted_in ++ e ∷ []) t) (total_read_count accepted_in t + (if reads_any t e then 1 else 0)) (query-kept accepted_in e none t) is (more_reads t)
 
   -- an event that ends nothing and that no query reads by leaves the table
   pub rows-kept : ((t : ℕ) → commits t e ≡ false) → ((t : ℕ) → aborts t e ≡ false) → ((t : ℕ) → is_query accepted_in t ≡ true → reads_any t e ≡ false) → (table : List Transaction) → table ≡ transactions_after accepted_in → table ≡ transactions_after (accepted_in ++ e ∷ [])
@@ -100,7 +100,7 @@ module _ (accepted_in : List Event) (e : Event) (none : beginning_of e ≡ None)
     where
       same : (t : ℕ) → transaction_after accepted_in t ≡ transaction_after (accepted_in ++ e ∷ []) t
       same t =
-          grind (arith, after t (is_active accepted_in t) (active-kept accepted_in e none c a t), active-kept accepted_in e none c a t, add-zero (all_reads_of accepted_in t))
+          grind (arith, after t (is_active accepted_in t) (active-kept accepted_in e none c a t), active-kept accepted_in e none c a t, add-zero (total_read_count accepted_in t))
 
   -- a read by a query is counted
   pub rows-read : (k : ℕ) (r : Transaction) → ((t : ℕ) → commits t e ≡ false) → ((t : ℕ) → aborts t e ≡ false) → is_query accepted_in (suc k) ≡ true → ((t : ℕ) → reads_any t e ≡ (suc k == t))
@@ -114,11 +114,11 @@ module _ (accepted_in : List Event) (e : Event) (none : beginning_of e ≡ None)
       here =
           (let num : 1 + k ≡ suc k = omega arith in ap (transaction_after (accepted_in ++ e ∷ [])) num)
           ∙ (after (suc k) (is_active accepted_in (suc k)) (active-kept accepted_in e none c a (suc k))
-          ∙ (ap (λ (b : Bool). row (is_query accepted_in (suc k)) (is_active accepted_in (suc k)) (all_reads_of accepted_in (suc k) + (if b then 1 else 0))) (by (suc k) ∙ eq-eqb (suc k) (suc k) refl)
+          ∙ (ap (λ (b : Bool). row (is_query accepted_in (suc k)) (is_active accepted_in (suc k)) (total_read_count accepted_in (suc k) + (if b then 1 else 0))) (by (suc k) ∙ eq-eqb (suc k) (suc k) refl)
           ∙ (counts (is_query accepted_in (suc k)) query
           ∙ ap (λ (q : Transaction). record q { reads = q.reads + 1 }) (sym (row_is accepted_in table was k r l at)))))
         where
-          counts : (q : Bool) → q ≡ true → row q (is_active accepted_in (suc k)) (all_reads_of accepted_in (suc k) + 1) ≡ record (row q (is_active accepted_in (suc k)) (all_reads_of accepted_in (suc k))) { reads = (row q (is_active accepted_in (suc k)) (all_reads_of accepted_in (suc k))).reads + 1 }
+          counts : (q : Bool) → q ≡ true → row q (is_active accepted_in (suc k)) (total_read_count accepted_in (suc k) + 1) ≡ record (row q (is_active accepted_in (suc k)) (total_read_count accepted_in (suc k))) { reads = (row q (is_active accepted_in (suc k)) (total_read_count accepted_in (suc k))).reads + 1 }
           counts true is = refl
           counts false is = absurd (false≢true is)
 
@@ -133,8 +133,8 @@ module _ (accepted_in : List Event) (e : Event) (none : beginning_of e ≡ None)
       (ap (λ (rs : List Transaction). set rs k (record r { active = false })) was
       ∙ set_range (transaction_after accepted_in) (transaction_after (accepted_in ++ e ∷ [])) 1 (length (beginnings accepted_in)) k (record r { active = false }) (rw (← rows_len accepted_in table was) l) here other)
     where
-      count : (t : ℕ) → all_reads_of accepted_in t + (if reads_any t e then 1 else 0) ≡ all_reads_of accepted_in t
-      count t = ap (λ (b : Bool). all_reads_of accepted_in t + (if b then 1 else 0)) (by t) ∙ add-zero (all_reads_of accepted_in t)
+      count : (t : ℕ) → total_read_count accepted_in t + (if reads_any t e then 1 else 0) ≡ total_read_count accepted_in t
+      count t = ap (λ (b : Bool). total_read_count accepted_in t + (if b then 1 else 0)) (by t) ∙ add-zero (total_read_count accepted_in t)
 
       here : transaction_after (accepted_in ++ e ∷ []) (1 + k) ≡ record r { active = false }
       here =

@@ -6,7 +6,7 @@ use Rattle.std.proofs.lemmas.Bool.{and_parts, and_from, or_right, true≢false, 
 use Rattle.std.proofs.lemmas.List.Elements.{filter-append}
 use Rattle.std.proofs.lemmas.List.Folds.{list_any-append}
 use Rattle.esr_items.specs.Values.{value_at}
-use Rattle.esr_core.specs.Words.{TxnId, ItemId, Event, Read, Commit, Value, Committed, Entry}
+use Rattle.esr_core.specs.Types.{TxnId, ItemId, Event, Read, Commit, Value, Committed, Entry}
 use Rattle.esr_core.specs.Carried.{LawOfActiveUpdates, LawOfCurrentValues}
 use Rattle.esr_history.specs.Events.{is_update, is_active, is_begun, is_committed, is_aborted, accepted, written, last_value, committed_value, commits}
 use Rattle.esr_history.specs.Machine.{Distance, Schedule, accepted_in, extended, reply_to, IsLegal}

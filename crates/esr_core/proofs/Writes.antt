@@ -3,8 +3,8 @@ use Rattle.std.proofs.Common.{◌≡◌, ℕ, ℤ, ◌<◌, List, [], ◌∷◌,
 use Rattle.std.specs.List.{filter_map, cons_option, AllByRecursion}
 use Rattle.std.proofs.lemmas.Bool.{and_parts}
 use Rattle.esr_items.specs.Values.{current_at}
-use Rattle.esr_core.specs.Words.{Versions, ItemId, TxnId, Event, Write, Refusal, QueryMayNotWrite}
-use Rattle.esr_history.specs.Events.{numbers, is_query, is_update, is_active, holds_read, reads_of, current_value}
+use Rattle.esr_core.specs.Types.{Versions, ItemId, TxnId, Event, Write, Refusal, QueryMayNotWrite}
+use Rattle.esr_history.specs.Events.{txn_numbers, is_query, is_update, is_active, holds_read, read_count, current_value}
 use Rattle.esr_history.specs.Machine.{Distance, Schedule, accepted_in, due_in, first_reason, not_begun, ended, no_item, query_writes, out_of_range, write_blocked, import_full, export_full, refusal}
 use Rattle.esr_history.specs.ItemLocks.{ItemLocks, query_reads}
 use Rattle.esr_history.proofs.Allowed.{WriteOpen, none_applies, write_open}
@@ -41,7 +41,7 @@ queries_charged events x amount [] = tt
 queries_charged events x amount (q ∷ us) = at (is_query events q && holds_read events q x) refl (queries_charged events x amount us)
   where
     at : (b : Bool) → (is_query events q && holds_read events q x) ≡ b → AllByRecursion (λ (c : TxnId × ℕ). is_query events c.0.0 ≡ true) (charges_to amount (filter_map (query_reads events x) us))
-        → AllByRecursion (λ (c : TxnId × ℕ). is_query events c.0.0 ≡ true) (charges_to amount (cons_option (if b then Some (q, reads_of events q x) else None) (filter_map (query_reads events x) us)))
+        → AllByRecursion (λ (c : TxnId × ℕ). is_query events c.0.0 ≡ true) (charges_to amount (cons_option (if b then Some (q, read_count events q x) else None) (filter_map (query_reads events x) us)))
     at true is later = ((and_parts (is_query events q) (holds_read events q x) is).0, later)
     at false is later = later
 
@@ -49,7 +49,7 @@ module _ (d : Distance) (h : Schedule) (items : List Versions) (table : List Tra
   abbrev pub owed : List (TxnId × ℕ)
   owed = charges_to (d h.weights x.0 v (current_at items x.0)) (locks_at locks x.0).queries
 
-  owed_is : owed ≡ charges_to (d h.weights x.0 v (current_value h.opening (accepted_in h) x.0)) (filter_map (query_reads (accepted_in h) x.0) (numbers (accepted_in h)))
+  owed_is : owed ≡ charges_to (d h.weights x.0 v (current_value h.opening (accepted_in h) x.0)) (filter_map (query_reads (accepted_in h) x.0) (txn_numbers (accepted_in h)))
   owed_is = grind (arith, locks_at_item (accepted_in h) (length h.opening) x.0 (rw (← rep.count) l))
 
   pub are_charges : is_update (accepted_in h) t.0 ≡ true → AreCharges accounts t owed

@@ -1,9 +1,9 @@
 -- Continuing from the committed values of a history with the transactions that are active in it.
 use Rattle.std.specs.Prelude.{◌≡◌, ◌+◌, ◌-◌, ◌≤◌, ◌==◌, ℕ, ℤ, true, not, ◌&&◌, IsTrue, List, ◌∷◌, ◌++◌, Option, None, Some, filter, filter_map, flat_map, length, map, count_by, nat_lt, if◌then◌else◌}
-use Rattle.esr_core.specs.Words.{ItemId, TxnId, Event, Read, Write, Reply, Begun, Value, Entry}
+use Rattle.esr_core.specs.Types.{ItemId, TxnId, Event, Read, Write, Reply, Begun, Value, Entry}
 use Rattle.esr_core.specs.States.{begin_event}
 use Rattle.esr_core.specs.Renewed.{committed_values, renewed}
-use Rattle.esr_history.specs.Events.{is_refusal, numbers, is_active, is_query, is_update, holds_read, holds_write, reads_of, limit_of, accepted, written, last_value, committed_value, current_value}
+use Rattle.esr_history.specs.Events.{is_refusal, txn_numbers, is_active, is_query, is_update, holds_read, holds_write, read_count, limit_of, accepted, written, last_value, committed_value, current_value}
 use Rattle.esr_history.specs.Machine.{Distance, Schedule, Charge, accepted_in, distance_in, charges_in, charge_of_read, import_in, export_in, writer, IsLegal}
 use Rattle.esr_history.specs.Legal.{along}
 use Rattle.esr_history.specs.Operations.{Operation}
@@ -13,7 +13,7 @@ use Rattle.esr_history.specs.ReportBounds.{AreDistances, is_active_query, IsMixt
 
 -- the active transactions, ascending, and the number that each has then: its place among them, from 1
 abbrev pub active_numbers : Schedule → List ℕ
-active_numbers h = filter (is_active (accepted_in h)) (numbers (accepted_in h))
+active_numbers h = filter (is_active (accepted_in h)) (txn_numbers (accepted_in h))
 
 abbrev pub new_number : Schedule → ℕ → TxnId
 new_number h t = record { 0 = count_by (λ u. nat_lt u t) (active_numbers h) + 1 }
@@ -73,7 +73,7 @@ carried d h = record (renewed h h.weights) { entries = carried_entries d h }
 pub record IsCarriedAs (d : Distance) (h : Schedule) (t : ℕ) (k : Schedule) (u : ℕ) (part : ℕ) : Type 0 where
   pub active : is_active (accepted_in k) u ≡ true
   pub query : is_query (accepted_in k) u ≡ is_query (accepted_in h) t
-  pub reads : (x : ℕ) → reads_of (accepted_in k) u x ≡ reads_of (accepted_in h) t x
+  pub reads : (x : ℕ) → read_count (accepted_in k) u x ≡ read_count (accepted_in h) t x
   pub read_locks : (x : ℕ) → holds_read (accepted_in k) u x ≡ holds_read (accepted_in h) t x
   pub write_locks : (x : ℕ) → holds_write (accepted_in k) u x ≡ holds_write (accepted_in h) t x
   pub limit : part + limit_of (accepted_in k) u ≡ limit_of (accepted_in h) t

@@ -1,8 +1,8 @@
 -- Going on from the committed values of a history.
 use Rattle.std.specs.Prelude.{◌≡◌, ◌<◌, ℕ, ℤ, Bool, ◌&&◌, ◌==◌, IsTrue, List, [], ◌∷◌, ◌++◌, length, map, flat_map}
 use Rattle.std.specs.List.{before_first, filter_map, list_any, range_with_len}
-use Rattle.esr_core.specs.Words.{ItemId, TxnId, Read, Value, Entry}
-use Rattle.esr_history.specs.Events.{accepted, numbers, is_active, is_update, is_committed, written, last_value, committed_value}
+use Rattle.esr_core.specs.Types.{ItemId, TxnId, Read, Value, Entry}
+use Rattle.esr_history.specs.Events.{accepted, txn_numbers, is_active, is_update, is_committed, written, last_value, committed_value}
 use Rattle.esr_history.specs.Machine.{Schedule, schedule_of, accepted_in}
 use Rattle.esr_history.specs.Serial.{IsSerialOrder, IsSerializable, committed_updates, values_by, state}
 
@@ -12,7 +12,7 @@ committed_values h = map (committed_value h.opening (accepted_in h)) (range_with
 
 -- whether a transaction is active
 abbrev pub has_active : Schedule → Bool
-has_active h = list_any (is_active (accepted_in h)) (numbers (accepted_in h))
+has_active h = list_any (is_active (accepted_in h)) (txn_numbers (accepted_in h))
 
 -- a history with no entry over the committed values of another
 abbrev pub renewed : Schedule → List ℕ → Schedule

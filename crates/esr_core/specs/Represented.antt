@@ -1,8 +1,8 @@
 -- The parts of a machine, by the accepted events.
 use Rattle.std.specs.Prelude.{◌≡◌, ℕ, ℤ, ◌<◌, List, length, map, if◌then◌else◌}
 use Rattle.esr_items.specs.Values.{current_at, committed_at}
-use Rattle.esr_core.specs.Words.{Versions, Event}
-use Rattle.esr_history.specs.Events.{kind_of, numbers, limit_of, is_active, is_query, all_reads_of, committed_value, current_value}
+use Rattle.esr_core.specs.Types.{Versions, Event}
+use Rattle.esr_history.specs.Events.{kind_of, txn_numbers, limit_of, is_active, is_query, total_read_count, committed_value, current_value}
 use Rattle.esr_history.specs.Machine.{charges, import_in, export_in}
 use Rattle.esr_history.specs.ItemLocks.{ItemLocks, locks_of}
 use Rattle.esr_history.specs.Orderly.{IsWellFormed}
@@ -14,11 +14,11 @@ abbrev pub transaction_after : List Event → ℕ → Transaction
 transaction_after events t = record {
   kind = kind_of (is_query events t);
   active = is_active events t;
-  reads = if is_query events t then all_reads_of events t else 0;
+  reads = if is_query events t then total_read_count events t else 0;
 }
 
 abbrev pub transactions_after : List Event → List Transaction
-transactions_after events = map (transaction_after events) (numbers events)
+transactions_after events = map (transaction_after events) (txn_numbers events)
 
 -- their accounts
 abbrev pub account_after : (ℕ → ℤ → ℤ → ℕ) → List ℤ → List Event → ℕ → Account
@@ -30,7 +30,7 @@ account_after d opening events t = record {
 }
 
 abbrev pub books_of : (ℕ → ℤ → ℤ → ℕ) → List ℤ → List Event → List Account
-books_of d opening events = map (account_after d opening events) (numbers events)
+books_of d opening events = map (account_after d opening events) (txn_numbers events)
 
 -- the items, transactions, locks and accounts are those of the accepted events
 pub record Represents (d : ℕ → ℤ → ℤ → ℕ) (opening : List ℤ) (events : List Event) (items : List Versions)

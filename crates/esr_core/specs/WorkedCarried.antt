@@ -1,6 +1,6 @@
 -- A worked example: a report and an update that are carried over.
 use Rattle.std.specs.Prelude.{◌≡◌, pos, [], ◌∷◌, false, refl, map}
-use Rattle.esr_core.specs.Words.{BeginUpdate, BeginQuery, Read, Write, Commit, Begun, Value, Wrote, Committed, Refused, BlockedByImport}
+use Rattle.esr_core.specs.Types.{BeginUpdate, BeginQuery, Read, Write, Commit, Begun, Value, Wrote, Committed, Refused, BlockedByImport}
 use Rattle.esr_history.specs.Machine.{Schedule, charges_in, import_in}
 use Rattle.esr_history.specs.Worked.{plain, started_from, played, replies, txn, item}
 use Rattle.esr_core.specs.Carried.{new_number, open_charges, settled, carried}

@@ -47,22 +47,22 @@ tasks_more f tasks all j blocks i b is so_far lt at calls =
 receipts_at_most : {J R : Type 0} (calls : J → List Call) (session : R → List Receipt) (tasks : List J) (rans : List R) → length rans ≡ length tasks
     → ((i : ℕ) (j : J) (r : R) → i < length tasks → length (session (get_or rans i r)) ≤ 100 * length (calls (get_or tasks i j)))
     → sum_by length (map session rans) ≤ 100 * sum_by length (map calls tasks)
-receipts_at_most calls session [] [] len most = omega arith
-receipts_at_most calls session [] (r ∷ rans) len most = absurd (omega (arith, len))
-receipts_at_most calls session (j ∷ tasks) [] len most = absurd (omega (arith, len))
-receipts_at_most calls session (j ∷ tasks) (r ∷ rans) len most =
-    let here = most 0 j r (omega arith) in
-    let rest = receipts_at_most calls session tasks rans (omega (arith, len)) (λ i x y lt. most (suc i) x y (omega (arith, lt))) in
+receipts_at_most calls session [] [] len upper_bound = omega arith
+receipts_at_most calls session [] (r ∷ rans) len upper_bound = absurd (omega (arith, len))
+receipts_at_most calls session (j ∷ tasks) [] len upper_bound = absurd (omega (arith, len))
+receipts_at_most calls session (j ∷ tasks) (r ∷ rans) len upper_bound =
+    let here = upper_bound 0 j r (omega arith) in
+    let rest = receipts_at_most calls session tasks rans (omega (arith, len)) (λ i x y lt. upper_bound (suc i) x y (omega (arith, lt))) in
     omega (arith, here, rest, sum_by-cons length (session r) (map session rans), sum_by-cons length (calls j) (map calls tasks))
 
 pub fault_reported : {J R : Type 0} (calls : J → List Call) (session : R → List Receipt) (tasks : List J) (rans : List R) (e : DriveFault) → length rans ≡ length tasks
     → ((i : ℕ) (j : J) (r : R) → i < length tasks → length (session (get_or rans i r)) ≤ 100 * length (calls (get_or tasks i j)))
     → is_engine_fault e ≡ true → (e ≡ fault.HistoryFull → count_in (map session rans) ≡ MAX_ENTRIES) → IsEngineFault (map calls tasks) e
-fault_reported calls session tasks rans fault.NoMemory len most is full = tt
-fault_reported calls session tasks rans fault.HistoryFull len most is full =
-    omega (arith, full refl, receipts_at_most calls session tasks rans len most)
-fault_reported calls session tasks rans fault.Close len most is full = tt
-fault_reported calls session tasks rans _ len most is full = cc
+fault_reported calls session tasks rans fault.NoMemory len upper_bound is full = tt
+fault_reported calls session tasks rans fault.HistoryFull len upper_bound is full =
+    omega (arith, full refl, receipts_at_most calls session tasks rans len upper_bound)
+fault_reported calls session tasks rans fault.Close len upper_bound is full = tt
+fault_reported calls session tasks rans _ len upper_bound is full = cc
 
 head_same : {X : Type 0} (x y : X) (xs ys : List X) → x ∷ xs ≡ y ∷ ys → x ≡ y
 head_same x y xs ys e = cc

@@ -31,7 +31,7 @@ one_run e r same once = record {
   parts = refl;
   events = All-push (λ (s : Receipt). s.event ≡ e) [] r (none (λ (s : Receipt). s.event ≡ e)) same;
   were_blocked = none (λ (s : Receipt). is_blocked s.reply ≡ true);
-  most = omega arith;
+  upper_bound = omega arith;
   patient = λ b. not_true (is_blocked r.reply) once b;
   reply_is = refl;
 }

@@ -21,7 +21,7 @@ pub record IsDriven (opening : List ℤ) (weights : List ℕ) (blocks : List (Li
   pub legal : IsLegal weighted history
   pub opening_is : history.opening ≡ opening
   pub weights_are : history.weights ≡ weights
-  pub most : length history.entries ≤ MAX_ENTRIES
+  pub upper_bound : length history.entries ≤ MAX_ENTRIES
   pub answered : AreAnswered blocks replies
   pub commands : map (λ b. map (λ a. a.command) b) (all_answers blocks replies) ≡ map (λ b. map command_of b) blocks
   pub receipts : List (List Receipt)

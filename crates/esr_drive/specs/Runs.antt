@@ -14,7 +14,7 @@ next_event calls replies = option_map (event_by replies) (slice_get calls (lengt
 
 -- the first calls of the block have these last replies, and the next call was blocked `blocked` times after them
 pub record IsUnderWay (calls : List Call) (replies : List Reply) (blocked : ℕ) (receipts : List Receipt) : Type 0 where
-  pub few : length replies ≤ length calls
+  pub within_max : length replies ≤ length calls
   pub done : List Receipt
   pub again : List Receipt
   pub parts : receipts ≡ done ++ again
@@ -22,7 +22,7 @@ pub record IsUnderWay (calls : List Call) (replies : List Reply) (blocked : ℕ)
       → AreRuns names (answers_of (take (length replies) calls) replies) done
   pub were_blocked : All (λ r. (next_event calls replies ≡ Some r.event) × (is_blocked r.reply ≡ true)) again
   pub times : length again ≡ blocked
-  pub most : length done ≤ 100 * length replies
+  pub upper_bound : length done ≤ 100 * length replies
 
 -- all calls of the block have their last replies; the names are those of the items
 pub record IsBlockRun (calls : List Call) (replies : List Reply) (receipts : List Receipt) : Type 0 where

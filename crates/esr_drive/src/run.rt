@@ -37,7 +37,7 @@ struct BlockProgress<'a, 't> {
     replies: Vec<Reply>,
     blocked: u32,
     ghost fits: { length calls.now ≤ vec_capacity replies },
-    ghost few: { blocked < 100 },
+    ghost within_max: { blocked < 100 },
 }
 
 impl EventSource for BlockProgress<'_, '_> {
@@ -80,7 +80,7 @@ pub fn run_block<N: Naming, R: Wait>(
 ) -> BlockOutcome<N>
     requires { session ≡ [] }
     ensures run { IfOk result.outcome (λ replies. IsBlockRun calls.now replies.items result.session) }
-    ensures most { length result.session ≤ 100 * length calls.now }
+    ensures upper_bound { length result.session ≤ 100 * length calls.now }
 {
     let mut session = session;
     let outcome = call_all(rt, alloc, calls, &mut session);
@@ -117,7 +117,7 @@ fn call_all<N: Naming, R: Wait>(
 ) -> Result<Vec<Reply>, StepError>
     requires { session.old ≡ [] }
     ensures run { IfOk result (λ replies. IsBlockRun calls.now replies.items session.new) }
-    ensures most { length session.new ≤ 100 * length calls.now }
+    ensures upper_bound { length session.new ≤ 100 * length calls.now }
 {
     let Ok(replies) = touched_capacity(alloc, calls.len()) else {
         return Err(StepError::NoMemory);
@@ -131,8 +131,8 @@ fn call_all<N: Naming, R: Wait>(
         blocked: 0,
     };
     while progress.replies.len() < calls.len() {
-        let most = lines_of_hold(progress.replies.len());
-        session.call_several(rt, &mut progress, most)?;
+        let upper_bound = lines_of_hold(progress.replies.len());
+        session.call_several(rt, &mut progress, upper_bound)?;
     }
     let BlockProgress { replies, .. } = progress;
     Ok(replies)

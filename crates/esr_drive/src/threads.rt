@@ -39,7 +39,7 @@ pub fn run_blocks<'a, 't, N: Naming + Send + Sync, R: Threads + Wait + Sync, G: 
     ensures len { IfOk result (λ v. vec_len v ≡ vec_len tasks.entry) }
     ensures runs { IfOk result (λ v. AllPairs (λ task ran.
         IfOk ran.outcome (λ replies. IsBlockRun task.calls.now replies.items ran.session)) tasks.entry.items v.items) }
-    ensures most { IfOk result (λ v. AllPairs (λ task ran. length ran.session ≤ 100 * length task.calls.now)
+    ensures upper_bound { IfOk result (λ v. AllPairs (λ task ran. length ran.session ≤ 100 * length task.calls.now)
         tasks.entry.items v.items) }
 {
     let blocks = tasks.len() as u64;
@@ -49,7 +49,7 @@ pub fn run_blocks<'a, 't, N: Naming + Send + Sync, R: Threads + Wait + Sync, G: 
         &|task: BlockTask<'_, '_, N>| -> BlockOutcome<N>
             requires { task.session ≡ [] }
             ensures run { IfOk result.outcome (λ replies. IsBlockRun task.entry.calls.now replies.items result.session) }
-            ensures most { length result.session ≤ 100 * length task.entry.calls.now }
+            ensures upper_bound { length result.session ≤ 100 * length task.entry.calls.now }
         {
             gate.enter(task.number, blocks);
             run_block(rt, alloc, task.calls, task.session)

@@ -14,14 +14,14 @@ use std::alloc::{AllocError, Global};
 
 /// Returns the script of a history, by these names of its items and of its transactions, in the order of their
 /// numbers. A run recreates the accepted and blocked entries.
-#[tactic(auto, using(crate::proofs::Names::few_begun))]
+#[tactic(auto, using(crate::proofs::Names::bounded_begun))]
 pub fn named_script<I: TransactionNames, T: TransactionNames>(
     alloc: Global,
     items: &I,
     transactions: &T,
     history: &History<Weighted>,
 ) -> Result<Vec<u8>, AllocError>
-    requires few { length history.now.schedule.entries ≤ MAX_ENTRIES }
+    requires within_max { length history.now.schedule.entries ≤ MAX_ENTRIES }
     ensures { IfOk result (λ text. IsDump (I.names items.now) (T.names transactions.now) history.now.schedule text.items) }
 {
     let item_table = text_of_names(alloc, items, history.items(), "i", 0)?;

@@ -14,7 +14,7 @@ use Rattle.esr_history.specs.declared.event.Event.{Event}
 use Rattle.esr_history.specs.declared.event.Reply.{Reply}
 use Rattle.esr_history.specs.declared.event.Event.TheVariants.{BeginUpdate, BeginQuery, Read, Write, Commit, Abort}
 use Rattle.esr_history.specs.declared.event.Reply.TheVariants.{Begun, Wrote, Committed, Aborted, Refused}
-use Rattle.esr_history.specs.Events.{Beginning, kind_of, beginning_of, beginnings, numbers, commits, aborts, reads_any, is_active, is_begun, is_refusal}
+use Rattle.esr_history.specs.Events.{Beginning, kind_of, beginning_of, beginnings, txn_numbers, commits, aborts, reads_any, is_active, is_begun, is_refusal}
 use Rattle.esr_history.specs.Machine.{Distance, Schedule, accepted_in, extended, reply_to, refusal, acceptance, first_reason, not_begun, ended, when}
 use Rattle.esr_history.specs.Orderly.{IsWellFormed}
 use Rattle.esr_history.proofs.Allowed.{none_applies, end_allowed}
@@ -35,7 +35,7 @@ rows_in events (t ∷ ts) =
     ∙ sym (sum_by-cons (λ u. cond (is_active events u) 1 0) t ts))
 
 rows_count : (events : List Event) → count_by (λ (r : Transaction). r.active) (transactions_after events) ≡ active_count events
-rows_count events = rows_in events (numbers events)
+rows_count events = rows_in events (txn_numbers events)
 
 -- a begin is one more
 count-begin : (events : List Event) → IsWellFormed events → (e : Event) (b : Beginning) → IsBegin e b → active_count (events ++ e ∷ []) ≡ active_count events + 1
@@ -49,7 +49,7 @@ count-begin events o e b is =
 -- an event that begins and ends nothing leaves them
 count-kept : (events : List Event) (e : Event) → beginning_of e ≡ None → ((t : ℕ) → commits t e ≡ false) → ((t : ℕ) → aborts t e ≡ false) → active_count (events ++ e ∷ []) ≡ active_count events
 count-kept events e none c a =
-    ap (λ (p : ℕ → Bool). count_by p (numbers (events ++ e ∷ []))) (fun_ext (λ t. active-kept events e none c a t))
+    ap (λ (p : ℕ → Bool). count_by p (txn_numbers (events ++ e ∷ []))) (fun_ext (λ t. active-kept events e none c a t))
     ∙ ap (count_by (is_active events)) (numbers-kept events e none)
 
 -- the end of an active transaction is one less
@@ -153,19 +153,19 @@ module _ (d : Distance) (h : Schedule) (o : IsWellFormed (accepted_in h)) where
 
   -- if the history has capacity for the event, it has capacity for the ends afterwards
   capacity_refused : (e : Event) (why : Refusal) → refusal d h e ≡ Some why → is_full h e ≡ false → taken h ≤ 1000000 → taken h + 1 ≤ 1000000
-  capacity_refused (BeginUpdate l) why some capacity most = begin_capacity h capacity
-  capacity_refused (BeginQuery l s) why some capacity most = begin_capacity h capacity
-  capacity_refused (Read t x) why some capacity most = below (taken h) capacity
-  capacity_refused (Write t x v) why some capacity most = below (taken h) capacity
-  capacity_refused (Commit t) why some capacity most = below (taken h) (idle_capacity h t why some capacity)
-  capacity_refused (Abort t) why some capacity most = below (taken h) (idle_capacity h t why some capacity)
+  capacity_refused (BeginUpdate l) why some capacity upper_bound = begin_capacity h capacity
+  capacity_refused (BeginQuery l s) why some capacity upper_bound = begin_capacity h capacity
+  capacity_refused (Read t x) why some capacity upper_bound = below (taken h) capacity
+  capacity_refused (Write t x v) why some capacity upper_bound = below (taken h) capacity
+  capacity_refused (Commit t) why some capacity upper_bound = below (taken h) (idle_capacity h t why some capacity)
+  capacity_refused (Abort t) why some capacity upper_bound = below (taken h) (idle_capacity h t why some capacity)
 
   pub capacity_after : (e : Event) → is_full h e ≡ false → taken h ≤ 1000000 → length (extended h e (reply_to d h e)).entries + active_after (active_count (accepted_in h)) (reply_to d h e) ≤ 1000000
-  capacity_after e capacity most = at (refusal d h e) refl
+  capacity_after e capacity upper_bound = at (refusal d h e) refl
     where
       at : (why : Option Refusal) → refusal d h e ≡ why → length (extended h e (reply_to d h e)).entries + active_after (active_count (accepted_in h)) (reply_to d h e) ≤ 1000000
       at (Some why) some =
-          let more : taken h + 1 ≤ 1000000 = capacity_refused e why some capacity most in
+          let more : taken h + 1 ≤ 1000000 = capacity_refused e why some capacity upper_bound in
           let reply : reply_to d h e ≡ Refused why = rw some refl in
           let long : length (extended h e (Refused why)).entries ≡ length h.entries + 1 = length_push h.entries (record { event = e; reply = Refused why }) in
           subst (λ (r : Reply). length (extended h e r).entries + active_after (active_count (accepted_in h)) r ≤ 1000000) (sym reply) (omega (arith, long, more))

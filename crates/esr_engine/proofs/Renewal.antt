@@ -3,7 +3,7 @@ use Rattle.std.proofs.Common.{◌≡◌, ◌<◌, ◌≤◌, ◌+◌, ℕ, List,
 use Rattle.std.specs.List.{list_any}
 use Rattle.std.proofs.lemmas.Bool.{false≢true}
 use Rattle.std.proofs.lemmas.List.Sums.{sum_by-cons}
-use Rattle.esr_history.specs.Events.{numbers, is_active}
+use Rattle.esr_history.specs.Events.{txn_numbers, is_active}
 use Rattle.esr_history.specs.Machine.{Schedule, accepted_in}
 use Rattle.esr_history.proofs.Reaches.{count_none}
 use Rattle.esr_core.specs.Renewed.{has_active}
@@ -26,11 +26,11 @@ has_some h n is some = at (has_active h) refl
   where
     at : (b : Bool) → has_active h ≡ b → has_active h ≡ true
     at true yes_it_has = yes_it_has
-    at false none = let zero_it_is : active_count (accepted_in h) ≡ 0 = count_none (is_active (accepted_in h)) (numbers (accepted_in h)) none in absurd (omega arith)
+    at false none = let zero_it_is : active_count (accepted_in h) ≡ 0 = count_none (is_active (accepted_in h)) (txn_numbers (accepted_in h)) none in absurd (omega arith)
 
 pub has_none : (h : Schedule) (n : ℕ) → n ≡ active_count (accepted_in h) → n ≤ 0 → has_active h ≡ false
 has_none h n is none = at (has_active h) refl
   where
     at : (b : Bool) → has_active h ≡ b → has_active h ≡ false
-    at true some = let l : 0 < active_count (accepted_in h) = count_some (is_active (accepted_in h)) (numbers (accepted_in h)) some in absurd (omega arith)
+    at true some = let l : 0 < active_count (accepted_in h) = count_some (is_active (accepted_in h)) (txn_numbers (accepted_in h)) some in absurd (omega arith)
     at false none_it_has = none_it_has

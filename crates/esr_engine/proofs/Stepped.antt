@@ -27,9 +27,9 @@ module _ (h : Schedule) (legal : IsLegal weighted h) (e : Event) (r : Reply) (is
   pub capacity_kept : length h.entries + active ≤ MAX_ENTRIES → is_full h e ≡ false → (g : Schedule) → g ≡ extended h e r → (after : ℕ) → after ≡ active_after active r
       → length g.entries + after ≤ MAX_ENTRIES
   capacity_kept fits free g added after by_reply =
-      let most : taken h ≤ 1000000 = omega (arith, count, fits) in
+      let upper_bound : taken h ≤ 1000000 = omega (arith, count, fits) in
       let left : length (extended h e r).entries + active_after (active_count (accepted_in h)) r ≤ 1000000 =
-      subst (λ (reply : Reply). length (extended h e reply).entries + active_after (active_count (accepted_in h)) reply ≤ 1000000) (sym is) (capacity_after weighted h (legal_orderly weighted h legal) e free most) in
+      subst (λ (reply : Reply). length (extended h e reply).entries + active_after (active_count (accepted_in h)) reply ≤ 1000000) (sym is) (capacity_after weighted h (legal_orderly weighted h legal) e free upper_bound) in
       let grown : length g.entries ≡ length (extended h e r).entries = ap (λ (k : Schedule). length k.entries) added in
       let same : after ≡ active_after (active_count (accepted_in h)) r = by_reply ∙ ap (λ n. active_after n r) count in
       omega (arith, left, grown, same)

@@ -7,13 +7,13 @@ use Rattle.esr_history.specs.declared.event.Event.{Event}
 use Rattle.esr_history.specs.declared.event.Reply.{Reply}
 use Rattle.esr_history.specs.declared.event.Event.TheVariants.{BeginUpdate, BeginQuery, Commit, Abort}
 use Rattle.esr_history.specs.declared.event.Reply.TheVariants.{Begun, Committed, Aborted}
-use Rattle.esr_history.specs.Events.{beginnings, numbers, is_active}
+use Rattle.esr_history.specs.Events.{beginnings, txn_numbers, is_active}
 use Rattle.esr_history.specs.Machine.{Distance, Schedule, accepted_in, reply_to}
 use Rattle.esr_engine.specs.declared.engine.Counts.{Counts}
 
 -- how many transactions are active
 abbrev pub active_count : List Event → ℕ
-active_count events = count_by (is_active events) (numbers events)
+active_count events = count_by (is_active events) (txn_numbers events)
 
 -- the entries that there are, and one for the end of each active transaction
 abbrev pub taken : Schedule → ℕ

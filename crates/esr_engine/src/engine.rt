@@ -69,7 +69,7 @@ impl EmbeddedEngine {
     /// Returns the number of entries, plus one for the end of each active transaction.
     pub(crate) fn demand(&self) -> usize
         ensures taken { result ≡ taken self.now }
-        ensures most { result ≤ MAX_ENTRIES }
+        ensures upper_bound { result ≤ MAX_ENTRIES }
     {
         self.machine.log().len() + self.active
     }
@@ -249,7 +249,7 @@ impl EmbeddedEngine {
 #[inline(always)]
 fn active_after(active: usize, reply: Reply) -> usize
     requires some { is_end reply ≡ true → 0 < active }
-    requires few { active ≤ MAX_ENTRIES }
+    requires within_max { active ≤ MAX_ENTRIES }
     ensures { result ≡ active_after active reply }
 {
     match reply {

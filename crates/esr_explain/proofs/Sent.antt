@@ -4,7 +4,7 @@ use Rattle.esr_items.specs.Weights.{weighted}
 use Rattle.esr_history.specs.Machine.{Schedule}
 use Rattle.esr_audit.specs.Findings.{summary, summary_of}
 use Rattle.esr_views.specs.declared.query.AuditedQuery.{AuditedQuery}
-use Rattle.esr_views.specs.Ask.{IsAnswered}
+use Rattle.esr_views.specs.QueryAnswers.{IsAnswered}
 use Rattle.esr_views.specs.State.{ScriptState, transaction_called}
 use Rattle.esr_explain.specs.Explain.{explanation}
 use Rattle.esr_explain.specs.Written.{explained}

@@ -31,4 +31,4 @@ first_turns counts (suc turns) = flat_map (longer counts) (first_turns counts tu
 
 -- after some number of turns there are more beginnings than a bound
 abbrev pub AreMoreThan : List ℕ → ℕ → ℕ → Type 0
-AreMoreThan counts turns most = (k : ℕ) × (k ≤ turns) × (most < length (first_turns counts k))
+AreMoreThan counts turns upper_bound = (k : ℕ) × (k ≤ turns) × (upper_bound < length (first_turns counts k))

@@ -135,7 +135,7 @@ fn drawn_summaries(
     seeds: u64,
 ) -> Result<Vec<RunSummary>, ExploreFault>
     requires sound { IsSound drive_plan.now }
-    requires few { length counts.now ≤ MAX_BLOCKS }
+    requires within_max { length counts.now ≤ MAX_BLOCKS }
     ensures { IfOk result (λ summaries. AreDrawn drive_plan.now.values.items (weights_of drive_plan.now.weights.items)
         (map (λ b. b.items) drive_plan.now.blocks.items) queries.now counts.now seeds summaries.items) }
 {
@@ -157,7 +157,7 @@ fn all_summaries(
     counts: &[u32],
 ) -> Result<Vec<RunSummary>, ExploreFault>
     requires sound { IsSound drive_plan.now }
-    requires few { length counts.now ≤ MAX_BLOCKS }
+    requires within_max { length counts.now ≤ MAX_BLOCKS }
     ensures all { IfOk result (λ summaries. IfSome (orders_of ways.now) (λ orders. AreRunSummaries drive_plan.now.values.items
         (weights_of drive_plan.now.weights.items) (map (λ b. b.items) drive_plan.now.blocks.items) queries.now orders summaries.items)) }
     ensures drawn { IfOk result (λ summaries. IfSome (drawn_of ways.now) (λ n. AreDrawn drive_plan.now.values.items
@@ -234,7 +234,7 @@ fn replies_of(alloc: Global, runners: Vec<Runner>) -> Result<Vec<Vec<Reply>>, Al
 /// Returns the history of a run, as a script.
 fn script_of(alloc: Global, drive_plan: &DrivePlan<'_>, run: Run) -> Result<Vec<u8>, AllocError>
     requires done { AreDone (map (λ b. b.items) drive_plan.now.blocks.items) run.runners.items }
-    requires most { length run.history.schedule.entries ≤ MAX_ENTRIES }
+    requires upper_bound { length run.history.schedule.entries ≤ MAX_ENTRIES }
     ensures { IfOk result (λ out. (names : List (List ℕ))
         × IsDump drive_plan.now.names names run.history.schedule out.items) }
 {

@@ -182,7 +182,7 @@ pub fn run_order(alloc: Global, drive_plan: &DrivePlan<'_>, order: &[u8]) -> Res
     ensures run { IfOk result (λ r. IsRun drive_plan.now.values.items (weights_of drive_plan.now.weights.items)
         (map (λ b. b.items) drive_plan.now.blocks.items) order.now (stage r.history.schedule r.runners.items)) }
     ensures legal { IfOk result (λ r. IsLegal weighted r.history.schedule) }
-    ensures most { IfOk result (λ r. length r.history.schedule.entries ≤ MAX_ENTRIES) }
+    ensures upper_bound { IfOk result (λ r. length r.history.schedule.entries ≤ MAX_ENTRIES) }
 {
     let blocks = drive_plan.blocks.as_slice();
     let mut machine = machine_of(alloc, drive_plan)?;

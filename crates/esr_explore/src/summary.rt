@@ -163,11 +163,11 @@ pub fn worst_of(summaries: &[RunSummary], measure: Measure) -> u64
     ensures { result ≡ worst_of measure summaries.now }
 {
     let mut worst = 0u64;
-    let mut most = 0u64;
+    let mut upper_bound = 0u64;
     for i in 0..summaries.len() {
         let size = size_of(&summaries[i], measure);
-        if size > most {
-            most = size;
+        if size > upper_bound {
+            upper_bound = size;
             worst = i as u64;
         }
     }

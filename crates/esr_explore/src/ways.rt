@@ -94,7 +94,7 @@ fn sum_of(counts: &[u32]) -> usize
 }
 
 /// Returns whether all orders of this number are visited.
-fn is_few(count: Option<u64>) -> bool {
+fn is_bounded(count: Option<u64>) -> bool {
     match count {
         Some(count) => count <= MAX_ORDERS as u64,
         None => false,
@@ -111,7 +111,7 @@ pub fn all_ways(alloc: Global, counts: &[u32]) -> Result<Ways, ExploreFault>
     if turns > MAX_LINES {
         return Err(ExploreFault::TooManyLinesInBlocks);
     }
-    if !is_few(count) {
+    if !is_bounded(count) {
         return Err(ExploreFault::TooManyOrders(count));
     }
     match all_orders(alloc, counts, turns)? {

@@ -1,7 +1,7 @@
 -- The distance to the sink in the residual network, cut off at a limit that no path undercuts.
 use Rattle.std.proofs.Common.{◌≡◌, ℕ, zero, suc, ◌<◌, ◌≤◌, Bool, true, ◌&&◌, ◌||◌, ◌⊎◌, leb, eqb, List, [], ◌∷◌, length, refl, ap, inl, inr, arith, eq-eqb, eqb-true, le-leb, leb-true}
 use Rattle.std.proofs.lemmas.Bool.{or_left, or_right, or_cases, and_parts, and_from, lt-leb}
-use Rattle.esr_flow.specs.Words.{Arc, ResidualArc, Forward, Backward}
+use Rattle.esr_flow.specs.Types.{Arc, ResidualArc, Forward, Backward}
 use Rattle.esr_flow.specs.Residual.{Falls, finish, residual_capacity, IsResidual, IsPath}
 use Rattle.esr_cert.specs.Steps.{arc_of, start}
 use Rattle.esr_cert.specs.Flow.{within}
@@ -50,15 +50,15 @@ module _ (arcs : List Arc) (flow : List ℕ) (sink : ℕ) where
   pub distance_falls : (limit : ℕ) → Falls arcs flow (distance limit)
   distance_falls limit s res =
       let split : (distance limit (finish arcs s) < limit) ⊎ (limit ≤ distance limit (finish arcs s)) = grind arith in
-      let near : distance limit (finish arcs s) < limit → distance limit (start arcs s) ≤ suc (distance limit (finish arcs s)) =
+      let relevant : distance limit (finish arcs s) < limit → distance limit (start arcs s) ≤ suc (distance limit (finish arcs s)) =
       λ l. first_least (λ k. reaches k (start arcs s)) limit (suc (distance limit (finish arcs s)))
       (reaches_step (distance limit (finish arcs s)) s res (first_passes (λ k. reaches k (finish arcs s)) limit l)) in
-      elim split [ inl l ↦ near l | inr l ↦ omega (arith, first_le (λ k. reaches k (start arcs s)) limit) ]
+      elim split [ inl l ↦ relevant l | inr l ↦ omega (arith, first_le (λ k. reaches k (start arcs s)) limit) ]
 
   pub distance_limit : (limit v : ℕ) → ((path : List ResidualArc) → IsPath arcs flow v path sink → limit ≤ length path) → distance limit v ≡ limit
   distance_limit limit v shortest =
       let split : (distance limit v < limit) ⊎ (limit ≤ distance limit v) = grind arith in
-      let most : distance limit v ≤ limit = first_le (λ k. reaches k v) limit in
+      let upper_bound : distance limit v ≤ limit = first_le (λ k. reaches k v) limit in
       elim split [
         | inl l ↦
             let p : (path : List ResidualArc) × (length path ≡ distance limit v) × IsPath arcs flow v path sink = path_from (distance limit v) v (first_passes (λ k. reaches k v) limit l) in

@@ -4,7 +4,7 @@ use Rattle.std.proofs.Math.Seq.{get_or-append_seam}
 use Rattle.std.proofs.lemmas.Bool.{cases_eq}
 use Rattle.std.proofs.lemmas.List.{ext_get_or, get_or-map, get_or_default, length-map}
 use Rattle.std.proofs.lemmas.List.Elements.{Contains-push_cases}
-use Rattle.esr_flow.specs.Words.{Arc, ResidualArc, Forward, Backward}
+use Rattle.esr_flow.specs.Types.{Arc, ResidualArc, Forward, Backward}
 use Rattle.esr_cert.specs.Network.{arc_at}
 use Rattle.esr_cert.specs.Flow.{within, amount_at}
 use Rattle.esr_cert.specs.Steps.{start, step_at}
@@ -80,8 +80,8 @@ module _ (g : Graph) where
       pub put_within : at < length entries
       put_within = omega (arith, at_is, lies_within, are.long)
 
-      pub put_few : get_or counts v 0 < 4294967296
-      put_few = omega (arith, are.counted.each v known, lies_within, g.kept.steps.count, g.kept.steps.few)
+      pub put_bounded : get_or counts v 0 < 4294967296
+      put_bounded = omega (arith, are.counted.each v known, lies_within, g.kept.steps.count, g.kept.steps.within_max)
 
       step_there : step_at steps at ≡ s
       step_there = ap (step_at steps) at_is ∙ lies
@@ -127,8 +127,8 @@ module _ (g : Graph) where
     pub along_within : begin arc.from + get_or counts arc.from 0 < length entries
     along_within = put_within (first_steps i) (Backward i ∷ split.0) (Forward i) arc.from known_from starts_along split.1 flow counts entries are
 
-    pub along_few : get_or counts arc.from 0 < 4294967296
-    along_few = put_few (first_steps i) (Backward i ∷ split.0) (Forward i) arc.from known_from starts_along split.1 flow counts entries are
+    pub along_bounded : get_or counts arc.from 0 < 4294967296
+    along_bounded = put_bounded (first_steps i) (Backward i ∷ split.0) (Forward i) arc.from known_from starts_along split.1 flow counts entries are
 
     module _ (counts_along : List ℕ) (entries_along : List AdjacencyEntry) (a : AdjacencyEntry) (a_is : a ≡ record { to = arc.to; ahead = within 1 (left_of arc.capacity x); back = within 1 (Some x) }) (c : counts_along ≡ set counts arc.from (get_or counts arc.from 0 + 1)) (e : entries_along ≡ set entries (begin arc.from + get_or counts arc.from 0) a) where
       after_along : ArePut g flow (first_steps i ++ Forward i ∷ []) counts_along entries_along
@@ -143,8 +143,8 @@ module _ (g : Graph) where
       pub against_within : begin arc.to + get_or counts_along arc.to 0 < length entries_along
       against_within = put_within (first_steps i ++ Forward i ∷ []) split.0 (Backward i) arc.to known_to starts_against later flow counts_along entries_along after_along
 
-      pub against_few : get_or counts_along arc.to 0 < 4294967296
-      against_few = put_few (first_steps i ++ Forward i ∷ []) split.0 (Backward i) arc.to known_to starts_against later flow counts_along entries_along after_along
+      pub against_bounded : get_or counts_along arc.to 0 < 4294967296
+      against_bounded = put_bounded (first_steps i ++ Forward i ∷ []) split.0 (Backward i) arc.to known_to starts_against later flow counts_along entries_along after_along
 
       pub put_both : (counts_now : List ℕ) (entries_now : List AdjacencyEntry) (b : AdjacencyEntry) → b ≡ record { to = arc.from; ahead = within 1 (Some x); back = within 1 (left_of arc.capacity x) } → counts_now ≡ set counts_along arc.to (get_or counts_along arc.to 0 + 1) → entries_now ≡ set entries_along (begin arc.to + get_or counts_along arc.to 0) b → ArePut g flow (first_steps (i + 1)) counts_now entries_now
       put_both counts_now entries_now b b_is d f =

@@ -3,13 +3,13 @@
 use Rattle.std.proofs.Common.{◌≡◌, ℕ, zero, suc, ◌+◌, ◌-◌, ◌<◌, ◌≤◌, Bool, true, false, eqb, List, [], ◌∷◌, length, set, replicate, Option, Some, None, refl, sym, ap, ◌∙◌, subst, inl, inr, arith, le-leb, leb-true, eq-eqb, ne_eqb, get_or-set_same}
 use Rattle.std.proofs.lemmas.Bool.{cases_eq}
 use Rattle.std.proofs.lemmas.List.{length-replicate, get_or-replicate}
-use Rattle.esr_flow.specs.Words.{Arc, ResidualArc, Forward, Backward}
+use Rattle.esr_flow.specs.Types.{Arc, ResidualArc, Forward, Backward}
 use Rattle.esr_flow.specs.Residual.{Falls, left_of, finish, residual_capacity, IsPath, shift, raise}
 use Rattle.esr_cert.specs.Steps.{arc_of, start}
 use Rattle.esr_cert.specs.Flow.{within, amount_at, carried, inflow, outflow, IsFlow, worth}
 use Rattle.esr_cert.specs.Network.{arc_at, Network, IsNetwork}
 use Rattle.esr_cert.proofs.Cut.{pick, pick_add, pick_zero, nothing_into_source}
-use Rattle.esr_flow.specs.Augmentation.{Augments, TakesFrom}
+use Rattle.esr_flow.specs.Augmentation.{Augments, AugmentsFrom}
 use Rattle.esr_flow.specs.Maximum.{IsStart}
 use Rattle.esr_flow.proofs.Labels.{Levels, ResidualCapacities, capacities_kept, above_step, untouched, shift_other, length-shift, levels_from}
 use Rattle.esr_flow.proofs.Distance.{distance, distance_sink, distance_falls, distance_limit}
@@ -183,7 +183,7 @@ zero_amount (suc n) (suc i) = zero_amount n i
 pub zero_start : (net : Network) → IsStart net (replicate (length net.arcs) 0)
 zero_start net = record { is_flow = no_flow net; amounts = λ i. omega (arith, zero_amount (length net.arcs) i) }
 
-pub taken : (net : Network) → IsNetwork net → (first : List ℕ) → IsStart net first → (n : ℕ) (flow : List ℕ) → TakesFrom net first n flow → Taken net first n flow
+pub taken : (net : Network) → IsNetwork net → (first : List ℕ) → IsStart net first → (n : ℕ) (flow : List ℕ) → AugmentsFrom net first n flow → Taken net first n flow
 taken net ok first s zero flow h = subst (Taken net first 0) (sym h) (record { is_flow = s.is_flow; count_small = omega arith; amounts_small = s.amounts })
 taken net ok first s (suc n) flow h =
     let t : Taken net first n h.0 = taken net ok first s n h.0 h.1 in

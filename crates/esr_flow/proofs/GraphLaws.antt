@@ -5,28 +5,28 @@ use Rattle.esr_cert.specs.Network.{IsNetwork, network}
 use Rattle.esr_cert.specs.declared.rows.Rows.{Rows}
 use Rattle.esr_cert.proofs.Sound.{IsProblem}
 use Rattle.esr_cert.proofs.Least.{is_network}
-use Rattle.esr_flow.specs.Laid.{net_with, IsGraphOf}
+use Rattle.esr_flow.specs.IsLaidOut.{net_with, IsGraphOf}
 use Rattle.std.specs.List.Sorted.{IsNonDecreasingBy}
 use Rattle.esr_cert.specs.Steps.{order_of, HasSteps}
-use Rattle.esr_cert.specs.Rows.{AreLaid}
+use Rattle.esr_cert.specs.Rows.{AreLaidOut}
 use Rattle.esr_cert.proofs.StepsLaws.{has_steps, row_ascends}
 
 module _ (p : Problem) (nodes source sink : ℕ) (a : nodes ≡ size p + 2) (b : source ≡ size p) (c : sink ≡ size p + 1) where
   pub net_is : net_with p nodes source sink ≡ network p
   net_is = ap (λ n. net_with p n source sink) a ∙ ap (λ n. net_with p (size p + 2) n sink) b ∙ ap (net_with p (size p + 2) (size p)) c
 
-  pub graph_is : IsProblem p → (rows : Rows) → AreLaid (network p) rows → nodes < 2 ^ 30 → IsGraphOf p rows nodes source sink
-  graph_is ok rows given few =
-      let laid : AreLaid (net_with p nodes source sink) rows = subst (λ net. AreLaid net rows) (sym net_is) given in
+  pub graph_is : IsProblem p → (rows : Rows) → AreLaidOut (network p) rows → nodes < 2 ^ 30 → IsGraphOf p rows nodes source sink
+  graph_is ok rows given within_max =
+      let laid_out : AreLaidOut (net_with p nodes source sink) rows = subst (λ net. AreLaidOut net rows) (sym net_is) given in
       record {
         is_network = subst IsNetwork (sym net_is) (is_network p ok);
-        count = laid.rows.count;
-        ordered = laid.rows.ordered;
-        inside = laid.rows.inside;
-        row = laid.rows.row;
-        lists = λ v l. subst (HasSteps (network p).arcs v) (sym (laid.rows.row v l)) (has_steps (network p).arcs v);
-        ascend = λ v l. subst (IsNonDecreasingBy order_of) (sym (laid.rows.row v l)) (row_ascends (network p).arcs v);
-        steps = laid.steps;
+        count = laid_out.rows.count;
+        ordered = laid_out.rows.ordered;
+        inside = laid_out.rows.inside;
+        row = laid_out.rows.row;
+        lists = λ v l. subst (HasSteps (network p).arcs v) (sym (laid_out.rows.row v l)) (has_steps (network p).arcs v);
+        ascend = λ v l. subst (IsNonDecreasingBy order_of) (sym (laid_out.rows.row v l)) (row_ascends (network p).arcs v);
+        steps = laid_out.steps;
         sink_is_node = omega (arith, a, c);
-        few = few;
+        within_max = within_max;
       }

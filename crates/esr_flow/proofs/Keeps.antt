@@ -5,7 +5,7 @@ use Rattle.esr_cert.specs.Network.{arc_at, Network, IsNetwork}
 use Rattle.esr_cert.specs.Flow.{within, amount_at, carried, IsFlow, worth}
 use Rattle.esr_cert.specs.Cut.{crosses, returns_from, capacity_or_zero, across, IsLimited, AreLimited}
 use Rattle.esr_cert.proofs.Cut.{cut, carried_at_most, carried_full, full_from, nothing_back, nothing_from}
-use Rattle.esr_flow.specs.Words.{ResidualArc, Forward, Backward}
+use Rattle.esr_flow.specs.Types.{ResidualArc, Forward, Backward}
 use Rattle.esr_flow.specs.Residual.{left_of, finish, IsResidual, IsPath}
 use Rattle.esr_cert.specs.Steps.{start}
 
@@ -64,7 +64,7 @@ module _ (net : Network) (ok : IsNetwork net) (flow : List ℕ) (f : IsFlow net 
   pub keeps_from : has net.source ≡ true → has net.sink ≡ false → AreLimited has net.arcs → across has net.arcs ≤ worth net flow → Keeps net flow has
   keeps_from at_source at_sink limited least s res h =
       let whole : worth net flow + carried (returns_from has) net.arcs flow ≡ carried (crosses has) net.arcs flow = cut net ok flow f has at_source at_sink in
-      let most : carried (crosses has) net.arcs flow ≤ across has net.arcs = carried_at_most has net.arcs flow f.within_capacity limited in
+      let upper_bound : carried (crosses has) net.arcs flow ≤ across has net.arcs = carried_at_most has net.arcs flow f.within_capacity limited in
       let full : (i : ℕ) → i < length net.arcs → crosses has (arc_at net.arcs i) ≡ true → amount_at flow i ≡ capacity_or_zero (arc_at net.arcs i).capacity = full_from has net.arcs flow f.same_length f.within_capacity limited (omega arith) in
       let none : (i : ℕ) → i < length net.arcs → returns_from has (arc_at net.arcs i) ≡ true → amount_at flow i ≡ 0 = nothing_from has net.arcs flow f.same_length (omega arith) in
       stays full none s res h

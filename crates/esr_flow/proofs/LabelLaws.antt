@@ -64,7 +64,7 @@ module _ (net : Network) (flow : List ℕ) (visits : List Visit) (f : FoundSink 
           let least : (visit_at visits (length visits - 1)).level - (visit_at visits leads.0).level ≤ label_at labels (finish net.arcs s) = subst (λ n. (visit_at visits (length visits - 1)).level - (visit_at visits leads.0).level ≤ label_at labels n) leads.2 (h.at_least leads.0 (omega (arith, leads.1))) in
           omega (arith, leads.3)
       | inr after ↦
-          omega (arith, f.searched.sorted f.head i after l, f.searched.near (length visits - 1) (omega (arith, f.searched.some)) f.in_visits)
+          omega (arith, f.searched.sorted f.head i after l, f.searched.relevant (length visits - 1) (omega (arith, f.searched.some)) f.in_visits)
     ]
   ]
 

@@ -2,7 +2,7 @@
 -- a path on which they fall by one at each step.
 use Rattle.std.proofs.Common.{◌≡◌, ◌≢◌, ℕ, suc, ◌+◌, ◌-◌, ◌<◌, ◌≤◌, Bool, true, false, ◌&&◌, ◌||◌, ◌⊎◌, leb, eqb, List, [], ◌∷◌, length, Option, Some, None, refl, sym, ap, ◌∙◌, subst, inl, inr, arith, length-set, eq-eqb, ne_eqb, eqb-true, le-leb, leb-true, get_or-set_other, get_or-set_same}
 use Rattle.std.proofs.lemmas.Bool.{or_left, or_right, or_cases, and_parts, and_from, and_left, or_from, lt-leb, cases_eq, and_right}
-use Rattle.esr_flow.specs.Words.{Arc, ResidualArc, Forward, Backward}
+use Rattle.esr_flow.specs.Types.{Arc, ResidualArc, Forward, Backward}
 use Rattle.esr_cert.specs.Flow.{within, amount_at}
 use Rattle.esr_flow.specs.Residual.{left_of, finish, residual_capacity, IsPath, Falls, shift, raise}
 use Rattle.esr_cert.specs.Steps.{arc_of, start}

@@ -2,11 +2,11 @@
 use Rattle.std.proofs.Common.{◌≡◌, ℕ, zero, suc, ◌+◌, ◌-◌, ◌^◌, ◌<◌, ◌≤◌, List, [], ◌∷◌, ◌++◌, length, get_or, take, replicate, Some, refl, sym, ap, subst, ◌∙◌, arith, add-one}
 use Rattle.std.proofs.lemmas.List.{take_more}
 use Rattle.esr_cert.specs.declared.range.TheConstants.{MAX_COST}
-use Rattle.esr_flow.specs.Words.{Arc, ResidualArc}
+use Rattle.esr_flow.specs.Types.{Arc, ResidualArc}
 use Rattle.esr_cert.specs.Flow.{amount_at, IsFlow, worth}
 use Rattle.esr_flow.specs.Residual.{finish, IsPath, bottleneck, shift, raise}
 use Rattle.esr_cert.specs.Network.{Network, IsNetwork}
-use Rattle.esr_flow.specs.Augmentation.{Augments, Takes, TakesFrom}
+use Rattle.esr_flow.specs.Augmentation.{Augments, AugmentsFromZero, AugmentsFrom}
 use Rattle.esr_flow.specs.Maximum.{InArcs}
 use Rattle.esr_flow.specs.Search.{IsShortestPath}
 use Rattle.esr_flow.proofs.Labels.{Levels}
@@ -40,25 +40,25 @@ raise_fits net ok flow path x f amounts small p e k i =
     let labels : (d : ℕ → ℕ) × Levels d net.arcs (d net.source) path = (let q = path_labels net flow (raise flow x path) a in (q.0, q.4)) in
     omega (arith, raise_at_most labels.0 net.arcs flow x (take k path) (labels.0 net.source) i (levels_take labels.0 net.arcs (labels.0 net.source) path k labels.1), amounts i, after.raised, small (raise flow x path) after.is_flow)
 
-pub takes_more : (net : Network) (first : List ℕ) (n : ℕ) (flow after : List ℕ) → TakesFrom net first n flow → Augments net flow after → TakesFrom net first (n + 1) after
+pub takes_more : (net : Network) (first : List ℕ) (n : ℕ) (flow after : List ℕ) → AugmentsFrom net first n flow → Augments net flow after → AugmentsFrom net first (n + 1) after
 takes_more net first n flow after t a = rw add-one (flow, t, a)
 
 -- augmentations from a flow to a second, and from there to a third
-takes_join : (net : Network) (first flow : List ℕ) (n k : ℕ) (after : List ℕ) → TakesFrom net first n flow → TakesFrom net flow k after → TakesFrom net first (n + k) after
+takes_join : (net : Network) (first flow : List ℕ) (n k : ℕ) (after : List ℕ) → AugmentsFrom net first n flow → AugmentsFrom net flow k after → AugmentsFrom net first (n + k) after
 takes_join net first flow n zero after t h =
     let e : n ≡ n + 0 = omega arith in
-    subst (λ m. TakesFrom net first m after) e (subst (TakesFrom net first n) (sym h) t)
+    subst (λ m. AugmentsFrom net first m after) e (subst (AugmentsFrom net first n) (sym h) t)
 takes_join net first flow n (suc k) after t h =
     let e : suc (n + k) ≡ n + suc k = omega arith in
-    subst (λ m. TakesFrom net first m after) e (h.0, takes_join net first flow n k h.0 t h.1, h.2)
+    subst (λ m. AugmentsFrom net first m after) e (h.0, takes_join net first flow n k h.0 t h.1, h.2)
 
 -- augmentations up to a second flow, and from there to a total count
-pub takes_on : (net : Network) (first flow after : List ℕ) (n m : ℕ) → n < m → TakesFrom net first n flow → TakesFrom net flow (m - n) after → TakesFrom net first m after
+pub takes_on : (net : Network) (first flow after : List ℕ) (n m : ℕ) → n < m → AugmentsFrom net first n flow → AugmentsFrom net flow (m - n) after → AugmentsFrom net first m after
 takes_on net first flow after n m l t h =
     let whole : n + (m - n) ≡ m = omega arith in
-    subst (λ k. TakesFrom net first k after) whole (takes_join net first flow n (m - n) after t h)
+    subst (λ k. AugmentsFrom net first k after) whole (takes_join net first flow n (m - n) after t h)
 
 -- from the flow of zeros
-pub takes_zeros : (net : Network) (n : ℕ) (flow : List ℕ) → TakesFrom net (replicate (length net.arcs) 0) n flow → Takes net n flow
+pub takes_zeros : (net : Network) (n : ℕ) (flow : List ℕ) → AugmentsFrom net (replicate (length net.arcs) 0) n flow → AugmentsFromZero net n flow
 takes_zeros net zero flow h = h
 takes_zeros net (suc n) flow h = (h.0, takes_zeros net n h.0 h.1, h.2)

@@ -10,7 +10,7 @@ use Rattle.esr_cert.proofs.Sound.{facts, IsProblem}
 use Rattle.esr_cert.specs.Links as certs
 use Rattle.esr_cert.proofs.LinksLaws as laws
 use Rattle.esr_cert.proofs.ArcsLaws.{arcs_long, arc_of_pair, writer_before}
-use Rattle.esr_flow.specs.Words.{Arc}
+use Rattle.esr_flow.specs.Types.{Arc}
 use Rattle.esr_flow.specs.Search.{is_marked}
 use Rattle.esr_flow.specs.Reached.{IsKeptOver, HasLinks, first_back}
 use Rattle.esr_flow.proofs.ReachLaws.{kept_equal}

@@ -2,7 +2,7 @@
 use Rattle.std.proofs.Common.{◌≡◌, ℕ, zero, suc, ◌+◌, ◌-◌, ◌<◌, true, false, List, [], ◌∷◌, ◌++◌, length, set, reverse, replicate, refl, sym, ◌∙◌, subst, inl, inr, arith, true≢false, length-set, get_or-set_other, get_or-set_same}
 use Rattle.std.proofs.lemmas.Bool.{cases_eq}
 use Rattle.std.proofs.lemmas.List.{length_push, reverse-append, length-replicate}
-use Rattle.esr_flow.specs.Words.{ResidualArc, Forward}
+use Rattle.esr_flow.specs.Types.{ResidualArc, Forward}
 use Rattle.esr_flow.specs.Residual.{IsPath}
 use Rattle.esr_cert.specs.Network.{Network, IsNetwork}
 use Rattle.esr_flow.specs.Search.{visit_at, is_marked, unmarked, IsReached, Searched, FoundSink, Visit}

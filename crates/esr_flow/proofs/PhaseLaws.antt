@@ -1,14 +1,14 @@
 -- The invariants of an augmentation along a guided path.
 use Rattle.std.proofs.Common.{◌≡◌, ℕ, ◌+◌, ◌-◌, ◌*◌, ◌≤◌, List, length, sym, subst, arith}
-use Rattle.esr_flow.specs.Words.{ResidualArc}
+use Rattle.esr_flow.specs.Types.{ResidualArc}
 use Rattle.esr_cert.specs.Network.{Network, IsNetwork}
 use Rattle.esr_flow.specs.Residual.{Falls, raise}
-use Rattle.esr_flow.specs.Augmentation.{Augments, TakesFrom}
+use Rattle.esr_flow.specs.Augmentation.{Augments, AugmentsFrom}
 use Rattle.esr_flow.specs.Maximum.{IsStart}
 use Rattle.esr_cert.specs.Flow.{worth}
 use Rattle.esr_flow.specs.Search.{label_at, Guides, IsGuided}
 use Rattle.esr_flow.proofs.Labels.{Levels, ResidualCapacities, levels_from, falls_after}
-use Rattle.esr_flow.proofs.Phases.{capacities_from, bottle_from, amount_pos, few_augmentations}
+use Rattle.esr_flow.proofs.Phases.{capacities_from, bottle_from, amount_pos, bounded_augmentations}
 use Rattle.esr_flow.proofs.FlowLaws.{Taken, taken}
 use Rattle.esr_flow.proofs.MaximumLaws.{takes_more}
 
@@ -16,7 +16,7 @@ use Rattle.esr_flow.proofs.MaximumLaws.{takes_more}
 pub record Running (net : Network) (first flow labels : List ℕ) (base n value : ℕ) : Type 0 where
   pub start : IsStart net first
   pub since : base ≤ n
-  pub takes : TakesFrom net first (n - base) flow
+  pub takes : AugmentsFrom net first (n - base) flow
   pub value_is : value ≡ worth net flow
   pub guides : Guides net flow labels
 
@@ -37,7 +37,7 @@ run_more net first flow after labels path base n value x r p a e = record {
   since = omega (arith, r.since);
   takes =
       let same : (n - base) + 1 ≡ (n + 1) - base = omega (arith, r.since) in
-      subst (λ k. TakesFrom net first k after) same (takes_more net first (n - base) flow after r.takes a);
+      subst (λ k. AugmentsFrom net first k after) same (takes_more net first (n - base) flow after r.takes a);
   value_is = omega (arith, r.value_is, e);
   guides = guides_after net flow after labels path r.guides p a;
 }
@@ -45,6 +45,6 @@ run_more net first flow after labels path base n value x r p a e = record {
 pub running_flow : (net : Network) → IsNetwork net → (first flow labels : List ℕ) (base n value : ℕ) → Running net first flow labels base n value → Taken net first (n - base) flow
 running_flow net ok first flow labels base n value r = taken net ok first r.start (n - base) flow r.takes
 
-pub running_few : (net : Network) → IsNetwork net → (first flow labels : List ℕ) (base n value : ℕ) → Running net first flow labels base n value → n ≤ net.nodes * length net.arcs + base
-running_few net ok first flow labels base n value r =
-    omega (arith, few_augmentations net ok first r.start.is_flow.same_length (n - base) flow r.takes)
+pub running_bounded : (net : Network) → IsNetwork net → (first flow labels : List ℕ) (base n value : ℕ) → Running net first flow labels base n value → n ≤ net.nodes * length net.arcs + base
+running_bounded net ok first flow labels base n value r =
+    omega (arith, bounded_augmentations net ok first r.start.is_flow.same_length (n - base) flow r.takes)

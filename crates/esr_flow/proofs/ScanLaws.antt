@@ -2,7 +2,7 @@
 use Rattle.std.proofs.Common.{◌≡◌, ◌≢◌, ℕ, ◌+◌, ◌-◌, ◌<◌, ◌≤◌, Bool, true, false, ◌⊎◌, List, [], ◌∷◌, ◌++◌, length, get_or, set, refl, sym, ap, ◌∙◌, subst, inl, inr, arith, true≢false, get_or-set_other}
 use Rattle.std.proofs.lemmas.Bool.{cases_eq}
 use Rattle.std.proofs.lemmas.List.{get_or_append_left, get_or_push, length_push, get_or_default}
-use Rattle.esr_flow.specs.Words.{Arc, ResidualArc, Forward, Backward}
+use Rattle.esr_flow.specs.Types.{Arc, ResidualArc, Forward, Backward}
 use Rattle.esr_flow.specs.ShortEntry.{AdjacencyEntry}
 use Rattle.esr_cert.specs.Steps.{arc_of, start, step_at}
 use Rattle.esr_flow.specs.Residual.{finish, IsResidual}
@@ -79,7 +79,7 @@ module _ (net : Network) (ok : IsNetwork net) (flow : List ℕ) (steps : List Re
       let t : is_marked marks (finish net.arcs (step_at steps k)) ≡ true = ap (is_marked marks) (sym q.leads) ∙ get_or_default marks e.to false true (omega (arith, q.leads, finish_in net ok (step_at steps k) q.in_arcs, h.searched.marks_length)) ∙ m in
       scan_on h (λ r.
       let v : (j : ℕ) × (j < length visits) × ((visit_at visits j).node ≡ finish net.arcs (step_at steps k)) = h.searched.visited (finish net.arcs (step_at steps k)) t in
-      (v.0, v.1, v.2, h.searched.near v.0 v.1 h.in_visits))
+      (v.0, v.1, v.2, h.searched.relevant v.0 v.1 h.in_visits))
 
   searched_more : (e : AdjacencyEntry) → Scanning net flow steps row visits marks head level k → k < length row → e ≡ get_or row k none_at → e.ahead ≡ true → is_marked marks e.to ≡ false → Searched net flow (visits ++ visit_of (step_at steps k) e level head ∷ []) (set marks e.to true) head
   searched_more e h l is r f =

@@ -2,7 +2,7 @@
 use Rattle.std.proofs.Common.{◌≡◌, ◌≢◌, ℕ, zero, suc, ◌+◌, ◌<◌, ◌≤◌, Bool, true, false, cond, ◌⊎◌, eqb, List, [], ◌∷◌, ◌++◌, length, set, refl, sym, ap, ◌∙◌, subst, inl, inr, arith, true≢false, length-set, get_or-set_other, get_or-set_same, eq-eqb, eqb-true}
 use Rattle.std.proofs.lemmas.Bool.{cases_eq, cases_Bool, cases_lt, cond-true, cond-false}
 use Rattle.std.proofs.lemmas.List.{get_or_append_left, get_or_push, length_push}
-use Rattle.esr_flow.specs.Words.{Arc, ResidualArc, Forward, Backward}
+use Rattle.esr_flow.specs.Types.{Arc, ResidualArc, Forward, Backward}
 use Rattle.esr_cert.specs.Steps.{arc_of, start}
 use Rattle.esr_flow.specs.Residual.{finish, IsResidual, IsPath}
 use Rattle.esr_cert.specs.Network.{Network, IsNetwork}
@@ -76,13 +76,13 @@ module _ (net : Network) (flow : List ℕ) where
       at_most_top : (w : ℕ) → label visits (suc (visit_at visits head).level) w ≤ suc (visit_at visits head).level
       at_most_top w =
           elim (label_cases visits (suc (visit_at visits head).level) w) [
-            | inl (i, k, e, q) ↦ omega (arith, h.near i k l)
+            | inl (i, k, e, q) ↦ omega (arith, h.relevant i k l)
             | inr (q, none) ↦ omega arith
           ]
 
       rises : (s : ResidualArc) → IsResidual net.arcs flow s → label visits (suc (visit_at visits head).level) (finish net.arcs s) ≤ suc (label visits (suc (visit_at visits head).level) (start net.arcs s))
       rises s res =
-          let most : label visits (suc (visit_at visits head).level) (finish net.arcs s) ≤ suc (visit_at visits head).level = at_most_top (finish net.arcs s) in
+          let upper_bound : label visits (suc (visit_at visits head).level) (finish net.arcs s) ≤ suc (visit_at visits head).level = at_most_top (finish net.arcs s) in
           elim (label_cases visits (suc (visit_at visits head).level) (start net.arcs s)) [
             | inl (i, k, e, q) ↦
                 elim (cases_lt i head) [
@@ -109,7 +109,7 @@ module _ (net : Network) (flow : List ℕ) where
         marked = λ j a. let z : j ≡ 0 = omega arith in subst (λ n. is_marked marks (visit_at one n).node ≡ true) (sym z) here;
         visited = λ v t. (0, omega arith, sym (only v t));
         done = λ i a. absurd (omega arith);
-        near = λ j a b. let z : j ≡ 0 = omega arith in omega (arith, zero_level j z);
+        relevant = λ j a b. let z : j ≡ 0 = omega arith in omega (arith, zero_level j z);
         capacity_left = omega arith;
       })
     where
@@ -134,7 +134,7 @@ module _ (net : Network) (flow : List ℕ) where
         sorted = λ i j a b. elim (place j b) [
           | inl jl ↦ omega (arith, ap (λ x. x.level) (old i (omega arith)), ap (λ x. x.level) (old j jl), h.sorted i j a jl)
           | inr je ↦ elim (place i (omega arith)) [
-            | inl il ↦ omega (arith, ap (λ x. x.level) (old i il), ap (λ x. x.level) (new j je), h.near i il l)
+            | inl il ↦ omega (arith, ap (λ x. x.level) (old i il), ap (λ x. x.level) (new j je), h.relevant i il l)
             | inr ie ↦ omega (arith, ap (λ x. x.level) (new i ie), ap (λ x. x.level) (new j je))
           ]
         ];
@@ -158,8 +158,8 @@ module _ (net : Network) (flow : List ℕ) where
             let il : i < length visits = omega arith in
             let q' : start net.arcs t ≡ (visit_at visits i).node = q ∙ ap (λ x. x.node) (old i il) in
             done_old i il t (h.done i a t r q');
-        near = λ j b m. elim (place j b) [
-          | inl jl ↦ omega (arith, ap (λ x. x.level) (old j jl), ap (λ x. x.level) (old head l), h.near j jl l)
+        relevant = λ j b m. elim (place j b) [
+          | inl jl ↦ omega (arith, ap (λ x. x.level) (old j jl), ap (λ x. x.level) (old head l), h.relevant j jl l)
           | inr je ↦ omega (arith, ap (λ x. x.level) (new j je), ap (λ x. x.level) (old head l))
         ];
         capacity_left = omega (arith, len, unmarked_mark marks (finish net.arcs s) (omega (arith, target, h.marks_length)) f, h.capacity_left);
@@ -245,7 +245,7 @@ module _ (net : Network) (flow : List ℕ) where
       | inl e ↦ subst (λ n. EndsVisited net.arcs visits (visit_at visits n).level s) (sym e) (each s r (q ∙ ap (λ n. (visit_at visits n).node) e))
       | inr ne ↦ h.done i (omega arith) s r q
     ];
-    near = λ j a b. omega (arith, h.near j a l, h.sorted head (head + 1) (omega arith) b);
+    relevant = λ j a b. omega (arith, h.relevant j a l, h.sorted head (head + 1) (omega arith) b);
   }
 
   -- a path to each visit

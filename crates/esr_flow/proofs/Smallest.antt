@@ -5,7 +5,7 @@ use Rattle.std.proofs.lemmas.Bool.{cases_eq, cases_lt}
 use Rattle.std.proofs.lemmas.List.{get_or_append_left, length-map, get_or-map}
 use Rattle.std.proofs.lemmas.List.Sums.{sum_by-cons}
 use Rattle.esr_cert.specs.declared.range.TheConstants.{MAX_COST}
-use Rattle.esr_flow.specs.Words.{Arc, ResidualArc, Forward, Backward}
+use Rattle.esr_flow.specs.Types.{Arc, ResidualArc, Forward, Backward}
 use Rattle.esr_cert.specs.Problem.{Chain, Problem, size, version, chain_cost, cost, greatest, IsSmallestLeast}
 use Rattle.esr_cert.specs.Network.{arc_at, Network, back_arc, must_arc, chain_arcs, back_arcs, must_arcs, network}
 use Rattle.esr_cert.specs.Flow.{within, amount_at, IsFlow, worth}

@@ -2,7 +2,7 @@
 use Rattle.std.proofs.Common.{◌≡◌, ℕ, ◌+◌, ◌<◌, Bool, true, false, cond, eqb, List, [], ◌∷◌, ◌++◌, length, get_or, set, take, refl, sym, ap, ◌∙◌, inl, inr, arith, get_or-set_other, get_or-set_same, eq-eqb, ne_eqb, Some}
 use Rattle.std.proofs.lemmas.Bool.{cases_eq}
 use Rattle.std.proofs.lemmas.List.{take_more, length-take-le}
-use Rattle.esr_flow.specs.Words.{Arc}
+use Rattle.esr_flow.specs.Types.{Arc}
 use Rattle.esr_cert.specs.Network.{arc_at}
 use Rattle.esr_cert.specs.Flow.{amount_at, carried}
 use Rattle.esr_cert.proofs.Flows.{carried_append}

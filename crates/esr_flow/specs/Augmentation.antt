@@ -2,7 +2,7 @@
 -- network.
 use Rattle.std.specs.Prelude.{◌≡◌, ℕ, zero, suc, ◌≤◌, Bool, true, List, length, replicate, Some}
 use Rattle.esr_cert.specs.Network.{Network}
-use Rattle.esr_flow.specs.Words.{ResidualArc}
+use Rattle.esr_flow.specs.Types.{ResidualArc}
 use Rattle.esr_cert.specs.Steps.{start}
 use Rattle.esr_flow.specs.Residual.{finish, IsResidual, IsPath, bottleneck, raise}
 
@@ -17,14 +17,14 @@ pub record Augments (net : Network) (flow after : List ℕ) : Type 0 where
   pub is_raised : after ≡ raise flow amount path
 
 -- n augmentations lead from the flow of zeros to this one
-abbrev pub Takes : Network → ℕ → List ℕ → Type 0
-Takes net zero flow = flow ≡ replicate (length net.arcs) 0
-Takes net (suc n) flow = (before : List ℕ) × Takes net n before × Augments net before flow
+abbrev pub AugmentsFromZero : Network → ℕ → List ℕ → Type 0
+AugmentsFromZero net zero flow = flow ≡ replicate (length net.arcs) 0
+AugmentsFromZero net (suc n) flow = (before : List ℕ) × AugmentsFromZero net n before × Augments net before flow
 
 -- n augmentations lead from a flow to another
-abbrev pub TakesFrom : Network → List ℕ → ℕ → List ℕ → Type 0
-TakesFrom net first zero flow = flow ≡ first
-TakesFrom net first (suc n) flow = (before : List ℕ) × TakesFrom net first n before × Augments net before flow
+abbrev pub AugmentsFrom : Network → List ℕ → ℕ → List ℕ → Type 0
+AugmentsFrom net first zero flow = flow ≡ first
+AugmentsFrom net first (suc n) flow = (before : List ℕ) × AugmentsFrom net first n before × Augments net before flow
 
 -- the nodes that the source reaches in the residual network: the source, the ends of residual steps, and no others
 pub record IsReach (net : Network) (flow : List ℕ) (has : ℕ → Bool) : Type 0 where

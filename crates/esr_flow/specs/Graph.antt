@@ -1,13 +1,13 @@
 -- A network with the steps that start at each node, in consecutive rows, and for each step an entry that shows whether
 -- it has residual capacity.
 use Rattle.std.specs.Prelude.{◌≡◌, ℕ, ◌<◌, false, List, length, get_or, map, Contains}
-use Rattle.esr_flow.specs.Words.{Arc, ResidualArc}
+use Rattle.esr_flow.specs.Types.{Arc, ResidualArc}
 use Rattle.esr_cert.specs.Network.{Network, network}
 use Rattle.esr_flow.specs.ShortEntry.{AdjacencyEntry}
 pub use Rattle.esr_flow.specs.declared.graph.Graph.{Graph}
 use Rattle.esr_cert.specs.Flow.{within}
 use Rattle.esr_cert.specs.Steps.{arc_of, start, opposite, step_at}
-use Rattle.esr_flow.specs.Laid.{net_with}
+use Rattle.esr_flow.specs.IsLaidOut.{net_with}
 use Rattle.esr_flow.specs.Residual.{finish, residual_capacity}
 
 abbrev pub arcs_of : Graph → List Arc

@@ -1,10 +1,10 @@
 -- The terms of a solver: residual networks, augmentations, and the graph of a problem with its entries. `Maximum`
 -- states the conditions on a network; the solver knows nothing else of the problem.
 
-pub mod Words
+pub mod Types
 pub mod Residual
 pub mod Augmentation
-pub mod Laid
+pub mod IsLaidOut
 pub mod Graph
 pub mod ShortEntry
 pub mod Search

@@ -1,6 +1,6 @@
 -- The conditions of a solver on a network: its flows are small, and each path to the sink is limited.
 use Rattle.std.specs.Prelude.{◌≡◌, ℕ, ◌<◌, ◌≤◌, List, length, get_or, None}
-use Rattle.esr_flow.specs.Words.{Arc, ResidualArc}
+use Rattle.esr_flow.specs.Types.{Arc, ResidualArc}
 use Rattle.esr_cert.specs.Network.{Network}
 use Rattle.esr_cert.specs.Flow.{amount_at, IsFlow, worth}
 use Rattle.esr_cert.specs.Steps.{arc_of}

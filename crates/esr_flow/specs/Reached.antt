@@ -5,7 +5,7 @@ use Rattle.esr_cert.specs.Problem.{Problem}
 use Rattle.esr_cert.specs.Network.{Network, arc_at}
 use Rattle.esr_cert.specs.Starts.{starts_from}
 use Rattle.esr_cert.specs.Steps.{arc_of, start}
-use Rattle.esr_flow.specs.Words.{Arc, ResidualArc}
+use Rattle.esr_flow.specs.Types.{Arc, ResidualArc}
 use Rattle.esr_flow.specs.Residual.{finish, IsResidual, IsPath}
 use Rattle.esr_flow.specs.Search.{is_marked}
 

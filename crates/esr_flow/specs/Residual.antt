@@ -1,6 +1,6 @@
 -- The residual network of a flow: forward steps over arcs with unused capacity, backward over arcs that carry flow.
 use Rattle.std.specs.Prelude.{◌≡◌, ℕ, suc, ◌+◌, ◌-◌, ◌<◌, ◌≤◌, true, min, List, [], ◌∷◌, length, set, Option, Some, None}
-use Rattle.esr_flow.specs.Words.{Arc, ResidualArc, Forward, Backward}
+use Rattle.esr_flow.specs.Types.{Arc, ResidualArc, Forward, Backward}
 use Rattle.esr_cert.specs.Network.{arc_at}
 use Rattle.esr_cert.specs.Flow.{within, amount_at}
 use Rattle.esr_cert.specs.Steps.{arc_of, start}

@@ -1,6 +1,6 @@
 -- The state and the result of a breadth-first search of the residual network.
 use Rattle.std.specs.Prelude.{◌≡◌, ℕ, suc, ◌+◌, ◌-◌, ◌<◌, ◌≤◌, Bool, true, false, if◌then◌else◌, List, [], ◌∷◌, length, get_or}
-use Rattle.esr_flow.specs.Words.{ResidualArc, Forward, Arc}
+use Rattle.esr_flow.specs.Types.{ResidualArc, Forward, Arc}
 pub use Rattle.esr_flow.specs.declared.search.Visit.{Visit}
 use Rattle.esr_flow.specs.declared.search.Found.{Found}
 use Rattle.esr_flow.specs.declared.search.Found.TheVariants.{Path, Reach}
@@ -51,7 +51,7 @@ pub record Searched (net : Network) (flow : List ℕ) (visits : List Visit) (mar
   pub visited : (v : ℕ) → is_marked marks v ≡ true → (j : ℕ) × (j < length visits) × ((visit_at visits j).node ≡ v)
   pub done : (i : ℕ) → i < head → (step : ResidualArc) → IsResidual net.arcs flow step
       → start net.arcs step ≡ (visit_at visits i).node → EndsVisited net.arcs visits (visit_at visits i).level step
-  pub near : (j : ℕ) → j < length visits → head < length visits
+  pub relevant : (j : ℕ) → j < length visits → head < length visits
       → (visit_at visits j).level ≤ suc (visit_at visits head).level
   pub capacity_left : length visits + unmarked marks ≡ net.nodes
 

@@ -56,12 +56,12 @@ fn sum_arcs(graph: &Graph, flow: &[u64], into: &mut [u64], from: &mut [u64]) -> 
     requires into { length into.old ≡ graph.now.nodes }
     requires from { length from.old ≡ graph.now.nodes }
     requires nothing { (v : ℕ) → (get_or into.old v 0 ≡ 0) × (get_or from.old v 0 ≡ 0) }
-    ensures within { IfSome result (λ most. (i : ℕ) → i < length flow.now
+    ensures within { IfSome result (λ upper_bound. (i : ℕ) → i < length flow.now
         → within (get_or flow.now i 0) (arc_at (arcs_of graph.now) i).capacity ≡ true) }
-    ensures most { IfSome result (λ most. (i : ℕ) → i < length flow.now → get_or flow.now i 0 ≤ most) }
-    ensures into { IfSome result (λ most. (v : ℕ) → v < graph.now.nodes
+    ensures upper_bound { IfSome result (λ upper_bound. (i : ℕ) → i < length flow.now → get_or flow.now i 0 ≤ upper_bound) }
+    ensures into { IfSome result (λ upper_bound. (v : ℕ) → v < graph.now.nodes
         → get_or into.new v 0 ≡ inflow (arcs_of graph.now) flow.now v) }
-    ensures from { IfSome result (λ most. (v : ℕ) → v < graph.now.nodes
+    ensures from { IfSome result (λ upper_bound. (v : ℕ) → v < graph.now.nodes
         → get_or from.new v 0 ≡ outflow (arcs_of graph.now) flow.now v) }
 {
     let mut greatest = 0;

@@ -10,7 +10,7 @@ ghost use Rattle.esr_cert.specs.Network.{network};
 ghost use Rattle.esr_flow.specs.Residual.{left_of, residual_capacity, finish};
 ghost use Rattle.esr_cert.specs.Steps.{arc_of};
 ghost use Rattle.esr_cert.specs.Rows.{span_at};
-ghost use Rattle.esr_flow.specs.Laid.{IsGraphOf};
+ghost use Rattle.esr_flow.specs.IsLaidOut.{IsGraphOf};
 
 use crate::entry::{AdjacencyEntry, ShortEntry};
 use esr_cert::{Arc, Problem, ResidualArc, Rows, ShortArc};
@@ -172,7 +172,7 @@ fn put_next(
 )
     requires span { node < length rows.now.spans.items }
     requires count { node < length counts.old.items }
-    requires few { get_or counts.old.items node 0 < 4294967296 }
+    requires within_max { get_or counts.old.items node 0 < 4294967296 }
     requires place { (span_at rows.now.spans.items node).begin + get_or counts.old.items node 0
         < length entries.old.items }
     ensures counts { counts.new.items ≡ set counts.old.items node (get_or counts.old.items node 0 + 1) }

@@ -10,7 +10,7 @@ ghost use Rattle.esr_cert.specs.Network.{network};
 ghost use Rattle.esr_cert.specs.Steps.{arc_of};
 ghost use Rattle.esr_flow.specs.Residual.{smaller, bottleneck, shift, raise};
 ghost use Rattle.esr_cert.specs.Flow.{amount_at, IsFlow, worth};
-ghost use Rattle.esr_flow.specs.Augmentation.{IsReach, Augments, Takes, TakesFrom};
+ghost use Rattle.esr_flow.specs.Augmentation.{IsReach, Augments, AugmentsFromZero, AugmentsFrom};
 ghost use Rattle.esr_flow.specs.Graph.{arcs_of, net_of, AreEntries};
 ghost use Rattle.esr_flow.specs.Search.{IsShortestPath, Guides, IsGuided, ReachesNoSink, is_marked};
 ghost use Rattle.esr_flow.specs.Maximum.{InArcs, HasLimit, IsStart};
@@ -132,7 +132,7 @@ fn run_phase(
     requires count { before.augmentations ≤ before.worth }
     requires worth { before.worth ≡ worth (net_of graph.now) flow.old }
     requires phases { before.phases ≤ before.augmentations }
-    ensures takes { IfOk result (λ p. TakesFrom (net_of graph.now) flow.old (p.augmentations - before.augmentations)
+    ensures takes { IfOk result (λ p. AugmentsFrom (net_of graph.now) flow.old (p.augmentations - before.augmentations)
         flow.new) }
     ensures worth { IfOk result (λ p. p.worth ≡ worth (net_of graph.now) flow.new) }
     ensures entries { IfOk result (λ p. AreEntries graph.now flow.new entries.new) }
@@ -172,7 +172,7 @@ fn run_phases(
     requires start { IsStart (net_of graph.now) flow.old }
     requires value { value ≡ worth (net_of graph.now) flow.old }
     requires entries { AreEntries graph.now flow.old entries.old }
-    ensures takes { IfOk result (λ r. TakesFrom (net_of graph.now) flow.old r.0.augmentations flow.new) }
+    ensures takes { IfOk result (λ r. AugmentsFrom (net_of graph.now) flow.old r.0.augmentations flow.new) }
     ensures worth { IfOk result (λ r. r.0.worth ≡ worth (net_of graph.now) flow.new) }
     ensures phases { IfOk result (λ r. r.0.phases ≤ r.0.augmentations) }
     ensures reach { IfOk result (λ r. ReachesNoSink (net_of graph.now) flow.new r.1.items) }
@@ -213,7 +213,7 @@ fn maximum_from(
     requires limited { HasLimit (net_of graph.now) }
     requires start { IsStart (net_of graph.now) flow.items }
     requires value { value ≡ worth (net_of graph.now) flow.items }
-    ensures takes { IfOk result (λ m. TakesFrom (net_of graph.now) flow.items m.augmentations m.flow.items) }
+    ensures takes { IfOk result (λ m. AugmentsFrom (net_of graph.now) flow.items m.augmentations m.flow.items) }
     ensures flow { IfOk result (λ m. IsFlow (net_of graph.now) m.flow.items) }
     ensures worth_is { IfOk result (λ m. m.worth ≡ worth (net_of graph.now) m.flow.items) }
     ensures amounts { IfOk result (λ m. (i : ℕ) → amount_at m.flow.items i ≤ m.worth) }
@@ -237,8 +237,8 @@ fn maximum_from(
 pub fn find_maximum(alloc: Global, graph: &Graph) -> Result<MaximumFlow, AllocError>
     requires small { (f : List ℕ) → IsFlow (net_of graph.now) f → worth (net_of graph.now) f ≤ MAX_COST }
     requires limited { HasLimit (net_of graph.now) }
-    ensures takes { IfOk result (λ m. Takes (net_of graph.now) m.augmentations m.flow.items) }
-    ensures few { IfOk result (λ m. m.augmentations ≤ graph.now.nodes * length (arcs_of graph.now)) }
+    ensures takes { IfOk result (λ m. AugmentsFromZero (net_of graph.now) m.augmentations m.flow.items) }
+    ensures within_max { IfOk result (λ m. m.augmentations ≤ graph.now.nodes * length (arcs_of graph.now)) }
     ensures flow { IfOk result (λ m. IsFlow (net_of graph.now) m.flow.items) }
     ensures worth_is { IfOk result (λ m. m.worth ≡ worth (net_of graph.now) m.flow.items) }
     ensures worth { IfOk result (λ m. m.augmentations ≤ worth (net_of graph.now) m.flow.items) }

@@ -10,7 +10,7 @@ ghost use Rattle.esr_cert.specs.Network.{network};
 ghost use Rattle.esr_cert.specs.Flow as flows;
 ghost use Rattle.esr_cert.specs.Certificate.{amounts, are_rows_matched, is_count_in_bound, Certifies};
 ghost use Rattle.esr_cert.specs.Views.{chain_of, rows_of, certificate_of};
-ghost use Rattle.esr_flow.specs.Augmentation.{IsReach, Takes};
+ghost use Rattle.esr_flow.specs.Augmentation.{IsReach, AugmentsFromZero};
 ghost use Rattle.esr_flow.specs.Search.{is_marked};
 ghost use Rattle.esr_flow.specs.Certificate.{positions};
 
@@ -23,7 +23,7 @@ use std::alloc::{AllocError, Global};
 /// Returns the marked positions, ascending.
 fn members(alloc: Global, marks: &[bool], count: usize) -> Result<Vec<u32>, AllocError>
     requires capacity_left { count ≤ length marks.now }
-    requires few { count ≤ MAX_TRANSACTIONS }
+    requires within_max { count ≤ MAX_TRANSACTIONS }
     ensures { IfOk result (λ set. set.items ≡ positions (is_marked marks.now) count) }
 {
     let mut set = Vec::new(alloc);
@@ -128,10 +128,10 @@ pub struct Solved {
 pub fn solve(alloc: Global, net: &Network) -> Result<Solved, NoMemory>
     ensures certifies { IfOk result (λ s. Certifies net.now.problem.now (certificate_of s.certificate)) }
     ensures least { IfOk result (λ s. IsSmallestLeast net.now.problem.now (in_set s.certificate.set.items)) }
-    ensures takes { IfOk result (λ s. Takes (network net.now.problem.now) s.augmentations
+    ensures takes { IfOk result (λ s. AugmentsFromZero (network net.now.problem.now) s.augmentations
         (amounts (certificate_of s.certificate))) }
     ensures worth { IfOk result (λ s. s.augmentations ≤ s.certificate.worth) }
-    ensures few { IfOk result (λ s. s.augmentations ≤ (size net.now.problem.now + 2) * length
+    ensures within_max { IfOk result (λ s. s.augmentations ≤ (size net.now.problem.now + 2) * length
         (network net.now.problem.now).arcs) }
     ensures amounts { IfOk result (λ s. (i : ℕ) → get_or (amounts (certificate_of s.certificate)) i 0
         ≤ s.certificate.worth) }

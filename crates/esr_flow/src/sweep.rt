@@ -127,11 +127,11 @@ fn add_at(numbers: &mut [u64], place: usize, more: u64)
     }
 }
 
-/// Subtracts up to `most` from the number at an index. Returns the amount subtracted.
-fn take_at(numbers: &mut [u64], place: usize, most: u64) -> u64
+/// Subtracts up to `upper_bound` from the number at an index. Returns the amount subtracted.
+fn take_at(numbers: &mut [u64], place: usize, upper_bound: u64) -> u64
     ensures { length numbers.new ≡ length numbers.old }
 {
-    let taken = number_at(numbers, place).min(most);
+    let taken = number_at(numbers, place).min(upper_bound);
     if place < numbers.len() {
         numbers[place] = numbers[place].saturating_sub(taken);
     }

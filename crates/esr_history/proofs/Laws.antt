@@ -11,7 +11,7 @@ use Rattle.esr_history.specs.Machine.{Distance, Schedule, accepted_in, distance_
 use Rattle.esr_history.specs.Legal.{along}
 use Rattle.esr_history.specs.Operations.{Operation, operations, operations_in, commit_order}
 use Rattle.esr_history.specs.Serial.{is_before, committed_updates, state, IsSerializable}
-use Rattle.esr_history.specs.Queries.{updates_of, is_strict, begins, before_begin, distance_from, members, ImportBoundsDistance, IsAlike}
+use Rattle.esr_history.specs.Queries.{updates_of, is_strict, begins, before_begin, distance_from, members, ImportBoundsDistance, HasSameAudit}
 use Rattle.esr_history.proofs.Membership.{get_seam, Pairs, Pairs-filter, All-from_pairs, Contains-In, In-of_filter, In-filter, In-from_any, any-from_number}
 use Rattle.esr_history.proofs.Traces.{IsMetric, is_among, after_writes}
 use Rattle.esr_history.proofs.Locking.{known, commits_in_order, commits_once}
@@ -75,7 +75,7 @@ import_bounds_distance d metric h legal q is =
     (bounded (metric h.weights) (legal_reached d h legal) q (sym (committed_among (accepted_in h) q) ∙ p.1) (query_not_update (accepted_in h) q p.0))
 
 -- the audit of a committed query has the same result in every longer legal history
-pub audit_stays : (d : Distance) (h : Schedule) (rest : List Entry) (q : ℕ) → IsLegal d (along h rest) → is_committed (accepted_in h) q ≡ true → IsAlike d h (along h rest) q
+pub audit_stays : (d : Distance) (h : Schedule) (rest : List Entry) (q : ℕ) → IsLegal d (along h rest) → is_committed (accepted_in h) q ≡ true → HasSameAudit d h (along h rest) q
 audit_stays d h rest q legal over =
     let longer : Schedule = along h rest in
     let after : IsAfter d h q longer = legal_after d h rest q legal over in

@@ -4,7 +4,7 @@ use Rattle.std.specs.List.{filter_map, list_any, cons_option, slice_get}
 use Rattle.std.proofs.lemmas.Bool.{true≢false, eq-eqb, ne_eqb, and_parts, or_left, or_right}
 use Rattle.std.proofs.lemmas.Option.{same_Some}
 use Rattle.std.proofs.lemmas.List.Folds.{list_any-append}
-use Rattle.esr_history.specs.Events.{Beginning, is_refusal, beginning, beginning_of, beginnings, numbers, is_query, is_update, is_begun, is_active, is_committed, holds_read, reads_of, current_value, TxnId, ItemId, Event, BeginUpdate, BeginQuery, Read, Write, Commit, Abort, Reply, Begun, Value, Wrote, Committed, Aborted, Refused, Refusal, Entry}
+use Rattle.esr_history.specs.Events.{Beginning, is_refusal, beginning, beginning_of, beginnings, txn_numbers, is_query, is_update, is_begun, is_active, is_committed, holds_read, read_count, current_value, TxnId, ItemId, Event, BeginUpdate, BeginQuery, Read, Write, Commit, Abort, Reply, Begun, Value, Wrote, Committed, Aborted, Refused, Refusal, Entry}
 use Rattle.esr_history.specs.Machine.{Distance, Schedule, Charge, accepted_in, extended, empty_schedule, distance_in, due_in, charge_of_write, import_in, reply_to, reasons, refusal, acceptance, answered, IsLegal, IsLegalAfter}
 use Rattle.esr_history.specs.Legal.{along, legal_induction, legal_induction_after}
 use Rattle.esr_history.specs.Queries.{begins}
@@ -46,14 +46,14 @@ module _ (d : Distance) (h : Schedule) (q : ℕ) (over : is_committed (accepted_
       other p c is own = given (is_query (accepted_in h) p && holds_read (accepted_in h) p x.0) refl is
         where
           given : (b : Bool) → (is_query (accepted_in h) p && holds_read (accepted_in h) p x.0) ≡ b
-              → (if b then Some (record { query = p; update = t.0; amount = reads_of (accepted_in h) p x.0 * distance_in d h x.0 v (current_value h.opening (accepted_in h) x.0) }) else None) ≡ Some c → ⊥
+              → (if b then Some (record { query = p; update = t.0; amount = read_count (accepted_in h) p x.0 * distance_in d h x.0 v (current_value h.opening (accepted_in h) x.0) }) else None) ≡ Some c → ⊥
           given false passes some = cc
           given true passes some =
               grind (arith, same_Some, and_parts (is_query (accepted_in h) p) (holds_read (accepted_in h) p x.0) passes, not_active, and_parts)
 
-      at : (b : Bool) → import_in (if b then filter_map charge (numbers (accepted_in h)) else []) q ≡ 0
+      at : (b : Bool) → import_in (if b then filter_map charge (txn_numbers (accepted_in h)) else []) q ≡ 0
       at false = refl
-      at true = unnamed charge q other (numbers (accepted_in h))
+      at true = unnamed charge q other (txn_numbers (accepted_in h))
 
 -- the history h so far has the data of the audit of q in g
 pub record IsAfter (d : Distance) (g : Schedule) (q : ℕ) (h : Schedule) : Type 0 where

@@ -7,7 +7,7 @@ use Rattle.std.proofs.lemmas.Bool.{cases_Bool, true≢false, cases_eq, eq-eqb, n
 use Rattle.std.proofs.lemmas.List.Elements.{filter_map-append, filter-append}
 use Rattle.std.proofs.lemmas.List.Sums.{sum_by-cons}
 use Rattle.esr_items.specs.Values.{value_at}
-use Rattle.esr_history.specs.Events.{Beginning, is_refusal, beginning, beginning_of, beginnings, numbers, is_query, is_update, is_active, holds_read, holds_write, reads, reads_of, committed_value, current_value, ItemId, TxnId, Event, Read, Write, Commit, Abort, Reply, Value, Wrote, Committed, Aborted, Refused, Refusal, BlockedByLock}
+use Rattle.esr_history.specs.Events.{Beginning, is_refusal, beginning, beginning_of, beginnings, txn_numbers, is_query, is_update, is_active, holds_read, holds_write, reads, read_count, committed_value, current_value, ItemId, TxnId, Event, Read, Write, Commit, Abort, Reply, Value, Wrote, Committed, Aborted, Refused, Refusal, BlockedByLock}
 use Rattle.esr_history.specs.Machine.{Distance, Schedule, Charge, accepted_in, extended, distance_in, charges, charges_in, due_in, charge_of_read, charge_of_write, import_in, writer, other_writer, other_holder, blocked_by, reply_to, reasons, refusal, acceptance, answered, IsLegal}
 use Rattle.esr_history.specs.Legal.{legal_induction}
 use Rattle.esr_history.specs.Operations.{Operation, operation_by, operations, committer, commit_order}
@@ -127,12 +127,12 @@ module _ (d : Distance) (h : Schedule) where
   }
 
   -- a number that is not found fails the test
-  unfound : (p : ℕ → Bool) → find (λ u. is_update (accepted_in h) u && p u) (numbers (accepted_in h)) ≡ None → (u : ℕ) → is_update (accepted_in h) u ≡ true → p u ≡ false
+  unfound : (p : ℕ → Bool) → find (λ u. is_update (accepted_in h) u && p u) (txn_numbers (accepted_in h)) ≡ None → (u : ℕ) → is_update (accepted_in h) u ≡ true → p u ≡ false
   unfound p none u update =
       let n = begun_in_range (accepted_in h) u (update_begun (accepted_in h) u update) in
       and_right_false (is_update (accepted_in h) u) (p u) update (find_none (λ u. is_update (accepted_in h) u && p u) 1 (length (beginnings (accepted_in h))) none u n.0 n.1)
 
-  unfound_other : (p : ℕ → Bool) (t : ℕ) → find (λ u. not (u == t) && (is_update (accepted_in h) u && p u)) (numbers (accepted_in h)) ≡ None → (u : ℕ) → (u ≡ t → ⊥) → is_update (accepted_in h) u ≡ true → p u ≡ false
+  unfound_other : (p : ℕ → Bool) (t : ℕ) → find (λ u. not (u == t) && (is_update (accepted_in h) u && p u)) (txn_numbers (accepted_in h)) ≡ None → (u : ℕ) → (u ≡ t → ⊥) → is_update (accepted_in h) u ≡ true → p u ≡ false
   unfound_other p t none u other update =
       let n = begun_in_range (accepted_in h) u (update_begun (accepted_in h) u update) in
       and_right_false (is_update (accepted_in h) u) (p u) update
@@ -235,8 +235,8 @@ module _ (d : Distance) (h : Schedule) (P : Trace → (ℕ → ℕ) → Type 0) 
       charge : ℕ → Option Charge
       charge = charge_of_write (distance_in d h) h.opening (accepted_in h) t.0 x.0 v
 
-      listed : due_in d h (Write t x v) ≡ filter_map charge (numbers (accepted_in h))
-      listed = ap (λ b. if b then filter_map charge (numbers (accepted_in h)) else []) update
+      listed : due_in d h (Write t x v) ≡ filter_map charge (txn_numbers (accepted_in h))
+      listed = ap (λ b. if b then filter_map charge (txn_numbers (accepted_in h)) else []) update
 
       paid : (q : ℕ) → Active (trace h) q → query_in (trace h) q ≡ true → read_count_in (trace h) x.0 q * distance_in d h x.0 v (current_in (value_at h.opening) (trace h) x.0) ≤ import_in (due_in d h (Write t x v)) q
       paid q a query =
@@ -245,10 +245,10 @@ module _ (d : Distance) (h : Schedule) (P : Trace → (ℕ → ℕ) → Type 0) 
             | inl did ↦
                 let n = begun_in_range (accepted_in h) q a.begun in
                 let held : holds_read (accepted_in h) q x.0 ≡ true = and_from (is_active (accepted_in h) q) (list_any (reads q x.0) (accepted_in h)) (trace_active h q a) did in
-                amount_listed charge (record { query = q; update = t.0; amount = reads_of (accepted_in h) q x.0 * distance_in d h x.0 v (current_value h.opening (accepted_in h) x.0) }) q 1 (length (beginnings (accepted_in h)))
+                amount_listed charge (record { query = q; update = t.0; amount = read_count (accepted_in h) q x.0 * distance_in d h x.0 v (current_value h.opening (accepted_in h) x.0) }) q 1 (length (beginnings (accepted_in h)))
                 (rw (query, held) refl) refl n.0 n.1
             | inr not_did ↦
-                let none : reads_of (accepted_in h) q x.0 ≡ 0 = count_none (reads q x.0) (accepted_in h) not_did in
+                let none : read_count (accepted_in h) q x.0 ≡ 0 = count_none (reads q x.0) (accepted_in h) not_did in
                 rw none (omega arith)
           ])
 

@@ -4,7 +4,7 @@ use Rattle.std.specs.List.{filter_map, AllByRecursion}
 use Rattle.std.proofs.lemmas.Bool.{false≢true, ne_eqb, and_parts}
 use Rattle.std.proofs.lemmas.List.Sums.{sum_by-cons}
 use Rattle.std.proofs.lemmas.Option.{same_Some}
-use Rattle.esr_history.specs.Events.{Beginning, beginning, numbers, is_query, is_update, reads_of, holds_read, current_value, Event, Read, Write}
+use Rattle.esr_history.specs.Events.{Beginning, beginning, txn_numbers, is_query, is_update, read_count, holds_read, current_value, Event, Read, Write}
 use Rattle.esr_history.specs.Machine.{Charge, due, charges, charges_after, charge_of_write, import_in, export_in}
 use Rattle.esr_history.proofs.Orderly.{beginning-push, is_update-push}
 use Rattle.esr_history.proofs.Lists.{find_some, Each-filter_map}
@@ -36,13 +36,13 @@ due_kinds d opening events (Write u x v) = write (is_update events u.0) refl
     yields : is_update events u.0 ≡ true → (q : ℕ) (c : Charge) → charge_of_write d opening events u.0 x.0 v q ≡ Some c → IsOfKinds events c
     yields is q c got = at (is_query events q && holds_read events q x.0) refl got
       where
-        at : (b : Bool) → (is_query events q && holds_read events q x.0) ≡ b → (if b then Some (record { query = q; update = u.0; amount = reads_of events q x.0 * d x.0 v (current_value opening events x.0) }) else None) ≡ Some c → IsOfKinds events c
+        at : (b : Bool) → (is_query events q && holds_read events q x.0) ≡ b → (if b then Some (record { query = q; update = u.0; amount = read_count events q x.0 * d x.0 v (current_value opening events x.0) }) else None) ≡ Some c → IsOfKinds events c
         at true both got' = grind (arith, same_Some, and_parts (is_query events q) (holds_read events q x.0) both)
         at false both got' = absurd (cc)
 
-    write : (b : Bool) → is_update events u.0 ≡ b → AllByRecursion (IsOfKinds events) (if b then filter_map (charge_of_write d opening events u.0 x.0 v) (numbers events) else [])
+    write : (b : Bool) → is_update events u.0 ≡ b → AllByRecursion (IsOfKinds events) (if b then filter_map (charge_of_write d opening events u.0 x.0 v) (txn_numbers events) else [])
     write false is = tt
-    write true is = Each-filter_map (IsOfKinds events) (charge_of_write d opening events u.0 x.0 v) (yields is) (numbers events)
+    write true is = Each-filter_map (IsOfKinds events) (charge_of_write d opening events u.0 x.0 v) (yields is) (txn_numbers events)
 due_kinds d opening events _ = tt
 
 charges_kinds_after : (d : ℕ → ℤ → ℤ → ℕ) (opening : List ℤ) (before later : List Event) → AllByRecursion (IsOfKinds (before ++ later)) (charges_after d opening before later)

@@ -5,7 +5,7 @@ use Rattle.std.proofs.lemmas.Bool.{cases_Bool, true≢false, leb-false, leb-true
 use Rattle.std.proofs.lemmas.List.Elements.{All-from_recursion, recursion_from_All}
 use Rattle.std.proofs.lemmas.List.Sums.{sum_by-append, sum_by-cons}
 use Rattle.esr_items.specs.Values.{value_at, IsValue, is_value}
-use Rattle.esr_history.specs.Events.{Beginning, beginning, beginnings, beginning_of, is_query, is_update, is_active, is_refusal, reads_any, all_reads_of, current_value, Event, BeginUpdate, BeginQuery, Read, Write, Commit, Abort, Reply, Refused, Refusal, NoSuchItem, ValueOutOfRange, TooManyTransactions, TooManyReads}
+use Rattle.esr_history.specs.Events.{Beginning, beginning, beginnings, beginning_of, is_query, is_update, is_active, is_refusal, reads_any, total_read_count, current_value, Event, BeginUpdate, BeginQuery, Read, Write, Commit, Abort, Reply, Refused, Refusal, NoSuchItem, ValueOutOfRange, TooManyTransactions, TooManyReads}
 use Rattle.esr_history.specs.Machine.{Distance, Schedule, accepted_in, extended, reply_to, reasons, refusal, acceptance, answered, IsLegal, no_item}
 use Rattle.esr_history.specs.Legal.{legal_induction}
 use Rattle.esr_history.specs.Operations.{Operation, operation_by, operations}
@@ -31,7 +31,7 @@ after_writes-range v (w ∷ ws) first all = after_writes-range w.value ws (all w
 -- the counts and ranges, in a form that suits induction
 record InRanges (h : Schedule) : Type 0 where
   begins : length (beginnings (accepted_in h)) ≤ 65535
-  reads : (t : ℕ) → is_update (accepted_in h) t ≡ false → all_reads_of (accepted_in h) t ≤ 1000
+  reads : (t : ℕ) → is_update (accepted_in h) t ≡ false → total_read_count (accepted_in h) t ≤ 1000
   values : AllByRecursion IsValue h.opening → (o : Operation) → In o (operations h) → IsValue o.value
   items : (o : Operation) → In o (operations h) → o.item < length h.opening
 
@@ -40,17 +40,17 @@ module _ (d : Distance) (h : Schedule) (was : InRanges h) where
   current-range opened x =
       grind (arith, current_trace h x, after_writes-range, filter, writes_item, is_among, trace h, value_at-range h.opening x opened, In-of_filter)
 
-  reads-push : (e : Event) (t : ℕ) → all_reads_of (accepted_in h ++ e ∷ []) t ≡ all_reads_of (accepted_in h) t + cond (reads_any t e) 1 0
+  reads-push : (e : Event) (t : ℕ) → total_read_count (accepted_in h ++ e ∷ []) t ≡ total_read_count (accepted_in h) t + cond (reads_any t e) 1 0
   reads-push e t =
       let one : count_by (reads_any t) (e ∷ []) ≡ cond (reads_any t e) 1 0 + 0 = sum_by-cons (λ f. cond (reads_any t f) 1 0) e [] in
-      sum_by-append (λ f. cond (reads_any t f) 1 0) (accepted_in h) (e ∷ []) ∙ (ap (λ n. all_reads_of (accepted_in h) t + n) one ∙ omega arith)
+      sum_by-append (λ f. cond (reads_any t f) 1 0) (accepted_in h) (e ∷ []) ∙ (ap (λ n. total_read_count (accepted_in h) t + n) one ∙ omega arith)
 
   -- a transaction that is not an update after an event was not one before
   no_update_before : (e : Event) (t : ℕ) → is_update (accepted_in h ++ e ∷ []) t ≡ false → is_update (accepted_in h) t ≡ false
   no_update_before e t fails = false_from_ne_true (is_update (accepted_in h) t) (λ is. true≢false (sym (is_update-push (accepted_in h) e t is) ∙ fails))
 
   -- an event that begins and reads nothing
-  fewer_reads : (e : Event) → ((t : ℕ) → reads_any t e ≡ false) → (t : ℕ) → is_update (accepted_in h ++ e ∷ []) t ≡ false → all_reads_of (accepted_in h ++ e ∷ []) t ≤ 1000
+  fewer_reads : (e : Event) → ((t : ℕ) → reads_any t e ≡ false) → (t : ℕ) → is_update (accepted_in h ++ e ∷ []) t ≡ false → total_read_count (accepted_in h ++ e ∷ []) t ≤ 1000
   fewer_reads e none t fails = grind (arith, no_update_before e t fails, reads-push e t)
 
   same_begins : (e : Event) → beginning_of e ≡ None → length (beginnings (accepted_in h ++ e ∷ [])) ≤ 65535
@@ -58,7 +58,7 @@ module _ (d : Distance) (h : Schedule) (was : InRanges h) where
 
   -- after an accepted event
   about : (e : Event) (r : Reply) → is_refusal r ≡ false → length (beginnings (accepted_in h ++ e ∷ [])) ≤ 65535
-      → ((t : ℕ) → is_update (accepted_in h ++ e ∷ []) t ≡ false → all_reads_of (accepted_in h ++ e ∷ []) t ≤ 1000)
+      → ((t : ℕ) → is_update (accepted_in h ++ e ∷ []) t ≡ false → total_read_count (accepted_in h ++ e ∷ []) t ≤ 1000)
       → ((o : Operation) → In o (cons_option (operation_by e r) []) → (AllByRecursion IsValue h.opening → IsValue o.value) × (o.item < length h.opening)) → InRanges (extended h e r)
   about e r is begins reads new =
       let events : accepted_in (extended h e r) ≡ accepted_in h ++ e ∷ [] = done-accepted h e r is in
@@ -100,19 +100,19 @@ module _ (d : Distance) (h : Schedule) (was : InRanges h) where
       act : is_active (accepted_in h) t.0 ≡ true
       act = not_ended h t.0 (read_allowed d h t x none).active
 
-      capacity_left : is_query (accepted_in h) t.0 ≡ true → all_reads_of (accepted_in h) t.0 < 1000
-      capacity_left query = leb-false 1000 (all_reads_of (accepted_in h) t.0) (sym (ap (λ b. b && nat_le 1000 (all_reads_of (accepted_in h) t.0)) query) ∙ when_none (is_query (accepted_in h) t.0 && nat_le 1000 (all_reads_of (accepted_in h) t.0)) TooManyReads (read_allowed d h t x none).few)
+      capacity_left : is_query (accepted_in h) t.0 ≡ true → total_read_count (accepted_in h) t.0 < 1000
+      capacity_left query = leb-false 1000 (total_read_count (accepted_in h) t.0) (sym (ap (λ b. b && nat_le 1000 (total_read_count (accepted_in h) t.0)) query) ∙ when_none (is_query (accepted_in h) t.0 && nat_le 1000 (total_read_count (accepted_in h) t.0)) TooManyReads (read_allowed d h t x none).within_max)
 
-      reads : (u : ℕ) → is_update (accepted_in h ++ Read t x ∷ []) u ≡ false → all_reads_of (accepted_in h ++ Read t x ∷ []) u ≤ 1000
+      reads : (u : ℕ) → is_update (accepted_in h ++ Read t x ∷ []) u ≡ false → total_read_count (accepted_in h ++ Read t x ∷ []) u ≤ 1000
       reads u fails =
           let before : is_update (accepted_in h) u ≡ false = no_update_before (Read t x) u fails in
           rw (reads-push (Read t x) u)
           (elim (cases_Bool (t.0 == u)) [
             | inl own ↦
-                let below : all_reads_of (accepted_in h) u < 1000 = subst (λ w. all_reads_of (accepted_in h) w < 1000) (eqb-true t.0 u own) (capacity_left (query_from (beginning (accepted_in h) t.0) (active_parts (accepted_in h) t.0 act).0 (subst (λ w. is_update (accepted_in h) w ≡ false) (sym (eqb-true t.0 u own)) before))) in
+                let below : total_read_count (accepted_in h) u < 1000 = subst (λ w. total_read_count (accepted_in h) w < 1000) (eqb-true t.0 u own) (capacity_left (query_from (beginning (accepted_in h) t.0) (active_parts (accepted_in h) t.0 act).0 (subst (λ w. is_update (accepted_in h) w ≡ false) (sym (eqb-true t.0 u own)) before))) in
                 rw own (omega arith)
             | inr other ↦
-                let low : all_reads_of (accepted_in h) u ≤ 1000 = was.reads u before in
+                let low : total_read_count (accepted_in h) u ≤ 1000 = was.reads u before in
                 rw other (omega arith)
           ])
         where

@@ -7,7 +7,7 @@ use Rattle.std.proofs.lemmas.List.{map-append}
 use Rattle.std.proofs.lemmas.List.Sums.{sum_by-cons}
 use mathlib.Core.Bool.{and_comm}
 use Rattle.esr_items.specs.Values.{value_at}
-use Rattle.esr_history.specs.Events.{is_refusal, beginning, is_active, is_committed, is_aborted, reads, writes, reads_of, written, last_value, committed_value, current_value, Beginning, is_query, is_update, Event, BeginUpdate, BeginQuery, Read, Write, Commit, Abort, Reply, Entry}
+use Rattle.esr_history.specs.Events.{is_refusal, beginning, is_active, is_committed, is_aborted, reads, writes, read_count, written, last_value, committed_value, current_value, Beginning, is_query, is_update, Event, BeginUpdate, BeginQuery, Read, Write, Commit, Abort, Reply, Entry}
 use Rattle.esr_history.specs.Machine.{Schedule, accepted_in}
 use Rattle.esr_history.specs.Operations.{Operation, operation_by, operation_of, operations, commit_order, answer}
 use Rattle.esr_history.specs.Serial.{values_by, state}
@@ -96,7 +96,7 @@ module _ (h : Schedule) where
   pub read_trace : (t x : ℕ) → list_any (reads t x) (accepted_in h) ≡ list_any (read_item_by x t) (operations h)
   read_trace t x = grind (arith, any_kept, filter accepts h.entries)
 
-  pub reads_trace : (t x : ℕ) → reads_of (accepted_in h) t x ≡ read_count_in (trace h) x t
+  pub reads_trace : (t x : ℕ) → read_count (accepted_in h) t x ≡ read_count_in (trace h) x t
   reads_trace t x = read_kept t x (filter accepts h.entries)
 
   pub committed_trace : (x : ℕ) → committed_value h.opening (accepted_in h) x ≡ committed_in (value_at h.opening) (trace h) x

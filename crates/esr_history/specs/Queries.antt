@@ -52,7 +52,7 @@ ImportBoundsDistance d h =
 
 -- Two histories agree on the data of the audit of q: its updates, those that it must see, their order, the cost of each
 -- set, and the import.
-pub record IsAlike (d : Distance) (h longer : Schedule) (q : ℕ) : Type 0 where
+pub record HasSameAudit (d : Distance) (h longer : Schedule) (q : ℕ) : Type 0 where
   pub committed : is_committed_query longer q ≡ is_committed_query h q
   pub updates : updates_of longer q ≡ updates_of h q
   pub musts : must longer q ≡ must h q

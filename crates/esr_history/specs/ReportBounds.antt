@@ -1,7 +1,7 @@
 -- The reads of an active query, over any number of histories, and their distance from the values that the items have
 -- now.
 use Rattle.std.specs.Prelude.{◌≡◌, ℕ, ℤ, ◌+◌, ◌≤◌, ◌⊎◌, Bool, not, ◌&&◌, ◌==◌, IsTrue, List, ◌++◌, filter, count_by, sum_by}
-use Rattle.esr_history.specs.Events.{is_query, is_active, reads_of, committed_value, current_value, Entry}
+use Rattle.esr_history.specs.Events.{is_query, is_active, read_count, committed_value, current_value, Entry}
 use Rattle.esr_history.specs.Machine.{Distance, Schedule, accepted_in, distance_in, charges_in, import_in, IsLegal}
 use Rattle.esr_history.specs.Legal.{along}
 use Rattle.esr_history.specs.Operations.{Operation, operations_in}
@@ -36,7 +36,7 @@ distance_of_reads d h read_ops w = sum_by (λ o. distance_in d h o.item o.value 
 -- of every mixture. They may be of earlier histories: those of this one say only which items, and how often.
 pub record AreReadsWithinBound (d : Distance) (h : Schedule) (q : ℕ) (read_ops : List Operation) (bound : ℕ) : Type 0 where
   pub active : IsTrue (is_active_query h q)
-  pub held : (x : ℕ) → count_by (λ o. o.item == x) read_ops ≤ reads_of (accepted_in h) q x
+  pub held : (x : ℕ) → count_by (λ o. o.item == x) read_ops ≤ read_count (accepted_in h) q x
   pub within : (w : ℕ → ℤ) → IsMixture h w → distance_of_reads d h read_ops w ≤ bound
 
 -- the reads of q in further entries

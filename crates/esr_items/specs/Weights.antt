@@ -4,7 +4,7 @@ use Rattle.std.proofs.lemmas.Bool.Decides.{nat_tests}
 use Rattle.std.proofs.Math.Nat.{mul-add, mul-zero, mul-le-mul, mul-le-mul_left, eq_of_mul-eq-mul_left}
 use Rattle.esr_base.specs.declared.limits.TheConstants.{MAX_WEIGHT}
 use Rattle.esr_items.specs.Values.{gap, IsValue, max_distance}
-use Rattle.esr_items.specs.Gaps.{gap-zero, gap-same, gap_comm, gap-triangle, gap-most}
+use Rattle.esr_items.specs.Gaps.{gap-zero, gap-same, gap_comm, gap-triangle, gap-upper_bound}
 
 -- a weight that an item may have
 abbrev pub IsWeight : ℕ → Type 0
@@ -31,8 +31,8 @@ weighted weights x a b = weight_of weights x * gap a b
 pub weight-least : (w : ℕ) → 1 ≤ weight_or_one w
 weight-least w = grind (arith, nat_tests)
 
-pub weight-most : (w : ℕ) → weight_or_one w ≤ MAX_WEIGHT
-weight-most w = grind (arith, nat_tests)
+pub weight-upper_bound : (w : ℕ) → weight_or_one w ≤ MAX_WEIGHT
+weight-upper_bound w = grind (arith, nat_tests)
 
 pub weighted-zero : (weights : List ℕ) (x : ℕ) (a b : ℤ) → weighted weights x a b ≡ 0 → a ≡ b
 weighted-zero weights x a b h =
@@ -51,9 +51,9 @@ pub weighted-triangle : (weights : List ℕ) (x : ℕ) (a b c : ℤ)
 weighted-triangle weights x a b c =
     let w = weight_of weights x in
     let apart : w * (gap a b + gap b c) ≡ w * gap a b + w * gap b c = mul-add w (gap a b) (gap b c) in
-    let most : w * gap a c ≤ w * (gap a b + gap b c) = mul-le-mul_left w (gap-triangle a b c) in
-    omega (arith, apart, most)
+    let upper_bound : w * gap a c ≤ w * (gap a b + gap b c) = mul-le-mul_left w (gap-triangle a b c) in
+    omega (arith, apart, upper_bound)
 
 pub weighted-bounded : (weights : List ℕ) (x : ℕ) (a b : ℤ) → IsValue a → IsValue b
     → weighted weights x a b ≤ max_distance
-weighted-bounded weights x a b ha hb = mul-le-mul (weight-most (slice_index_or weights x 1)) (gap-most a b ha hb)
+weighted-bounded weights x a b ha hb = mul-le-mul (weight-upper_bound (slice_index_or weights x 1)) (gap-upper_bound a b ha hb)

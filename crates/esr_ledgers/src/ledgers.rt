@@ -47,7 +47,7 @@ impl Model for Ledgers {
 /// Returns the sum of some charges.
 fn total_charge(charges: &[(TxnId, u64)]) -> u128
     ensures sum { result ≡ total_of charges.now }
-    ensures most { result < 2 ^ 127 }
+    ensures upper_bound { result < 2 ^ 127 }
 {
     let mut total: u128 = 0;
     for charge in charges {
@@ -60,7 +60,7 @@ fn total_charge(charges: &[(TxnId, u64)]) -> u128
 fn passes(accounts: &[Account], t: TxnId, amount: u128) -> bool
     requires ascending { IsAscendingBy number accounts.now }
     requires open { is_open accounts.now t.0 ≡ true }
-    requires most { amount < 2 ^ 127 }
+    requires upper_bound { amount < 2 ^ 127 }
     ensures { result ≡ would_pass accounts.now t.0 amount }
 {
     let account = find_account(accounts, t);

@@ -13,11 +13,11 @@ mod answer;
 mod forms;
 mod kept_line;
 mod listing;
-mod near;
 mod notes;
 mod observer;
 mod place;
 mod reason;
+mod relevant;
 mod reporter;
 
 pub use answer::{FaultyLine, fault_of, is_error};

@@ -5,7 +5,7 @@
 //! command has one spelling, and the parser only rejects all others.
 
 use crate::forms::{CommandSyntax, Slot, first_words, form_of};
-use crate::near::nearest;
+use crate::relevant::nearest;
 use std::fmt;
 
 /// The faults of a number.
@@ -148,8 +148,8 @@ fn name_fault(word: &[u8]) -> Option<Reason<'_>> {
     }
 }
 
-/// Returns the fault of digits, of which at most `most` are permitted.
-fn digits_fault(digits: &[u8], most: usize) -> Option<NumberFault> {
+/// Returns the fault of digits, of which at most `upper_bound` are permitted.
+fn digits_fault(digits: &[u8], upper_bound: usize) -> Option<NumberFault> {
     if digits.is_empty() {
         return Some(NumberFault::NoNumber);
     }
@@ -163,8 +163,8 @@ fn digits_fault(digits: &[u8], most: usize) -> Option<NumberFault> {
     }
     if digits.len() > 1 && digits.starts_with(b"0") {
         Some(NumberFault::LeadingZero)
-    } else if digits.len() > most {
-        Some(NumberFault::TooLong(most))
+    } else if digits.len() > upper_bound {
+        Some(NumberFault::TooLong(upper_bound))
     } else {
         None
     }
@@ -364,7 +364,10 @@ impl fmt::Display for NumberFault {
                 "has a fraction; only integers are allowed (use a smaller unit, such as cents)",
             ),
             NumberFault::Separator => f.write_str("has a digit separator; write digits only"),
-            NumberFault::TooLong(most) => write!(f, "has too many digits (maximum {most})"),
+            NumberFault::TooLong(upper_bound) => write!(
+                f,
+                "has too many digits (maximum {upper_bound})"
+            ),
             NumberFault::NoNumber => f.write_str("is not an integer"),
         }
     }

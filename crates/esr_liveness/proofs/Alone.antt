@@ -9,7 +9,7 @@ use Rattle.esr_history.specs.declared.event.Refusal.{Refusal}
 use Rattle.esr_history.specs.declared.event.Refusal.TheVariants.{NoSuchTransaction, AlreadyEnded, NoSuchItem, QueryMayNotWrite, ValueOutOfRange, TooManyReads}
 use Rattle.esr_items.specs.Values.{is_value}
 use Rattle.esr_base.specs.declared.limits.TheConstants.{MAX_READS}
-use Rattle.esr_history.specs.Events.{Beginning, all_reads_of, beginning, is_active, is_begun, is_query, is_update, numbers, reads, writes}
+use Rattle.esr_history.specs.Events.{Beginning, total_read_count, beginning, is_active, is_begun, is_query, is_update, txn_numbers, reads, writes}
 use Rattle.esr_history.specs.Machine.{Distance, Schedule, accepted_in, acceptance, blocked_by, charge_of_write, distance_in, due_in, export_full, import_full, read_blocked, reasons, reply_to, write_blocked}
 use Rattle.std.specs.List.{list_any}
 use Rattle.std.specs.Prelude.{length, nat_le}
@@ -59,13 +59,13 @@ module _ (d : Distance) (h : Schedule) (t : TxnId) (x : ItemId) (update : is_upd
   unread =
       rw not_query
       (ap blocked_by
-      (find_fails (has_written (accepted_in h) t.0 x.0) (numbers (accepted_in h))
+      (find_fails (has_written (accepted_in h) t.0 x.0) (txn_numbers (accepted_in h))
       (λ u. no_write (not (u == t.0)) (is_update (accepted_in h) u) (is_active (accepted_in h) u) (list_any (writes u x.0) (accepted_in h)) (inactive u))))
 
   unwritten : write_blocked h t.0 x.0 ≡ None
   unwritten =
       ap blocked_by
-      (find_fails (has_locked (accepted_in h) t.0 x.0) (numbers (accepted_in h))
+      (find_fails (has_locked (accepted_in h) t.0 x.0) (txn_numbers (accepted_in h))
       (λ u. no_lock (not (u == t.0)) (is_update (accepted_in h) u) (is_active (accepted_in h) u) (list_any (reads u x.0) (accepted_in h)) (list_any (writes u x.0) (accepted_in h)) (inactive u)))
 
   read_free : due_in d h (Read t x) ≡ []
@@ -74,7 +74,7 @@ module _ (d : Distance) (h : Schedule) (t : TxnId) (x : ItemId) (update : is_upd
   write_free : (v : ℤ) → due_in d h (Write t x v) ≡ []
   write_free v =
       rw update
-      (filter_map_none (charge_of_write (distance_in d h) h.opening (accepted_in h) t.0 x.0 v) (numbers (accepted_in h))
+      (filter_map_none (charge_of_write (distance_in d h) h.opening (accepted_in h) t.0 x.0 v) (txn_numbers (accepted_in h))
       (λ q. no_charge (is_query (accepted_in h) q) (is_active (accepted_in h) q) (list_any (reads q x.0) (accepted_in h)) _ (λ active. subst (λ u. is_query (accepted_in h) u ≡ false) (sym (alone q active)) not_query)))
 
   no_one : (r : Option Refusal) → r ≡ None → Names (λ u. ⊥) r
@@ -89,7 +89,7 @@ module _ (d : Distance) (h : Schedule) (t : TxnId) (x : ItemId) (update : is_upd
           (
             names_none (λ u. ⊥) (nat_le (length h.opening) x.0) NoSuchItem refl,
             (
-              names_none (λ u. ⊥) (is_query (accepted_in h) t.0 && nat_le MAX_READS (all_reads_of (accepted_in h) t.0)) TooManyReads refl,
+              names_none (λ u. ⊥) (is_query (accepted_in h) t.0 && nat_le MAX_READS (total_read_count (accepted_in h) t.0)) TooManyReads refl,
               (
                 no_one (read_blocked h t.0 x.0) unread,
                 (

@@ -12,7 +12,7 @@ use Rattle.esr_history.specs.declared.event.Event.TheVariants.{BeginUpdate, Begi
 use Rattle.esr_history.specs.declared.event.Refusal.{Refusal}
 use Rattle.esr_history.specs.declared.event.Refusal.TheVariants.{NoSuchTransaction, AlreadyEnded, NoSuchItem, QueryMayNotWrite, ValueOutOfRange, LimitOutOfRange, TooManyReads, TooManyTransactions, BlockedByLock, BlockedByImport, BlockedByExport}
 use Rattle.esr_history.specs.declared.event.Reply.{Reply}
-use Rattle.esr_history.specs.Events.{all_reads_of, beginnings, is_active, is_begun, is_query, is_update, holds_read, holds_write, numbers, reads, writes}
+use Rattle.esr_history.specs.Events.{total_read_count, beginnings, is_active, is_begun, is_query, is_update, holds_read, holds_write, txn_numbers, reads, writes}
 use Rattle.esr_history.specs.Machine.{Distance, Schedule, Charge, accepted_in, acceptance, answered, blocked_by, charge_of_read, charge_of_write, distance_in, due_in, export_full, first_reason, import_full, read_blocked, reasons, when, write_blocked, writer}
 use Rattle.esr_history.specs.Refusals.{refusal_blocker}
 use Rattle.esr_history.proofs.Lists.{Each-filter_map, find_some}
@@ -73,14 +73,14 @@ module _ (d : Distance) (h : Schedule) where
   due_of_read : (t : TxnId) (x : ItemId) → Active t.0 → AllByRecursion AreOpen (due_in d h (Read t x))
   due_of_read t x active =
       elim (cases_Bool (is_query (accepted_in h) t.0)) [
-        | inl passes ↦ rw passes (read_charges t.0 x.0 active (writer (accepted_in h) x.0) (λ u found. held_write u x.0 (find_some (λ w. is_update (accepted_in h) w && holds_write (accepted_in h) w x.0) (numbers (accepted_in h)) u found)))
+        | inl passes ↦ rw passes (read_charges t.0 x.0 active (writer (accepted_in h) x.0) (λ u found. held_write u x.0 (find_some (λ w. is_update (accepted_in h) w && holds_write (accepted_in h) w x.0) (txn_numbers (accepted_in h)) u found)))
         | inr fails ↦ rw fails tt
       ]
 
   due_of_write : (t : TxnId) (x : ItemId) (v : ℤ) → Active t.0 → AllByRecursion AreOpen (due_in d h (Write t x v))
   due_of_write t x v active =
       elim (cases_Bool (is_update (accepted_in h) t.0)) [
-        | inl passes ↦ rw passes (Each-filter_map AreOpen (charge_of_write (distance_in d h) h.opening (accepted_in h) t.0 x.0 v) (write_charges t.0 x.0 v active) (numbers (accepted_in h)))
+        | inl passes ↦ rw passes (Each-filter_map AreOpen (charge_of_write (distance_in d h) h.opening (accepted_in h) t.0 x.0 v) (write_charges t.0 x.0 v active) (txn_numbers (accepted_in h)))
         | inr fails ↦ rw fails tt
       ]
 
@@ -94,10 +94,10 @@ module _ (d : Distance) (h : Schedule) where
       names_found IsOpen (λ (c : Charge). BlockedByExport (record { 0 = c.update })) (λ c. record { 0 = c.update }) (λ c. refl) (find _ cs)
       (λ c found. (find_each AreOpen _ cs c all found).1)
 
-  names_holder : (p : ℕ → Bool) → ((u : ℕ) → p u ≡ true → Active u) → Names IsOpen (blocked_by (find p (numbers (accepted_in h))))
+  names_holder : (p : ℕ → Bool) → ((u : ℕ) → p u ≡ true → Active u) → Names IsOpen (blocked_by (find p (txn_numbers (accepted_in h))))
   names_holder p has =
-      names_found IsOpen (λ (u : ℕ). BlockedByLock (record { 0 = u })) (λ u. record { 0 = u }) (λ u. refl) (find p (numbers (accepted_in h)))
-      (λ u found. has u (find_some p (numbers (accepted_in h)) u found))
+      names_found IsOpen (λ (u : ℕ). BlockedByLock (record { 0 = u })) (λ u. record { 0 = u }) (λ u. refl) (find p (txn_numbers (accepted_in h)))
+      (λ u found. has u (find_some p (txn_numbers (accepted_in h)) u found))
 
   names_reader : (t x : ℕ) → Names IsOpen (read_blocked h t x)
   names_reader t x =
@@ -140,7 +140,7 @@ law_of_blockers d h (Read t x) u is =
     (λ active. (
       names_none (IsOpen d h) (nat_le (length h.opening) x.0) NoSuchItem refl,
       (
-        names_none (IsOpen d h) (is_query (accepted_in h) t.0 && nat_le MAX_READS (all_reads_of (accepted_in h) t.0)) TooManyReads refl,
+        names_none (IsOpen d h) (is_query (accepted_in h) t.0 && nat_le MAX_READS (total_read_count (accepted_in h) t.0)) TooManyReads refl,
         (
           names_reader d h t.0 x.0,
           (

@@ -9,7 +9,7 @@ use Rattle.esr_history.specs.declared.event.Refusal.{Refusal}
 use Rattle.esr_history.specs.declared.event.Refusal.TheVariants.{NoSuchTransaction, AlreadyEnded}
 use Rattle.esr_history.specs.declared.event.Reply.{Reply}
 use Rattle.esr_history.specs.declared.event.Reply.TheVariants.{Aborted, Committed}
-use Rattle.esr_history.specs.Events.{Beginning, aborts, beginning, beginning_of, beginnings, commits, is_aborted, is_active, is_begun, is_committed, is_query, is_refusal, is_update, numbers, reads, writes}
+use Rattle.esr_history.specs.Events.{Beginning, aborts, beginning, beginning_of, beginnings, commits, is_aborted, is_active, is_begun, is_committed, is_query, is_refusal, is_update, txn_numbers, reads, writes}
 use Rattle.esr_history.specs.Machine.{Schedule, accepted_in, answered, extended, first_reason, when}
 use Rattle.esr_history.proofs.Lawful.{done-accepted}
 use Rattle.esr_history.proofs.Lists.{any_push, any_push_no, filter_map_push_none}
@@ -124,12 +124,12 @@ module _ (events : List Event) (end : Event) (u : ℕ) (is : Ends u end) where
       ∙ (ap (λ m. other && (is_update events w && (((is_active events w && not (u == w)) && list_any (reads w x) events) || ((is_active events w && not (u == w)) && m)))) (same_writes w x)
       ∙ lock_without other (is_update events w) (is_active events w) (not (u == w)) (list_any (reads w x) events) (list_any (writes w x) events))))
 
-  same_numbers : numbers later ≡ numbers events
+  same_numbers : txn_numbers later ≡ txn_numbers events
   same_numbers = ap (λ bs. range_with_len 1 (length bs)) same_beginnings
 
   -- the holders left are those before, without u
-  left : (p q : ℕ → Bool) → ((w : ℕ) → q w ≡ (p w && not (u == w))) → filter q (numbers later) ≡ filter (λ w. not (u == w)) (filter p (numbers events))
-  left p q same = ap (filter q) same_numbers ∙ filter_both p (λ w. not (u == w)) q (numbers events) same
+  left : (p q : ℕ → Bool) → ((w : ℕ) → q w ≡ (p w && not (u == w))) → filter q (txn_numbers later) ≡ filter (λ w. not (u == w)) (filter p (txn_numbers events))
+  left p q same = ap (filter q) same_numbers ∙ filter_both p (λ w. not (u == w)) q (txn_numbers events) same
 
   pub holders_left : (e : Event) → holders_against later e ≡ filter (λ w. not (u == w)) (holders_against events e)
   holders_left (Read t x) =

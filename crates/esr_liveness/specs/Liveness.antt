@@ -5,7 +5,7 @@ use Rattle.esr_history.specs.declared.event.Event.{Event}
 use Rattle.esr_history.specs.declared.event.Event.TheVariants.{Read, Write, Commit, Abort}
 use Rattle.esr_history.specs.declared.event.Reply.{Reply}
 use Rattle.esr_history.specs.declared.event.Reply.TheVariants.{Refused, Committed, Aborted}
-use Rattle.esr_history.specs.Events.{is_active, is_query, is_update, holds_read, holds_write, numbers}
+use Rattle.esr_history.specs.Events.{is_active, is_query, is_update, holds_read, holds_write, txn_numbers}
 use Rattle.esr_history.specs.Machine.{Distance, Schedule, accepted_in, extended, reply_to}
 use Rattle.esr_history.specs.Orderly.{names}
 use Rattle.esr_history.specs.Refusals.{refusal_blocker}
@@ -32,8 +32,8 @@ has_locked events t x u = not (u == t) && (is_update events u && (holds_read eve
 
 -- the lock holders in the way of an event, by ascending numbers
 abbrev pub holders_against : List Event → Event → List ℕ
-holders_against events (Read t x) = if is_query events t.0 then [] else filter (has_written events t.0 x.0) (numbers events)
-holders_against events (Write t x v) = filter (has_locked events t.0 x.0) (numbers events)
+holders_against events (Read t x) = if is_query events t.0 then [] else filter (has_written events t.0 x.0) (txn_numbers events)
+holders_against events (Write t x v) = filter (has_locked events t.0 x.0) (txn_numbers events)
 holders_against events _ = []
 
 abbrev pub LawOfBlockers : Type 0

@@ -12,7 +12,7 @@ use Rattle.esr_history.specs.ItemLocks.{ItemLocks}
 use Rattle.esr_history.proofs.Ascending.{any_placed}
 use Rattle.esr_history.proofs.Lists.{any_push, or_false}
 use Rattle.esr_locks.specs.Modes.{Mode, Read, Write, QueryRead}
-use Rattle.esr_locks.specs.Rows.{RowOf, LockedItemsOf, nothing_held, empty_row, row_at, held_at, IsTable, with_lock, has_lock_in_mode}
+use Rattle.esr_locks.specs.Rows.{RowOf, LockedItemsOf, nothing_held, empty_row, row_at, held_at, IsLockTable, with_lock, has_lock_in_mode}
 use Rattle.esr_locks.specs.Tables.{no_locks, locks_at, is_writer, is_reader, has_query_lock, has_lock, released, contains_item}
 
 -- the locks at an item, by the rows
@@ -48,13 +48,13 @@ read_row rows x row l is = is ∙ get_or_default rows x row empty_row l
 pub read_list : (held : List LockedItemsOf) (t : ℕ) (list : LockedItemsOf) → t < length held → list ≡ get_or held t list → list ≡ held_at held t
 read_list held t list l is = is ∙ get_or_default held t list nothing_held l
 
-module _ (rows : List RowOf) (held : List LockedItemsOf) (tab : IsTable rows held) (t x : ℕ) (inside : x < length rows) (row new : RowOf) (is : row ≡ get_or rows x row) where
+module _ (rows : List RowOf) (held : List LockedItemsOf) (tab : IsLockTable rows held) (t x : ℕ) (inside : x < length rows) (row new : RowOf) (is : row ≡ get_or rows x row) where
   lock_there : (more : (u : ℕ) → has_lock new.locks u ≡ true → (has_lock row.locks u ≡ true) ⊎ (t ≡ u)) → (u y : ℕ) → y < length (set rows x new) → has_lock (row_at (set rows x new) y).locks u ≡ true → (contains_item (held_at held u).items y ≡ true) ⊎ ((t ≡ u) × (x ≡ y))
   lock_there more u y l has =
       elim (cases_eq y x) [
         | inl e ↦
-            let there : has_lock new.locks u ≡ true = ap (λ (r : RowOf). has_lock r.locks u) (sym (get_or-set_same rows x new empty_row inside) ∙ ap (row_at (set rows x new)) (sym e)) ∙ has in
-            elim (more u there) [
+            let unchanged_if_present : has_lock new.locks u ≡ true = ap (λ (r : RowOf). has_lock r.locks u) (sym (get_or-set_same rows x new empty_row inside) ∙ ap (row_at (set rows x new)) (sym e)) ∙ has in
+            elim (more u unchanged_if_present) [
               | inl before ↦ inl (ap (contains_item (held_at held u).items) e ∙ tab.listed u x inside (ap (λ (r : RowOf). has_lock r.locks u) (sym (read_row rows x row inside is)) ∙ before))
               | inr same ↦ inr (same, sym e)
             ]
@@ -62,9 +62,9 @@ module _ (rows : List RowOf) (held : List LockedItemsOf) (tab : IsTable rows hel
       ]
 
   -- the item is added to the list of the transaction that took the lock
-  pub IsTable-push : (list : LockedItemsOf) → ((u : ℕ) → has_lock new.locks u ≡ true → (has_lock row.locks u ≡ true) ⊎ (t ≡ u)) → t < length held → (id : ItemId) → id.0 ≡ x → list.items ≡ (held_at held t).items ++ id ∷ []
-      → IsTable (set rows x new) (set held t list)
-  IsTable-push list more in_held id id_is list_is = record {
+  pub IsLockTable-push : (list : LockedItemsOf) → ((u : ℕ) → has_lock new.locks u ≡ true → (has_lock row.locks u ≡ true) ⊎ (t ≡ u)) → t < length held → (id : ItemId) → id.0 ≡ x → list.items ≡ (held_at held t).items ++ id ∷ []
+      → IsLockTable (set rows x new) (set held t list)
+  IsLockTable-push list more in_held id id_is list_is = record {
     within = λ u. elim (cases_eq u t) [
       | inl e ↦
           let inside_new : All (λ (i : ItemId). i.0 < length (set rows x new)) ((held_at held t).items ++ id ∷ []) =
@@ -88,8 +88,8 @@ module _ (rows : List RowOf) (held : List LockedItemsOf) (tab : IsTable rows hel
       keeps u y before = grind (arith, cases_eq u t, set held t list, at_t, any_push, or_left, get_or-set_other)
 
   -- the transaction that took the lock had one on the item
-  pub IsTable-already_locked : ((u : ℕ) → has_lock new.locks u ≡ true → (has_lock row.locks u ≡ true) ⊎ (t ≡ u)) → has_lock row.locks t ≡ true → IsTable (set rows x new) held
-  IsTable-already_locked more had = grind (arith, length-set, lock_there, read_row rows x row inside is)
+  pub IsLockTable-already_locked : ((u : ℕ) → has_lock new.locks u ≡ true → (has_lock row.locks u ≡ true) ⊎ (t ≡ u)) → has_lock row.locks t ≡ true → IsLockTable (set rows x new) held
+  IsLockTable-already_locked more had = grind (arith, length-set, lock_there, read_row rows x row inside is)
 
 -- a release changes nothing if the transaction has no lock
 list_any_none : {X : Type 0} (p : X → Bool) (xs : List X) → list_any p xs ≡ false → filter (λ x. not (p x)) xs ≡ xs
@@ -141,7 +141,7 @@ released_less t u l is =
     writer_less None h = absurd (false≢true h)
     writer_less (Some v) h = grind (arith, cases_Bool (v == t), false≢true)
 
-module _ (rows : List RowOf) (held : List LockedItemsOf) (tab : IsTable rows held) (t : ℕ) (rows_new : List RowOf) (held_new : List LockedItemsOf)
+module _ (rows : List RowOf) (held : List LockedItemsOf) (tab : IsLockTable rows held) (t : ℕ) (rows_new : List RowOf) (held_new : List LockedItemsOf)
     (len : length rows_new ≡ length rows)
     (locks : (x : ℕ) → x < length rows → (row_at rows_new x).locks ≡ (if contains_item (held_at held t).items x then released t (row_at rows x).locks else (row_at rows x).locks))
     (left : (u : ℕ) → (held_at held_new u).items ≡ (if t == u then [] else (held_at held u).items)) where
@@ -158,8 +158,8 @@ module _ (rows : List RowOf) (held : List LockedItemsOf) (tab : IsTable rows hel
       let l_old : x < length rows = rw (← len) l_new in
       locks_at-rows rows_new x l_new ∙ (every x l_old ∙ (ap (released t) (sym (locks_at-rows rows x l_old)) ∙ sym (get_or-map (released t) (map (λ r. r.locks) rows) x no_locks no_locks (simp length-map l_old)))))
 
-  pub IsTable-released : IsTable rows_new held_new
-  IsTable-released = grind (arith, cases_Bool, All-nil, every, false≢true, released_gone, eqb-true, released_less)
+  pub IsLockTable-released : IsLockTable rows_new held_new
+  IsLockTable-released = grind (arith, cases_Bool, All-nil, every, false≢true, released_gone, eqb-true, released_less)
 
 -- a row with the same locks
 pub set_same_row : (rows : List RowOf) (x : ℕ) (row new : RowOf) → row ≡ get_or rows x row → new.locks ≡ row.locks → map (λ r. r.locks) (set rows x new) ≡ map (λ r. r.locks) rows
@@ -185,10 +185,10 @@ capacity_of_list (h ∷ hs) zero new l = refl
 capacity_of_list (h ∷ hs) (suc t) new l = capacity_of_list hs t new (omega arith)
 
 -- the relation of the lists to the locks
-pub table_within : (rows : List RowOf) (held : List LockedItemsOf) → IsTable rows held → (t : ℕ) → All (λ (i : ItemId). i.0 < length (map (λ (r : RowOf). r.locks) rows)) (held_at held t).items
+pub table_within : (rows : List RowOf) (held : List LockedItemsOf) → IsLockTable rows held → (t : ℕ) → All (λ (i : ItemId). i.0 < length (map (λ (r : RowOf). r.locks) rows)) (held_at held t).items
 table_within rows held tab t = rw length-map (tab.within t)
 
-pub table_listed : (rows : List RowOf) (held : List LockedItemsOf) → IsTable rows held → (t x : ℕ) → x < length (map (λ (r : RowOf). r.locks) rows)
+pub table_listed : (rows : List RowOf) (held : List LockedItemsOf) → IsLockTable rows held → (t x : ℕ) → x < length (map (λ (r : RowOf). r.locks) rows)
     → has_lock (locks_at (map (λ (r : RowOf). r.locks) rows) x) t ≡ true → contains_item (held_at held t).items x ≡ true
 table_listed rows held tab t x l has =
     let inside : x < length rows = rw length-map at l in
@@ -201,8 +201,8 @@ past_lists (h ∷ held) zero l = absurd (omega arith)
 past_lists (h ∷ held) (suc t) l = past_lists held t (omega arith)
 
 -- rows with no locks
-pub IsTable-empty : (rows : List RowOf) (n : ℕ) → map (λ r. r.locks) rows ≡ map (λ x. no_locks) (range_with_len 0 n) → IsTable rows []
-IsTable-empty rows n is = record {
+pub IsLockTable-empty : (rows : List RowOf) (n : ℕ) → map (λ r. r.locks) rows ≡ map (λ x. no_locks) (range_with_len 0 n) → IsLockTable rows []
+IsLockTable-empty rows n is = record {
   within = λ t. subst (λ (ids : List ItemId). All (λ (i : ItemId). i.0 < length rows) ids) {x = []} (sym (past_lists [] t (omega arith))) (All-nil (λ (i : ItemId). i.0 < length rows));
   listed = λ t x l has.
       let m : x < n = omega (arith, length-map rows (λ (r : RowOf). r.locks), ap length is, length-map (range_with_len 0 n) (λ (y : ℕ). no_locks), length-range_with_len 0 n) in

@@ -19,7 +19,7 @@ pub record Reserves {T A E : Type 0} (old new : SmallVec T) (result : Result A E
   pub items : new.items ≡ old.items
   pub capacity : old.capacity ≤ new.capacity
   pub ok : OnOk result (HasRoomFor new 1)
-  pub full : OnErr result (¬ HasRoomFor old 1)
+  pub no_capacity : OnErr result (¬ HasRoomFor old 1)
   pub err : OnErr result (new ≡ old)
 
 -- an update as a reader
@@ -67,7 +67,7 @@ abbrev pub held_at : List LockedItemsOf → ℕ → LockedItemsOf
 held_at held t = slice_index_or held t nothing_held
 
 -- the items listed for a transaction are those on which it holds a lock, and perhaps more
-pub record IsTable (rows : List RowOf) (held : List LockedItemsOf) : Type 0 where
+pub record IsLockTable (rows : List RowOf) (held : List LockedItemsOf) : Type 0 where
   pub within : (t : ℕ) → All (λ i. i.0 < length rows) (held_at held t).items
   pub listed : (t x : ℕ) → x < length rows → has_lock (row_at rows x).locks t ≡ true
       → contains_item (held_at held t).items x ≡ true

@@ -157,7 +157,7 @@ fn add_among(readers: &mut Readers, t: TxnId) -> bool
     requires ascending { IsAscendingBy (λ r. r.update.0) readers.old.items }
     requires capacity_left { HasRoomFor readers.old 1 }
     ensures items { readers.new.items ≡ upserted (λ r. r.update.0) t.0 (reader t) (λ r. r) readers.old.items }
-    ensures fresh { result ≡ not (list_any (λ r. r.update.0 == t.0) readers.old.items) }
+    ensures is_new { result ≡ not (list_any (λ r. r.update.0 == t.0) readers.old.items) }
 {
     match place_of(readers, t) {
         Ok(_) => false,
@@ -174,7 +174,7 @@ pub fn add_reader(readers: &mut Readers, t: TxnId) -> bool
     requires ascending { IsAscendingBy (λ r. r.update.0) readers.old.items }
     requires capacity_left { HasRoomFor readers.old 1 }
     ensures items { readers.new.items ≡ upserted (λ r. r.update.0) t.0 (reader t) (λ r. r) readers.old.items }
-    ensures fresh { result ≡ not (list_any (λ r. r.update.0 == t.0) readers.old.items) }
+    ensures is_new { result ≡ not (list_any (λ r. r.update.0 == t.0) readers.old.items) }
 {
     if readers.is_empty() {
         readers.push_reserved(Reader { update: t });
@@ -187,11 +187,11 @@ pub fn add_reader(readers: &mut Readers, t: TxnId) -> bool
 pub fn count_read(queries: &mut Queries, q: TxnId) -> bool
     requires ascending { IsAscendingBy (λ r. r.query.0) queries.old.items }
     requires capacity_left { HasRoomFor queries.old 1 }
-    requires few { All (λ r. r.query.0 ≡ q.0 → r.count < MAX_READS) queries.old.items }
-    requires most { AllByRecursion (λ r. r.count ≤ MAX_READS) queries.old.items }
+    requires within_max { All (λ r. r.query.0 ≡ q.0 → r.count < MAX_READS) queries.old.items }
+    requires upper_bound { AllByRecursion (λ r. r.count ≤ MAX_READS) queries.old.items }
     ensures items { queries.new.items ≡ upserted (λ r. r.query.0) q.0 (first_reads q) more_reads queries.old.items }
-    ensures most { AllByRecursion (λ r. r.count ≤ MAX_READS) queries.new.items }
-    ensures fresh { result ≡ not (list_any (λ r. r.query.0 == q.0) queries.old.items) }
+    ensures upper_bound { AllByRecursion (λ r. r.count ≤ MAX_READS) queries.new.items }
+    ensures is_new { result ≡ not (list_any (λ r. r.query.0 == q.0) queries.old.items) }
 {
     match place_of(queries, q) {
         Ok(at) => {

@@ -44,7 +44,7 @@ impl LockedItems {
     pub fn reserve(&mut self) -> Result<(), AllocError>
         ensures items { self.new.items ≡ self.old.items }
         ensures ok { OnOk result (0 < self.new.capacity_left) }
-        ensures full { OnErr result (self.old.capacity_left ≡ 0) }
+        ensures no_capacity { OnErr result (self.old.capacity_left ≡ 0) }
     {
         reserve_one(&mut self.list)
     }

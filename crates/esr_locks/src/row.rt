@@ -101,7 +101,7 @@ impl Row {
     pub fn queries(&self) -> &[QueryReads]
         ensures reads { map query_and_count result.now ≡ self.now.locks.queries }
         ensures ascending { IsAscendingBy (λ r. r.query.0) result.now }
-        ensures most { All (λ r. r.count ≤ MAX_READS) result.now }
+        ensures upper_bound { All (λ r. r.count ≤ MAX_READS) result.now }
     {
         &self.queries
     }
@@ -146,7 +146,7 @@ impl Row {
     pub fn reserve(&mut self) -> Result<(), AllocError>
         ensures locks { self.new.locks ≡ self.old.locks }
         ensures ok { OnOk result (0 < self.new.capacity_left) }
-        ensures full { OnErr result (self.old.capacity_left ≡ 0) }
+        ensures no_capacity { OnErr result (self.old.capacity_left ≡ 0) }
     {
         reserve_one(&mut self.readers)?;
         reserve_one(&mut self.queries)?;
@@ -158,7 +158,7 @@ impl Row {
     fn add_reader(&mut self, t: TxnId) -> bool
         requires { 0 < self.old.capacity_left }
         ensures locks { self.new.locks ≡ with_reader t.0 self.old.locks }
-        ensures fresh { result ≡ not (has_update_lock self.old.locks t.0) }
+        ensures is_new { result ≡ not (has_update_lock self.old.locks t.0) }
     {
         let has_written = writer_is(self.writer, t);
         let has_read = !add_reader(&mut self.readers, t);
@@ -169,7 +169,7 @@ impl Row {
     #[inline(always)]
     fn add_writer(&mut self, t: TxnId) -> bool
         ensures locks { self.new.locks ≡ with_writer t.0 self.old.locks }
-        ensures fresh { result ≡ not (has_update_lock self.old.locks t.0) }
+        ensures is_new { result ≡ not (has_update_lock self.old.locks t.0) }
     {
         let has_written = writer_is(self.writer, t);
         let has_read = is_reader(&self.readers, t);
@@ -180,9 +180,9 @@ impl Row {
     /// Adds a read by a query. Returns whether the query had not read the item.
     fn add_query_read(&mut self, q: TxnId) -> bool
         requires capacity_left { 0 < self.old.capacity_left }
-        requires few { All (λ r. r.0 ≡ q.0 → r.1 < MAX_READS) self.old.locks.queries }
+        requires within_max { All (λ r. r.0 ≡ q.0 → r.1 < MAX_READS) self.old.locks.queries }
         ensures locks { self.new.locks ≡ with_query_read q.0 self.old.locks }
-        ensures fresh { result ≡ not (has_query_lock self.old.locks q.0) }
+        ensures is_new { result ≡ not (has_query_lock self.old.locks q.0) }
     {
         count_read(&mut self.queries, q)
     }
@@ -191,9 +191,9 @@ impl Row {
     #[inline(always)]
     pub fn add(&mut self, t: TxnId, mode: Mode) -> bool
         requires capacity_left { 0 < self.old.capacity_left }
-        requires few { mode ≡ Mode.QueryRead → All (λ r. r.0 ≡ t.0 → r.1 < MAX_READS) self.old.locks.queries }
+        requires within_max { mode ≡ Mode.QueryRead → All (λ r. r.0 ≡ t.0 → r.1 < MAX_READS) self.old.locks.queries }
         ensures locks { self.new.locks ≡ with_lock mode t.0 self.old.locks }
-        ensures fresh { result ≡ not (has_lock_in_mode mode self.old.locks t.0) }
+        ensures is_new { result ≡ not (has_lock_in_mode mode self.old.locks t.0) }
     {
         match mode {
             Mode::Read => self.add_reader(t),

@@ -11,7 +11,7 @@ ghost use Rattle.std.specs.Prelude.{◌≡◌, ℕ, ◌<◌, ◌≤◌, ◌==◌
 ghost use Rattle.std.specs.List.{range_with_len};
 ghost use Rattle.esr_base.specs.declared.limits.TheConstants.{MAX_READS};
 ghost use Rattle.esr_history.specs.Ascending.{IsAscendingBy, IsSmallest};
-ghost use Rattle.esr_locks.specs.Rows.{query_and_count, row_at, held_at, with_lock, has_lock_in_mode, IsTable};
+ghost use Rattle.esr_locks.specs.Rows.{query_and_count, row_at, held_at, with_lock, has_lock_in_mode, IsLockTable};
 ghost use Rattle.esr_locks.specs.Tables.{no_locks, locks_at, locks_that_fit, has_lock, has_update_lock, has_query_lock, contains_item, blocks_read, blocks_write, with_reader, with_writer, with_query_read, released, Table};
 
 use crate::lists::QueryReads;
@@ -46,7 +46,7 @@ impl Model for LockTable {
       list_capacities = map (λ h. h.capacity_left) t.held.items;
     } };
 
-    ghost invariant = { λ t. IsTable t.rows.items t.held.items };
+    ghost invariant = { λ t. IsLockTable t.rows.items t.held.items };
 }
 
 /// Returns one row without locks for each item.
@@ -66,7 +66,7 @@ fn empty_rows(alloc: Global, items: u32) -> Result<Vec<Row>, AllocError>
 fn grow_lists(held: &mut Vec<LockedItems>, alloc: Global, t: TxnId) -> Result<(), AllocError>
     ensures items { (u : ℕ) → (held_at held.new.items u).items ≡ (held_at held.old.items u).items }
     ensures ok { OnOk result (t.0 < length held.new.items) }
-    ensures full { OnErr result (length held.old.items ≤ t.0) }
+    ensures no_capacity { OnErr result (length held.old.items ≤ t.0) }
 {
     while held.len() <= t.0 as usize {
         held.push(LockedItems::new(alloc))?;
@@ -79,8 +79,8 @@ fn grow_lists(held: &mut Vec<LockedItems>, alloc: Global, t: TxnId) -> Result<()
 fn ensure_lists(held: &mut Vec<LockedItems>, alloc: Global, t: TxnId) -> Result<(), AllocError>
     ensures items { (u : ℕ) → (held_at held.new.items u).items ≡ (held_at held.old.items u).items }
     ensures ok { OnOk result (t.0 < length held.new.items) }
-    ensures full { OnErr result (length held.old.items ≤ t.0) }
-    ensures there { t.0 < length held.old.items → held.new.items ≡ held.old.items }
+    ensures no_capacity { OnErr result (length held.old.items ≤ t.0) }
+    ensures unchanged_if_present { t.0 < length held.old.items → held.new.items ≡ held.old.items }
 {
     if (t.0 as usize) < held.len() {
         return Ok(());
@@ -182,7 +182,7 @@ impl LockTable {
         requires { x.0 < length self.now.locks }
         ensures reads { map query_and_count result.now ≡ (locks_at self.now.locks x.0).queries }
         ensures ascending { IsAscendingBy (λ r. r.query.0) result.now }
-        ensures most { All (λ r. r.count ≤ MAX_READS) result.now }
+        ensures upper_bound { All (λ r. r.count ≤ MAX_READS) result.now }
     {
         self.rows[x.0 as usize].queries()
     }
@@ -207,7 +207,7 @@ impl LockTable {
         requires { x.0 < length self.old.locks }
         ensures locks { self.new.locks ≡ self.old.locks }
         ensures ok { OnOk result (0 < locks_that_fit self.new t.0 x.0) }
-        ensures full { OnErr result (locks_that_fit self.old t.0 x.0 ≡ 0) }
+        ensures no_capacity { OnErr result (locks_that_fit self.old t.0 x.0 ≡ 0) }
     {
         if self.rows[x.0 as usize].reserve().is_err() {
             return Err(NoMemory);
@@ -226,7 +226,7 @@ impl LockTable {
     fn add(&mut self, t: TxnId, x: ItemId, mode: Mode)
         requires item { x.0 < length self.old.locks }
         requires capacity_left { 0 < locks_that_fit self.old t.0 x.0 }
-        requires few { mode ≡ Mode.QueryRead
+        requires within_max { mode ≡ Mode.QueryRead
             → All (λ r. r.0 ≡ t.0 → r.1 < MAX_READS) (locks_at self.old.locks x.0).queries }
         ensures already_locked { has_lock_in_mode mode (locks_at self.old.locks x.0) t.0 ≡ true → self.new.list_capacities ≡ self.old.list_capacities }
         ensures locks { self.new.locks ≡ slice_set self.old.locks x.0 (with_lock mode t.0 (locks_at self.old.locks x.0)) }
@@ -262,7 +262,7 @@ impl LockTable {
     pub fn add_read_query(&mut self, q: TxnId, x: ItemId)
         requires item { x.0 < length self.old.locks }
         requires capacity_left { 0 < locks_that_fit self.old q.0 x.0 }
-        requires few { All (λ r. r.0 ≡ q.0 → r.1 < MAX_READS) (locks_at self.old.locks x.0).queries }
+        requires within_max { All (λ r. r.0 ≡ q.0 → r.1 < MAX_READS) (locks_at self.old.locks x.0).queries }
         ensures already_locked { has_query_lock (locks_at self.old.locks x.0) q.0 ≡ true → self.new.list_capacities ≡ self.old.list_capacities }
         ensures locks { self.new.locks ≡ slice_set self.old.locks x.0 (with_query_read q.0 (locks_at self.old.locks x.0)) }
     {

@@ -299,8 +299,8 @@ pub known_below : (d : Distance) (h : Schedule) → IsLegal d h → (t : ℕ) (f
 known_below d h legal t f some =
     let s = facts_some h.entries t f some in
     let n = begun_in_range (accepted_in h) t (ap is_some s.1) in
-    let most : length (beginnings (accepted_in h)) ≤ 65535 = legal_begins d h legal in
-    (n.0, omega (arith, n.1, most))
+    let upper_bound : length (beginnings (accepted_in h)) ≤ 65535 = legal_begins d h legal in
+    (n.0, omega (arith, n.1, upper_bound))
 
 pub ends_all : (h : Schedule) (t : ℕ) (ends found : List ℕ) → 1 ≤ t → None ≡ facts_of h.entries t → AreEndsBelow h.entries t ends → ((p : ℕ) → In p ends → Contains found p) → ((p : ℕ) → Contains found p → In p ends) → AreEnds h found
 ends_all h t ends found low none below there back = record {

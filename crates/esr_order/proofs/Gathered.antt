@@ -4,11 +4,11 @@ use Rattle.std.proofs.lemmas.List.{length-map}
 use Rattle.esr_base.specs.declared.numbers.TxnId.{TxnId}
 use Rattle.esr_history.specs.Machine.{Distance, Schedule, IsLegal}
 use Rattle.esr_history.specs.Queries.{updates_of}
-use Rattle.esr_order.proofs.Ordered.{few_updates}
+use Rattle.esr_order.proofs.Ordered.{bounded_updates}
 
 module _ (d : Distance) (h : Schedule) (q : ℕ) (legal : IsLegal d h) (commits : List TxnId) (same : map (λ t. t.0) commits ≡ updates_of h q) where
   pub commits_length : length commits ≡ length (updates_of h q)
   commits_length = sym (length-map commits (λ (t : TxnId). t.0)) ∙ ap length same
 
-  pub commits_few : length commits ≤ 65535
-  commits_few = omega (arith, few_updates d h q legal, commits_length)
+  pub commits_bounded : length commits ≤ 65535
+  commits_bounded = omega (arith, bounded_updates d h q legal, commits_length)

@@ -63,12 +63,12 @@ of_pairs_from (z ∷ zs) i p h =
     (λ b. let f = of_pairs_from zs i p b in (f.0, inr f.1, f.2))
     (In-append_cases (pair_of i z) (pairs_from i zs) p h)
 
-pair_few : (i j : ℕ) → length (pair_of i j) ≤ 1
-pair_few i j = cond_both (eqb i j) [] ((i, j) ∷ []) (λ l. length l ≤ 1) (λ _. omega arith) (λ _. omega arith)
+pair_bounded : (i j : ℕ) → length (pair_of i j) ≤ 1
+pair_bounded i j = cond_both (eqb i j) [] ((i, j) ∷ []) (λ l. length l ≤ 1) (λ _. omega arith) (λ _. omega arith)
 
-pub pairs_few : (js : List ℕ) (i : ℕ) → length (pairs_from i js) ≤ length js
-pairs_few [] i = omega arith
-pairs_few (j ∷ js) i = omega (arith, length-append (pair_of i j) (pairs_from i js), pair_few i j, pairs_few js i)
+pub pairs_bounded : (js : List ℕ) (i : ℕ) → length (pairs_from i js) ≤ length js
+pairs_bounded [] i = omega arith
+pairs_bounded (j ∷ js) i = omega (arith, length-append (pair_of i j) (pairs_from i js), pair_bounded i j, pairs_bounded js i)
 
 -- two writes in a row, of two updates, are a pair
 abbrev pub Next : List UpdateOperation → List Pair → Type 0
@@ -404,8 +404,8 @@ turn_count (s ∷ turn) ss = omega (arith, turn_count turn ss, operation_count s
 -- ---- all of them
 
 pub conflicting_all : (ss : List UpdateOperation) (pairs : List Pair) → Kept ss pairs → length pairs ≤ 2 * length ss → AreConflicts ss pairs
-conflicting_all ss pairs k few = record {
+conflicting_all ss pairs k within_max = record {
   sound = All-from_recursion (λ (p : Pair). is_conflict_pair ss p.0 p.1 ≡ true) pairs (each_in (λ (p : Pair). is_conflict_pair ss p.0 p.1 ≡ true) pairs (λ p i. k.sound p i));
   closed = λ S d. k.covers S (λ p i. All-contains (λ (p : Pair). S p.1 ≡ true → S p.0 ≡ true) pairs p d (In-Contains pairs p i));
-  few = few;
+  within_max = within_max;
 }

@@ -1,5 +1,5 @@
--- Why commit order is a serial order, closed sets are the parts of placements, and the updates near to a query
--- suffice. `Ordered` and `NearLaws` are used by audits; the other modules carry the walk back over the log.
+-- Why commit order is a serial order, closed sets are the parts of placements, and the updates that are relevant to a query
+-- suffice. `Ordered` and `RelevantLaws` are used by audits; the other modules carry the walk back over the log.
 
 pub mod Lists
 pub mod Writers
@@ -19,10 +19,10 @@ pub mod Settled
 pub mod Rowed
 pub mod Indexes
 pub mod Amid
-pub mod NearLaws
-pub mod NearFound
+pub mod RelevantLaws
+pub mod RelevantFound
 pub mod Gathering
-pub mod Seeking
+pub mod BackwardSearch
 pub mod Sorted
 pub mod Placing
 pub mod Early

@@ -48,8 +48,8 @@ module _ (d : Distance) (h : Schedule) (q : ℕ) (legal : IsLegal d h) where
   distinct (u ∷ us) once = (each_in (λ v. eqb u v ≡ false) us (λ v i. ne_eqb u v (each_at (λ w. u ≡ w → ⊥) us v once.0 i)), distinct us once.1)
 
   -- there are as many updates as numbers at most
-  pub few_updates : length (updates_of h q) ≤ 65535
-  few_updates =
+  pub bounded_updates : length (updates_of h q) ≤ 65535
+  bounded_updates =
       let begins : length (beginnings (accepted_in h)) ≤ 65535 = legal_begins d h legal in
       let none : AllByRecursion (λ u. 0 ≡ u → ⊥) (updates_of h q) = each_in (λ u. 0 ≡ u → ⊥) (updates_of h q) (λ u i e. let low : 1 ≤ u = (listed_begun u i).0 in omega (arith, low, e)) in
       let all : length (0 ∷ updates_of h q) ≤ 1 + length (beginnings (accepted_in h)) =

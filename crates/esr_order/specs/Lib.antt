@@ -1,4 +1,4 @@
--- Placements of a query and the order that they respect. Audits are based on `Placements`, `Near` and `Statements`; the
+-- Placements of a query and the order that they respect. Audits are based on `Placements`, `Relevant` and `Statements`; the
 -- other modules describe intermediate results of scanning a log.
 
 pub mod Placements
@@ -12,8 +12,8 @@ pub mod ConflictPairs
 pub mod Conflicts
 pub mod Turns
 pub mod Later
-pub mod Seeking
+pub mod BackwardSearch
 pub mod Chains
 pub mod Orders
-pub mod Near
+pub mod Relevant
 pub mod Worked

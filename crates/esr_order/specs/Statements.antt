@@ -5,7 +5,7 @@ use Rattle.esr_history.specs.Events.{is_committed}
 use Rattle.esr_history.specs.Machine.{Distance, Schedule, accepted_in, IsLegal}
 use Rattle.esr_history.specs.Legal.{along}
 use Rattle.esr_history.specs.Serial.{state}
-use Rattle.esr_history.specs.Queries.{members, cost, IsAlike}
+use Rattle.esr_history.specs.Queries.{members, cost, HasSameAudit}
 use Rattle.esr_order.specs.Placements.{is_among, IsPlacement, IsLeastDistance, IsClosed, IsLeastSet, IsSmallestLeastSet}
 use Rattle.esr_order.specs.Least.{least_set, least_cost}
 
@@ -26,7 +26,7 @@ LawOfPlacements = (d : Distance) (h : Schedule) (q : ℕ) → IsLegal d h → Cl
 abbrev pub LawOfLongerHistories : Type 0
 LawOfLongerHistories =
     (d : Distance) (h : Schedule) (rest : List Entry) (q : ℕ) → IsLegal d (along h rest)
-    → IsTrue (is_committed (accepted_in h) q) → IsAlike d h (along h rest) q
+    → IsTrue (is_committed (accepted_in h) q) → HasSameAudit d h (along h rest) q
 
 -- The meet of two closed sets of least cost is one, so that the smallest is the meet of them all.
 abbrev pub LawOfLeastSets : Type 0

@@ -139,7 +139,7 @@ fn gather_into<M: Metric>(
     pairs: &mut Vec<(u32, u32)>,
 ) -> Result<(), AllocError>
     requires rows { AreRowsOf history.now.schedule.entries rows.now }
-    requires few { length updates.now ≤ MAX_TRANSACTIONS }
+    requires within_max { length updates.now ≤ MAX_TRANSACTIONS }
     requires linked { length chains.old ≡ length history.now.schedule.opening }
     requires read { length readers.old ≡ length history.now.schedule.opening }
     requires later { AreLater (map seen_links chains.old) (map (λ r. r.items) readers.old) [] }
@@ -179,7 +179,7 @@ pub fn gather<M: Metric>(
     writers: &[u32],
 ) -> Result<PairsAndChains, AllocError>
     requires rows { AreRowsOf history.now.schedule.entries rows.now }
-    requires few { length updates.now ≤ MAX_TRANSACTIONS }
+    requires within_max { length updates.now ≤ MAX_TRANSACTIONS }
     ensures ascending { IfOk result (λ g. AllPairs IsLexLess g.pairs.items) }
     ensures conflicting { IfOk result (λ g. AreConflicts (update_operations history.now.schedule updates.now) g.pairs.items) }
     ensures next { IfOk result (λ g. (x : ℕ) → AreNextPaired g.pairs.items

@@ -1,8 +1,8 @@
 //! Builds the order of a query's updates: the updates, a sparse set of conflicting pairs, and the writers of each item
 //! with the values that they left.
 //!
-//! `of` contains all updates that committed before the query, for tests and other callers. `near` contains only those
-//! that can affect the query's reads; both have the same closed sets of least cost, and the audit uses `near`. The
+//! `of` contains all updates that committed before the query, for tests and other callers. `relevant` contains only those
+//! that can affect the query's reads; both have the same closed sets of least cost, and the audit uses `relevant`. The
 //! pairs have the same closed sets as the whole conflict order, with at most two pairs for each operation. `take_chain`
 //! moves chains out of an order one by one, so that an audit's costs can reuse the memory of the values.
 
@@ -15,7 +15,7 @@ ghost use Rattle.esr_order.specs.declared.order.OrderError.TheVariants.{NoMemory
 ghost use Rattle.esr_order.specs.Orders.{Ordered, IsOrderOf, IsOrderAmong, chain_at, operations_of};
 ghost use Rattle.esr_order.specs.AccessRows.{AreRowsOf};
 ghost use Rattle.esr_order.specs.Index.{IsWholeIndexOf};
-ghost use Rattle.esr_order.specs.Near.{AreNear};
+ghost use Rattle.esr_order.specs.Relevant.{AreRelevant};
 ghost use Rattle.esr_order.specs.Placements.{is_among};
 ghost use Rattle.esr_history.specs.Serial.{is_before};
 ghost use Rattle.esr_history.specs.Machine.{accepted_in};
@@ -26,7 +26,7 @@ use crate::links::Links;
 use crate::operations::gather;
 use crate::rows::AccessRows;
 use crate::scan::{committed, count_must, is_committed_query, updates_before};
-use crate::search::near_of;
+use crate::search::relevant_of;
 use esr_history::{History, TxnId};
 use esr_items::{ItemId, Metric};
 use std::alloc::{AllocError, Global};
@@ -94,7 +94,7 @@ fn among<M: Metric>(
 ) -> Result<Order, AllocError>
     requires rows { AreRowsOf history.now.schedule.entries rows.now }
     requires once { AllPairs (λ t u. t ≢ u) (map (λ t. t.0) commits.items) }
-    requires few { length commits.items ≤ MAX_TRANSACTIONS }
+    requires within_max { length commits.items ≤ MAX_TRANSACTIONS }
     requires keeps { AllPairs (λ u v. is_before history.now.schedule v u ≡ false) (map (λ t. t.0) commits.items) }
     requires first { first ≤ length commits.items }
     ensures commits { IfOk result (λ o. o.commits ≡ commits.items) }
@@ -114,8 +114,8 @@ fn among<M: Metric>(
     })
 }
 
-/// Builds the order of the near updates of a query, given all committed transactions and the rows of their accesses.
-fn near_with<M: Metric>(
+/// Builds the order of the relevant updates of a query, given all committed transactions and the rows of their accesses.
+fn relevant_with<M: Metric>(
     alloc: Global,
     history: &History<M>,
     committed: &[TxnId],
@@ -124,7 +124,7 @@ fn near_with<M: Metric>(
 ) -> Result<Order, OrderError>
     requires list { map (λ t. t.0) committed.now ≡ commit_order (accepted_in history.now.schedule) }
     requires rows { AreRowsOf history.now.schedule.entries rows.now }
-    ensures near { IfOk result (λ o. AreNear history.now.schedule q.0 (map (λ t. t.0) o.commits)) }
+    ensures relevant { IfOk result (λ o. AreRelevant history.now.schedule q.0 (map (λ t. t.0) o.commits)) }
     ensures ok { IfOk result (λ o. IsOrderAmong history.now.schedule q.0 (map (λ t. t.0) o.commits) o) }
     ensures refused { IsErrOf result OrderError.NotACommittedQuery
         ↔ (is_committed_query history.now.schedule q.0 ≡ false) }
@@ -135,8 +135,15 @@ fn near_with<M: Metric>(
     }
     let updates = updates_before(alloc, history, committed, q)?;
     let first = count_must(alloc, history, &updates, q)?;
-    let near = near_of(alloc, history, rows, &updates, first, q)?;
-    let order = among(alloc, history, rows, near.updates, first, &near.writes)?;
+    let relevant = relevant_of(alloc, history, rows, &updates, first, q)?;
+    let order = among(
+        alloc,
+        history,
+        rows,
+        relevant.updates,
+        first,
+        &relevant.writes,
+    )?;
     Ok(order)
 }
 
@@ -160,14 +167,14 @@ impl Order {
         Ok(order)
     }
 
-    /// Builds the order of the near updates of a committed query of a legal history: those that wrote an item that it
+    /// Builds the order of the relevant updates of a committed query of a legal history: those that wrote an item that it
     /// read, those from which a chain of conflicts leads to such an update, and those that it must have seen.
-    pub fn near<M: Metric>(
+    pub fn relevant<M: Metric>(
         alloc: Global,
         history: &History<M>,
         q: TxnId,
     ) -> Result<Order, OrderError>
-        ensures near { IfOk result (λ o. AreNear history.now.schedule q.0 (map (λ t. t.0) o.commits)) }
+        ensures relevant { IfOk result (λ o. AreRelevant history.now.schedule q.0 (map (λ t. t.0) o.commits)) }
         ensures ok { IfOk result (λ o. IsOrderAmong history.now.schedule q.0 (map (λ t. t.0) o.commits) o) }
         ensures refused { IsErrOf result OrderError.NotACommittedQuery
             ↔ (is_committed_query history.now.schedule q.0 ≡ false) }
@@ -176,44 +183,44 @@ impl Order {
             return Err(OrderError::NotACommittedQuery);
         }
         let committed = committed(alloc, history)?;
-        Order::near_in(alloc, history, &committed, q)
+        Order::relevant_in(alloc, history, &committed, q)
     }
 
-    /// Like `near`, for a caller that has the list of committed transactions in commit order, `committed`, which can
+    /// Like `relevant`, for a caller that has the list of committed transactions in commit order, `committed`, which can
     /// be reused for many queries.
-    pub fn near_in<M: Metric>(
+    pub fn relevant_in<M: Metric>(
         alloc: Global,
         history: &History<M>,
         committed: &[TxnId],
         q: TxnId,
     ) -> Result<Order, OrderError>
         requires { map (λ t. t.0) committed.now ≡ commit_order (accepted_in history.now.schedule) }
-        ensures near { IfOk result (λ o. AreNear history.now.schedule q.0 (map (λ t. t.0) o.commits)) }
+        ensures relevant { IfOk result (λ o. AreRelevant history.now.schedule q.0 (map (λ t. t.0) o.commits)) }
         ensures ok { IfOk result (λ o. IsOrderAmong history.now.schedule q.0 (map (λ t. t.0) o.commits) o) }
         ensures refused { IsErrOf result OrderError.NotACommittedQuery
             ↔ (is_committed_query history.now.schedule q.0 ≡ false) }
     {
-        near_with(alloc, history, committed, &AccessRows::new(alloc), q)
+        relevant_with(alloc, history, committed, &AccessRows::new(alloc), q)
     }
 
-    /// Like `near`, for a caller that keeps an index of the whole history.
+    /// Like `relevant`, for a caller that keeps an index of the whole history.
     #[tactic(auto, using(crate::proofs::Indexes::index_whole, crate::proofs::Indexes::index_rows))]
-    pub fn near_by_index<M: Metric>(
+    pub fn relevant_by_index<M: Metric>(
         alloc: Global,
         history: &History<M>,
         index: &Index,
         q: TxnId,
     ) -> Result<Order, OrderError>
         requires { IsWholeIndexOf history.now.schedule.entries index.now }
-        ensures near { IfOk result (λ o. AreNear history.now.schedule q.0 (map (λ t. t.0) o.commits)) }
+        ensures relevant { IfOk result (λ o. AreRelevant history.now.schedule q.0 (map (λ t. t.0) o.commits)) }
         ensures ok { IfOk result (λ o. IsOrderAmong history.now.schedule q.0 (map (λ t. t.0) o.commits) o) }
         ensures refused { IsErrOf result OrderError.NotACommittedQuery
             ↔ (is_committed_query history.now.schedule q.0 ≡ false) }
     {
-        near_with(alloc, history, index.commits(), index.rows(), q)
+        relevant_with(alloc, history, index.commits(), index.rows(), q)
     }
 
-    /// Returns the updates of the order, in commit order: those that committed before the query, or the near ones among
+    /// Returns the updates of the order, in commit order: those that committed before the query, or the relevant ones among
     /// them.
     pub fn commits(&self) -> &[TxnId]
         ensures { result.now ≡ self.now.commits }

@@ -1,7 +1,7 @@
 //! Records the reads and writes of committed updates while the history grows.
 //!
 //! An update does nothing after it has committed. So its accesses are fixed then: they are listed once, along the links
-//! of the log, and stored in a row by the update's number. An audit reads the row twice, to find the near updates and
+//! of the log, and stored in a row by the update's number. An audit reads the row twice, to find the relevant updates and
 //! to gather pairs and chains. Without rows, 251 audits of one script walked along the links of 65,000 updates 251
 //! times, from entry to entry. The rows are consecutive in one list, in commit order, which is the order in which
 //! audits read them.

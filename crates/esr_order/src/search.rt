@@ -1,20 +1,20 @@
-//! Searches for the near updates of a query, backward from its reads.
+//! Searches for the relevant updates of a query, backward from its reads.
 //!
 //! An update that precedes another has a lower position, so one backward scan of the query's updates suffices. The scan
-//! keeps the items that the query and the near updates found so far have read, and those that these updates have
-//! written: an update is near if one of its operations conflicts with one of those.
+//! keeps the items that the query and the relevant updates found so far have read, and those that these updates have
+//! written: an update is relevant if one of its operations conflicts with one of those.
 //!
-//! Rejected: following the links of items from those that the query read (it visits less if few updates are near, but
-//! it also visits the entries of queries, all over the log, and if all updates are near it takes several times as
+//! Rejected: following the links of items from those that the query read (it visits less if few updates are relevant, but
+//! it also visits the entries of queries, all over the log, and if all updates are relevant it takes several times as
 //! long); and finding the connected part of the history first and cutting an order out of it (it needs a second order
 //! and a worklist).
 ghost use Rattle.std.specs.Prelude.{◌≡◌, ◌<◌, ◌||◌, ℕ, true, false, IfOk, All, length, map};
 ghost use Rattle.std.specs.List.{list_any};
 ghost use Rattle.esr_history.specs.Queries.{updates_of, must};
 ghost use Rattle.esr_order.specs.AccessRows.{AreRowsOf};
-ghost use Rattle.esr_order.specs.Near.{AreNear};
+ghost use Rattle.esr_order.specs.Relevant.{AreRelevant};
 ghost use Rattle.esr_order.specs.Scans.{accesses_in};
-ghost use Rattle.esr_order.specs.Seeking.{marked, is_access, seen_items, conflicts_with};
+ghost use Rattle.esr_order.specs.BackwardSearch.{marked, is_access, seen_items, conflicts_with};
 
 use crate::accesses::{Access, accesses_of};
 use crate::rows::AccessRows;
@@ -54,7 +54,7 @@ fn count_writes(counts: &mut [u32], accesses: &[Access]) {
     }
 }
 
-/// The items that a query and the near updates found so far have read, and those that these updates have written.
+/// The items that a query and the relevant updates found so far have read, and those that these updates have written.
 #[derive(Drop)]
 struct Items {
     read: Vec<bool>,
@@ -63,7 +63,7 @@ struct Items {
 
 impl Items {
     /// Returns the items that a query read.
-    fn of_query<M: Metric>(
+    fn is_problem<M: Metric>(
         alloc: Global,
         history: &History<M>,
         q: TxnId,
@@ -110,45 +110,45 @@ impl Items {
     }
 }
 
-/// The near updates of a query, and how often they wrote each item, as capacities for chains. The counts need not be
+/// The relevant updates of a query, and how often they wrote each item, as capacities for chains. The counts need not be
 /// exact: a chain grows if necessary.
 #[derive(Drop)]
-pub struct Near {
+pub struct Relevant {
     pub updates: Vec<TxnId>,
     pub writes: Vec<u32>,
 }
 
-/// Returns the near ones among the updates of a query, of which it must have seen the first ones. Searches backward in
-/// commit order: an update is near if it conflicts with the query or with a near update after it.
-pub fn near_of<M: Metric>(
+/// Returns the relevant ones among the updates of a query, of which it must have seen the first ones. Searches backward in
+/// commit order: an update is relevant if it conflicts with the query or with a relevant update after it.
+pub fn relevant_of<M: Metric>(
     alloc: Global,
     history: &History<M>,
     rows: &AccessRows,
     updates: &[TxnId],
     first: usize,
     q: TxnId,
-) -> Result<Near, AllocError>
+) -> Result<Relevant, AllocError>
     requires rows { AreRowsOf history.now.schedule.entries rows.now }
     requires updates { map (λ t. t.0) updates.now ≡ updates_of history.now.schedule q.0 }
     requires first { first ≡ length (must history.now.schedule q.0) }
-    ensures near { IfOk result (λ n. AreNear history.now.schedule q.0 (map (λ t. t.0) n.updates.items)) }
+    ensures relevant { IfOk result (λ n. AreRelevant history.now.schedule q.0 (map (λ t. t.0) n.updates.items)) }
 {
     let _legal = history.log(); // brings the invariant into the proof
-    let mut items = Items::of_query(alloc, history, q)?;
+    let mut items = Items::is_problem(alloc, history, q)?;
     let mut writes = vec![in alloc; 0u32; history.items() as usize]?;
-    let mut near = Vec::new(alloc);
+    let mut relevant = Vec::new(alloc);
     let mut list = Vec::new(alloc);
     for i in (0..updates.len()).rev() {
         let accesses = rows.accesses_of(history, updates[i], &mut list)?;
         if i < first || items.conflict(accesses) {
             items.add(accesses);
             count_writes(&mut writes, accesses);
-            near.push(updates[i])?;
+            relevant.push(updates[i])?;
         }
     }
-    near.reverse();
-    Ok(Near {
-        updates: near,
+    relevant.reverse();
+    Ok(Relevant {
+        updates: relevant,
         writes,
     })
 }

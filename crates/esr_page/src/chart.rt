@@ -115,12 +115,12 @@ fn usual_charge(charges: &[u64]) -> u64 {
 /// What the height of the chart stands for: the most that a query was charged; where that is more than so many times
 /// what most of them were, so many times that; where none was charged anything, the highest limit.
 fn top_of(rows: &[QueryRow<'_>], charges: &[u64]) -> u64 {
-    let most = charges.last().copied().unwrap_or(0);
+    let upper_bound = charges.last().copied().unwrap_or(0);
     let end = usual_charge(charges).saturating_mul(FARTHEST);
-    if end > 0 && most > end {
+    if end > 0 && upper_bound > end {
         end
-    } else if most > 0 {
-        most
+    } else if upper_bound > 0 {
+        upper_bound
     } else {
         rows.iter().map(|row| row.limit).max().unwrap_or(0).max(1)
     }

@@ -101,7 +101,11 @@ fn totals_of<'a>(rows: &[QueryRow<'a>]) -> PageTotals<'a> {
         totals.exact = totals.exact.saturating_add(u64::from(distance == 0));
         totals.distance = totals.distance.saturating_add(distance);
         totals.charged = totals.charged.saturating_add(row.charged);
-        if distance > 0 && totals.farthest.is_none_or(|(_, most)| distance > most) {
+        if distance > 0
+            && totals
+                .farthest
+                .is_none_or(|(_, upper_bound)| distance > upper_bound)
+        {
             totals.farthest = Some((row.name, distance));
         }
     }

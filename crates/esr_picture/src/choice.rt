@@ -240,9 +240,9 @@ fn needs(
     chain: &Chain,
     crossing: Crossing,
     drawn: &[u32],
-    most: usize,
+    upper_bound: usize,
 ) -> Result<Option<Vec<u32>>, AllocError> {
-    let space = most.saturating_sub(drawn.len());
+    let space = upper_bound.saturating_sub(drawn.len());
     let both = bounds_of(alloc, chain, crossing, nearest(chain), drawn)?;
     if both.len() <= space {
         return Ok(Some(both));
@@ -281,13 +281,13 @@ fn draw_lanes(
     crossings: &[Crossing],
     candidates: &Candidates,
     drawn: &mut Vec<u32>,
-    most: usize,
+    upper_bound: usize,
 ) -> Result<Vec<usize>, AllocError> {
     let mut lanes = Vec::new(alloc);
     let mut place = 0usize;
     for lane in &candidates.lanes {
         if let (Some(chain), Some(crossing)) = (chains.get(*lane), crossings.get(*lane)) {
-            let needs = needs(alloc, chain, *crossing, drawn, most)?;
+            let needs = needs(alloc, chain, *crossing, drawn, upper_bound)?;
             let is_needed = place < candidates.needed;
             draw_lane(&mut lanes, drawn, *lane, needs, is_needed)?;
         }
@@ -331,8 +331,12 @@ fn sides_of(
 }
 
 /// All updates, where they are few and there is room for them, and else none.
-fn few_updates(alloc: Global, count: usize, most: usize) -> Result<Vec<u32>, AllocError> {
-    if count <= FEW_UPDATES && count <= most {
+fn bounded_updates(
+    alloc: Global,
+    count: usize,
+    upper_bound: usize,
+) -> Result<Vec<u32>, AllocError> {
+    if count <= FEW_UPDATES && count <= upper_bound {
         (0..count as u32).collect(alloc)
     } else {
         Ok(Vec::new(alloc))
@@ -345,12 +349,19 @@ fn draw(
     problem: &Problem,
     crossings: &[Crossing],
     places: &Places,
-    most: usize,
+    upper_bound: usize,
 ) -> Result<(Vec<usize>, Vec<u32>), AllocError> {
     let candidates = candidates_of(alloc, problem, crossings, places)?;
-    let mut updates = few_updates(alloc, problem.updates().len(), most)?;
+    let mut updates = bounded_updates(alloc, problem.updates().len(), upper_bound)?;
     let chains = problem.chains();
-    let mut lanes = draw_lanes(alloc, chains, crossings, &candidates, &mut updates, most)?;
+    let mut lanes = draw_lanes(
+        alloc,
+        chains,
+        crossings,
+        &candidates,
+        &mut updates,
+        upper_bound,
+    )?;
     lanes.sort_unstable();
     updates.sort_unstable();
     Ok((lanes, updates))
@@ -362,10 +373,10 @@ fn choose_at(
     problem: &Problem,
     inside: &[bool],
     crossings: Vec<Crossing>,
-    most: usize,
+    upper_bound: usize,
 ) -> Result<Choice, AllocError> {
     let places = Places::new(alloc, inside, problem.must())?;
-    let (lanes, updates) = draw(alloc, problem, &crossings, &places, most)?;
+    let (lanes, updates) = draw(alloc, problem, &crossings, &places, upper_bound)?;
     let is_cheaper_elsewhere = is_cheaper_elsewhere(alloc, problem, &lanes, &places)?;
     let (before, after) = sides_of(alloc, &updates, inside)?;
     Ok(Choice {
@@ -383,9 +394,9 @@ pub fn choose(
     alloc: Global,
     problem: &Problem,
     set: &[u32],
-    most: usize,
+    upper_bound: usize,
 ) -> Result<Choice, AllocError> {
     let inside = marks_of(alloc, problem.updates().len(), set)?;
     let crossings = crossings(alloc, problem.chains(), &inside)?;
-    choose_at(alloc, problem, &inside, crossings, most)
+    choose_at(alloc, problem, &inside, crossings, upper_bound)
 }

@@ -116,12 +116,12 @@ pub fn against(
     place: usize,
     drawn: &[usize],
 ) -> Option<usize> {
-    let mut most = 0;
+    let mut upper_bound = 0;
     let mut found = None;
     for (lane, (chain, crossing)) in chains.iter().zip(crossings.iter()).enumerate() {
         let more = places.cost_at(chain, place).saturating_sub(crossing.off);
-        if more > most && !drawn.contains(&lane) {
-            most = more;
+        if more > upper_bound && !drawn.contains(&lane) {
+            upper_bound = more;
             found = Some(lane);
         }
     }

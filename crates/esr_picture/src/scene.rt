@@ -87,10 +87,15 @@ impl<'a> SceneParts<'a> {
         alloc: Global,
         audited_query: &'a Audited<'a>,
         trace: &'a QueryTrace,
-        most: usize,
+        upper_bound: usize,
     ) -> Result<SceneParts<'a>, AllocError> {
         let finding = audited_query.finding;
-        let choice = choose(alloc, &finding.problem, &finding.certificate.set, most)?;
+        let choice = choose(
+            alloc,
+            &finding.problem,
+            &finding.certificate.set,
+            upper_bound,
+        )?;
         let drawn = drawn_in_order(alloc, &choice)?;
         let line = choice.before.len().min(MAX_UPDATES) as u8 + 1;
         let (slots, written) = lay_out(alloc, audited_query, &choice, &drawn, line)?;
@@ -310,9 +315,9 @@ fn scene_with<'a>(
     alloc: Global,
     audited_query: &'a Audited<'a>,
     trace: &'a QueryTrace,
-    most: usize,
+    upper_bound: usize,
 ) -> Result<Scene<'a>, AllocError> {
-    SceneParts::new(alloc, audited_query, trace, most)?.scene(alloc)
+    SceneParts::new(alloc, audited_query, trace, upper_bound)?.scene(alloc)
 }
 
 /// What is drawn of what a script tells of a query.
@@ -321,15 +326,15 @@ pub fn scene_of<'a>(
     audited_query: &'a Audited<'a>,
     trace: &'a QueryTrace,
 ) -> Result<Scene<'a>, AllocError> {
-    let mut most = MAX_UPDATES;
-    let mut scene = scene_with(alloc, audited_query, trace, most)?;
+    let mut upper_bound = MAX_UPDATES;
+    let mut scene = scene_with(alloc, audited_query, trace, upper_bound)?;
     for _ in 0..MAX_TRIES {
         let fitting = fitting_updates(&scene);
         if scene.updates.len() <= fitting {
             break;
         }
-        most = fitting.min(most.saturating_sub(1));
-        scene = scene_with(alloc, audited_query, trace, most)?;
+        upper_bound = fitting.min(upper_bound.saturating_sub(1));
+        scene = scene_with(alloc, audited_query, trace, upper_bound)?;
     }
     Ok(scene)
 }

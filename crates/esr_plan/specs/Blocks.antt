@@ -59,7 +59,7 @@ pub record IsRun (e : Event) (reply : Reply) (run : List Receipt) : Type 0 where
   pub parts : run ≡ blocked ++ last ∷ []
   pub events : All (λ r. r.event ≡ e) run
   pub were_blocked : All (λ r. is_blocked r.reply ≡ true) blocked
-  pub most : length run ≤ 100
+  pub upper_bound : length run ≤ 100
   pub patient : is_blocked last.reply ≡ true → length run ≡ 100
   pub reply_is : reply ≡ last.reply
 

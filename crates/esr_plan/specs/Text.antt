@@ -2,7 +2,7 @@
 use Rattle.std.specs.Prelude.{ℕ, ◌+◌, ℤ, pos, List, [], ◌∷◌, ◌++◌, Option, Some, None, length, map, unwrap_or, nat_eq, Bool, false, flat_map, find}
 use Rattle.std.specs.Option.{option_and_then, option_map_or}
 use Rattle.esr_items.specs.Weights.{weighted}
-use Rattle.esr_history.specs.Events.{numbers}
+use Rattle.esr_history.specs.Events.{txn_numbers}
 use Rattle.esr_history.specs.Machine.{Schedule, accepted_in}
 use Rattle.esr_history.specs.Totals.{all_imports, all_exports}
 use Rattle.esr_audit.specs.Findings.{summary_of, committed_queries}
@@ -22,7 +22,7 @@ name_begun answers number = unwrap_or (option_and_then (λ a. new_name a.command
 
 -- the names of the transactions, in the order of their numbers
 abbrev pub names_of : Schedule → List (List Answered) → List (List ℕ)
-names_of h blocks = map (name_begun (flat_map (λ b. b) blocks)) (numbers (accepted_in h))
+names_of h blocks = map (name_begun (flat_map (λ b. b) blocks)) (txn_numbers (accepted_in h))
 
 -- the names in a command of a block
 abbrev pub subject_of : Command → Named

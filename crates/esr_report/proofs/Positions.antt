@@ -33,28 +33,28 @@ module _ {X : Type 0} (g : X → List ℕ) where
   any_seen p (x ∷ xs) = ap (λ b. p (g x) || b) (any_seen p xs)
 
 module _ {X : Type 0} (g : X → List ℕ) where
-  all_differ : (xs : List X) (name : List ℕ) (most : ℕ) → All (λ x. length (g x) ≤ most) xs → most < length name → length xs ≤ position_or_len (λ x. bytes_eq name (g x)) xs
-  all_differ [] name most h l = omega arith
-  all_differ (x ∷ xs) name most h l = elim (which (bytes_eq name (g x))) [
+  all_differ : (xs : List X) (name : List ℕ) (upper_bound : ℕ) → All (λ x. length (g x) ≤ upper_bound) xs → upper_bound < length name → length xs ≤ position_or_len (λ x. bytes_eq name (g x)) xs
+  all_differ [] name upper_bound h l = omega arith
+  all_differ (x ∷ xs) name upper_bound h l = elim (which (bytes_eq name (g x))) [
     | inl same ↦
-        let short : length (g x) ≤ most = h 0 x (omega arith) in
+        let short : length (g x) ≤ upper_bound = h 0 x (omega arith) in
         absurd (omega (arith, l, short, ap length ((bytes_eq-Decides name (g x)).0 same)))
     | inr other ↦
         let later : position_or_len (λ y. bytes_eq name (g y)) (x ∷ xs) ≡ 1 + position_or_len (λ y. bytes_eq name (g y)) xs = rw other refl in
-        omega (arith, later, all_differ xs name most (λ k d i. h (suc k) d (omega (arith, i))) l)
+        omega (arith, later, all_differ xs name upper_bound (λ k d i. h (suc k) d (omega (arith, i))) l)
   ]
 
   -- a name that is longer than all names is not one of them
-  pub longer : (xs : List X) (name : List ℕ) (most : ℕ) → All (λ x. length (g x) ≤ most) xs → most < length name → position_of (map g xs) name ≡ None
-  longer xs name most h l =
+  pub longer : (xs : List X) (name : List ℕ) (upper_bound : ℕ) → All (λ x. length (g x) ≤ upper_bound) xs → upper_bound < length name → position_of (map g xs) name ≡ None
+  longer xs name upper_bound h l =
       sym (position_seen g (bytes_eq name) xs)
-      ∙ ap (λ v. cond v (Some (position_or_len (λ x. bytes_eq name (g x)) xs)) None) (le-ltb (position_or_len (λ x. bytes_eq name (g x)) xs) (length xs) (all_differ xs name most h l))
+      ∙ ap (λ v. cond v (Some (position_or_len (λ x. bytes_eq name (g x)) xs)) None) (le-ltb (position_or_len (λ x. bytes_eq name (g x)) xs) (length xs) (all_differ xs name upper_bound h l))
 
-  -- names of at most `most` bytes, and one more of them
-  pub short_push : (xs : List X) (x : X) (most : ℕ) → All (λ y. length (g y) ≤ most) xs → length (g x) ≤ most → All (λ y. length (g y) ≤ most) (xs ++ x ∷ [])
-  short_push xs x most h l =
-      let one : All (λ y. length (g y) ≤ most) (x ∷ []) = search rules in
-      All-append (λ y. length (g y) ≤ most) xs (x ∷ []) h one
+  -- names of at most `upper_bound` bytes, and one more of them
+  pub short_push : (xs : List X) (x : X) (upper_bound : ℕ) → All (λ y. length (g y) ≤ upper_bound) xs → length (g x) ≤ upper_bound → All (λ y. length (g y) ≤ upper_bound) (xs ++ x ∷ [])
+  short_push xs x upper_bound h l =
+      let one : All (λ y. length (g y) ≤ upper_bound) (x ∷ []) = search rules in
+      All-append (λ y. length (g y) ≤ upper_bound) xs (x ∷ []) h one
 
 chosen_none : (v : Bool) (n : ℕ) → cond v (Some n) None ≡ None → v ≡ false
 chosen_none true n e = cc

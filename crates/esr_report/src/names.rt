@@ -55,7 +55,7 @@ impl Names {
     /// Returns the number of bound names.
     pub fn len(&self) -> usize
         ensures len { result ≡ length self.now }
-        ensures most { result ≤ 2 ^ 32 }
+        ensures upper_bound { result ≤ 2 ^ 32 }
         ensures distinct { all_distinct self.now ≡ true }
     {
         self.names.len()

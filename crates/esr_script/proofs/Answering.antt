@@ -6,10 +6,10 @@ use Rattle.esr_history.specs.Machine.{Schedule, charges_in, import_in}
 use Rattle.esr_history.specs.Queries.{is_committed_query}
 use Rattle.esr_cert.specs.Views.{certificate_of}
 use Rattle.esr_order.specs.Least.{least_set, least_cost}
-use Rattle.esr_order.specs.Near.{AreNear}
+use Rattle.esr_order.specs.Relevant.{AreRelevant}
 use Rattle.esr_audit.specs.Findings.{IsShown, summary, summary_of}
 use Rattle.esr_audit.specs.declared.finding.Finding.{Finding}
-use Rattle.esr_views.specs.Ask.{IsFound, IsFoundOf}
+use Rattle.esr_views.specs.QueryAnswers.{IsFound, IsFoundOf}
 use Rattle.esr_script.specs.Text.{ScriptState, transaction_called}
 use Rattle.std.proofs.lemmas.Grind.{common_steps}
 
@@ -29,11 +29,11 @@ module _ (s : ScriptState) (items names : List (List ℕ)) (was : Bool) (first h
       → is_committed_query h q.0 ≡ true → f.distance ≡ least_cost weighted h q.0 → f.import ≡ import_in (charges_in weighted h) q.0
       → map (λ (t : TxnId). t.0) f.before.items ≡ least_set weighted h q.0
       → IsShown weighted h q.0 f.distance (map (λ (t : TxnId). t.0) f.before.items) f.problem (certificate_of f.certificate)
-      → AreNear h q.0 f.problem.updates
+      → AreRelevant h q.0 f.problem.updates
       → IsFoundOf s name f
-  found_of f query committed distance import before shown near = record {
+  found_of f query committed distance import before shown relevant = record {
     committed = both (λ k n. is_committed_query k n ≡ true) committed;
     reported = both (λ k n. summary f ≡ summary_of weighted k n) (four (ap (λ (t : TxnId). t.0) query) distance import before);
     found = both (λ k n. IsFound k n f.problem (certificate_of f.certificate))
-        (record { of_query = shown.of_query; near = near; certified = shown.certified; set_is = sym shown.set_is ∙ before; smallest = shown.smallest; without_count = shown.without_count });
+        (record { is_problem = shown.is_problem; relevant = relevant; certified = shown.certified; set_is = sym shown.set_is ∙ before; smallest = shown.smallest; without_count = shown.without_count });
   }

@@ -4,7 +4,7 @@ use Rattle.esr_history.specs.Machine.{Distance, Schedule, charges_in, import_in}
 use Rattle.esr_cert.specs.Views.{certificate_of}
 use Rattle.esr_order.specs.Placements.{is_among}
 use Rattle.esr_order.specs.Least.{least_set, least_cost}
-use Rattle.esr_order.specs.Near.{AreNear}
+use Rattle.esr_order.specs.Relevant.{AreRelevant}
 use Rattle.esr_order.proofs.Least.{law_of_listed_sets}
 use Rattle.esr_audit.specs.declared.finding.Finding.{Finding}
 use Rattle.esr_audit.specs.declared.finding.AuditError.{AuditError}
@@ -27,6 +27,6 @@ module _ (d : Distance) (h : Schedule) (q : ℕ) where
   shown_is (Ok f) a = a.shown
   shown_is (Err e) a = tt
 
-  pub near_is : (r : Result Finding AuditError) → IfOk r (IsFindingOf d h q) → IfOk r (λ f. AreNear h q f.problem.updates)
-  near_is (Ok f) a = a.near
-  near_is (Err e) a = tt
+  pub relevant_is : (r : Result Finding AuditError) → IfOk r (IsFindingOf d h q) → IfOk r (λ f. AreRelevant h q f.problem.updates)
+  relevant_is (Ok f) a = a.relevant
+  relevant_is (Err e) a = tt

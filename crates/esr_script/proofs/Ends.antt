@@ -6,8 +6,8 @@ use Rattle.esr_base.specs.Watch.{BeginsWith}
 use Rattle.esr_script.specs.declared.fault.RunFault.TheVariants as fault
 use Rattle.esr_script.specs.Text.{ScriptState, transaction_called, final, RunFault}
 use Rattle.esr_views.specs.declared.query.AuditedQuery.{AuditedQuery}
-use Rattle.esr_views.specs.Ask.{IsAnswered}
-use Rattle.esr_script.specs.Ask.{IsAuditedQuery}
+use Rattle.esr_views.specs.QueryAnswers.{IsAnswered}
+use Rattle.esr_script.specs.QueryAnswers.{IsAuditedQuery}
 use Rattle.esr_script.specs.Ends.{IsWhole, IsReachedBy, IsWrittenBy}
 use Rattle.std.proofs.lemmas.Grind.{common_steps}
 

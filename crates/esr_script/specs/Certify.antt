@@ -5,7 +5,7 @@ use Rattle.esr_history.specs.Machine.{Schedule}
 use Rattle.esr_cert.specs.Problem.{Problem}
 use Rattle.esr_cert.specs.Certificate.{Certificate, Certifies}
 use Rattle.esr_order.specs.Least.{least_set}
-use Rattle.esr_order.specs.Near.{AreNear}
+use Rattle.esr_order.specs.Relevant.{AreRelevant}
 use Rattle.esr_audit.specs.Problems.{IsProblemOf}
 use Rattle.esr_audit.specs.Findings.{IsCounted}
 use Rattle.esr_bundle.specs.Bundle.{bundle}
@@ -17,13 +17,13 @@ abbrev pub HasAugmentations : Bool → Problem → Certificate → Type 0
 HasAugmentations true p c = IsCounted p c
 HasAugmentations false p c = c.augmentations ≡ None
 
--- The text is the bundle of the query's problem of the near updates, and of a certificate of it with the smallest
+-- The text is the bundle of the query's problem of the relevant updates, and of a certificate of it with the smallest
 -- least set.
 pub record IsBundleOf (steps : Bool) (h : Schedule) (q : ℕ) (text : List ℕ) : Type 0 where
   pub problem : Problem
   pub certificate : Certificate
-  pub of_query : IsProblemOf weighted h q problem
-  pub near : AreNear h q problem.updates
+  pub is_problem : IsProblemOf weighted h q problem
+  pub relevant : AreRelevant h q problem.updates
   pub certified : Certifies problem certificate
   pub set_is : filter_map (slice_get problem.updates) certificate.set ≡ least_set weighted h q
   pub reported : HasAugmentations steps problem certificate

@@ -7,7 +7,7 @@ pub mod Text
 pub mod Run
 pub mod Ends
 pub mod Certify
-pub mod Ask
+pub mod QueryAnswers
 pub mod Audit
 pub mod TeeReader
 pub mod ScriptView

@@ -72,9 +72,9 @@ pub fn answer_next<S: Sink, O: Observer>(
     observer: &mut O,
 ) -> Result<(), RunFault>
     requires next { IsNext next pending.old }
-    requires there { next ≢ Next.More }
+    requires is_complete { next ≢ Next.More }
     requires count { count ≤ MAX_LINES }
-    ensures few { OnOk result (count ≢ MAX_LINES) }
+    ensures within_max { OnOk result (count ≢ MAX_LINES) }
     ensures text { OnOk result ((text gone : List ℕ) × (out.old.items ++ text ≡ gone ++ out.new.items)
         × IsUnread (S.contents sink.now) gone × ((input written : List ℕ) (left : Option (List ℕ)) → InputProgress input left pending.old count script.old written
         → InputProgress input left pending.new (count + 1) script.new (written ++ text))) }

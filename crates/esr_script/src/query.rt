@@ -4,7 +4,7 @@
 
 ghost use Rattle.std.specs.Prelude.{◌≡◌, ℕ, List, Some, false};
 ghost use Rattle.esr_base.specs.Watch.{inner, failed};
-ghost use Rattle.esr_script.specs.Ask.{IsAuditedQuery};
+ghost use Rattle.esr_script.specs.QueryAnswers.{IsAuditedQuery};
 ghost use Rattle.esr_script.specs.Parts.{is_read_fault, is_write_fault};
 
 use crate::fault::RunFault;

@@ -9,7 +9,7 @@ ghost use Rattle.esr_report.specs.Names.{position_of};
 ghost use Rattle.esr_report.specs.Subjects.{named_by};
 ghost use Rattle.esr_script.specs.Text.{Executes, EndsIn, start, closed, transaction_called, item_called, item_error, with_item, begin, ask, execute, answer, ScriptState};
 ghost use Rattle.esr_script.specs.Stages.{IsBegin, is_running, history_of};
-ghost use Rattle.esr_views.specs.Ask.{IsAnswered, IsFoundOf, IsRecorded};
+ghost use Rattle.esr_views.specs.QueryAnswers.{IsAnswered, IsFoundOf, IsRecorded};
 ghost use Rattle.esr_script.specs.Audit.{IsAuditedScript, audit_output};
 ghost use Rattle.esr_history.specs.Queries.{is_committed_query};
 ghost use Rattle.esr_grammar.specs.Command.{view, IsSyntaxOf};

@@ -8,7 +8,7 @@ ghost use Rattle.esr_script.specs.Parts.{is_read_fault, is_write_fault};
 ghost use Rattle.esr_script.specs.ReaderToWriter.{ReadsAndWrites};
 ghost use Rattle.esr_script.specs.ScriptView.{IsRenderedBy};
 ghost use Rattle.esr_script.specs.Text.{ScriptState, final};
-ghost use Rattle.esr_views.specs.Ask.{IsRecorded};
+ghost use Rattle.esr_views.specs.QueryAnswers.{IsRecorded};
 
 use crate::entry_lines::EntryLines;
 use crate::fault::RunFault;

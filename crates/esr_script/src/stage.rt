@@ -10,7 +10,7 @@ ghost use Rattle.esr_history.specs.Queries.{is_committed_query};
 ghost use Rattle.esr_cert.specs.Views.{certificate_of};
 ghost use Rattle.esr_order.specs.Least.{least_set, least_cost};
 ghost use Rattle.esr_audit.specs.Findings.{IsShown, AreSummaries};
-ghost use Rattle.esr_order.specs.Near.{AreNear};
+ghost use Rattle.esr_order.specs.Relevant.{AreRelevant};
 ghost use Rattle.esr_items.specs.Weights.{weighted};
 
 use crate::declarations::Declarations;
@@ -153,7 +153,7 @@ impl Stage {
     }
 
     /// Audits a transaction.
-    #[tactic(auto, using(crate::proofs::Audits::distance_is, crate::proofs::Audits::import_is, crate::proofs::Audits::before_is, crate::proofs::Audits::shown_is, crate::proofs::Audits::near_is))]
+    #[tactic(auto, using(crate::proofs::Audits::distance_is, crate::proofs::Audits::import_is, crate::proofs::Audits::before_is, crate::proofs::Audits::shown_is, crate::proofs::Audits::relevant_is))]
     pub fn audit(&mut self, alloc: Global, q: TxnId) -> Result<Finding, AuditError>
         requires { is_running self.old ≡ true }
         ensures running { is_running self.new ≡ true }
@@ -166,7 +166,7 @@ impl Stage {
         ensures committed { IfOk result (λ f. is_committed_query (history_of self.old) q.0 ≡ true) }
         ensures shown { IfOk result (λ f. IsShown weighted (history_of self.old) q.0 f.distance
             (map (λ t. t.0) f.before.items) f.problem (certificate_of f.certificate)) }
-        ensures near { IfOk result (λ f. AreNear (history_of self.old) q.0 f.problem.updates) }
+        ensures relevant { IfOk result (λ f. AreRelevant (history_of self.old) q.0 f.problem.updates) }
         ensures refused { IsErrOf result AuditError.NotACommittedQuery
             → is_committed_query (history_of self.old) q.0 ≡ false }
         ensures workers { ¬ IsErrOf result AuditError.WorkersOutOfRange }

@@ -71,13 +71,13 @@ pub upto-ones : (f : ℕ → ℕ) (n : ℕ) → ((k : ℕ) → k < n → f k ≡
 upto-ones f zero h = refl
 upto-ones f (suc n) h = omega (arith, upto-ones f n (λ k lt. h k (omega arith)), h n (omega arith))
 
-upto-most : (f : ℕ → ℕ) (n : ℕ) → ((k : ℕ) → f k ≤ 1) → upto f n ≤ n
-upto-most f zero h = omega arith
-upto-most f (suc n) h = omega (arith, upto-most f n h, h n)
+upto-upper_bound : (f : ℕ → ℕ) (n : ℕ) → ((k : ℕ) → f k ≤ 1) → upto f n ≤ n
+upto-upper_bound f zero h = omega arith
+upto-upper_bound f (suc n) h = omega (arith, upto-upper_bound f n h, h n)
 
 -- n numbers of at most 1 that add up to n are each 1
 pub upto-each : (f : ℕ → ℕ) (n : ℕ) → ((k : ℕ) → f k ≤ 1) → n ≤ upto f n → (k : ℕ) → k < n → f k ≡ 1
 upto-each f zero h all k lt = absurd (omega arith)
 upto-each f (suc n) h all k lt =
-    let m = upto-most f n h in
+    let m = upto-upper_bound f n h in
     elim (eq_or_not k n) [ inl e ↦ ap f e ∙ omega (arith, all, m, h n) | inr ne ↦ upto-each f n h (omega (arith, all, m, h n)) k (omega arith) ]

@@ -6,7 +6,7 @@ use Rattle.std.proofs.Math.ListN.{length-set}
 use Rattle.std.proofs.lemmas.Grind.{get_or-set_at, flat_map-append}
 use Rattle.std.proofs.lemmas.Bool.Decides.{nat_tests}
 use Rattle.esr_history.specs.declared.event.Entry.{Entry}
-use Rattle.esr_session.specs.Receipts.{Names, RisesFrom, Matches, IsFirstForeign, IsGood, GoodFrom, AllGood, next_place, receipts_in, count_in, count_at, entry_of, Receipt}
+use Rattle.esr_session.specs.Receipts.{Names, RisesFrom, Matches, IsFirstForeign, IsValidReceipt, ValidFrom, AllValid, next_place, receipts_in, count_in, count_at, entry_of, Receipt}
 use Rattle.esr_session.specs.Marks.{AreMarked}
 use Rattle.esr_session.proofs.Counts.{eq_or_not, one_same, one_other, count_at-append, count_at-cons, length_receipts, upto-count, upto-ones, upto-each}
 
@@ -14,21 +14,21 @@ pub all_cons : {X : Type 0} (P : X → Type 0) (x : X) (xs : List X) → P x →
 all_cons P x xs here rest zero d lt = here
 all_cons P x xs here rest (suc k) d lt = rest k d (omega arith)
 
-low_next : (es : List Entry) (earlier : List Receipt) (low : ℕ) (rs : List Receipt) → GoodFrom es earlier low rs → low ≤ next_place low rs
+low_next : (es : List Entry) (earlier : List Receipt) (low : ℕ) (rs : List Receipt) → ValidFrom es earlier low rs → low ≤ next_place low rs
 low_next es earlier low [] h = omega arith
 low_next es earlier low (r ∷ rs) h = omega (arith, h.0.1, low_next es earlier (r.at + 1) rs h.1)
 
-none_below : (es : List Entry) (earlier : List Receipt) (low : ℕ) (rs : List Receipt) → GoodFrom es earlier low rs → (k : ℕ) → k < low → count_at k rs ≡ 0
+none_below : (es : List Entry) (earlier : List Receipt) (low : ℕ) (rs : List Receipt) → ValidFrom es earlier low rs → (k : ℕ) → k < low → count_at k rs ≡ 0
 none_below es earlier low [] h k lt = refl
 none_below es earlier low (r ∷ rs) h k lt =
     omega (arith, count_at-cons k r rs, one_other r.at k (λ e. omega (arith, e, h.0.1)), none_below es earlier (r.at + 1) rs h.1 k (omega (arith, h.0.1)))
 
-pub none_after : (es : List Entry) (earlier : List Receipt) (low : ℕ) (rs : List Receipt) → GoodFrom es earlier low rs → (k : ℕ) → next_place low rs ≤ k → count_at k rs ≡ 0
+pub none_after : (es : List Entry) (earlier : List Receipt) (low : ℕ) (rs : List Receipt) → ValidFrom es earlier low rs → (k : ℕ) → next_place low rs ≤ k → count_at k rs ≡ 0
 none_after es earlier low [] h k le = refl
 none_after es earlier low (r ∷ rs) h k le =
     grind (arith, low_next es earlier (r.at + 1) rs h.1, count_at-cons k r rs, one_other, none_after es earlier (r.at + 1) rs h.1 k le)
 
-pub good_from-snoc : (es : List Entry) (earlier : List Receipt) (low : ℕ) (rs : List Receipt) (r : Receipt) → GoodFrom es earlier low rs → IsGood es earlier (next_place low rs) r → GoodFrom es earlier low (rs ++ r ∷ [])
+pub good_from-snoc : (es : List Entry) (earlier : List Receipt) (low : ℕ) (rs : List Receipt) (r : Receipt) → ValidFrom es earlier low rs → IsValidReceipt es earlier (next_place low rs) r → ValidFrom es earlier low (rs ++ r ∷ [])
 good_from-snoc es earlier low [] r h good = (good, tt)
 good_from-snoc es earlier low (s ∷ rs) r h good = (h.0, good_from-snoc es earlier (s.at + 1) rs r h.1 good)
 
@@ -46,25 +46,25 @@ marked-snoc rs marks r h within k lt =
       | inr ne ↦ get_or-set_other marks r.at k true false ne ∙ (h k (omega (arith, lt, length-set marks r.at true)) ∙ ap (ltb 0) (omega (arith, count_at-append k rs (r ∷ []), one_other r.at k (λ e. ne (sym e)))))
     ]
 
-pub all_good-snoc : (es : List Entry) (earlier : List Receipt) (lists : List (List Receipt)) (rs : List Receipt) → AllGood es earlier lists → GoodFrom es (earlier ++ receipts_in lists) 0 rs → AllGood es earlier (lists ++ rs ∷ [])
-all_good-snoc es earlier [] rs h good = (subst (λ (e : List Receipt). GoodFrom es e 0 rs) (append-nil earlier) good, tt)
+pub all_good-snoc : (es : List Entry) (earlier : List Receipt) (lists : List (List Receipt)) (rs : List Receipt) → AllValid es earlier lists → ValidFrom es (earlier ++ receipts_in lists) 0 rs → AllValid es earlier (lists ++ rs ∷ [])
+all_good-snoc es earlier [] rs h good = (subst (λ (e : List Receipt). ValidFrom es e 0 rs) (append-nil earlier) good, tt)
 all_good-snoc es earlier (xs ∷ lists) rs h good =
-    (h.0, all_good-snoc es (earlier ++ xs) lists rs h.1 (subst (λ (e : List Receipt). GoodFrom es e 0 rs) (sym (append_assoc earlier xs (receipts_in lists))) good))
+    (h.0, all_good-snoc es (earlier ++ xs) lists rs h.1 (subst (λ (e : List Receipt). ValidFrom es e 0 rs) (sym (append_assoc earlier xs (receipts_in lists))) good))
 
-good_named : (es : List Entry) (earlier : List Receipt) (low : ℕ) (rs : List Receipt) → GoodFrom es earlier low rs → All (Names es) rs
+good_named : (es : List Entry) (earlier : List Receipt) (low : ℕ) (rs : List Receipt) → ValidFrom es earlier low rs → All (Names es) rs
 good_named es earlier low [] h = λ k d lt. absurd (omega arith)
 good_named es earlier low (r ∷ rs) h = all_cons (Names es) r rs h.0.0 (good_named es earlier (r.at + 1) rs h.1)
 
-all_named : (es : List Entry) (earlier : List Receipt) (lists : List (List Receipt)) → AllGood es earlier lists → All (Names es) (receipts_in lists)
+all_named : (es : List Entry) (earlier : List Receipt) (lists : List (List Receipt)) → AllValid es earlier lists → All (Names es) (receipts_in lists)
 all_named es earlier [] h = λ k d lt. absurd (omega arith)
 all_named es earlier (rs ∷ lists) h =
     All-append (Names es) rs (receipts_in lists) (good_named es earlier 0 rs h.0) (all_named es (earlier ++ rs) lists h.1)
 
-good_rises : (es : List Entry) (earlier : List Receipt) (low : ℕ) (rs : List Receipt) → GoodFrom es earlier low rs → RisesFrom low rs
+good_rises : (es : List Entry) (earlier : List Receipt) (low : ℕ) (rs : List Receipt) → ValidFrom es earlier low rs → RisesFrom low rs
 good_rises es earlier low [] h = tt
 good_rises es earlier low (r ∷ rs) h = (h.0.1, good_rises es earlier (r.at + 1) rs h.1)
 
-all_rise : (es : List Entry) (earlier : List Receipt) (lists : List (List Receipt)) → AllGood es earlier lists → All (RisesFrom 0) lists
+all_rise : (es : List Entry) (earlier : List Receipt) (lists : List (List Receipt)) → AllValid es earlier lists → All (RisesFrom 0) lists
 all_rise es earlier [] h = λ k d lt. absurd (omega arith)
 all_rise es earlier (rs ∷ lists) h =
     all_cons (RisesFrom 0) rs lists (good_rises es earlier 0 rs h.0) (all_rise es (earlier ++ rs) lists h.1)
@@ -73,7 +73,7 @@ all_rise es earlier (rs ∷ lists) h =
 abbrev IsNew : List Receipt → List Receipt → ℕ → Type 0
 IsNew earlier rs k = (count_at k rs ≤ 1) × (0 < count_at k rs → count_at k earlier ≡ 0)
 
-good_new : (es : List Entry) (earlier : List Receipt) (low : ℕ) (rs : List Receipt) → GoodFrom es earlier low rs → (k : ℕ) → IsNew earlier rs k
+good_new : (es : List Entry) (earlier : List Receipt) (low : ℕ) (rs : List Receipt) → ValidFrom es earlier low rs → (k : ℕ) → IsNew earlier rs k
 good_new es earlier low [] h k = (omega arith, λ lt. absurd (omega (arith, lt)))
 good_new es earlier low (r ∷ rs) h k =
     let more = count_at-cons k r rs in
@@ -93,7 +93,7 @@ at_most_one : (a b : ℕ) → a ≤ 1 → b ≤ 1 → (0 < b → a ≡ 0) → a 
 at_most_one a zero p q h = omega arith
 at_most_one a (suc b) p q h = omega (arith, h (omega arith))
 
-all_once : (es : List Entry) (earlier : List Receipt) (lists : List (List Receipt)) → AllGood es earlier lists → ((k : ℕ) → count_at k earlier ≤ 1) → (k : ℕ) → count_at k (earlier ++ receipts_in lists) ≤ 1
+all_once : (es : List Entry) (earlier : List Receipt) (lists : List (List Receipt)) → AllValid es earlier lists → ((k : ℕ) → count_at k earlier ≤ 1) → (k : ℕ) → count_at k (earlier ++ receipts_in lists) ≤ 1
 all_once es earlier [] h once k = omega (arith, once k, count_at-append k earlier [])
 all_once es earlier (rs ∷ lists) h once k =
     let more : (n : ℕ) → count_at n (earlier ++ rs) ≤ 1 = λ n.
@@ -108,12 +108,12 @@ zero_of : (n : ℕ) → ltb 0 n ≡ false → n ≡ 0
 zero_of n h = grind (arith, nat_tests)
 
 -- the place of a good receipt is not marked
-pub good_unmarked : (es : List Entry) (earlier rs : List Receipt) (marks : List Bool) (r : Receipt) → AreMarked (earlier ++ rs) marks → length marks ≡ length es → GoodFrom es earlier 0 rs → IsGood es earlier (next_place 0 rs) r → get_or marks r.at false ≡ false
+pub good_unmarked : (es : List Entry) (earlier rs : List Receipt) (marks : List Bool) (r : Receipt) → AreMarked (earlier ++ rs) marks → length marks ≡ length es → ValidFrom es earlier 0 rs → IsValidReceipt es earlier (next_place 0 rs) r → get_or marks r.at false ≡ false
 good_unmarked es earlier rs marks r marked len before good =
     grind (arith, count_at-append r.at earlier rs, none_after es earlier 0 rs before r.at good.1, named_below es r good.0, ltb 0)
 
 -- a receipt whose index is not marked is good
-pub unmarked_good : (es : List Entry) (earlier rs : List Receipt) (marks : List Bool) (r : Receipt) → AreMarked (earlier ++ rs) marks → length marks ≡ length es → Names es r → next_place 0 rs ≤ r.at → get_or marks r.at false ≡ false → IsGood es earlier (next_place 0 rs) r
+pub unmarked_good : (es : List Entry) (earlier rs : List Receipt) (marks : List Bool) (r : Receipt) → AreMarked (earlier ++ rs) marks → length marks ≡ length es → Names es r → next_place 0 rs ≤ r.at → get_or marks r.at false ≡ false → IsValidReceipt es earlier (next_place 0 rs) r
 unmarked_good es earlier rs marks r marked len names le free =
     grind (arith, zero_of, named_below es r names, count_at-append r.at earlier rs)
 
@@ -124,7 +124,7 @@ pub receipts_in-snoc : (lists : List (List Receipt)) (rs : List Receipt) → rec
 receipts_in-snoc lists rs = grind (arith, flat_map-append, append-nil rs)
 
 -- good receipts, as many as there are entries, match
-pub good_matches : (es : List Entry) (lists : List (List Receipt)) → AllGood es [] lists → length es ≤ count_in lists → Matches es lists
+pub good_matches : (es : List Entry) (lists : List (List Receipt)) → AllValid es [] lists → length es ≤ count_in lists → Matches es lists
 good_matches es lists h enough =
     let rs = receipts_in lists in
     let named = all_named es [] lists h in
@@ -168,7 +168,7 @@ rises_mid low (s ∷ good) r rest h = rises_mid (s.at + 1) good r rest h.1
 
 -- each receipt of lists that match is good
 matched_good : (es : List Entry) (done : List (List Receipt)) (good : List Receipt) (r : Receipt) (rest : List Receipt) (later : List (List Receipt))
-    → Matches es (done ++ (good ++ r ∷ rest) ∷ later) → IsGood es (receipts_in done) (next_place 0 good) r
+    → Matches es (done ++ (good ++ r ∷ rest) ∷ later) → IsValidReceipt es (receipts_in done) (next_place 0 good) r
 matched_good es done good r rest later m =
     let list = good ++ r ∷ rest in
     let names = all_mid (Names es) good r rest (all_of_list (Names es) done list later m.named) in

@@ -16,7 +16,7 @@ none_of_one = record {
   legal = (refl, tt);
   opening_is = refl;
   weights_are = refl;
-  most = omega arith;
+  upper_bound = omega arith;
   verdict = (refl, refl, omega arith);
 }
 

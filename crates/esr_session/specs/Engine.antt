@@ -25,7 +25,7 @@ pub record DoNotMatch (d : Distance) (opening : List ℤ) (weights : List ℕ) (
   pub legal : IsLegal d history
   pub opening_is : history.opening ≡ opening
   pub weights_are : history.weights ≡ weights
-  pub most : length history.entries ≤ MAX_ENTRIES
+  pub upper_bound : length history.entries ≤ MAX_ENTRIES
   pub verdict : IsVerdict history.entries lists (Err error)
 
 -- The reason for a refused close, as far as it can be stated about a history that remains inside the lock.

@@ -51,8 +51,8 @@ pub record Matches (entries : List Entry) (lists : List (List Receipt)) : Type 0
   pub rising : All (RisesFrom 0) lists
 
 -- the receipt names an entry, at a place not below `low` that no earlier receipt has
-abbrev pub IsGood : List Entry → List Receipt → ℕ → Receipt → Type 0
-IsGood entries earlier low r = Names entries r × (low ≤ r.at) × (count_at r.at earlier ≡ 0)
+abbrev pub IsValidReceipt : List Entry → List Receipt → ℕ → Receipt → Type 0
+IsValidReceipt entries earlier low r = Names entries r × (low ≤ r.at) × (count_at r.at earlier ≡ 0)
 
 -- the place that the next receipt of a list may not be below
 abbrev pub next_place : ℕ → List Receipt → ℕ
@@ -60,14 +60,14 @@ next_place low [] = low
 next_place low (r ∷ rs) = next_place (r.at + 1) rs
 
 -- each receipt of a list is good, after those of earlier lists
-abbrev pub GoodFrom : List Entry → List Receipt → ℕ → List Receipt → Type 0
-GoodFrom entries earlier low [] = Unit {0}
-GoodFrom entries earlier low (r ∷ rs) = IsGood entries earlier low r × GoodFrom entries earlier (r.at + 1) rs
+abbrev pub ValidFrom : List Entry → List Receipt → ℕ → List Receipt → Type 0
+ValidFrom entries earlier low [] = Unit {0}
+ValidFrom entries earlier low (r ∷ rs) = IsValidReceipt entries earlier low r × ValidFrom entries earlier (r.at + 1) rs
 
 -- each receipt of each list is good
-abbrev pub AllGood : List Entry → List Receipt → List (List Receipt) → Type 0
-AllGood entries earlier [] = Unit {0}
-AllGood entries earlier (rs ∷ lists) = GoodFrom entries earlier 0 rs × AllGood entries (earlier ++ rs) lists
+abbrev pub AllValid : List Entry → List Receipt → List (List Receipt) → Type 0
+AllValid entries earlier [] = Unit {0}
+AllValid entries earlier (rs ∷ lists) = ValidFrom entries earlier 0 rs × AllValid entries (earlier ++ rs) lists
 
 -- the first receipt of a list that is not good
 pub record IsForeignIn (entries : List Entry) (earlier : List Receipt) (list : List Receipt)
@@ -75,8 +75,8 @@ pub record IsForeignIn (entries : List Entry) (earlier : List Receipt) (list : L
   pub good : List Receipt
   pub rest : List Receipt
   pub parts : list ≡ good ++ r ∷ rest
-  pub before : GoodFrom entries earlier 0 good
-  pub bad : ¬ IsGood entries earlier (next_place 0 good) r
+  pub before : ValidFrom entries earlier 0 good
+  pub bad : ¬ IsValidReceipt entries earlier (next_place 0 good) r
 
 -- the first receipt of all lists that is not good
 pub record IsFirstForeign (entries : List Entry) (lists : List (List Receipt)) (r : Receipt) : Type 0 where
@@ -84,7 +84,7 @@ pub record IsFirstForeign (entries : List Entry) (lists : List (List Receipt)) (
   pub list : List Receipt
   pub later : List (List Receipt)
   pub parts : lists ≡ done ++ list ∷ later
-  pub before : AllGood entries [] done
+  pub before : AllValid entries [] done
   pub foreign : IsForeignIn entries (receipts_in done) list r
 
 -- the result of comparing receipts with a history

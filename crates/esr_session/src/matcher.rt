@@ -3,7 +3,7 @@
 //! The lists are scanned in order, with a mark for each entry, so the time is linear in the number of receipts. The
 //! trait `HasReceipts` lets a close compare the receipts of its sessions in place.
 ghost use Rattle.std.specs.Prelude.{◌≡◌, List, ◌+◌, ◌<◌, ◌≤◌, ◌↔◌, ◌++◌, [], false, IsTrue, length, map, slice_index_or, vec_len, MatchOption, OnOk, IfOk, IfErr, IfSome, IfNone};
-ghost use Rattle.esr_session.specs.Receipts.{IsVerdict, count_in, receipts_in, GoodFrom, IsForeignIn, Matches, Names};
+ghost use Rattle.esr_session.specs.Receipts.{IsVerdict, count_in, receipts_in, ValidFrom, IsForeignIn, Matches, Names};
 ghost use Rattle.esr_session.specs.declared.receipt.Receipt.{Receipt};
 ghost use Rattle.esr_session.specs.Marks.{AreMarked};
 
@@ -95,7 +95,7 @@ fn match_list<M: Metric, L: HasReceipts>(
     requires len { vec_len marks.old ≡ length history.now.schedule.entries }
     requires marked { AreMarked (receipts_in (map L.receipts done.now)) marks.old.items }
     ensures len { vec_len marks.new ≡ vec_len marks.old }
-    ensures good { IfNone result (GoodFrom history.now.schedule.entries
+    ensures good { IfNone result (ValidFrom history.now.schedule.entries
         (receipts_in (map L.receipts done.now)) 0 list.now) }
     ensures marked { IfNone result (AreMarked (receipts_in (map L.receipts done.now) ++ list.now) marks.new.items) }
     ensures foreign { IfSome result (IsForeignIn history.now.schedule.entries

@@ -117,9 +117,9 @@ impl<M: Metric + Drop, N: Naming> Session<M, N> {
         Ok(last)
     }
 
-    /// Executes up to `most` events from `source` under a single acquisition of the lock. Stops early when an event is
+    /// Executes up to `upper_bound` events from `source` under a single acquisition of the lock. Stops early when an event is
     /// blocked or `source` is exhausted. Returns the number of events executed, which is 0 only if `source` was empty
-    /// or `most` is 0.
+    /// or `upper_bound` is 0.
     ///
     /// # Errors
     /// The first error of `step_on`; earlier events remain executed.
@@ -127,14 +127,14 @@ impl<M: Metric + Drop, N: Naming> Session<M, N> {
         &mut self,
         rt: &R,
         source: &mut A,
-        most: usize,
+        upper_bound: usize,
     ) -> Result<usize, StepError>
-        ensures receipts { (more : List Receipt) × (self.new ≡ self.old ++ more) × (length more ≤ most)
+        ensures receipts { (more : List Receipt) × (self.new ≡ self.old ++ more) × (length more ≤ upper_bound)
             × All (IsReceipt M.distance_by N.opening N.weights) more × IfOk result (λ n. n ≡ length more) }
         ensures source { (first : A) → A.Became first self.old source.old → A.Became first self.new source.new }
-        ensures none { IfOk result (λ n. 1 ≤ most → n ≡ 0 → A.next source.old ≡ None) }
+        ensures none { IfOk result (λ n. 1 ≤ upper_bound → n ≡ 0 → A.next source.old ≡ None) }
     {
         let mut locked = self.shared.lock(rt);
-        step_several(&mut *locked, &mut self.pocket, source, most)
+        step_several(&mut *locked, &mut self.pocket, source, upper_bound)
     }
 }

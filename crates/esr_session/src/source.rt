@@ -38,19 +38,19 @@ pub trait EventSource {
             → Became first receipts self.old → Became first (receipts ++ receipt ∷ []) self.new };
 }
 
-/// Executes up to `most` events of a source, until one is blocked or the source is exhausted. Returns how many.
+/// Executes up to `upper_bound` events of a source, until one is blocked or the source is exhausted. Returns how many.
 pub(crate) fn step_several<M: Metric, N: Naming, A: EventSource>(
     locked: &mut Locked<M, N>,
     pocket: &mut Pocket<N>,
     source: &mut A,
-    most: usize,
+    upper_bound: usize,
 ) -> Result<usize, StepError>
-    ensures receipts { (more : List Receipt) × (pocket.new ≡ pocket.old ++ more) × (length more ≤ most)
+    ensures receipts { (more : List Receipt) × (pocket.new ≡ pocket.old ++ more) × (length more ≤ upper_bound)
         × All (IsReceipt M.distance_by N.opening N.weights) more × IfOk result (λ n. n ≡ length more) }
     ensures source { (first : A) → A.Became first pocket.old source.old → A.Became first pocket.new source.new }
-    ensures none { IfOk result (λ n. 1 ≤ most → n ≡ 0 → A.next source.old ≡ None) }
+    ensures none { IfOk result (λ n. 1 ≤ upper_bound → n ≡ 0 → A.next source.old ≡ None) }
 {
-    for count in 0..most {
+    for count in 0..upper_bound {
         let Some(event) = source.next() else {
             return Ok(count);
         };
@@ -60,5 +60,5 @@ pub(crate) fn step_several<M: Metric, N: Naming, A: EventSource>(
             return Ok(count + 1);
         }
     }
-    Ok(most)
+    Ok(upper_bound)
 }

@@ -3,7 +3,7 @@ use Rattle.std.proofs.Common.{◌≡◌, ◌∙◌, ℕ, List, ap, IfOk, Result,
 use Rattle.esr_items.specs.Weights.{weighted}
 use Rattle.esr_history.specs.Machine.{Schedule}
 use Rattle.esr_views.specs.declared.recording.Recording.{Recording}
-use Rattle.esr_views.specs.Ask.{IsRecorded}
+use Rattle.esr_views.specs.QueryAnswers.{IsRecorded}
 use Rattle.esr_views.specs.State.{ScriptState}
 use Rattle.esr_tables.specs.declared.format.Format.TheVariants.{Csv}
 use Rattle.esr_tables.specs.Csv.{ledger_csv}

@@ -4,7 +4,7 @@ use Rattle.esr_history.specs.declared.event.Reply.{Reply}
 use Rattle.esr_history.specs.declared.event.Entry.{Entry}
 use Rattle.esr_history.specs.declared.event.Reply.TheVariants.{Value, Wrote, Refused}
 use Rattle.esr_history.specs.declared.event.Refusal.TheVariants.{BlockedByLock, BlockedByImport, BlockedByExport}
-use Rattle.esr_history.specs.Events.{Beginning, beginning, numbers, limit_of, is_query, is_committed}
+use Rattle.esr_history.specs.Events.{Beginning, beginning, txn_numbers, limit_of, is_query, is_committed}
 use Rattle.esr_history.specs.Machine.{Distance, Schedule, accepted_in, charges_in, import_in, export_in}
 use Rattle.esr_history.specs.Queries.{is_committed_query}
 use Rattle.esr_history.specs.BackLinks.{txn_in, is_key, last_place, accepted_end}
@@ -95,4 +95,4 @@ row_of d h t = record {
 
 -- a row for each transaction, in the order of their numbers
 abbrev pub rows_of : Distance → Schedule → List Row
-rows_of d h = map (row_of d h) (numbers (accepted_in h))
+rows_of d h = map (row_of d h) (txn_numbers (accepted_in h))

@@ -6,7 +6,7 @@ ghost use Rattle.esr_tables.specs.Csv.{ledger_csv};
 ghost use Rattle.esr_tables.specs.Entries.{AreColumns};
 ghost use Rattle.esr_tables.specs.Spans.{first_of, last_of};
 ghost use Rattle.esr_tables.specs.Written.{IsLedger, IsLedgerOf};
-ghost use Rattle.esr_views.specs.Ask.{IsRecorded};
+ghost use Rattle.esr_views.specs.QueryAnswers.{IsRecorded};
 ghost use Rattle.esr_views.specs.State.{ScriptState};
 
 use crate::csv::push_ledger;

@@ -3,7 +3,7 @@ use Rattle.std.specs.Prelude.{ℕ, ℤ, List, [], ◌∷◌, filter, map, if◌t
 use Rattle.esr_items.specs.Weights.{weighted}
 use Rattle.esr_history.specs.declared.event.Event.{Event}
 use Rattle.esr_history.specs.declared.event.Reply.{Reply}
-use Rattle.esr_history.specs.Events.{is_query, numbers}
+use Rattle.esr_history.specs.Events.{is_query, txn_numbers}
 use Rattle.esr_history.specs.Machine.{Schedule, accepted_in, charges_in, export_in, extended, import_in, reply_to, schedule_of}
 use Rattle.esr_history.specs.Queries.{is_committed_query}
 use Rattle.esr_order.specs.Least.{least_cost, least_set}
@@ -49,8 +49,8 @@ audit_of h q = found q (least_cost weighted h q) (least_set weighted h q)
 
 abbrev pub outcome_in : Schedule → Outcome
 outcome_in h =
-    outcome (map (λ e. e.reply) h.entries) (map (charge_of h) (numbers (accepted_in h)))
-    (map (audit_of h) (filter (is_committed_query h) (numbers (accepted_in h))))
+    outcome (map (λ e. e.reply) h.entries) (map (charge_of h) (txn_numbers (accepted_in h)))
+    (map (audit_of h) (filter (is_committed_query h) (txn_numbers (accepted_in h))))
 
 abbrev pub outcome_of : Play → Outcome
 outcome_of p = outcome_in (after (schedule_of p.opening p.weights []) p.events)

@@ -12,7 +12,7 @@ use std::alloc::{AllocError, Global};
 
 /// A text about a query of a script.
 pub trait QueryView {
-    ghost use Rattle.esr_views.specs.Ask.{IsAnswered};
+    ghost use Rattle.esr_views.specs.QueryAnswers.{IsAnswered};
     ghost use Rattle.esr_views.specs.State.{ScriptState};
 
     /// Whether it is the text of the query of that name after a script.

@@ -7,7 +7,7 @@ use std::alloc::{AllocError, Global};
 
 /// A text about a script.
 pub trait ScriptView {
-    ghost use Rattle.esr_views.specs.Ask.{IsRecorded};
+    ghost use Rattle.esr_views.specs.QueryAnswers.{IsRecorded};
     ghost use Rattle.esr_views.specs.State.{ScriptState};
 
     /// Whether it is the text of a script that leads to this state.

@@ -129,7 +129,7 @@ impl<'a> Replay<'a> {
     pub fn query_reads(&self, x: ItemId) -> &[QueryReads]
         requires { x.0 < length self.now.opening }
         ensures reads { map query_and_count result.now ≡ (item_locks (accepted_in self.now) x.0).queries }
-        ensures most { All (λ r. r.count ≤ MAX_READS) result.now }
+        ensures upper_bound { All (λ r. r.count ≤ MAX_READS) result.now }
     {
         self.machine.query_reads(x)
     }

@@ -84,10 +84,10 @@ fn push_if(found: &mut Vec<Shortfall>, more: Option<Shortfall>) -> Result<(), Al
 
 /// Returns the total charge to the queries that have read an item, if one read of each costs this amount.
 fn total(reads: &[QueryReads], amount: u64) -> u128
-    requires few { All (λ r. r.count ≤ MAX_READS) reads.now }
+    requires within_max { All (λ r. r.count ≤ MAX_READS) reads.now }
     requires amount { amount ≤ max_distance }
     ensures total { result ≡ sum_by (λ r. r.1 * amount) (map query_and_count reads.now) }
-    ensures most { result ≤ 2 ^ 126 }
+    ensures upper_bound { result ≤ 2 ^ 126 }
 {
     let mut sum = 0u128;
     for r in reads {
@@ -153,7 +153,7 @@ impl Replay<'_> {
 
     /// Returns the shortfall of a query that has read an item `reads.count` times, if one read costs this amount.
     fn reads_lack(&self, reads: QueryReads, amount: u64) -> Option<Shortfall>
-        requires few { reads.count ≤ MAX_READS }
+        requires within_max { reads.count ≤ MAX_READS }
         requires amount { amount ≤ max_distance }
         ensures { result ≡ import_lack weighted self.now reads.query.0 (reads.count * amount) }
     {
@@ -167,7 +167,7 @@ impl Replay<'_> {
         reads: &[QueryReads],
         amount: u64,
     ) -> Result<(), AllocError>
-        requires few { All (λ r. r.count ≤ MAX_READS) reads.now }
+        requires within_max { All (λ r. r.count ≤ MAX_READS) reads.now }
         requires amount { amount ≤ max_distance }
         ensures { OnOk result (found.new.items ≡ found.old.items
             ++ filter_map (λ r. import_lack weighted self.now r.0 (r.1 * amount)) (map query_and_count reads.now)) }

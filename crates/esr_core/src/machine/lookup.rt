@@ -37,7 +37,7 @@ impl<M: Metric> Machine<M> {
     pub fn query_reads(&self, x: ItemId) -> &[QueryReads]
         requires { x.0 < length self.now.opening }
         ensures reads { map query_and_count result.now ≡ (item_locks (accepted_in self.now) x.0).queries }
-        ensures most { All (λ r. r.count ≤ MAX_READS) result.now }
+        ensures upper_bound { All (λ r. r.count ≤ MAX_READS) result.now }
     {
         self.state.locks.query_reads(x)
     }

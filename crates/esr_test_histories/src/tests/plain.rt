@@ -594,9 +594,9 @@ fn pairs_conflict(alloc: Global, order: &Order, operations: &[Operation]) -> Opt
 /// Returns whether an order's pairs tie its updates as all pairs of conflicting updates do, and are few.
 fn pairs_agree(alloc: Global, log: &Log, order: &Order) -> Option<bool> {
     let operations = operations_in(alloc, log, order.commits()).ok()?;
-    let few = order.before().len() <= operations.len().saturating_mul(2);
+    let within_max = order.before().len() <= operations.len().saturating_mul(2);
     let conflict = pairs_conflict(alloc, order, &operations)?;
-    Some(few && conflict && rows_agree(alloc, order, &operations)?)
+    Some(within_max && conflict && rows_agree(alloc, order, &operations)?)
 }
 
 /// Returns whether an update wrote an item.
@@ -676,18 +676,18 @@ fn mark_back(order: &Order, marks: &mut [bool]) {
     }
 }
 
-/// Returns the near updates of a query: the seeds, and the updates from which pairs lead to a seed.
-fn near_of(alloc: Global, log: &Log, order: &Order, q: u32) -> Result<Vec<TxnId>, AllocError> {
+/// Returns the relevant updates of a query: the seeds, and the updates from which pairs lead to a seed.
+fn relevant_of(alloc: Global, log: &Log, order: &Order, q: u32) -> Result<Vec<TxnId>, AllocError> {
     let mut marks = seeds_of(alloc, log, order, q)?;
     mark_back(order, &mut marks);
     let commits = order.commits();
-    let mut near = Vec::new(alloc);
+    let mut relevant = Vec::new(alloc);
     for i in 0..commits.len() {
         if is_marked(&marks, i) {
-            near.push(commits[i])?;
+            relevant.push(commits[i])?;
         }
     }
-    Ok(near)
+    Ok(relevant)
 }
 
 /// Returns whether the chains of an order have the writers of each item.
@@ -701,9 +701,9 @@ fn chains_agree(alloc: Global, history: &History<Plain>, order: &Order) -> Optio
     Some(true)
 }
 
-/// Returns the order of a query among its near updates, or `None` if an allocation fails.
-fn near_order(alloc: Global, m: &Machine<Plain>, q: u32) -> Option<Order> {
-    Order::near(alloc, m.history(), TxnId(q)).ok()
+/// Returns the order of a query among its relevant updates, or `None` if an allocation fails.
+fn relevant_order(alloc: Global, m: &Machine<Plain>, q: u32) -> Option<Order> {
+    Order::relevant(alloc, m.history(), TxnId(q)).ok()
 }
 
 /// Returns the order of a query, if it is committed; or `None` if an allocation fails.
@@ -715,27 +715,28 @@ fn order_if(alloc: Global, m: &Machine<Plain>, q: u32) -> Option<Option<Order>> 
     }
 }
 
-/// Returns whether an order and the one among the near updates are those of all pairs.
+/// Returns whether an order and the one among the relevant updates are those of all pairs.
 fn both_agree(
     alloc: Global,
     m: &Machine<Plain>,
     q: u32,
     whole: &Order,
-    near: &Order,
+    relevant: &Order,
 ) -> Option<bool> {
     let log = m.log();
-    let updates = near_of(alloc, log, whole, q).ok()?;
-    let same = near.commits() == updates.as_slice() && near.must().len() == whole.must().len();
-    Some(same && pairs_agree(alloc, log, whole)? && pairs_agree(alloc, log, near)?)
+    let updates = relevant_of(alloc, log, whole, q).ok()?;
+    let same = relevant.commits() == updates.as_slice()
+        && relevant.must().len() == whole.must().len();
+    Some(same && pairs_agree(alloc, log, whole)? && pairs_agree(alloc, log, relevant)?)
 }
 
-/// Returns whether the order of a query, and that among its near updates, are those of all pairs.
+/// Returns whether the order of a query, and that among its relevant updates, are those of all pairs.
 fn order_agrees(alloc: Global, m: &Machine<Plain>, q: u32) -> Option<bool> {
     let Some(whole) = order_if(alloc, m, q)? else {
         return Some(true);
     };
-    let near = near_order(alloc, m, q)?;
-    Some(chains_agree(alloc, m.history(), &whole)? && both_agree(alloc, m, q, &whole, &near)?)
+    let relevant = relevant_order(alloc, m, q)?;
+    Some(chains_agree(alloc, m.history(), &whole)? && both_agree(alloc, m, q, &whole, &relevant)?)
 }
 
 /// Returns whether the orders agree, of every `each`-th transaction.

@@ -8,11 +8,11 @@ use std::io;
 use std::io::{Read, Write};
 use std::process::Abort;
 
-/// Yields up to `most` bytes at a time, and fails after `left` calls.
+/// Yields up to `upper_bound` bytes at a time, and fails after `left` calls.
 #[derive(Drop)]
 pub struct Cut<'a> {
     pub rest: &'a [u8],
-    pub most: usize,
+    pub upper_bound: usize,
     pub left: usize,
 }
 
@@ -22,18 +22,18 @@ impl Read for Cut<'_> {
             return Err(io::Error::from(io::ErrorKind::BrokenPipe));
         }
         self.left -= 1;
-        let count = buf.len().min(self.most);
+        let count = buf.len().min(self.upper_bound);
         self.rest.read(&mut buf[..count])
     }
 }
 
 /// Returns a reader of the text that fails after `left` calls.
-pub fn cut_after(text: &str, most: usize, left: usize) -> Watched<Cut<'_>>
+pub fn cut_after(text: &str, upper_bound: usize, left: usize) -> Watched<Cut<'_>>
     ensures { failed result ≡ false }
 {
     Watched::new(Cut {
         rest: text.as_bytes(),
-        most,
+        upper_bound,
         left,
     })
 }
@@ -45,11 +45,11 @@ pub enum Way {
     TakesNone,
 }
 
-/// Takes up to `most` bytes at a time, and fails after `left` calls.
+/// Takes up to `upper_bound` bytes at a time, and fails after `left` calls.
 #[derive(Drop)]
 pub struct Narrow {
     pub taken: Vec<u8>,
-    pub most: usize,
+    pub upper_bound: usize,
     pub left: usize,
     pub way: Way,
 }
@@ -63,7 +63,7 @@ impl Write for Narrow {
             };
         }
         self.left -= 1;
-        let count = buf.len().min(self.most);
+        let count = buf.len().min(self.upper_bound);
         self.taken.extend_from_slice(&buf[..count])?;
         Ok(count)
     }
@@ -78,12 +78,12 @@ impl Write for Narrow {
 }
 
 /// Returns a writer that has taken nothing yet, and fails after `left` calls.
-pub fn narrow_until(alloc: Global, most: usize, left: usize, way: Way) -> Watched<Narrow>
+pub fn narrow_until(alloc: Global, upper_bound: usize, left: usize, way: Way) -> Watched<Narrow>
     ensures { failed result ≡ false }
 {
     Watched::new(Narrow {
         taken: Vec::new(alloc),
-        most,
+        upper_bound,
         left,
         way,
     })

@@ -8,16 +8,16 @@ use Rattle.esr_order.specs.Orders.{Ordered, chain_at}
 use Rattle.esr_cert.specs.Problem as spec
 use Rattle.esr_cert.specs.Views.{chain_of as chain_view}
 use Rattle.esr_audit.specs.Reads.{values_of, audit_chain, audit_chain_by, audit_chain_from, ItemRead}
-use Rattle.esr_audit.proofs.Gathered.{list_is, values_few, values_in_range, none_read, some_read, chain_step, chain_skip}
+use Rattle.esr_audit.proofs.Gathered.{list_is, values_bounded, values_in_range, none_read, some_read, chain_step, chain_skip}
 use Rattle.esr_audit.proofs.chains.chains_of.Goals as goal
 use Rattle.esr_audit.proofs.chains.chains_of.Goals.{then-not-is_empty+in_ok-chain_of+in_ok-push, else-not-is_empty}
 
-pub chain_of-requires-clause-few : goal.chain_of-requires-clause-few
-chain_of-requires-clause-few g c =
+pub chain_of-requires-clause-within_max : goal.chain_of-requires-clause-within_max
+chain_of-requires-clause-within_max g c =
     let x : ℕ = c.loop-x.x in
     let inside : x < length c.in_ok-lists.lists.items = omega (arith, c.loop-x-test.true, c.items.ensures.items, c.items-x-end.ensures.items, c.in_ok-lists.ensures.count) in
     let values = c.deref.ensures.value ∙ list_is c.in_ok-lists.lists.items x c.index-values.result.now inside c.index-values.ensures ∙ c.in_ok-lists.ensures.values x (omega (arith, inside, c.in_ok-lists.ensures.count)) in
-    omega (arith, values_few c.args.reads.now x, ap (λ (xs : List ℤ). length xs) values, c.requires.few)
+    omega (arith, values_bounded c.args.reads.now x, ap (λ (xs : List ℤ). length xs) values, c.requires.within_max)
 
 pub chain_of-requires-clause-values : goal.chain_of-requires-clause-values
 chain_of-requires-clause-values g c =

@@ -5,7 +5,7 @@ use Rattle.esr_history.specs.Machine.{accepted_in}
 use Rattle.esr_history.specs.Operations.{commit_order}
 use Rattle.esr_history.specs.Queries.{is_committed_query}
 use Rattle.esr_audit.specs.Findings.{committed_queries}
-use Rattle.esr_audit.proofs.Committed.{updates_are, queries_are, queries_committed, few_queries}
+use Rattle.esr_audit.proofs.Committed.{updates_are, queries_are, queries_committed, bounded_queries}
 use Rattle.esr_audit.proofs.commits.commit_lists.Goals as goal
 
 pub returns : goal.returns
@@ -21,5 +21,5 @@ returns g c =
       updates = ap numbers c.in_ok-lists.ensures.updates ∙ updates_are d h legal txns are;
       queries = queries;
       committed = subst (All (λ (t : TxnId). IsTrue (is_committed_query h t.0))) (sym c.in_ok-lists.ensures.queries) (queries_committed d h legal txns are);
-      few = subst (λ n. n ≤ 65535) (sym count ∙ sym lists.queries.ok.0) (few_queries d h legal);
+      within_max = subst (λ n. n ≤ 65535) (sym count ∙ sym lists.queries.ok.0) (bounded_queries d h legal);
     }

@@ -19,7 +19,7 @@ returns-in-Err-clause-end c =
     let so_far = c.loop-i.invariant in
     subst (λ (n : ℕ). IsEnd c.args.engine.now c.args.events.now c.args.stop n (status_number c.in-Err.why)) (sym so_far.counted)
     (ended c.args.engine.now c.loop-i.engine c.args.events.now c.loop-i.i c.loop-i.replies none so_far.answered within
-    c.args.stop c.in-Err.why so_far.accepted c.in-Err.ensures.known.1
+    c.args.stop c.in-Err.why so_far.accepted c.in-Err.ensures.statuses.1
     (λ is. c.in-Err.ensures.unknown (ap (λ (e : Status). Err e) is)) (λ is. c.in-Err.ensures.full (ap (λ (e : Status). Err e) is)))
 
 pub returns-then-is_refusal-clause-answered : goal.returns-then-is_refusal-clause-answered

@@ -14,4 +14,4 @@ returns c =
     let before : c.args.variable.now.held.history ≡ Some h = c.in-Some.ensures.engine ∙ ap (λ (k : Schedule). Some k) (sym c.deref_mut.ensures.value) in
     subst (λ (o : Option Schedule). IsForUpdateCall c.args.txn c.args.item o c.open_engine.result.held.history c.args.reply.now reply n) (sym before)
     (subst (λ (o : Option Schedule). IsForUpdateCall c.args.txn c.args.item (Some h) o c.args.reply.now reply n) (sym c.open_engine.ensures)
-    (call_of c.args.txn c.args.item h g c.args.reply.now reply c.read_and_reply-status.result reported.known reported.full reported.done reported.err reported.kept))
+    (call_of c.args.txn c.args.item h g c.args.reply.now reply c.read_and_reply-status.result reported.statuses reported.full reported.done reported.err reported.kept))

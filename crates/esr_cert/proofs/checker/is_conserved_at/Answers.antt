@@ -21,7 +21,7 @@ pub returns : goal.returns
 returns c =
     let p : Problem = c.args.problem.now in
     let q : Certificate = certificate_of c.args.certificate.now in
-    let row = c.rows-rows.ensures.laid.rows.row c.args.v (omega (arith, c.requires.update)) in
+    let row = c.rows-rows.ensures.laid_out.rows.row c.args.v (omega (arith, c.requires.update)) in
     c.is_balanced.ensures
     ∙ ap (is_balanced (amounts q)) (c.row.ensures ∙ ap (λ steps. row_in steps (span_at c.rows-rows.result.now.spans.items c.args.v)) c.deref.ensures.value ∙ row)
     ∙ balanced_at p (facts p c.rows-rows.ensures.sound) q (matched p q c.requires.within) c.args.v

@@ -3,8 +3,8 @@ use Rattle.std.proofs.lemmas.List.{length-map}
 use Rattle.esr_cert.specs.Problem.{Problem}
 use Rattle.esr_cert.specs.Network.{network, HaveEnds}
 use Rattle.esr_cert.specs.Starts.{starts_from}
-use Rattle.esr_cert.specs.Views.{chain_of, posed_by}
-use Rattle.esr_cert.proofs.Sound.{facts, are_few}
+use Rattle.esr_cert.specs.Views.{chain_of, problem_by}
+use Rattle.esr_cert.proofs.Sound.{facts, are_bounded}
 use Rattle.esr_cert.proofs.Worth.{arc_count}
 use Rattle.esr_cert.proofs.Least.{is_network}
 use Rattle.esr_cert.proofs.ArcsLaws.{costs_count, count_is}
@@ -12,8 +12,8 @@ use Rattle.esr_cert.proofs.problem.network_of.Goals as goal
 
 pub arc_count-requires : goal.arc_count-requires
 arc_count-requires c =
-    let p : Problem = posed_by c.args.parts.now in
-    omega (arith, (are_few p c.requires.sound).chains, length-map c.args.parts.now.chains.items chain_of, ap length c.deref-2.ensures.value)
+    let p : Problem = problem_by c.args.parts.now in
+    omega (arith, (are_bounded p c.requires.sound).chains, length-map c.args.parts.now.chains.items chain_of, ap length c.deref-2.ensures.value)
 
 pub starts_of-requires : goal.starts_of-requires
 starts_of-requires c =
@@ -32,12 +32,12 @@ index-requires c =
 
 pub owners_of-requires : goal.owners_of-requires
 owners_of-requires c =
-    let p : Problem = posed_by c.args.parts.now in
-    omega (arith, (are_few p c.requires.sound).chains, length-map c.args.parts.now.chains.items chain_of, ap length c.deref-5.ensures.value)
+    let p : Problem = problem_by c.args.parts.now in
+    omega (arith, (are_bounded p c.requires.sound).chains, length-map c.args.parts.now.chains.items chain_of, ap length c.deref-5.ensures.value)
 
-pub rows_of-requires-clause-few : goal.rows_of-requires-clause-few
-rows_of-requires-clause-few c =
-    let p : Problem = posed_by c.args.parts.now in
+pub rows_of-requires-clause-within_max : goal.rows_of-requires-clause-within_max
+rows_of-requires-clause-within_max c =
+    let p : Problem = problem_by c.args.parts.now in
     omega (
       arith,
       ap length c.arcs_of.ensures,
@@ -51,7 +51,7 @@ rows_of-requires-clause-few c =
 
 pub rows_of-requires-clause-ends : goal.rows_of-requires-clause-ends
 rows_of-requires-clause-ends c =
-    let p : Problem = posed_by c.args.parts.now in
+    let p : Problem = problem_by c.args.parts.now in
     let nodes : c.len-2.result + 2 ≡ (network p).nodes = omega (arith, length-map c.args.parts.now.updates.items (λ t. t.0), c.len-2.ensures, c.args.parts.now.updates.ok.0) in
     subst (λ arcs. HaveEnds arcs (c.len-2.result + 2)) (sym c.arcs_of.ensures)
     (subst (HaveEnds (network p).arcs) (sym nodes) (is_network p (facts p c.requires.sound)).ends)

@@ -17,7 +17,7 @@ count_links-requires-clause-links c = links_here c.chains-source.result.0.now c.
 pub overflow_add-begin : goal.overflow_add-begin
 overflow_add-begin c =
     let here = links_here c.chains-source.result.0.now c.chains-source.ensures.links c.loop-chain.invariant.place c.loop-chain-test.true c.chain-item.is in
-    omega (arith, here.inside, c.requires.few, c.len-begin.ensures, c.chain-item.result.costs.ok.0)
+    omega (arith, here.inside, c.requires.within_max, c.len-begin.ensures, c.chain-item.result.costs.ok.0)
 
 pub loop-chain-preserved : goal.loop-chain-preserved
 loop-chain-preserved c =

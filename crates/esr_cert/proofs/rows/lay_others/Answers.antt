@@ -1,6 +1,6 @@
 use Rattle.std.proofs.Common.{arith, subst}
-use Rattle.esr_cert.specs.Rows.{Laid}
-use Rattle.esr_cert.proofs.Laid.{within_along, within_against, laid_more}
+use Rattle.esr_cert.specs.Rows.{IsLaidOut}
+use Rattle.esr_cert.proofs.IsLaidOut.{within_along, within_against, laid_more}
 use Rattle.esr_cert.proofs.rows.lay_others.Goals as goal
 
 pub add_step-requires-clause-in_bounds : goal.add_step-requires-clause-in_bounds
@@ -17,4 +17,4 @@ loop-i-preserved c =
     _ _ (rw c.at-arc.ensures at c.add_step-in-loop-i.ensures.spans) (rw c.at-arc.ensures at c.add_step-in-loop-i.ensures.steps)
 
 pub returns : goal.returns
-returns c = subst (λ n. Laid c.args.arcs.now c.args._nodes n c.loop-i.rows.spans.items c.loop-i.rows.steps.items) (omega (arith, c.loop-i-test.false, c.loop-i.auto.i-end, c.requires.first, c.len-i-end.ensures)) c.loop-i.invariant
+returns c = subst (λ n. IsLaidOut c.args.arcs.now c.args._nodes n c.loop-i.rows.spans.items c.loop-i.rows.steps.items) (omega (arith, c.loop-i-test.false, c.loop-i.auto.i-end, c.requires.first, c.len-i-end.ensures)) c.loop-i.invariant

@@ -2,7 +2,7 @@ use Rattle.std.proofs.Common.{◌≡◌, ◌++◌, ◌∷◌, [], ◌∙◌, ap,
 use Rattle.std.proofs.lemmas.Int.{to_z-of_z}
 use Rattle.std.proofs.lemmas.List.{map_more}
 use Rattle.std.proofs.lemmas.List.Elements.{All-push}
-use Rattle.esr_core.specs.Words.{Versions}
+use Rattle.esr_core.specs.Types.{Versions}
 use Rattle.esr_items.specs.Values.{IsValue, both_versions}
 use Rattle.esr_core.proofs.machine.committed_values.Goals as goal
 

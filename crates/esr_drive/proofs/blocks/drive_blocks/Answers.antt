@@ -13,7 +13,7 @@ returns-in-Err g c =
     let rans = c.in_ok-all.all.items in
     let len : length rans ≡ length tasks = search rules in
     subst (λ (b : List (List Call)). IsEngineFault b c.in-Err.fault) c.in_ok-tasks.ensures.calls
-    (fault_reported (λ task. task.calls.now) (λ ran. ran.session) tasks rans c.in-Err.fault len c.in_ok-all.ensures.most c.in-Err.ensures.engine c.in-Err.ensures.full)
+    (fault_reported (λ task. task.calls.now) (λ ran. ran.session) tasks rans c.in-Err.fault len c.in_ok-all.ensures.upper_bound c.in-Err.ensures.engine c.in-Err.ensures.full)
 
 pub returns-in-Ok-close : goal.returns-in-Ok-close
 returns-in-Ok-close g c =
@@ -30,7 +30,7 @@ returns-in-Ok-close g c =
         legal = h.2;
         opening_is = h.0 ∙ sym c.requires.opening;
         weights_are = h.1 ∙ sym c.requires.weights;
-        most = h.3;
+        upper_bound = h.3;
         answered = subst (λ (b : List (List Call)). AreAnswered b lists) calls ran.0;
         commands = subst (λ (b : List (List Call)). map (λ b. map (λ a. a.command) b) (all_answers b lists) ≡ map (λ b. map command_of b) b) calls ran.2;
         receipts = sessions;

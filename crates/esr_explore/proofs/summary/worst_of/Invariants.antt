@@ -5,4 +5,4 @@ use Rattle.esr_explore.proofs.summary.worst_of.Given as goal
 
 -- it is the first of the greatest of the runs so far
 abbrev pub invariant-loop-i : goal.invariant-loop-i
-invariant-loop-i l = IsFirst (map (size_of l.measure) (take l.i l.summaries)) l.worst l.most
+invariant-loop-i l = IsFirst (map (size_of l.measure) (take l.i l.summaries)) l.worst l.upper_bound

@@ -1,7 +1,7 @@
 use Rattle.std.proofs.Common.{rules, arith, ◌≡◌, ℕ, ◌+◌, ◌∙◌, ◌<◌, true, get_or, length, set, sym, ap, subst, below_more, Option, Some, None, refl}
 use Rattle.esr_cert.specs.Network.{arc_at}
 use Rattle.esr_cert.specs.Flow.{within, amount_at}
-use Rattle.esr_flow.specs.Words.{Arc}
+use Rattle.esr_flow.specs.Types.{Arc}
 use Rattle.esr_flow.specs.Graph.{arcs_of}
 use Rattle.esr_flow.proofs.SumLaws.{sums_more, sums_same}
 use Rattle.esr_flow.proofs.flows.sum_arcs.Goals as goal
@@ -19,7 +19,7 @@ loop-i-preserved c =
     let out : c.add_arc.new.from ≡ set c.loop-i.from (arc_at arcs i).from (get_or c.loop-i.from (arc_at arcs i).from 0 + amount_at flow i) =
     subst (λ (a : Arc). c.add_arc.new.from ≡ set c.loop-i.from a.from (get_or c.loop-i.from a.from 0 + amount_at flow i)) is (c.add_arc.ensures.from added) in record {
       capacities = below_more _ _ c.loop-i.invariant.capacities capacity;
-      most = below_more _ _ (λ k l. omega (arith, c.loop-i.invariant.most k l, c.max-greatest.ensures)) (omega (arith, c.max-greatest.ensures));
+      upper_bound = below_more _ _ (λ k l. omega (arith, c.loop-i.invariant.upper_bound k l, c.max-greatest.ensures)) (omega (arith, c.max-greatest.ensures));
       to = sums_more arcs flow c.requires.flow i in_arcs (λ a. a.to) c.loop-i.into c.add_arc.new.into nodes (omega (arith, c.loop-i.auto.into, c.requires.into)) ends.1 to c.loop-i.invariant.to;
       out = sums_more arcs flow c.requires.flow i in_arcs (λ a. a.from) c.loop-i.from c.add_arc.new.from nodes (omega (arith, c.loop-i.auto.from, c.requires.from)) ends.0 out c.loop-i.invariant.out;
     }
@@ -34,7 +34,7 @@ loop-i-preserved-then-amount-eq0 c =
     let in_arcs : i < length arcs = omega (arith, c.loop-i-test.true, c.requires.flow) in
     let none : amount_at flow i ≡ 0 = c.if-amount-eq0.true in record {
       capacities = below_more _ _ c.loop-i.invariant.capacities (subst (λ n. within n (arc_at arcs i).capacity ≡ true) (sym none) (nothing_within (arc_at arcs i).capacity));
-      most = below_more _ _ c.loop-i.invariant.most (omega (arith, none));
+      upper_bound = below_more _ _ c.loop-i.invariant.upper_bound (omega (arith, none));
       to = sums_same arcs flow c.requires.flow i in_arcs (λ a. a.to) c.loop-i.into nodes none c.loop-i.invariant.to;
       out = sums_same arcs flow c.requires.flow i in_arcs (λ a. a.from) c.loop-i.from nodes none c.loop-i.invariant.out;
     }

@@ -1,11 +1,11 @@
 use Rattle.std.proofs.Common.{arith, ◌≡◌, length, replicate, rules, sym, subst, ap, ◌∙◌}
 use Rattle.esr_cert.specs.Flow.{worth}
-use Rattle.esr_flow.specs.Augmentation.{TakesFrom}
+use Rattle.esr_flow.specs.Augmentation.{AugmentsFrom}
 use Rattle.esr_flow.specs.Graph.{arcs_of, net_of}
 use Rattle.esr_flow.specs.Maximum.{IsStart}
 use Rattle.esr_flow.proofs.FlowLaws.{Taken, taken, zero_worth, zero_start}
 use Rattle.esr_flow.proofs.MaximumLaws.{takes_zeros}
-use Rattle.esr_flow.proofs.Phases.{few_augmentations}
+use Rattle.esr_flow.proofs.Phases.{bounded_augmentations}
 use Rattle.esr_flow.proofs.maximum.find_maximum.Goals as goal
 
 pub maximum_from-requires-clause-start : goal.maximum_from-requires-clause-start
@@ -19,17 +19,17 @@ maximum_from-requires-clause-value c =
     sym (ap (worth (net_of c.args.graph.now)) zeros ∙ zero_worth (net_of c.args.graph.now))
 
 -- the augmentations are from the flow of zeros
-from_zeros : (c : goal.In_ok-maximum) → TakesFrom (net_of c.args.graph.now) (replicate (length (arcs_of c.args.graph.now)) 0) c.in_ok-maximum.maximum.augmentations c.in_ok-maximum.maximum.flow.items
+from_zeros : (c : goal.In_ok-maximum) → AugmentsFrom (net_of c.args.graph.now) (replicate (length (arcs_of c.args.graph.now)) 0) c.in_ok-maximum.maximum.augmentations c.in_ok-maximum.maximum.flow.items
 from_zeros c =
     let zeros : c.in_ok-none.none.items ≡ replicate (length (arcs_of c.args.graph.now)) 0 = search rules in
-    subst (λ first. TakesFrom (net_of c.args.graph.now) first c.in_ok-maximum.maximum.augmentations c.in_ok-maximum.maximum.flow.items) zeros c.in_ok-maximum.ensures.takes
+    subst (λ first. AugmentsFrom (net_of c.args.graph.now) first c.in_ok-maximum.maximum.augmentations c.in_ok-maximum.maximum.flow.items) zeros c.in_ok-maximum.ensures.takes
 
 pub returns-clause-takes : goal.returns-clause-takes
 returns-clause-takes c = takes_zeros (net_of c.args.graph.now) c.in_ok-maximum.maximum.augmentations c.in_ok-maximum.maximum.flow.items (from_zeros c)
 
-pub returns-clause-few : goal.returns-clause-few
-returns-clause-few c =
-    few_augmentations (net_of c.args.graph.now) c.args.graph.now.kept.is_network (replicate (length (arcs_of c.args.graph.now)) 0) (zero_start (net_of c.args.graph.now)).is_flow.same_length c.in_ok-maximum.maximum.augmentations c.in_ok-maximum.maximum.flow.items (from_zeros c)
+pub returns-clause-within_max : goal.returns-clause-within_max
+returns-clause-within_max c =
+    bounded_augmentations (net_of c.args.graph.now) c.args.graph.now.kept.is_network (replicate (length (arcs_of c.args.graph.now)) 0) (zero_start (net_of c.args.graph.now)).is_flow.same_length c.in_ok-maximum.maximum.augmentations c.in_ok-maximum.maximum.flow.items (from_zeros c)
 
 pub returns-clause-worth : goal.returns-clause-worth
 returns-clause-worth c =

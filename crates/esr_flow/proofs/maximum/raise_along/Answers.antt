@@ -1,5 +1,5 @@
 use Rattle.std.proofs.Common.{◌≡◌, ◌+◌, get_or, set, take, sym, ◌∙◌, ap}
-use Rattle.esr_flow.specs.Words.{ResidualArc, Forward}
+use Rattle.esr_flow.specs.Types.{ResidualArc, Forward}
 use Rattle.esr_flow.specs.Residual.{raise, shift}
 use Rattle.esr_flow.proofs.MaximumLaws.{raise_more}
 use Rattle.esr_flow.proofs.maximum.raise_along.Goals as goal

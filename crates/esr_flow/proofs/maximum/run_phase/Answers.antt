@@ -4,7 +4,7 @@ use Rattle.esr_flow.specs.Search.{IsGuided}
 use Rattle.esr_flow.specs.Maximum.{InArcs}
 use Rattle.esr_flow.proofs.FlowLaws.{Taken}
 use Rattle.esr_flow.proofs.MaximumLaws.{path_in_arcs}
-use Rattle.esr_flow.proofs.PhaseLaws.{Running, run_more, running_flow, running_few}
+use Rattle.esr_flow.proofs.PhaseLaws.{Running, run_more, running_flow, running_bounded}
 use Rattle.esr_flow.proofs.maximum.run_phase.Goals as goal
 
 pub augment-worth-requires-clause-flow : goal.augment-worth-requires-clause-flow
@@ -52,7 +52,7 @@ next_path-requires-clause-guides c =
 pub loop-path-smaller : goal.loop-path-smaller
 loop-path-smaller c =
     let r : Running (net_of c.args.graph.now) c.args.flow.now c.augment-worth.new.flow c.args.labels.now c.args.before.augmentations (c.loop-path.augmentations + 1) (c.loop-path.worth + c.augment-worth.result) = run_more (net_of c.args.graph.now) c.args.flow.now c.loop-path.flow c.augment-worth.new.flow c.args.labels.now c.loop-path.path.items c.args.before.augmentations c.loop-path.augmentations c.loop-path.worth c.augment-worth.result c.loop-path.invariant.0 c.loop-path.invariant.1 c.augment-worth.ensures.augments c.augment-worth.ensures.worth in
-    let few : c.loop-path.augmentations + 1 ≤ c.args.graph.now.nodes * length (arcs_of c.args.graph.now) + c.args.before.augmentations = running_few (net_of c.args.graph.now) c.args.graph.now.kept.is_network c.args.flow.now c.augment-worth.new.flow c.args.labels.now c.args.before.augmentations (c.loop-path.augmentations + 1) (c.loop-path.worth + c.augment-worth.result) r in
+    let within_max : c.loop-path.augmentations + 1 ≤ c.args.graph.now.nodes * length (arcs_of c.args.graph.now) + c.args.before.augmentations = running_bounded (net_of c.args.graph.now) c.args.graph.now.kept.is_network c.args.flow.now c.augment-worth.new.flow c.args.labels.now c.args.before.augmentations (c.loop-path.augmentations + 1) (c.loop-path.worth + c.augment-worth.result) r in
     omega arith
 
 pub loop-path-preserved : goal.loop-path-preserved

@@ -1,9 +1,9 @@
 use Rattle.std.proofs.Common.{arith, ◌*◌, ◌≤◌, length, refl}
-use Rattle.esr_flow.specs.Augmentation.{TakesFrom}
+use Rattle.esr_flow.specs.Augmentation.{AugmentsFrom}
 use Rattle.esr_flow.specs.Graph.{arcs_of, net_of}
 use Rattle.esr_flow.proofs.FlowLaws.{Taken, taken}
 use Rattle.esr_flow.proofs.MaximumLaws.{takes_on}
-use Rattle.esr_flow.proofs.Phases.{few_augmentations}
+use Rattle.esr_flow.proofs.Phases.{bounded_augmentations}
 use Rattle.esr_flow.proofs.maximum.run_phases.Goals as goal
 
 pub loop-marks-init : goal.loop-marks-init
@@ -22,10 +22,10 @@ run_phase-requires-clause-count c =
 pub loop-marks-smaller : goal.loop-marks-smaller
 loop-marks-smaller c =
     let p = c.in_ok-progress-in-Path.progress in
-    let joined : TakesFrom (net_of c.args.graph.now) c.args.flow.now p.augmentations c.run_phase.new.flow = takes_on (net_of c.args.graph.now) c.args.flow.now c.loop-marks.flow c.run_phase.new.flow c.loop-marks.progress.augmentations p.augmentations c.in_ok-progress-in-Path.ensures.more c.loop-marks.invariant.0 c.in_ok-progress-in-Path.ensures.takes in
-    let few : p.augmentations ≤ c.args.graph.now.nodes * length (arcs_of c.args.graph.now) =
-    few_augmentations (net_of c.args.graph.now) c.args.graph.now.kept.is_network c.args.flow.now c.requires.start.is_flow.same_length p.augmentations c.run_phase.new.flow joined in
-    omega (arith, few, c.in_ok-progress-in-Path.ensures.more)
+    let joined : AugmentsFrom (net_of c.args.graph.now) c.args.flow.now p.augmentations c.run_phase.new.flow = takes_on (net_of c.args.graph.now) c.args.flow.now c.loop-marks.flow c.run_phase.new.flow c.loop-marks.progress.augmentations p.augmentations c.in_ok-progress-in-Path.ensures.more c.loop-marks.invariant.0 c.in_ok-progress-in-Path.ensures.takes in
+    let within_max : p.augmentations ≤ c.args.graph.now.nodes * length (arcs_of c.args.graph.now) =
+    bounded_augmentations (net_of c.args.graph.now) c.args.graph.now.kept.is_network c.args.flow.now c.requires.start.is_flow.same_length p.augmentations c.run_phase.new.flow joined in
+    omega (arith, within_max, c.in_ok-progress-in-Path.ensures.more)
 
 pub loop-marks-preserved : goal.loop-marks-preserved
 loop-marks-preserved c =

@@ -1,6 +1,6 @@
 use Rattle.std.proofs.Common.{arith, ◌≡◌, ℕ, ◌+◌, ◌-◌, ◌<◌, ◌≤◌, [], ◌∷◌, ◌++◌, List, length, set, drop, sym, ◌∙◌, ap, subst, suc, true, false, length-set, length-take}
 use Rattle.std.proofs.lemmas.List.{length_push, get_or_read}
-use Rattle.esr_flow.specs.Words.{Arc, ResidualArc, Forward}
+use Rattle.esr_flow.specs.Types.{Arc, ResidualArc, Forward}
 use Rattle.esr_cert.specs.Flow.{within}
 use Rattle.esr_cert.specs.Network.{Network}
 use Rattle.esr_flow.specs.ShortEntry.{AdjacencyEntry}
@@ -14,7 +14,7 @@ use Rattle.esr_flow.proofs.WalkLaws.{Walk, walk_push, walk_pop, walk_end, popped
 use Rattle.esr_flow.proofs.paths.next_path.Goals as goal
 
 pub offset_bounds-labels-graph : goal.offset_bounds-labels-graph
-offset_bounds-labels-graph c = omega (arith, c.args.graph.now.kept.is_network.source_is_node, c.requires.guides.count, c.args.graph.now.kept.few)
+offset_bounds-labels-graph c = omega (arith, c.args.graph.now.kept.is_network.source_is_node, c.requires.guides.count, c.args.graph.now.kept.within_max)
 
 pub bounds-labels-graph : goal.bounds-labels-graph
 bounds-labels-graph c = omega (arith, c.args.graph.now.kept.is_network.source_is_node, c.requires.guides.count)

@@ -1,7 +1,7 @@
 use Rattle.std.proofs.Common.{◌≡◌, ◌∙◌, true, set, sym, ap, subst}
 use Rattle.esr_cert.specs.Network.{arc_at}
 use Rattle.esr_cert.specs.Flow.{within, amount_at}
-use Rattle.esr_flow.specs.Words.{Arc, Forward, Backward}
+use Rattle.esr_flow.specs.Types.{Arc, Forward, Backward}
 use Rattle.esr_flow.specs.Graph.{arcs_of, net_of}
 use Rattle.esr_flow.specs.Residual.{left_of}
 use Rattle.esr_flow.specs.Reached.{AreReached}

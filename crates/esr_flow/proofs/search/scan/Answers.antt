@@ -1,7 +1,7 @@
 use Rattle.std.proofs.Common.{arith, ◌≡◌, ℕ, ◌+◌, ◌<◌, true, false, List, [], ◌∷◌, ◌++◌, length, get_or, set, sym, ap, ◌∙◌, subst}
 use Rattle.std.proofs.lemmas.List.{get_or_read}
 use Rattle.esr_flow.specs.ShortEntry.{AdjacencyEntry}
-use Rattle.esr_flow.specs.Words.{Forward}
+use Rattle.esr_flow.specs.Types.{Forward}
 use Rattle.esr_flow.specs.Graph.{net_of}
 use Rattle.esr_cert.specs.Steps.{step_at}
 use Rattle.esr_flow.specs.Search.{is_marked, FoundSink}

@@ -1,5 +1,5 @@
 use Rattle.std.proofs.Common.{◌≡◌, true, false, set, replicate, [], ◌∷◌, subst, sym, ◌∙◌, ap, ◌++◌}
-use Rattle.esr_flow.specs.Words.{Forward}
+use Rattle.esr_flow.specs.Types.{Forward}
 use Rattle.esr_flow.specs.Graph.{net_of}
 use Rattle.esr_flow.specs.Search.{is_marked, Searched, Visit}
 use Rattle.esr_flow.proofs.PathLaws.{begin, sink_unmarked}

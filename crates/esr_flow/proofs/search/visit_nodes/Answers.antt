@@ -1,5 +1,5 @@
 use Rattle.std.proofs.Common.{arith, ◌≡◌, ℕ, false, subst, ◌∙◌, ap}
-use Rattle.esr_flow.specs.Words.{Forward}
+use Rattle.esr_flow.specs.Types.{Forward}
 use Rattle.std.proofs.lemmas.List.{get_or_default}
 use Rattle.esr_flow.specs.Graph.{net_of, Graph}
 use Rattle.esr_cert.specs.Rows.{row_in, span_at}

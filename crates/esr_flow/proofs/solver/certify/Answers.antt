@@ -25,8 +25,8 @@ overflow_sub-chains_end c =
 pub members-requires-clause-capacity_left : goal.members-requires-clause-capacity_left
 members-requires-clause-capacity_left c = omega (arith, c.requires.marks, length-map c.updates.result.now (λ t. t.0), ap length c.updates.ensures.list, ap length c.deref.ensures.value)
 
-pub members-requires-clause-few : goal.members-requires-clause-few
-members-requires-clause-few c = omega (arith, c.updates.ensures.few, length-map c.updates.result.now (λ t. t.0), ap length c.updates.ensures.list)
+pub members-requires-clause-within_max : goal.members-requires-clause-within_max
+members-requires-clause-within_max c = omega (arith, c.updates.ensures.within_max, length-map c.updates.result.now (λ t. t.0), ap length c.updates.ensures.list)
 
 pub chain_rows-requires : goal.chain_rows-requires
 chain_rows-requires c =

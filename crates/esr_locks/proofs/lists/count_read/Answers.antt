@@ -17,5 +17,5 @@ returns-in-Ok-clause-items c =
 pub returns-in-Err-clause-items : goal.returns-in-Err-clause-items
 returns-in-Err-clause-items c = grind (arith, placed_gap)
 
-pub returns-in-Err-clause-fresh : goal.returns-in-Err-clause-fresh
-returns-in-Err-clause-fresh c = ap not (sym (any_gap (λ r. r.query.0) c.args.q.0 c.in-Err.at c.args.queries.now.items c.in-Err.ensures.absent))
+pub returns-in-Err-clause-is_new : goal.returns-in-Err-clause-is_new
+returns-in-Err-clause-is_new c = ap not (sym (any_gap (λ r. r.query.0) c.args.q.0 c.in-Err.at c.args.queries.now.items c.in-Err.ensures.absent))

@@ -37,7 +37,7 @@ loop-i-preserved g c =
       gathered_more h updates i c.loop-i.i next inside no_txn (map seen_links c.loop-i.chains) (map (λ r. r.items) c.loop-i.readers) c.loop-i.pairs.items c.loop-i.invariant.2 c.in_ok-accesses.accesses.now made
           (map seen_links c.put_turn.new.chains) (map (λ r. r.items) c.put_turn.new.readers) (c.in_ok-put_turn.ensures.later steps before)
           c.put_turn.new.conflicts.items c.put_in_order.new.positions.items (c.in_ok-put_turn.ensures.conflicts steps before ∙ ap (λ l. l ++ turn_conflicts (map (operation_at i) c.in_ok-accesses.accesses.now) steps) c.clear.ensures.items)
-          c.put_in_order.ensures.ascending c.put_in_order.ensures.keeps c.put_in_order.ensures.adds_none c.put_in_order.ensures.few
+          c.put_in_order.ensures.ascending c.put_in_order.ensures.keeps c.put_in_order.ensures.adds_none c.put_in_order.ensures.within_max
           c.conflict_back.new.pairs.items (c.in_ok-conflict_back.ensures ∙ ap (λ l. c.loop-i.pairs.items ++ reverse (pairs_from i l)) c.deref.ensures.value),
     )
 

@@ -4,14 +4,14 @@ use Rattle.esr_history.specs.Operations.{operations}
 use Rattle.esr_order.specs.Turns.{turns}
 use Rattle.esr_order.specs.Conflicts.{on_item, AreConflicts, AreNextPaired}
 use Rattle.esr_order.specs.Chains.{chain_from, last_by_update, seen_links}
-use Rattle.esr_order.proofs.Amid.{few_pairs, made}
+use Rattle.esr_order.proofs.Amid.{bounded_pairs, made}
 use Rattle.esr_order.proofs.order.among.Goals as goal
 
 pub returns-clause-sparse : goal.returns-clause-sparse
 returns-clause-sparse g c =
     let h = c.args.history.now.schedule in
     let pairs = c.in_ok-gathered.gathered.pairs.items in
-    few_pairs g.M.Metric.distance_by h c.log-legal.ensures.legal c.args.commits.items c.requires.once c.requires.keeps c.requires.few pairs
+    bounded_pairs g.M.Metric.distance_by h c.log-legal.ensures.legal c.args.commits.items c.requires.once c.requires.keeps c.requires.within_max pairs
     (subst (λ commits. AreConflicts (turns (operations h) 0 (map (λ t. t.0) commits)) pairs) c.deref.ensures.value c.in_ok-gathered.ensures.conflicting)
 
 pub returns-clause-order : goal.returns-clause-order
@@ -19,7 +19,7 @@ returns-clause-order g c = λ q musts.
     let h = c.args.history.now.schedule in
     let pairs = c.in_ok-gathered.gathered.pairs.items in
     let same = c.deref.ensures.value in
-    made g.M.Metric.distance_by h c.log-legal.ensures.legal c.args.commits.items c.requires.once c.requires.keeps c.requires.few pairs c.in_ok-gathered.ensures.ascending (
+    made g.M.Metric.distance_by h c.log-legal.ensures.legal c.args.commits.items c.requires.once c.requires.keeps c.requires.within_max pairs c.in_ok-gathered.ensures.ascending (
       subst (λ commits. AreConflicts (turns (operations h) 0 (map (λ t. t.0) commits)) pairs) same c.in_ok-gathered.ensures.conflicting,
       (λ x. subst (λ commits. AreNextPaired pairs (filter (λ s. s.writes) (on_item x (turns (operations h) 0 (map (λ t. t.0) commits))))) same (c.in_ok-gathered.ensures.next x)),
     )

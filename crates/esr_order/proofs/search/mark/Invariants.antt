@@ -1,6 +1,6 @@
 use Rattle.std.proofs.Common.{◌≡◌, ℕ, ◌||◌, length, take}
 use Rattle.std.specs.List.{list_any}
-use Rattle.esr_order.specs.Seeking.{marked, is_access}
+use Rattle.esr_order.specs.BackwardSearch.{marked, is_access}
 use Rattle.esr_order.proofs.search.mark.Given as goal
 
 -- the accesses so far

@@ -1,6 +1,6 @@
 use Rattle.std.proofs.Common.{◌≡◌, ◌+◌, ◌≤◌, ◌<◌, ◌++◌, ◌∷◌, [], List, length, map, take, drop, suc, sym, subst, ap, ◌∙◌, arith, rules}
 use Rattle.std.proofs.lemmas.List.{take_more, take_all, take-map, length-map}
-use Rattle.esr_session.specs.Receipts.{GoodFrom, AllGood, IsForeignIn, count_in, receipts_in, Receipt}
+use Rattle.esr_session.specs.Receipts.{ValidFrom, AllValid, IsForeignIn, count_in, receipts_in, Receipt}
 use Rattle.esr_session.specs.Marks.{AreMarked}
 use Rattle.esr_session.proofs.Good.{good_matches, foreign_unmatched, matches_count, all_good-snoc, receipts_in-snoc, cut_at}
 use Rattle.esr_session.proofs.Lists.{mapped_at}
@@ -52,15 +52,15 @@ loop-i-preserved g c =
     take_more m i (g.L.HasReceipts.receipts v) within ∙ ap (λ l. take i m ++ l ∷ []) (mapped_at g.L.HasReceipts.receipts lists i v c.index-lists-i.is) in
     let before : receipts_in (map g.L.HasReceipts.receipts (take i lists)) ≡ receipts_in (take i m) =
     ap receipts_in (sym (take-map g.L.HasReceipts.receipts i lists)) in
-    let good : GoodFrom es (receipts_in (map g.L.HasReceipts.receipts (take i lists))) 0 c.receipts.result.now = search rules in
+    let good : ValidFrom es (receipts_in (map g.L.HasReceipts.receipts (take i lists))) 0 c.receipts.result.now = search rules in
     let marked : AreMarked (receipts_in (map g.L.HasReceipts.receipts (take i lists)) ++ c.receipts.result.now) c.match_list.new.marks.items = search rules in
-    let good' : GoodFrom es (receipts_in (take i m)) 0 (g.L.HasReceipts.receipts v) =
-    subst (λ (l : List Receipt). GoodFrom es (receipts_in (take i m)) 0 l) c.receipts.ensures (subst (λ (l : List Receipt). GoodFrom es l 0 c.receipts.result.now) before good) in
+    let good' : ValidFrom es (receipts_in (take i m)) 0 (g.L.HasReceipts.receipts v) =
+    subst (λ (l : List Receipt). ValidFrom es (receipts_in (take i m)) 0 l) c.receipts.ensures (subst (λ (l : List Receipt). ValidFrom es l 0 c.receipts.result.now) before good) in
     let receipts : receipts_in (map g.L.HasReceipts.receipts (take i lists)) ++ c.receipts.result.now ≡ receipts_in (take (i + 1) m) =
     ap (λ l. l ++ c.receipts.result.now) before ∙ (ap (λ l. receipts_in (take i m) ++ l) c.receipts.ensures ∙ (sym (receipts_in-snoc (take i m) (g.L.HasReceipts.receipts v)) ∙ ap receipts_in (sym more))) in
     record {
       len = c.match_list.ensures.len ∙ inv.len;
-      good = subst (λ (l : List (List Receipt)). AllGood es [] l) (sym more) (all_good-snoc es [] (take i m) (g.L.HasReceipts.receipts v) inv.good good');
+      good = subst (λ (l : List (List Receipt)). AllValid es [] l) (sym more) (all_good-snoc es [] (take i m) (g.L.HasReceipts.receipts v) inv.good good');
       marked = subst (λ (l : List Receipt). AreMarked l c.match_list.new.marks.items) receipts marked;
     }
 
@@ -75,7 +75,7 @@ returns-clause-every_entry g c =
     let i = c.loop-i.i in
     let all : take i m ≡ m = take_all i m (omega (arith, length-map c.args.lists.now g.L.HasReceipts.receipts, c.loop-i-test.false)) in
     let enough : length es ≤ count_in m = search rules in
-    matches_count es m (good_matches es m (subst (λ (l : List (List Receipt)). AllGood es [] l) all c.loop-i.invariant.good) enough)
+    matches_count es m (good_matches es m (subst (λ (l : List (List Receipt)). AllValid es [] l) all c.loop-i.invariant.good) enough)
 
 pub returns-in-Some-clause-exact : goal.returns-in-Some-clause-exact
 returns-in-Some-clause-exact g c =

@@ -1,5 +1,5 @@
 use Rattle.std.proofs.Common.{◌≡◌, [], map, take, vec_len, length}
-use Rattle.esr_session.specs.Receipts.{AllGood, receipts_in}
+use Rattle.esr_session.specs.Receipts.{AllValid, receipts_in}
 use Rattle.esr_session.specs.Marks.{AreMarked}
 use Rattle.esr_session.proofs.matcher.match_all.Given as goal
 
@@ -8,6 +8,6 @@ abbrev pub invariant-loop-i : goal.invariant-loop-i
 invariant-loop-i g l =
     record {
       len : vec_len l.marks ≡ length l.history.schedule.entries;
-      good : AllGood l.history.schedule.entries [] (take l.i (map g.L.HasReceipts.receipts l.lists));
+      good : AllValid l.history.schedule.entries [] (take l.i (map g.L.HasReceipts.receipts l.lists));
       marked : AreMarked (receipts_in (take l.i (map g.L.HasReceipts.receipts l.lists))) l.marks.items;
     }

@@ -2,7 +2,7 @@ use Rattle.std.proofs.Common.{◌≡◌, ◌+◌, ◌≤◌, ◌++◌, ◌∷◌
 use Rattle.std.proofs.lemmas.List.{take_more}
 use Rattle.esr_history.specs.declared.event.Event.TheVariants.{BeginUpdate}
 use Rattle.esr_history.specs.declared.event.Reply.TheVariants.{Begun}
-use Rattle.esr_session.specs.Receipts.{GoodFrom, next_place, receipt, receipts_in, Receipt}
+use Rattle.esr_session.specs.Receipts.{ValidFrom, next_place, receipt, receipts_in, Receipt}
 use Rattle.esr_session.specs.Marks.{AreMarked}
 use Rattle.esr_session.proofs.Good.{good_unmarked, unmarked_good, cut_at, good_from-snoc, next_place-snoc, marked-snoc, named_below}
 use Rattle.esr_session.proofs.matcher.match_list.Goals as goal
@@ -59,6 +59,6 @@ loop-r-preserved g c =
     record {
       len = inv.len;
       low_is = sym (ap (next_place 0) more ∙ next_place-snoc 0 (take i list) r);
-      good = subst (λ (l : List Receipt). GoodFrom es earlier 0 l) (sym more) (good_from-snoc es earlier 0 (take i list) r inv.good good);
+      good = subst (λ (l : List Receipt). ValidFrom es earlier 0 l) (sym more) (good_from-snoc es earlier 0 (take i list) r inv.good good);
       marked = subst (λ (l : List Receipt). AreMarked l (set marks r.at true)) (append_assoc earlier (take i list) (r ∷ []) ∙ ap (λ l. earlier ++ l) (sym more)) (marked-snoc (earlier ++ take i list) marks r inv.marked (omega (arith, len, below)));
     }

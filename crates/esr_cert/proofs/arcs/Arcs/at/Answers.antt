@@ -1,10 +1,10 @@
 use Rattle.std.proofs.Common.{arith, ◌∙◌, ◌<◌, get_or, length, ap, sym, subst}
 use Rattle.esr_cert.specs.Network.{arc_at}
-use Rattle.esr_cert.proofs.ArcsLaws.{updates_few, count_is, chains_few, row_in_chains, chain_whole, place_in_chain, link_of, pair_is, must_inside, must_is}
+use Rattle.esr_cert.proofs.ArcsLaws.{updates_bounded, count_is, chains_bounded, row_in_chains, chain_whole, place_in_chain, link_of, pair_is, must_inside, must_is}
 use Rattle.esr_cert.proofs.arcs.Arcs.at.Goals as goal
 
 pub overflow_cast-source : goal.overflow_cast-source
-overflow_cast-source c = omega (arith, updates_few c.self.inside.updates.now c.self.inside.before.now c.self.inside.chains.now c.self.inside.must.now c.self.invariant.0 c.self.inside.starts.now c.self.invariant.1)
+overflow_cast-source c = omega (arith, updates_bounded c.self.inside.updates.now c.self.inside.before.now c.self.inside.chains.now c.self.inside.must.now c.self.invariant.0 c.self.inside.starts.now c.self.invariant.1)
 
 pub bounds-self-inside-self-inside : goal.bounds-self-inside-self-inside
 bounds-self-inside-self-inside c = omega (arith, count_is c.self.inside.updates.now c.self.inside.before.now c.self.inside.chains.now c.self.inside.must.now c.self.invariant.0 c.self.inside.starts.now c.self.invariant.1)
@@ -14,7 +14,7 @@ offset_bounds-self-inside-chain-then-number-links c =
     omega (
       arith,
       row_in_chains c.self.inside.updates.now c.self.inside.before.now c.self.inside.chains.now c.self.inside.must.now c.self.invariant.0 c.self.inside.starts.now c.self.invariant.1 c.args.number c.owner_at-chain.result c.if-number-links.true c.owner_at-chain.ensures.bound c.owner_at-chain.ensures.begun c.owner_at-chain.ensures.last,
-      chains_few c.self.inside.updates.now c.self.inside.before.now c.self.inside.chains.now c.self.inside.must.now c.self.invariant.0 c.self.inside.starts.now c.self.invariant.1,
+      chains_bounded c.self.inside.updates.now c.self.inside.before.now c.self.inside.chains.now c.self.inside.must.now c.self.invariant.0 c.self.inside.starts.now c.self.invariant.1,
     )
 
 pub bounds-self-inside-chain-then-number-links : goal.bounds-self-inside-chain-then-number-links
@@ -30,7 +30,7 @@ link_at-requires-clause-place c =
     place_in_chain c.self.inside.updates.now c.self.inside.before.now c.self.inside.chains.now c.self.inside.must.now c.self.invariant.0 c.self.inside.starts.now c.self.invariant.1 c.args.number c.owner_at-chain.result c.if-number-links.true c.owner_at-chain.ensures.bound c.owner_at-chain.ensures.begun c.owner_at-chain.ensures.last (get_or c.self.inside.chains.now c.owner_at-chain.result c.index-self-chain.result) (ap (get_or c.self.inside.chains.now c.owner_at-chain.result) c.index-self-chain.is)
 
 pub link_at-requires-clause-source : goal.link_at-requires-clause-source
-link_at-requires-clause-source c = updates_few c.self.inside.updates.now c.self.inside.before.now c.self.inside.chains.now c.self.inside.must.now c.self.invariant.0 c.self.inside.starts.now c.self.invariant.1
+link_at-requires-clause-source c = updates_bounded c.self.inside.updates.now c.self.inside.before.now c.self.inside.chains.now c.self.inside.must.now c.self.invariant.0 c.self.inside.starts.now c.self.invariant.1
 
 pub returns-then-number-links : goal.returns-then-number-links
 returns-then-number-links c =

@@ -2,12 +2,12 @@ use Rattle.std.proofs.Common.{arith, sym, subst, refl, length}
 use Rattle.std.proofs.lemmas.List.{length-map}
 use Rattle.esr_cert.specs.Links.{HaveLinks}
 use Rattle.esr_cert.specs.Views.{problem_of}
-use Rattle.esr_cert.proofs.ArcsLaws.{updates_few}
+use Rattle.esr_cert.proofs.ArcsLaws.{updates_bounded}
 use Rattle.esr_cert.proofs.LinksLaws.{have_links}
 use Rattle.esr_cert.proofs.arcs.Arcs.chains.Goals as goal
 
 pub overflow_cast-source : goal.overflow_cast-source
-overflow_cast-source c = omega (arith, updates_few c.self.inside.updates.now c.self.inside.before.now c.self.inside.chains.now c.self.inside.must.now c.self.invariant.0 c.self.inside.starts.now c.self.invariant.1)
+overflow_cast-source c = omega (arith, updates_bounded c.self.inside.updates.now c.self.inside.before.now c.self.inside.chains.now c.self.inside.must.now c.self.invariant.0 c.self.inside.starts.now c.self.invariant.1)
 
 pub returns-clause-links : goal.returns-clause-links
 returns-clause-links c =
@@ -15,5 +15,5 @@ returns-clause-links c =
     (have_links (problem_of c.self.inside.updates.now c.self.inside.before.now c.self.inside.chains.now c.self.inside.must.now) c.self.invariant.0 c.self.inside.chains.now refl (length c.self.inside.updates.now)
     (sym (length-map c.self.inside.updates.now (λ t. t.0))))
 
-pub returns-clause-few : goal.returns-clause-few
-returns-clause-few c = omega (arith, updates_few c.self.inside.updates.now c.self.inside.before.now c.self.inside.chains.now c.self.inside.must.now c.self.invariant.0 c.self.inside.starts.now c.self.invariant.1)
+pub returns-clause-within_max : goal.returns-clause-within_max
+returns-clause-within_max c = omega (arith, updates_bounded c.self.inside.updates.now c.self.inside.before.now c.self.inside.chains.now c.self.inside.must.now c.self.invariant.0 c.self.inside.starts.now c.self.invariant.1)

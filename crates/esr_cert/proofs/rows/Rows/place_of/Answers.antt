@@ -4,7 +4,7 @@ use Rattle.std.proofs.lemmas.List.{get_or_read}
 use Rattle.std.proofs.lemmas.List.Sorted.{IsPartitionedBy-ltb, IsPartitionPoint-from_clause}
 use Rattle.esr_cert.specs.Steps.{order_of, step_at}
 use Rattle.esr_cert.specs.Rows.{row_in, span_at, Span}
-use Rattle.esr_cert.proofs.Laid.{found_place}
+use Rattle.esr_cert.proofs.IsLaidOut.{found_place}
 use Rattle.esr_cert.proofs.rows.Rows.place_of.Goals as goal
 
 found : (c : goal.After-partition_point) → (c.index.result.now.begin + c.partition_point.result < length c.args.self.now.steps.items) × (step_at c.args.self.now.steps.items (c.index.result.now.begin + c.partition_point.result) ≡ c.args.step)

@@ -1,5 +1,5 @@
 use Rattle.std.proofs.Common.{◌≡◌, ◌-◌, ◌<◌, ◌≤◌, ◌∷◌, [], refl, sym, arith, None, length, true}
-use Rattle.esr_core.specs.Words.{Reply, Committed, Aborted}
+use Rattle.esr_core.specs.Types.{Reply, Committed, Aborted}
 use Rattle.esr_history.specs.Events.{is_active}
 use Rattle.esr_history.specs.Machine.{Distance, Schedule, accepted_in, refusal, first_reason, not_begun, ended, acceptance, extended, reply_to}
 use Rattle.esr_history.proofs.Allowed.{none_applies, end_allowed}

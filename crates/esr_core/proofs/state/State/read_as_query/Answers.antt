@@ -1,12 +1,12 @@
 use Rattle.std.proofs.Common.{◌≡◌, ℕ, ◌+◌, ◌-◌, ◌<◌, ◌≤◌, ◌∙◌, sym, ap, arith, refl, None, Some, Option, length, get_or, true, IfSome}
 use Rattle.esr_items.specs.Values.{versions_at}
-use Rattle.esr_core.specs.Words.{TxnId, Read}
-use Rattle.esr_history.specs.Events.{is_active, all_reads_of}
+use Rattle.esr_core.specs.Types.{TxnId, Read}
+use Rattle.esr_history.specs.Events.{is_active, total_read_count}
 use Rattle.esr_history.specs.Machine.{accepted_in}
 use Rattle.esr_history.proofs.Lawful.{follows}
 use Rattle.esr_locks.specs.Tables.{locks_at}
 use Rattle.esr_core.specs.States.{read_charge, charged_once}
-use Rattle.esr_core.proofs.Accepted.{read_active, read_few, read_fits, few_here, read_books}
+use Rattle.esr_core.proofs.Accepted.{read_active, read_bounded, read_fits, bounded_here, read_books}
 use Rattle.esr_core.proofs.Reasons.{row_reads, due_some, are_charges-read}
 use Rattle.esr_core.proofs.Representing.{represents-query}
 use Rattle.std.proofs.lemmas.List.{get_or_default}
@@ -29,23 +29,23 @@ charge_read-requires g c =
       fits = each c.charge_of_read-charge.result (λ b some. read_fits d h s.items s.transactions.items s.locks.locks s.ledgers c.requires.accepted.2 c.args.q b.0 c.args.x b.1 c.requires.accepted.3 query (owed b some).1 (owed b some).0);
     }
 
-pub add_read_query-requires-clause-few : goal.add_read_query-requires-clause-few
-add_read_query-requires-clause-few g c =
+pub add_read_query-requires-clause-within_max : goal.add_read_query-requires-clause-within_max
+add_read_query-requires-clause-within_max g c =
     let s = c.args.self.now in
-    few_here g.M.Metric.distance_by c.requires.accepted.0 s.items s.transactions.items s.locks.locks s.ledgers c.requires.accepted.2 c.args.q.0 c.args.x.0 c.requires.item
-    (read_few g.M.Metric.distance_by c.requires.accepted.0 c.args.q c.args.x c.requires.accepted.3 c.requires.accepted.4)
+    bounded_here g.M.Metric.distance_by c.requires.accepted.0 s.items s.transactions.items s.locks.locks s.ledgers c.requires.accepted.2 c.args.q.0 c.args.x.0 c.requires.item
+    (read_bounded g.M.Metric.distance_by c.requires.accepted.0 c.args.q c.args.x c.requires.accepted.3 c.requires.accepted.4)
 
-pub count_read-requires-clause-few : goal.count_read-requires-clause-few
-count_read-requires-clause-few g c = λ k row at.
+pub count_read-requires-clause-within_max : goal.count_read-requires-clause-within_max
+count_read-requires-clause-within_max g c = λ k row at.
     let d = g.M.Metric.distance_by in
     let h = c.requires.accepted.0 in
     let s = c.args.self.now in
     let r = get_or s.transactions.items k row in
     let here : (j : ℕ) → c.args.q.0 ≡ j + 1 → r ≡ get_or s.transactions.items j r =
     λ j n. let same : k ≡ j = omega (arith, at, n) in get_or_default s.transactions.items k row r (omega (arith, c.requires.known, at)) ∙ ap (λ i. get_or s.transactions.items i r) same in
-    let reads : r.reads ≡ all_reads_of (accepted_in h) c.args.q.0 = row_reads d h s.items s.transactions.items s.locks.locks s.ledgers c.requires.accepted.2 c.args.q.0 r c.requires.known here c.requires.accepted.4 in
-    let few : all_reads_of (accepted_in h) c.args.q.0 < 1000 = read_few d h c.args.q c.args.x c.requires.accepted.3 c.requires.accepted.4 in
-    rw reads few
+    let reads : r.reads ≡ total_read_count (accepted_in h) c.args.q.0 = row_reads d h s.items s.transactions.items s.locks.locks s.ledgers c.requires.accepted.2 c.args.q.0 r c.requires.known here c.requires.accepted.4 in
+    let within_max : total_read_count (accepted_in h) c.args.q.0 < 1000 = read_bounded d h c.args.q c.args.x c.requires.accepted.3 c.requires.accepted.4 in
+    rw reads within_max
 
 pub returns-clause-represents : goal.returns-clause-represents
 returns-clause-represents g c = λ h same rep none query.

@@ -1,5 +1,5 @@
 use Rattle.std.proofs.Common.{◌≡◌, ◌<◌, length, true}
-use Rattle.esr_core.specs.Words.{Read}
+use Rattle.esr_core.specs.Types.{Read}
 use Rattle.esr_history.specs.Events.{is_active, is_update}
 use Rattle.esr_history.specs.Machine.{accepted_in}
 use Rattle.esr_history.proofs.Orderly.{active_parts}

@@ -53,10 +53,10 @@ locks c =
 has_capacity : (c : After-step-in-Ok-Wrote) → (no_pair c.args.self.now ≡ false) × (is_full c.step-2.new.self (Read c.args.t c.args.x) ≡ false)
 has_capacity c =
     let h = c.args.self.now in
-    let most : taken h + 2 ≤ 1000000 = omega (arith, c.demand.ensures.taken, c.if-demand-gt-MAX_ENTRIES.false) in (
-      not_lt (taken h + 2) most,
+    let upper_bound : taken h + 2 ≤ 1000000 = omega (arith, c.demand.ensures.taken, c.if-demand-gt-MAX_ENTRIES.false) in (
+      not_lt (taken h + 2) upper_bound,
       subst (λ (g : Schedule). is_full g (Read c.args.t c.args.x) ≡ false) (sym (left c))
-          (pair_capacity weighted h (legal_orderly weighted h (subst (IsLegal weighted) c.self.view_is c.log-legal.ensures.legal)) c.args.t c.args.x _ most (wrote c)),
+          (pair_capacity weighted h (legal_orderly weighted h (subst (IsLegal weighted) c.self.view_is c.log-legal.ensures.legal)) c.args.t c.args.x _ upper_bound (wrote c)),
     )
   where
     not_lt : (n : ℕ) → n ≤ 1000000 → nat_lt 1000000 n ≡ false

@@ -1,26 +1,26 @@
 use Rattle.std.proofs.Common.{◌≡◌, arith, get_or, length, refl, subst}
 use Rattle.esr_cert.specs.Rows.{first_steps}
 use Rattle.esr_flow.specs.Graph.{arcs_of}
-use Rattle.esr_flow.proofs.FillLaws.{ArePut, along_within, along_few, against_within, against_few, put_both, all_put}
+use Rattle.esr_flow.proofs.FillLaws.{ArePut, along_within, along_bounded, against_within, against_bounded, put_both, all_put}
 use Rattle.esr_flow.proofs.graph.Graph.entries.Goals as goal
 
 pub of-none-requires : goal.of-none-requires
 of-none-requires c = omega arith
 
 pub overflow_cast-i : goal.overflow_cast-i
-overflow_cast-i c = omega (arith, c.loop-i-test.true, c.requires.flow, c.args.self.now.kept.steps.few)
+overflow_cast-i c = omega (arith, c.loop-i-test.true, c.requires.flow, c.args.self.now.kept.steps.within_max)
 
-pub put_next-requires-clause-few : goal.put_next-requires-clause-few
-put_next-requires-clause-few c =
-    along_few c.args.self.now c.args.flow.now c.loop-i.counts.items c.loop-i.entries.items c.loop-i.i (omega (arith, c.loop-i-test.true, c.requires.flow)) c.loop-i.invariant c.arc-arc.result c.arc-arc.ensures (get_or c.args.flow.now c.loop-i.i 0) refl
+pub put_next-requires-clause-within_max : goal.put_next-requires-clause-within_max
+put_next-requires-clause-within_max c =
+    along_bounded c.args.self.now c.args.flow.now c.loop-i.counts.items c.loop-i.entries.items c.loop-i.i (omega (arith, c.loop-i-test.true, c.requires.flow)) c.loop-i.invariant c.arc-arc.result c.arc-arc.ensures (get_or c.args.flow.now c.loop-i.i 0) refl
 
 pub put_next-requires-clause-place : goal.put_next-requires-clause-place
 put_next-requires-clause-place c =
     along_within c.args.self.now c.args.flow.now c.loop-i.counts.items c.loop-i.entries.items c.loop-i.i (omega (arith, c.loop-i-test.true, c.requires.flow)) c.loop-i.invariant c.arc-arc.result c.arc-arc.ensures (get_or c.args.flow.now c.loop-i.i 0) refl
 
-pub put_next-requires-in-loop-i-clause-few : goal.put_next-requires-in-loop-i-clause-few
-put_next-requires-in-loop-i-clause-few c =
-    against_few c.args.self.now c.args.flow.now c.loop-i.counts.items c.loop-i.entries.items c.loop-i.i (omega (arith, c.loop-i-test.true, c.requires.flow)) c.loop-i.invariant c.arc-arc.result c.arc-arc.ensures (get_or c.args.flow.now c.loop-i.i 0) refl c.put_next.new.counts.items c.put_next.new.entries.items c.entries_of-along.result.0 c.entries_of-along.ensures.along c.put_next.ensures.counts c.put_next.ensures.entries
+pub put_next-requires-in-loop-i-clause-within_max : goal.put_next-requires-in-loop-i-clause-within_max
+put_next-requires-in-loop-i-clause-within_max c =
+    against_bounded c.args.self.now c.args.flow.now c.loop-i.counts.items c.loop-i.entries.items c.loop-i.i (omega (arith, c.loop-i-test.true, c.requires.flow)) c.loop-i.invariant c.arc-arc.result c.arc-arc.ensures (get_or c.args.flow.now c.loop-i.i 0) refl c.put_next.new.counts.items c.put_next.new.entries.items c.entries_of-along.result.0 c.entries_of-along.ensures.along c.put_next.ensures.counts c.put_next.ensures.entries
 
 pub put_next-requires-in-loop-i-clause-place : goal.put_next-requires-in-loop-i-clause-place
 put_next-requires-in-loop-i-clause-place c =

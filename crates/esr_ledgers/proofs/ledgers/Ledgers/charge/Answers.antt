@@ -45,8 +45,8 @@ pub overflow_add-self : goal.overflow_add-self
 overflow_add-self c =
     let bound = total_bounded c.raise.new.accounts.items (c.self.inside.total + c.total_charge-total.result) (books c) in
     let len : length c.raise.new.accounts.items < 2 ^ 63 = omega (arith, c.raise.new.accounts.ok.0, c.raise.new.accounts.small) in
-    let most = mul-le-mul_right (2 ^ 64) len in
-    omega (arith, bound, most)
+    let upper_bound = mul-le-mul_right (2 ^ 64) len in
+    omega (arith, bound, upper_bound)
 
 pub invariant_of-self : goal.invariant_of-self
 invariant_of-self c = books (goal.at.invariant_of-self c).After-raise

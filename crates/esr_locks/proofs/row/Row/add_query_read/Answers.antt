@@ -5,10 +5,10 @@ use Rattle.esr_locks.specs.Tables.{has_query_lock}
 use Rattle.esr_locks.proofs.Least.{All-from_map}
 use Rattle.esr_locks.proofs.row.Row.add_query_read.Goals as goal
 
-pub count_read-requires-clause-few : goal.count_read-requires-clause-few
-count_read-requires-clause-few c =
+pub count_read-requires-clause-within_max : goal.count_read-requires-clause-within_max
+count_read-requires-clause-within_max c =
     All-from_map query_and_count (λ r. r.0 ≡ c.args.q.0 → r.1 < 1000) c.self.inside.queries.items
-    (subst (λ (v : RowOf). All (λ r. r.0 ≡ c.args.q.0 → r.1 < 1000) v.locks.queries) (sym c.self.view_is) c.requires.few)
+    (subst (λ (v : RowOf). All (λ r. r.0 ≡ c.args.q.0 → r.1 < 1000) v.locks.queries) (sym c.self.view_is) c.requires.within_max)
 
 pub invariant_of-self : goal.invariant_of-self
 invariant_of-self c = grind (arith, placed_ascends)
@@ -17,7 +17,7 @@ pub returns-clause-locks : goal.returns-clause-locks
 returns-clause-locks c =
     grind (arith, map, map query_and_count c.count_read.new.queries.items, map query_and_count c.self.inside.queries.items, map-upserted)
 
-pub returns-clause-fresh : goal.returns-clause-fresh
-returns-clause-fresh c =
+pub returns-clause-is_new : goal.returns-clause-is_new
+returns-clause-is_new c =
     subst (λ (v : RowOf). c.count_read.result ≡ not (has_query_lock v.locks c.args.q.0)) c.self.view_is
-    (c.count_read.ensures.fresh ∙ ap not (sym (any-map (λ r. r.query.0) (λ (r : ℕ × ℕ). r.0) query_and_count (λ r. refl) c.args.q.0 c.self.inside.queries.items)))
+    (c.count_read.ensures.is_new ∙ ap not (sym (any-map (λ r. r.query.0) (λ (r : ℕ × ℕ). r.0) query_and_count (λ r. refl) c.args.q.0 c.self.inside.queries.items)))

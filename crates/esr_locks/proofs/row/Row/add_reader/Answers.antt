@@ -18,11 +18,11 @@ returns-clause-locks c =
     rw c.add_reader-has_read.ensures.items (map-upserted (λ r. r.update.0) (λ u. u) (λ r. r.update.0) (λ r. refl) c.args.t.0 (reader c.args.t) (λ r. r) (λ u. u) (λ u. refl) c.self.inside.readers.items) in
     rw mapped refl)
 
-pub returns-clause-fresh : goal.returns-clause-fresh
-returns-clause-fresh c =
+pub returns-clause-is_new : goal.returns-clause-is_new
+returns-clause-is_new c =
     let readers = c.self.inside.readers.items in
     let read = any-map (λ r. r.update.0) (λ u. u) (λ r. r.update.0) (λ r. refl) c.args.t.0 readers in
-    let has_read = ap not c.add_reader-has_read.ensures.fresh ∙ (not-not (list_any (λ r. r.update.0 == c.args.t.0) readers) ∙ sym read) in
+    let has_read = ap not c.add_reader-has_read.ensures.is_new ∙ (not-not (list_any (λ r. r.update.0 == c.args.t.0) readers) ∙ sym read) in
     let has_written = c.writer_is-has_written.ensures ∙ wrote c.self.inside.writer c.args.t.0 in
     subst (λ (v : RowOf). not (c.writer_is-has_written.result || not c.add_reader-has_read.result) ≡ not (has_update_lock v.locks c.args.t.0)) c.self.view_is
     (rw has_written (rw has_read refl))

@@ -6,8 +6,8 @@ use Rattle.esr_locks.specs.Tables.{has_update_lock}
 use Rattle.esr_locks.proofs.Tables.{wrote}
 use Rattle.esr_locks.proofs.row.Row.add_writer.Goals as goal
 
-pub returns-clause-fresh : goal.returns-clause-fresh
-returns-clause-fresh c =
+pub returns-clause-is_new : goal.returns-clause-is_new
+returns-clause-is_new c =
     let readers = c.self.inside.readers.items in
     let read = any-map (λ r. r.update.0) (λ u. u) (λ r. r.update.0) (λ r. refl) c.args.t.0 readers in
     let has_read = c.is_reader-has_read.ensures ∙ (ap (list_any (λ r. r.update.0 == c.args.t.0)) c.deref.ensures ∙ sym read) in

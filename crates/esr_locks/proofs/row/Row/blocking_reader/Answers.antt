@@ -17,12 +17,12 @@ pub returns-then-conflicts : goal.returns-then-conflicts
 returns-then-conflicts c =
     let t = c.args.t.0 in
     let readers = c.self.inside.readers.items in
-    let near : IsSmallest (λ u. not (u == t) && list_any (λ r. r.update.0 == u) readers) (option_map (λ v. v.0) c.other_reader.result) =
+    let relevant : IsSmallest (λ u. not (u == t) && list_any (λ r. r.update.0 == u) readers) (option_map (λ v. v.0) c.other_reader.result) =
     rw (c.other_reader.ensures, c.deref.ensures, number_of (find (λ r. not (r.update.0 == t)) readers)) (least_other (λ r. r.update.0) t readers c.self.invariant.0) in
     let on : conflicts Read c.args.asked ≡ true = sym c.conflicts.ensures ∙ c.if-conflicts.true in
     IsSmallest-same (λ u. not (u == t) && list_any (λ r. r.update.0 == u) readers) (λ u. not (u == t) && (conflicts Read c.args.asked && is_reader c.args.self.now.locks u)) _
     (λ u. ap (λ b. not (u == t) && b) (sym (any-map (λ r. r.update.0) (λ v. v) (λ r. r.update.0) (λ r. refl) u readers) ∙ ap (λ (v : RowOf). is_reader v.locks u) c.self.view_is
-    ∙ ap (λ b. b && is_reader c.args.self.now.locks u) (sym on))) near
+    ∙ ap (λ b. b && is_reader c.args.self.now.locks u) (sym on))) relevant
 
 pub returns-else-conflicts : goal.returns-else-conflicts
 returns-else-conflicts c = λ u. rw (sym c.conflicts.ensures ∙ c.if-conflicts.false) (grind arith)

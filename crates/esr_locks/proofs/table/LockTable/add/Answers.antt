@@ -4,7 +4,7 @@ use Rattle.std.proofs.lemmas.List.{length-map}
 use Rattle.esr_history.specs.ItemLocks.{ItemLocks}
 use Rattle.esr_locks.specs.Rows.{RowOf, LockedItemsOf, with_lock, has_lock_in_mode}
 use Rattle.esr_locks.specs.Tables.{Table, locks_that_fit, locks_at, has_lock}
-use Rattle.esr_locks.proofs.Tables.{set_row, IsTable-push, IsTable-already_locked, has_list, read_list, lock_more, such_has}
+use Rattle.esr_locks.proofs.Tables.{set_row, IsLockTable-push, IsLockTable-already_locked, has_list, read_list, lock_more, such_has}
 use Rattle.esr_locks.proofs.table.LockTable.add.Goals as goal
 use Rattle.esr_locks.proofs.table.LockTable.add.Goals.{After-add}
 
@@ -26,13 +26,13 @@ locks c =
     (set_row c.self.inside.rows.items c.args.x.0 c.index_mut.result.now c.add.new.self (λ (l : ItemLocks). with_lock c.args.mode c.args.t.0 l) (inside c) c.index_mut.ensures.value c.add.ensures.locks)
 
 pub invariant_of-self : goal.invariant_of-self
-invariant_of-self c = grind (arith, After-add, IsTable-push, inside, more, in_list, read_list)
+invariant_of-self c = grind (arith, After-add, IsLockTable-push, inside, more, in_list, read_list)
 
 pub invariant_of-self-else-add : goal.invariant_of-self-else-add
 invariant_of-self-else-add c =
     let w : After-add = (goal.at.invariant_of-self-else-add c).After-add in
-    IsTable-already_locked c.self.inside.rows.items c.self.inside.held.items c.self.invariant c.args.t.0 c.args.x.0 (inside w) c.index_mut.result.now c.add.new.self c.index_mut.ensures.value (more w)
-    (such_has c.args.mode c.args.t.0 c.index_mut.result.now.locks (not-false (has_lock_in_mode c.args.mode c.index_mut.result.now.locks c.args.t.0) (sym c.add.ensures.fresh ∙ c.if-add.false)))
+    IsLockTable-already_locked c.self.inside.rows.items c.self.inside.held.items c.self.invariant c.args.t.0 c.args.x.0 (inside w) c.index_mut.result.now c.add.new.self c.index_mut.ensures.value (more w)
+    (such_has c.args.mode c.args.t.0 c.index_mut.result.now.locks (not-false (has_lock_in_mode c.args.mode c.index_mut.result.now.locks c.args.t.0) (sym c.add.ensures.is_new ∙ c.if-add.false)))
 
 pub returns-then-add-clause-locks : goal.returns-then-add-clause-locks
 returns-then-add-clause-locks c = locks (goal.at.returns-then-add-clause-locks c).After-add

@@ -1,7 +1,7 @@
 use Rattle.std.proofs.Common.{◌≡◌, ℕ, ◌<◌, subst, map, length, if◌then◌else◌, arith}
 use Rattle.esr_locks.specs.Rows.{RowOf, row_at, held_at}
 use Rattle.esr_locks.specs.Tables.{Table, released, contains_item}
-use Rattle.esr_locks.proofs.Tables.{released_all, IsTable-released}
+use Rattle.esr_locks.proofs.Tables.{released_all, IsLockTable-released}
 use Rattle.esr_locks.proofs.table.LockTable.release.Goals as goal
 use Rattle.esr_locks.proofs.table.LockTable.release.Goals.{After-release_each}
 use Rattle.std.proofs.lemmas.Grind.{common_steps}
@@ -12,7 +12,7 @@ each c x l = grind (arith, common_steps)
 
 pub invariant_of-self : goal.invariant_of-self
 invariant_of-self c =
-    IsTable-released c.self.inside.rows.items c.self.inside.held.items c.self.invariant c.args.t.0 c.release_each.new.rows.items c.clear_list.new.held.items
+    IsLockTable-released c.self.inside.rows.items c.self.inside.held.items c.self.invariant c.args.t.0 c.release_each.new.rows.items c.clear_list.new.held.items
     c.release_each.ensures.len (each (goal.at.invariant_of-self c).After-release_each) c.clear_list.ensures
 
 pub returns : goal.returns

@@ -10,7 +10,7 @@ use Rattle.esr_order.specs.Orders.{IsOrderAmong}
 use Rattle.esr_order.proofs.Ordered.{in_order}
 use Rattle.esr_order.proofs.Early.{must_below, must_positions}
 use Rattle.esr_order.proofs.Complete.{order_whole}
-use Rattle.esr_order.proofs.Gathered.{commits_few, commits_length}
+use Rattle.esr_order.proofs.Gathered.{commits_bounded, commits_length}
 use Rattle.esr_order.proofs.Commits.{updates_are, query_begun}
 use Rattle.esr_order.proofs.order.Order.of.Given.{Over}
 use Rattle.esr_order.proofs.order.Order.of.Goals as goal
@@ -24,8 +24,8 @@ among-requires-clause-once g c =
     let us = updates_of c.args.history.now.schedule c.args.q.0 in
     subst (AllPairs (λ u v. u ≢ v)) (sym (same g c)) (All-from_pairs (λ u v. u ≢ v) us (in_order g.M.Metric.distance_by c.args.history.now.schedule c.args.q.0 c.log-legal.ensures.legal).once)
 
-pub among-requires-clause-few : goal.among-requires-clause-few
-among-requires-clause-few g c = commits_few g.M.Metric.distance_by c.args.history.now.schedule c.args.q.0 c.log-legal.ensures.legal c.in_ok-commits.commits.items (same g c)
+pub among-requires-clause-within_max : goal.among-requires-clause-within_max
+among-requires-clause-within_max g c = commits_bounded g.M.Metric.distance_by c.args.history.now.schedule c.args.q.0 c.log-legal.ensures.legal c.in_ok-commits.commits.items (same g c)
 
 pub among-requires-clause-keeps : goal.among-requires-clause-keeps
 among-requires-clause-keeps g c =

@@ -1,5 +1,5 @@
 use Rattle.std.proofs.Common.{◌∙◌, ap, sym, subst}
-use Rattle.esr_views.specs.Ask.{IsFoundOf}
+use Rattle.esr_views.specs.QueryAnswers.{IsFoundOf}
 use Rattle.esr_script.specs.Text.{ScriptState}
 use Rattle.esr_script.proofs.script.Script.audited_query.Goals as goal
 

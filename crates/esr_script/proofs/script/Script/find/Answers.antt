@@ -9,6 +9,6 @@ returns-clause-found c = elim c.match-audit.branch [
       let found = w.in-Ok.ensures in
       rw w.result-is (found_of c.args.self.now c.self.inside.items c.self.inside.transactions (is_running c.self.inside.stage) (history_of c.self.inside.stage) (history_of c.ensure_started.new.self)
       c.args.name.now c.transaction-q.result c.self.view_is c.in_ok-ensure_started.ensures.ok.1 c.transaction-q.ensures
-      w.in-Ok.found found.query found.committed found.distance found.import found.before found.shown found.near)
+      w.in-Ok.found found.query found.committed found.distance found.import found.before found.shown found.relevant)
   | in-Err w ↦ rw w.result-is tt
 ]

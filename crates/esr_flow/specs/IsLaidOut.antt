@@ -1,0 +1,28 @@
+-- A network with the steps that start at each node, in consecutive rows.
+use Rattle.std.specs.Prelude.{◌≡◌, ℕ, ◌<◌, ◌≤◌, length, ◌^◌}
+use Rattle.std.specs.List.Sorted.{IsNonDecreasingBy}
+use Rattle.esr_cert.specs.Problem.{Problem}
+use Rattle.esr_cert.specs.declared.rows.Rows.{Rows}
+use Rattle.esr_cert.specs.Network.{Network, IsNetwork, network}
+use Rattle.esr_cert.specs.Steps.{order_of, HasSteps}
+use Rattle.esr_cert.specs.Rows.{span_at, row_in, row_of, AreSteps}
+
+-- the arcs of a problem, with this number of nodes
+abbrev pub net_with : Problem → ℕ → ℕ → ℕ → Network
+net_with p nodes source sink = record { nodes = nodes; arcs = (network p).arcs; source = source; sink = sink }
+
+pub record IsGraphOf (p : Problem) (rows : Rows) (nodes source sink : ℕ) : Type 0 where
+  pub is_network : IsNetwork (net_with p nodes source sink)
+  pub count : length rows.spans.items ≡ nodes
+  pub ordered : (v : ℕ) → v < nodes
+      → (span_at rows.spans.items v).begin ≤ (span_at rows.spans.items v).end
+  pub inside : (v : ℕ) → v < nodes → (span_at rows.spans.items v).end ≤ length rows.steps.items
+  pub row : (v : ℕ) → v < nodes
+      → row_in rows.steps.items (span_at rows.spans.items v) ≡ row_of (network p).arcs v
+  pub lists : (v : ℕ) → v < nodes
+      → HasSteps (network p).arcs v (row_in rows.steps.items (span_at rows.spans.items v))
+  pub ascend : (v : ℕ) → v < nodes
+      → IsNonDecreasingBy order_of (row_in rows.steps.items (span_at rows.spans.items v))
+  pub steps : AreSteps (network p).arcs rows.steps.items
+  pub sink_is_node : sink < nodes
+  pub within_max : nodes < 2 ^ 30
