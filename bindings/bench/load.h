@@ -41,7 +41,7 @@ static inline uint32_t next_below(uint64_t *state, uint32_t span) {
         } \
     } while (0)
 
-/* Fails where the values of the items do not add up to one for each write. */
+/* Fails if the values of the items do not add up to the number of writes. */
 static inline void report(long transactions, times from, times to, int64_t sum, long renewals) {
     MUST(sum == (int64_t)transactions * PAIRS);
     printf("%ld %.6f %.6f %ld\n", transactions * OPERATIONS, to.wall - from.wall, to.processor - from.processor, renewals);

@@ -1,4 +1,4 @@
-/* Misuses that are answered: none does harm. */
+/* Misuses that are detected: none does harm. */
 #include "esr.h"
 #include <stdio.h>
 

@@ -1,4 +1,4 @@
-"""Scripts: the plain program of the checks answers each line as the record says, within every limit."""
+"""Scripts: the plain program of the checks replies to each line as recorded, within every limit."""
 
 import unittest
 from unittest import mock

@@ -296,7 +296,7 @@ class Recording(unittest.TestCase):
         self.assertEqual(history.chains["t/1"].values, list(range(10, 91)))
         self.assertTrue(history.keeps_commit_order)
 
-    # ---- what is missing, and what is said of it
+    # ---- missing data, and the messages about it
 
     def test_an_update_without_returning_is_named(self):
         connection = self.connect()

@@ -1,4 +1,4 @@
-"""Reports that return `pg_current_snapshot()`, on a server: what is noted of each form of statement."""
+"""Reports that return `pg_current_snapshot()`, on a server: the notes of each form of statement."""
 
 import json
 import os
@@ -47,7 +47,7 @@ class Reports(unittest.TestCase):
             return json.loads(file.read().splitlines()[-1])
 
     def read(self, statement):
-        """Returns what is noted of a statement, without the snapshot."""
+        """Returns the note of a statement, without the snapshot."""
         (noted,) = self.noted(statement)["statements"]
         self.assertRegex(noted.pop("snapshot"), r"^\d+:\d+:[\d,]*$")
         noted.pop("tables")

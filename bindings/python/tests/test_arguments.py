@@ -164,7 +164,7 @@ class Arguments(unittest.TestCase):
                         effect(value)
 
     def test_no_numeric_argument_of_a_public_call_is_left_out(self):
-        """By the annotations: who adds an argument adds a row above."""
+        """By the annotations: a new argument needs a row above."""
         numeric = {"int", "float", "Mapping[str, int]"}
         found = set()
         for kind in (Bank, esr.Update, esr.Query, SQLiteStore):

@@ -83,7 +83,7 @@ class Banks(unittest.TestCase):
         self.assertEqual((bank["checking"], bank["savings"], bank.imported), (400, 1600, 100))
 
     def test_what_happened_is_told(self):
-        """The script has the names of the items, or their numbers where one is no name of scripts."""
+        """The script has the names of the items, or their numbers if a script cannot contain one."""
         bank = two_accounts()
         with bank.update(200) as transfer:
             transfer.write("checking", 400)
@@ -167,7 +167,7 @@ class Banks(unittest.TestCase):
             self.assertEqual(update.add("checking", 1), 501)
 
     def test_what_is_refused_says_why(self):
-        """Names, values and limits that there are not; a write that stays blocked names who blocks it."""
+        """Unknown names, invalid values and limits; a write that stays blocked names its blocker."""
         bank = two_accounts(patience=0.01)
         with self.assertRaisesRegex(UnknownItem, "'pocket'"):
             with bank.update(0) as update:
@@ -243,7 +243,7 @@ class Banks(unittest.TestCase):
         self.assertEqual((len(runs) > 1, bank["checking"], bank["savings"]), (True, 400, 1600))
 
     def test_patience_ends(self):
-        """Whoever is in the way longer than that is named, and nothing stays active; whoever is slow is waited for."""
+        """A blocker that outlasts the patience is named, and nothing stays active; a slow one is waited for."""
         bank, runs = two_accounts(patience=0.3), []
         with bank.update(0) as holder:
             holder.write("checking", 1)
@@ -297,7 +297,7 @@ class Banks(unittest.TestCase):
                 tell()
 
     def test_an_optimistic_update_is_an_ordinary_one(self):
-        """The history has its first reads and its last writes; it sees what it wrote, and refusals are the same."""
+        """The history has its first reads and its last writes; it reads its own writes, and refusals are the same."""
         bank = two_accounts(optimistic=True)
 
         def move(update):
@@ -327,7 +327,7 @@ class Banks(unittest.TestCase):
         self.assertEqual((bank["checking"], bank.counts.active, bank.counts.transactions), (400, 0, 1))
 
     def test_an_overtaken_function_runs_anew(self):
-        """It never sees values that were not together, not even where it takes its own errors for others."""
+        """It never sees an inconsistent set of values, not even if it swallows its errors."""
         for swallows in (False, True):
             bank, runs = two_accounts(optimistic=True), []
 

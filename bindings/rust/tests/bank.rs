@@ -36,7 +36,7 @@ fn unknown_names_are_refused() {
     assert_eq!(twice.err(), Some(Error::NameTwice { name }));
 }
 
-/// An error of the body takes back what the update wrote, and is answered as it is.
+/// An error of the body undoes the update's writes, and is returned unchanged.
 #[test]
 fn an_error_rolls_back() {
     let bank = two_accounts();
@@ -183,7 +183,7 @@ fn patience_ends() {
     assert_eq!(bank.transact(0, |next| next.add("checking", 1)), Ok(501));
 }
 
-/// A bank goes on through the end of a history: the reports that are due are audited before it is gone.
+/// A bank continues past the end of a history: the reports that are due are audited before the renewal.
 #[test]
 fn a_bank_renews_itself() {
     let audits = Arc::new(AtomicU64::new(0));

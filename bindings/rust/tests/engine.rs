@@ -143,7 +143,7 @@ fn transact_gives_up_and_aborts() {
     assert_eq!(engine.renew(), Ok(()));
 }
 
-/// Without patience an event is given once.
+/// Without patience an event is tried once.
 #[test]
 fn transact_without_patience() {
     let bank = Mutex::new(Engine::open(&[0]).unwrap());

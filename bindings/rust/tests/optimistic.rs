@@ -160,7 +160,7 @@ fn an_overtaken_body_runs_anew() {
     assert_eq!(bank.metrics().reruns, 1);
 }
 
-/// An update that holds a lock is waited for, and then the body runs on what it left.
+/// The body waits for an update that holds a lock, and then runs on its values.
 #[test]
 fn a_lock_is_waited_for() {
     let (bank, met) = (two_accounts(), Barrier::new(2));
@@ -240,7 +240,7 @@ fn reports_are_charged_and_waited_for() {
             bank.report(0, |report| {
                 let before = report.read("checking")?;
                 met.wait();
-                // (the update is given whole in vain, and then waits for the report step by step)
+                // (the whole update is submitted in vain, and then waits for the report step by step)
                 until(|| {
                     bank.active()
                         .iter()
@@ -458,7 +458,7 @@ fn a_slow_update_does_not_hold_a_renewal_off() {
     }
 }
 
-/// A report does hold a renewal off: what it has read is not what a new history could answer.
+/// A report holds off a renewal: a new history could not reproduce its reads.
 #[test]
 fn a_report_holds_a_renewal_off() {
     let short = Patience::of(Duration::from_millis(50));
@@ -646,7 +646,7 @@ fn background_audits_find_the_same() {
             thread::sleep(Duration::from_micros(200));
         }
     };
-    /// Lets the clients end, also where the test fails.
+    /// Lets the clients end, even if the test fails.
     struct Close<'a>(&'a AtomicBool);
     impl Drop for Close<'_> {
         fn drop(&mut self) {
