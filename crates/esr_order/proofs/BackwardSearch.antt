@@ -69,7 +69,7 @@ kind_is true false e = absurd (true≢false (sym e))
 kind_is false true e = absurd (true≢false e)
 kind_is false false e = refl
 
-did_by_operation : (h : Schedule) (w : Bool) (x t : ℕ) → did h w x t ≡ true → (o : Operation) × In o (operations h) × (o.txn ≡ t) × (o.item ≡ x) × (o.writes ≡ w)
+pub did_by_operation : (h : Schedule) (w : Bool) (x t : ℕ) → did h w x t ≡ true → (o : Operation) × In o (operations h) × (o.txn ≡ t) × (o.item ≡ x) × (o.writes ≡ w)
 did_by_operation h w x t is =
     let a = In-any (is_access w x) (accesses_in h.entries t) is in
     let o = of_map access_of (filter (λ (o : Operation). eqb o.txn t) (operations h)) a.0 a.1 in
@@ -77,10 +77,10 @@ did_by_operation h w x t is =
     let r = and_parts (if w then a.0.writes else not a.0.writes) (eqb a.0.item.0 x) a.2 in
     (o.0, p.0, eqb-true o.0.txn t p.1, ap (λ (a : Access). a.item.0) o.2 ∙ eqb-true a.0.item.0 x r.1, ap (λ (a : Access). a.writes) o.2 ∙ is_kind w a.0.writes r.0)
 
-accessed : (h : Schedule) (o : Operation) (t : ℕ) → In o (operations h) → o.txn ≡ t → In (access_of o) (accesses_in h.entries t)
+pub accessed : (h : Schedule) (o : Operation) (t : ℕ) → In o (operations h) → o.txn ≡ t → In (access_of o) (accesses_in h.entries t)
 accessed h o t i is = in_map access_of (filter (λ (o : Operation). eqb o.txn t) (operations h)) o (In-filter (λ (o : Operation). eqb o.txn t) (operations h) o i (eq-eqb o.txn t is))
 
-operation_did : (h : Schedule) (w : Bool) (x t : ℕ) (o : Operation) → In o (operations h) → o.txn ≡ t → o.item ≡ x → o.writes ≡ w → did h w x t ≡ true
+pub operation_did : (h : Schedule) (w : Bool) (x t : ℕ) (o : Operation) → In o (operations h) → o.txn ≡ t → o.item ≡ x → o.writes ≡ w → did h w x t ≡ true
 operation_did h w x t o i txn item writes =
     any-from_In (is_access w x) (accesses_in h.entries t) (access_of o) (accessed h o t i txn) (and_from (if w then o.writes else not o.writes) (eqb o.item x) (kind_is w o.writes writes) (eq-eqb o.item x item))
 

@@ -5,6 +5,7 @@
 //! update. A caller that audits several queries keeps an index instead. The index reads each entry of the log once, is
 //! lent to each audit, and is extended by the new entries. It does not hold the history: `IsIndexOf` relates it to the
 //! entries that it has read. The relation holds for longer logs too, since later entries do not affect it.
+use crate::accesses::Access;
 use crate::rows::AccessRows;
 use crate::scan::push_committer;
 use esr_history::{History, TxnId};
@@ -32,6 +33,7 @@ impl Model for Index {
 impl Index {
     ghost use Rattle.std.specs.Prelude.{◌≡◌, [], IfOk, OnOk, length};
     ghost use Rattle.esr_order.specs.Index.{IsIndexOf, IsWholeIndexOf};
+    ghost use Rattle.esr_order.specs.Scans.{accesses_in};
 
     /// Creates the index of an empty log.
     pub fn new(alloc: Global) -> Index
@@ -81,6 +83,25 @@ impl Index {
         ensures { result.now ≡ self.now.commits }
     {
         &self.commits
+    }
+
+    /// Returns the reads and writes of a transaction, in order. The index has read the whole history. If the index has no
+    /// row for the transaction, as for a query, its accesses are listed in `list` and borrowed from there.
+    ///
+    /// # Errors
+    ///
+    /// An allocation failed.
+    #[tactic(auto, using(crate::proofs::Indexes::index_rows))]
+    pub fn accesses_of<'a, M: Metric>(
+        &'a self,
+        history: &History<M>,
+        t: TxnId,
+        list: &'a mut Vec<Access>,
+    ) -> Result<&'a [Access], AllocError>
+        requires { IsWholeIndexOf history.now.schedule.entries self.now }
+        ensures { IfOk result (λ accesses. accesses.now ≡ accesses_in history.now.schedule.entries t.0) }
+    {
+        self.rows.accesses_of(history, t, list)
     }
 
     /// Returns the accesses of the committed updates.

@@ -26,4 +26,4 @@ pub use laws::{
 };
 pub use links::Links;
 pub use order::{Order, OrderError};
-pub use scan::{committed, updates_before};
+pub use scan::{committed, count_must, is_committed_query, updates_before};
