@@ -1,0 +1,120 @@
+-- A lower bound on the cost of every closed set of a query's updates, from one amount for each version of an item. These
+-- definitions mention no problem, no network and no flow.
+use Rattle.std.specs.Prelude.{◌≡◌, ◌≤◌, ◌<◌, ◌+◌, ◌⊎◌, ◌&&◌, ◌==◌, ℕ, ℤ, Bool, true, false, List, [], length, take, filter, sum_by, slice_index_or}
+use Rattle.std.specs.List.{range_with_len, list_any}
+use Rattle.esr_history.specs.Machine.{Distance, Schedule, IsLegal}
+use Rattle.esr_history.specs.Serial.{state, values_by}
+use Rattle.esr_history.specs.Queries.{updates_of, members, must, cost}
+use Rattle.esr_order.specs.Placements.{IsClosed, IsSmallestLeastSet}
+use Rattle.esr_order.specs.Chains.{nth}
+
+-- the sum of f over the first n items
+abbrev pub total : ℕ → (ℕ → ℕ) → ℕ
+total n f = sum_by f (range_with_len 0 n)
+
+-- whether the update at position i is marked
+abbrev pub mark_at : List Bool → ℕ → Bool
+mark_at marks i = slice_index_or marks i false
+
+-- the total cost of the versions of n items that S leaves, if version v of item x costs C x v
+abbrev pub cost_by : ℕ → (ℕ → ℤ → ℕ) → Schedule → ℕ → (ℕ → Bool) → ℕ
+cost_by n C h q S = total n (λ x. C x (state h (members h q S) x))
+
+-- the marked updates of a list, as a test
+abbrev pub among_marked : List ℕ → List Bool → ℕ → Bool
+among_marked us marks u = list_any (λ i. mark_at marks i && (nth us i == u)) (range_with_len 0 (length us))
+
+-- S contains all marked updates of q
+abbrev pub HasMarked : Schedule → ℕ → List Bool → (ℕ → Bool) → Type 0
+HasMarked h q marks S = (i : ℕ) → i < length (updates_of h q) → mark_at marks i ≡ true → S (nth (updates_of h q) i) ≡ true
+
+-- each closed set that costs at most `worth` contains all marked updates
+abbrev pub AreForced : ℕ → (ℕ → ℤ → ℕ) → Schedule → ℕ → ℕ → List Bool → Type 0
+AreForced n C h q worth marks = (S : ℕ → Bool) → IsClosed h q S → cost_by n C h q S ≤ worth → HasMarked h q marks S
+
+-- What a pass shows that starts with the marks `seeds` and ends with `marks`, if the seeds are forced: no closed set costs
+-- less than `worth`, and each one that costs no more contains all marked updates.
+pub record Shows (n : ℕ) (C : ℕ → ℤ → ℕ) (h : Schedule) (q worth : ℕ) (seeds marks : List Bool) : Type 0 where
+  pub bound : AreForced n C h q worth seeds → (S : ℕ → Bool) → IsClosed h q S → worth ≤ cost_by n C h q S
+  pub forced : AreForced n C h q worth seeds → AreForced n C h q worth marks
+
+-- update u wrote item x
+abbrev pub Wrote : Schedule → ℕ → ℕ → Type 0
+Wrote h x u = values_by h x u ≡ [] → ⊥
+
+-- the value of item x after the members of S among the first k updates of q
+abbrev pub left_by : Schedule → ℕ → (ℕ → Bool) → ℕ → ℕ → ℤ
+left_by h q S k x = state h (filter S (take k (updates_of h q))) x
+
+-- the value of item x after the first k updates of q
+abbrev pub left_by_all : Schedule → ℕ → ℕ → ℕ → ℤ
+left_by_all h q k x = state h (take k (updates_of h q)) x
+
+-- After the first k updates, the versions that the closed set S leaves carry the worth. Each of these versions has an
+-- amount `own` that is at most its cost, and these amounts sum to at least `worth`. An item whose writers are all in S has
+-- the version of the full order, and so the amount of that version. Either S contains all marked updates so far, or S
+-- lacks the next writer of a version whose amount is below its cost, so S costs more than `worth`.
+pub record Carries (n : ℕ) (C : ℕ → ℤ → ℕ) (h : Schedule) (q worth k : ℕ) (amounts : ℕ → ℕ) (marks : List Bool) (S : ℕ → Bool) : Type 0 where
+  pub own : ℕ → ℕ
+  pub under : (x : ℕ) → x < n → own x ≤ C x (left_by h q S k x)
+  pub same : (x : ℕ) → x < n → ((i : ℕ) → i < k → Wrote h x (nth (updates_of h q) i) → S (nth (updates_of h q) i) ≡ true) → own x ≡ amounts x
+  pub sum : worth ≤ total n own
+  pub marked : ((i : ℕ) → i < k → mark_at marks i ≡ true → S (nth (updates_of h q) i) ≡ true)
+      ⊎ ((x : ℕ) × (x < n) × (own x < C x (left_by h q S k x)) × ((i : ℕ) × (i < k) × Wrote h x (nth (updates_of h q) i) × (S (nth (updates_of h q) i) ≡ false)))
+
+-- each writer of item x among the first k updates is marked, or a later writer among them is
+abbrev pub AreCovered : Schedule → ℕ → ℕ → List Bool → ℕ → Type 0
+AreCovered h q k marks x = (i : ℕ) → i < k → Wrote h x (nth (updates_of h q) i) → (mark_at marks i ≡ true)
+    ⊎ ((j : ℕ) × (i < j) × (j < k) × Wrote h x (nth (updates_of h q) j) × (mark_at marks j ≡ true))
+
+-- The reason to mark the update at position k: it overwrites a version whose amount is below its cost, of an item whose
+-- earlier writers are covered by marks. A closed set without this update keeps that version, so it costs more.
+pub record HasSlack (n : ℕ) (C : ℕ → ℤ → ℕ) (h : Schedule) (q k : ℕ) (amounts : ℕ → ℕ) (marks : List Bool) : Type 0 where
+  pub item : ℕ
+  pub known : item < n
+  pub wrote : Wrote h item (nth (updates_of h q) k)
+  pub writers : AreCovered h q k marks item
+  pub slack : amounts item < C item (left_by_all h q k item)
+
+-- The update at position k, which does not decrease the sum of the amounts: the amounts of the versions that it overwrites
+-- move to the versions that it leaves.
+pub record IsStep (n : ℕ) (C : ℕ → ℤ → ℕ) (h : Schedule) (q k : ℕ) (amounts after : ℕ → ℕ) (seed : Bool) (marks marked : List Bool) : Type 0 where
+  pub others : (x : ℕ) → x < n → values_by h x (nth (updates_of h q) k) ≡ [] → after x ≡ amounts x
+  pub under : (x : ℕ) → x < n → Wrote h x (nth (updates_of h q) k) → after x ≤ C x (left_by_all h q (k + 1) x)
+  pub sum : total n amounts ≤ total n after
+  pub earlier : (i : ℕ) → i < k → mark_at marked i ≡ mark_at marks i
+  pub mark : mark_at marked k ≡ true → (seed ≡ true) ⊎ HasSlack n C h q k amounts marks
+
+-- the amounts after the updates that q must see
+pub record IsStart (n : ℕ) (C : ℕ → ℤ → ℕ) (h : Schedule) (q worth k : ℕ) (amounts : ℕ → ℕ) : Type 0 where
+  pub seen : k ≡ length (must h q)
+  pub under : (x : ℕ) → x < n → amounts x ≤ C x (left_by_all h q k x)
+  pub sum : worth ≡ total n amounts
+
+-- Three laws: the amounts at the start carry the worth; each update preserves this; at the end it shows the bound.
+abbrev pub LawOfStart : Type 0
+LawOfStart = (d : Distance) (h : Schedule) (q n : ℕ) (C : ℕ → ℤ → ℕ) (worth k : ℕ) (amounts : ℕ → ℕ) (marks : List Bool) (S : ℕ → Bool)
+    → IsLegal d h → IsStart n C h q worth k amounts → IsClosed h q S → Carries n C h q worth k amounts marks S
+
+abbrev pub LawOfUpdates : Type 0
+LawOfUpdates = (d : Distance) (h : Schedule) (q n : ℕ) (C : ℕ → ℤ → ℕ) (worth k : ℕ) (amounts after : ℕ → ℕ) (seed : Bool) (marks marked : List Bool) (S : ℕ → Bool)
+    → IsLegal d h → k < length (updates_of h q) → IsStep n C h q k amounts after seed marks marked
+    → IsClosed h q S → (seed ≡ true → S (nth (updates_of h q) k) ≡ true)
+    → Carries n C h q worth k amounts marks S → Carries n C h q worth (k + 1) after marked S
+
+abbrev pub LawOfEnd : Type 0
+LawOfEnd = (h : Schedule) (q n : ℕ) (C : ℕ → ℤ → ℕ) (worth : ℕ) (amounts : ℕ → ℕ) (seeds marks : List Bool)
+    → ((S : ℕ → Bool) → IsClosed h q S → HasMarked h q seeds S → Carries n C h q worth (length (updates_of h q)) amounts marks S)
+    → Shows n C h q worth seeds marks
+
+-- A marked set that is closed and forced, and whose cost is a lower bound for all closed sets, is the smallest set of
+-- least cost. Costs here are those of the query plus a constant.
+abbrev pub LawOfSet : Type 0
+LawOfSet = (d : Distance) (h : Schedule) (q n : ℕ) (C : ℕ → ℤ → ℕ) (extra worth : ℕ) (marks : List Bool)
+    → ((S : ℕ → Bool) → cost_by n C h q S ≡ extra + cost d h q S)
+    → ((S : ℕ → Bool) → IsClosed h q S → worth ≤ cost_by n C h q S)
+    → AreForced n C h q worth marks
+    → IsClosed h q (among_marked (updates_of h q) marks)
+    → cost_by n C h q (among_marked (updates_of h q) marks) ≡ worth
+    → IsSmallestLeastSet d h q (among_marked (updates_of h q) marks)
+    × (worth ≡ extra + cost d h q (among_marked (updates_of h q) marks))
