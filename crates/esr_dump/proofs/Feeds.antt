@@ -52,7 +52,7 @@ all_before (b ∷ bs) h =
     let here : line_len (b ∷ bs) ≡ 1 + line_len bs = rw (not-true (nat_eq b 10) parts.0) refl in
     omega (arith, here, all_before bs parts.1)
 
-next_line : (c : Command) (rest : List ℕ) → IsCommand c → lines (line_of c ++ rest) ≡ spelling c ∷ lines rest
+pub next_line : (c : Command) (rest : List ℕ) → IsCommand c → lines (line_of c ++ rest) ≡ spelling c ∷ lines rest
 next_line c rest is =
     ap lines (append_assoc (spelling c) (10 ∷ []) rest) ∙ lines-line (spelling c) rest (all_before (spelling c) (one_line c is))
 

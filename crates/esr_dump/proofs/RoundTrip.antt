@@ -59,12 +59,12 @@ consed : {X : Type 0} (o : Option X) (xs ys : List X) → cons_option o (xs ++ y
 consed None xs ys = refl
 consed (Some x) xs ys = refl
 
-accepted_both : (xs ys : List Entry) → accepted (xs ++ ys) ≡ accepted xs ++ accepted ys
+pub accepted_both : (xs ys : List Entry) → accepted (xs ++ ys) ≡ accepted xs ++ accepted ys
 accepted_both xs ys =
     let p : Entry → Bool = λ e. not (is_refusal e.reply) in
     ap (map (λ (e : Entry). e.event)) (filter-append p xs ys) ∙ map-append (λ (e : Entry). e.event) (filter p xs) (filter p ys)
 
-fewer : (xs ys : List Entry) → length (beginnings (accepted xs)) ≤ length (beginnings (accepted (xs ++ ys)))
+pub fewer : (xs ys : List Entry) → length (beginnings (accepted xs)) ≤ length (beginnings (accepted (xs ++ ys)))
 fewer xs ys =
     let all : beginnings (accepted (xs ++ ys)) ≡ beginnings (accepted xs) ++ beginnings (accepted ys) =
     ap beginnings (accepted_both xs ys) ∙ filter_map-append beginning_of (accepted xs) (accepted ys) in
@@ -72,12 +72,12 @@ fewer xs ys =
 
 -- ---- a kept entry passed every check whose refusals are not kept
 
-passed : (b : Bool) (why : Refusal) (rs : List (Option Refusal)) (r : Reply) → is_kept (Refused why) ≡ false
+pub passed : (b : Bool) (why : Refusal) (rs : List (Option Refusal)) (r : Reply) → is_kept (Refused why) ≡ false
     → is_kept (answered (first_reason (when b why ∷ rs)) r) ≡ true → (b ≡ false) × (is_kept (answered (first_reason rs) r) ≡ true)
 passed true why rs r lost stays = absurd (true≢false (sym stays ∙ lost))
 passed false why rs r lost stays = (refl, stays)
 
-none_left : (b c : Bool) (v w : Refusal) (r : Reply) → b ≡ false → c ≡ false → answered (first_reason (when b v ∷ when c w ∷ [])) r ≡ r
+pub none_left : (b c : Bool) (v w : Refusal) (r : Reply) → b ≡ false → c ≡ false → answered (first_reason (when b v ∷ when c w ∷ [])) r ≡ r
 none_left b c v w r bf cf = rw (bf, cf) refl
 
 small : (v : ℤ) → is_value v ≡ true → IsInt v
@@ -103,7 +103,7 @@ declaration_requests items transactions name v w = elim (cases_Bool (eqb w 1)) [
 
 -- ---- an entry refused for another reason changed nothing
 
-lost_refusal : (r : Reply) → is_kept r ≡ false → (why : Refusal) × (r ≡ Refused why)
+pub lost_refusal : (r : Reply) → is_kept r ≡ false → (why : Refusal) × (r ≡ Refused why)
 lost_refusal (Refused why) lost = (why, refl)
 lost_refusal _ lost = absurd (cc)
 
@@ -115,12 +115,12 @@ same_reply d x y (Write t z v) opens weights events = rw (opens, weights, events
 same_reply d x y (Commit t) opens weights events = rw events refl
 same_reply d x y (Abort t) opens weights events = rw events refl
 
-done_more : (x y : Schedule) (e : Event) (r : Reply) → accepted_in x ≡ accepted_in y → accepted_in (extended x e r) ≡ accepted_in (extended y e r)
+pub done_more : (x y : Schedule) (e : Event) (r : Reply) → accepted_in x ≡ accepted_in y → accepted_in (extended x e r) ≡ accepted_in (extended y e r)
 done_more x y e r same =
     let one : List Entry = record { event = e; reply = r } ∷ [] in
     accepted_both x.entries one ∙ (ap (λ (es : List Event). es ++ accepted one) same ∙ sym (accepted_both y.entries one))
 
-kept_legal : (d : Distance) (before g : Schedule) (later : List Entry) → IsLegalAfter d before later → before.opening ≡ g.opening → before.weights ≡ g.weights → accepted_in before ≡ accepted_in g
+pub kept_legal : (d : Distance) (before g : Schedule) (later : List Entry) → IsLegalAfter d before later → before.opening ≡ g.opening → before.weights ≡ g.weights → accepted_in before ≡ accepted_in g
     → IsLegalAfter d g (filter (λ (e : Entry). is_kept e.reply) later)
 kept_legal d before g [] legal opens weights events = tt
 kept_legal d before g (e ∷ later) legal opens weights events = elim (cases_Bool (is_kept e.reply)) [
@@ -159,7 +159,7 @@ module _ (items transactions : List (List ℕ)) (h : Schedule) (names : AreNames
     there x is = item_fact x (omega (arith, leb-false (length before.opening) x.0 is, ap length opens))
 
     -- the command of a kept event has a text, and requests it
-    abbrev Requests : Event → Reply → Type 0
+    abbrev pub Requests : Event → Reply → Type 0
     Requests e r = IsCommand (command_of items transactions r e) × (event_of items transactions (command_of items transactions r e) ≡ Some e)
 
     new_name : (e : Event) (r : Reply) (n : ℕ) → r ≡ Begun (record { 0 = n + 1 }) → n ≡ length (beginnings (accepted_in before)) → length (beginnings (accepted_in before ++ e ∷ [])) ≡ n + 1
@@ -170,13 +170,13 @@ module _ (items transactions : List (List ℕ)) (h : Schedule) (names : AreNames
         let number : TxnId = record { 0 = n + 1 } in
         (transaction_fact number (omega arith) (omega (arith, within_max, ap (λ (es : List Event). length (beginnings es)) after, more))).0
 
-    begins : (e : Event) (b : _) → beginning_of e ≡ Some b → length (beginnings (accepted_in before ++ e ∷ [])) ≡ length (beginnings (accepted_in before)) + 1
+    pub begins : (e : Event) (b : _) → beginning_of e ≡ Some b → length (beginnings (accepted_in before ++ e ∷ [])) ≡ length (beginnings (accepted_in before)) + 1
     begins e b is =
         ap length (filter_map-append beginning_of (accepted_in before) (e ∷ []) ∙ ap (λ o. beginnings (accepted_in before) ++ cons_option o []) is)
         ∙ length-append (beginnings (accepted_in before)) (b ∷ [])
 
     -- a kept begin got the next number, whose name is valid, and its limit is in range
-    begun_kept : (e : Event) (b : _) (limit : ℕ) (r : Reply) → beginning_of e ≡ Some b
+    pub begun_kept : (e : Event) (b : _) (limit : ℕ) (r : Reply) → beginning_of e ≡ Some b
         → r ≡ answered (first_reason (when (nat_lt 1000000000000000000 limit) LimitOutOfRange ∷ when (nat_le 65535 (length (beginnings (accepted_in before)))) TooManyTransactions ∷ [])) (Begun (record { 0 = length (beginnings (accepted_in before)) + 1 }))
         → is_kept r ≡ true → length (beginnings (accepted_in (extended before e r))) ≤ length (beginnings (accepted_in h))
         → (r ≡ Begun (record { 0 = length (beginnings (accepted_in before)) + 1 })) × (IsName (name_of_transaction transactions (length (beginnings (accepted_in before)) + 1)) × (limit < 10 ^ 19))
@@ -187,7 +187,7 @@ module _ (items transactions : List (List ℕ)) (h : Schedule) (names : AreNames
         let name = new_name e r (length (beginnings (accepted_in before))) begun refl (begins e b begins_so) within_max in
         (begun, (name, omega (arith, ltb-false 1000000000000000000 limit low.0)))
 
-    asks : (e : Event) (r : Reply) → r ≡ reply_to weighted before e → is_kept r ≡ true
+    pub asks : (e : Event) (r : Reply) → r ≡ reply_to weighted before e → is_kept r ≡ true
         → length (beginnings (accepted_in (extended before e r))) ≤ length (beginnings (accepted_in h)) → Requests e r
     asks (BeginUpdate limit) r is stays within_max =
         let kept = begun_kept (BeginUpdate limit) _ limit r refl is stays within_max in rw kept.0 (kept.1, refl)
@@ -263,7 +263,7 @@ module _ (items transactions : List (List ℕ)) (h : Schedule) (names : AreNames
 
   -- ---- the declarations of the lines of the items
 
-  item_reads_back : (x : ℕ) → x < length h.opening → IsValue (value_at h.opening x)
+  pub item_reads_back : (x : ℕ) → x < length h.opening → IsValue (value_at h.opening x)
       → IsCommand (declaration (name_of_item items x) (value_at h.opening x) (weight_of h.weights x))
   item_reads_back x within valued =
       let name = (item_fact (record { 0 = x }) within).0 in
