@@ -10,13 +10,13 @@ use Rattle.esr_history.specs.declared.event.Event.TheVariants.{BeginUpdate, Begi
 use Rattle.esr_history.specs.Events.{Beginning, beginning, is_begun, is_query, is_update, is_committed, commits, beginnings}
 use Rattle.esr_history.specs.Machine.{Distance, Schedule, accepted_in, IsLegal}
 use Rattle.esr_history.specs.Operations.{commit_order}
-use Rattle.esr_history.specs.Orderly.{names}
+use Rattle.esr_history.specs.WellFormed.{names}
 use Rattle.esr_history.specs.Queries.{is_committed_query}
 use Rattle.esr_history.specs.Serial.{committed_updates}
 use Rattle.esr_history.proofs.Membership.{In, Pairs, Pairs-filter, In-of_filter, each_in, each_at, any-from_In, In-any, any-from_number, filter_agree_in}
-use Rattle.esr_history.proofs.Lawful.{legal_orderly, begun_in_range}
+use Rattle.esr_history.proofs.LegalWellFormed.{legal_orderly, begun_in_range}
 use Rattle.esr_history.proofs.Locking.{commits_once}
-use Rattle.esr_history.proofs.Reaches.{legal_reached}
+use Rattle.esr_history.proofs.TraceOfHistory.{legal_reached}
 use Rattle.esr_history.proofs.WithinRanges.{legal_begins}
 use Rattle.esr_history.proofs.Words.{committed_among}
 use Rattle.esr_order.specs.Placements.{is_among}

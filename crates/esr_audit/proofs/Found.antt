@@ -12,8 +12,8 @@ use Rattle.esr_history.proofs.Membership.{Each-filter}
 use Rattle.esr_history.proofs.WithinRanges.{legal_within_ranges}
 use Rattle.esr_order.specs.Placements.{is_among, IsClosed, IsLeastSet, IsSmallestLeastSet, IsLeastDistance}
 use Rattle.esr_order.specs.Statements.{ClosedSetsAreParts}
-use Rattle.esr_order.proofs.Ordered.{law_of_placements}
-use Rattle.esr_cert.specs.Problem.{Problem, size, is_sound, in_set, is_distinct, IsSmallestLeast}
+use Rattle.esr_order.proofs.ConflictOrder.{law_of_placements}
+use Rattle.esr_cert.specs.Problem.{Problem, size, is_well_formed, in_set, is_distinct, IsSmallestLeast}
 use Rattle.esr_cert.specs.Problem as problems
 use Rattle.esr_cert.specs.Certificate.{Certificate, Certifies}
 use Rattle.esr_cert.proofs.Sound.{IsProblem, facts, shape_facts}
@@ -27,11 +27,11 @@ use Rattle.esr_audit.proofs.Positions.{passes_as_set, before_members}
 
 -- the items that a query read are among those of the history
 pub reads_inside : (d : Distance) (h : Schedule) (q : ℕ) → All IsValue h.opening → IsLegal d h → AllByRecursion (λ (o : Operation). o.item < length h.opening) (reads_by h q)
-reads_inside d h q opened legal =
-    Each-filter (λ (o : Operation). o.item < length h.opening) (λ (o : Operation). not o.writes && eqb o.txn q) (operations h) (recursion_from_All (λ (o : Operation). o.item < length h.opening) (operations h) (legal_within_ranges d h opened legal).items)
+reads_inside d h q opening_values_in_range legal =
+    Each-filter (λ (o : Operation). o.item < length h.opening) (λ (o : Operation). not o.writes && eqb o.txn q) (operations h) (recursion_from_All (λ (o : Operation). o.item < length h.opening) (operations h) (legal_within_ranges d h opening_values_in_range legal).items)
 
 -- A certificate of the problem that was built for a query.
-module _ (d : Distance) (h : Schedule) (q : ℕ) (opened : All IsValue h.opening) (legal : IsLegal d h) (p : Problem) (c : Certificate) (built : IsProblemOf d h q p) (sound : is_sound p ≡ true) (certified : Certifies p c) where
+module _ (d : Distance) (h : Schedule) (q : ℕ) (opening_values_in_range : All IsValue h.opening) (legal : IsLegal d h) (p : Problem) (c : Certificate) (built : IsProblemOf d h q p) (sound : is_well_formed p ≡ true) (certified : Certifies p c) where
   -- the certificate's set, as transactions
   abbrev members : List ℕ
   members = filter_map (slice_get p.updates) c.set
@@ -46,7 +46,7 @@ module _ (d : Distance) (h : Schedule) (q : ℕ) (opened : All IsValue h.opening
   distinct = (shape_facts p (and_parts _ _ sound).0).distinct
 
   inside : AllByRecursion (λ (o : Operation). o.item < length h.opening) (reads_by h q)
-  inside = reads_inside d h q opened legal
+  inside = reads_inside d h q opening_values_in_range legal
 
   same : (u : ℕ) → u < size p → in_set c.set u ≡ passes_at p.updates (is_among members) u
   same u l = sym (passes_as_set p.updates distinct c.set faults.ascending faults.known u l)

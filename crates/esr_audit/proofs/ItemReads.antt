@@ -23,12 +23,12 @@ item_reads_are h q = ap (map item_read_in) (reads_are h q) ∙ twice (reads_by h
     twice [] = refl
     twice (o ∷ os) = ap (λ l. item_read_of o ∷ l) (twice os)
 
-module _ (h : Schedule) (q : ℕ) (range : IsWithinRanges h) (opened : All IsValue h.opening) where
-  pub item_reads_bounded : IsTrue (is_query (accepted_in h) q) → length (map item_read_of (reads_by h q)) ≤ 1000
-  item_reads_bounded query = let r = range.reads q query in omega (arith, length-map (reads_by h q) item_read_of, reads_counted h q, r)
+module _ (h : Schedule) (q : ℕ) (range : IsWithinRanges h) (opening_values_in_range : All IsValue h.opening) where
+  pub item_reads_at_most_max : IsTrue (is_query (accepted_in h) q) → length (map item_read_of (reads_by h q)) ≤ 1000
+  item_reads_at_most_max query = let r = range.reads q query in omega (arith, length-map (reads_by h q) item_read_of, reads_counted h q, r)
 
   pub item_reads_in_range : All (λ (r : ItemRead). IsValue r.value) (map item_read_of (reads_by h q))
-  item_reads_in_range = All-from_recursion (λ (r : ItemRead). IsValue r.value) (map item_read_of (reads_by h q)) (go (reads_by h q) (reads_in_range h range opened q))
+  item_reads_in_range = All-from_recursion (λ (r : ItemRead). IsValue r.value) (map item_read_of (reads_by h q)) (go (reads_by h q) (reads_in_range h range opening_values_in_range q))
     where
       go : (os : List Operation) → AllByRecursion (λ (o : Operation). IsValue o.value × (o.item < length h.opening)) os → AllByRecursion (λ (r : ItemRead). IsValue r.value) (map item_read_of os)
       go [] all = tt

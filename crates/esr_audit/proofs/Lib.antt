@@ -1,4 +1,4 @@
--- The problem that is gathered represents its query (`ProblemOf`, `BuiltProblem`), and its solution is the audit's
+-- The problem that is gathered represents its query (`ProblemOfOrder`, `BuiltProblem`), and its solution is the audit's
 -- result, also in longer histories (`Found`, `Stays`).
 
 pub mod Values
@@ -10,7 +10,7 @@ pub mod Found
 pub mod Stays
 pub mod Gathered
 pub mod Versions
-pub mod ProblemOf
+pub mod ProblemOfOrder
 pub mod Shape
 pub mod Within
 pub mod ItemReads

@@ -12,14 +12,14 @@ use Rattle.esr_history.proofs.Membership.{In, Pairs, Pairs-from_all, any-from_In
 use Rattle.esr_order.specs.ConflictPairs.{IsLexLess}
 use Rattle.esr_order.specs.Chains as orders
 use Rattle.esr_order.specs.Chains.{nth, chain_from, if_written, last_among}
-use Rattle.esr_order.specs.Orders.{Ordered, IsOrderAmong}
+use Rattle.esr_order.specs.Orders.{ConflictOrder, IsOrderAmong}
 use Rattle.esr_order.specs.Relevant.{AreRelevant, has_written}
 use Rattle.esr_cert.specs.Problem.{Chain, in_set, is_ascending, pair_lt, are_pairs_ascending, has_pair, are_linked, is_distinct, chain_has_shape, has_shape}
 use Rattle.esr_cert.proofs.Sound.{all_from}
 use Rattle.esr_audit.specs.Problems.{places, items_read, writers_of, passes_at, version_cost, chain_for}
 use Rattle.esr_audit.proofs.Places.{length-places}
 use Rattle.esr_audit.proofs.Versions.{chain_writers}
-use Rattle.esr_audit.proofs.ProblemOf.{problem_from, is_problem, must_ascends, all_writers}
+use Rattle.esr_audit.proofs.ProblemOfOrder.{problem_of_order, is_problem, must_ascends, all_writers}
 
 distinct_from : (us : List ℕ) → Pairs (λ u v. u ≢ v) us → is_distinct us ≡ true
 distinct_from [] p = refl
@@ -63,7 +63,7 @@ linked_from before (w ∷ x ∷ rest) relevant =
     (linked_from before (x ∷ rest) (λ i l. let e : suc i + 1 ≡ suc (i + 1) = omega arith in subst (λ k. Contains before (slice_index_or (x ∷ rest) i 0, slice_index_or (w ∷ x ∷ rest) k 0)) e (relevant (suc i) (omega arith))))
 linked_from before _ relevant = refl
 
-module _ (d : Distance) (h : Schedule) (q : ℕ) (legal : IsLegal d h) (us : List ℕ) (relevant : AreRelevant h q us) (o : Ordered) (good : IsOrderAmong h q us o) where
+module _ (d : Distance) (h : Schedule) (q : ℕ) (legal : IsLegal d h) (us : List ℕ) (relevant : AreRelevant h q us) (o : ConflictOrder) (good : IsOrderAmong h q us o) where
   -- the writers of an item, each a pair with the next
   linked : (x i : ℕ) → i + 1 < length (places us (has_written h x)) → Contains o.before (slice_index_or (places us (has_written h x)) i 0, slice_index_or (places us (has_written h x)) (i + 1) 0)
   linked x i l =
@@ -88,7 +88,7 @@ module _ (d : Distance) (h : Schedule) (q : ℕ) (legal : IsLegal d h) (us : Lis
       (and_from _ (is_ascending ws) (eq-eqb _ _ (one_more x i)) (range_ascends (passes_at us (has_written h x)) 0 (length us)))
       (linked_from o.before ws (linked x))
 
-  pub chains_of : (problem_from d h q o).chains ≡ map (chain_for d h q us) (items_read h q)
+  pub chains_of : (problem_of_order d h q o).chains ≡ map (chain_for d h q us) (items_read h q)
   chains_of = (is_problem d h q legal us relevant o good).chains ∙ ap (λ vs. map (chain_for d h q vs) (items_read h q)) good.commits
 
   all_shaped : (xs : List ℕ) → ((x : ℕ) → In x xs → In x (items_read h q)) → list_all (chain_has_shape o.before) (map (chain_for d h q us) xs) ≡ true
@@ -107,15 +107,15 @@ module _ (d : Distance) (h : Schedule) (q : ℕ) (legal : IsLegal d h) (us : Lis
       let p = All-contains (λ (p : ℕ × ℕ). (p.0 < p.1) × (p.1 < length o.commits) × IsTrue (is_before h (nth us p.0) (nth us p.1))) o.before e good.pairs c in
       lt-ltb e.0 e.1 p.0)
 
-  items : is_ascending (map (λ (c : Chain). c.item) (problem_from d h q o).chains) ≡ true
+  items : is_ascending (map (λ (c : Chain). c.item) (problem_of_order d h q o).chains) ≡ true
   items =
       ap (λ (cs : List Chain). is_ascending (map (λ (c : Chain). c.item) cs)) chains_of
       ∙ ap is_ascending (items_of (items_read h q))
       ∙ range_ascends _ 0 (length h.opening)
 
-  chains : list_all (chain_has_shape o.before) (problem_from d h q o).chains ≡ true
+  chains : list_all (chain_has_shape o.before) (problem_of_order d h q o).chains ≡ true
   chains = ap (list_all (chain_has_shape o.before)) chains_of ∙ all_shaped (items_read h q) (λ x i. i)
 
-  pub shaped : has_shape (problem_from d h q o) ≡ true
+  pub shaped : has_shape (problem_of_order d h q o) ≡ true
   shaped =
       and_from _ _ (and_from _ _ (and_from _ _ (and_from _ _ (and_from _ _ distinct (pairs_ascend o.before (Pairs-from_all IsLexLess o.before good.ascending))) forward) items) chains) (must_ascends d h q legal us relevant o good)

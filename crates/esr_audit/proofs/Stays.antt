@@ -11,7 +11,7 @@ use Rattle.esr_history.proofs.Membership.{In, each_in, each_at}
 use Rattle.esr_history.specs.Queries.{updates_of, cost, HasSameAudit}
 use Rattle.esr_order.specs.Placements.{is_among, IsClosed, IsLeastSet, IsSmallestLeastSet}
 use Rattle.esr_order.specs.Statements.{ClosedSetsAreParts}
-use Rattle.esr_order.proofs.Ordered.{law_of_placements}
+use Rattle.esr_order.proofs.ConflictOrder.{law_of_placements}
 use Rattle.esr_audit.specs.declared.finding.Book.{Book}
 use Rattle.esr_audit.specs.declared.finding.Summary.{Summary}
 use Rattle.esr_audit.specs.declared.finding.Summaries.{Summaries}

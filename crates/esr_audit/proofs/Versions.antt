@@ -12,11 +12,11 @@ use Rattle.esr_history.specs.Serial.{values_by, state}
 use Rattle.esr_history.specs.Queries.{reads_by}
 use Rattle.esr_history.proofs.LastWriter.{last_value-append, last_value-some}
 use Rattle.esr_order.specs.Chains.{Chain, chain_from, some_chain, if_written, last_of, last_among, chain_among, writers_in}
-use Rattle.esr_order.specs.Orders.{Ordered, chain_at}
+use Rattle.esr_order.specs.Orders.{ConflictOrder, chain_at}
 use Rattle.esr_cert.specs.Problem as problems
 use Rattle.esr_order.specs.Relevant.{has_written}
 use Rattle.esr_audit.specs.Problems.{passes_at, places, writers_of, version_cost, chain_for}
-use Rattle.esr_audit.specs.Reads.{values_of, distance_sum, values_in, audit_chain, item_read_of, ItemRead}
+use Rattle.esr_audit.specs.Reads.{values_of, distance_sum, version_values, chain_of_item, item_read_of, ItemRead}
 use Rattle.esr_audit.proofs.Values.{values_none, values_some, writers_leave}
 use Rattle.esr_audit.proofs.Places.{length-places}
 
@@ -115,10 +115,10 @@ written_writers c = at c.writers refl
     at [] e = refl
     at (w ∷ ws) e = e
 
-written_values : (c : Chain) → length c.values ≡ length c.writers → values_in (some_chain c) ≡ c.values
+written_values : (c : Chain) → length c.values ≡ length c.writers → version_values (some_chain c) ≡ c.values
 written_values c same = at c.writers c.values same
   where
-    at : (ws : List ℕ) (vs : List ℤ) → length vs ≡ length ws → values_in (if_written ws (record { writers = c.writers; values = vs })) ≡ vs
+    at : (ws : List ℕ) (vs : List ℤ) → length vs ≡ length ws → version_values (if_written ws (record { writers = c.writers; values = vs })) ≡ vs
     at [] [] e = refl
     at [] (v ∷ vs) e = absurd (omega (arith, e))
     at (w ∷ ws) vs e = refl
@@ -157,28 +157,28 @@ versions_from f n = ap (λ ys. f 0 ∷ ys) (moved 0 n)
     moved a (suc n) = let e : suc a ≡ a + 1 = omega arith in ap (λ v. f v ∷ map (λ j. f (suc j)) (range_with_len (a + 1) n)) e ∙ ap (λ ys. f (a + 1) ∷ ys) (moved (a + 1) n)
 
 -- the values in an order are those that the first writers leave
-pub versions_are : (h : Schedule) (us : List ℕ) (o : Ordered) (x : ℕ) → chain_at o x ≡ chain_among h us x
-    → values_in (chain_at o x) ≡ map (λ j. state h (take (suc j) (filter (has_written h x) us)) x) (range_with_len 0 (length (filter (has_written h x) us)))
+pub versions_are : (h : Schedule) (us : List ℕ) (o : ConflictOrder) (x : ℕ) → chain_at o x ≡ chain_among h us x
+    → version_values (chain_at o x) ≡ map (λ j. state h (take (suc j) (filter (has_written h x) us)) x) (range_with_len 0 (length (filter (has_written h x) us)))
 versions_are h us o x is =
     let c : Chain = chain_from (last_among h us x) (length us) in
     let equal : length c.values ≡ length c.writers =
     ap length (chain_values h us x) ∙ length-map-range_with_len (λ j. state h (take (suc j) (filter (has_written h x) us)) x) 0 (length (filter (has_written h x) us)) ∙ sym (ap length (chain_writers h us x) ∙ length-places us (has_written h x)) in
-    ap values_in is ∙ written_values c equal ∙ chain_values h us x
+    ap version_values is ∙ written_values c equal ∙ chain_values h us x
 
 -- the chain that is gathered of an item is that of the problem that represents the query, if all its writers are listed
-pub gathered_is_chain : (d : Distance) (h : Schedule) (q : ℕ) (us : List ℕ) (o : Ordered) (x : ℕ) → chain_at o x ≡ chain_among h us x → filter (has_written h x) us ≡ writers_of h q x
-    → audit_chain (distance_in d h) h.opening o (map item_read_of (reads_by h q)) x ≡ chain_for d h q us x
+pub gathered_is_chain : (d : Distance) (h : Schedule) (q : ℕ) (us : List ℕ) (o : ConflictOrder) (x : ℕ) → chain_at o x ≡ chain_among h us x → filter (has_written h x) us ≡ writers_of h q x
+    → chain_of_item (distance_in d h) h.opening o (map item_read_of (reads_by h q)) x ≡ chain_for d h q us x
 gathered_is_chain d h q us o x is all =
     let c : Chain = chain_from (last_among h us x) (length us) in
     let writers : writers_in (chain_at o x) ≡ places us (has_written h x) = ap writers_in is ∙ written_writers c ∙ chain_writers h us x in
-    let values : values_in (chain_at o x) ≡ map (λ j. state h (take (suc j) (writers_of h q x)) x) (range_with_len 0 (length (writers_of h q x))) =
+    let values : version_values (chain_at o x) ≡ map (λ j. state h (take (suc j) (writers_of h q x)) x) (range_with_len 0 (length (writers_of h q x))) =
     versions_are h us o x is ∙ ap (λ ws. map (λ j. state h (take (suc j) ws) x) (range_with_len 0 (length ws))) all in
     let D : ℤ → ℕ = distance_sum (distance_in d h) x (values_of (map item_read_of (reads_by h q)) x) in
-    let costs : map D (value_at h.opening x ∷ values_in (chain_at o x)) ≡ map (version_cost d h q x) (range_with_len 0 (suc (length (writers_of h q x)))) =
+    let costs : map D (value_at h.opening x ∷ version_values (chain_at o x)) ≡ map (version_cost d h q x) (range_with_len 0 (suc (length (writers_of h q x)))) =
     ap (λ vs. map D (value_at h.opening x ∷ vs)) values
     ∙ ap (map D) (versions_from (λ j. state h (take j (writers_of h q x)) x) (length (writers_of h q x)))
     ∙ mapped_twice D (λ j. state h (take j (writers_of h q x)) x) (range_with_len 0 (suc (length (writers_of h q x))))
     ∙ same_list (λ j. D (state h (take j (writers_of h q x)) x)) (version_cost d h q x) (range_with_len 0 (suc (length (writers_of h q x)))) (λ j. sum_of_reads (distance_in d h) x (state h (take j (writers_of h q x)) x) (reads_by h q)) in
-    let with_writers : List ℕ → problems.Chain = λ ws. record { item = x; writers = ws; costs = map D (value_at h.opening x ∷ values_in (chain_at o x)) } in
+    let with_writers : List ℕ → problems.Chain = λ ws. record { item = x; writers = ws; costs = map D (value_at h.opening x ∷ version_values (chain_at o x)) } in
     let with_costs : List ℕ → problems.Chain = λ cs. record { item = x; writers = places us (has_written h x); costs = cs } in
     ap with_writers writers ∙ ap with_costs costs

@@ -21,16 +21,16 @@ use Rattle.esr_history.proofs.Membership.{In, each_in, each_at, In-of_filter, Co
 use Rattle.esr_history.proofs.Versions.{wrote_by}
 use Rattle.esr_history.proofs.Words.{values_trace}
 use Rattle.esr_order.specs.Chains.{nth}
-use Rattle.esr_order.specs.Orders.{Ordered, IsOrderAmong}
+use Rattle.esr_order.specs.Orders.{ConflictOrder, IsOrderAmong}
 use Rattle.esr_order.specs.Relevant.{AreRelevant, has_written}
 use Rattle.esr_order.proofs.RelevantLaws.{relevant_updates}
 use Rattle.esr_base.specs.declared.limits.TheConstants.{MAX_ITEMS, MAX_TRANSACTIONS}
 use Rattle.esr_cert.specs.declared.range.TheConstants.{MAX_COST}
-use Rattle.esr_cert.specs.Problem.{Chain, Problem, size, greatest, chain_is_in_range, is_in_range, is_sound}
+use Rattle.esr_cert.specs.Problem.{Chain, Problem, size, greatest, chain_is_in_range, is_in_range, is_well_formed}
 use Rattle.esr_cert.proofs.Sound.{all_from}
 use Rattle.esr_audit.specs.Problems.{passes_at, places, items_read, writers_of, version_cost, chain_for}
 use Rattle.esr_audit.proofs.Costs.{by_item, sum_mapped}
-use Rattle.esr_audit.proofs.ProblemOf.{problem_from}
+use Rattle.esr_audit.proofs.ProblemOfOrder.{problem_of_order}
 use Rattle.esr_audit.proofs.Shape as shape
 
 -- a query's accepted reads are as many as its reads
@@ -73,10 +73,10 @@ pub each_mapped : {X Y : Type 0} (P : Y → Type 0) (f : X → Y) (xs : List X) 
 each_mapped P f [] all = tt
 each_mapped P f (x ∷ xs) all = (all x, each_mapped P f xs all)
 
-module _ (h : Schedule) (range : IsWithinRanges h) (opened : All IsValue h.opening) where
+module _ (h : Schedule) (range : IsWithinRanges h) (opening_values_in_range : All IsValue h.opening) where
   -- updates leave values in range
   pub state_in_range : (us : List ℕ) (x : ℕ) → IsValue (state h us x)
-  state_in_range us x = last_in_range (value_at h.opening x) (flat_map (values_by h x) us) (opening_in_range h.opening x (recursion_from_All IsValue h.opening opened)) (all us)
+  state_in_range us x = last_in_range (value_at h.opening x) (flat_map (values_by h x) us) (opening_in_range h.opening x (recursion_from_All IsValue h.opening opening_values_in_range)) (all us)
     where
       both : (vs ws : List ℤ) → AllByRecursion IsValue vs → AllByRecursion IsValue ws → AllByRecursion IsValue (vs ++ ws)
       both [] ws a b = b
@@ -115,7 +115,7 @@ module _ (h : Schedule) (range : IsWithinRanges h) (opened : All IsValue h.openi
       below (b ∷ bs) zero e = omega arith
       below (b ∷ bs) (suc k) e = let l = below bs k e in omega arith
 
-module _ (d : Distance) (h : Schedule) (q : ℕ) (range : IsWithinRanges h) (opened : All IsValue h.opening)
+module _ (d : Distance) (h : Schedule) (q : ℕ) (range : IsWithinRanges h) (opening_values_in_range : All IsValue h.opening)
     (bounded : (w : List ℕ) (x : ℕ) (a b : ℤ) → IsValue a → IsValue b → d w x a b ≤ 2 * 10 ^ 15) where
   -- one read costs at most this
   abbrev B : ℕ
@@ -126,7 +126,7 @@ module _ (d : Distance) (h : Schedule) (q : ℕ) (range : IsWithinRanges h) (ope
   at_most x = sum_by (λ (o : Operation). cond (eqb o.item x) B 0) (reads_by h q)
 
   version_within : (x j : ℕ) → version_cost d h q x j ≤ at_most x
-  version_within x j = go (reads_by h q) (reads_in_range h range opened q)
+  version_within x j = go (reads_by h q) (reads_in_range h range opening_values_in_range q)
     where
       v : ℤ
       v = state h (take j (writers_of h q x)) x
@@ -135,7 +135,7 @@ module _ (d : Distance) (h : Schedule) (q : ℕ) (range : IsWithinRanges h) (ope
       one o is = pick (eqb o.item x)
         where
           pick : (b : Bool) → cond b (distance_in d h x o.value v) 0 ≤ cond b B 0
-          pick true = bounded h.weights x o.value v is (state_in_range h range opened (take j (writers_of h q x)) x)
+          pick true = bounded h.weights x o.value v is (state_in_range h range opening_values_in_range (take j (writers_of h q x)) x)
           pick false = omega arith
 
       go : (os : List Operation) → AllByRecursion (λ (o : Operation). IsValue o.value × (o.item < length h.opening)) os
@@ -145,7 +145,7 @@ module _ (d : Distance) (h : Schedule) (q : ℕ) (range : IsWithinRanges h) (ope
 
   inside : AllByRecursion (λ (o : Operation). (list_any (λ (p : Operation). eqb p.item o.item) (reads_by h q) ≡ true) × (o.item < length h.opening)) (reads_by h q)
   inside = each_in (λ (o : Operation). (list_any (λ (p : Operation). eqb p.item o.item) (reads_by h q) ≡ true) × (o.item < length h.opening)) (reads_by h q) (λ o i.
-      (any-from_In (λ (p : Operation). eqb p.item o.item) (reads_by h q) o i (eq-eqb o.item o.item refl), (each_at (λ (o : Operation). IsValue o.value × (o.item < length h.opening)) (reads_by h q) o (reads_in_range h range opened q) i).1))
+      (any-from_In (λ (p : Operation). eqb p.item o.item) (reads_by h q) o i (eq-eqb o.item o.item refl), (each_at (λ (o : Operation). IsValue o.value × (o.item < length h.opening)) (reads_by h q) o (reads_in_range h range opening_values_in_range q) i).1))
 
   greatest_cost : (x : ℕ) → greatest (map (version_cost d h q x) (range_with_len 0 (suc (length (writers_of h q x))))) ≤ at_most x
   greatest_cost x = greatest_within (at_most x) (map (version_cost d h q x) (range_with_len 0 (suc (length (writers_of h q x))))) (each_mapped (λ n. n ≤ at_most x) (version_cost d h q x) (range_with_len 0 (suc (length (writers_of h q x)))) (version_within x))
@@ -158,9 +158,9 @@ module _ (d : Distance) (h : Schedule) (q : ℕ) (range : IsWithinRanges h) (ope
       let all : sum_by (λ (o : Operation). B) (reads_by h q) ≤ length (reads_by h q) * B = sum_by-le (λ (o : Operation). B) B (reads_by h q) (All-from_recursion (λ (o : Operation). B ≤ B) (reads_by h q) (each_in (λ (o : Operation). B ≤ B) (reads_by h q) (λ o i. omega arith))) in
       omega arith
 
-  module _ (legal : IsLegal d h) (us : List ℕ) (relevant : AreRelevant h q us) (o : Ordered) (good : IsOrderAmong h q us o) (within_max : length h.opening ≤ 4096) (query : IsTrue (is_query (accepted_in h) q)) where
+  module _ (legal : IsLegal d h) (us : List ℕ) (relevant : AreRelevant h q us) (o : ConflictOrder) (good : IsOrderAmong h q us o) (within_max : length h.opening ≤ 4096) (query : IsTrue (is_query (accepted_in h) q)) where
     abbrev p : Problem
-    p = problem_from d h q o
+    p = problem_of_order d h q o
 
     sized : size p ≡ length o.commits
     sized = length-map o.commits (λ (t : TxnId). t.0)
@@ -168,7 +168,7 @@ module _ (d : Distance) (h : Schedule) (q : ℕ) (range : IsWithinRanges h) (ope
     numbers : list_all (λ t. nat_lt 0 t && nat_le t MAX_TRANSACTIONS) p.updates ≡ true
     numbers = all_from (λ t. nat_lt 0 t && nat_le t MAX_TRANSACTIONS) p.updates (λ t c.
         let i : In t (updates_of h q) = Contains-In (updates_of h q) t (relevant_updates d h q legal us relevant t (subst (λ vs. Contains vs t) good.commits c)) in
-        let r = number_in_range h range opened t (In-of_filter (is_update (accepted_in h)) (before_first (λ t. eqb t q) (commit_order (accepted_in h))) t i).1 in
+        let r = number_in_range h range opening_values_in_range t (In-of_filter (is_update (accepted_in h)) (before_first (λ t. eqb t q) (commit_order (accepted_in h))) t i).1 in
         and_from (nat_lt 0 t) (nat_le t MAX_TRANSACTIONS) (lt-ltb 0 t r.0) (le-leb t MAX_TRANSACTIONS r.1))
 
     before : list_all (λ (e : ℕ × ℕ). nat_lt e.0 (size p) && nat_lt e.1 (size p)) o.before ≡ true
@@ -211,5 +211,5 @@ module _ (d : Distance) (h : Schedule) (q : ℕ) (range : IsWithinRanges h) (ope
     within =
         and_from _ _ (and_from _ _ (and_from _ _ (and_from _ _ numbers (ap (list_all (chain_is_in_range (size p))) (shape.chains_of d h q legal us relevant o good) ∙ chains_within (items_read h q) (λ x i. i))) before) must_within) costs
 
-    pub sound : is_sound p ≡ true
+    pub sound : is_well_formed p ≡ true
     sound = and_from _ _ (shape.shaped d h q legal us relevant o good) within

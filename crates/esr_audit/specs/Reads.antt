@@ -7,7 +7,7 @@ use Rattle.esr_history.specs.Operations.{Operation}
 use Rattle.esr_order.specs.declared.accesses.Access.{Access}
 use Rattle.esr_order.specs.Chains.{writers_in}
 use Rattle.esr_order.specs.Chains as orders
-use Rattle.esr_order.specs.Orders.{Ordered, chain_at}
+use Rattle.esr_order.specs.Orders.{ConflictOrder, chain_at}
 use Rattle.esr_cert.specs.Problem.{Chain}
 pub use Rattle.esr_audit.specs.declared.reads.ItemRead.{ItemRead}
 
@@ -31,16 +31,16 @@ list_at lists x = slice_index_or (map (λ v. v.items) lists) x []
 abbrev pub distance_sum : (ℕ → ℤ → ℤ → ℕ) → ℕ → List ℤ → ℤ → ℕ
 distance_sum d x values version = sum_by (λ v. d x v version) values
 
-abbrev pub values_in : Option orders.Chain → List ℤ
-values_in None = []
-values_in (Some c) = c.values
+abbrev pub version_values : Option orders.Chain → List ℤ
+version_values None = []
+version_values (Some c) = c.values
 
 -- the chain of item x, given its writers with the values that they left, and the values that were read of it
 abbrev pub audit_chain_by : (ℕ → ℤ → ℤ → ℕ) → List ℤ → Option orders.Chain → List ℤ → ℕ → Chain
 audit_chain_by d opening chain values x = record {
   item = x;
   writers = writers_in chain;
-  costs = map (distance_sum d x values) (value_at opening x ∷ values_in chain);
+  costs = map (distance_sum d x values) (value_at opening x ∷ version_values chain);
 }
 
 -- the same, given all reads
@@ -48,8 +48,8 @@ abbrev pub audit_chain_from : (ℕ → ℤ → ℤ → ℕ) → List ℤ → Opt
 audit_chain_from d opening chain reads x = audit_chain_by d opening chain (values_of reads x) x
 
 -- the chain of item x of an order
-abbrev pub audit_chain : (ℕ → ℤ → ℤ → ℕ) → List ℤ → Ordered → List ItemRead → ℕ → Chain
-audit_chain d opening order reads x = audit_chain_from d opening (chain_at order x) reads x
+abbrev pub chain_of_item : (ℕ → ℤ → ℤ → ℕ) → List ℤ → ConflictOrder → List ItemRead → ℕ → Chain
+chain_of_item d opening order reads x = audit_chain_from d opening (chain_at order x) reads x
 
 -- the items below n that were read
 abbrev pub items_in : List ItemRead → ℕ → List ℕ

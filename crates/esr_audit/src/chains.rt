@@ -10,7 +10,7 @@ ghost use Rattle.esr_order.specs.Chains as orders;
 ghost use Rattle.esr_order.specs.Orders.{chain_at};
 ghost use Rattle.esr_cert.specs.Views.{chain_of as chain_view};
 ghost use Rattle.esr_order.specs.Chains.{seen_links, writers_in};
-ghost use Rattle.esr_audit.specs.Reads.{values_of, list_at, distance_sum, values_in, audit_chain, audit_chain_by, items_in};
+ghost use Rattle.esr_audit.specs.Reads.{values_of, list_at, distance_sum, version_values, chain_of_item, audit_chain_by, items_in};
 
 use crate::reads::ItemRead;
 use esr_cert::Chain;
@@ -102,7 +102,7 @@ fn costs_of<M: Metric>(
 /// Returns the writers and the values of a chain, or empty lists if there is none.
 fn writers_and_values(alloc: Global, links: Option<Links>) -> (Vec<u32>, Vec<i64>)
     ensures writers { result.0.items ≡ writers_in (option_map seen_links links) }
-    ensures values { result.1.items ≡ values_in (option_map seen_links links) }
+    ensures values { result.1.items ≡ version_values (option_map seen_links links) }
 {
     match links {
         None => (Vec::new(alloc), Vec::new(alloc)),
@@ -127,7 +127,7 @@ fn chain_of<M: Metric>(
     requires item { x.0 < length history.now.schedule.opening }
     requires within_max { length values.now ≤ MAX_READS }
     requires values { All IsValue values.now }
-    requires versions { All IsValue (values_in (option_map seen_links links)) }
+    requires versions { All IsValue (version_values (option_map seen_links links)) }
     ensures { IfOk result (λ c. chain_view c ≡ audit_chain_by (M.distance_by history.now.schedule.weights)
         history.now.schedule.opening (option_map seen_links links) values.now x.0) }
 {
@@ -156,10 +156,10 @@ pub fn chains_of<M: Metric>(
 ) -> Result<Vec<Chain>, AllocError>
     requires within_max { length reads.now ≤ MAX_READS }
     requires reads { All (λ r. IsValue r.value) reads.now }
-    requires versions { (x : ℕ) → All IsValue (values_in (chain_at order.old x)) }
+    requires versions { (x : ℕ) → All IsValue (version_values (chain_at order.old x)) }
     ensures chains { IfOk result (λ v. map chain_view v.items
         ≡ map
-        (audit_chain (M.distance_by history.now.schedule.weights) history.now.schedule.opening order.old reads.now)
+        (chain_of_item (M.distance_by history.now.schedule.weights) history.now.schedule.opening order.old reads.now)
         (items_in reads.now (length history.now.schedule.opening))) }
     ensures commits { order.new.commits ≡ order.old.commits }
     ensures before { order.new.before ≡ order.old.before }

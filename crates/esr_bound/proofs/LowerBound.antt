@@ -17,7 +17,7 @@ use Rattle.esr_order.specs.Chains.{nth}
 use Rattle.esr_order.specs.Chains.{update_at}
 use Rattle.esr_order.proofs.Early.{must_positions}
 use Rattle.esr_order.proofs.Lists.{in_map}
-use Rattle.esr_order.proofs.Ordered.{in_order}
+use Rattle.esr_order.proofs.ConflictOrder.{in_order}
 use Rattle.esr_order.proofs.Placed.{InOrder}
 use Rattle.esr_order.proofs.Writers.{writers_in_order}
 use Rattle.esr_bound.specs.Amounts.{total, mark_at, cost_by, HasMarked, Wrote, left_by, left_by_all, Carries, IsStep, LawOfStart, LawOfUpdates, LawOfEnd}

@@ -3,7 +3,7 @@ use Rattle.std.proofs.Common.{◌≡◌, ◌≢◌, ℕ, List, Bool, true, false
 use Rattle.std.specs.List.{list_all}
 use Rattle.std.proofs.lemmas.Bool.{and_parts}
 use Rattle.serde_json.specs.Data.{Data}
-use Rattle.esr_cert.specs.Problem.{Problem, has_shape, is_in_range, is_sound}
+use Rattle.esr_cert.specs.Problem.{Problem, has_shape, is_in_range, is_well_formed}
 use Rattle.esr_cert.specs.Certificate.{Certificate}
 use Rattle.esr_cert.specs.Faults.{problem_fault}
 use Rattle.esr_cert.specs.Views.{certificate_of}
@@ -44,7 +44,7 @@ reading_from bytes d t b h (Err Json) ok err = absurd (not_json b (err (λ e. cc
 reading_from bytes d t b h (Err NoMemory) ok err = tt
 reading_from bytes d t b h _ ok err = (d, t, encodes d b h ∙ err (λ e. cc))
 
-pub not_faulty : (p : Problem) → is_sound p ≡ true → problem_fault p ≡ None
+pub not_faulty : (p : Problem) → is_well_formed p ≡ true → problem_fault p ≡ None
 not_faulty p h =
     let both = and_parts (has_shape p) (is_in_range p) h in
     let F : Bool → Option BundleFault = λ b. cond (not b) (Some Shape) (cond (not (is_in_range p)) (Some Range) None) in

@@ -4,7 +4,7 @@ use Rattle.std.specs.List.{list_all}
 use Rattle.std.proofs.lemmas.Bool.{and_parts, and_from, cases_Bool}
 use Rattle.std.proofs.lemmas.Bool.Decides.{nat_tests}
 use Rattle.esr_base.specs.declared.limits.TheConstants.{MAX_ITEMS, MAX_TRANSACTIONS}
-use Rattle.esr_cert.specs.Problem.{Problem, size, has_shape, is_in_range, is_sound, chain_is_in_range}
+use Rattle.esr_cert.specs.Problem.{Problem, size, has_shape, is_in_range, is_well_formed, chain_is_in_range}
 use Rattle.esr_cert.specs.Faults.{problem_fault}
 use Rattle.esr_cert.specs.declared.problem.BundleFault.TheVariants.{Range}
 use Rattle.esr_cert.proofs.Sound.{all_in, all_from, within_max, range_facts, InRange}
@@ -19,7 +19,7 @@ pub record ArePositions (p : Problem) : Type 0 where
   pub chains : list_all is_chain_of_positions p.chains ≡ true
   pub must : list_all is_position p.must ≡ true
 
-pub positions : (p : Problem) → is_sound p ≡ true → ArePositions p
+pub positions : (p : Problem) → is_well_formed p ≡ true → ArePositions p
 positions p h = record {
   updates = all_from is_position p.updates (λ t k. let b : (ltb 0 t ≡ true) × (leb t MAX_TRANSACTIONS ≡ true) = and_parts _ _ (all_in (λ t. ltb 0 t && leb t MAX_TRANSACTIONS) p.updates t r.numbers k) in is_small t (leb-true _ _ b.1));
   before = all_from is_pair_of_positions p.before (λ e k.
@@ -39,7 +39,7 @@ positions p h = record {
     below : (u : ℕ) → ltb u (size p) ≡ true → is_position u ≡ true
     below u l = is_small u (omega (arith, ltb-true _ _ l, within_max p h))
 
-pub out_of_range : (p : Problem) → has_shape p ≡ true → (is_sound p ≡ true → ⊥) → problem_fault p ≡ Some Range
+pub out_of_range : (p : Problem) → has_shape p ≡ true → (is_well_formed p ≡ true → ⊥) → problem_fault p ≡ Some Range
 out_of_range p s unsound = elim (cases_Bool (is_in_range p)) [
   | inl r ↦ absurd (unsound (and_from (has_shape p) (is_in_range p) s r))
   | inr r ↦ rw (s, r) refl

@@ -10,7 +10,7 @@ use Rattle.esr_cert.specs.Certificate.{Certificate}
 use Rattle.esr_cert.specs.Faults.{problem_fault}
 use Rattle.esr_cert.specs.declared.problem.BundleFault.{BundleFault}
 use Rattle.esr_cert.specs.declared.problem.BundleFault.TheVariants.{Shape, Range}
-use Rattle.esr_bundle.specs.Fields.{as_natural, as_naturals, pairs_of, rows_of, list_of, has_key_count, key_count, field, optional_numbers, optional_number}
+use Rattle.esr_bundle.specs.Fields.{as_natural, as_naturals, pairs_of, rows_of, list_of, has_key_count, key_presence, field, optional_numbers, optional_number}
 
 -- ---- the tree that is written
 
@@ -92,7 +92,7 @@ chain_of d = if has_key_count 3 d then (do
   Some (record { item = item; writers = writers; costs = costs })) else None
 
 abbrev pub problem_of : Data → Option Problem
-problem_of d = if has_key_count (3 + key_count (get (codes "must") d)) d then (do
+problem_of d = if has_key_count (3 + key_presence (get (codes "must") d)) d then (do
   before ← field pairs_of (codes "before") d
   chains ← field (list_of chain_of) (codes "chains") d
   must ← optional_numbers (get (codes "must") d)
@@ -101,7 +101,7 @@ problem_of d = if has_key_count (3 + key_count (get (codes "must") d)) d then (d
 
 abbrev pub certificate_of : Data → Option Certificate
 certificate_of d =
-    if has_key_count (4 + key_count (get (codes "augmentations") d) + key_count (get (codes "must_flow") d)) d then (do
+    if has_key_count (4 + key_presence (get (codes "augmentations") d) + key_presence (get (codes "must_flow") d)) d then (do
       augmentations ← optional_number (get (codes "augmentations") d)
       back_flow ← field as_naturals (codes "back_flow") d
       chain_flow ← field rows_of (codes "chain_flow") d

@@ -6,24 +6,24 @@ ghost use Rattle.std.specs.Prelude.{◌≡◌, ◌≢◌, ◌≤◌, ℕ, List, 
 ghost use Rattle.serde_json.specs.Data.{Data};
 ghost use Rattle.serde_json.specs.Find.{get};
 ghost use Rattle.serde_json.specs.View.{view};
-ghost use Rattle.esr_bundle.specs.Fields.{as_natural, as_naturals, pair_of, pairs_of, list_of, has_key_count, key_count, field, optional_numbers, optional_number};
+ghost use Rattle.esr_bundle.specs.Fields.{as_natural, as_naturals, pair_of, pairs_of, list_of, has_key_count, key_presence, field, optional_numbers, optional_number};
 
 use esr_cert::BundleFault;
 use serde_json::Value;
 use std::alloc::Global;
 
-/// A type that can be decoded from a JSON value: `part_of` specifies the decoder, and `shown` the model of a value.
+/// A type that can be decoded from a JSON value: `decoded` specifies the decoder, and `model_of` the model of a value.
 pub trait FromJson: Drop + Sized {
     ghost Kind: { Type 0 };
 
-    ghost shown: { Self → Kind };
+    ghost model_of: { Self → Kind };
 
-    ghost part_of: { Data → Option Kind };
+    ghost decoded: { Data → Option Kind };
 
     fn read(alloc: Global, value: &Value) -> Result<Self, BundleFault>
-        ensures ok { IfOk result (λ v. part_of (view value.now) ≡ Some (shown v)) }
+        ensures ok { IfOk result (λ v. decoded (view value.now) ≡ Some (model_of v)) }
         ensures err { IfErr result (λ e. e ≢ BundleFault.NoMemory → (e ≡ BundleFault.Shape)
-            × (part_of (view value.now) ≡ None)) };
+            × (decoded (view value.now) ≡ None)) };
 }
 
 fn pair(value: &Value) -> Option<(u64, u64)>
@@ -39,9 +39,9 @@ fn pair(value: &Value) -> Option<(u64, u64)>
 impl FromJson for u64 {
     ghost Kind = { ℕ };
 
-    ghost shown = { λ n. n };
+    ghost model_of = { λ n. n };
 
-    ghost part_of = { as_natural };
+    ghost decoded = { as_natural };
 
     fn read(_alloc: Global, value: &Value) -> Result<u64, BundleFault> {
         value.as_u64().ok_or(BundleFault::Shape)
@@ -51,9 +51,9 @@ impl FromJson for u64 {
 impl FromJson for (u64, u64) {
     ghost Kind = { ℕ × ℕ };
 
-    ghost shown = { λ e. e };
+    ghost model_of = { λ e. e };
 
-    ghost part_of = { pair_of };
+    ghost decoded = { pair_of };
 
     fn read(_alloc: Global, value: &Value) -> Result<(u64, u64), BundleFault> {
         pair(value).ok_or(BundleFault::Shape)
@@ -63,9 +63,9 @@ impl FromJson for (u64, u64) {
 impl FromJson for Vec<u64> {
     ghost Kind = { List ℕ };
 
-    ghost shown = { λ row. row.items };
+    ghost model_of = { λ row. row.items };
 
-    ghost part_of = { as_naturals };
+    ghost decoded = { as_naturals };
 
     fn read(alloc: Global, value: &Value) -> Result<Vec<u64>, BundleFault> {
         numbers(alloc, value)
@@ -74,9 +74,9 @@ impl FromJson for Vec<u64> {
 
 /// Decodes a list.
 pub fn list<T: FromJson>(alloc: Global, value: &Value) -> Result<Vec<T>, BundleFault>
-    ensures ok { IfOk result (λ v. list_of T.part_of (view value.now) ≡ Some (map T.shown v.items)) }
+    ensures ok { IfOk result (λ v. list_of T.decoded (view value.now) ≡ Some (map T.model_of v.items)) }
     ensures err { IfErr result (λ e. e ≢ BundleFault.NoMemory → (e ≡ BundleFault.Shape)
-        × (list_of T.part_of (view value.now) ≡ None)) }
+        × (list_of T.decoded (view value.now) ≡ None)) }
 {
     let Some(items) = value.as_array() else {
         return Err(BundleFault::Shape);
@@ -120,8 +120,8 @@ pub fn has_key_count(value: &Value, count: usize) -> bool
 }
 
 /// Returns 1 if the object has the key, and 0 otherwise.
-pub fn key_count(value: &Value, key: &str) -> usize
-    ensures value { result ≡ key_count (get key.now (view value.now)) }
+pub fn key_presence(value: &Value, key: &str) -> usize
+    ensures value { result ≡ key_presence (get key.now (view value.now)) }
     ensures small { result ≤ 1 }
 {
     match value.get(key) {
@@ -147,9 +147,9 @@ pub fn at<'a>(value: &'a Value, key: &str) -> Result<&'a Value, BundleFault>
 
 /// Decodes the value of a key.
 pub fn decode_member<T: FromJson>(alloc: Global, value: &Value, key: &str) -> Result<T, BundleFault>
-    ensures ok { IfOk result (λ v. field T.part_of key.now (view value.now) ≡ Some (T.shown v)) }
+    ensures ok { IfOk result (λ v. field T.decoded key.now (view value.now) ≡ Some (T.model_of v)) }
     ensures err { IfErr result (λ e. e ≢ BundleFault.NoMemory → (e ≡ BundleFault.Shape)
-        × (field T.part_of key.now (view value.now) ≡ None)) }
+        × (field T.decoded key.now (view value.now) ≡ None)) }
 {
     T::read(alloc, at(value, key)?)
 }

@@ -11,8 +11,8 @@ ghost use Rattle.esr_bundle.specs.Reading.{IsTree, HasNoTree, IsReadingOf};
 
 use crate::draft::CertificateDraft;
 use crate::fields::{
-    FromJson, at, decode_member, has_key_count, key_count, list, optional_number, optional_numbers,
-    pairs,
+    FromJson, at, decode_member, has_key_count, key_presence, list, optional_number,
+    optional_numbers, pairs,
 };
 use crate::sound::finish;
 use esr_cert::{BundleFault, Certificate, ChainDraft, Problem, ProblemDraft};
@@ -22,9 +22,9 @@ use std::alloc::Global;
 impl FromJson for ChainDraft {
     ghost Kind = { Chain };
 
-    ghost shown = { drafted_chain };
+    ghost model_of = { drafted_chain };
 
-    ghost part_of = { chain_of };
+    ghost decoded = { chain_of };
 
     fn read(alloc: Global, value: &Value) -> Result<ChainDraft, BundleFault> {
         if !has_key_count(value, 3) {
@@ -44,12 +44,12 @@ impl FromJson for ChainDraft {
 impl FromJson for ProblemDraft {
     ghost Kind = { Problem };
 
-    ghost shown = { drafted_problem };
+    ghost model_of = { drafted_problem };
 
-    ghost part_of = { problem_of };
+    ghost decoded = { problem_of };
 
     fn read(alloc: Global, value: &Value) -> Result<ProblemDraft, BundleFault> {
-        if !has_key_count(value, 3 + key_count(value, "must")) {
+        if !has_key_count(value, 3 + key_presence(value, "must")) {
             return Err(BundleFault::Shape);
         }
         let before = pairs(alloc, at(value, "before")?)?;
@@ -68,14 +68,14 @@ impl FromJson for ProblemDraft {
 impl FromJson for CertificateDraft {
     ghost Kind = { Certificate };
 
-    ghost shown = { drafted_certificate };
+    ghost model_of = { drafted_certificate };
 
-    ghost part_of = { certificate_of };
+    ghost decoded = { certificate_of };
 
     fn read(alloc: Global, value: &Value) -> Result<CertificateDraft, BundleFault> {
         if !has_key_count(
             value,
-            4 + key_count(value, "augmentations") + key_count(value, "must_flow"),
+            4 + key_presence(value, "augmentations") + key_presence(value, "must_flow"),
         ) {
             return Err(BundleFault::Shape);
         }

@@ -35,14 +35,14 @@ trait Fitted: Drop + Sized {
 
     ghost Kind: { Type 0 };
 
-    ghost shown: { Self → Kind };
+    ghost model_of: { Self → Kind };
 
     ghost drafted: { Self.Draft → Kind };
 
     ghost is_fit: { Kind → Bool };
 
     fn of(alloc: Global, draft: &Self::Draft) -> Result<Self, BundleFault>
-        ensures ok { IfOk result (λ one. shown one ≡ drafted draft.now) }
+        ensures ok { IfOk result (λ one. model_of one ≡ drafted draft.now) }
         ensures fits { IsOk result → is_fit (drafted draft.now) ≡ true }
         ensures err { IfErr result (λ e. e ≢ BundleFault.NoMemory → (e ≡ BundleFault.Range)
             × (is_fit (drafted draft.now) ≡ false)) };
@@ -53,7 +53,7 @@ impl Fitted for u32 {
 
     ghost Kind = { ℕ };
 
-    ghost shown = { λ n. n };
+    ghost model_of = { λ n. n };
 
     ghost drafted = { λ n. n };
 
@@ -69,7 +69,7 @@ impl Fitted for TxnId {
 
     ghost Kind = { ℕ };
 
-    ghost shown = { λ t. t.0 };
+    ghost model_of = { λ t. t.0 };
 
     ghost drafted = { λ n. n };
 
@@ -85,7 +85,7 @@ impl Fitted for (u32, u32) {
 
     ghost Kind = { ℕ × ℕ };
 
-    ghost shown = { λ e. e };
+    ghost model_of = { λ e. e };
 
     ghost drafted = { λ e. e };
 
@@ -101,7 +101,7 @@ impl Fitted for Chain {
 
     ghost Kind = { spec.Chain };
 
-    ghost shown = { views.chain_of };
+    ghost model_of = { views.chain_of };
 
     ghost drafted = { drafted_chain };
 
@@ -121,7 +121,7 @@ impl Fitted for Chain {
 
 /// Converts a list of drafts.
 fn list<T: Fitted>(alloc: Global, drafts: &[T::Draft]) -> Result<Vec<T>, BundleFault>
-    ensures ok { IfOk result (λ v. map T.shown v.items ≡ map T.drafted drafts.now) }
+    ensures ok { IfOk result (λ v. map T.model_of v.items ≡ map T.drafted drafts.now) }
     ensures fits { IsOk result → list_all T.is_fit (map T.drafted drafts.now) ≡ true }
     ensures err { IfErr result (λ e. e ≢ BundleFault.NoMemory → (e ≡ BundleFault.Range)
         × (list_all T.is_fit (map T.drafted drafts.now) ≡ false)) }

@@ -16,14 +16,14 @@ use std::alloc::{AllocError, Global};
 
 /// A type that is written as a JSON value.
 trait Written {
-    ghost shown: { Self → Data };
+    ghost model_of: { Self → Data };
 
     fn tree(&self, alloc: Global) -> Result<Value, AllocError>
-        ensures { IfOk result (λ v. view v ≡ shown self.now) };
+        ensures { IfOk result (λ v. view v ≡ model_of self.now) };
 }
 
 impl Written for u64 {
-    ghost shown = { number_data };
+    ghost model_of = { number_data };
 
     fn tree(&self, _alloc: Global) -> Result<Value, AllocError> {
         Ok(Value::from(*self))
@@ -31,7 +31,7 @@ impl Written for u64 {
 }
 
 impl Written for u32 {
-    ghost shown = { number_data };
+    ghost model_of = { number_data };
 
     fn tree(&self, _alloc: Global) -> Result<Value, AllocError> {
         Ok(Value::from(*self))
@@ -39,7 +39,7 @@ impl Written for u32 {
 }
 
 impl Written for TxnId {
-    ghost shown = { λ t. number_data t.0 };
+    ghost model_of = { λ t. number_data t.0 };
 
     fn tree(&self, _alloc: Global) -> Result<Value, AllocError> {
         Ok(Value::from(self.0))
@@ -47,7 +47,7 @@ impl Written for TxnId {
 }
 
 impl Written for (u32, u32) {
-    ghost shown = { pair_data };
+    ghost model_of = { pair_data };
 
     fn tree(&self, alloc: Global) -> Result<Value, AllocError> {
         json!(in alloc; [self.0, self.1])
@@ -55,7 +55,7 @@ impl Written for (u32, u32) {
 }
 
 impl Written for Vec<u64> {
-    ghost shown = { λ row. numbers_data row.items };
+    ghost model_of = { λ row. numbers_data row.items };
 
     fn tree(&self, alloc: Global) -> Result<Value, AllocError> {
         list(alloc, self)
@@ -63,7 +63,7 @@ impl Written for Vec<u64> {
 }
 
 impl Written for Chain {
-    ghost shown = { λ chain. chain_data (views.chain_of chain) };
+    ghost model_of = { λ chain. chain_data (views.chain_of chain) };
 
     fn tree(&self, alloc: Global) -> Result<Value, AllocError> {
         let costs = list(alloc, &self.costs)?;
@@ -74,7 +74,7 @@ impl Written for Chain {
 
 /// Returns the JSON value of a list.
 fn list<T: Written>(alloc: Global, list: &[T]) -> Result<Value, AllocError>
-    ensures { IfOk result (λ v. view v ≡ array (items_of (map T.shown list.now))) }
+    ensures { IfOk result (λ v. view v ≡ array (items_of (map T.model_of list.now))) }
 {
     let mut items = Vec::with_capacity(alloc, list.len())?;
     for one in list {
@@ -91,7 +91,7 @@ fn put_list<T: Written>(
     these: &[T],
 ) -> Result<(), AllocError>
     ensures { OnOk result (members_view members.new.entries
-        ≡ with_list key.now (map T.shown these.now) (members_view members.old.entries)) }
+        ≡ with_list key.now (map T.model_of these.now) (members_view members.old.entries)) }
 {
     if these.is_empty() {
         return Ok(());
@@ -178,11 +178,11 @@ fn as_positions(list: &[u32]) -> &[u32]
 }
 
 /// Returns the JSON value of a bundle.
-fn tree(alloc: Global, shown: &Problem, by: &Certificate) -> Result<Value, AllocError>
-    ensures { IfOk result (λ v. view v ≡ bundle_data shown.now (views.certificate_of by.now)) }
+fn tree(alloc: Global, model_of: &Problem, by: &Certificate) -> Result<Value, AllocError>
+    ensures { IfOk result (λ v. view v ≡ bundle_data model_of.now (views.certificate_of by.now)) }
 {
     let certificate = certificate(alloc, by)?;
-    let problem = problem(alloc, shown)?;
+    let problem = problem(alloc, model_of)?;
     json!(in alloc; {"certificate": certificate, "problem": problem})
 }
 

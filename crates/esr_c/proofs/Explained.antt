@@ -9,7 +9,7 @@ use Rattle.esr_audit.proofs.SummaryLaws.{summary_is}
 use Rattle.esr_explain.specs.Explain.{explanation}
 use Rattle.esr_engine.specs.Capacity.{transaction_count}
 use Rattle.esr_dump.specs.Naming.{transaction_names}
-use Rattle.esr_c.specs.Dumps.{IsExplanationOf, names_of}
+use Rattle.esr_c.specs.HistoryTexts.{IsExplanationOf, parsed_item_names}
 
 pub explained : {E : Type 0} (h k : Schedule) (items names : List (List ℕ)) (q : ℕ) (f : Finding) (r : Result (Vec ℕ Global) E) (text : Vec ℕ Global)
     → IsFindingOf weighted h q f → f.query.0 ≡ q → k ≡ h → r ≡ Ok text
@@ -24,13 +24,13 @@ explained h k items names q f r text found is same ok reported =
 
 -- the explanation, from the history that the engine had before
 module _ (h : Schedule) (q : ℕ) (names : List ℕ) (items transactions : List (List ℕ)) (text : List ℕ) where
-  at_first : names_of h names ≡ Some items → transactions ≡ transaction_names (transaction_count h) → text ≡ explanation weighted h items transactions q → IsExplanationOf h q names text
+  at_first : parsed_item_names h names ≡ Some items → transactions ≡ transaction_names (transaction_count h) → text ≡ explanation weighted h items transactions q → IsExplanationOf h q names text
   at_first named numbered reported = record {
     items = items;
     named = named;
     text_is = reported ∙ ap (λ ts. explanation weighted h items ts q) numbered;
   }
 
-  pub explained_as : (g : Schedule) → g ≡ h → names_of g names ≡ Some items → transactions ≡ transaction_names (transaction_count g) → text ≡ explanation weighted g items transactions q → IsExplanationOf h q names text
+  pub explained_as : (g : Schedule) → g ≡ h → parsed_item_names g names ≡ Some items → transactions ≡ transaction_names (transaction_count g) → text ≡ explanation weighted g items transactions q → IsExplanationOf h q names text
   explained_as g same named numbered reported =
-      at_first (subst (λ k. names_of k names ≡ Some items) same named) (subst (λ k. transactions ≡ transaction_names (transaction_count k)) same numbered) (subst (λ k. text ≡ explanation weighted k items transactions q) same reported)
+      at_first (subst (λ k. parsed_item_names k names ≡ Some items) same named) (subst (λ k. transactions ≡ transaction_names (transaction_count k)) same numbered) (subst (λ k. text ≡ explanation weighted k items transactions q) same reported)

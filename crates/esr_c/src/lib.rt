@@ -22,7 +22,7 @@ ghost use Rattle.esr_core.specs.Renewed.{has_active, renewed};
 ghost use Rattle.esr_engine.specs.Capacity.{NeverStuck, counts_of};
 ghost use Rattle.esr_c.specs.Many.{AreAnswered, IsAnsweredStatus, IsEnd};
 ghost use Rattle.esr_picture.specs.Picture.{IsSvg};
-ghost use Rattle.esr_c.specs.Dumps.{AreNamed, IsExplanationOf, IsLedgerOf, IsScriptOf, IsScriptStatus, IsExplainStatus, IsTextInBuffer, IsTextLength, names_of};
+ghost use Rattle.esr_c.specs.HistoryTexts.{HasNameForEachItem, IsExplanationOf, IsLedgerOf, IsScriptOf, IsTextStatus, IsQueryTextStatus, IsTextInBuffer, IsTextLength, parsed_item_names};
 ghost use Rattle.esr_c.specs.Answers.{opened, IsEventCall, IsForUpdateCall, IsTotal, IsAccount, IsFound, IsCounted, IsBundleIn, IsBundleLong, AreValuesIn, IsRenewed, IsOpenStatus, IsWeightedOpenStatus, IsRenewStatus, IsValuesStatus, IsAuditStatus, IsVerdictIn};
 
 mod account;
@@ -416,10 +416,10 @@ pub extern "C" fn esr_history_script(
     bytes: &mut [u8],
     count: &mut usize,
 ) -> u32
-    ensures status { IsScriptStatus result }
+    ensures status { IsTextStatus result }
     ensures closed { result ≡ 14 ↔ (engine.old.held.history ≡ None) }
     ensures same { engine.new.held.history ≡ engine.old.held.history }
-    ensures bad_names { result ≡ 5 → IfSome engine.old.held.history (λ h. names_of h names.now ≡ None) }
+    ensures bad_names { result ≡ 5 → IfSome engine.old.held.history (λ h. parsed_item_names h names.now ≡ None) }
     ensures script { result ≡ 0 → IfSome engine.old.held.history
         (λ h. IsTextInBuffer (IsScriptOf h names.now) count.new bytes.new) }
     ensures small { result ≡ 7 → (length bytes.old < count.new)
@@ -452,11 +452,11 @@ pub extern "C" fn esr_explain(
     bytes: &mut [u8],
     count: &mut usize,
 ) -> u32
-    ensures status { IsExplainStatus result }
+    ensures status { IsQueryTextStatus result }
     ensures closed { result ≡ 14 ↔ (engine.old.held.history ≡ None) }
     ensures refused { IfSome engine.old.held.history (λ h. (result ≡ 6) ↔ (is_committed_query h query ≡ false)) }
     ensures same { engine.new.held.history ≡ engine.old.held.history }
-    ensures bad_names { result ≡ 5 → IfSome engine.old.held.history (λ h. names_of h names.now ≡ None) }
+    ensures bad_names { result ≡ 5 → IfSome engine.old.held.history (λ h. parsed_item_names h names.now ≡ None) }
     ensures explanation { result ≡ 0 → IfSome engine.old.held.history
         (λ h. IsTextInBuffer (IsExplanationOf h query names.now) count.new bytes.new) }
     ensures small { result ≡ 7 → (length bytes.old < count.new)
@@ -483,12 +483,12 @@ pub extern "C" fn esr_picture(
     bytes: &mut [u8],
     count: &mut usize,
 ) -> u32
-    ensures status { IsExplainStatus result }
+    ensures status { IsQueryTextStatus result }
     ensures closed { result ≡ 14 ↔ (engine.old.held.history ≡ None) }
     ensures refused { IfSome engine.old.held.history (λ h. (result ≡ 6) ↔ (is_committed_query h query ≡ false)) }
     ensures same { engine.new.held.history ≡ engine.old.held.history }
-    ensures bad_names { result ≡ 5 → IfSome engine.old.held.history (λ h. names_of h names.now ≡ None) }
-    ensures named { (result ≡ 0) ⊎ (result ≡ 7) → IfSome engine.old.held.history (λ h. AreNamed h names.now) }
+    ensures bad_names { result ≡ 5 → IfSome engine.old.held.history (λ h. parsed_item_names h names.now ≡ None) }
+    ensures named { (result ≡ 0) ⊎ (result ≡ 7) → IfSome engine.old.held.history (λ h. HasNameForEachItem h names.now) }
     ensures picture { result ≡ 0 → IsTextInBuffer IsSvg count.new bytes.new }
     ensures small { result ≡ 7 → (length bytes.old < count.new) × IsTextLength IsSvg count.new }
     ensures kept { result ≢ 0 → bytes.new ≡ bytes.old }

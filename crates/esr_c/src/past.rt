@@ -4,7 +4,7 @@ ghost use Rattle.std.specs.Prelude.{◌≡◌, ◌≢◌, ◌⊎◌, ◌<◌, So
 ghost use Rattle.esr_engine.specs.Capacity.{transaction_count};
 ghost use Rattle.esr_dump.specs.Naming.{transaction_names};
 ghost use Rattle.esr_c.specs.Answers.{IsValuesStatus, status_number};
-ghost use Rattle.esr_c.specs.Dumps.{IsLedgerOf, IsScriptOf, IsScriptStatus, IsTextInBuffer, IsTextLength, names_of};
+ghost use Rattle.esr_c.specs.HistoryTexts.{IsLedgerOf, IsScriptOf, IsTextStatus, IsTextInBuffer, IsTextLength, parsed_item_names};
 
 use crate::audit::hand_out;
 use crate::engine::Status;
@@ -16,8 +16,8 @@ use std::alloc::Global;
 
 /// Returns the names of the items of an engine.
 pub(crate) fn items(alloc: Global, engine: &EmbeddedEngine, names: &[u8]) -> Result<Names, Status>
-    ensures ok { IfOk result (λ items. names_of engine.now names.now ≡ Some items) }
-    ensures bad_names { IsErrOf result Status.BadNames → names_of engine.now names.now ≡ None }
+    ensures ok { IfOk result (λ items. parsed_item_names engine.now names.now ≡ Some items) }
+    ensures bad_names { IsErrOf result Status.BadNames → parsed_item_names engine.now names.now ≡ None }
     ensures err { IfErr result (λ e. (e ≡ Status.BadNames) ⊎ (e ≡ Status.NoMemory)) }
 {
     match item_names(alloc, names, engine.history().items()) {
@@ -44,7 +44,7 @@ pub(crate) fn transactions(alloc: Global, engine: &EmbeddedEngine) -> Result<Nam
 /// Returns the script of an engine's history, or the status of the failure.
 fn script_text(alloc: Global, engine: &EmbeddedEngine, names: &[u8]) -> Result<Vec<u8>, Status>
     ensures ok { IfOk result (λ text. IsScriptOf engine.now names.now text.items) }
-    ensures bad_names { IsErrOf result Status.BadNames → names_of engine.now names.now ≡ None }
+    ensures bad_names { IsErrOf result Status.BadNames → parsed_item_names engine.now names.now ≡ None }
     ensures err { IfErr result (λ e. (e ≡ Status.BadNames) ⊎ (e ≡ Status.NoMemory)) }
 {
     let items = items(alloc, engine, names)?;
@@ -62,9 +62,9 @@ pub(crate) fn show_script(
     bytes: &mut [u8],
     count: &mut usize,
 ) -> Status
-    ensures statuses { IsScriptStatus (status_number result) }
+    ensures statuses { IsTextStatus (status_number result) }
     ensures open { result ≢ Status.Closed }
-    ensures bad_names { result ≡ Status.BadNames → names_of engine.now names.now ≡ None }
+    ensures bad_names { result ≡ Status.BadNames → parsed_item_names engine.now names.now ≡ None }
     ensures script { result ≡ Status.Done → IsTextInBuffer (IsScriptOf engine.now names.now) count.new bytes.new }
     ensures small { result ≡ Status.TooSmall → (length bytes.old < count.new)
         × IsTextLength (IsScriptOf engine.now names.now) count.new }

@@ -10,7 +10,7 @@ ghost use Rattle.esr_audit.specs.Findings.{IsFindingOf};
 ghost use Rattle.esr_explain.specs.Explain.{explanation};
 ghost use Rattle.esr_picture.specs.Picture.{IsSvg};
 ghost use Rattle.esr_c.specs.Answers.{status_number};
-ghost use Rattle.esr_c.specs.Dumps.{AreNamed, IsExplanationOf, IsExplainStatus, IsTextInBuffer, IsTextLength, names_of};
+ghost use Rattle.esr_c.specs.HistoryTexts.{HasNameForEachItem, IsExplanationOf, IsQueryTextStatus, IsTextInBuffer, IsTextLength, parsed_item_names};
 
 use crate::audit::{find, hand_out};
 use crate::engine::Status;
@@ -55,7 +55,7 @@ fn explanation_text(
     ensures same { engine.new ≡ engine.old }
     ensures ok { IfOk result (λ text. IsExplanationOf engine.old query names.now text.items) }
     ensures refused { IsErrOf result Status.NotACommittedQuery ↔ (is_committed_query engine.old query ≡ false) }
-    ensures bad_names { IsErrOf result Status.BadNames → names_of engine.old names.now ≡ None }
+    ensures bad_names { IsErrOf result Status.BadNames → parsed_item_names engine.old names.now ≡ None }
     ensures err { IfErr result (λ e. (e ≡ Status.NotACommittedQuery) ⊎ ((e ≡ Status.BadNames) ⊎ (e ≡ Status.NoMemory))) }
 {
     let found = find(alloc, engine, query)?;
@@ -99,9 +99,9 @@ fn picture_text(
 ) -> Result<Vec<u8>, Status>
     ensures same { engine.new ≡ engine.old }
     ensures ok { IfOk result (λ text. IsSvg text.items) }
-    ensures named { IfOk result (λ _. AreNamed engine.old names.now) }
+    ensures named { IfOk result (λ _. HasNameForEachItem engine.old names.now) }
     ensures refused { IsErrOf result Status.NotACommittedQuery ↔ (is_committed_query engine.old query ≡ false) }
-    ensures bad_names { IsErrOf result Status.BadNames → names_of engine.old names.now ≡ None }
+    ensures bad_names { IsErrOf result Status.BadNames → parsed_item_names engine.old names.now ≡ None }
     ensures err { IfErr result (λ e. (e ≡ Status.NotACommittedQuery) ⊎ ((e ≡ Status.BadNames) ⊎ (e ≡ Status.NoMemory))) }
 {
     let found = find(alloc, engine, query)?;
@@ -122,10 +122,10 @@ pub(crate) fn show_explanation(
     count: &mut usize,
 ) -> Status
     ensures same { engine.new ≡ engine.old }
-    ensures statuses { IsExplainStatus (status_number result) }
+    ensures statuses { IsQueryTextStatus (status_number result) }
     ensures open { result ≢ Status.Closed }
     ensures refused { (result ≡ Status.NotACommittedQuery) ↔ (is_committed_query engine.old query ≡ false) }
-    ensures bad_names { result ≡ Status.BadNames → names_of engine.old names.now ≡ None }
+    ensures bad_names { result ≡ Status.BadNames → parsed_item_names engine.old names.now ≡ None }
     ensures explanation { result ≡ Status.Done
         → IsTextInBuffer (IsExplanationOf engine.old query names.now) count.new bytes.new }
     ensures small { result ≡ Status.TooSmall → (length bytes.old < count.new)
@@ -149,11 +149,11 @@ pub(crate) fn show_picture(
     count: &mut usize,
 ) -> Status
     ensures same { engine.new ≡ engine.old }
-    ensures statuses { IsExplainStatus (status_number result) }
+    ensures statuses { IsQueryTextStatus (status_number result) }
     ensures open { result ≢ Status.Closed }
     ensures refused { (result ≡ Status.NotACommittedQuery) ↔ (is_committed_query engine.old query ≡ false) }
-    ensures bad_names { result ≡ Status.BadNames → names_of engine.old names.now ≡ None }
-    ensures named { (result ≡ Status.Done) ⊎ (result ≡ Status.TooSmall) → AreNamed engine.old names.now }
+    ensures bad_names { result ≡ Status.BadNames → parsed_item_names engine.old names.now ≡ None }
+    ensures named { (result ≡ Status.Done) ⊎ (result ≡ Status.TooSmall) → HasNameForEachItem engine.old names.now }
     ensures picture { result ≡ Status.Done → IsTextInBuffer IsSvg count.new bytes.new }
     ensures small { result ≡ Status.TooSmall → (length bytes.old < count.new) × IsTextLength IsSvg count.new }
     ensures kept { result ≢ Status.Done → bytes.new ≡ bytes.old }

@@ -4,7 +4,7 @@ use Rattle.std.proofs.lemmas.List.{length-map, get_or-map, get_or_default}
 use Rattle.std.proofs.lemmas.Bool.{cases_lt}
 use Rattle.std.proofs.lemmas.List.Sums.{sum_by-cons}
 use Rattle.esr_cert.specs.declared.problem.Chain as code
-use Rattle.esr_cert.specs.Problem.{Chain, Problem, size, is_sound}
+use Rattle.esr_cert.specs.Problem.{Chain, Problem, size, is_well_formed}
 use Rattle.esr_cert.specs.Network.{arc_at, links, chain_links, back_arc, must_arc, back_arcs, must_arcs, network, Arc}
 use Rattle.esr_cert.specs.Starts.{starts_from, joined, AreStarts}
 use Rattle.esr_base.specs.declared.numbers.TxnId.{TxnId}
@@ -109,7 +109,7 @@ writer_before source writers zero l = absurd (omega arith)
 writer_before source writers (suc j) l = ap (λ i. get_or writers i 0) (omega arith)
 
 -- the arcs of a problem's parts, in the code's types
-module _ (updates : List TxnId) (before : List (ℕ × ℕ)) (chains : List code.Chain) (must : List ℕ) (sound : is_sound (problem_of updates before chains must) ≡ true) (starts : List ℕ) (are : starts ≡ starts_from 0 (map chain_of chains)) where
+module _ (updates : List TxnId) (before : List (ℕ × ℕ)) (chains : List code.Chain) (must : List ℕ) (sound : is_well_formed (problem_of updates before chains must) ≡ true) (starts : List ℕ) (are : starts ≡ starts_from 0 (map chain_of chains)) where
   abbrev parts : Problem
   parts = problem_of updates before chains must
 

@@ -1,7 +1,7 @@
 -- The consequences of a certificate without a fault.
 use Rattle.std.proofs.Common.{◌≡◌, ℕ, ◌≤◌, Bool, true, false, not, ◌&&◌, cond, eqb, length, Option, Some, None, refl, arith}
 use Rattle.std.proofs.lemmas.Bool.{and_parts, eqb-true}
-use Rattle.esr_cert.specs.Problem.{Problem, in_set, is_ascending, is_closed, cost, is_sound}
+use Rattle.esr_cert.specs.Problem.{Problem, in_set, is_ascending, is_closed, cost, is_well_formed}
 use Rattle.esr_cert.specs.Network.{network}
 use Rattle.esr_cert.specs.Flow.{are_within, is_conserved, worth, IsFlow}
 use Rattle.esr_cert.specs.Certificate.{Certificate, amounts, is_known, are_rows_matched, is_within, worth_matches, is_count_in_bound, Certifies}
@@ -65,7 +65,7 @@ pub cost_is : (p : Problem) (c : Certificate) → IsFaultless p c → c.worth �
 cost_is p c f = eqb-true _ _ (and_parts _ _ f.tight).1
 
 -- and no closed set costs less
-pub worth_least : (p : Problem) (c : Certificate) → is_sound p ≡ true → Certifies p c → (has : ℕ → Bool) → is_closed p has ≡ true → c.worth ≤ cost p has
+pub worth_least : (p : Problem) (c : Certificate) → is_well_formed p ≡ true → Certifies p c → (has : ℕ → Bool) → is_closed p has ≡ true → c.worth ≤ cost p has
 worth_least p c sound h has closed =
     let f : IsFaultless p c = faultless p c h in
     omega (arith, worth_is p c f, worth_le_cost p (facts p sound) has (amounts c) (flow_of p c f) closed)

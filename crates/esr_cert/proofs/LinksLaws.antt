@@ -2,7 +2,7 @@
 use Rattle.std.proofs.Common.{◌≡◌, ℕ, zero, suc, Some, ◌+◌, ◌-◌, ◌<◌, ◌≤◌, true, List, [], ◌∷◌, ◌++◌, length, get_or, map, refl, sym, ap, ◌∙◌, subst, arith}
 use Rattle.std.proofs.lemmas.List.{length-map, get_or-map}
 use Rattle.esr_cert.specs.declared.problem.Chain as code
-use Rattle.esr_cert.specs.Problem.{Chain, Problem, size, is_sound}
+use Rattle.esr_cert.specs.Problem.{Chain, Problem, size, is_well_formed}
 use Rattle.esr_cert.specs.Network.{arc_at, chain_links, network, Arc}
 use Rattle.esr_cert.specs.Starts.{starts_from}
 use Rattle.esr_cert.specs.Links.{HasLinks, HaveLinks}
@@ -43,7 +43,7 @@ module _ {arcs : List Arc} {source : ℕ} (chains : List code.Chain) {k begin : 
   pub links_after : (n : ℕ) → n ≡ length chain.costs.items → (begin + n ≡ get_or (starts_from 0 (map chain_of chains)) (k + 1) 0) × (begin + n ≤ length arcs)
   links_after n count = (omega (arith, at, count, begin_next chains k chain inside is), omega (arith, links_here.inside, count))
 
-module _ (p : Problem) (sound : is_sound p ≡ true) where
+module _ (p : Problem) (sound : is_well_formed p ≡ true) where
   abbrev starts : List ℕ
   starts = starts_from 0 p.chains
 

@@ -5,7 +5,7 @@ use Rattle.std.proofs.lemmas.Bool.{and_parts, and_from, or_cases, ltb-true, leb-
 use Rattle.std.proofs.lemmas.List.{length-map}
 use Rattle.esr_base.specs.declared.limits.TheConstants.{MAX_ITEMS, MAX_TRANSACTIONS}
 use Rattle.esr_cert.specs.declared.range.TheConstants.{MAX_COST}
-use Rattle.esr_cert.specs.Problem.{Chain, Problem, size, is_closed, is_ascending, pair_lt, are_pairs_ascending, has_pair, are_linked, is_distinct, chain_has_shape, has_shape, greatest, chain_is_in_range, is_in_range, is_sound}
+use Rattle.esr_cert.specs.Problem.{Chain, Problem, size, is_closed, is_ascending, pair_lt, are_pairs_ascending, has_pair, are_linked, is_distinct, chain_has_shape, has_shape, greatest, chain_is_in_range, is_in_range, is_well_formed}
 use Rattle.esr_cert.proofs.Distinct.{distinct_bounded, ascending_bounded, all_at}
 
 pub here : {X : Type 0} → (x : X) (xs : List X) → Contains (x ∷ xs) x
@@ -137,7 +137,7 @@ chain_facts p chain h r =
       neighbours = neighbours_from p.before chain.writers a.1;
     }
 
-pub facts : (p : Problem) → is_sound p ≡ true → IsProblem p
+pub facts : (p : Problem) → is_well_formed p ≡ true → IsProblem p
 facts p h =
     let both : (has_shape p ≡ true) × (is_in_range p ≡ true) = and_parts _ _ h in
     let s : HasShape p = shape_facts p both.0 in
@@ -150,7 +150,7 @@ facts p h =
     }
 
 -- positions fit 16 bits
-pub within_max : (p : Problem) → is_sound p ≡ true → size p ≤ 65535
+pub within_max : (p : Problem) → is_well_formed p ≡ true → size p ≤ 65535
 within_max p h =
     let both : (has_shape p ≡ true) × (is_in_range p ≡ true) = and_parts _ _ h in
     distinct_bounded MAX_TRANSACTIONS p.updates (shape_facts p both.0).distinct (range_facts p both.1).numbers
@@ -181,7 +181,7 @@ codes_ascend (a ∷ b ∷ pairs) h r =
           | inr r ↦ (let e : (eqb a.0 b.0 ≡ true) × (ltb a.1 b.1 ≡ true) = and_parts (eqb a.0 b.0) (ltb a.1 b.1) r in omega (arith, eqb-true a.0 b.0 e.0, ltb-true a.1 b.1 e.1))
         ]
 
-pub are_bounded : (p : Problem) → is_sound p ≡ true → AreFew p
+pub are_bounded : (p : Problem) → is_well_formed p ≡ true → AreFew p
 are_bounded p h =
     let both : (has_shape p ≡ true) × (is_in_range p ≡ true) = and_parts _ _ h in
     let s : HasShape p = shape_facts p both.0 in

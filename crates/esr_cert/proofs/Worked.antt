@@ -1,6 +1,6 @@
 -- Problems and certificates, worked by hand.
 use Rattle.std.proofs.Common.{◌≡◌, [], ◌∷◌, length, true, false, Some, None, refl}
-use Rattle.esr_cert.specs.Problem.{Problem, in_set, is_closed, cost, has_shape, is_in_range, is_sound}
+use Rattle.esr_cert.specs.Problem.{Problem, in_set, is_closed, cost, has_shape, is_in_range, is_well_formed}
 use Rattle.esr_cert.specs.Network.{network}
 use Rattle.esr_cert.specs.Flow.{inflow, outflow, worth}
 use Rattle.esr_cert.specs.Cut.{with_source, across}
@@ -23,7 +23,7 @@ report = record {
 abbrev after_both : Certificate
 after_both = record { set = 0 ∷ 1 ∷ []; chain_flow = (0 ∷ 0 ∷ 1 ∷ []) ∷ (1 ∷ 0 ∷ []) ∷ []; back_flow = 0 ∷ []; must_flow = []; worth = 1; augmentations = None }
 
-report_is_sound : is_sound report ≡ true
+report_is_sound : is_well_formed report ≡ true
 report_is_sound = refl
 
 cost_before_both : cost report (in_set []) ≡ 8

@@ -106,5 +106,5 @@ is_in_range p =
     && list_all (λ u. nat_lt u (size p)) p.must && nat_le (sum_by (λ chain. greatest chain.costs) p.chains) MAX_COST
 
 -- no rule of shape or range is broken
-abbrev pub is_sound : Problem → Bool
-is_sound p = has_shape p && is_in_range p
+abbrev pub is_well_formed : Problem → Bool
+is_well_formed p = has_shape p && is_in_range p

@@ -8,7 +8,7 @@ ghost use Rattle.esr_base.specs.declared.limits.TheConstants.{MAX_ITEMS, MAX_TRA
 ghost use Rattle.esr_cert.specs.Views.{chain_of, problem_of};
 ghost use Rattle.esr_cert.specs.Network.{arc_at, chain_links, network};
 ghost use Rattle.esr_cert.specs.declared.network.Arc.{Arc};
-ghost use Rattle.esr_cert.specs.Problem.{is_sound};
+ghost use Rattle.esr_cert.specs.Problem.{is_well_formed};
 ghost use Rattle.esr_cert.specs.Starts.{starts_from, owners_from};
 ghost use Rattle.esr_cert.specs.Links.{HaveLinks};
 
@@ -72,7 +72,7 @@ impl<'a> Model for Arcs<'a> {
 
     ghost view = { λ a. (network (problem_of a.updates.now a.before.now a.chains.now a.must.now)).arcs };
 
-    ghost invariant = { λ a. (is_sound (problem_of a.updates.now a.before.now a.chains.now a.must.now) ≡ true)
+    ghost invariant = { λ a. (is_well_formed (problem_of a.updates.now a.before.now a.chains.now a.must.now) ≡ true)
         × (a.starts.now ≡ starts_from 0 (map chain_of a.chains.now))
         × (a.owners.now ≡ owners_from 0 (map chain_of a.chains.now)) };
 }

@@ -8,7 +8,7 @@
 
 ghost use Rattle.std.specs.Prelude.{◌≡◌, ◌≢◌, ◌<◌, ◌≤◌, length, map, true, IsOk, IfOk, IfErr, Some, None};
 ghost use Rattle.esr_base.specs.declared.limits.TheConstants.{MAX_TRANSACTIONS};
-ghost use Rattle.esr_cert.specs.Problem.{size, has_shape, is_sound};
+ghost use Rattle.esr_cert.specs.Problem.{size, has_shape, is_well_formed};
 ghost use Rattle.esr_cert.specs.Faults.{problem_fault, bundle_fault_number};
 ghost use Rattle.esr_cert.specs.Network.{arc_at, network};
 ghost use Rattle.esr_cert.specs.Rows.{AreLaidOut};
@@ -100,7 +100,7 @@ pub struct Problem {
 
 /// Returns the arcs of the network of valid parts.
 fn arcs_of<'a>(parts: &'a ProblemParts, starts: &'a [u32], owners: &'a [u16]) -> Arcs<'a>
-    requires sound { is_sound (problem_by parts.now) ≡ true }
+    requires sound { is_well_formed (problem_by parts.now) ≡ true }
     requires starts { starts.now ≡ starts_from 0 (problem_by parts.now).chains }
     requires owners { owners.now ≡ owners_from 0 (problem_by parts.now).chains }
     ensures { result ≡ (network (problem_by parts.now)).arcs }
@@ -118,7 +118,7 @@ fn arcs_of<'a>(parts: &'a ProblemParts, starts: &'a [u32], owners: &'a [u16]) ->
 /// Returns the index of each chain's first arc, the chain of each of the chains' arcs, and the steps of each node, for
 /// valid parts.
 fn network_of(alloc: Global, parts: &ProblemParts) -> Result<(Vec<u32>, Vec<u16>, Rows), AllocError>
-    requires sound { is_sound (problem_by parts.now) ≡ true }
+    requires sound { is_well_formed (problem_by parts.now) ≡ true }
     ensures starts { IfOk result (λ n. n.0.items ≡ starts_from 0 (problem_by parts.now).chains) }
     ensures owners { IfOk result (λ n. n.1.items ≡ owners_from 0 (problem_by parts.now).chains) }
     ensures laid_out { IfOk result (λ n. AreLaidOut (network (problem_by parts.now)) n.2) }
@@ -141,7 +141,7 @@ impl Model for Problem {
 
     ghost view = { λ p. problem_by p.parts };
 
-    ghost invariant = { λ p. (spec.is_sound (problem_by p.parts) ≡ true)
+    ghost invariant = { λ p. (spec.is_well_formed (problem_by p.parts) ≡ true)
         × (p.starts.items ≡ starts_from 0 (problem_by p.parts).chains)
         × (p.owners.items ≡ owners_from 0 (problem_by p.parts).chains)
         × AreLaidOut (network (problem_by p.parts)) p.rows };
@@ -197,7 +197,7 @@ impl Problem {
 
     /// Creates a problem from valid parts, without checking them again.
     pub fn of_sound(alloc: Global, parts: ProblemParts) -> Result<Problem, AllocError>
-        requires sound { is_sound (problem_by parts) ≡ true }
+        requires sound { is_well_formed (problem_by parts) ≡ true }
         ensures { IfOk result (λ p. p ≡ problem_by parts) }
     {
         let (starts, owners, rows) = network_of(alloc, &parts)?;
@@ -213,7 +213,7 @@ impl Problem {
     pub fn updates(&self) -> &[TxnId]
         ensures list { map (λ t. t.0) result.now ≡ self.now.updates }
         ensures within_max { size self.now ≤ MAX_TRANSACTIONS }
-        ensures sound { is_sound self.now ≡ true }
+        ensures sound { is_well_formed self.now ≡ true }
     {
         &self.parts.updates
     }
@@ -221,7 +221,7 @@ impl Problem {
     /// Returns the pairs of updates of which the first comes before the second.
     pub fn before(&self) -> &[(u32, u32)]
         ensures list { result.now ≡ self.now.before }
-        ensures sound { is_sound self.now ≡ true }
+        ensures sound { is_well_formed self.now ≡ true }
     {
         &self.parts.before
     }
@@ -229,7 +229,7 @@ impl Problem {
     /// Returns the chains, ascending by item.
     pub fn chains(&self) -> &[Chain]
         ensures list { map chain_of result.now ≡ self.now.chains }
-        ensures sound { is_sound self.now ≡ true }
+        ensures sound { is_well_formed self.now ≡ true }
     {
         &self.parts.chains
     }
@@ -237,7 +237,7 @@ impl Problem {
     /// Returns the updates that a closed set must contain, ascending.
     pub fn must(&self) -> &[u32]
         ensures list { result.now ≡ self.now.must }
-        ensures sound { is_sound self.now ≡ true }
+        ensures sound { is_well_formed self.now ≡ true }
     {
         &self.parts.must
     }
@@ -265,7 +265,7 @@ impl Problem {
     /// Returns for each node of the network the steps that start there.
     pub fn rows(&self) -> &Rows
         ensures laid_out { AreLaidOut (network self.now) result.now }
-        ensures sound { is_sound self.now ≡ true }
+        ensures sound { is_well_formed self.now ≡ true }
     {
         &self.rows
     }

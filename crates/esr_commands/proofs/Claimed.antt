@@ -5,7 +5,7 @@ use Rattle.esr_items.specs.Values.{IsValue}
 use Rattle.esr_items.specs.Weights.{weighted}
 use Rattle.esr_history.specs.Machine.{Schedule, IsLegal}
 use Rattle.esr_order.specs.Placements.{IsLeastDistance}
-use Rattle.esr_cert.specs.Problem.{Problem, is_sound}
+use Rattle.esr_cert.specs.Problem.{Problem, is_well_formed}
 use Rattle.esr_cert.specs.Certificate.{Certificate}
 use Rattle.esr_cert.specs.Faults.{bundle_fault_number}
 use Rattle.esr_cert.specs.declared.problem.BundleFault.{BundleFault}
@@ -32,7 +32,7 @@ claims_bad asked bytes f (Ok v) is other h = rw is (bad_fault asked bytes f (oth
 claims_bad asked bytes f (Err e) is other h = tt
 
 pub shown_by : (s : ScriptState) (name : List ℕ) (a : AuditedQuery) (bytes : List ℕ) (b : Problem × Certificate) (claim : BundleClaim) (worth : ℕ) → IsAnswered s name a
-    → All IsValue a.history.schedule.opening → IsLegal weighted a.history.schedule → is_sound a.finding.problem ≡ true
+    → All IsValue a.history.schedule.opening → IsLegal weighted a.history.schedule → is_well_formed a.finding.problem ≡ true
     → DecodesTo bytes (Ok b) → IsClaim a.finding.problem (Ok b) claim → claim ≡ Of worth → ShowsDistance s name bytes worth
 shown_by s name a bytes b claim worth answered opened legal sound means held is =
     let k : IsClaim a.finding.problem (Ok b) (Of worth) = subst (IsClaim a.finding.problem (Ok b)) is held in
@@ -42,5 +42,5 @@ shown_by s name a bytes b claim worth answered opened legal sound means held is 
     let least : IsLeastDistance weighted s.history q b.1.worth =
     certified_is_least weighted s.history q
     (subst (λ (h : Schedule). All IsValue h.opening) answered.history opened) (subst (IsLegal weighted) answered.history legal)
-    b.0 b.1 is_problem (ap is_sound k.2 ∙ sound) k.0 in
+    b.0 b.1 is_problem (ap is_well_formed k.2 ∙ sound) k.0 in
     (b, means, k.0, k.1, is_problem, subst (IsLeastDistance weighted s.history q) (sym k.1) least)

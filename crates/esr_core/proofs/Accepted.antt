@@ -11,7 +11,7 @@ use Rattle.esr_history.specs.Events.{txn_numbers, reads, reads_any, is_query, is
 use Rattle.esr_history.specs.Machine.{Distance, Schedule, accepted_in, due_in, first_reason, refusal, reasons, Charge, import_full, export_full}
 use Rattle.esr_history.specs.ItemLocks.{ItemLocks, query_reads}
 use Rattle.esr_history.proofs.Allowed.{none_applies, read_allowed}
-use Rattle.esr_history.proofs.Lawful.{when_none, not_ended}
+use Rattle.esr_history.proofs.LegalWellFormed.{when_none, not_ended}
 use Rattle.esr_ledgers.specs.declared.account.Account.{Account}
 use Rattle.esr_ledgers.specs.declared.ledgers.Quote.{Quote}
 use Rattle.esr_ledgers.specs.declared.ledgers.Quote.TheVariants.{Fits}

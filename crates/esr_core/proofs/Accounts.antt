@@ -8,11 +8,11 @@ use Rattle.esr_history.specs.Events.{Beginning, kind_of, is_query_kind, beginnin
 use Rattle.esr_history.specs.Machine.{Charge, due, charges, import_in, export_in}
 use Rattle.esr_history.proofs.KindLaws.{query_kind}
 use Rattle.esr_history.proofs.Charges.{import-push, export-push}
-use Rattle.esr_history.proofs.Lawful.{begun_in_range}
+use Rattle.esr_history.proofs.LegalWellFormed.{begun_in_range}
 use Rattle.esr_history.proofs.Ranges.{map_same, find_in_range, none_in_range, placed_end}
 use Rattle.esr_history.proofs.Sides.{charges_kinds, no_import, no_export}
 use Rattle.esr_history.proofs.Sums.{query_begun}
-use Rattle.esr_history.proofs.Orderly.{update_begun}
+use Rattle.esr_history.proofs.WellFormed.{update_begun}
 use Rattle.esr_ledgers.specs.declared.account.Account.{Account}
 use Rattle.esr_ledgers.specs.Books.{number, account_of, is_open, is_open_query, is_open_update, limit_at, account_amount, new_account, with_account}
 use Rattle.esr_core.specs.Represented.{account_after, books_of}

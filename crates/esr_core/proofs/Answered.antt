@@ -3,7 +3,7 @@ use Rattle.std.proofs.Common.{◌≡◌, [], ◌∷◌, ◌++◌, ◌∙◌, ap,
 use Rattle.esr_core.specs.Types.{Event, Reply, Refused, Refusal}
 use Rattle.esr_history.specs.Events.{is_refusal}
 use Rattle.esr_history.specs.Machine.{Distance, Schedule, accepted_in, extended, refusal, acceptance, reply_to}
-use Rattle.esr_history.proofs.Lawful.{done-refused, done-accepted, acceptance_accepts}
+use Rattle.esr_history.proofs.LegalWellFormed.{done-refused, done-accepted, acceptance_accepts}
 use Rattle.esr_core.specs.declared.state.State.{State}
 use Rattle.esr_core.specs.States.{IsStateOf, IsStateAfter}
 

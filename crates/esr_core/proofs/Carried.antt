@@ -11,7 +11,7 @@ use Rattle.esr_history.specs.Serial.{state}
 use Rattle.esr_history.specs.Queries.{updates_of, reads_by}
 use Rattle.esr_history.specs.ReportBounds.{AreDistances, AreReadsWithinBound, distance_of_reads, reads_in}
 use Rattle.esr_history.proofs.Traces.{IsMetric}
-use Rattle.esr_history.proofs.Orderly.{active_parts}
+use Rattle.esr_history.proofs.WellFormed.{active_parts}
 use Rattle.esr_history.proofs.Charges.{legal_within_limits}
 use Rattle.esr_history.proofs.ReportBoundsLaws.{begin_stays, import_grows, bound_grows, bound_at_commit, reads_are_within, import_bounds_active, open_is_imported}
 

@@ -15,7 +15,7 @@ use Rattle.esr_history.proofs.Ranges.{map_same, filter_map_ascends}
 use Rattle.esr_history.proofs.Sides.{due_kinds, no_import}
 use Rattle.esr_history.proofs.Words.{query_not_update}
 use Rattle.esr_history.proofs.Sums.{query_begun}
-use Rattle.esr_history.proofs.Orderly.{update_begun}
+use Rattle.esr_history.proofs.WellFormed.{update_begun}
 use Rattle.esr_ledgers.specs.declared.account.Account.{Account}
 use Rattle.esr_ledgers.specs.Books.{number, is_open_query, limit_at, account_amount, total_of, would_pass, quoted, quote_of, raised, charged_to_queries, charged, AreCharges}
 use Rattle.esr_core.specs.Represented.{account_after, books_of}

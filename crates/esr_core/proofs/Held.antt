@@ -5,9 +5,9 @@ use Rattle.std.proofs.lemmas.Bool.{cases_Bool, false≢true, and_parts, and_righ
 use Rattle.esr_core.specs.Types.{TxnId, Event, BeginUpdate, BeginQuery, Read, Write, Commit, Abort}
 use Rattle.esr_history.specs.Events.{Beginning, beginning_of, beginnings, beginning, txn_numbers, limit_of, commits, aborts, reads, reads_any, writes, is_committed, is_aborted, is_active, is_begun, is_query, is_update}
 use Rattle.esr_history.proofs.Lists.{any_push, any_push_no, filter_map_push_none, filter_map_push_some, slice_get_push_last}
-use Rattle.esr_history.specs.Orderly.{IsWellFormed, names}
-use Rattle.esr_history.proofs.Orderly.{beginning-kept, beginning-push, is_begun-push}
-use Rattle.esr_history.proofs.Lawful.{begun_in_range}
+use Rattle.esr_history.specs.WellFormed.{IsWellFormed, names}
+use Rattle.esr_history.proofs.WellFormed.{beginning-kept, beginning-push, is_begun-push}
+use Rattle.esr_history.proofs.LegalWellFormed.{begun_in_range}
 
 -- an event that begins and ends nothing does not change which transactions are active
 pub active-kept : (events : List Event) (e : Event) → beginning_of e ≡ None → ((t : ℕ) → commits t e ≡ false) → ((t : ℕ) → aborts t e ≡ false) → (t : ℕ) → is_active (events ++ e ∷ []) t ≡ is_active events t
@@ -36,13 +36,13 @@ any_implies p q is (e ∷ es) some =
       | inr later ↦ or_right (q e) (list_any q es) (any_implies p q is es later)
     ]
 
-pub reads_name : (t x : ℕ) (e : Event) → reads t x e ≡ true → names t e ≡ true
-reads_name t x (Read u y) is = (and_parts (u.0 == t) (y.0 == x) is).0
-reads_name t x _ is = absurd (false≢true is)
+pub read_names_reader : (t x : ℕ) (e : Event) → reads t x e ≡ true → names t e ≡ true
+read_names_reader t x (Read u y) is = (and_parts (u.0 == t) (y.0 == x) is).0
+read_names_reader t x _ is = absurd (false≢true is)
 
-pub writes_name : (t x : ℕ) (e : Event) → writes t x e ≡ true → names t e ≡ true
-writes_name t x (Write u y v) is = (and_parts (u.0 == t) (y.0 == x) is).0
-writes_name t x _ is = absurd (false≢true is)
+pub write_names_writer : (t x : ℕ) (e : Event) → writes t x e ≡ true → names t e ≡ true
+write_names_writer t x (Write u y v) is = (and_parts (u.0 == t) (y.0 == x) is).0
+write_names_writer t x _ is = absurd (false≢true is)
 
 pub commits_name : (t : ℕ) (e : Event) → commits t e ≡ true → names t e ≡ true
 commits_name t (Commit u) is = is

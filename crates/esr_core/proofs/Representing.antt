@@ -9,9 +9,9 @@ use Rattle.esr_core.specs.Types.{Versions, ItemId, TxnId, Event, Read, Write, Co
 use Rattle.esr_history.specs.Events.{Beginning, kind_of, beginning_of, beginnings, commits, aborts, reads, reads_any, writes, written, is_begun, is_committed, is_aborted, is_active, is_query, is_update, holds_write, committed_value, current_value}
 use Rattle.esr_history.specs.Machine.{due}
 use Rattle.esr_history.specs.ItemLocks.{ItemLocks}
-use Rattle.esr_history.specs.Orderly.{IsWellFormed}
+use Rattle.esr_history.specs.WellFormed.{IsWellFormed}
 use Rattle.esr_history.proofs.Values.{current-kept, committed-kept, current-write, current-write_other, committed-write, committed-commit, committed-commit_other, current-abort, current-abort_other, stays}
-use Rattle.esr_history.proofs.Orderly.{MayFollow, IsWellFormed-push, active_parts, update_begun}
+use Rattle.esr_history.proofs.WellFormed.{MayFollow, IsWellFormed-push, active_parts, update_begun}
 use Rattle.esr_ledgers.specs.declared.account.Account.{Account}
 use Rattle.esr_ledgers.specs.Books.{new_account, with_account}
 use Rattle.esr_locks.specs.Tables.{locks_at, is_writer, with_reader, with_writer, with_query_read, released}
@@ -19,7 +19,7 @@ use Rattle.esr_core.specs.States.{end_event}
 use Rattle.esr_core.specs.Represented.{Represents, books_of, Transaction}
 use Rattle.esr_core.proofs.Held.{IsBegin, active-commit, active-abort, update_or_query}
 use Rattle.esr_core.proofs.Rows.{rows-begin, rows-kept, rows-read, rows-end}
-use Rattle.esr_core.proofs.Locks.{locks_at_item, writer_is, all-begin, all-read, all-query, all-write, all-end}
+use Rattle.esr_core.proofs.Locks.{locks_at_item, writer_is, locks_of-begin, locks_of-read, locks_of-query_read, locks_of-write, locks_of-end}
 use Rattle.esr_core.proofs.Accounts.{books-kept, books-begin}
 
 -- a property of a commit and of an abort holds of an end
@@ -42,7 +42,7 @@ module _ (d : ℕ → ℤ → ℤ → ℕ) (opening : List ℤ) (events : List E
     current = current-same e isnt is.aborts_none;
     committed = committed-same e isnt is.commits_none;
     rows = rows-begin events rep.orderly e b is table rep.rows;
-    locked = rep.locked ∙ sym (all-begin events rep.orderly e b is (length opening));
+    locked = rep.locked ∙ sym (locks_of-begin events rep.orderly e b is (length opening));
     books = ap (λ (as' : List Account). with_account as' (new_account (kind_of b.query) (record { 0 = suc (length (beginnings events)) }) b.limit)) rep.books ∙ books-begin d opening events e b is nothing;
     orderly = IsWellFormed-push events e rep.orderly (record { active = λ t f. absurd (false≢true (sym (is.names_none t) ∙ f)); updates = λ t x f. absurd (false≢true (sym (is.writes_none t x) ∙ f)); alone = λ t x f. absurd (false≢true (sym (is.writes_none t x) ∙ f)) });
   }
@@ -56,7 +56,7 @@ module _ (d : ℕ → ℤ → ℤ → ℕ) (opening : List ℤ) (events : List E
         current = current-same (Read t x) (λ y k. refl) (λ u. refl);
         committed = committed-same (Read t x) (λ y k. refl) (λ u. refl);
         rows = rows-kept events (Read t x) refl (λ u. refl) (λ u. refl) (λ u is. ne_eqb t.0 u (λ (f : t.0 ≡ u). false≢true (sym no_query ∙ (ap (is_query events) f ∙ is)))) table rep.rows;
-        locked = ap (λ (ls : List ItemLocks). set ls x.0 (with_reader t.0 (locks_at ls x.0))) rep.locked ∙ all-read events t x (length opening) inside update act;
+        locked = ap (λ (ls : List ItemLocks). set ls x.0 (with_reader t.0 (locks_at ls x.0))) rep.locked ∙ locks_of-read events t x (length opening) inside update act;
         books = rep.books ∙ books-kept d opening events (Read t x) refl (rw no_query refl);
         orderly = IsWellFormed-push events (Read t x) rep.orderly may;
       }
@@ -69,7 +69,7 @@ module _ (d : ℕ → ℤ → ℤ → ℕ) (opening : List ℤ) (events : List E
     current = current-same (Read t x) (λ y k. refl) (λ u. refl);
     committed = committed-same (Read t x) (λ y k. refl) (λ u. refl);
     rows = rows-read events (Read t x) refl k row (λ u. refl) (λ u. refl) (ap (is_query events) (sym number) ∙ query) (λ u. ap (λ n. n == u) number) table rep.rows in_table at;
-    locked = ap (λ (ls : List ItemLocks). set ls x.0 (with_query_read t.0 (locks_at ls x.0))) rep.locked ∙ all-query events t x (length opening) inside query act;
+    locked = ap (λ (ls : List ItemLocks). set ls x.0 (with_query_read t.0 (locks_at ls x.0))) rep.locked ∙ locks_of-query_read events t x (length opening) inside query act;
     books = books;
     orderly = IsWellFormed-push events (Read t x) rep.orderly may;
   }
@@ -95,7 +95,7 @@ module _ (d : ℕ → ℤ → ℤ → ℕ) (opening : List ℤ) (events : List E
           | inr ne ↦ ap (λ (w : Versions). w.committed) (get_or-set_other items x.0 y (record { committed = committed_at items x.0; current = v }) (both_versions (pos 0)) (λ (f : y ≡ x.0). ne (sym f))) ∙ (rep.committed y l ∙ sym (committed-write opening events y t x v parts.1))
         ];
         rows = rows-kept events (Write t x v) refl (λ u. refl) (λ u. refl) (λ u is. refl) table rep.rows;
-        locked = ap (λ (ls : List ItemLocks). set ls x.0 (with_writer t.0 (locks_at ls x.0))) rep.locked ∙ all-write events t x v (length opening) inside orderly_then update act;
+        locked = ap (λ (ls : List ItemLocks). set ls x.0 (with_writer t.0 (locks_at ls x.0))) rep.locked ∙ locks_of-write events t x v (length opening) inside orderly_then update act;
         books = books;
         orderly = orderly_then;
       }
@@ -137,7 +137,7 @@ module _ (d : ℕ → ℤ → ℤ → ℕ) (opening : List ℤ) (events : List E
     current = λ x l. current_is x (rw rep.count l) ∙ current-end commits x l;
     committed = λ x l. committed_is x (rw rep.count l) ∙ committed-end commits x l;
     rows = rows-end events (end_event commits t) begins k row (λ u. rw (sym number) (ends u)) (λ u. by (λ e. reads_any u e ≡ false) commits t refl refl) table rep.rows in_table at;
-    locked = ap (map (released t.0)) rep.locked ∙ all-end events rep.orderly (end_event commits t) begins t.0 ends (λ u x. by (λ e. reads u x e ≡ false) commits t refl refl) (λ u x. by (λ e. writes u x e ≡ false) commits t refl refl) (length opening);
+    locked = ap (map (released t.0)) rep.locked ∙ locks_of-end events rep.orderly (end_event commits t) begins t.0 ends (λ u x. by (λ e. reads u x e ≡ false) commits t refl refl) (λ u x. by (λ e. writes u x e ≡ false) commits t refl refl) (length opening);
     books = rep.books ∙ books-kept d opening events (end_event commits t) begins (by (λ e. due d opening events e ≡ []) commits t refl refl);
     orderly = IsWellFormed-push events (end_event commits t) rep.orderly may;
   }

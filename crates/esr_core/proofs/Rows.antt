@@ -9,11 +9,11 @@ use Rattle.std.proofs.lemmas.List.{length_push}
 use Rattle.esr_core.specs.Types.{Event, Read, AlreadyEnded, NoSuchTransaction}
 use Rattle.esr_history.specs.Events.{Beginning, kind_of, beginning_of, beginnings, txn_numbers, commits, aborts, reads_any, is_active, is_begun, is_query, total_read_count}
 use Rattle.esr_history.specs.Machine.{Schedule, accepted_in, when, first_reason, not_begun, ended}
-use Rattle.esr_history.specs.Orderly.{IsWellFormed, names}
+use Rattle.esr_history.specs.WellFormed.{IsWellFormed, names}
 use Rattle.esr_history.proofs.Lists.{any_push_no}
 use Rattle.esr_history.proofs.Ranges.{map_same, set_range}
-use Rattle.esr_history.proofs.Reaches.{count_none}
-use Rattle.esr_history.proofs.Orderly.{names_aborter}
+use Rattle.esr_history.proofs.TraceOfHistory.{count_none}
+use Rattle.esr_history.proofs.WellFormed.{names_aborter}
 use Rattle.esr_core.specs.Represented.{transaction_after, transactions_after, Transaction}
 use Rattle.esr_core.proofs.Held.{active-kept, active-same, IsBegin, numbers-kept, query-kept, beginnings-begin, beginning-begin, beginning-new, not_named, commits_name}
 

@@ -15,8 +15,8 @@ use Rattle.esr_history.specs.Operations.{committer, commit_order}
 use Rattle.esr_history.specs.Serial.{committed_updates, values_by, state}
 use Rattle.esr_history.proofs.Lists.{filter_map_push}
 use Rattle.esr_history.proofs.Actives.{current_by_active}
-use Rattle.esr_history.proofs.Lawful.{done-accepted, legal_orderly}
-use Rattle.esr_history.proofs.Orderly.{active_parts, beginning-kept}
+use Rattle.esr_history.proofs.LegalWellFormed.{done-accepted, legal_orderly}
+use Rattle.esr_history.proofs.WellFormed.{active_parts, beginning-kept}
 use Rattle.esr_history.proofs.Bounded.{before_first-all}
 use Rattle.esr_history.proofs.Membership.{In-of_filter, In-from_any, any-from_number}
 use Rattle.esr_history.proofs.Traces.{is_among}

@@ -8,8 +8,8 @@ use Rattle.esr_history.specs.Events.{txn_numbers, is_query, is_update, is_active
 use Rattle.esr_history.specs.Machine.{Distance, Schedule, accepted_in, due_in, first_reason, not_begun, ended, no_item, query_writes, out_of_range, write_blocked, import_full, export_full, refusal}
 use Rattle.esr_history.specs.ItemLocks.{ItemLocks, query_reads}
 use Rattle.esr_history.proofs.Allowed.{WriteOpen, none_applies, write_open}
-use Rattle.esr_history.proofs.Lawful.{when_none, not_ended, update_from}
-use Rattle.esr_history.proofs.Orderly.{active_parts}
+use Rattle.esr_history.proofs.LegalWellFormed.{when_none, not_ended, update_from}
+use Rattle.esr_history.proofs.WellFormed.{active_parts}
 use Rattle.esr_ledgers.specs.declared.account.Account.{Account}
 use Rattle.esr_ledgers.specs.Books.{AreCharges, charged}
 use Rattle.esr_locks.specs.Tables.{locks_at}

@@ -5,7 +5,7 @@ use Rattle.esr_core.specs.Types.{Versions, Event}
 use Rattle.esr_history.specs.Events.{kind_of, txn_numbers, limit_of, is_active, is_query, total_read_count, committed_value, current_value}
 use Rattle.esr_history.specs.Machine.{charges, import_in, export_in}
 use Rattle.esr_history.specs.ItemLocks.{ItemLocks, locks_of}
-use Rattle.esr_history.specs.Orderly.{IsWellFormed}
+use Rattle.esr_history.specs.WellFormed.{IsWellFormed}
 use Rattle.esr_ledgers.specs.declared.account.Account.{Account}
 pub use Rattle.esr_core.specs.declared.state.Transaction.{Transaction}
 

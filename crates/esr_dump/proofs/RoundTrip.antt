@@ -20,7 +20,7 @@ use Rattle.esr_history.specs.declared.event.Refusal.TheVariants.{NoSuchTransacti
 use Rattle.esr_history.specs.declared.event.Entry.{Entry}
 use Rattle.esr_history.specs.Events.{is_refusal, beginning_of, beginnings, accepted, is_active, is_begun, is_query}
 use Rattle.esr_history.specs.Machine.{Distance, Schedule, empty_schedule, accepted_in, extended, when, first_reason, answered, reply_to, IsLegal, IsLegalAfter}
-use Rattle.esr_history.proofs.Lawful.{begun_in_range, done-accepted, done-refused}
+use Rattle.esr_history.proofs.LegalWellFormed.{begun_in_range, done-accepted, done-refused}
 use Rattle.esr_grammar.specs.Command.{Command, IsName, IsCommand, IsInt}
 use Rattle.esr_report.specs.Names.{position_of, all_distinct, name_of_transaction}
 use Rattle.esr_dump.specs.Lines.{command_of, declaration, entry_text, is_kept, item_text, items_text, line_of, name_of_item, script}

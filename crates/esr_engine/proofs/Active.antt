@@ -16,10 +16,10 @@ use Rattle.esr_history.specs.declared.event.Event.TheVariants.{BeginUpdate, Begi
 use Rattle.esr_history.specs.declared.event.Reply.TheVariants.{Begun, Wrote, Committed, Aborted, Refused}
 use Rattle.esr_history.specs.Events.{Beginning, kind_of, beginning_of, beginnings, txn_numbers, commits, aborts, reads_any, is_active, is_begun, is_refusal}
 use Rattle.esr_history.specs.Machine.{Distance, Schedule, accepted_in, extended, reply_to, refusal, acceptance, first_reason, not_begun, ended, when}
-use Rattle.esr_history.specs.Orderly.{IsWellFormed}
+use Rattle.esr_history.specs.WellFormed.{IsWellFormed}
 use Rattle.esr_history.proofs.Allowed.{none_applies, end_allowed}
-use Rattle.esr_history.proofs.Lawful.{done-refused, done-accepted, not_ended, begun_in_range}
-use Rattle.esr_history.proofs.Orderly.{active_parts}
+use Rattle.esr_history.proofs.LegalWellFormed.{done-refused, done-accepted, not_ended, begun_in_range}
+use Rattle.esr_history.proofs.WellFormed.{active_parts}
 use Rattle.esr_core.specs.declared.state.Transaction.{Transaction}
 use Rattle.esr_core.specs.Represented.{transaction_after, transactions_after}
 use Rattle.esr_core.proofs.Held.{IsBegin, begin_update, begin_query, active-kept, active-commit, active-abort, numbers-kept}

@@ -16,11 +16,11 @@ use Rattle.esr_history.specs.declared.event.Reply.TheVariants.{Value, Wrote}
 use Rattle.esr_history.specs.declared.event.Refusal.TheVariants.{NoSuchItem}
 use Rattle.esr_history.specs.Events.{writes, is_active, is_begun, is_committed, is_aborted, is_update, is_refusal, holds_write, committed_value, current_value}
 use Rattle.esr_history.specs.Machine.{Schedule, accepted_in, extended, reply_to, refusal, reasons, writer}
-use Rattle.esr_history.specs.Orderly.{IsWellFormed}
+use Rattle.esr_history.specs.WellFormed.{IsWellFormed}
 use Rattle.esr_history.proofs.Allowed.{none_applies, write_allowed, read_allowed}
-use Rattle.esr_history.proofs.Lawful.{done-accepted, follows, not_ended, when_none}
+use Rattle.esr_history.proofs.LegalWellFormed.{done-accepted, follows, not_ended, when_none}
 use Rattle.esr_history.proofs.Lists.{any_push, any_push_no}
-use Rattle.esr_history.proofs.Orderly.{active_parts, update_begun}
+use Rattle.esr_history.proofs.WellFormed.{active_parts, update_begun}
 use Rattle.esr_history.proofs.Steps.{last_written_agree}
 use Rattle.esr_history.proofs.Values.{current-write, stays}
 use Rattle.esr_core.proofs.Held.{active-kept}

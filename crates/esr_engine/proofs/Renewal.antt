@@ -5,7 +5,7 @@ use Rattle.std.proofs.lemmas.Bool.{false≢true}
 use Rattle.std.proofs.lemmas.List.Sums.{sum_by-cons}
 use Rattle.esr_history.specs.Events.{txn_numbers, is_active}
 use Rattle.esr_history.specs.Machine.{Schedule, accepted_in}
-use Rattle.esr_history.proofs.Reaches.{count_none}
+use Rattle.esr_history.proofs.TraceOfHistory.{count_none}
 use Rattle.esr_core.specs.Renewed.{has_active}
 use Rattle.esr_engine.specs.Capacity.{active_count}
 

@@ -5,7 +5,7 @@ use Rattle.esr_items.specs.Weights.{IsWeight, weighted}
 use Rattle.esr_history.specs.declared.event.Event.{Event}
 use Rattle.esr_history.specs.declared.event.Reply.{Reply}
 use Rattle.esr_history.specs.Machine.{IsLegal, Schedule, accepted_in, extended, reply_to}
-use Rattle.esr_history.proofs.Lawful.{legal_orderly}
+use Rattle.esr_history.proofs.LegalWellFormed.{legal_orderly}
 use Rattle.esr_order.specs.Index.{Indexed, IsIndexOf}
 use Rattle.esr_engine.specs.Capacity.{active_after, active_count, is_end, is_full, taken}
 use Rattle.esr_engine.proofs.Active.{Counted, counted, capacity_after}

@@ -9,7 +9,7 @@ use Rattle.esr_cert.specs.declared.rows.Span.{Span}
 use Rattle.esr_cert.specs.Flow.{within, amount_at}
 use Rattle.esr_cert.specs.Steps.{arc_of, start, step_at, same_step, has_step, HasSteps}
 use Rattle.esr_flow.specs.Residual.{residual_capacity, left_of}
-use Rattle.esr_flow.specs.Graph.{arcs_of, net_of, adjacency_entry, entry_at, AreEntries, IsEntry, Lists, Graph}
+use Rattle.esr_flow.specs.Graph.{arcs_of, network_of, adjacency_entry, entry_at, AreEntries, IsEntry, Lists, Graph}
 use Rattle.esr_cert.specs.Rows.{span_at, row_in}
 use Rattle.esr_flow.proofs.WalkLaws.{start_in}
 
@@ -97,7 +97,7 @@ module _ (g : Graph) where
   pub in_row : (s : ResidualArc) → arc_of s < length (arcs_of g) → Contains (row_in g.rows.now.steps.items (span_at g.rows.now.spans.items (start (arcs_of g) s))) s
   in_row s l =
       contains_from (row_in g.rows.now.steps.items (span_at g.rows.now.spans.items (start (arcs_of g) s))) s
-      ((g.kept.lists (start (arcs_of g) s) (start_in (net_of g) g.kept.is_network s l)).all s l refl)
+      ((g.kept.lists (start (arcs_of g) s) (start_in (network_of g) g.kept.is_network s l)).all s l refl)
 
   row_lists : (flow : List ℕ) (entries : List AdjacencyEntry) → AreEntries g flow entries → (v : ℕ) → v < g.nodes → Lists (arcs_of g) flow v (row_in g.rows.now.steps.items (span_at g.rows.now.spans.items v)) (row_in entries (span_at g.rows.now.spans.items v))
   row_lists flow entries are v l =

@@ -2,7 +2,7 @@
 use Rattle.std.proofs.Common.{◌≡◌, ℕ, ◌+◌, ◌-◌, ◌<◌, ◌≤◌, Bool, true, List, [], ◌∷◌, length, get_or, map, sym, ap, ◌∙◌, arith}
 use Rattle.std.proofs.lemmas.List.{get_or_append_left}
 use Rattle.esr_cert.specs.declared.problem.Chain as code
-use Rattle.esr_cert.specs.Problem.{Problem, size, is_sound}
+use Rattle.esr_cert.specs.Problem.{Problem, size, is_well_formed}
 use Rattle.esr_cert.specs.Network.{arc_at, back_arc, network}
 use Rattle.esr_cert.specs.Starts.{starts_from}
 use Rattle.esr_cert.specs.Views.{chain_of}
@@ -21,7 +21,7 @@ pub link_kept : (arcs : List Arc) (flow : List ℕ) (marks : List Bool) (chain :
 link_kept arcs flow marks chain begin has j some inside same =
     kept_equal arcs flow marks (begin + j) (ap (is_marked marks) (has.from j some inside) ∙ same ∙ sym (ap (is_marked marks) (has.to j some inside)))
 
-module _ (p : Problem) (sound : is_sound p ≡ true) where
+module _ (p : Problem) (sound : is_well_formed p ≡ true) where
   abbrev starts : List ℕ
   starts = starts_from 0 p.chains
 

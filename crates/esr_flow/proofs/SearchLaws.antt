@@ -96,7 +96,7 @@ module _ (net : Network) (flow : List ℕ) where
           ]
 
   pub start_search : (marks : List Bool) (visits : List Visit) → net.source < net.nodes → length marks ≡ net.nodes → unmarked marks + 1 ≡ net.nodes → ((v : ℕ) → is_marked marks v ≡ true → v ≡ net.source) → is_marked marks net.source ≡ true → visits ≡ record { node = net.source; level = 0; step = Forward 0; parent = 0 } ∷ [] → Searched net flow visits marks 0
-  start_search marks visits ok ml capacity_left only here e =
+  start_search marks visits ok ml spare_capacity only here e =
       subst (λ vs. Searched net flow vs marks 0) (sym e) (record {
         marks_length = ml;
         some = omega arith;
@@ -110,7 +110,7 @@ module _ (net : Network) (flow : List ℕ) where
         visited = λ v t. (0, omega arith, sym (only v t));
         done = λ i a. absurd (omega arith);
         relevant = λ j a b. let z : j ≡ 0 = omega arith in omega (arith, zero_level j z);
-        capacity_left = omega arith;
+        spare_capacity = omega arith;
       })
     where
       one : List Visit
@@ -162,7 +162,7 @@ module _ (net : Network) (flow : List ℕ) where
           | inl jl ↦ omega (arith, ap (λ x. x.level) (old j jl), ap (λ x. x.level) (old head l), h.relevant j jl l)
           | inr je ↦ omega (arith, ap (λ x. x.level) (new j je), ap (λ x. x.level) (old head l))
         ];
-        capacity_left = omega (arith, len, unmarked_mark marks (finish net.arcs s) (omega (arith, target, h.marks_length)) f, h.capacity_left);
+        spare_capacity = omega (arith, len, unmarked_mark marks (finish net.arcs s) (omega (arith, target, h.marks_length)) f, h.spare_capacity);
       }
     where
       extra : Visit
@@ -240,7 +240,7 @@ module _ (net : Network) (flow : List ℕ) where
     nodes = h.nodes;
     marked = h.marked;
     visited = h.visited;
-    capacity_left = h.capacity_left;
+    spare_capacity = h.spare_capacity;
     done = λ i a s r q. elim (cases_eq i head) [
       | inl e ↦ subst (λ n. EndsVisited net.arcs visits (visit_at visits n).level s) (sym e) (each s r (q ∙ ap (λ n. (visit_at visits n).node) e))
       | inr ne ↦ h.done i (omega arith) s r q

@@ -13,8 +13,8 @@ use Rattle.esr_flow.specs.Residual.{finish, residual_capacity}
 abbrev pub arcs_of : Graph → List Arc
 arcs_of g = (network g.problem.now).arcs
 
-abbrev pub net_of : Graph → Network
-net_of g = net_with g.problem.now g.nodes g.source g.sink
+abbrev pub network_of : Graph → Network
+network_of g = net_with g.problem.now g.nodes g.source g.sink
 
 -- the entry of a step: where it leads, and whether the step and its opposite have residual capacity
 abbrev pub adjacency_entry : List Arc → List ℕ → ResidualArc → AdjacencyEntry

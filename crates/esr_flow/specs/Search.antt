@@ -53,7 +53,7 @@ pub record Searched (net : Network) (flow : List ℕ) (visits : List Visit) (mar
       → start net.arcs step ≡ (visit_at visits i).node → EndsVisited net.arcs visits (visit_at visits i).level step
   pub relevant : (j : ℕ) → j < length visits → head < length visits
       → (visit_at visits j).level ≤ suc (visit_at visits head).level
-  pub capacity_left : length visits + unmarked marks ≡ net.nodes
+  pub spare_capacity : length visits + unmarked marks ≡ net.nodes
 
 -- a path with fewest arcs from the source to the sink
 pub record IsShortestPath (net : Network) (flow : List ℕ) (path : List ResidualArc) : Type 0 where

@@ -8,7 +8,7 @@
 #![tactic(auto)]
 
 mod entry;
-mod flows;
+mod flow_check;
 mod graph;
 mod maximum;
 mod network;

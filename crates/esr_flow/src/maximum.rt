@@ -11,12 +11,12 @@ ghost use Rattle.esr_cert.specs.Steps.{arc_of};
 ghost use Rattle.esr_flow.specs.Residual.{smaller, bottleneck, shift, raise};
 ghost use Rattle.esr_cert.specs.Flow.{amount_at, IsFlow, worth};
 ghost use Rattle.esr_flow.specs.Augmentation.{IsReach, Augments, AugmentsFromZero, AugmentsFrom};
-ghost use Rattle.esr_flow.specs.Graph.{arcs_of, net_of, AreEntries};
+ghost use Rattle.esr_flow.specs.Graph.{arcs_of, network_of, AreEntries};
 ghost use Rattle.esr_flow.specs.Search.{IsShortestPath, Guides, IsGuided, ReachesNoSink, is_marked};
 ghost use Rattle.esr_flow.specs.Maximum.{InArcs, HasLimit, IsStart};
 
 use crate::entry::ShortEntry;
-use crate::flows::worth_if_flow;
+use crate::flow_check::value_if_flow;
 use crate::graph::{Graph, residual_capacity_of};
 use crate::paths::{next_path, put_back};
 use crate::reach::reach;
@@ -85,15 +85,15 @@ fn raise_along(
 
 /// Augments along a path that a search found. Returns the amount.
 fn augment(graph: &Graph, flow: &mut [u64], entries: &mut [ShortEntry], path: &[ResidualArc]) -> u64
-    requires flow { IsFlow (net_of graph.now) flow.old }
+    requires flow { IsFlow (network_of graph.now) flow.old }
     requires entries { AreEntries graph.now flow.old entries.old }
     requires amounts { (i : ℕ) → amount_at flow.old i ≤ MAX_COST }
-    requires small { (f : List ℕ) → IsFlow (net_of graph.now) f → worth (net_of graph.now) f ≤ MAX_COST }
-    requires path { IsShortestPath (net_of graph.now) flow.old path.now }
-    requires limited { HasLimit (net_of graph.now) }
-    ensures augments { Augments (net_of graph.now) flow.old flow.new }
+    requires small { (f : List ℕ) → IsFlow (network_of graph.now) f → worth (network_of graph.now) f ≤ MAX_COST }
+    requires path { IsShortestPath (network_of graph.now) flow.old path.now }
+    requires limited { HasLimit (network_of graph.now) }
+    ensures augments { Augments (network_of graph.now) flow.old flow.new }
     ensures entries { AreEntries graph.now flow.new entries.new }
-    ensures worth { worth (net_of graph.now) flow.new ≡ worth (net_of graph.now) flow.old + result }
+    ensures worth { worth (network_of graph.now) flow.new ≡ worth (network_of graph.now) flow.old + result }
 {
     match bottleneck_of(graph.problem, flow, path) {
         // each path leaves the source by an arc that has a limit
@@ -123,18 +123,18 @@ fn run_phase(
     entries: &mut [ShortEntry],
     before: FlowSoFar,
 ) -> Result<FlowSoFar, AllocError>
-    requires small { (f : List ℕ) → IsFlow (net_of graph.now) f → worth (net_of graph.now) f ≤ MAX_COST }
-    requires limited { HasLimit (net_of graph.now) }
+    requires small { (f : List ℕ) → IsFlow (network_of graph.now) f → worth (network_of graph.now) f ≤ MAX_COST }
+    requires limited { HasLimit (network_of graph.now) }
     requires entries { AreEntries graph.now flow.old entries.old }
-    requires guides { Guides (net_of graph.now) flow.old labels.now }
-    requires first { IsGuided (net_of graph.now) flow.old labels.now first.items }
-    requires start { IsStart (net_of graph.now) flow.old }
+    requires guides { Guides (network_of graph.now) flow.old labels.now }
+    requires first { IsGuided (network_of graph.now) flow.old labels.now first.items }
+    requires start { IsStart (network_of graph.now) flow.old }
     requires count { before.augmentations ≤ before.worth }
-    requires worth { before.worth ≡ worth (net_of graph.now) flow.old }
+    requires worth { before.worth ≡ worth (network_of graph.now) flow.old }
     requires phases { before.phases ≤ before.augmentations }
-    ensures takes { IfOk result (λ p. AugmentsFrom (net_of graph.now) flow.old (p.augmentations - before.augmentations)
+    ensures takes { IfOk result (λ p. AugmentsFrom (network_of graph.now) flow.old (p.augmentations - before.augmentations)
         flow.new) }
-    ensures worth { IfOk result (λ p. p.worth ≡ worth (net_of graph.now) flow.new) }
+    ensures worth { IfOk result (λ p. p.worth ≡ worth (network_of graph.now) flow.new) }
     ensures entries { IfOk result (λ p. AreEntries graph.now flow.new entries.new) }
     ensures more { IfOk result (λ p. before.augmentations < p.augmentations) }
     ensures phases { IfOk result (λ p. p.phases ≤ p.augmentations) }
@@ -167,15 +167,15 @@ fn run_phases(
     entries: &mut [ShortEntry],
     value: u64,
 ) -> Result<(FlowSoFar, Vec<bool>), AllocError>
-    requires small { (f : List ℕ) → IsFlow (net_of graph.now) f → worth (net_of graph.now) f ≤ MAX_COST }
-    requires limited { HasLimit (net_of graph.now) }
-    requires start { IsStart (net_of graph.now) flow.old }
-    requires value { value ≡ worth (net_of graph.now) flow.old }
+    requires small { (f : List ℕ) → IsFlow (network_of graph.now) f → worth (network_of graph.now) f ≤ MAX_COST }
+    requires limited { HasLimit (network_of graph.now) }
+    requires start { IsStart (network_of graph.now) flow.old }
+    requires value { value ≡ worth (network_of graph.now) flow.old }
     requires entries { AreEntries graph.now flow.old entries.old }
-    ensures takes { IfOk result (λ r. AugmentsFrom (net_of graph.now) flow.old r.0.augmentations flow.new) }
-    ensures worth { IfOk result (λ r. r.0.worth ≡ worth (net_of graph.now) flow.new) }
+    ensures takes { IfOk result (λ r. AugmentsFrom (network_of graph.now) flow.old r.0.augmentations flow.new) }
+    ensures worth { IfOk result (λ r. r.0.worth ≡ worth (network_of graph.now) flow.new) }
     ensures phases { IfOk result (λ r. r.0.phases ≤ r.0.augmentations) }
-    ensures reach { IfOk result (λ r. ReachesNoSink (net_of graph.now) flow.new r.1.items) }
+    ensures reach { IfOk result (λ r. ReachesNoSink (network_of graph.now) flow.new r.1.items) }
 {
     let mut progress = FlowSoFar {
         augmentations: 0,
@@ -209,16 +209,16 @@ fn maximum_from(
     mut flow: Vec<u64>,
     value: u64,
 ) -> Result<MaximumFlow, AllocError>
-    requires small { (f : List ℕ) → IsFlow (net_of graph.now) f → worth (net_of graph.now) f ≤ MAX_COST }
-    requires limited { HasLimit (net_of graph.now) }
-    requires start { IsStart (net_of graph.now) flow.items }
-    requires value { value ≡ worth (net_of graph.now) flow.items }
-    ensures takes { IfOk result (λ m. AugmentsFrom (net_of graph.now) flow.items m.augmentations m.flow.items) }
-    ensures flow { IfOk result (λ m. IsFlow (net_of graph.now) m.flow.items) }
-    ensures worth_is { IfOk result (λ m. m.worth ≡ worth (net_of graph.now) m.flow.items) }
+    requires small { (f : List ℕ) → IsFlow (network_of graph.now) f → worth (network_of graph.now) f ≤ MAX_COST }
+    requires limited { HasLimit (network_of graph.now) }
+    requires start { IsStart (network_of graph.now) flow.items }
+    requires value { value ≡ worth (network_of graph.now) flow.items }
+    ensures takes { IfOk result (λ m. AugmentsFrom (network_of graph.now) flow.items m.augmentations m.flow.items) }
+    ensures flow { IfOk result (λ m. IsFlow (network_of graph.now) m.flow.items) }
+    ensures worth_is { IfOk result (λ m. m.worth ≡ worth (network_of graph.now) m.flow.items) }
     ensures amounts { IfOk result (λ m. (i : ℕ) → amount_at m.flow.items i ≤ m.worth) }
     ensures phases { IfOk result (λ m. m.phases ≤ m.augmentations) }
-    ensures reach { IfOk result (λ m. IsReach (net_of graph.now) m.flow.items (is_marked m.marks.items)) }
+    ensures reach { IfOk result (λ m. IsReach (network_of graph.now) m.flow.items (is_marked m.marks.items)) }
     ensures end { IfOk result (λ m. (is_marked m.marks.items graph.now.sink ≡ false)
         × (length m.marks.items ≡ graph.now.nodes)) }
 {
@@ -235,16 +235,16 @@ fn maximum_from(
 
 /// Augments the flow of zeros along shortest paths until there is none.
 pub fn find_maximum(alloc: Global, graph: &Graph) -> Result<MaximumFlow, AllocError>
-    requires small { (f : List ℕ) → IsFlow (net_of graph.now) f → worth (net_of graph.now) f ≤ MAX_COST }
-    requires limited { HasLimit (net_of graph.now) }
-    ensures takes { IfOk result (λ m. AugmentsFromZero (net_of graph.now) m.augmentations m.flow.items) }
+    requires small { (f : List ℕ) → IsFlow (network_of graph.now) f → worth (network_of graph.now) f ≤ MAX_COST }
+    requires limited { HasLimit (network_of graph.now) }
+    ensures takes { IfOk result (λ m. AugmentsFromZero (network_of graph.now) m.augmentations m.flow.items) }
     ensures within_max { IfOk result (λ m. m.augmentations ≤ graph.now.nodes * length (arcs_of graph.now)) }
-    ensures flow { IfOk result (λ m. IsFlow (net_of graph.now) m.flow.items) }
-    ensures worth_is { IfOk result (λ m. m.worth ≡ worth (net_of graph.now) m.flow.items) }
-    ensures worth { IfOk result (λ m. m.augmentations ≤ worth (net_of graph.now) m.flow.items) }
+    ensures flow { IfOk result (λ m. IsFlow (network_of graph.now) m.flow.items) }
+    ensures worth_is { IfOk result (λ m. m.worth ≡ worth (network_of graph.now) m.flow.items) }
+    ensures worth { IfOk result (λ m. m.augmentations ≤ worth (network_of graph.now) m.flow.items) }
     ensures amounts { IfOk result (λ m. (i : ℕ) → amount_at m.flow.items i ≤ m.worth) }
     ensures phases { IfOk result (λ m. m.phases ≤ m.augmentations) }
-    ensures reach { IfOk result (λ m. IsReach (net_of graph.now) m.flow.items (is_marked m.marks.items)) }
+    ensures reach { IfOk result (λ m. IsReach (network_of graph.now) m.flow.items (is_marked m.marks.items)) }
     ensures end { IfOk result (λ m. (is_marked m.marks.items graph.now.sink ≡ false)
         × (length m.marks.items ≡ graph.now.nodes)) }
 {
@@ -267,17 +267,17 @@ pub enum DraftOutcome {
 /// Finds a maximum flow, and returns it with the outcome of the initial draft: a draft that is a maximum flow is used,
 /// any other flow is raised by augmentations, and otherwise the search begins from the zero flow.
 pub fn find_swiftly(alloc: Global, graph: &Graph) -> Result<(MaximumFlow, DraftOutcome), AllocError>
-    requires small { (f : List ℕ) → IsFlow (net_of graph.now) f → worth (net_of graph.now) f ≤ MAX_COST }
-    requires limited { HasLimit (net_of graph.now) }
-    ensures flow { IfOk result (λ m. IsFlow (net_of graph.now) m.0.flow.items) }
-    ensures worth_is { IfOk result (λ m. m.0.worth ≡ worth (net_of graph.now) m.0.flow.items) }
+    requires small { (f : List ℕ) → IsFlow (network_of graph.now) f → worth (network_of graph.now) f ≤ MAX_COST }
+    requires limited { HasLimit (network_of graph.now) }
+    ensures flow { IfOk result (λ m. IsFlow (network_of graph.now) m.0.flow.items) }
+    ensures worth_is { IfOk result (λ m. m.0.worth ≡ worth (network_of graph.now) m.0.flow.items) }
     ensures amounts { IfOk result (λ m. (i : ℕ) → amount_at m.0.flow.items i ≤ m.0.worth) }
-    ensures reach { IfOk result (λ m. IsReach (net_of graph.now) m.0.flow.items (is_marked m.0.marks.items)) }
+    ensures reach { IfOk result (λ m. IsReach (network_of graph.now) m.0.flow.items (is_marked m.0.marks.items)) }
     ensures end { IfOk result (λ m. (is_marked m.0.marks.items graph.now.sink ≡ false)
         × (length m.0.marks.items ≡ graph.now.nodes)) }
 {
     let flow = draft(alloc, graph)?;
-    let Some(worth) = worth_if_flow(alloc, graph, &flow)? else {
+    let Some(worth) = value_if_flow(alloc, graph, &flow)? else {
         let maximum = find_maximum(alloc, graph)?;
         return Ok((maximum, DraftOutcome::NoFlow));
     };

@@ -1,8 +1,8 @@
 //! The network of a problem, ready to be solved: the problem keeps its rows, so this allocates nothing.
 ghost use Rattle.std.specs.Prelude.{◌≡◌, ◌<◌, true, IfOk};
-ghost use Rattle.esr_cert.specs.Problem.{is_sound};
+ghost use Rattle.esr_cert.specs.Problem.{is_well_formed};
 ghost use Rattle.esr_cert.specs.Network as networks;
-ghost use Rattle.esr_flow.specs.Graph.{net_of};
+ghost use Rattle.esr_flow.specs.Graph.{network_of};
 
 use crate::graph::Graph;
 use esr_base::NoMemory;
@@ -11,7 +11,7 @@ use std::alloc::Global;
 
 /// Builds the graph of a problem's network.
 fn graph_of<'a>(problem: &'a Problem) -> Graph<'a>
-    ensures { net_of result ≡ networks.network problem.now }
+    ensures { network_of result ≡ networks.network problem.now }
 {
     let source = problem.updates().len();
     Graph {
@@ -30,8 +30,8 @@ fn graph_of<'a>(problem: &'a Problem) -> Graph<'a>
 pub struct Network<'a> {
     pub problem: &'a Problem,
     pub(crate) graph: Graph<'a>,
-    ghost sound: { is_sound problem.now ≡ true },
-    ghost same: { net_of graph ≡ networks.network problem.now },
+    ghost sound: { is_well_formed problem.now ≡ true },
+    ghost same: { network_of graph ≡ networks.network problem.now },
 }
 
 impl<'a> Network<'a> {

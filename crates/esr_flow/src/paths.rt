@@ -8,7 +8,7 @@ ghost use Rattle.std.specs.Prelude.{◌≡◌, ◌<◌, ◌≤◌, true, length,
 ghost use Rattle.esr_cert.specs.Flow.{within};
 ghost use Rattle.esr_flow.specs.Residual.{residual_capacity};
 ghost use Rattle.esr_cert.specs.Steps.{opposite, step_at};
-ghost use Rattle.esr_flow.specs.Graph.{arcs_of, net_of, AreEntries, Lists, entry_at};
+ghost use Rattle.esr_flow.specs.Graph.{arcs_of, network_of, AreEntries, Lists, entry_at};
 ghost use Rattle.esr_flow.specs.Search.{Guides, IsGuided, label_at};
 ghost use Rattle.esr_flow.specs.Maximum.{InArcs};
 
@@ -62,9 +62,9 @@ pub fn next_path(
 ) -> Result<Option<Vec<ResidualArc>>, AllocError>
     requires flow { length flow.now ≡ length (arcs_of graph.now) }
     requires entries { AreEntries graph.now flow.now entries.now }
-    requires guides { Guides (net_of graph.now) flow.now labels.now }
+    requires guides { Guides (network_of graph.now) flow.now labels.now }
     requires next { length next.old ≡ graph.now.nodes }
-    ensures { IfOk result (λ found. IfSome found (λ path. IsGuided (net_of graph.now) flow.now labels.now path.items)) }
+    ensures { IfOk result (λ found. IfSome found (λ path. IsGuided (network_of graph.now) flow.now labels.now path.items)) }
 {
     let mut path = Vec::with_capacity(alloc, labels[graph.source] as usize)?;
     let mut at = graph.sink;

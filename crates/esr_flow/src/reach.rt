@@ -13,7 +13,7 @@
 //! reachable, so they skip the arcs before the first unmarked update. If they have marked everything, one pass over all
 //! arcs confirms it. When each pass covered all arcs, the passes took a fifth of an audit's instructions.
 ghost use Rattle.std.specs.Prelude.{◌≡◌, ℕ, ◌+◌, ◌-◌, ◌<◌, ◌≤◌, true, false, length, get_or, IfOk, IfSome};
-ghost use Rattle.esr_flow.specs.Graph.{arcs_of, net_of};
+ghost use Rattle.esr_flow.specs.Graph.{arcs_of, network_of};
 ghost use Rattle.esr_flow.specs.Reached.{AreReached, IsKeptOver, IsKept, HasLinks, first_back};
 ghost use Rattle.esr_flow.specs.Search.{ReachesNoSink, is_marked};
 
@@ -28,8 +28,8 @@ const MAX_PASSES: usize = 100;
 fn spread(graph: &Graph, flow: &[u64], marks: &mut [bool], i: usize) -> bool
     requires flow { length flow.now ≡ length (arcs_of graph.now) }
     requires arc { i < length (arcs_of graph.now) }
-    requires reached { AreReached (net_of graph.now) flow.now marks.old }
-    ensures reached { AreReached (net_of graph.now) flow.now marks.new }
+    requires reached { AreReached (network_of graph.now) flow.now marks.old }
+    ensures reached { AreReached (network_of graph.now) flow.now marks.new }
     ensures marks { result ≡ false → marks.new ≡ marks.old }
     ensures kept { result ≡ false → IsKeptOver (arcs_of graph.now) flow.now marks.old i }
 {
@@ -100,8 +100,8 @@ fn first_unmarked(marks: &[bool]) -> u32 {
 /// Marks the end of an arc, if there is one with that number, as `spread` does.
 fn spread_if(graph: &Graph, flow: &[u64], marks: &mut [bool], i: usize) -> bool
     requires flow { length flow.now ≡ length (arcs_of graph.now) }
-    requires reached { AreReached (net_of graph.now) flow.now marks.old }
-    ensures { AreReached (net_of graph.now) flow.now marks.new }
+    requires reached { AreReached (network_of graph.now) flow.now marks.old }
+    ensures { AreReached (network_of graph.now) flow.now marks.new }
 {
     i < flow.len() && spread(graph, flow, marks, i)
 }
@@ -116,8 +116,8 @@ fn skim_chain(
     low: u32,
 ) -> bool
     requires flow { length flow.now ≡ length (arcs_of graph.now) }
-    requires reached { AreReached (net_of graph.now) flow.now marks.old }
-    ensures { AreReached (net_of graph.now) flow.now marks.new }
+    requires reached { AreReached (network_of graph.now) flow.now marks.old }
+    ensures { AreReached (network_of graph.now) flow.now marks.new }
 {
     let start = chain.writers.partition_point(|writer| *writer < low);
     let mut more = false;
@@ -134,8 +134,8 @@ fn skim_chain(
 /// Skims the arcs of all chains, from the first to the last. Whether it marked anything.
 fn skim_chains(graph: &Graph, flow: &[u64], marks: &mut [bool], low: u32) -> bool
     requires flow { length flow.now ≡ length (arcs_of graph.now) }
-    requires reached { AreReached (net_of graph.now) flow.now marks.old }
-    ensures { AreReached (net_of graph.now) flow.now marks.new }
+    requires reached { AreReached (network_of graph.now) flow.now marks.old }
+    ensures { AreReached (network_of graph.now) flow.now marks.new }
 {
     let mut more = false;
     let mut begin = 0usize;
@@ -152,8 +152,8 @@ fn skim_chains(graph: &Graph, flow: &[u64], marks: &mut [bool], low: u32) -> boo
 /// first pair has the number `first`. Returns whether it marked anything.
 fn skim_pairs(graph: &Graph, flow: &[u64], marks: &mut [bool], first: usize, low: u32) -> bool
     requires flow { length flow.now ≡ length (arcs_of graph.now) }
-    requires reached { AreReached (net_of graph.now) flow.now marks.old }
-    ensures { AreReached (net_of graph.now) flow.now marks.new }
+    requires reached { AreReached (network_of graph.now) flow.now marks.old }
+    ensures { AreReached (network_of graph.now) flow.now marks.new }
 {
     let pairs = graph.problem.before();
     let start = pairs.partition_point(|pair| pair.0 < low);
@@ -172,8 +172,8 @@ fn skim_pairs(graph: &Graph, flow: &[u64], marks: &mut [bool], first: usize, low
 /// `first`. It need not mark every reachable node.
 fn skim(graph: &Graph, flow: &[u64], marks: &mut [bool], first: usize)
     requires flow { length flow.now ≡ length (arcs_of graph.now) }
-    requires reached { AreReached (net_of graph.now) flow.now marks.old }
-    ensures { AreReached (net_of graph.now) flow.now marks.new }
+    requires reached { AreReached (network_of graph.now) flow.now marks.old }
+    ensures { AreReached (network_of graph.now) flow.now marks.new }
 {
     for i in first.saturating_add(graph.problem.before().len())..flow.len() {
         spread_if(graph, flow, marks, i);
@@ -191,8 +191,8 @@ fn skim(graph: &Graph, flow: &[u64], marks: &mut [bool], first: usize)
 fn pass_chain(graph: &Graph, flow: &[u64], marks: &mut [bool], chain: &Chain, begin: usize) -> bool
     requires flow { length flow.now ≡ length (arcs_of graph.now) }
     requires chain { HasLinks (arcs_of graph.now) chain.now begin }
-    requires reached { AreReached (net_of graph.now) flow.now marks.old }
-    ensures reached { AreReached (net_of graph.now) flow.now marks.new }
+    requires reached { AreReached (network_of graph.now) flow.now marks.old }
+    ensures reached { AreReached (network_of graph.now) flow.now marks.new }
     ensures marks { result ≡ false → marks.new ≡ marks.old }
     ensures kept { result ≡ false → (j : ℕ) → j < length chain.now.costs.items
         → IsKeptOver (arcs_of graph.now) flow.now marks.new (begin + j) }
@@ -209,8 +209,8 @@ fn pass_chain(graph: &Graph, flow: &[u64], marks: &mut [bool], chain: &Chain, be
 /// Passes over the arcs of all chains, from the first to the last. Returns whether it marked anything.
 fn pass_chains(graph: &Graph, flow: &[u64], marks: &mut [bool]) -> bool
     requires flow { length flow.now ≡ length (arcs_of graph.now) }
-    requires reached { AreReached (net_of graph.now) flow.now marks.old }
-    ensures reached { AreReached (net_of graph.now) flow.now marks.new }
+    requires reached { AreReached (network_of graph.now) flow.now marks.old }
+    ensures reached { AreReached (network_of graph.now) flow.now marks.new }
     ensures marks { result ≡ false → marks.new ≡ marks.old }
     ensures kept { result ≡ false → (i : ℕ) → i < first_back graph.now.problem.now
         → IsKeptOver (arcs_of graph.now) flow.now marks.new i }
@@ -230,8 +230,8 @@ fn pass_chains(graph: &Graph, flow: &[u64], marks: &mut [bool]) -> bool
 fn pass_back(graph: &Graph, flow: &[u64], marks: &mut [bool], first: usize) -> bool
     requires flow { length flow.now ≡ length (arcs_of graph.now) }
     requires first { first ≡ first_back graph.now.problem.now }
-    requires reached { AreReached (net_of graph.now) flow.now marks.old }
-    ensures reached { AreReached (net_of graph.now) flow.now marks.new }
+    requires reached { AreReached (network_of graph.now) flow.now marks.old }
+    ensures reached { AreReached (network_of graph.now) flow.now marks.new }
     ensures kept { result ≡ false → (i : ℕ) → first ≤ i → i < length (arcs_of graph.now)
         → IsKeptOver (arcs_of graph.now) flow.now marks.new i }
     ensures marks { result ≡ false → marks.new ≡ marks.old }
@@ -257,8 +257,8 @@ fn first_back_of(graph: &Graph, count: usize) -> usize
 /// Marks all nodes that are reachable from the marked ones. Returns whether the passes sufficed.
 fn pass_often(graph: &Graph, flow: &[u64], marks: &mut [bool]) -> bool
     requires flow { length flow.now ≡ length (arcs_of graph.now) }
-    requires reached { AreReached (net_of graph.now) flow.now marks.old }
-    ensures reached { AreReached (net_of graph.now) flow.now marks.new }
+    requires reached { AreReached (network_of graph.now) flow.now marks.old }
+    ensures reached { AreReached (network_of graph.now) flow.now marks.new }
     ensures kept { result ≡ true → IsKept (arcs_of graph.now) flow.now marks.new }
 {
     let first = first_back_of(graph, flow.len());
@@ -276,7 +276,7 @@ fn pass_often(graph: &Graph, flow: &[u64], marks: &mut [bool]) -> bool
 /// suffice.
 pub fn reach(alloc: Global, graph: &Graph, flow: &[u64]) -> Result<Option<Vec<bool>>, AllocError>
     requires flow { length flow.now ≡ length (arcs_of graph.now) }
-    ensures { IfOk result (λ r. IfSome r (λ marks. ReachesNoSink (net_of graph.now) flow.now marks.items)) }
+    ensures { IfOk result (λ r. IfSome r (λ marks. ReachesNoSink (network_of graph.now) flow.now marks.items)) }
 {
     let mut marks = vec![in alloc; false; graph.nodes]?;
     marks[graph.source] = true;

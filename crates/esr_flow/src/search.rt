@@ -2,7 +2,7 @@
 //! to further ones of its length, or marks of the nodes that the source reaches: the smallest set of least cost.
 ghost use Rattle.std.specs.Prelude.{◌≡◌, ℕ, List, ◌-◌, ◌<◌, ◌≤◌, false, length, IfOk};
 ghost use Rattle.esr_cert.specs.Network.{Network};
-ghost use Rattle.esr_flow.specs.Graph.{arcs_of, net_of, AreEntries, Lists};
+ghost use Rattle.esr_flow.specs.Graph.{arcs_of, network_of, AreEntries, Lists};
 ghost use Rattle.esr_flow.specs.Search.{Searched, visit_at, is_marked, ComeFromEarlier, IsShortestPath, AfterScan, AfterSearch, FoundSink, IsFound, Guides, label_at};
 
 use crate::entry::ShortEntry;
@@ -31,10 +31,10 @@ fn scan(
 ) -> Result<bool, AllocError>
     requires row { Lists (arcs_of graph.now) _flow.now (visit_at visits.old.items head).node steps.now row.now }
     requires head { head < length visits.old.items }
-    requires searched { Searched (net_of graph.now) _flow.now visits.old.items marks.old.items head }
+    requires searched { Searched (network_of graph.now) _flow.now visits.old.items marks.old.items head }
     requires sink { is_marked marks.old.items graph.now.sink ≡ false }
     ensures { IfOk result
-        (λ found. AfterScan (net_of graph.now) _flow.now visits.new.items marks.new.items head found) }
+        (λ found. AfterScan (network_of graph.now) _flow.now visits.new.items marks.new.items head found) }
 {
     let level = visits[head].level + 1;
     for (i, short) in row.iter().enumerate() {
@@ -85,8 +85,8 @@ fn labels_of(
     _flow: &[u64],
     visits: &[Visit],
 ) -> Result<Vec<u32>, AllocError>
-    requires { FoundSink (net_of graph.now) _flow.now visits.now }
-    ensures guides { IfOk result (λ labels. Guides (net_of graph.now) _flow.now labels.items) }
+    requires { FoundSink (network_of graph.now) _flow.now visits.now }
+    ensures guides { IfOk result (λ labels. Guides (network_of graph.now) _flow.now labels.items) }
     ensures source { IfOk result (λ labels. (visit_at visits.now (length visits.now - 1)).level
         ≤ label_at labels.items graph.now.source) }
 {
@@ -118,10 +118,10 @@ fn visit_nodes(
     marks: &mut Vec<bool>,
 ) -> Result<bool, AllocError>
     requires entries { AreEntries graph.now flow.now entries.now }
-    requires begun { Searched (net_of graph.now) flow.now visits.old.items marks.old.items 0 }
+    requires begun { Searched (network_of graph.now) flow.now visits.old.items marks.old.items 0 }
     requires sink { is_marked marks.old.items graph.now.sink ≡ false }
     ensures { IfOk result
-        (λ found. AfterSearch (net_of graph.now) flow.now visits.new.items marks.new.items found) }
+        (λ found. AfterSearch (network_of graph.now) flow.now visits.new.items marks.new.items found) }
 {
     let mut head = 0;
     while head < visits.len() {
@@ -144,7 +144,7 @@ pub fn search(
     entries: &[ShortEntry],
 ) -> Result<Found, AllocError>
     requires entries { AreEntries graph.now flow.now entries.now }
-    ensures { IfOk result (λ found. IsFound (net_of graph.now) flow.now found) }
+    ensures { IfOk result (λ found. IsFound (network_of graph.now) flow.now found) }
 {
     let mut marks = vec![in alloc; false; graph.nodes]?;
     marks[graph.source] = true;

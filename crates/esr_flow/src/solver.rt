@@ -7,7 +7,7 @@ ghost use Rattle.std.specs.List.{concat};
 ghost use Rattle.esr_base.specs.declared.limits.TheConstants.{MAX_TRANSACTIONS};
 ghost use Rattle.esr_cert.specs.Problem.{size, in_set, IsSmallestLeast};
 ghost use Rattle.esr_cert.specs.Network.{network};
-ghost use Rattle.esr_cert.specs.Flow as flows;
+ghost use Rattle.esr_cert.specs.Flow as flow_check;
 ghost use Rattle.esr_cert.specs.Certificate.{amounts, are_rows_matched, is_count_in_bound, Certifies};
 ghost use Rattle.esr_cert.specs.Views.{chain_of, rows_of, certificate_of};
 ghost use Rattle.esr_flow.specs.Augmentation.{IsReach, AugmentsFromZero};
@@ -22,7 +22,7 @@ use std::alloc::{AllocError, Global};
 
 /// Returns the marked positions, ascending.
 fn members(alloc: Global, marks: &[bool], count: usize) -> Result<Vec<u32>, AllocError>
-    requires capacity_left { count ≤ length marks.now }
+    requires spare_capacity { count ≤ length marks.now }
     requires within_max { count ≤ MAX_TRANSACTIONS }
     ensures { IfOk result (λ set. set.items ≡ positions (is_marked marks.now) count) }
 {
@@ -73,11 +73,11 @@ fn certify(
     maximum: MaximumFlow,
     augmentations: Option<u64>,
 ) -> Result<Certificate, AllocError>
-    requires flow { flows.IsFlow (network problem.now) maximum.flow.items }
+    requires flow { flow_check.IsFlow (network problem.now) maximum.flow.items }
     requires reach { IsReach (network problem.now) maximum.flow.items (is_marked maximum.marks.items) }
     requires sink { is_marked maximum.marks.items (size problem.now + 1) ≡ false }
     requires marks { length maximum.marks.items ≡ size problem.now + 2 }
-    requires worth { maximum.worth ≡ flows.worth (network problem.now) maximum.flow.items }
+    requires worth { maximum.worth ≡ flow_check.worth (network problem.now) maximum.flow.items }
     requires short { is_count_in_bound problem.now augmentations ≡ true }
     ensures amounts { IfOk result (λ c. amounts (certificate_of c) ≡ maximum.flow.items) }
     ensures worth { IfOk result (λ c. c.worth ≡ maximum.worth) }

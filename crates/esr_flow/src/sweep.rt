@@ -165,13 +165,13 @@ fn end_and_capacity(field: &Field, flow: &[u64], sweep: Sweep, step: ResidualArc
     let number = step.arc();
     let arc = arc_at(field, number);
     let amount = number_at(flow, number as usize);
-    let (start, finish, capacity_left) = match step {
+    let (start, finish, spare_capacity) = match step {
         ResidualArc::Forward(_) => (arc.from, arc.to, capacity_on(field.limit(number), amount)),
         ResidualArc::Backward(_) => (arc.to, arc.from, amount),
     };
     match sweep {
-        Sweep::Back(_) => (finish, capacity_left),
-        Sweep::Forward => (start, capacity_left),
+        Sweep::Back(_) => (finish, spare_capacity),
+        Sweep::Forward => (start, spare_capacity),
     }
 }
 
@@ -338,8 +338,8 @@ impl Searches {
         let mut least = due;
         let mut step = first;
         for _ in 0..field.graph.nodes {
-            let (node, capacity_left) = end_and_capacity(field, flow, self.sweep, step);
-            least = least.min(capacity_left);
+            let (node, spare_capacity) = end_and_capacity(field, flow, self.sweep, step);
+            least = least.min(spare_capacity);
             if node == update {
                 return least;
             }
@@ -441,19 +441,19 @@ fn asks(sweep: Sweep, step: ResidualArc) -> bool {
 /// Returns the amount that the arcs of chains on one side of a node carry, and the capacity of those on the other side.
 fn due_and_capacity(field: &Field, flow: &[u64], sweep: Sweep, node: usize) -> (u64, u64) {
     let mut due: u64 = 0;
-    let mut capacity_left: u64 = 0;
+    let mut spare_capacity: u64 = 0;
     for short in row_of(field, node) {
         let step = short.step();
         let Some(limit) = field.limit(step.arc()) else {
-            return (due, capacity_left);
+            return (due, spare_capacity);
         };
         if asks(sweep, step) {
-            capacity_left = capacity_left.saturating_add(limit);
+            spare_capacity = spare_capacity.saturating_add(limit);
         } else {
             due = due.saturating_add(number_at(flow, step.arc() as usize));
         }
     }
-    (due, capacity_left)
+    (due, spare_capacity)
 }
 
 /// Returns the ratio of an amount to a larger one, in units of 2^-31, rounded down.
@@ -485,11 +485,11 @@ fn share(
     sweep: Sweep,
     node: usize,
     due: u64,
-    capacity_left: u64,
+    spare_capacity: u64,
 ) -> u64
     ensures { length flow.new ≡ length flow.old }
 {
-    let ratio = ratio_of(due, capacity_left);
+    let ratio = ratio_of(due, spare_capacity);
     let mut left = due;
     for short in row_of(field, node) {
         let step = short.step();
@@ -550,7 +550,7 @@ fn add_update(
     ensures { length flow.new ≡ length flow.old }
 {
     let node = update as usize;
-    let (due, capacity_left) = due_and_capacity(field, flow, searches.sweep, node);
+    let (due, spare_capacity) = due_and_capacity(field, flow, searches.sweep, node);
     if due == 0 {
         return Ok(0);
     }
@@ -560,8 +560,8 @@ fn add_update(
             return Ok(0);
         }
     }
-    if due < capacity_left {
-        let left = share(field, flow, searches.sweep, node, due, capacity_left);
+    if due < spare_capacity {
+        let left = share(field, flow, searches.sweep, node, due, spare_capacity);
         return Ok(fill(field, flow, searches.sweep, node, left));
     }
     let left = fill(field, flow, searches.sweep, node, due);

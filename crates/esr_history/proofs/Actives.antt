@@ -4,8 +4,8 @@ use Rattle.std.specs.List.{filter_map, list_any, cons_option, last_or}
 use Rattle.std.proofs.lemmas.Bool.{true≢false, and_parts, and_from, or_left, or_right, eq-eqb, false_from_ne_true}
 use Rattle.esr_items.specs.Values.{value_at}
 use Rattle.esr_history.specs.Events.{is_begun, is_update, is_active, is_committed, is_aborted, writes, written, last_value, committed_value, current_value, Event, BeginUpdate, BeginQuery, Read, Write, Commit, Abort}
-use Rattle.esr_history.specs.Orderly.{writer_of, last_writer, IsWellFormed}
-use Rattle.esr_history.proofs.Orderly.{update_begun, active_parts}
+use Rattle.esr_history.specs.WellFormed.{writer_of, last_writer, IsWellFormed}
+use Rattle.esr_history.proofs.WellFormed.{update_begun, active_parts}
 
 same_number : (a b : ℕ) → Some a ≡ Some b → a ≡ b
 same_number a b e = cc

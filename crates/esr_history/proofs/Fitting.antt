@@ -6,7 +6,7 @@ use Rattle.esr_history.specs.Machine.{Distance, Schedule, accepted_in, reply_to,
 use Rattle.esr_history.specs.Legal.{legal_induction}
 use Rattle.esr_history.specs.BackLinks.{item_of, txn_of, ender, begun_by, begun_count, is_key, IsFit, IsNumbered}
 use Rattle.esr_history.proofs.Allowed.{NoneApplies, none_applies}
-use Rattle.esr_history.proofs.Lawful.{when_none, begun_in_range}
+use Rattle.esr_history.proofs.LegalWellFormed.{when_none, begun_in_range}
 use Rattle.esr_history.proofs.Linking.{last_same, count_refused, count_same, count_more}
 
 -- an accepted reply is the acceptance, and no reason to refuse applies

@@ -12,7 +12,7 @@ use Rattle.esr_history.specs.BackLinks.{begun_count}
 use Rattle.esr_history.specs.Imports.{imported, with_number, AreImports, AreDue}
 use Rattle.esr_history.proofs.Lists.{filter_map_push}
 use Rattle.esr_history.proofs.Allowed.{NoneApplies}
-use Rattle.esr_history.proofs.Lawful.{when_none}
+use Rattle.esr_history.proofs.LegalWellFormed.{when_none}
 use Rattle.esr_history.proofs.Membership.{Each-append}
 use Rattle.esr_history.proofs.Charges.{import-push, legal_within_limits}
 use Rattle.esr_history.proofs.Linking.{accepted_push, accepted_refused, count_same, count_more, mapped_get, mapped_past}

@@ -19,7 +19,7 @@ use Rattle.esr_history.proofs.Versions.{wrote_by, state_in, committed_version, f
 use Rattle.esr_history.proofs.Bounded.{bounded, before_first-kept}
 use Rattle.esr_history.proofs.Replays.{reads_ahead}
 use Rattle.esr_history.proofs.Words.{query_not_update, trace, committed_among, written_trace, committed_trace, state_trace}
-use Rattle.esr_history.proofs.Reaches.{legal_reached}
+use Rattle.esr_history.proofs.TraceOfHistory.{legal_reached}
 use Rattle.esr_history.proofs.Onward.{IsAfter, legal_after, legal_front, has_begins}
 
 -- operations of entries in two parts

@@ -7,7 +7,7 @@ use Rattle.std.proofs.lemmas.List.Elements.{filter-append}
 use Rattle.std.proofs.lemmas.Bool.{true≢false, cond_both, cases_Bool, and_parts, or_cases, or_left, or_right, eqb-true, eq-eqb, not-true, false_from_ne_true, eqb-false}
 use Rattle.esr_history.specs.Operations.{Operation}
 use Rattle.esr_history.specs.Events.{Beginning}
-use Rattle.esr_history.specs.Serial.{any_pair, conflict}
+use Rattle.esr_history.specs.Serial.{any_ordered_pair, conflict}
 use Rattle.esr_history.proofs.Membership.{In, Pairs, each_at, In-of_filter, Pairs-append, Pairs-map, Pairs-push, In-push, filter_agree_in, In-any, any-from_number}
 use Rattle.esr_history.proofs.Traces.{is_among, holds_of, Setting, Trace, update_in, begun_in, ended_in, with_operation, with_commit, with_abort, with_begins, Keeps, read_of, write_of, current_in, Reached, Reached.nothing, Reached.begin, Reached.read_update, Reached.read_query, Reached.write, Reached.commit, Reached.abort}
 
@@ -100,23 +100,23 @@ locks (commit {t = t} r u a) = grind (arith, Pairs-map, with_commit t u, ended_k
 locks (abort {t = t} r u a) = grind (arith, Pairs-map, with_abort t u, ended_kept_abort, locks r)
 
 abbrev pub is_before_in : Trace → ℕ → ℕ → Bool
-is_before_in t u v = any_pair (λ a b. (eqb a.txn u) && ((eqb b.txn v) && conflict a b)) t.operations
+is_before_in t u v = any_ordered_pair (λ a b. (eqb a.txn u) && ((eqb b.txn v) && conflict a b)) t.operations
 
-pub any_pair_in : {X : Type 0} (r : X → X → Bool) (R : X → X → Type 0) (xs : List X) → Pairs R xs → any_pair r xs ≡ true → (a : X) × (b : X) × (r a b ≡ true) × R a b
+pub any_pair_in : {X : Type 0} (r : X → X → Bool) (R : X → X → Type 0) (xs : List X) → Pairs R xs → any_ordered_pair r xs ≡ true → (a : X) × (b : X) × (r a b ≡ true) × R a b
 any_pair_in r R [] p h = absurd (true≢false (sym h))
 any_pair_in r R (x ∷ xs) p h =
     ⊎_elim (λ e. let f = In-any (r x) xs e in (x, f.0, f.2, each_at (R x) xs f.0 p.0 f.1)) (λ e. any_pair_in r R xs p.1 e)
-    (or_cases (list_any (r x) xs) (any_pair r xs) h)
+    (or_cases (list_any (r x) xs) (any_ordered_pair r xs) h)
 
-pub any_pair_push : {X : Type 0} (r : X → X → Bool) (xs : List X) (y : X) → any_pair r (xs ++ y ∷ []) ≡ true → (any_pair r xs ≡ true) ⊎ ((x : X) × In x xs × (r x y ≡ true))
+pub any_pair_push : {X : Type 0} (r : X → X → Bool) (xs : List X) (y : X) → any_ordered_pair r (xs ++ y ∷ []) ≡ true → (any_ordered_pair r xs ≡ true) ⊎ ((x : X) × In x xs × (r x y ≡ true))
 any_pair_push r [] y h = absurd (true≢false (sym h))
 any_pair_push r (x ∷ xs) y h =
     ⊎_elim
-    (λ e. ⊎_elim (λ f. inl (or_left (list_any (r x) xs) (any_pair r xs) f))
+    (λ e. ⊎_elim (λ f. inl (or_left (list_any (r x) xs) (any_ordered_pair r xs) f))
     (λ f. ⊎_elim (λ g. inr (x, inl refl, g)) (λ g. absurd (true≢false (sym g))) (or_cases (r x y) false f))
     (or_cases (list_any (r x) xs) (list_any (r x) (y ∷ [])) (sym (list_any-append (r x) xs (y ∷ [])) ∙ e)))
-    (λ e. ⊎_elim (λ f. inl (or_right (list_any (r x) xs) (any_pair r xs) f)) (λ f. inr (f.0, inr f.1, f.2)) (any_pair_push r xs y e))
-    (or_cases (list_any (r x) (xs ++ y ∷ [])) (any_pair r (xs ++ y ∷ [])) h)
+    (λ e. ⊎_elim (λ f. inl (or_right (list_any (r x) xs) (any_ordered_pair r xs) f)) (λ f. inr (f.0, inr f.1, f.2)) (any_pair_push r xs y e))
+    (or_cases (list_any (r x) (xs ++ y ∷ [])) (any_ordered_pair r (xs ++ y ∷ [])) h)
 
 pub before_ended : {s : Setting} {t : Trace} {m : ℕ → ℕ} → Reached s t m → (u v : ℕ) → update_in t u ≡ true → update_in t v ≡ true → is_before_in t u v ≡ true → ended_in t u ≡ true
 before_ended {t = t} r u v uu uv h = grind (arith, any_pair_in, eqb, locks r, and_parts, eqb-true, ended_in, update_in t)

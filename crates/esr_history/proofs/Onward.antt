@@ -10,13 +10,13 @@ use Rattle.esr_history.specs.Legal.{along, legal_induction, legal_induction_afte
 use Rattle.esr_history.specs.Queries.{begins}
 use Rattle.esr_history.proofs.Lists.{filter_map_push}
 use Rattle.esr_history.proofs.Allowed.{NoneApplies, none_applies, read_allowed, write_allowed}
-use Rattle.esr_history.proofs.Lawful.{done-refused, done-accepted, not_ended}
-use Rattle.esr_history.proofs.Orderly.{beginning-kept, active_parts}
+use Rattle.esr_history.proofs.LegalWellFormed.{done-refused, done-accepted, not_ended}
+use Rattle.esr_history.proofs.WellFormed.{beginning-kept, active_parts}
 use Rattle.esr_history.proofs.Traces.{Trace, read_of, write_of, with_abort, with_begins, with_commit, with_operation}
 use Rattle.esr_history.proofs.Locking.{known}
 use Rattle.esr_history.proofs.Stable.{SameFor, same_with_begins, same_with_operation, same_with_commit, same_with_abort}
 use Rattle.esr_history.proofs.Words.{trace, committed_among, active_trace, aborter}
-use Rattle.esr_history.proofs.Reaches.{IsReached, imports, import-cons, refused_trace, refused_imports, with_imports, operation_trace, begin_trace, commit_trace, abort_trace, begins_kept, reached_step, legal_reached}
+use Rattle.esr_history.proofs.TraceOfHistory.{IsReached, imports, import-cons, refused_trace, refused_imports, with_imports, operation_trace, begin_trace, commit_trace, abort_trace, begins_kept, reached_step, legal_reached}
 use Rattle.esr_history.specs.Operations.{committer, operation_by}
 
 -- a query that the charges do not name is charged nothing

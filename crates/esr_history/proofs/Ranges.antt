@@ -36,10 +36,10 @@ module _ {X : Type 0} where
     placed_front t new change (x ∷ xs) all = grind (arith, ne_eqb, lt_ltb)
 
     -- one number's element is placed among those in a row
-    pub filter_map_placed : (g : ℕ → Option X) (t : ℕ) (new : X) (change : X → X) → ((u : ℕ) → (u ≡ t → ⊥) → g u ≡ f u) → g t ≡ Some (unwrap_or (option_map change (f t)) new)
+    pub filter_map_upserted : (g : ℕ → Option X) (t : ℕ) (new : X) (change : X → X) → ((u : ℕ) → (u ≡ t → ⊥) → g u ≡ f u) → g t ≡ Some (unwrap_or (option_map change (f t)) new)
         → (a n : ℕ) → a ≤ t → t < a + n → filter_map g (range_with_len a n) ≡ upserted key t new change (filter_map f (range_with_len a n))
-    filter_map_placed g t new change same is a zero low high = absurd (omega arith)
-    filter_map_placed g t new change same is a (suc n) low high =
+    filter_map_upserted g t new change same is a zero low high = absurd (omega arith)
+    filter_map_upserted g t new change same is a (suc n) low high =
         elim (cases_eq a t) [
           | inl e ↦
               let rest : filter_map g (range_with_len (a + 1) n) ≡ filter_map f (range_with_len (a + 1) n) = filter_map_same g f (a + 1) n (λ u l m. same u (λ (h : u ≡ t). omega arith)) in
@@ -47,7 +47,7 @@ module _ {X : Type 0} where
               ∙ (ap (λ (ys : List X). unwrap_or (option_map change (f a)) new ∷ ys) rest ∙ here e (f a) refl)
           | inr ne ↦
               ap (λ (o : Option X). cons_option o (filter_map g (range_with_len (a + 1) n))) (same a ne)
-              ∙ past ne (f a) refl (filter_map_placed g t new change same is (a + 1) n (omega arith) (omega arith))
+              ∙ past ne (f a) refl (filter_map_upserted g t new change same is (a + 1) n (omega arith) (omega arith))
         ]
       where
         here : a ≡ t → (o : Option X) → f a ≡ o → unwrap_or (option_map change o) new ∷ filter_map f (range_with_len (a + 1) n) ≡ upserted key t new change (cons_option o (filter_map f (range_with_len (a + 1) n)))

@@ -19,11 +19,11 @@ use Rattle.esr_history.proofs.Covered as mixed
 use Rattle.esr_history.proofs.Open.{open_within}
 use Rattle.esr_history.proofs.ReportBounds.{distance_at, AreReadsWithin, IsOnward, onward_kept}
 use Rattle.esr_history.proofs.Words.{trace, query_not_update, committed_trace, current_trace, reads_trace, active_trace, state_trace, committed_among}
-use Rattle.esr_history.proofs.Reaches.{setting, imports, kept_step, legal_reached}
+use Rattle.esr_history.proofs.TraceOfHistory.{setting, imports, kept_step, legal_reached}
 use Rattle.esr_history.proofs.Onward.{legal_parts, legal_front}
 use Rattle.esr_history.proofs.Laws.{operations-append}
-use Rattle.esr_history.proofs.Lawful.{done-refused, done-accepted}
-use Rattle.esr_history.proofs.Orderly.{beginning-push}
+use Rattle.esr_history.proofs.LegalWellFormed.{done-refused, done-accepted}
+use Rattle.esr_history.proofs.WellFormed.{beginning-push}
 
 and_true : (b : Bool) → (b && true) ≡ b
 and_true true = refl

@@ -6,7 +6,7 @@ use Rattle.std.proofs.lemmas.List.Sums.{sum_by-cons}
 use Rattle.std.proofs.lemmas.Option.{same_Some}
 use Rattle.esr_history.specs.Events.{Beginning, beginning, txn_numbers, is_query, is_update, read_count, holds_read, current_value, Event, Read, Write}
 use Rattle.esr_history.specs.Machine.{Charge, due, charges, charges_after, charge_of_write, import_in, export_in}
-use Rattle.esr_history.proofs.Orderly.{beginning-push, is_update-push}
+use Rattle.esr_history.proofs.WellFormed.{beginning-push, is_update-push}
 use Rattle.esr_history.proofs.Lists.{find_some, Each-filter_map}
 use Rattle.esr_history.proofs.Membership.{Each-append}
 

@@ -5,7 +5,7 @@ use Rattle.std.proofs.lemmas.List.Folds.{list_any-append}
 use Rattle.std.proofs.lemmas.Bool.{true≢false, and_parts, and_right, or_cases, or_left, or_right, or_parts, eqb-true, ne_eqb, false_from_ne_true}
 use Rattle.esr_history.specs.Operations.{Operation}
 use Rattle.esr_history.specs.Events.{Beginning}
-use Rattle.esr_history.specs.Serial.{any_pair, conflict}
+use Rattle.esr_history.specs.Serial.{any_ordered_pair, conflict}
 use Rattle.esr_history.proofs.Membership.{In, filter_agree_in, any-from_number}
 use Rattle.esr_history.proofs.Traces.{is_among, Trace, update_in, ended_in, with_operation, with_commit, with_abort, with_begins, Keeps}
 use Rattle.esr_history.proofs.Locking.{Known, update_stays, is_before_in, any_pair_push, among_keep}
@@ -13,14 +13,14 @@ use Rattle.esr_history.proofs.Versions.{filter_push_false, wrote_by}
 use Rattle.esr_history.proofs.Covered.{read_by}
 use Rattle.esr_history.proofs.Bounded.{before_first-kept, In-before_first, updates_of_in, listed_committed}
 
-pub any_pair_keep : {X : Type 0} (r : X → X → Bool) (xs : List X) (y : X) → any_pair r xs ≡ true → any_pair r (xs ++ y ∷ []) ≡ true
+pub any_pair_keep : {X : Type 0} (r : X → X → Bool) (xs : List X) (y : X) → any_ordered_pair r xs ≡ true → any_ordered_pair r (xs ++ y ∷ []) ≡ true
 any_pair_keep r [] y h = absurd (true≢false (sym h))
 any_pair_keep r (x ∷ xs) y h =
     ⊎_elim
-    (λ e. or_left (list_any (r x) (xs ++ y ∷ [])) (any_pair r (xs ++ y ∷ []))
+    (λ e. or_left (list_any (r x) (xs ++ y ∷ [])) (any_ordered_pair r (xs ++ y ∷ []))
     (list_any-append (r x) xs (y ∷ []) ∙ or_left (list_any (r x) xs) (list_any (r x) (y ∷ [])) e))
-    (λ e. or_right (list_any (r x) (xs ++ y ∷ [])) (any_pair r (xs ++ y ∷ [])) (any_pair_keep r xs y e))
-    (or_cases (list_any (r x) xs) (any_pair r xs) h)
+    (λ e. or_right (list_any (r x) (xs ++ y ∷ [])) (any_ordered_pair r (xs ++ y ∷ [])) (any_pair_keep r xs y e))
+    (or_cases (list_any (r x) xs) (any_ordered_pair r xs) h)
 
 -- of a committed query: its updates, its reads, the writes of its updates and their order, as in the trace t0
 pub record SameFor (q : ℕ) (t0 t : Trace) : Type 0 where

@@ -12,12 +12,12 @@ use Rattle.esr_history.specs.Operations.{Operation, operation_by, operations}
 use Rattle.esr_history.specs.Ranges.{IsWithinRanges}
 use Rattle.esr_history.proofs.Lists.{filter_map_push}
 use Rattle.esr_history.proofs.Allowed.{NoneApplies, none_applies, read_allowed, write_allowed}
-use Rattle.esr_history.proofs.Lawful.{done-refused, done-accepted, not_ended, when_none}
-use Rattle.esr_history.proofs.Orderly.{is_update-push, active_parts}
+use Rattle.esr_history.proofs.LegalWellFormed.{done-refused, done-accepted, not_ended, when_none}
+use Rattle.esr_history.proofs.WellFormed.{is_update-push, active_parts}
 use Rattle.esr_history.proofs.Membership.{In, each_in, In-of_filter, In-append_cases}
 use Rattle.esr_history.proofs.Traces.{writes_item, is_among, after_writes}
 use Rattle.esr_history.proofs.Words.{query_not_update, trace, current_trace}
-use Rattle.esr_history.proofs.Reaches.{operations-refused, operations-accepted}
+use Rattle.esr_history.proofs.TraceOfHistory.{operations-refused, operations-accepted}
 
 value_at-range : (vs : List ℤ) (x : ℕ) → AllByRecursion IsValue vs → IsValue (value_at vs x)
 value_at-range [] x all = omega arith
@@ -73,12 +73,12 @@ module _ (d : Distance) (h : Schedule) (was : InRanges h) where
       one o i = In-append_cases (operations h) (cons_option (operation_by e r) []) o (subst (In o) (operations-accepted h e r is) i)
 
   begin_in_ranges : (e : Event) (r : Reply) (b : Beginning) → is_refusal r ≡ false → beginning_of e ≡ Some b → operation_by e r ≡ None → ((t : ℕ) → reads_any t e ≡ false) → nat_le 65535 (length (beginnings (accepted_in h))) ≡ false → InRanges (extended h e r)
-  begin_in_ranges e r b is begins none no_read capacity_left =
+  begin_in_ranges e r b is begins none no_read spare_capacity =
       about e r is more (fewer_reads e no_read) (λ o i. absurd (subst (λ p. In o (cons_option p [])) none i))
     where
       more : length (beginnings (accepted_in h ++ e ∷ [])) ≤ 65535
       more =
-          let below : length (beginnings (accepted_in h)) < 65535 = leb-false 65535 (length (beginnings (accepted_in h))) capacity_left in
+          let below : length (beginnings (accepted_in h)) < 65535 = leb-false 65535 (length (beginnings (accepted_in h))) spare_capacity in
           let same : length (beginnings (accepted_in h ++ e ∷ [])) ≡ length (beginnings (accepted_in h)) + 1 = ap length (filter_map_push beginning_of (accepted_in h) e ∙ ap (λ o. beginnings (accepted_in h) ++ cons_option o []) begins) ∙ length-append (beginnings (accepted_in h)) (b ∷ []) in
           omega arith
 
@@ -100,8 +100,8 @@ module _ (d : Distance) (h : Schedule) (was : InRanges h) where
       act : is_active (accepted_in h) t.0 ≡ true
       act = not_ended h t.0 (read_allowed d h t x none).active
 
-      capacity_left : is_query (accepted_in h) t.0 ≡ true → total_read_count (accepted_in h) t.0 < 1000
-      capacity_left query = leb-false 1000 (total_read_count (accepted_in h) t.0) (sym (ap (λ b. b && nat_le 1000 (total_read_count (accepted_in h) t.0)) query) ∙ when_none (is_query (accepted_in h) t.0 && nat_le 1000 (total_read_count (accepted_in h) t.0)) TooManyReads (read_allowed d h t x none).within_max)
+      spare_capacity : is_query (accepted_in h) t.0 ≡ true → total_read_count (accepted_in h) t.0 < 1000
+      spare_capacity query = leb-false 1000 (total_read_count (accepted_in h) t.0) (sym (ap (λ b. b && nat_le 1000 (total_read_count (accepted_in h) t.0)) query) ∙ when_none (is_query (accepted_in h) t.0 && nat_le 1000 (total_read_count (accepted_in h) t.0)) TooManyReads (read_allowed d h t x none).within_max)
 
       reads : (u : ℕ) → is_update (accepted_in h ++ Read t x ∷ []) u ≡ false → total_read_count (accepted_in h ++ Read t x ∷ []) u ≤ 1000
       reads u fails =
@@ -109,7 +109,7 @@ module _ (d : Distance) (h : Schedule) (was : InRanges h) where
           rw (reads-push (Read t x) u)
           (elim (cases_Bool (t.0 == u)) [
             | inl own ↦
-                let below : total_read_count (accepted_in h) u < 1000 = subst (λ w. total_read_count (accepted_in h) w < 1000) (eqb-true t.0 u own) (capacity_left (query_from (beginning (accepted_in h) t.0) (active_parts (accepted_in h) t.0 act).0 (subst (λ w. is_update (accepted_in h) w ≡ false) (sym (eqb-true t.0 u own)) before))) in
+                let below : total_read_count (accepted_in h) u < 1000 = subst (λ w. total_read_count (accepted_in h) w < 1000) (eqb-true t.0 u own) (spare_capacity (query_from (beginning (accepted_in h) t.0) (active_parts (accepted_in h) t.0 act).0 (subst (λ w. is_update (accepted_in h) w ≡ false) (sym (eqb-true t.0 u own)) before))) in
                 rw own (omega arith)
             | inr other ↦
                 let low : total_read_count (accepted_in h) u ≤ 1000 = was.reads u before in

@@ -11,7 +11,7 @@ use Rattle.esr_history.specs.Events.{is_refusal, beginning, is_active, is_commit
 use Rattle.esr_history.specs.Machine.{Schedule, accepted_in}
 use Rattle.esr_history.specs.Operations.{Operation, operation_by, operation_of, operations, commit_order, answer}
 use Rattle.esr_history.specs.Serial.{values_by, state}
-use Rattle.esr_history.proofs.Orderly.{active_parts}
+use Rattle.esr_history.proofs.WellFormed.{active_parts}
 use Rattle.esr_history.proofs.Traces.{Trace, is_among, writes_item, reads_item, after_writes, committed_in, current_in, Active, read_count_in}
 use Rattle.esr_history.proofs.Versions.{wrote_by, state_in}
 

@@ -7,9 +7,9 @@ use Rattle.esr_history.specs.Machine.{Schedule, accepted_in}
 use Rattle.esr_history.specs.Operations.{Operation, operations, commit_order}
 
 -- whether some element and some later one pass the test
-abbrev pub any_pair : {X : Type 0} → (X → X → Bool) → List X → Bool
-any_pair r [] = false
-any_pair r (x ∷ xs) = list_any (r x) xs || any_pair r xs
+abbrev pub any_ordered_pair : {X : Type 0} → (X → X → Bool) → List X → Bool
+any_ordered_pair r [] = false
+any_ordered_pair r (x ∷ xs) = list_any (r x) xs || any_ordered_pair r xs
 
 -- of two transactions, on one item, and at least one of them writes
 abbrev pub conflict : Operation → Operation → Bool
@@ -17,7 +17,7 @@ conflict a b = not (a.txn == b.txn) && ((a.item == b.item) && (a.writes || b.wri
 
 -- whether an operation of u precedes one of v that conflicts with it
 abbrev pub is_before : Schedule → ℕ → ℕ → Bool
-is_before h u v = any_pair (λ a b. (a.txn == u) && ((b.txn == v) && conflict a b)) (operations h)
+is_before h u v = any_ordered_pair (λ a b. (a.txn == u) && ((b.txn == v) && conflict a b)) (operations h)
 
 -- the committed updates, in commit order
 abbrev pub committed_updates : Schedule → List ℕ

@@ -62,19 +62,19 @@ import_limit_reached_total : total (charges_in plain (import_limit_reached 7)) �
 import_limit_reached_total = refl
 
 -- a write is charged for each read of each query, and the update's limit bounds their sum
-abbrev export_limit_over_queries : Schedule
-export_limit_over_queries =
+abbrev export_limit_covers_all_queries : Schedule
+export_limit_covers_all_queries =
     played (started_from (pos 0 ∷ []))
     (BeginQuery 10 false ∷ BeginQuery 5 false ∷ BeginUpdate 14 ∷ BeginUpdate 15 ∷ Read (txn 1) (item 0)
     ∷ Read (txn 1) (item 0) ∷ Read (txn 2) (item 0) ∷ Write (txn 3) (item 0) (pos 5)
     ∷ Write (txn 4) (item 0) (pos 5) ∷ [])
 
-export_limit_over_queries_replies : replies export_limit_over_queries
+export_limit_over_queries_replies : replies export_limit_covers_all_queries
     ≡ Begun (txn 1) ∷ Begun (txn 2) ∷ Begun (txn 3) ∷ Begun (txn 4) ∷ Value (pos 0) ∷ Value (pos 0) ∷ Value (pos 0)
     ∷ Refused (BlockedByExport (txn 3)) ∷ Wrote ∷ []
 export_limit_over_queries_replies = refl
 
-export_limit_over_queries_total : total (charges_in plain export_limit_over_queries) ≡ 15
+export_limit_over_queries_total : total (charges_in plain export_limit_covers_all_queries) ≡ 15
 export_limit_over_queries_total = refl
 
 -- a write is charged against a read before it
@@ -127,16 +127,16 @@ abort_rolls_back =
 abort_puts_back_replies : replies abort_rolls_back ≡ Begun (txn 1) ∷ Wrote ∷ Aborted ∷ Begun (txn 2) ∷ Value (pos 1) ∷ []
 abort_puts_back_replies = refl
 
-export_limit_over_queries_locks : item_locks (accepted_in export_limit_over_queries) 0
+export_limit_over_queries_locks : item_locks (accepted_in export_limit_covers_all_queries) 0
     ≡ record { writer = Some 4; readers = []; queries = (1, 2) ∷ (2, 1) ∷ [] }
 export_limit_over_queries_locks = refl
 
 export_limit_over_queries_imports :
-    map (import_in (charges_in plain export_limit_over_queries)) (1 ∷ 2 ∷ []) ≡ 10 ∷ 5 ∷ []
+    map (import_in (charges_in plain export_limit_covers_all_queries)) (1 ∷ 2 ∷ []) ≡ 10 ∷ 5 ∷ []
 export_limit_over_queries_imports = refl
 
 export_limit_over_queries_exports :
-    map (export_in (charges_in plain export_limit_over_queries)) (3 ∷ 4 ∷ []) ≡ 0 ∷ 15 ∷ []
+    map (export_in (charges_in plain export_limit_covers_all_queries)) (3 ∷ 4 ∷ []) ≡ 0 ∷ 15 ∷ []
 export_limit_over_queries_exports = refl
 
 -- whether a query is strict changes no reply to its begin

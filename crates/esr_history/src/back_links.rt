@@ -162,7 +162,7 @@ impl BackLinks {
     /// error the tables are unchanged.
     pub fn reserve(&mut self) -> Result<(), AllocError>
         ensures same { (n : ℕ) (es : List Entry) → AreLinks n es self.old → AreLinks n es self.new }
-        ensures capacity_left { (k : ℕ) → HasCapacity k self.old → HasCapacity k self.new }
+        ensures spare_capacity { (k : ℕ) → HasCapacity k self.old → HasCapacity k self.new }
         ensures ok { OnOk result (HasCapacity 1 self.new) }
     {
         if self.on_item.len() >= MAX_CODES {
@@ -177,9 +177,9 @@ impl BackLinks {
     }
 
     /// Returns for how many more entries there is capacity, whatever their events.
-    pub fn capacity_left(&self) -> usize
+    pub fn spare_capacity(&self) -> usize
         requires { HasCapacity 0 self.now }
-        ensures capacity_left { HasCapacity result self.now }
+        ensures spare_capacity { HasCapacity result self.now }
         ensures some { HasCapacity 1 self.now → 0 < result }
     {
         let entries = spare(&self.on_item).min(spare(&self.of_txn));
@@ -192,7 +192,7 @@ impl BackLinks {
     /// Leaves the tables of no entries, over as many items.
     pub fn clear(&mut self)
         ensures links { (n : ℕ) (es : List Entry) → AreLinks n es self.old → AreLinks n [] self.new }
-        ensures capacity_left { HasCapacity 0 self.old → HasCapacity 0 self.new }
+        ensures spare_capacity { HasCapacity 0 self.old → HasCapacity 0 self.new }
     {
         self.on_item.clear();
         self.of_txn.clear();
@@ -215,7 +215,7 @@ impl BackLinks {
         ensures ends { self.new.ends.items ≡ self.old.ends.items ++ 0 ∷ [] }
         ensures begins { self.new.begins.items ≡ self.old.begins.items ++ (record { kind = kind; limit = limit })
             ∷ [] }
-        ensures capacity_left { (k : ℕ) → HasCapacityToBegin (k + 1) self.old → HasCapacityToBegin k self.new }
+        ensures spare_capacity { (k : ℕ) → HasCapacityToBegin (k + 1) self.old → HasCapacityToBegin k self.new }
     {
         self.txns.push_reserved(code);
         self.ends.push_reserved(0);
@@ -235,7 +235,7 @@ impl BackLinks {
         ensures txns { self.new.txns.items ≡ txns_after self.old.txns.items event code }
         ensures ends { self.new.ends.items ≡ ends_after self.old.ends.items event code }
         ensures begins { self.new.begins.items ≡ begins_after self.old.begins.items event }
-        ensures capacity_left { (k : ℕ) → HasCapacityToBegin (k + 1) self.old → HasCapacityToBegin k self.new }
+        ensures spare_capacity { (k : ℕ) → HasCapacityToBegin (k + 1) self.old → HasCapacityToBegin k self.new }
     {
         let begun = at_key(&self.txns, begun_by(reply));
         match event {
@@ -293,7 +293,7 @@ impl BackLinks {
         requires { HasCapacity 1 self.old }
         ensures links { (n : ℕ) (es : List Entry) → AreLinks n es self.old → IsFit n es
             → IsNumbered es entry.event entry.reply → AreLinks n (es ++ entry ∷ []) self.new }
-        ensures capacity_left { (k : ℕ) → HasCapacity (k + 1) self.old → HasCapacity k self.new }
+        ensures spare_capacity { (k : ℕ) → HasCapacity (k + 1) self.old → HasCapacity k self.new }
     {
         if entry.is_refused() {
             let (on_item, of_txn) = self.last(entry);

@@ -26,7 +26,7 @@ pub fn no_imports(alloc: Global) -> Result<Vec<u64>, AllocError>
 fn open(imports: &mut Vec<u64>, event: Event)
     requires { length imports.old.items < vec_capacity imports.old }
     ensures places { imports.new.items ≡ with_number imports.old.items event }
-    ensures capacity_left { (k : ℕ) → length imports.old.items + (k + 1) ≤ vec_capacity imports.old
+    ensures spare_capacity { (k : ℕ) → length imports.old.items + (k + 1) ≤ vec_capacity imports.old
         → length imports.new.items + k ≤ vec_capacity imports.new }
 {
     match event {
@@ -58,7 +58,7 @@ fn add_charges(imports: &mut [u64], charges: &[(TxnId, u64)])
 pub fn clear(imports: &mut Vec<u64>)
     requires { 0 < length imports.old.items }
     ensures table { imports.new.items ≡ 0 ∷ [] }
-    ensures capacity_left { length imports.new.items ≤ vec_capacity imports.new }
+    ensures spare_capacity { length imports.new.items ≤ vec_capacity imports.new }
 {
     imports.truncate(1);
     imports.fill(0);
@@ -67,13 +67,13 @@ pub fn clear(imports: &mut Vec<u64>)
 /// Adds the charges of an entry to the imports. There must be capacity for one more transaction.
 #[inline(always)]
 pub fn note(imports: &mut Vec<u64>, entry: Entry, charges: &[(TxnId, u64)])
-    requires capacity_left { length imports.old.items < vec_capacity imports.old }
+    requires spare_capacity { length imports.old.items < vec_capacity imports.old }
     requires fits { is_refusal entry.reply ≡ false → (t : ℕ)
         → slice_index_or imports.old.items t 0 + imported charges.now t < 2 ^ 64 }
     ensures imports { (d : Distance) (h : Schedule) → IsLegal d h → entry.reply ≡ reply_to d h entry.event
         → AreDue d h entry.event entry.reply charges.now
         → AreImports d h imports.old.items → AreImports d (extended h entry.event entry.reply) imports.new.items }
-    ensures capacity_left { (k : ℕ) → length imports.old.items + (k + 1) ≤ vec_capacity imports.old
+    ensures spare_capacity { (k : ℕ) → length imports.old.items + (k + 1) ≤ vec_capacity imports.old
         → length imports.new.items + k ≤ vec_capacity imports.new }
 {
     if entry.is_refused() {

@@ -89,8 +89,8 @@ module _ (t n : ℕ) where
   within_raised (x ∷ xs) asc all fits =
       elim (cases_eq (number x) t) [
         | inl e ↦
-            let capacity_left : x.amount + n ≤ x.limit = rw (eq-eqb (number x) t e) at fits in
-            rw (eq-eqb (number x) t e, later x xs e asc.0) ((capacity_left, all.0.1), all.1)
+            let spare_capacity : x.amount + n ≤ x.limit = rw (eq-eqb (number x) t e) at fits in
+            rw (eq-eqb (number x) t e, later x xs e asc.0) ((spare_capacity, all.0.1), all.1)
         | inr ne ↦ rw (ne_eqb (number x) t ne) (all.0, within_raised xs asc.1 all.1 (rw (ne_eqb (number x) t ne) at fits))
       ]
 
@@ -207,14 +207,14 @@ pub AreBooks-charged : (xs : List Account) (total : ℕ) (u : TxnId) (cs : List 
     → is_open_update xs u.0 ≡ true → AllByRecursion (λ (c : TxnId × ℕ). is_open_query xs c.0.0 ≡ true) cs → IsAscendingBy (λ (c : TxnId × ℕ). c.0.0) cs
     → find (λ (c : TxnId × ℕ). would_pass xs c.0.0 c.1) cs ≡ None → would_pass xs u.0 (total_of cs) ≡ false
     → AreBooks (charged xs u cs) (total + total_of cs)
-AreBooks-charged xs total u cs books update queries asc none capacity_left =
+AreBooks-charged xs total u cs books update queries asc none spare_capacity =
     let are : AreImports xs cs = record { ascending = asc; queries = queries; fit = fitting cs (find_none_all (λ (c : TxnId × ℕ). would_pass xs c.0.0 c.1) cs none) } in
     let asc_then = imported_ascends cs xs books.ascending in
     let sums = imports_imported cs xs are books.ascending in
     let same : account_of (charged_to_queries xs cs) u.0 ≡ account_of xs u.0 = account_imported_other u.0 cs xs (not_charged xs u.0 cs update queries) in
     let is_u : is_open_update (charged_to_queries xs cs) u.0 ≡ true = ap (λ (a : Option Account). unwrap_or (option_map (λ (b : Account). not (is_query_kind b.kind)) a) false) same ∙ update in
     let fits : account_amount (charged_to_queries xs cs) u.0 + total_of cs ≤ limit_at (charged_to_queries xs cs) u.0 =
-    subst (λ (a : Option Account). unwrap_or (option_map (λ (e : Account). e.amount) a) 0 + total_of cs ≤ unwrap_or (option_map (λ (e : Account). e.limit) a) 0) (sym same) (ltb-false (limit_at xs u.0) (account_amount xs u.0 + total_of cs) capacity_left) in
+    subst (λ (a : Option Account). unwrap_or (option_map (λ (e : Account). e.amount) a) 0 + total_of cs ≤ unwrap_or (option_map (λ (e : Account). e.limit) a) 0) (sym same) (ltb-false (limit_at xs u.0) (account_amount xs u.0 + total_of cs) spare_capacity) in
     let last = exports_raised_update u.0 (total_of cs) (charged_to_queries xs cs) asc_then is_u in
     record {
       ascending = raised_ascends u.0 (total_of cs) (charged_to_queries xs cs) asc_then;

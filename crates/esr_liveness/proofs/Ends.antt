@@ -11,9 +11,9 @@ use Rattle.esr_history.specs.declared.event.Reply.{Reply}
 use Rattle.esr_history.specs.declared.event.Reply.TheVariants.{Aborted, Committed}
 use Rattle.esr_history.specs.Events.{Beginning, aborts, beginning, beginning_of, beginnings, commits, is_aborted, is_active, is_begun, is_committed, is_query, is_refusal, is_update, txn_numbers, reads, writes}
 use Rattle.esr_history.specs.Machine.{Schedule, accepted_in, answered, extended, first_reason, when}
-use Rattle.esr_history.proofs.Lawful.{done-accepted}
+use Rattle.esr_history.proofs.LegalWellFormed.{done-accepted}
 use Rattle.esr_history.proofs.Lists.{any_push, any_push_no, filter_map_push_none}
-use Rattle.esr_history.proofs.Orderly.{active_parts}
+use Rattle.esr_history.proofs.WellFormed.{active_parts}
 use Rattle.esr_liveness.specs.Liveness.{IsEndOf, LawOfEnds, has_locked, has_written, holders_against}
 
 -- An end of transaction u: it begins, reads and writes nothing, and ends u alone.

@@ -7,7 +7,7 @@ use Rattle.esr_history.specs.declared.event.Reply.{Reply}
 use Rattle.esr_history.specs.declared.event.Reply.TheVariants.{Refused, Committed, Aborted}
 use Rattle.esr_history.specs.Events.{is_active, is_query, is_update, holds_read, holds_write, txn_numbers}
 use Rattle.esr_history.specs.Machine.{Distance, Schedule, accepted_in, extended, reply_to}
-use Rattle.esr_history.specs.Orderly.{names}
+use Rattle.esr_history.specs.WellFormed.{names}
 use Rattle.esr_history.specs.Refusals.{refusal_blocker}
 
 -- the transaction that a reply names as the one that blocks the event: the lock holder, or the owner of the limit

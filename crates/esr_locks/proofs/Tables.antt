@@ -12,7 +12,7 @@ use Rattle.esr_history.specs.ItemLocks.{ItemLocks}
 use Rattle.esr_history.proofs.Ascending.{any_placed}
 use Rattle.esr_history.proofs.Lists.{any_push, or_false}
 use Rattle.esr_locks.specs.Modes.{Mode, Read, Write, QueryRead}
-use Rattle.esr_locks.specs.Rows.{RowOf, LockedItemsOf, nothing_held, empty_row, row_at, held_at, IsLockTable, with_lock, has_lock_in_mode}
+use Rattle.esr_locks.specs.Rows.{RowOf, LockedItemsOf, nothing_held, empty_row, row_at, items_locked_by, IsLockTable, with_lock, has_lock_in_mode}
 use Rattle.esr_locks.specs.Tables.{no_locks, locks_at, is_writer, is_reader, has_query_lock, has_lock, released, contains_item}
 
 -- the locks at an item, by the rows
@@ -45,31 +45,31 @@ wrote (Some u) t = refl
 pub read_row : (rows : List RowOf) (x : ℕ) (row : RowOf) → x < length rows → row ≡ get_or rows x row → row ≡ row_at rows x
 read_row rows x row l is = is ∙ get_or_default rows x row empty_row l
 
-pub read_list : (held : List LockedItemsOf) (t : ℕ) (list : LockedItemsOf) → t < length held → list ≡ get_or held t list → list ≡ held_at held t
+pub read_list : (held : List LockedItemsOf) (t : ℕ) (list : LockedItemsOf) → t < length held → list ≡ get_or held t list → list ≡ items_locked_by held t
 read_list held t list l is = is ∙ get_or_default held t list nothing_held l
 
 module _ (rows : List RowOf) (held : List LockedItemsOf) (tab : IsLockTable rows held) (t x : ℕ) (inside : x < length rows) (row new : RowOf) (is : row ≡ get_or rows x row) where
-  lock_there : (more : (u : ℕ) → has_lock new.locks u ≡ true → (has_lock row.locks u ≡ true) ⊎ (t ≡ u)) → (u y : ℕ) → y < length (set rows x new) → has_lock (row_at (set rows x new) y).locks u ≡ true → (contains_item (held_at held u).items y ≡ true) ⊎ ((t ≡ u) × (x ≡ y))
+  lock_there : (more : (u : ℕ) → has_lock new.locks u ≡ true → (has_lock row.locks u ≡ true) ⊎ (t ≡ u)) → (u y : ℕ) → y < length (set rows x new) → has_lock (row_at (set rows x new) y).locks u ≡ true → (contains_item (items_locked_by held u).items y ≡ true) ⊎ ((t ≡ u) × (x ≡ y))
   lock_there more u y l has =
       elim (cases_eq y x) [
         | inl e ↦
             let unchanged_if_present : has_lock new.locks u ≡ true = ap (λ (r : RowOf). has_lock r.locks u) (sym (get_or-set_same rows x new empty_row inside) ∙ ap (row_at (set rows x new)) (sym e)) ∙ has in
             elim (more u unchanged_if_present) [
-              | inl before ↦ inl (ap (contains_item (held_at held u).items) e ∙ tab.listed u x inside (ap (λ (r : RowOf). has_lock r.locks u) (sym (read_row rows x row inside is)) ∙ before))
+              | inl before ↦ inl (ap (contains_item (items_locked_by held u).items) e ∙ tab.listed u x inside (ap (λ (r : RowOf). has_lock r.locks u) (sym (read_row rows x row inside is)) ∙ before))
               | inr same ↦ inr (same, sym e)
             ]
         | inr ne ↦ inl (tab.listed u y (rw length-set at l) (ap (λ (r : RowOf). has_lock r.locks u) (sym (get_or-set_other rows x y new empty_row ne)) ∙ has))
       ]
 
   -- the item is added to the list of the transaction that took the lock
-  pub IsLockTable-push : (list : LockedItemsOf) → ((u : ℕ) → has_lock new.locks u ≡ true → (has_lock row.locks u ≡ true) ⊎ (t ≡ u)) → t < length held → (id : ItemId) → id.0 ≡ x → list.items ≡ (held_at held t).items ++ id ∷ []
+  pub IsLockTable-push : (list : LockedItemsOf) → ((u : ℕ) → has_lock new.locks u ≡ true → (has_lock row.locks u ≡ true) ⊎ (t ≡ u)) → t < length held → (id : ItemId) → id.0 ≡ x → list.items ≡ (items_locked_by held t).items ++ id ∷ []
       → IsLockTable (set rows x new) (set held t list)
   IsLockTable-push list more in_held id id_is list_is = record {
     within = λ u. elim (cases_eq u t) [
       | inl e ↦
-          let inside_new : All (λ (i : ItemId). i.0 < length (set rows x new)) ((held_at held t).items ++ id ∷ []) =
-          All-push (λ (i : ItemId). i.0 < length (set rows x new)) (held_at held t).items id (rw length-set (tab.within t)) (rw length-set (rw id_is inside)) in
-          let at_t : (held_at (set held t list) u).items ≡ (held_at held t).items ++ id ∷ [] = ap (λ v. (held_at (set held t list) v).items) e ∙ (ap (λ (h : LockedItemsOf). h.items) (get_or-set_same held t list nothing_held in_held) ∙ list_is) in
+          let inside_new : All (λ (i : ItemId). i.0 < length (set rows x new)) ((items_locked_by held t).items ++ id ∷ []) =
+          All-push (λ (i : ItemId). i.0 < length (set rows x new)) (items_locked_by held t).items id (rw length-set (tab.within t)) (rw length-set (rw id_is inside)) in
+          let at_t : (items_locked_by (set held t list) u).items ≡ (items_locked_by held t).items ++ id ∷ [] = ap (λ v. (items_locked_by (set held t list) v).items) e ∙ (ap (λ (h : LockedItemsOf). h.items) (get_or-set_same held t list nothing_held in_held) ∙ list_is) in
           subst (λ (is' : List ItemId). All (λ (i : ItemId). i.0 < length (set rows x new)) is') (sym at_t) inside_new
       | inr ne ↦
           subst (λ (is' : List ItemId). All (λ (i : ItemId). i.0 < length (set rows x new)) is') (sym (ap (λ (h : LockedItemsOf). h.items) (get_or-set_other held t u list nothing_held ne))) (rw length-set (tab.within u))
@@ -77,14 +77,14 @@ module _ (rows : List RowOf) (held : List LockedItemsOf) (tab : IsLockTable rows
     listed = λ u y l has.
         elim (lock_there more u y l has) [
           | inl before ↦ keeps u y before
-          | inr now ↦ ap (λ v. contains_item (held_at (set held t list) v).items y) (sym now.0) ∙ (ap (λ (is' : List ItemId). contains_item is' y) (at_t) ∙ (any_push (λ (i : ItemId). i.0 == y) (held_at held t).items id ∙ or_right (contains_item (held_at held t).items y) (id.0 == y) (eq-eqb id.0 y (id_is ∙ now.1))))
+          | inr now ↦ ap (λ v. contains_item (items_locked_by (set held t list) v).items y) (sym now.0) ∙ (ap (λ (is' : List ItemId). contains_item is' y) (at_t) ∙ (any_push (λ (i : ItemId). i.0 == y) (items_locked_by held t).items id ∙ or_right (contains_item (items_locked_by held t).items y) (id.0 == y) (eq-eqb id.0 y (id_is ∙ now.1))))
         ];
   }
     where
-      at_t : (held_at (set held t list) t).items ≡ (held_at held t).items ++ id ∷ []
+      at_t : (items_locked_by (set held t list) t).items ≡ (items_locked_by held t).items ++ id ∷ []
       at_t = ap (λ (h : LockedItemsOf). h.items) (get_or-set_same held t list nothing_held in_held) ∙ list_is
 
-      keeps : (u y : ℕ) → contains_item (held_at held u).items y ≡ true → contains_item (held_at (set held t list) u).items y ≡ true
+      keeps : (u y : ℕ) → contains_item (items_locked_by held u).items y ≡ true → contains_item (items_locked_by (set held t list) u).items y ≡ true
       keeps u y before = grind (arith, cases_eq u t, set held t list, at_t, any_push, or_left, get_or-set_other)
 
   -- the transaction that took the lock had one on the item
@@ -143,11 +143,11 @@ released_less t u l is =
 
 module _ (rows : List RowOf) (held : List LockedItemsOf) (tab : IsLockTable rows held) (t : ℕ) (rows_new : List RowOf) (held_new : List LockedItemsOf)
     (len : length rows_new ≡ length rows)
-    (locks : (x : ℕ) → x < length rows → (row_at rows_new x).locks ≡ (if contains_item (held_at held t).items x then released t (row_at rows x).locks else (row_at rows x).locks))
-    (left : (u : ℕ) → (held_at held_new u).items ≡ (if t == u then [] else (held_at held u).items)) where
+    (locks : (x : ℕ) → x < length rows → (row_at rows_new x).locks ≡ (if contains_item (items_locked_by held t).items x then released t (row_at rows x).locks else (row_at rows x).locks))
+    (left : (u : ℕ) → (items_locked_by held_new u).items ≡ (if t == u then [] else (items_locked_by held u).items)) where
   every : (x : ℕ) → x < length rows → (row_at rows_new x).locks ≡ released t (row_at rows x).locks
   every x l =
-      grind (arith, cases_Bool (contains_item (held_at held t).items x), released_none, cases_Bool (has_lock (row_at rows x).locks t), false≢true)
+      grind (arith, cases_Bool (contains_item (items_locked_by held t).items x), released_none, cases_Bool (has_lock (row_at rows x).locks t), false≢true)
 
   pub released_all : map (λ r. r.locks) rows_new ≡ map (released t) (map (λ r. r.locks) rows)
   released_all =
@@ -168,33 +168,33 @@ set_same_row (r ∷ rs) zero row new is same = ap (λ (l : ItemLocks). l ∷ map
 set_same_row (r ∷ rs) (suc x) row new is same = ap (λ ls. r.locks ∷ ls) (set_same_row rs x row new is same)
 
 -- a transaction with capacity for one more item has a list
-pub has_list : (held : List LockedItemsOf) (t : ℕ) → 0 < slice_index (map (λ h. h.capacity_left) held) t → t < length held
+pub has_list : (held : List LockedItemsOf) (t : ℕ) → 0 < slice_index (map (λ h. h.spare_capacity) held) t → t < length held
 has_list [] zero l = absurd (omega arith)
 has_list [] (suc t) l = absurd (omega arith)
 has_list (h ∷ held) zero l = omega arith
 has_list (h ∷ held) (suc t) l = let m : t < length held = has_list held t l in omega arith
 
-pub capacity_of_row : (rows : List RowOf) (x : ℕ) (new : RowOf) → x < length rows → slice_index (map (λ r. r.capacity_left) (set rows x new)) x ≡ new.capacity_left
+pub capacity_of_row : (rows : List RowOf) (x : ℕ) (new : RowOf) → x < length rows → slice_index (map (λ r. r.spare_capacity) (set rows x new)) x ≡ new.spare_capacity
 capacity_of_row [] x new l = absurd (omega arith)
 capacity_of_row (r ∷ rs) zero new l = refl
 capacity_of_row (r ∷ rs) (suc x) new l = capacity_of_row rs x new (omega arith)
 
-pub capacity_of_list : (held : List LockedItemsOf) (t : ℕ) (new : LockedItemsOf) → t < length held → slice_index (map (λ h. h.capacity_left) (set held t new)) t ≡ new.capacity_left
+pub capacity_of_list : (held : List LockedItemsOf) (t : ℕ) (new : LockedItemsOf) → t < length held → slice_index (map (λ h. h.spare_capacity) (set held t new)) t ≡ new.spare_capacity
 capacity_of_list [] t new l = absurd (omega arith)
 capacity_of_list (h ∷ hs) zero new l = refl
 capacity_of_list (h ∷ hs) (suc t) new l = capacity_of_list hs t new (omega arith)
 
 -- the relation of the lists to the locks
-pub table_within : (rows : List RowOf) (held : List LockedItemsOf) → IsLockTable rows held → (t : ℕ) → All (λ (i : ItemId). i.0 < length (map (λ (r : RowOf). r.locks) rows)) (held_at held t).items
+pub table_within : (rows : List RowOf) (held : List LockedItemsOf) → IsLockTable rows held → (t : ℕ) → All (λ (i : ItemId). i.0 < length (map (λ (r : RowOf). r.locks) rows)) (items_locked_by held t).items
 table_within rows held tab t = rw length-map (tab.within t)
 
 pub table_listed : (rows : List RowOf) (held : List LockedItemsOf) → IsLockTable rows held → (t x : ℕ) → x < length (map (λ (r : RowOf). r.locks) rows)
-    → has_lock (locks_at (map (λ (r : RowOf). r.locks) rows) x) t ≡ true → contains_item (held_at held t).items x ≡ true
+    → has_lock (locks_at (map (λ (r : RowOf). r.locks) rows) x) t ≡ true → contains_item (items_locked_by held t).items x ≡ true
 table_listed rows held tab t x l has =
     let inside : x < length rows = rw length-map at l in
     tab.listed t x inside (ap (λ (g : ItemLocks). has_lock g t) (sym (locks_at-rows rows x inside)) ∙ has)
 
-pub past_lists : (held : List LockedItemsOf) (t : ℕ) → length held ≤ t → (held_at held t).items ≡ []
+pub past_lists : (held : List LockedItemsOf) (t : ℕ) → length held ≤ t → (items_locked_by held t).items ≡ []
 past_lists [] zero l = refl
 past_lists [] (suc t) l = refl
 past_lists (h ∷ held) zero l = absurd (omega arith)

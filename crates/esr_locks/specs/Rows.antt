@@ -12,7 +12,7 @@ use Rattle.esr_locks.specs.Tables.{no_locks, has_lock, has_update_lock, has_quer
 -- a row as contracts see it: the locks, and the capacity left for more
 pub record RowOf : Type 0 where
   pub locks : ItemLocks
-  pub capacity_left : ℕ
+  pub spare_capacity : ℕ
 
 -- the effect of reserving capacity for one more element of a list
 pub record Reserves {T A E : Type 0} (old new : SmallVec T) (result : Result A E) : Type 0 where
@@ -52,22 +52,22 @@ has_lock_in_mode QueryRead = has_query_lock
 -- the items that a transaction has locked, as contracts see them: the items, and the capacity left for more
 pub record LockedItemsOf : Type 0 where
   pub items : List ItemId
-  pub capacity_left : ℕ
+  pub spare_capacity : ℕ
 
 abbrev pub nothing_held : LockedItemsOf
-nothing_held = record { items = []; capacity_left = 0 }
+nothing_held = record { items = []; spare_capacity = 0 }
 
 abbrev pub empty_row : RowOf
-empty_row = record { locks = no_locks; capacity_left = 0 }
+empty_row = record { locks = no_locks; spare_capacity = 0 }
 
 abbrev pub row_at : List RowOf → ℕ → RowOf
 row_at rows x = slice_index_or rows x empty_row
 
-abbrev pub held_at : List LockedItemsOf → ℕ → LockedItemsOf
-held_at held t = slice_index_or held t nothing_held
+abbrev pub items_locked_by : List LockedItemsOf → ℕ → LockedItemsOf
+items_locked_by held t = slice_index_or held t nothing_held
 
 -- the items listed for a transaction are those on which it holds a lock, and perhaps more
 pub record IsLockTable (rows : List RowOf) (held : List LockedItemsOf) : Type 0 where
-  pub within : (t : ℕ) → All (λ i. i.0 < length rows) (held_at held t).items
+  pub within : (t : ℕ) → All (λ i. i.0 < length rows) (items_locked_by held t).items
   pub listed : (t x : ℕ) → x < length rows → has_lock (row_at rows x).locks t ≡ true
-      → contains_item (held_at held t).items x ≡ true
+      → contains_item (items_locked_by held t).items x ≡ true

@@ -10,12 +10,12 @@ use Rattle.esr_locks.specs.Modes.{Mode, Read, Write, conflicts}
 -- capacity left in each transaction's list of items
 pub record Table : Type 0 where
   pub locks : List ItemLocks
-  pub item_capacities : List ℕ
-  pub list_capacities : List ℕ
+  pub spare_by_item : List ℕ
+  pub spare_by_transaction : List ℕ
 
 -- the capacity left for locks of transaction t on item x
-abbrev pub locks_that_fit : Table → ℕ → ℕ → ℕ
-locks_that_fit table t x = min (slice_index table.item_capacities x) (slice_index table.list_capacities t)
+abbrev pub spare_lock_capacity : Table → ℕ → ℕ → ℕ
+spare_lock_capacity table t x = min (slice_index table.spare_by_item x) (slice_index table.spare_by_transaction t)
 
 -- an item that no transaction has locked
 abbrev pub no_locks : ItemLocks

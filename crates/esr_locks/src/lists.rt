@@ -141,7 +141,7 @@ pub fn is_reader(readers: &[Reader], t: TxnId) -> bool
 #[inline(always)]
 fn put<T: MadeWith<Global> + Drop, const N: usize>(list: &mut SmallVec<T, N>, at: usize, element: T)
     requires place { at ≤ length list.old.items }
-    requires capacity_left { HasRoomFor list.old 1 }
+    requires spare_capacity { HasRoomFor list.old 1 }
     ensures { list.new.items ≡ insert list.old.items at element }
 {
     if at == list.len() {
@@ -155,7 +155,7 @@ fn put<T: MadeWith<Global> + Drop, const N: usize>(list: &mut SmallVec<T, N>, at
 #[inline(never)]
 fn add_among(readers: &mut Readers, t: TxnId) -> bool
     requires ascending { IsAscendingBy (λ r. r.update.0) readers.old.items }
-    requires capacity_left { HasRoomFor readers.old 1 }
+    requires spare_capacity { HasRoomFor readers.old 1 }
     ensures items { readers.new.items ≡ upserted (λ r. r.update.0) t.0 (reader t) (λ r. r) readers.old.items }
     ensures is_new { result ≡ not (list_any (λ r. r.update.0 == t.0) readers.old.items) }
 {
@@ -172,7 +172,7 @@ fn add_among(readers: &mut Readers, t: TxnId) -> bool
 #[inline(always)]
 pub fn add_reader(readers: &mut Readers, t: TxnId) -> bool
     requires ascending { IsAscendingBy (λ r. r.update.0) readers.old.items }
-    requires capacity_left { HasRoomFor readers.old 1 }
+    requires spare_capacity { HasRoomFor readers.old 1 }
     ensures items { readers.new.items ≡ upserted (λ r. r.update.0) t.0 (reader t) (λ r. r) readers.old.items }
     ensures is_new { result ≡ not (list_any (λ r. r.update.0 == t.0) readers.old.items) }
 {
@@ -186,7 +186,7 @@ pub fn add_reader(readers: &mut Readers, t: TxnId) -> bool
 /// Counts one more read of a query. Returns whether it is the first.
 pub fn count_read(queries: &mut Queries, q: TxnId) -> bool
     requires ascending { IsAscendingBy (λ r. r.query.0) queries.old.items }
-    requires capacity_left { HasRoomFor queries.old 1 }
+    requires spare_capacity { HasRoomFor queries.old 1 }
     requires within_max { All (λ r. r.query.0 ≡ q.0 → r.count < MAX_READS) queries.old.items }
     requires upper_bound { AllByRecursion (λ r. r.count ≤ MAX_READS) queries.old.items }
     ensures items { queries.new.items ≡ upserted (λ r. r.query.0) q.0 (first_reads q) more_reads queries.old.items }

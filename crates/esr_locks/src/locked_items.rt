@@ -21,7 +21,7 @@ impl Model for LockedItems {
 
     ghost Value = { LockedItemsOf };
 
-    ghost view = { λ h. record { items = h.list.items; capacity_left = h.list.capacity - length h.list.items } };
+    ghost view = { λ h. record { items = h.list.items; spare_capacity = h.list.capacity - length h.list.items } };
 }
 
 impl LockedItems {
@@ -43,15 +43,15 @@ impl LockedItems {
     #[inline(always)]
     pub fn reserve(&mut self) -> Result<(), AllocError>
         ensures items { self.new.items ≡ self.old.items }
-        ensures ok { OnOk result (0 < self.new.capacity_left) }
-        ensures no_capacity { OnErr result (self.old.capacity_left ≡ 0) }
+        ensures ok { OnOk result (0 < self.new.spare_capacity) }
+        ensures no_capacity { OnErr result (self.old.spare_capacity ≡ 0) }
     {
         reserve_one(&mut self.list)
     }
 
     /// Adds an item. The capacity must be reserved.
     pub fn push(&mut self, x: ItemId)
-        requires { 0 < self.old.capacity_left }
+        requires { 0 < self.old.spare_capacity }
         ensures { self.new.items ≡ self.old.items ++ x ∷ [] }
     {
         self.list.push_reserved(x);

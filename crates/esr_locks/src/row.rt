@@ -39,7 +39,7 @@ impl Model for Row {
         readers = map (λ u. u.update.0) r.readers.items;
         queries = map query_and_count r.queries.items;
       };
-      capacity_left = min (r.readers.capacity - length r.readers.items) (r.queries.capacity - length r.queries.items);
+      spare_capacity = min (r.readers.capacity - length r.readers.items) (r.queries.capacity - length r.queries.items);
     } };
 
     ghost invariant = { λ r. IsAscendingBy (λ u. u.update.0) r.readers.items
@@ -145,8 +145,8 @@ impl Row {
     #[inline(always)]
     pub fn reserve(&mut self) -> Result<(), AllocError>
         ensures locks { self.new.locks ≡ self.old.locks }
-        ensures ok { OnOk result (0 < self.new.capacity_left) }
-        ensures no_capacity { OnErr result (self.old.capacity_left ≡ 0) }
+        ensures ok { OnOk result (0 < self.new.spare_capacity) }
+        ensures no_capacity { OnErr result (self.old.spare_capacity ≡ 0) }
     {
         reserve_one(&mut self.readers)?;
         reserve_one(&mut self.queries)?;
@@ -156,7 +156,7 @@ impl Row {
     /// Adds a read by an update. Returns whether the update had neither read nor written the item.
     #[inline(always)]
     fn add_reader(&mut self, t: TxnId) -> bool
-        requires { 0 < self.old.capacity_left }
+        requires { 0 < self.old.spare_capacity }
         ensures locks { self.new.locks ≡ with_reader t.0 self.old.locks }
         ensures is_new { result ≡ not (has_update_lock self.old.locks t.0) }
     {
@@ -179,7 +179,7 @@ impl Row {
 
     /// Adds a read by a query. Returns whether the query had not read the item.
     fn add_query_read(&mut self, q: TxnId) -> bool
-        requires capacity_left { 0 < self.old.capacity_left }
+        requires spare_capacity { 0 < self.old.spare_capacity }
         requires within_max { All (λ r. r.0 ≡ q.0 → r.1 < MAX_READS) self.old.locks.queries }
         ensures locks { self.new.locks ≡ with_query_read q.0 self.old.locks }
         ensures is_new { result ≡ not (has_query_lock self.old.locks q.0) }
@@ -190,7 +190,7 @@ impl Row {
     /// Adds a lock. Returns whether the transaction held none on the item.
     #[inline(always)]
     pub fn add(&mut self, t: TxnId, mode: Mode) -> bool
-        requires capacity_left { 0 < self.old.capacity_left }
+        requires spare_capacity { 0 < self.old.spare_capacity }
         requires within_max { mode ≡ Mode.QueryRead → All (λ r. r.0 ≡ t.0 → r.1 < MAX_READS) self.old.locks.queries }
         ensures locks { self.new.locks ≡ with_lock mode t.0 self.old.locks }
         ensures is_new { result ≡ not (has_lock_in_mode mode self.old.locks t.0) }

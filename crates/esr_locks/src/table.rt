@@ -11,8 +11,8 @@ ghost use Rattle.std.specs.Prelude.{◌≡◌, ℕ, ◌<◌, ◌≤◌, ◌==◌
 ghost use Rattle.std.specs.List.{range_with_len};
 ghost use Rattle.esr_base.specs.declared.limits.TheConstants.{MAX_READS};
 ghost use Rattle.esr_history.specs.Ascending.{IsAscendingBy, IsSmallest};
-ghost use Rattle.esr_locks.specs.Rows.{query_and_count, row_at, held_at, with_lock, has_lock_in_mode, IsLockTable};
-ghost use Rattle.esr_locks.specs.Tables.{no_locks, locks_at, locks_that_fit, has_lock, has_update_lock, has_query_lock, contains_item, blocks_read, blocks_write, with_reader, with_writer, with_query_read, released, Table};
+ghost use Rattle.esr_locks.specs.Rows.{query_and_count, row_at, items_locked_by, with_lock, has_lock_in_mode, IsLockTable};
+ghost use Rattle.esr_locks.specs.Tables.{no_locks, locks_at, spare_lock_capacity, has_lock, has_update_lock, has_query_lock, contains_item, blocks_read, blocks_write, with_reader, with_writer, with_query_read, released, Table};
 
 use crate::lists::QueryReads;
 use crate::locked_items::LockedItems;
@@ -41,9 +41,9 @@ impl Model for LockTable {
 
     ghost view = { λ t. record {
       locks = map (λ r. r.locks) t.rows.items;
-      item_capacities = map
-          (λ r. r.capacity_left) t.rows.items;
-      list_capacities = map (λ h. h.capacity_left) t.held.items;
+      spare_by_item = map
+          (λ r. r.spare_capacity) t.rows.items;
+      spare_by_transaction = map (λ h. h.spare_capacity) t.held.items;
     } };
 
     ghost invariant = { λ t. IsLockTable t.rows.items t.held.items };
@@ -64,7 +64,7 @@ fn empty_rows(alloc: Global, items: u32) -> Result<Vec<Row>, AllocError>
 #[cold]
 #[inline(never)]
 fn grow_lists(held: &mut Vec<LockedItems>, alloc: Global, t: TxnId) -> Result<(), AllocError>
-    ensures items { (u : ℕ) → (held_at held.new.items u).items ≡ (held_at held.old.items u).items }
+    ensures items { (u : ℕ) → (items_locked_by held.new.items u).items ≡ (items_locked_by held.old.items u).items }
     ensures ok { OnOk result (t.0 < length held.new.items) }
     ensures no_capacity { OnErr result (length held.old.items ≤ t.0) }
 {
@@ -76,8 +76,8 @@ fn grow_lists(held: &mut Vec<LockedItems>, alloc: Global, t: TxnId) -> Result<()
 
 /// Ensures that `t` has a list of items.
 #[inline(always)]
-fn ensure_lists(held: &mut Vec<LockedItems>, alloc: Global, t: TxnId) -> Result<(), AllocError>
-    ensures items { (u : ℕ) → (held_at held.new.items u).items ≡ (held_at held.old.items u).items }
+fn ensure_list(held: &mut Vec<LockedItems>, alloc: Global, t: TxnId) -> Result<(), AllocError>
+    ensures items { (u : ℕ) → (items_locked_by held.new.items u).items ≡ (items_locked_by held.old.items u).items }
     ensures ok { OnOk result (t.0 < length held.new.items) }
     ensures no_capacity { OnErr result (length held.old.items ≤ t.0) }
     ensures unchanged_if_present { t.0 < length held.old.items → held.new.items ≡ held.old.items }
@@ -90,7 +90,7 @@ fn ensure_lists(held: &mut Vec<LockedItems>, alloc: Global, t: TxnId) -> Result<
 
 /// Returns the items in the list of a transaction.
 fn listed(held: &[LockedItems], t: TxnId) -> &[ItemId]
-    ensures { result.now ≡ (held_at held.now t.0).items }
+    ensures { result.now ≡ (items_locked_by held.now t.0).items }
 {
     let at = t.0 as usize;
     if at < held.len() {
@@ -102,8 +102,8 @@ fn listed(held: &[LockedItems], t: TxnId) -> &[ItemId]
 
 /// Replaces the list of a transaction by an empty one, and frees its memory.
 fn clear_list(held: &mut Vec<LockedItems>, alloc: Global, t: TxnId)
-    ensures { (u : ℕ) → (held_at held.new.items u).items
-        ≡ (if t.0 == u then [] else (held_at held.old.items u).items) }
+    ensures { (u : ℕ) → (items_locked_by held.new.items u).items
+        ≡ (if t.0 == u then [] else (items_locked_by held.old.items u).items) }
 {
     let at = t.0 as usize;
     if at < held.len() {
@@ -190,7 +190,7 @@ impl LockTable {
     /// Returns the items on which a transaction holds a lock. The table does not know the kind of a
     /// transaction: an item may occur twice if it was locked both as a query's and as an update's.
     pub fn items_of(&self, t: TxnId) -> &[ItemId]
-        ensures within { All (λ i. i.0 < length self.now.locks) result.now }
+        ensures in_range { All (λ i. i.0 < length self.now.locks) result.now }
         ensures listed { (x : ℕ) → x < length self.now.locks → has_lock (locks_at self.now.locks x) t.0 ≡ true
             → contains_item result.now x ≡ true }
     {
@@ -206,13 +206,13 @@ impl LockTable {
     pub fn reserve(&mut self, t: TxnId, x: ItemId) -> Result<(), NoMemory>
         requires { x.0 < length self.old.locks }
         ensures locks { self.new.locks ≡ self.old.locks }
-        ensures ok { OnOk result (0 < locks_that_fit self.new t.0 x.0) }
-        ensures no_capacity { OnErr result (locks_that_fit self.old t.0 x.0 ≡ 0) }
+        ensures ok { OnOk result (0 < spare_lock_capacity self.new t.0 x.0) }
+        ensures no_capacity { OnErr result (spare_lock_capacity self.old t.0 x.0 ≡ 0) }
     {
         if self.rows[x.0 as usize].reserve().is_err() {
             return Err(NoMemory);
         }
-        if ensure_lists(&mut self.held, self.alloc, t).is_err() {
+        if ensure_list(&mut self.held, self.alloc, t).is_err() {
             return Err(NoMemory);
         }
         if self.held[t.0 as usize].reserve().is_err() {
@@ -225,10 +225,10 @@ impl LockTable {
     #[inline(always)]
     fn add(&mut self, t: TxnId, x: ItemId, mode: Mode)
         requires item { x.0 < length self.old.locks }
-        requires capacity_left { 0 < locks_that_fit self.old t.0 x.0 }
+        requires spare_capacity { 0 < spare_lock_capacity self.old t.0 x.0 }
         requires within_max { mode ≡ Mode.QueryRead
             → All (λ r. r.0 ≡ t.0 → r.1 < MAX_READS) (locks_at self.old.locks x.0).queries }
-        ensures already_locked { has_lock_in_mode mode (locks_at self.old.locks x.0) t.0 ≡ true → self.new.list_capacities ≡ self.old.list_capacities }
+        ensures already_locked { has_lock_in_mode mode (locks_at self.old.locks x.0) t.0 ≡ true → self.new.spare_by_transaction ≡ self.old.spare_by_transaction }
         ensures locks { self.new.locks ≡ slice_set self.old.locks x.0 (with_lock mode t.0 (locks_at self.old.locks x.0)) }
     {
         if self.rows[x.0 as usize].add(t, mode) {
@@ -240,8 +240,8 @@ impl LockTable {
     #[inline(always)]
     pub fn add_read_update(&mut self, t: TxnId, x: ItemId)
         requires item { x.0 < length self.old.locks }
-        requires capacity_left { 0 < locks_that_fit self.old t.0 x.0 }
-        ensures already_locked { has_update_lock (locks_at self.old.locks x.0) t.0 ≡ true → self.new.list_capacities ≡ self.old.list_capacities }
+        requires spare_capacity { 0 < spare_lock_capacity self.old t.0 x.0 }
+        ensures already_locked { has_update_lock (locks_at self.old.locks x.0) t.0 ≡ true → self.new.spare_by_transaction ≡ self.old.spare_by_transaction }
         ensures locks { self.new.locks ≡ slice_set self.old.locks x.0 (with_reader t.0 (locks_at self.old.locks x.0)) }
     {
         self.add(t, x, Mode::Read);
@@ -251,8 +251,8 @@ impl LockTable {
     #[inline(always)]
     pub fn add_write(&mut self, t: TxnId, x: ItemId)
         requires item { x.0 < length self.old.locks }
-        requires capacity_left { 0 < locks_that_fit self.old t.0 x.0 }
-        ensures already_locked { has_update_lock (locks_at self.old.locks x.0) t.0 ≡ true → self.new.list_capacities ≡ self.old.list_capacities }
+        requires spare_capacity { 0 < spare_lock_capacity self.old t.0 x.0 }
+        ensures already_locked { has_update_lock (locks_at self.old.locks x.0) t.0 ≡ true → self.new.spare_by_transaction ≡ self.old.spare_by_transaction }
         ensures locks { self.new.locks ≡ slice_set self.old.locks x.0 (with_writer t.0 (locks_at self.old.locks x.0)) }
     {
         self.add(t, x, Mode::Write);
@@ -261,9 +261,9 @@ impl LockTable {
     /// Adds the read lock of a query, or increments its number of reads; the first read lists the item.
     pub fn add_read_query(&mut self, q: TxnId, x: ItemId)
         requires item { x.0 < length self.old.locks }
-        requires capacity_left { 0 < locks_that_fit self.old q.0 x.0 }
+        requires spare_capacity { 0 < spare_lock_capacity self.old q.0 x.0 }
         requires within_max { All (λ r. r.0 ≡ q.0 → r.1 < MAX_READS) (locks_at self.old.locks x.0).queries }
-        ensures already_locked { has_query_lock (locks_at self.old.locks x.0) q.0 ≡ true → self.new.list_capacities ≡ self.old.list_capacities }
+        ensures already_locked { has_query_lock (locks_at self.old.locks x.0) q.0 ≡ true → self.new.spare_by_transaction ≡ self.old.spare_by_transaction }
         ensures locks { self.new.locks ≡ slice_set self.old.locks x.0 (with_query_read q.0 (locks_at self.old.locks x.0)) }
     {
         self.add(q, x, Mode::QueryRead);

@@ -18,7 +18,7 @@ use Rattle.esr_order.specs.Scans.{access_of, accesses_in, Access}
 use Rattle.esr_order.specs.Chains.{update_at, nth}
 use Rattle.esr_order.specs.Relevant.{has_written, has_written_read, IsConflictPath, IsRelevant, AreRelevant}
 use Rattle.esr_order.specs.BackwardSearch.{marked, is_access, Seen, seen_items, conflicts_with}
-use Rattle.esr_order.proofs.Ordered.{in_order}
+use Rattle.esr_order.proofs.ConflictOrder.{in_order}
 use Rattle.esr_order.proofs.Early.{must_positions, must_below}
 use Rattle.esr_order.proofs.Complete.{range_below}
 use Rattle.esr_order.proofs.RelevantLaws.{relevant_back}

@@ -22,9 +22,9 @@ use Rattle.esr_history.proofs.Membership.{In, In-from_any, In-Contains, Contains
 use Rattle.esr_history.proofs.Bounded.{In-before_first, before_first-here, before_first-later}
 use Rattle.esr_history.proofs.WithinRanges.{legal_begins}
 use Rattle.esr_history.proofs.Words.{committed_among, trace}
-use Rattle.esr_history.proofs.Lawful.{begun_in_range}
+use Rattle.esr_history.proofs.LegalWellFormed.{begun_in_range}
 use Rattle.esr_history.proofs.Locking.{known}
-use Rattle.esr_history.proofs.Reaches.{legal_reached}
+use Rattle.esr_history.proofs.TraceOfHistory.{legal_reached}
 use Rattle.esr_order.specs.Scans.{commit_by, commit_in, commits_in, is_commit_at, is_end_before, is_ended_before, has_ended_before, end_in, begins_strictly, AreEnds}
 use Rattle.esr_order.proofs.Entries.{given_accepted, given_events, accepts}
 use Rattle.esr_order.proofs.Linked.{split_at, get_inside, get_take}

@@ -17,7 +17,7 @@ use Rattle.esr_order.specs.Turns.{turns}
 use Rattle.esr_order.specs.ConflictPairs.{is_conflict_pair, IsLexLess}
 use Rattle.esr_order.specs.Conflicts.{AreConflicts, AreNextPaired}
 use Rattle.esr_order.specs.Chains.{Chain, chain_from, if_written, some_chain, last_of, last_in, last_by_update, last_among, nth, chain_among}
-use Rattle.esr_order.specs.Orders.{Ordered, chain_at, written_chain, IsClosedAt, IsClosedOn, IsOrderAmong, IsOrderOf}
+use Rattle.esr_order.specs.Orders.{ConflictOrder, chain_at, written_chain, IsClosedAt, IsClosedOn, IsOrderAmong, IsOrderOf}
 use Rattle.esr_order.proofs.Kept.{on, writes_in}
 use Rattle.esr_order.proofs.Fewer.{writes_on, between, wrote_last, last_wrote, next_in}
 use Rattle.esr_order.proofs.Placing.{chain_agree}
@@ -68,7 +68,7 @@ module _ (d : Distance) (h : Schedule) (q : ℕ) (legal : IsLegal d h) (us : Lis
   rising x = Pairs-filter (λ (a b : UpdateOperation). a.place ≤ b.place) (λ (s : UpdateOperation). s.writes) (on x steps) (Pairs-filter (λ (a b : UpdateOperation). a.place ≤ b.place) (λ (s : UpdateOperation). eqb s.item x) steps (rises (operations h) 0 us))
 
   module _ (before : List (ℕ × ℕ)) (ascends : AllPairs IsLexLess before) (conflicting : AreConflicts steps before) (next : (x : ℕ) → AreNextPaired before (writes_in (on x steps))) (n : ℕ) (part : n ≤ length us) (musts : map (nth us) (range_with_len 0 n) ≡ must h q) (within_max : length us ≤ 65535) (commits : List TxnId) where
-    abbrev found : Ordered
+    abbrev found : ConflictOrder
     found = record { commits = commits; before = before; must = range_with_len 0 n; chains = map (λ x. chain_from (last_by_update steps x) (length us)) (range_with_len 0 (length h.opening)) }
 
     upward : All (λ p. (p.0 < p.1) × (p.1 < length us) × IsTrue (is_before h (nth us p.0) (nth us p.1))) before
@@ -193,7 +193,7 @@ module _ (d : Distance) (h : Schedule) (q : ℕ) (legal : IsLegal d h) (us : Lis
         length_numbers (t ∷ ts) = ap suc (length_numbers ts)
 
 -- among all updates of the query
-pub order_whole : (h : Schedule) (q : ℕ) (o : Ordered) → IsOrderAmong h q (updates_of h q) o → IsOrderOf h q o
+pub order_whole : (h : Schedule) (q : ℕ) (o : ConflictOrder) → IsOrderAmong h q (updates_of h q) o → IsOrderOf h q o
 order_whole h q o a = record {
   commits = a.commits;
   serial = a.serial;

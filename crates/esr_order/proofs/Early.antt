@@ -13,7 +13,7 @@ use Rattle.esr_history.proofs.Membership.{In, Pairs, Pairs-across, In-of_filter,
 use Rattle.esr_history.proofs.Bounded.{before_first-here, before_first-later, In-before_first}
 use Rattle.esr_history.proofs.Locking.{known, commits_once}
 use Rattle.esr_history.proofs.Words.{committed_among, trace}
-use Rattle.esr_history.proofs.Reaches.{legal_reached}
+use Rattle.esr_history.proofs.TraceOfHistory.{legal_reached}
 use Rattle.esr_history.proofs.Onward.{legal_front, has_begins}
 use Rattle.esr_order.specs.Chains.{update_at}
 use Rattle.esr_order.proofs.Entries.{accepts}

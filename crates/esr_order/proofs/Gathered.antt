@@ -4,7 +4,7 @@ use Rattle.std.proofs.lemmas.List.{length-map}
 use Rattle.esr_base.specs.declared.numbers.TxnId.{TxnId}
 use Rattle.esr_history.specs.Machine.{Distance, Schedule, IsLegal}
 use Rattle.esr_history.specs.Queries.{updates_of}
-use Rattle.esr_order.proofs.Ordered.{bounded_updates}
+use Rattle.esr_order.proofs.ConflictOrder.{bounded_updates}
 
 module _ (d : Distance) (h : Schedule) (q : ℕ) (legal : IsLegal d h) (commits : List TxnId) (same : map (λ t. t.0) commits ≡ updates_of h q) where
   pub commits_length : length commits ≡ length (updates_of h q)

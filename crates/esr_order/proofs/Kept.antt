@@ -6,7 +6,7 @@ use Rattle.std.specs.List.{list_any}
 use Rattle.std.proofs.lemmas.Bool.{true≢false, cond_both, cases_eq, and_parts, and_from, or_cases, or_left, or_right, eqb-true, eq-eqb, ne_eqb, not_from_false, cond-false, eqb-false}
 use Rattle.std.proofs.lemmas.List.{length-append, length-map, map-append}
 use Rattle.std.proofs.lemmas.List.Elements.{All-contains, All-from_recursion, filter-append}
-use Rattle.esr_history.specs.Serial.{any_pair}
+use Rattle.esr_history.specs.Serial.{any_ordered_pair}
 use Rattle.esr_history.proofs.Membership.{In, In-Contains, In-append_cases, In-append_left, In-append_right, any-from_In, In-any, each_in}
 use Rattle.esr_order.specs.UpdateOperations.{UpdateOperation}
 use Rattle.esr_order.specs.ConflictPairs.{operations_conflict, is_conflict_pair}
@@ -148,12 +148,12 @@ readers_from x (z ∷ zs) r i = at (eqb z.item x) refl z.writes (readers_from x 
 
 pair_front : (s : UpdateOperation) (ss : List UpdateOperation) (b : UpdateOperation) → In b ss → operations_conflict s b ≡ true → is_conflict_pair (s ∷ ss) s.place b.place ≡ true
 pair_front s ss b i c =
-    or_left (list_any (test s.place b.place s) ss) (any_pair (test s.place b.place) ss)
+    or_left (list_any (test s.place b.place s) ss) (any_ordered_pair (test s.place b.place) ss)
     (any-from_In (test s.place b.place s) ss b i
     (and_from (eqb s.place s.place) (eqb b.place b.place && operations_conflict s b) (eq-eqb s.place s.place refl) (and_from (eqb b.place b.place) (operations_conflict s b) (eq-eqb b.place b.place refl) c)))
 
 pair_later : (s : UpdateOperation) (ss : List UpdateOperation) (i j : ℕ) → is_conflict_pair ss i j ≡ true → is_conflict_pair (s ∷ ss) i j ≡ true
-pair_later s ss i j h = or_right (list_any (test i j s) ss) (any_pair (test i j) ss) h
+pair_later s ss i j h = or_right (list_any (test i j s) ss) (any_ordered_pair (test i j) ss) h
 
 -- the next writer is the step's, or before it
 abbrev Reached : List UpdateOperation → ℕ → Option ℕ → Type 0
@@ -286,7 +286,7 @@ module _ (s : UpdateOperation) (ss : List UpdateOperation) (pairs : List Pair) (
         let q = and_parts (eqb b.0.place j) (operations_conflict s b.0) p.1 in
         subst (λ z. S z ≡ true) (eqb-true s.place i p.0) (front S h b.0 b.1 q.1 (ap S (eqb-true b.0.place j q.0) ∙ sj)))
         (λ e. k.covers S (later_holds S h) i j e sj)
-        (or_cases (list_any (test i j s) ss) (any_pair (test i j) ss) c);
+        (or_cases (list_any (test i j s) ss) (any_ordered_pair (test i j) ss) c);
     next = λ x. follows x (eqb s.item x) refl s.writes refl;
   }
     where

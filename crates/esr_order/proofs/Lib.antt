@@ -1,10 +1,10 @@
 -- Why commit order is a serial order, closed sets are the parts of placements, and the updates that are relevant to a query
--- suffice. `Ordered` and `RelevantLaws` are used by audits; the other modules carry the walk back over the log.
+-- suffice. `ConflictOrder` and `RelevantLaws` are used by audits; the other modules carry the walk back over the log.
 
 pub mod Lists
 pub mod Writers
 pub mod Placed
-pub mod Ordered
+pub mod ConflictOrder
 pub mod Entries
 pub mod Kept
 pub mod Turns

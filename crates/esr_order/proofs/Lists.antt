@@ -5,7 +5,7 @@ use Rattle.std.specs.List.{list_any, filter_map, cons_option, slice_get, AllByRe
 use Rattle.std.proofs.lemmas.Bool.{true≢false, or_cases, cond_both}
 use Rattle.std.proofs.lemmas.List.{drop_all, take_all}
 use Rattle.std.proofs.lemmas.Option.{same_Some}
-use Rattle.esr_history.specs.Serial.{any_pair}
+use Rattle.esr_history.specs.Serial.{any_ordered_pair}
 use Rattle.esr_history.proofs.Membership.{In, In-any, Pairs, each_at}
 
 pub in_map : {X Y : Type 0} (f : X → Y) (xs : List X) (x : X) → In x xs → In (f x) (map f xs)
@@ -64,12 +64,12 @@ same_truth false true f g = g refl
 same_truth false false f g = refl
 
 -- the two elements of a test that some pair passes, in a list whose pairs are such
-pub pair_parts : {X : Type 0} (R : X → X → Type 0) (r : X → X → Bool) (xs : List X) → Pairs R xs → any_pair r xs ≡ true → (a b : X) × In a xs × In b xs × (r a b ≡ true) × R a b
+pub pair_parts : {X : Type 0} (R : X → X → Type 0) (r : X → X → Bool) (xs : List X) → Pairs R xs → any_ordered_pair r xs ≡ true → (a b : X) × In a xs × In b xs × (r a b ≡ true) × R a b
 pair_parts R r [] p h = absurd (true≢false (sym h))
 pair_parts R r (x ∷ xs) p h = ⊎_elim
     (λ e. let w = In-any (r x) xs e in (x, w.0, inl refl, inr w.1, w.2, each_at (R x) xs w.0 p.0 w.1))
     (λ e. let w = pair_parts R r xs p.1 e in (w.0, w.1, inr w.2, inr w.3, w.4, w.5))
-    (or_cases (list_any (r x) xs) (any_pair r xs) h)
+    (or_cases (list_any (r x) xs) (any_ordered_pair r xs) h)
 
 pub any_two : {X : Type 0} (xs : List X) → Pairs (λ a b. ⊤) xs
 any_two [] = tt

@@ -10,7 +10,7 @@ use Rattle.esr_history.proofs.Membership.{In, In-Contains, Contains-In, any-from
 use Rattle.esr_order.specs.Placements.{is_among}
 use Rattle.esr_order.specs.Chains.{update_at, nth}
 use Rattle.esr_order.specs.Relevant.{AreRelevant}
-use Rattle.esr_order.proofs.Ordered.{bounded_updates, in_order}
+use Rattle.esr_order.proofs.ConflictOrder.{bounded_updates, in_order}
 use Rattle.esr_order.proofs.Early.{must_positions, must_below}
 use Rattle.esr_order.proofs.Complete.{range_below, in_range}
 use Rattle.esr_order.proofs.Lists.{filter_shorter, in_map, same_default}

@@ -12,7 +12,7 @@ use Rattle.esr_order.specs.Placements.{is_among, IsClosed}
 use Rattle.esr_order.specs.Chains.{update_at}
 use Rattle.esr_order.specs.Orders.{IsClosedOn}
 use Rattle.esr_order.specs.Relevant.{has_written, IsRelevant, AreRelevant}
-use Rattle.esr_order.proofs.Ordered.{in_order}
+use Rattle.esr_order.proofs.ConflictOrder.{in_order}
 use Rattle.esr_order.proofs.Early.{must_positions}
 use Rattle.esr_order.proofs.Complete.{range_below, in_range}
 use Rattle.esr_order.proofs.Turns.{not_before_itself}

@@ -15,10 +15,10 @@ use Rattle.esr_history.specs.Machine.{Distance, Schedule, accepted_in, extended,
 use Rattle.esr_history.specs.Legal.{along, legal_induction_after}
 use Rattle.esr_history.specs.Operations.{Operation, operation_by, operations}
 use Rattle.esr_history.proofs.Allowed.{read_allowed, write_allowed}
-use Rattle.esr_history.proofs.Lawful.{done-refused, done-accepted, not_ended}
-use Rattle.esr_history.proofs.Orderly.{active_parts}
+use Rattle.esr_history.proofs.LegalWellFormed.{done-refused, done-accepted, not_ended}
+use Rattle.esr_history.proofs.WellFormed.{active_parts}
 use Rattle.esr_history.proofs.Fitting.{accepts}
-use Rattle.esr_history.proofs.Reaches.{operations-refused, operations-accepted}
+use Rattle.esr_history.proofs.TraceOfHistory.{operations-refused, operations-accepted}
 use Rattle.esr_history.proofs.Onward.{legal_parts, legal_front}
 use Rattle.esr_history.proofs.Versions.{filter_push_false}
 use Rattle.esr_order.specs.Scans.{access_of, accesses_in}

@@ -17,9 +17,9 @@ use Rattle.esr_history.specs.Queries.{begins, before_begin}
 use Rattle.esr_history.specs.BackLinks.{ender, txn_of, accepted_end, accepted_txn, is_key, places_from, last_place, begun_count}
 use Rattle.esr_history.proofs.Lists.{any_push, slice_get_push, filter_map_push}
 use Rattle.esr_history.proofs.Membership.{In, get_seam}
-use Rattle.esr_history.proofs.Orderly.{active_parts, beginning-kept}
+use Rattle.esr_history.proofs.WellFormed.{active_parts, beginning-kept}
 use Rattle.esr_history.proofs.Bounded.{before_first-all}
-use Rattle.esr_history.proofs.Lawful.{not_ended}
+use Rattle.esr_history.proofs.LegalWellFormed.{not_ended}
 use Rattle.esr_history.proofs.Linking.{places_push, accepted_push, accepted_refused, count_refused, count_same, count_more}
 use Rattle.esr_history.proofs.Fitting.{accepts, legal_fit}
 use Rattle.esr_order.proofs.Sparse.{in_places}

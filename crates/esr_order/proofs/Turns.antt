@@ -5,7 +5,7 @@ use Rattle.std.proofs.lemmas.Bool.{true≢false, cases_order, and_parts, and_fro
 use Rattle.std.proofs.lemmas.List.Elements.{All-contains, All-from_recursion, filter-append}
 use Rattle.esr_history.specs.Machine.{Schedule}
 use Rattle.esr_history.specs.Operations.{Operation, operations}
-use Rattle.esr_history.specs.Serial.{any_pair, conflict, is_before}
+use Rattle.esr_history.specs.Serial.{any_ordered_pair, conflict, is_before}
 use Rattle.esr_history.proofs.Membership.{In, In-Contains, In-append_cases, In-append_left, In-append_right, In-filter, In-of_filter, In-from_any, Pairs, Pairs-append, each_in, each_at, filter_none_in}
 use Rattle.esr_history.proofs.Versions.{wrote_by, conflict_of}
 use Rattle.esr_order.specs.UpdateOperations.{UpdateOperation}
@@ -24,7 +24,7 @@ abbrev in_place : ℕ → UpdateOperation → Bool
 in_place i s = eqb s.place i
 
 -- no update is before itself
-pub not_before_itself : (ops : List Operation) (u : ℕ) → any_pair (λ a b. eqb a.txn u && (eqb b.txn u && conflict a b)) ops ≡ true → ⊥
+pub not_before_itself : (ops : List Operation) (u : ℕ) → any_ordered_pair (λ a b. eqb a.txn u && (eqb b.txn u && conflict a b)) ops ≡ true → ⊥
 not_before_itself ops u h =
     let w = pair_parts (λ a b. ⊤) (λ (a b : Operation). eqb a.txn u && (eqb b.txn u && conflict a b)) ops (any_two ops) h in
     let p = and_parts (eqb w.0.txn u) (eqb w.1.txn u && conflict w.0 w.1) w.4 in

@@ -4,7 +4,7 @@ use Rattle.std.specs.List.{list_any}
 use Rattle.std.proofs.lemmas.Bool.{and_from, or_left, or_right, eq-eqb}
 use Rattle.esr_history.specs.Machine.{Schedule}
 use Rattle.esr_history.specs.Operations.{operations}
-use Rattle.esr_history.specs.Serial.{any_pair, conflict, is_before, values_by}
+use Rattle.esr_history.specs.Serial.{any_ordered_pair, conflict, is_before, values_by}
 use Rattle.esr_history.proofs.Membership.{In, any-from_In, filter-some}
 use Rattle.esr_history.proofs.LastWriter.{Orders}
 use Rattle.esr_history.proofs.Versions.{wrote_by, wrote_parts, conflict_of}
@@ -12,19 +12,19 @@ use Rattle.esr_history.proofs.Words.{values_trace}
 
 -- of two elements one is ahead of the other
 pub pair_total : {X : Type 0} (r s : X → X → Bool) (xs : List X) (a b : X) → In a xs → In b xs → (a ≡ b → ⊥) → r a b ≡ true → s b a ≡ true →
-    (any_pair r xs ≡ true) ⊎ (any_pair s xs ≡ true)
+    (any_ordered_pair r xs ≡ true) ⊎ (any_ordered_pair s xs ≡ true)
 pair_total r s [] a b ia ib ne rab sba = absurd ia
 pair_total r s (z ∷ zs) a b ia ib ne rab sba =
     ⊎_elim
     (λ za. ⊎_elim
     (λ zb. absurd (ne (sym za ∙ zb)))
-    (λ jb. inl (or_left (list_any (r z) zs) (any_pair r zs) (any-from_In (r z) zs b jb (ap (λ w. r w b) za ∙ rab))))
+    (λ jb. inl (or_left (list_any (r z) zs) (any_ordered_pair r zs) (any-from_In (r z) zs b jb (ap (λ w. r w b) za ∙ rab))))
     ib)
     (λ ja. ⊎_elim
-    (λ zb. inr (or_left (list_any (s z) zs) (any_pair s zs) (any-from_In (s z) zs a ja (ap (λ w. s w a) zb ∙ sba))))
+    (λ zb. inr (or_left (list_any (s z) zs) (any_ordered_pair s zs) (any-from_In (s z) zs a ja (ap (λ w. s w a) zb ∙ sba))))
     (λ jb. ⊎_elim
-    (λ t. inl (or_right (list_any (r z) zs) (any_pair r zs) t))
-    (λ t. inr (or_right (list_any (s z) zs) (any_pair s zs) t))
+    (λ t. inl (or_right (list_any (r z) zs) (any_ordered_pair r zs) t))
+    (λ t. inr (or_right (list_any (s z) zs) (any_ordered_pair s zs) t))
     (pair_total r s zs a b ja jb ne rab sba))
     ib)
     ia

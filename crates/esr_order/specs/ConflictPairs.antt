@@ -1,6 +1,6 @@
 -- Operations of updates that conflict, and pairs of positions.
 use Rattle.std.specs.Prelude.{◌≡◌, ◌<◌, ◌⊎◌, ℕ, Bool, not, ◌&&◌, ◌||◌, ◌==◌, List}
-use Rattle.esr_history.specs.Serial.{any_pair}
+use Rattle.esr_history.specs.Serial.{any_ordered_pair}
 use Rattle.esr_order.specs.UpdateOperations.{UpdateOperation}
 
 -- whether two operations are of different updates, on one item, and at least one writes
@@ -9,7 +9,7 @@ operations_conflict a b = not (a.place == b.place) && ((a.item == b.item) && (a.
 
 -- whether an operation at position i precedes one at position j that conflicts with it
 abbrev pub is_conflict_pair : List UpdateOperation → ℕ → ℕ → Bool
-is_conflict_pair operations i j = any_pair (λ a b. (a.place == i) && ((b.place == j) && operations_conflict a b)) operations
+is_conflict_pair operations i j = any_ordered_pair (λ a b. (a.place == i) && ((b.place == j) && operations_conflict a b)) operations
 
 -- lexicographic order of pairs
 abbrev pub IsLexLess : ℕ × ℕ → ℕ × ℕ → Type 0

@@ -11,7 +11,7 @@ use Rattle.esr_order.specs.Chains.{Chain, some_chain, update_at, chain_of, nth, 
 use Rattle.esr_order.specs.ConflictPairs.{IsLexLess}
 
 -- an order as contracts see it
-pub record Ordered : Type 0 where
+pub record ConflictOrder : Type 0 where
   pub commits : List TxnId
   pub before : List (ℕ × ℕ)
   pub must : List ℕ
@@ -22,11 +22,11 @@ written_chain None = None
 written_chain (Some c) = some_chain c
 
 -- the chain of item x, if an update wrote it
-abbrev pub chain_at : Ordered → ℕ → Option Chain
+abbrev pub chain_at : ConflictOrder → ℕ → Option Chain
 chain_at o x = written_chain (slice_get o.chains x)
 
 -- S is closed by the pairs of the order, and contains the updates that q must see
-pub record IsClosedIn (h : Schedule) (q : ℕ) (o : Ordered) (S : ℕ → Bool) : Type 0 where
+pub record IsClosedIn (h : Schedule) (q : ℕ) (o : ConflictOrder) (S : ℕ → Bool) : Type 0 where
   pub downward : All (λ p. IsTrue (S (update_at h q p.1)) → IsTrue (S (update_at h q p.0))) o.before
   pub holds_must : All (λ i. IsTrue (S (update_at h q i))) o.must
 
@@ -36,7 +36,7 @@ operations_of h q = filter (λ o. is_among (updates_of h q) o.txn) (operations h
 
 -- The updates that committed before q, with the necessary parts of their conflict order and their versions. Updates are
 -- identified by their positions in commit order.
-pub record IsOrderOf (h : Schedule) (q : ℕ) (o : Ordered) : Type 0 where
+pub record IsOrderOf (h : Schedule) (q : ℕ) (o : ConflictOrder) : Type 0 where
   pub commits : map (λ t. t.0) o.commits ≡ updates_of h q
   pub serial : IsSerialOrder h (updates_of h q) (updates_of h q)
   pub within_max : length o.commits ≤ MAX_TRANSACTIONS
@@ -59,11 +59,11 @@ pub record IsClosedOn (h : Schedule) (q : ℕ) (us : List ℕ) (S : ℕ → Bool
   pub downward : (u v : ℕ) → Contains us u → Contains us v → IsTrue (is_before h u v) → IsTrue (S v) → IsTrue (S u)
   pub holds_must : (u : ℕ) → Contains (must h q) u → IsTrue (S u)
 
-pub record IsClosedAt (us : List ℕ) (o : Ordered) (S : ℕ → Bool) : Type 0 where
+pub record IsClosedAt (us : List ℕ) (o : ConflictOrder) (S : ℕ → Bool) : Type 0 where
   pub downward : All (λ p. IsTrue (S (nth us p.1)) → IsTrue (S (nth us p.0))) o.before
   pub holds_must : All (λ i. IsTrue (S (nth us i))) o.must
 
-pub record IsOrderAmong (h : Schedule) (q : ℕ) (us : List ℕ) (o : Ordered) : Type 0 where
+pub record IsOrderAmong (h : Schedule) (q : ℕ) (us : List ℕ) (o : ConflictOrder) : Type 0 where
   pub commits : map (λ t. t.0) o.commits ≡ us
   pub serial : IsSerialOrder h us us
   pub within_max : length o.commits ≤ MAX_TRANSACTIONS

@@ -103,8 +103,8 @@ fn nothing_later(
     let mut chains = Vec::with_capacity(alloc, items as usize)?;
     let mut readers = Vec::with_capacity(alloc, items as usize)?;
     for x in 0..items {
-        let capacity_left = writers.get(x as usize).copied().unwrap_or(0);
-        let links = Links::with_capacity_for(alloc, capacity_left as usize)?;
+        let spare_capacity = writers.get(x as usize).copied().unwrap_or(0);
+        let links = Links::with_capacity_for(alloc, spare_capacity as usize)?;
         chains.push(links)?;
         readers.push(Vec::new(alloc))?;
     }

@@ -12,7 +12,7 @@ ghost use Rattle.esr_base.specs.declared.limits.TheConstants.{MAX_TRANSACTIONS};
 ghost use Rattle.esr_history.specs.Queries.{is_committed_query, must};
 ghost use Rattle.esr_order.specs.Chains.{seen_links, nth};
 ghost use Rattle.esr_order.specs.declared.order.OrderError.TheVariants.{NoMemory};
-ghost use Rattle.esr_order.specs.Orders.{Ordered, IsOrderOf, IsOrderAmong, chain_at, operations_of};
+ghost use Rattle.esr_order.specs.Orders.{ConflictOrder, IsOrderOf, IsOrderAmong, chain_at, operations_of};
 ghost use Rattle.esr_order.specs.AccessRows.{AreRowsOf};
 ghost use Rattle.esr_order.specs.Index.{IsWholeIndexOf};
 ghost use Rattle.esr_order.specs.Relevant.{AreRelevant};
@@ -64,7 +64,7 @@ pub struct Order {
 }
 
 impl Model for Order {
-    ghost Value = { Ordered };
+    ghost Value = { ConflictOrder };
 
     ghost view = { λ o. record {
       commits = o.commits.items;

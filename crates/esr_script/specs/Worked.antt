@@ -31,11 +31,11 @@ report_concurrent_with_writer : IsWholeText
 unfolding digits
 report_concurrent_with_writer = refl
 
-export_limit_over_queries : IsWholeText
+export_limit_covers_all_queries : IsWholeText
     (outcome (codes "item a 0\nbegin q query 10\nbegin r query 5\nbegin u update 14\nbegin v update 15\nread q a\nread q a\nread r a\nwrite u a 5\nwrite v a 5\ntotals\n"))
     (codes "item a 0\nbegun q 1\nbegun r 2\nbegun u 3\nbegun v 4\nq a 0\nq a 0\nr a 0\nblocked 11 export u\nwrote v a 5\ntotals import 15 export 15 entries 9\n")
 unfolding digits
-export_limit_over_queries = refl
+export_limit_covers_all_queries = refl
 
 two_updates_over_a_report : IsWholeText
     (outcome (codes "item a 0\nitem b 0\nbegin q query 100\nbegin u1 update 100\nbegin u2 update 100\nread q a\nwrite u1 a 10\naudit q\ncommit u1\nwrite u2 a 1\nwrite u2 b 8\ncommit u2\nread q b\ncommit q\naudit q\n"))

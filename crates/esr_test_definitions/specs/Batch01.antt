@@ -339,5 +339,5 @@ outcomes =
     []
 
 -- the definitions find the outcome of each history
-abbrev pub OutcomesMatch : Type 0
-OutcomesMatch = map outcome_of plays ≡ outcomes
+abbrev pub DefinitionsMatchReference : Type 0
+DefinitionsMatchReference = map outcome_of plays ≡ outcomes

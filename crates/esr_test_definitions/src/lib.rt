@@ -7,12 +7,12 @@
 //! computation, so a definition with an error is refused.
 #![tactic(auto)]
 
-ghost use Rattle.esr_test_definitions.specs.All.{AllOutcomesMatch};
+ghost use Rattle.esr_test_definitions.specs.All.{AllDefinitionsMatchReference};
 ghost use Rattle.esr_test_definitions.specs.Edges.{LongHistoriesRefuse};
 
 /// States that the definitions find the outcome of each generated history.
 pub fn definitions_agree()
-    ensures { AllOutcomesMatch }
+    ensures { AllDefinitionsMatchReference }
 {}
 
 /// States that the machine refuses one read too many, and one transaction too many.

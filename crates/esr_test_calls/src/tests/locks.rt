@@ -4,7 +4,7 @@
 
 ghost use Rattle.std.specs.Prelude.{◌≡◌, ◌<◌, length, map};
 ghost use Rattle.std.specs.List.{range_with_len};
-ghost use Rattle.esr_locks.specs.Tables.{no_locks, locks_that_fit};
+ghost use Rattle.esr_locks.specs.Tables.{no_locks, spare_lock_capacity};
 
 use esr_history::TxnId;
 use esr_items::ItemId;
@@ -25,7 +25,7 @@ fn table(rt: &impl Abort, alloc: Global) -> LockTable
 fn reserve_lock(rt: &impl Abort, locks: &mut LockTable, t: TxnId, x: ItemId)
     requires { x.0 < length locks.old.locks }
     ensures same { locks.new.locks ≡ locks.old.locks }
-    ensures capacity_left { 0 < locks_that_fit locks.new t.0 x.0 }
+    ensures spare_capacity { 0 < spare_lock_capacity locks.new t.0 x.0 }
 {
     locks.reserve(t, x).expect(rt, "memory")
 }

@@ -136,7 +136,7 @@ const OVER_QUERIES: [(OneItemEvent, Reply); 9] = [
 /// A definition that refused a write whose charge equals the rest of the limit would also be safe. Here a limit of 15
 /// suffices, and 14 does not.
 #[test]
-fn export_limit_over_queries(rt: HostRuntime) {
+fn export_limit_covers_all_queries(rt: HostRuntime) {
     check_run(&rt, rt.alloc(), 0, &OVER_QUERIES, 15);
 }
 
@@ -185,7 +185,7 @@ fn renew_with_retry(m: &mut Machine<Plain>, alloc: Global) -> Result<(), RenewEr
 
 /// A renewal that is always out of memory keeps its contract, and a full history would then stop the machine.
 #[test]
-fn renewed_over_committed_values(rt: HostRuntime) {
+fn renewal_starts_from_committed_values(rt: HostRuntime) {
     let mut machine = open_with_retry(&rt, rt.alloc(), 1);
     let m = &mut machine;
     run_events(

@@ -4,10 +4,10 @@ use Rattle.std.proofs.lemmas.Bool.{eqb-true}
 use Rattle.std.proofs.lemmas.List.Elements.{All-from_recursion, recursion_from_All}
 use Rattle.esr_items.specs.Values.{IsValue}
 use Rattle.esr_order.specs.Chains.{seen_links}
-use Rattle.esr_order.specs.Orders.{Ordered, chain_at}
+use Rattle.esr_order.specs.Orders.{ConflictOrder, chain_at}
 use Rattle.esr_cert.specs.Problem as spec
 use Rattle.esr_cert.specs.Views.{chain_of as chain_view}
-use Rattle.esr_audit.specs.Reads.{values_of, audit_chain, audit_chain_by, audit_chain_from, ItemRead}
+use Rattle.esr_audit.specs.Reads.{values_of, chain_of_item, audit_chain_by, audit_chain_from, ItemRead}
 use Rattle.esr_audit.proofs.Gathered.{list_is, values_bounded, values_in_range, none_read, some_read, chain_step, chain_skip}
 use Rattle.esr_audit.proofs.chains.chains_of.Goals as goal
 use Rattle.esr_audit.proofs.chains.chains_of.Goals.{then-not-is_empty+in_ok-chain_of+in_ok-push, else-not-is_empty}
@@ -33,7 +33,7 @@ loop-x-preserved g c =
     let d = g.M.Metric.distance_by h.weights in
     let reads = c.args.reads.now in
     let x : ℕ = c.loop-x.x in
-    let G : ℕ → spec.Chain = audit_chain d h.opening c.args.order.now reads in
+    let G : ℕ → spec.Chain = chain_of_item d h.opening c.args.order.now reads in
     let P : ℕ → Bool = λ y. list_any (λ (r : ItemRead). eqb r.item y) reads in
     let list = c.index-values.result.now in
     let inside : x < length c.in_ok-lists.lists.items = omega (arith, c.loop-x-test.true, c.items.ensures.items, c.items-x-end.ensures.items, c.in_ok-lists.ensures.count) in
@@ -49,16 +49,16 @@ loop-x-preserved g c =
           ∙ ap (λ o. audit_chain_from d h.opening o reads x) (taken.chain ∙ c.loop-x.invariant.left x (omega arith)) in record {
             chains = ap (λ v. map chain_view v.items) w.chains-is ∙ chain_step chain_view G P x c.loop-x.chains.items w.push.new.self.items w.in_ok-chain_of.field-0 c.loop-x.invariant.chains some w.in_ok-push.ensures.items is;
             left = λ y later. ap (λ o. chain_at o y) w.order-is ∙ taken.others y (λ e. omega arith) ∙ c.loop-x.invariant.left y (omega arith);
-            commits = ap (λ (o : Ordered). o.commits) w.order-is ∙ taken.commits ∙ c.loop-x.invariant.commits;
-            before = ap (λ (o : Ordered). o.before) w.order-is ∙ taken.before ∙ c.loop-x.invariant.before;
-            must = ap (λ (o : Ordered). o.must) w.order-is ∙ taken.must ∙ c.loop-x.invariant.must;
+            commits = ap (λ (o : ConflictOrder). o.commits) w.order-is ∙ taken.commits ∙ c.loop-x.invariant.commits;
+            before = ap (λ (o : ConflictOrder). o.before) w.order-is ∙ taken.before ∙ c.loop-x.invariant.before;
+            must = ap (λ (o : ConflictOrder). o.must) w.order-is ∙ taken.must ∙ c.loop-x.invariant.must;
           }
       | else-not-is_empty w ↦
           let none = none_read reads x (sym size ∙ eqb-true (vec_len list) 0 (sym c.is_empty.ensures ∙ w.if-not-is_empty.false)) in record {
             chains = ap (λ v. map chain_view v.items) w.chains-is ∙ chain_skip chain_view G P x c.loop-x.chains.items c.loop-x.invariant.chains none;
             left = λ y later. ap (λ o. chain_at o y) w.order-is ∙ c.loop-x.invariant.left y (omega arith);
-            commits = ap (λ (o : Ordered). o.commits) w.order-is ∙ c.loop-x.invariant.commits;
-            before = ap (λ (o : Ordered). o.before) w.order-is ∙ c.loop-x.invariant.before;
-            must = ap (λ (o : Ordered). o.must) w.order-is ∙ c.loop-x.invariant.must;
+            commits = ap (λ (o : ConflictOrder). o.commits) w.order-is ∙ c.loop-x.invariant.commits;
+            before = ap (λ (o : ConflictOrder). o.before) w.order-is ∙ c.loop-x.invariant.before;
+            must = ap (λ (o : ConflictOrder). o.must) w.order-is ∙ c.loop-x.invariant.must;
           }
     ]

@@ -1,31 +1,31 @@
 use Rattle.std.proofs.Common.{◌≡◌, map, ap, ◌∙◌, sym, subst}
 use Rattle.esr_base.specs.declared.numbers.TxnId.{TxnId}
 use Rattle.esr_order.specs.Relevant.{AreRelevant}
-use Rattle.esr_cert.specs.Problem.{is_sound}
+use Rattle.esr_cert.specs.Problem.{is_well_formed}
 use Rattle.esr_cert.specs.Views.{problem_of}
 use Rattle.esr_audit.specs.Problems.{IsProblemOf}
-use Rattle.esr_audit.proofs.ProblemOf.{problem_from, is_problem}
-use Rattle.esr_audit.proofs.BuiltProblem as built_problem_is
+use Rattle.esr_audit.proofs.ProblemOfOrder.{problem_of_order, is_problem}
+use Rattle.esr_audit.proofs.BuiltProblem as built_problem_equals_specified
 use Rattle.esr_audit.proofs.problem.problem_of.Given.{Over}
 use Rattle.esr_audit.proofs.problem.problem_of.Goals as goal
 
 pub chains_of-requires-clause-within_max : goal.chains_of-requires-clause-within_max
 chains_of-requires-clause-within_max g c =
-    built_problem_is.item_reads_bounded g.M.Metric.distance_by c.args.history.now.schedule c.args.q.0 c.log-legal.ensures.legal c.log-legal.ensures.range c.deref.result.now (c.deref.ensures.value ∙ c.in_ok-reads.ensures) c.requires.query
+    built_problem_equals_specified.item_reads_at_most_max g.M.Metric.distance_by c.args.history.now.schedule c.args.q.0 c.log-legal.ensures.legal c.log-legal.ensures.range c.deref.result.now (c.deref.ensures.value ∙ c.in_ok-reads.ensures) c.requires.query
 
 pub chains_of-requires-clause-reads : goal.chains_of-requires-clause-reads
 chains_of-requires-clause-reads g c =
-    built_problem_is.item_reads_in_range g.M.Metric.distance_by c.args.history.now.schedule c.args.q.0 c.log-legal.ensures.legal c.log-legal.ensures.range c.deref.result.now (c.deref.ensures.value ∙ c.in_ok-reads.ensures)
+    built_problem_equals_specified.item_reads_in_range g.M.Metric.distance_by c.args.history.now.schedule c.args.q.0 c.log-legal.ensures.legal c.log-legal.ensures.range c.deref.result.now (c.deref.ensures.value ∙ c.in_ok-reads.ensures)
 
 pub chains_of-requires-clause-versions : goal.chains_of-requires-clause-versions
 chains_of-requires-clause-versions g c =
-    built_problem_is.versions_in_range g.M.Metric.distance_by c.args.history.now.schedule c.args.q.0 c.log-legal.ensures.legal c.log-legal.ensures.range (map (λ (t : TxnId). t.0) c.args.order.commits) c.requires.relevant c.args.order c.requires.order
+    built_problem_equals_specified.versions_in_range g.M.Metric.distance_by c.args.history.now.schedule c.args.q.0 c.log-legal.ensures.legal c.log-legal.ensures.range (map (λ (t : TxnId). t.0) c.args.order.commits) c.requires.relevant c.args.order c.requires.order
 
 -- the parts of the problem are those gathered from the order
 problem_here : (g : Over) (c : goal.After-drop-reads-2 g) → problem_of c.into_parts-updates.result.0.items c.into_parts-updates.result.1.items c.in_ok-chains.chains.items c.into_parts-updates.result.2.items
-    ≡ problem_from g.M.Metric.distance_by c.args.history.now.schedule c.args.q.0 c.args.order
+    ≡ problem_of_order g.M.Metric.distance_by c.args.history.now.schedule c.args.q.0 c.args.order
 problem_here g c =
-    built_problem_is.built_problem_is g.M.Metric.distance_by c.args.history.now.schedule c.args.q.0 c.log-legal.ensures.legal c.log-legal.ensures.range (map (λ (t : TxnId). t.0) c.args.order.commits) c.requires.relevant c.args.order c.requires.order c.deref.result.now (c.deref.ensures.value ∙ c.in_ok-reads.ensures)
+    built_problem_equals_specified.built_problem_equals_specified g.M.Metric.distance_by c.args.history.now.schedule c.args.q.0 c.log-legal.ensures.legal c.log-legal.ensures.range (map (λ (t : TxnId). t.0) c.args.order.commits) c.requires.relevant c.args.order c.requires.order c.deref.result.now (c.deref.ensures.value ∙ c.in_ok-reads.ensures)
     _ _ _ _
     (c.into_parts-updates.ensures.commits ∙ c.in_ok-chains.ensures.commits)
     (c.into_parts-updates.ensures.before ∙ c.in_ok-chains.ensures.before)
@@ -34,13 +34,13 @@ problem_here g c =
 
 pub of_sound-requires : goal.of_sound-requires
 of_sound-requires g c = record {
-  sound = ap is_sound (built_problem_is.built_problem_is g.M.Metric.distance_by c.args.history.now.schedule c.args.q.0 c.log-legal.ensures.legal c.log-legal.ensures.range (map (λ (t : TxnId). t.0) c.args.order.commits) c.requires.relevant c.args.order c.requires.order c.deref.result.now (c.deref.ensures.value ∙ c.in_ok-reads.ensures)
+  sound = ap is_well_formed (built_problem_equals_specified.built_problem_equals_specified g.M.Metric.distance_by c.args.history.now.schedule c.args.q.0 c.log-legal.ensures.legal c.log-legal.ensures.range (map (λ (t : TxnId). t.0) c.args.order.commits) c.requires.relevant c.args.order c.requires.order c.deref.result.now (c.deref.ensures.value ∙ c.in_ok-reads.ensures)
       _ _ _ _
       (c.into_parts-updates.ensures.commits ∙ c.in_ok-chains.ensures.commits)
       (c.into_parts-updates.ensures.before ∙ c.in_ok-chains.ensures.before)
       (c.into_parts-updates.ensures.must ∙ c.in_ok-chains.ensures.must)
       c.in_ok-chains.ensures.chains)
-      ∙ built_problem_is.problem_sound g.M.Metric.distance_by c.args.history.now.schedule c.args.q.0 c.log-legal.ensures.legal c.log-legal.ensures.range (map (λ (t : TxnId). t.0) c.args.order.commits) c.requires.relevant c.args.order c.requires.order c.log-legal.ensures.items c.requires.query g.met.M.Metric.bounded;
+      ∙ built_problem_equals_specified.problem_is_well_formed g.M.Metric.distance_by c.args.history.now.schedule c.args.q.0 c.log-legal.ensures.legal c.log-legal.ensures.range (map (λ (t : TxnId). t.0) c.args.order.commits) c.requires.relevant c.args.order c.requires.order c.log-legal.ensures.items c.requires.query g.met.M.Metric.bounded;
 }
 
 pub returns-clause-is_problem : goal.returns-clause-is_problem

@@ -5,4 +5,4 @@ use Rattle.esr_bundle.proofs.fields.list.Given as goal
 
 abbrev pub invariant-loop-item : goal.invariant-loop-item
 invariant-loop-item g l =
-    option_map (λ rest. map g.T.FromJson.shown l.found.items ++ rest) (each g.T.FromJson.part_of (items_view (drop l.item-index l.item-items))) ≡ each g.T.FromJson.part_of (items_view l.item-items)
+    option_map (λ rest. map g.T.FromJson.model_of l.found.items ++ rest) (each g.T.FromJson.decoded (items_view (drop l.item-index l.item-items))) ≡ each g.T.FromJson.decoded (items_view l.item-items)

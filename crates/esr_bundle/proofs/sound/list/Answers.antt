@@ -7,7 +7,7 @@ use Rattle.esr_bundle.proofs.Exits.{passes, no_at, take_map_more, all_push}
 use Rattle.esr_bundle.proofs.sound.list.Goals as goal
 
 pub loop-draft-init : goal.loop-draft-init
-loop-draft-init g c = record { made = ap (map g.T.Fitted.shown) c.in_ok-found.ensures.items; fits = refl }
+loop-draft-init g c = record { made = ap (map g.T.Fitted.model_of) c.in_ok-found.ensures.items; fits = refl }
 
 pub returns-clause-ok : goal.returns-clause-ok
 returns-clause-ok g c = c.loop-draft.invariant.made ∙ take_all c.loop-draft.draft-index (map g.T.Fitted.drafted c.args.drafts.now) (rw length-map (omega arith))
@@ -31,8 +31,8 @@ loop-draft-preserved g c =
     let next : take (i + 1) (map f drafts) ≡ take i (map f drafts) ++ f c.draft-item.result ∷ [] = take_map_more f drafts i c.draft-item.result (omega arith) c.draft-item.is in
     record {
       made = rw more (
-          map_push g.T.Fitted.shown c.loop-draft.found.items c.in_ok-one.one
-          ∙ ap (λ ks. ks ++ g.T.Fitted.shown c.in_ok-one.one ∷ []) c.loop-draft.invariant.made
+          map_push g.T.Fitted.model_of c.loop-draft.found.items c.in_ok-one.one
+          ∙ ap (λ ks. ks ++ g.T.Fitted.model_of c.in_ok-one.one ∷ []) c.loop-draft.invariant.made
           ∙ ap (λ k. take i (map f drafts) ++ k ∷ []) c.in_ok-one.ensures.ok
           ∙ sym next);
       fits = ap (list_all g.T.Fitted.is_fit) next ∙ all_push g.T.Fitted.is_fit (take i (map f drafts)) (f c.draft-item.result) c.loop-draft.invariant.fits (c.in_ok-one.ensures.fits refl);

@@ -5,6 +5,6 @@ use Rattle.esr_bundle.proofs.sound.list.Given as goal
 -- the drafts so far
 abbrev pub invariant-loop-draft : goal.invariant-loop-draft
 invariant-loop-draft g l = record {
-  made : map g.T.Fitted.shown l.found.items ≡ take l.draft-index (map g.T.Fitted.drafted l.drafts);
+  made : map g.T.Fitted.model_of l.found.items ≡ take l.draft-index (map g.T.Fitted.drafted l.drafts);
   fits : list_all g.T.Fitted.is_fit (take l.draft-index (map g.T.Fitted.drafted l.drafts)) ≡ true;
 }

@@ -1,5 +1,5 @@
 use Rattle.std.proofs.Common.{◌∙◌, ◌<◌, ℕ, ap, length, subst, sym}
-use Rattle.esr_c.specs.Dumps.{IsLedgerOf}
+use Rattle.esr_c.specs.HistoryTexts.{IsLedgerOf}
 use Rattle.esr_c.proofs.past.show_ledger.Goals as goal
 
 pub returns-in-Ok-clause-ledger : goal.returns-in-Ok-clause-ledger

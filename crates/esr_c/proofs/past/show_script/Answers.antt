@@ -1,5 +1,5 @@
 use Rattle.std.proofs.Common.{◌∙◌, ◌<◌, ℕ, ap, length, subst, sym}
-use Rattle.esr_c.specs.Dumps.{IsScriptOf}
+use Rattle.esr_c.specs.HistoryTexts.{IsScriptOf}
 use Rattle.esr_c.proofs.past.show_script.Goals as goal
 
 pub returns-in-Ok-clause-script : goal.returns-in-Ok-clause-script

@@ -1,5 +1,5 @@
 use Rattle.std.proofs.Common.{◌∙◌, ◌<◌, ℕ, ap, length, subst, sym}
-use Rattle.esr_c.specs.Dumps.{IsExplanationOf}
+use Rattle.esr_c.specs.HistoryTexts.{IsExplanationOf}
 use Rattle.esr_c.proofs.texts.show_explanation.Goals as goal
 
 pub returns-in-Ok-clause-explanation : goal.returns-in-Ok-clause-explanation

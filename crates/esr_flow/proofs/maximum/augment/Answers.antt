@@ -3,7 +3,7 @@ use Rattle.esr_cert.specs.Network.{Network}
 use Rattle.esr_cert.specs.Flow.{worth}
 use Rattle.esr_flow.specs.Residual.{bottleneck, raise}
 use Rattle.esr_flow.specs.Augmentation.{Augments}
-use Rattle.esr_flow.specs.Graph.{arcs_of, net_of}
+use Rattle.esr_flow.specs.Graph.{arcs_of, network_of}
 use Rattle.esr_flow.proofs.FlowLaws.{After, augmented}
 use Rattle.esr_flow.proofs.MaximumLaws.{path_in_arcs, raise_fits, augments}
 use Rattle.esr_flow.proofs.maximum.augment.Goals as goal
@@ -19,11 +19,11 @@ raise_along-requires-clause-in_arcs c =
 pub raise_along-requires-clause-fits : goal.raise_along-requires-clause-fits
 raise_along-requires-clause-fits c =
     let least : bottleneck (arcs_of c.args.graph.now) c.args.flow.now c.args.path.now ≡ Some c.in-Some.amount = cc (c.in-Some.is, c.bottleneck_of.ensures) in
-    raise_fits (net_of c.args.graph.now) c.args.graph.now.kept.is_network c.args.flow.now c.args.path.now c.in-Some.amount c.requires.flow c.requires.amounts c.requires.small c.requires.path least
+    raise_fits (network_of c.args.graph.now) c.args.graph.now.kept.is_network c.args.flow.now c.args.path.now c.in-Some.amount c.requires.flow c.requires.amounts c.requires.small c.requires.path least
 
 pub returns-clause-worth : goal.returns-clause-worth
 returns-clause-worth c =
-    let net : Network = net_of c.args.graph.now in
+    let net : Network = network_of c.args.graph.now in
     let least : bottleneck (arcs_of c.args.graph.now) c.args.flow.now c.args.path.now ≡ Some c.in-Some.amount = cc (c.in-Some.is, c.bottleneck_of.ensures) in
     let a : Augments net c.args.flow.now (raise c.args.flow.now c.in-Some.amount c.args.path.now) = augments net c.args.flow.now c.args.path.now c.in-Some.amount c.requires.path least in
     let after : After net c.args.flow.now (raise c.args.flow.now c.in-Some.amount c.args.path.now) c.in-Some.amount = augmented net c.args.graph.now.kept.is_network c.args.flow.now (raise c.args.flow.now c.in-Some.amount c.args.path.now) c.requires.flow a in

@@ -6,7 +6,7 @@ use Rattle.esr_cert.specs.Network.{Network}
 use Rattle.esr_flow.specs.ShortEntry.{AdjacencyEntry}
 use Rattle.esr_flow.specs.Residual.{residual_capacity, finish}
 use Rattle.esr_cert.specs.Steps.{arc_of, start, opposite, step_at}
-use Rattle.esr_flow.specs.Graph.{arcs_of, net_of, Lists, IsEntry, entry_at}
+use Rattle.esr_flow.specs.Graph.{arcs_of, network_of, Lists, IsEntry, entry_at}
 use Rattle.esr_cert.specs.Rows.{span_at}
 use Rattle.esr_flow.specs.Search.{label_at, IsGuided}
 use Rattle.esr_flow.proofs.EntriesLaws.{lists_read}
@@ -33,7 +33,7 @@ loop-at-smaller-then-i-row c =
 
 pub loop-at-preserved-then-i-row : goal.loop-at-preserved-then-i-row
 loop-at-preserved-then-i-row c =
-    let net : Network = net_of c.args.graph.now in
+    let net : Network = network_of c.args.graph.now in
     let arcs : List Arc = arcs_of c.args.graph.now in
     let flow : List ℕ = c.args.flow.now in
     let labels : List ℕ = c.args.labels.now in
@@ -57,8 +57,8 @@ loop-at-preserved-then-i-row c =
 
 pub finish_of-at-requires : goal.finish_of-at-requires
 finish_of-at-requires c =
-    let w : Walk (net_of c.args.graph.now) c.args.flow.now c.args.labels.now (c.pop.new.self.items ++ c.in-Some.step ∷ []) c.loop-at.at = subst (λ p. Walk (net_of c.args.graph.now) c.args.flow.now c.args.labels.now p c.loop-at.at) c.in-Some.ensures.items c.loop-at.invariant.0 in
-    popped_in (net_of c.args.graph.now) c.args.graph.now.kept.is_network c.args.flow.now c.args.labels.now c.pop.new.self.items c.loop-at.at c.in-Some.step w
+    let w : Walk (network_of c.args.graph.now) c.args.flow.now c.args.labels.now (c.pop.new.self.items ++ c.in-Some.step ∷ []) c.loop-at.at = subst (λ p. Walk (network_of c.args.graph.now) c.args.flow.now c.args.labels.now p c.loop-at.at) c.in-Some.ensures.items c.loop-at.invariant.0 in
+    popped_in (network_of c.args.graph.now) c.args.graph.now.kept.is_network c.args.flow.now c.args.labels.now c.pop.new.self.items c.loop-at.at c.in-Some.step w
 
 pub loop-at-smaller : goal.loop-at-smaller
 loop-at-smaller c =
@@ -68,14 +68,14 @@ loop-at-smaller c =
 
 pub loop-at-preserved : goal.loop-at-preserved
 loop-at-preserved c =
-    let w : Walk (net_of c.args.graph.now) c.args.flow.now c.args.labels.now (c.pop.new.self.items ++ c.in-Some.step ∷ []) c.loop-at.at = subst (λ p. Walk (net_of c.args.graph.now) c.args.flow.now c.args.labels.now p c.loop-at.at) c.in-Some.ensures.items c.loop-at.invariant.0 in
+    let w : Walk (network_of c.args.graph.now) c.args.flow.now c.args.labels.now (c.pop.new.self.items ++ c.in-Some.step ∷ []) c.loop-at.at = subst (λ p. Walk (network_of c.args.graph.now) c.args.flow.now c.args.labels.now p c.loop-at.at) c.in-Some.ensures.items c.loop-at.invariant.0 in
     let finish_is : c.finish_of-at.result ≡ finish (arcs_of c.args.graph.now) c.in-Some.step = c.finish_of-at.ensures in (
-      subst (λ n. Walk (net_of c.args.graph.now) c.args.flow.now c.args.labels.now c.pop.new.self.items n) (sym finish_is)
-          (walk_pop (net_of c.args.graph.now) c.args.graph.now.kept.is_network c.args.flow.now c.args.labels.now c.pop.new.self.items c.loop-at.at c.in-Some.step c.requires.guides w),
+      subst (λ n. Walk (network_of c.args.graph.now) c.args.flow.now c.args.labels.now c.pop.new.self.items n) (sym finish_is)
+          (walk_pop (network_of c.args.graph.now) c.args.graph.now.kept.is_network c.args.flow.now c.args.labels.now c.pop.new.self.items c.loop-at.at c.in-Some.step c.requires.guides w),
       length-set c.loop-at.next c.loop-at.at c.next_back-i.result ∙ c.loop-at.invariant.1,
     )
 
 pub returns : goal.returns
 returns c =
-    subst (IsGuided (net_of c.args.graph.now) c.args.flow.now c.args.labels.now) (sym c.reverse.ensures.items)
-    (walk_end (net_of c.args.graph.now) c.args.graph.now.kept.is_network c.args.flow.now c.args.labels.now c.loop-at.path.items c.loop-at.at c.requires.guides c.loop-at-test.false c.loop-at.invariant.0)
+    subst (IsGuided (network_of c.args.graph.now) c.args.flow.now c.args.labels.now) (sym c.reverse.ensures.items)
+    (walk_end (network_of c.args.graph.now) c.args.graph.now.kept.is_network c.args.flow.now c.args.labels.now c.loop-at.path.items c.loop-at.at c.requires.guides c.loop-at-test.false c.loop-at.invariant.0)

@@ -1,6 +1,6 @@
 use Rattle.std.proofs.Common.{arith, ◌≡◌, ℕ, ◌-◌, ◌<◌, ◌≤◌, false, length, inl, inr, sym, ◌∙◌, subst}
 use Rattle.std.proofs.lemmas.Bool.{cases_lt}
-use Rattle.esr_flow.specs.Graph.{arcs_of, net_of}
+use Rattle.esr_flow.specs.Graph.{arcs_of, network_of}
 use Rattle.esr_flow.specs.Reached.{AreReached, IsKeptOver}
 use Rattle.esr_flow.proofs.PassLaws.{pair_kept_by}
 use Rattle.esr_flow.proofs.reach.pass_back.Goals as goal
@@ -17,13 +17,13 @@ loop-i-preserved c =
     elim c.else-not-is_pair_alike.branch [
       | else-not-is_pair_alike-via-then-not-is_pair_alike+else-spread w ↦
           let same : after ≡ marks = w.marks-is ∙ w.spread.ensures.marks w.if-spread.false in record {
-            reached = subst (AreReached (net_of c.args.graph.now) flow) (sym same) c.loop-i.invariant.reached;
+            reached = subst (AreReached (network_of c.args.graph.now) flow) (sym same) c.loop-i.invariant.reached;
             same = λ quiet. same ∙ c.loop-i.invariant.same quiet;
             kept = kept same (w.spread.ensures.kept w.if-spread.false);
           }
       | else-not-is_pair_alike-via-else-not-is_pair_alike w ↦
           let same : after ≡ marks = w.marks-is in record {
-            reached = subst (AreReached (net_of c.args.graph.now) flow) (sym same) c.loop-i.invariant.reached;
+            reached = subst (AreReached (network_of c.args.graph.now) flow) (sym same) c.loop-i.invariant.reached;
             same = λ quiet. same ∙ c.loop-i.invariant.same quiet;
             kept = kept same (pair_kept_by c.args.graph.now.problem.now c.before-pairs.ensures.sound flow marks c.before-pairs.result.now c.before-pairs.ensures.list c.args.first c.requires.first at (omega (arith, c.loop-i-test.true)) (c.is_pair_alike.ensures.place w.if-not-is_pair_alike.false) (c.is_pair_alike.ensures.ends w.if-not-is_pair_alike.false));
           }

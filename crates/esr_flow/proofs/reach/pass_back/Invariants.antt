@@ -1,11 +1,11 @@
 use Rattle.std.proofs.Common.{◌≡◌, ℕ, ◌<◌, ◌≤◌, false, length}
-use Rattle.esr_flow.specs.Graph.{arcs_of, net_of}
+use Rattle.esr_flow.specs.Graph.{arcs_of, network_of}
 use Rattle.esr_flow.specs.Reached.{AreReached, IsKeptOver}
 use Rattle.esr_flow.proofs.reach.pass_back.Given as goal
 
 abbrev pub invariant-loop-i : goal.invariant-loop-i
 invariant-loop-i l = record {
-  reached : AreReached (net_of l.graph) l.flow l.marks;
+  reached : AreReached (network_of l.graph) l.flow l.marks;
   same : l.more ≡ false → l.marks ≡ l.fn.marks;
   kept : l.more ≡ false → (k : ℕ) → l.i ≤ k → k < length (arcs_of l.graph) → IsKeptOver (arcs_of l.graph) l.flow l.marks k;
 }

@@ -1,6 +1,6 @@
 use Rattle.std.proofs.Common.{arith, ◌≡◌, ℕ, ◌+◌, ◌<◌, true, false, inl, inr, sym, ◌∙◌, subst, true≢false}
 use Rattle.std.proofs.lemmas.Bool.{cases_lt}
-use Rattle.esr_flow.specs.Graph.{arcs_of, net_of}
+use Rattle.esr_flow.specs.Graph.{arcs_of, network_of}
 use Rattle.esr_flow.specs.Reached.{AreReached, IsKeptOver}
 use Rattle.esr_flow.proofs.PassLaws.{link_kept}
 use Rattle.esr_flow.proofs.reach.pass_chain.Goals as goal
@@ -16,20 +16,20 @@ loop-j-preserved c =
     ]) in
     elim c.if-not-is_link_alike.branch [
       | then-not-is_link_alike+then-spread w ↦ record {
-        reached = subst (AreReached (net_of c.args.graph.now) flow) (sym w.marks-is) w.spread.ensures.reached;
+        reached = subst (AreReached (network_of c.args.graph.now) flow) (sym w.marks-is) w.spread.ensures.reached;
         same = λ quiet. absurd (true≢false (sym w.more-is ∙ quiet));
         kept = λ quiet. absurd (true≢false (sym w.more-is ∙ quiet));
       }
       | else-not-is_link_alike w ↦ elim w.else-not-is_link_alike.branch [
         | else-not-is_link_alike-via-then-not-is_link_alike+else-spread v ↦
             let same : after ≡ marks = w.marks-is ∙ (v.marks-is ∙ v.spread.ensures.marks v.if-spread.false) in record {
-              reached = subst (AreReached (net_of c.args.graph.now) flow) (sym same) c.loop-j.invariant.reached;
+              reached = subst (AreReached (network_of c.args.graph.now) flow) (sym same) c.loop-j.invariant.reached;
               same = λ quiet. same ∙ c.loop-j.invariant.same (sym w.more-is ∙ quiet);
               kept = kept same w.more-is (v.spread.ensures.kept v.if-spread.false);
             }
         | else-not-is_link_alike-via-else-not-is_link_alike v ↦
             let same : after ≡ marks = w.marks-is ∙ v.marks-is in let alike : c.is_link_alike.result ≡ true = v.if-not-is_link_alike.false in let there = c.is_link_alike.ensures.place alike in record {
-              reached = subst (AreReached (net_of c.args.graph.now) flow) (sym same) c.loop-j.invariant.reached;
+              reached = subst (AreReached (network_of c.args.graph.now) flow) (sym same) c.loop-j.invariant.reached;
               same = λ quiet. same ∙ c.loop-j.invariant.same (sym w.more-is ∙ quiet);
               kept = kept same w.more-is (link_kept arcs flow marks c.args.chain.now begin c.requires.chain c.loop-j.j there.0 there.1 (c.is_link_alike.ensures.ends alike));
             }

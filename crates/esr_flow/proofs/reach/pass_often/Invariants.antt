@@ -1,6 +1,6 @@
-use Rattle.esr_flow.specs.Graph.{net_of}
+use Rattle.esr_flow.specs.Graph.{network_of}
 use Rattle.esr_flow.specs.Reached.{AreReached}
 use Rattle.esr_flow.proofs.reach.pass_often.Given as goal
 
 abbrev pub invariant-loop : goal.invariant-loop
-invariant-loop l = AreReached (net_of l.graph) l.flow l.marks
+invariant-loop l = AreReached (network_of l.graph) l.flow l.marks

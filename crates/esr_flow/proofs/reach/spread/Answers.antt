@@ -2,7 +2,7 @@ use Rattle.std.proofs.Common.{◌≡◌, ◌∙◌, true, set, sym, ap, subst}
 use Rattle.esr_cert.specs.Network.{arc_at}
 use Rattle.esr_cert.specs.Flow.{within, amount_at}
 use Rattle.esr_flow.specs.Types.{Arc, Forward, Backward}
-use Rattle.esr_flow.specs.Graph.{arcs_of, net_of}
+use Rattle.esr_flow.specs.Graph.{arcs_of, network_of}
 use Rattle.esr_flow.specs.Residual.{left_of}
 use Rattle.esr_flow.specs.Reached.{AreReached}
 use Rattle.esr_flow.specs.Search.{is_marked}
@@ -11,7 +11,7 @@ use Rattle.esr_flow.proofs.reach.spread.Goals as goal
 
 pub returns-then-ahead-clause-reached : goal.returns-then-ahead-clause-reached
 returns-then-ahead-clause-reached c =
-    let net = net_of c.args.graph.now in let flow = c.args.flow.now in let marks = c.args.marks.now in let i = c.args.i in
+    let net = network_of c.args.graph.now in let flow = c.args.flow.now in let marks = c.args.marks.now in let i = c.args.i in
     let is : c.arc-arc.result ≡ arc_at (arcs_of c.args.graph.now) i = c.arc-arc.ensures in
     let is_open : within 1 (left_of (arc_at (arcs_of c.args.graph.now) i).capacity (amount_at flow i)) ≡ true =
     ap (λ (a : Arc). within 1 (left_of a.capacity (amount_at flow i))) (sym is) ∙ (sym c.have_capacity-ahead.ensures.ahead ∙ c.if-ahead.true) in
@@ -20,7 +20,7 @@ returns-then-ahead-clause-reached c =
 
 pub returns-then-back-clause-reached : goal.returns-then-back-clause-reached
 returns-then-back-clause-reached c =
-    let net = net_of c.args.graph.now in let flow = c.args.flow.now in let marks = c.args.marks.now in let i = c.args.i in
+    let net = network_of c.args.graph.now in let flow = c.args.flow.now in let marks = c.args.marks.now in let i = c.args.i in
     let is : c.arc-arc.result ≡ arc_at (arcs_of c.args.graph.now) i = c.arc-arc.ensures in
     let to : is_marked marks (arc_at (arcs_of c.args.graph.now) i).to ≡ true = ap (λ (a : Arc). is_marked marks a.to) (sym is) ∙ c.if-marks-to.true in
     subst (λ (a : Arc). AreReached net flow (set marks a.from true)) (sym is) (reached_more net c.args.graph.now.kept.is_network flow marks (Backward i) c.requires.reached (c.requires.arc, sym c.have_capacity-ahead.ensures.back ∙ c.if-back.true) to)

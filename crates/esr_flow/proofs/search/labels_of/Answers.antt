@@ -1,6 +1,6 @@
 use Rattle.std.proofs.Common.{arith, ◌≡◌, ℕ, ◌+◌, ◌-◌, ◌<◌, max, length, set, sym, ◌∙◌, subst}
 use Rattle.std.proofs.lemmas.List.{get_or_default}
-use Rattle.esr_flow.specs.Graph.{net_of}
+use Rattle.esr_flow.specs.Graph.{network_of}
 use Rattle.esr_flow.specs.Search.{visit_at, label_at, Visit}
 use Rattle.esr_flow.proofs.LabelLaws.{Labelled, label_more, labels_guide}
 use Rattle.esr_flow.proofs.search.labels_of.Goals as goal
@@ -25,4 +25,4 @@ loop-visit-preserved c =
 
 pub returns-clause-guides : goal.returns-clause-guides
 returns-clause-guides c =
-    labels_guide (net_of c.args.graph.now) c.args._flow.now c.args.visits.now c.requires c.loop-visit.labels.items c.loop-visit.visit-index (omega arith) c.loop-visit.invariant
+    labels_guide (network_of c.args.graph.now) c.args._flow.now c.args.visits.now c.requires c.loop-visit.labels.items c.loop-visit.visit-index (omega arith) c.loop-visit.invariant

@@ -1,7 +1,7 @@
 use Rattle.std.proofs.Common.{arith, ◌≡◌, ℕ, false, subst, ◌∙◌, ap}
 use Rattle.esr_flow.specs.Types.{Forward}
 use Rattle.std.proofs.lemmas.List.{get_or_default}
-use Rattle.esr_flow.specs.Graph.{net_of, Graph}
+use Rattle.esr_flow.specs.Graph.{network_of, Graph}
 use Rattle.esr_cert.specs.Rows.{row_in, span_at}
 use Rattle.esr_flow.specs.Search.{visit_at, Searched, AfterScan}
 use Rattle.esr_flow.proofs.EntriesLaws.{lists_read}
@@ -14,7 +14,7 @@ loop-head-init c = (c.requires.begun, c.requires.sink, omega arith)
 pub scan-requires-clause-row : goal.scan-requires-clause-row
 scan-requires-clause-row c =
     let g : Graph = c.args.graph.now in
-    let h : Searched (net_of g) c.args.flow.now c.loop-head.visits.items c.loop-head.marks.items c.loop-head.head = c.loop-head.invariant.0 in
+    let h : Searched (network_of g) c.args.flow.now c.loop-head.visits.items c.loop-head.marks.items c.loop-head.head = c.loop-head.invariant.0 in
     let v : ℕ = (visit_at c.loop-head.visits.items c.loop-head.head).node in
     let first : c.index.result.now.node ≡ v =
     ap (λ x. x.node) (c.index.ensures ∙ get_or_default c.loop-head.visits.items c.loop-head.head c.index.result.now (record { node = 0; level = 0; step = Forward 0; parent = 0 }) (omega arith)) in
@@ -24,11 +24,11 @@ scan-requires-clause-row c =
 
 pub loop-head-preserved : goal.loop-head-preserved
 loop-head-preserved c =
-    let after : AfterScan (net_of c.args.graph.now) c.args.flow.now c.scan.new.visits.items c.scan.new.marks.items c.loop-head.head false =
-    subst (λ b. AfterScan (net_of c.args.graph.now) c.args.flow.now c.scan.new.visits.items c.scan.new.marks.items c.loop-head.head b) c.if-branch.false c.in_ok-scan.ensures in
+    let after : AfterScan (network_of c.args.graph.now) c.args.flow.now c.scan.new.visits.items c.scan.new.marks.items c.loop-head.head false =
+    subst (λ b. AfterScan (network_of c.args.graph.now) c.args.flow.now c.scan.new.visits.items c.scan.new.marks.items c.loop-head.head b) c.if-branch.false c.in_ok-scan.ensures in
     (after.0, after.1, omega (arith, after.2))
 
 pub returns : goal.returns
 returns c =
-    let h : Searched (net_of c.args.graph.now) c.args.flow.now c.loop-head.visits.items c.loop-head.marks.items c.loop-head.head = c.loop-head.invariant.0 in
-    (all_reached (net_of c.args.graph.now) c.args.flow.now c.loop-head.visits.items c.loop-head.marks.items c.loop-head.head h (omega arith), c.loop-head.invariant.1, h.marks_length)
+    let h : Searched (network_of c.args.graph.now) c.args.flow.now c.loop-head.visits.items c.loop-head.marks.items c.loop-head.head = c.loop-head.invariant.0 in
+    (all_reached (network_of c.args.graph.now) c.args.flow.now c.loop-head.visits.items c.loop-head.marks.items c.loop-head.head h (omega arith), c.loop-head.invariant.1, h.marks_length)

@@ -22,8 +22,8 @@ overflow_sub-chains_end c =
     let p = c.args.problem.now in
     omega (arith, flow_length p (facts p c.must-musts.ensures.sound) c.args.maximum.flow.items c.requires.flow, ap length c.must-musts.ensures.list, ap length c.before-backs.ensures.list)
 
-pub members-requires-clause-capacity_left : goal.members-requires-clause-capacity_left
-members-requires-clause-capacity_left c = omega (arith, c.requires.marks, length-map c.updates.result.now (λ t. t.0), ap length c.updates.ensures.list, ap length c.deref.ensures.value)
+pub members-requires-clause-spare_capacity : goal.members-requires-clause-spare_capacity
+members-requires-clause-spare_capacity c = omega (arith, c.requires.marks, length-map c.updates.result.now (λ t. t.0), ap length c.updates.ensures.list, ap length c.deref.ensures.value)
 
 pub members-requires-clause-within_max : goal.members-requires-clause-within_max
 members-requires-clause-within_max c = omega (arith, c.updates.ensures.within_max, length-map c.updates.result.now (λ t. t.0), ap length c.updates.ensures.list)

@@ -16,10 +16,10 @@ returns-clause-imports c = λ d h legal is due are.
     (c.add_charges.ensures.len ∙ ap length updated) (rw (← updated) c.add_charges.ensures.sums) in
     subst (AreImports d (extended h c.args.entry.event c.args.entry.reply)) (sym (whole_slice opened.len summed opened.items same opened.ok.0)) made
 
-pub returns-clause-capacity_left : goal.returns-clause-capacity_left
-returns-clause-capacity_left c = λ k fits.
+pub returns-clause-spare_capacity : goal.returns-clause-spare_capacity
+returns-clause-spare_capacity c = λ k fits.
     let opened = c.open.new.imports in
     let summed = c.add_charges.new.imports in
     let same : length summed ≡ length opened.items = c.add_charges.ensures.len ∙ ap length c.deref_mut.ensures.value in
     let whole = ap length (whole_slice opened.len summed opened.items same opened.ok.0) in
-    omega (arith, whole, same, c.open.ensures.capacity_left k fits)
+    omega (arith, whole, same, c.open.ensures.spare_capacity k fits)

@@ -1,10 +1,10 @@
 use Rattle.std.proofs.Common.{◌≡◌, ℕ, ◌+◌, ◌-◌, vec_len, length, ◌≤◌}
-use Rattle.esr_locks.specs.Rows.{held_at}
+use Rattle.esr_locks.specs.Rows.{items_locked_by}
 use Rattle.esr_locks.proofs.table.grow_lists.Given as goal
 
 abbrev pub invariant-loop-alloc : goal.invariant-loop-alloc
 invariant-loop-alloc l = record {
-  items : (u : ℕ) → (held_at l.held.items u).items ≡ (held_at l.initial.held.items u).items;
+  items : (u : ℕ) → (items_locked_by l.held.items u).items ≡ (items_locked_by l.initial.held.items u).items;
   longer : length l.initial.held.items ≤ length l.held.items;
 }
 

@@ -1,4 +1,4 @@
-use Rattle.esr_order.proofs.Ordered.{law_of_placements}
+use Rattle.esr_order.proofs.ConflictOrder.{law_of_placements}
 use Rattle.esr_order.proofs.laws.parts_are_closed_sets.Goals as goal
 
 pub returns : goal.returns

@@ -3,7 +3,7 @@ use Rattle.esr_core.specs.Types.{Reply, Committed, Aborted}
 use Rattle.esr_history.specs.Events.{is_active}
 use Rattle.esr_history.specs.Machine.{Distance, Schedule, accepted_in, refusal, first_reason, not_begun, ended, acceptance, extended, reply_to}
 use Rattle.esr_history.proofs.Allowed.{none_applies, end_allowed}
-use Rattle.esr_history.proofs.Lawful.{not_ended, follows}
+use Rattle.esr_history.proofs.LegalWellFormed.{not_ended, follows}
 use Rattle.esr_core.specs.declared.state.State.{State}
 use Rattle.esr_core.specs.States.{IsStateOf, end_event, keeps}
 use Rattle.esr_core.proofs.Answered.{accepted_state}

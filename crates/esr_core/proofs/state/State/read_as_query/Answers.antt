@@ -3,7 +3,7 @@ use Rattle.esr_items.specs.Values.{versions_at}
 use Rattle.esr_core.specs.Types.{TxnId, Read}
 use Rattle.esr_history.specs.Events.{is_active, total_read_count}
 use Rattle.esr_history.specs.Machine.{accepted_in}
-use Rattle.esr_history.proofs.Lawful.{follows}
+use Rattle.esr_history.proofs.LegalWellFormed.{follows}
 use Rattle.esr_locks.specs.Tables.{locks_at}
 use Rattle.esr_core.specs.States.{read_charge, charged_once}
 use Rattle.esr_core.proofs.Accepted.{read_active, read_bounded, read_fits, bounded_here, read_books}

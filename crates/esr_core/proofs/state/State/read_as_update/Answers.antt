@@ -2,8 +2,8 @@ use Rattle.std.proofs.Common.{◌≡◌, ◌<◌, length, true}
 use Rattle.esr_core.specs.Types.{Read}
 use Rattle.esr_history.specs.Events.{is_active, is_update}
 use Rattle.esr_history.specs.Machine.{accepted_in}
-use Rattle.esr_history.proofs.Orderly.{active_parts}
-use Rattle.esr_history.proofs.Lawful.{follows, update_from}
+use Rattle.esr_history.proofs.WellFormed.{active_parts}
+use Rattle.esr_history.proofs.LegalWellFormed.{follows, update_from}
 use Rattle.esr_core.proofs.Accepted.{read_active}
 use Rattle.esr_core.proofs.Representing.{represents-read}
 use Rattle.esr_core.proofs.state.State.read_as_update.Goals as goal

@@ -5,7 +5,7 @@ use Rattle.esr_history.specs.declared.event.Event.{Event}
 use Rattle.esr_history.specs.declared.event.Event.TheVariants.{Read}
 use Rattle.esr_history.specs.declared.event.Reply.TheVariants.{Wrote}
 use Rattle.esr_history.specs.Machine.{IsLegal, Schedule, extended, reply_to}
-use Rattle.esr_history.proofs.Lawful.{legal_orderly}
+use Rattle.esr_history.proofs.LegalWellFormed.{legal_orderly}
 use Rattle.esr_engine.specs.ForUpdate.{lock_event, no_pair}
 use Rattle.esr_engine.specs.Capacity.{is_full, taken}
 use Rattle.esr_engine.proofs.Active.{pair_capacity}

@@ -11,8 +11,8 @@ returns-then-is_refused-clause-links c = λ n es are fit num.
     (c.link.ensures.of_txn ∙ ap (λ k. l.of_txn.items ++ k ∷ []) c.last-on_item.ensures.txn)
     c.link.ensures.items c.link.ensures.txns c.link.ensures.ends c.link.ensures.begins
 
-pub returns-then-is_refused-clause-capacity_left : goal.returns-then-is_refused-clause-capacity_left
-returns-then-is_refused-clause-capacity_left c = λ k fits.
+pub returns-then-is_refused-clause-spare_capacity : goal.returns-then-is_refused-clause-spare_capacity
+returns-then-is_refused-clause-spare_capacity c = λ k fits.
     let l = c.args.self.now in
     let linked = c.link.ensures in
     let on_item : length c.link.new.self.on_item.items ≡ length l.on_item.items + 1 =
@@ -44,8 +44,8 @@ returns-clause-links c = λ n es are fit num.
     (ap (λ v. v.items) linked.items ∙ noted.items) (ap (λ v. v.items) linked.txns ∙ noted.txns)
     (ap (λ v. v.items) linked.ends ∙ noted.ends) (ap (λ v. v.items) linked.begins ∙ noted.begins)
 
-pub returns-clause-capacity_left : goal.returns-clause-capacity_left
-returns-clause-capacity_left c = λ k fits.
+pub returns-clause-spare_capacity : goal.returns-clause-spare_capacity
+returns-clause-spare_capacity c = λ k fits.
     let l = c.args.self.now in
     let noted = c.note-on_item.ensures in
     let linked = c.link-2.ensures in
@@ -55,7 +55,7 @@ returns-clause-capacity_left c = λ k fits.
     ap length linked.of_txn ∙ (length-append c.note-on_item.new.self.of_txn.items (c.note-on_item.result.1 ∷ []) ∙ ap (λ v. length v.items + 1) noted.of_txn) in
     let on_items = linked.item_capacity ∙ ap vec_capacity noted.on_item in
     let of_txns = linked.txn_capacity ∙ ap vec_capacity noted.of_txn in
-    let begins = noted.capacity_left k fits.3 in (
+    let begins = noted.spare_capacity k fits.3 in (
       omega (arith, on_item, fits.0),
       omega (arith, on_item, on_items, fits.1),
       omega (arith, of_txn, of_txns, fits.2),

@@ -3,7 +3,7 @@ use Rattle.std.proofs.lemmas.Bool.{not-false}
 use Rattle.std.proofs.lemmas.List.{length-map}
 use Rattle.esr_history.specs.ItemLocks.{ItemLocks}
 use Rattle.esr_locks.specs.Rows.{RowOf, LockedItemsOf, with_lock, has_lock_in_mode}
-use Rattle.esr_locks.specs.Tables.{Table, locks_that_fit, locks_at, has_lock}
+use Rattle.esr_locks.specs.Tables.{Table, spare_lock_capacity, locks_at, has_lock}
 use Rattle.esr_locks.proofs.Tables.{set_row, IsLockTable-push, IsLockTable-already_locked, has_list, read_list, lock_more, such_has}
 use Rattle.esr_locks.proofs.table.LockTable.add.Goals as goal
 use Rattle.esr_locks.proofs.table.LockTable.add.Goals.{After-add}
@@ -13,8 +13,8 @@ inside c = rw (← length-map c.self.inside.rows.items (λ (r : RowOf). r.locks)
 
 in_list : (c : After-add) → c.args.t.0 < length c.self.inside.held.items
 in_list c =
-    let capacity_left : 0 < min (slice_index (map (λ (r : RowOf). r.capacity_left) c.self.inside.rows.items) c.args.x.0) (slice_index (map (λ (h : LockedItemsOf). h.capacity_left) c.self.inside.held.items) c.args.t.0) =
-    subst (λ (v : Table). 0 < locks_that_fit v c.args.t.0 c.args.x.0) (sym c.self.view_is) c.requires.capacity_left in
+    let spare_capacity : 0 < min (slice_index (map (λ (r : RowOf). r.spare_capacity) c.self.inside.rows.items) c.args.x.0) (slice_index (map (λ (h : LockedItemsOf). h.spare_capacity) c.self.inside.held.items) c.args.t.0) =
+    subst (λ (v : Table). 0 < spare_lock_capacity v c.args.t.0 c.args.x.0) (sym c.self.view_is) c.requires.spare_capacity in
     has_list c.self.inside.held.items c.args.t.0 (omega arith)
 
 more : (c : After-add) (u : ℕ) → has_lock c.add.new.self.locks u ≡ true → (has_lock c.index_mut.result.now.locks u ≡ true) ⊎ (c.args.t.0 ≡ u)

@@ -1,5 +1,5 @@
 use Rattle.std.proofs.Common.{◌≡◌, ℕ, ◌<◌, subst, map, length, if◌then◌else◌, arith}
-use Rattle.esr_locks.specs.Rows.{RowOf, row_at, held_at}
+use Rattle.esr_locks.specs.Rows.{RowOf, row_at, items_locked_by}
 use Rattle.esr_locks.specs.Tables.{Table, released, contains_item}
 use Rattle.esr_locks.proofs.Tables.{released_all, IsLockTable-released}
 use Rattle.esr_locks.proofs.table.LockTable.release.Goals as goal
@@ -7,7 +7,7 @@ use Rattle.esr_locks.proofs.table.LockTable.release.Goals.{After-release_each}
 use Rattle.std.proofs.lemmas.Grind.{common_steps}
 
 each : (c : After-release_each) (x : ℕ) → x < length c.self.inside.rows.items
-    → (row_at c.release_each.new.rows.items x).locks ≡ (if contains_item (held_at c.self.inside.held.items c.args.t.0).items x then released c.args.t.0 (row_at c.self.inside.rows.items x).locks else (row_at c.self.inside.rows.items x).locks)
+    → (row_at c.release_each.new.rows.items x).locks ≡ (if contains_item (items_locked_by c.self.inside.held.items c.args.t.0).items x then released c.args.t.0 (row_at c.self.inside.rows.items x).locks else (row_at c.self.inside.rows.items x).locks)
 each c x l = grind (arith, common_steps)
 
 pub invariant_of-self : goal.invariant_of-self

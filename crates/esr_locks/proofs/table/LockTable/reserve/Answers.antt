@@ -24,10 +24,10 @@ returns-clause-locks c = same (goal.at.returns-clause-locks c).After-reserve
 pub returns-clause-ok : goal.returns-clause-ok
 returns-clause-ok c =
     let inside : c.args.x.0 < length c.self.inside.rows.items = rw (← length-map c.self.inside.rows.items (λ (r : RowOf). r.locks)) (subst (λ (v : Table). c.args.x.0 < length v.locks) (sym c.self.view_is) c.requires) in
-    let in_lists : c.args.t.0 < length c.ensure_lists.new.held.items = search rules in
-    let row : 0 < c.reserve.new.self.capacity_left = search rules in
-    let list : 0 < c.reserve-2.new.self.capacity_left = search rules in
+    let in_lists : c.args.t.0 < length c.ensure_list.new.held.items = search rules in
+    let row : 0 < c.reserve.new.self.spare_capacity = search rules in
+    let list : 0 < c.reserve-2.new.self.spare_capacity = search rules in
     let a = capacity_of_row c.self.inside.rows.items c.args.x.0 c.reserve.new.self inside in
-    let b = capacity_of_list c.ensure_lists.new.held.items c.args.t.0 c.reserve-2.new.self in_lists in
-    let both : 0 < min (slice_index (map (λ (r : RowOf). r.capacity_left) (set c.self.inside.rows.items c.args.x.0 c.reserve.new.self)) c.args.x.0) (slice_index (map (λ (h : LockedItemsOf). h.capacity_left) (set c.ensure_lists.new.held.items c.args.t.0 c.reserve-2.new.self)) c.args.t.0) = rw (a, b) (omega arith) in
+    let b = capacity_of_list c.ensure_list.new.held.items c.args.t.0 c.reserve-2.new.self in_lists in
+    let both : 0 < min (slice_index (map (λ (r : RowOf). r.spare_capacity) (set c.self.inside.rows.items c.args.x.0 c.reserve.new.self)) c.args.x.0) (slice_index (map (λ (h : LockedItemsOf). h.spare_capacity) (set c.ensure_list.new.held.items c.args.t.0 c.reserve-2.new.self)) c.args.t.0) = rw (a, b) (omega arith) in
     both

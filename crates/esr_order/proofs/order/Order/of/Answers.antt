@@ -7,7 +7,7 @@ use Rattle.esr_history.specs.Operations.{operations}
 use Rattle.esr_order.specs.Placements.{is_among}
 use Rattle.esr_order.specs.Chains.{nth}
 use Rattle.esr_order.specs.Orders.{IsOrderAmong}
-use Rattle.esr_order.proofs.Ordered.{in_order}
+use Rattle.esr_order.proofs.ConflictOrder.{in_order}
 use Rattle.esr_order.proofs.Early.{must_below, must_positions}
 use Rattle.esr_order.proofs.Complete.{order_whole}
 use Rattle.esr_order.proofs.Gathered.{commits_bounded, commits_length}

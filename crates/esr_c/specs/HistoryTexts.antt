@@ -9,12 +9,12 @@ use Rattle.esr_explain.specs.Explain.{explanation}
 use Rattle.esr_tables.specs.Written as sheet
 
 -- the item names read from `names`, or `None` if it does not have a name for each item
-abbrev pub names_of : Schedule → List ℕ → Option (List (List ℕ))
-names_of h names = item_names (length h.opening) names
+abbrev pub parsed_item_names : Schedule → List ℕ → Option (List (List ℕ))
+parsed_item_names h names = item_names (length h.opening) names
 
 -- `names` has a name for each item of a history
-abbrev pub AreNamed : Schedule → List ℕ → Type 0
-AreNamed h names = (items : List (List ℕ)) × (names_of h names ≡ Some items)
+abbrev pub HasNameForEachItem : Schedule → List ℕ → Type 0
+HasNameForEachItem h names = (items : List (List ℕ)) × (parsed_item_names h names ≡ Some items)
 
 -- `IsTextInBuffer`: the first `count` bytes of the buffer are such a text. `IsTextLength`: `count` is the length of one
 abbrev pub IsTextInBuffer : (List ℕ → Type 0) → ℕ → List ℕ → Type 0
@@ -26,13 +26,13 @@ IsTextLength P count = (text : List ℕ) × P text × (count ≡ length text)
 -- the script of a history, with the item names of `names`
 abbrev pub IsScriptOf : Schedule → List ℕ → List ℕ → Type 0
 IsScriptOf h names text =
-    (items : List (List ℕ)) × (names_of h names ≡ Some items)
+    (items : List (List ℕ)) × (parsed_item_names h names ≡ Some items)
     × (text ≡ script items (transaction_names (transaction_count h)) h)
 
 -- the explanation of a query of a history, with the item names of `names`
 pub record IsExplanationOf (h : Schedule) (q : ℕ) (names text : List ℕ) : Type 0 where
   pub items : List (List ℕ)
-  pub named : names_of h names ≡ Some items
+  pub named : parsed_item_names h names ≡ Some items
   pub text_is : text ≡ explanation weighted h items (transaction_names (transaction_count h)) q
 
 -- the ledger of a history
@@ -40,8 +40,8 @@ abbrev pub IsLedgerOf : Schedule → List ℕ → Type 0
 IsLedgerOf h text = sheet.IsLedgerOf h (transaction_names (transaction_count h)) text
 
 -- the statuses that a script's and a ledger's call returns, and those of an explanation's and a picture's call
-abbrev pub IsScriptStatus : ℕ → Type 0
-IsScriptStatus n = (n ≡ 0) ⊎ ((n ≡ 5) ⊎ ((n ≡ 7) ⊎ ((n ≡ 13) ⊎ (n ≡ 14))))
+abbrev pub IsTextStatus : ℕ → Type 0
+IsTextStatus n = (n ≡ 0) ⊎ ((n ≡ 5) ⊎ ((n ≡ 7) ⊎ ((n ≡ 13) ⊎ (n ≡ 14))))
 
-abbrev pub IsExplainStatus : ℕ → Type 0
-IsExplainStatus n = IsScriptStatus n ⊎ (n ≡ 6)
+abbrev pub IsQueryTextStatus : ℕ → Type 0
+IsQueryTextStatus n = IsTextStatus n ⊎ (n ≡ 6)

@@ -12,9 +12,9 @@ use Rattle.esr_history.specs.Machine.{Distance, Schedule, Charge, accepted_in, e
 use Rattle.esr_history.specs.Legal.{legal_induction}
 use Rattle.esr_history.specs.Operations.{Operation, operation_by, operations, committer, commit_order}
 use Rattle.esr_history.proofs.Lists.{filter_map_push, find_none, option_map_none}
-use Rattle.esr_history.proofs.Orderly.{beginning-push, beginning-kept, update_begun, active_parts}
+use Rattle.esr_history.proofs.WellFormed.{beginning-push, beginning-kept, update_begun, active_parts}
 use Rattle.esr_history.proofs.Allowed.{NoneApplies, none_applies, read_allowed, write_allowed, end_allowed}
-use Rattle.esr_history.proofs.Lawful.{done-refused, done-accepted, not_ended, begun_in_range, update_from, when_none}
+use Rattle.esr_history.proofs.LegalWellFormed.{done-refused, done-accepted, not_ended, begun_in_range, update_from, when_none}
 use Rattle.esr_history.proofs.Charges.{import-push}
 use Rattle.esr_history.proofs.Membership.{In, any-from_In}
 use Rattle.esr_history.proofs.Traces.{Setting, Trace, Keeps, ended_in, query_in, read_of, write_of, current_in, committed_in, read_count_in, Active, NoOtherWriter, NoOtherUser, with_operation, with_commit, with_abort, with_begins, Reached, Reached.nothing, IsKept, reached_kept}

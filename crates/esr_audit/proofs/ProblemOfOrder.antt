@@ -13,23 +13,23 @@ use Rattle.esr_history.specs.Queries.{updates_of, must, reads_by}
 use Rattle.esr_history.proofs.Membership.{In, In-any, In-of_filter, Pairs, each_in, each_at, In-Contains, Contains-In, Pairs-from_all}
 use Rattle.esr_order.specs.Placements.{is_among, IsClosed}
 use Rattle.esr_order.specs.Chains.{nth}
-use Rattle.esr_order.specs.Orders.{Ordered, IsClosedAt, IsOrderAmong}
+use Rattle.esr_order.specs.Orders.{ConflictOrder, IsClosedAt, IsOrderAmong}
 use Rattle.esr_order.specs.Relevant.{AreRelevant, has_written}
 use Rattle.esr_order.proofs.RelevantLaws.{relevant_closed, relevant_writers}
 use Rattle.esr_cert.specs.Problem.{Problem, is_closed, in_set, is_ascending}
 use Rattle.esr_cert.proofs.Sound as sound
 use Rattle.esr_audit.specs.Problems.{passes_at, places, items_read, writers_of, chain_for, IsProblemOf}
-use Rattle.esr_audit.specs.Reads.{audit_chain, items_in, item_read_of, ItemRead}
+use Rattle.esr_audit.specs.Reads.{chain_of_item, items_in, item_read_of, ItemRead}
 use Rattle.esr_audit.proofs.Smallest.{passes_here, among_element}
 use Rattle.esr_audit.proofs.Positions.{filter_agree, ascending_range}
 use Rattle.esr_audit.proofs.Versions.{read_alike, gathered_is_chain}
 
 -- the problem that is gathered from an order
-abbrev pub problem_from : Distance → Schedule → ℕ → Ordered → Problem
-problem_from d h q o = record {
+abbrev pub problem_of_order : Distance → Schedule → ℕ → ConflictOrder → Problem
+problem_of_order d h q o = record {
   updates = map (λ (t : TxnId). t.0) o.commits;
   before = o.before;
-  chains = map (audit_chain (distance_in d h) h.opening o (map item_read_of (reads_by h q))) (items_in (map item_read_of (reads_by h q)) (length h.opening));
+  chains = map (chain_of_item (distance_in d h) h.opening o (map item_read_of (reads_by h q))) (items_in (map item_read_of (reads_by h q)) (length h.opening));
   must = o.must;
 }
 
@@ -53,7 +53,7 @@ ascending_from_pairs : (xs : List ℕ) → Pairs (λ i j. i < j) xs → is_ascen
 ascending_from_pairs (x ∷ y ∷ rest) p = and_from (nat_lt x y) (is_ascending (y ∷ rest)) (lt-ltb x y (p.0).0) (ascending_from_pairs (y ∷ rest) p.1)
 ascending_from_pairs _ p = refl
 
-module _ (d : Distance) (h : Schedule) (q : ℕ) (legal : IsLegal d h) (us : List ℕ) (relevant : AreRelevant h q us) (o : Ordered) (good : IsOrderAmong h q us o) where
+module _ (d : Distance) (h : Schedule) (q : ℕ) (legal : IsLegal d h) (us : List ℕ) (relevant : AreRelevant h q us) (o : ConflictOrder) (good : IsOrderAmong h q us o) where
   count : length o.commits ≡ length us
   count = sym (length-map o.commits (λ (t : TxnId). t.0)) ∙ ap length good.commits
 
@@ -103,10 +103,10 @@ module _ (d : Distance) (h : Schedule) (q : ℕ) (legal : IsLegal d h) (us : Lis
       let r = In-any (λ (p : Operation). eqb p.item x) (reads_by h q) (In-of_filter (λ x. list_any (λ (p : Operation). eqb p.item x) (reads_by h q)) (range_with_len 0 (length h.opening)) x i).1 in
       subst (λ y. filter (has_written h y) us ≡ writers_of h q y) (eqb-true r.0.item x r.2) (relevant_writers d h q legal us relevant r.0 r.1)
 
-  chains_same : (xs : List ℕ) → ((x : ℕ) → In x xs → In x (items_read h q)) → map (audit_chain (distance_in d h) h.opening o (map item_read_of (reads_by h q))) xs ≡ map (chain_for d h q us) xs
+  chains_same : (xs : List ℕ) → ((x : ℕ) → In x xs → In x (items_read h q)) → map (chain_of_item (distance_in d h) h.opening o (map item_read_of (reads_by h q))) xs ≡ map (chain_for d h q us) xs
   chains_same [] inside = refl
   chains_same (x ∷ xs) inside =
-      ap (λ c. c ∷ map (audit_chain (distance_in d h) h.opening o (map item_read_of (reads_by h q))) xs) (gathered_is_chain d h q us o x (good.chains x) (all_writers x (inside x (inl refl))))
+      ap (λ c. c ∷ map (chain_of_item (distance_in d h) h.opening o (map item_read_of (reads_by h q))) xs) (gathered_is_chain d h q us o x (good.chains x) (all_writers x (inside x (inl refl))))
       ∙ ap (λ cs. chain_for d h q us x ∷ cs) (chains_same xs (λ y i. inside y (inr i)))
 
   -- ---- closed sets
@@ -119,9 +119,9 @@ module _ (d : Distance) (h : Schedule) (q : ℕ) (legal : IsLegal d h) (us : Lis
   must_is_inside : (u : ℕ) → Contains o.must u → u < length us
   must_is_inside u c = each_at (λ i. i < length us) o.must u must_inside (Contains-In o.must u c)
 
-  closed_to : (S : ℕ → Bool) → is_closed (problem_from d h q o) (passes_at us S) ≡ true → IsClosedAt us o (λ u. is_among us u && S u)
+  closed_to : (S : ℕ → Bool) → is_closed (problem_of_order d h q o) (passes_at us S) ≡ true → IsClosedAt us o (λ u. is_among us u && S u)
   closed_to S c =
-      let f : sound.IsClosed (problem_from d h q o) (passes_at us S) = sound.closed_facts (problem_from d h q o) (passes_at us S) c in
+      let f : sound.IsClosed (problem_of_order d h q o) (passes_at us S) = sound.closed_facts (problem_of_order d h q o) (passes_at us S) c in
       record {
         downward = each_contained o.before (λ p. IsTrue (is_among us (nth us p.1) && S (nth us p.1)) → IsTrue (is_among us (nth us p.0) && S (nth us p.0)))
             (λ p i t. let l = pair_inside p.0 p.1 i in sym (place_passes S p.0 l.0) ∙ f.before p.0 p.1 i (place_passes S p.1 l.1 ∙ t));
@@ -131,26 +131,26 @@ module _ (d : Distance) (h : Schedule) (q : ℕ) (legal : IsLegal d h) (us : Lis
       each_contained : {X : Type 0} (xs : List X) (P : X → Type 0) → ((x : X) → Contains xs x → P x) → All P xs
       each_contained xs P f = All-from_recursion P xs (each_in P xs (λ x i. f x (In-Contains xs x i)))
 
-  closed_from : (S : ℕ → Bool) → IsClosedAt us o (λ u. is_among us u && S u) → is_closed (problem_from d h q o) (passes_at us S) ≡ true
+  closed_from : (S : ℕ → Bool) → IsClosedAt us o (λ u. is_among us u && S u) → is_closed (problem_of_order d h q o) (passes_at us S) ≡ true
   closed_from S c =
-      sound.closed_from (problem_from d h q o) (passes_at us S) (record {
+      sound.closed_from (problem_of_order d h q o) (passes_at us S) (record {
         before = λ u v i t.
             let l = pair_inside u v i in
             place_passes S u l.0 ∙ All-contains (λ (p : ℕ × ℕ). IsTrue (is_among us (nth us p.1) && S (nth us p.1)) → IsTrue (is_among us (nth us p.0) && S (nth us p.0))) o.before (u, v) c.downward i (sym (place_passes S v l.1) ∙ t);
         must = λ u i. place_passes S u (must_is_inside u i) ∙ All-contains (λ i. IsTrue (is_among us (nth us i) && S (nth us i))) o.must u c.holds_must i;
       })
 
-  same_closed : (S : ℕ → Bool) → (is_closed (problem_from d h q o) (passes_at us S) ≡ true) ↔ IsClosed h q (λ u. is_among us u && S u)
+  same_closed : (S : ℕ → Bool) → (is_closed (problem_of_order d h q o) (passes_at us S) ≡ true) ↔ IsClosed h q (λ u. is_among us u && S u)
   same_closed S =
       let on = good.closed (λ u. is_among us u && S u) in
       let all = relevant_closed d h q legal us relevant S in
       ((λ c. all.0 (on.0 (closed_to S c))), (λ c. closed_from S (on.1 (all.1 c))))
 
-  pub is_problem : IsProblemOf d h q (problem_from d h q o)
+  pub is_problem : IsProblemOf d h q (problem_of_order d h q o)
   is_problem = record {
     updates = good.commits ∙ relevant.in_order ∙ ap (λ vs. filter (is_among vs) (updates_of h q)) (sym good.commits);
     writers = All-from_recursion (λ x. filter (has_written h x) (map (λ (t : TxnId). t.0) o.commits) ≡ writers_of h q x) (items_read h q) (each_in (λ x. filter (has_written h x) (map (λ (t : TxnId). t.0) o.commits) ≡ writers_of h q x) (items_read h q) (λ x i. ap (filter (has_written h x)) good.commits ∙ all_writers x i));
     must = must_places ∙ ap (λ vs. places vs (is_among (must h q))) (sym good.commits);
-    chains = ap (map (audit_chain (distance_in d h) h.opening o (map item_read_of (reads_by h q)))) items_same ∙ chains_same (items_read h q) (λ x i. i) ∙ ap (λ vs. map (chain_for d h q vs) (items_read h q)) (sym good.commits);
-    closed = λ S. subst (λ (vs : List ℕ). (is_closed (problem_from d h q o) (passes_at vs S) ≡ true) ↔ IsClosed h q (λ u. is_among vs u && S u)) (sym good.commits) (same_closed S);
+    chains = ap (map (chain_of_item (distance_in d h) h.opening o (map item_read_of (reads_by h q)))) items_same ∙ chains_same (items_read h q) (λ x i. i) ∙ ap (λ vs. map (chain_for d h q vs) (items_read h q)) (sym good.commits);
+    closed = λ S. subst (λ (vs : List ℕ). (is_closed (problem_of_order d h q o) (passes_at vs S) ≡ true) ↔ IsClosed h q (λ u. is_among vs u && S u)) (sym good.commits) (same_closed S);
   }

@@ -4,7 +4,7 @@ use Rattle.esr_cert.specs.Flow.{within, amount_at}
 use Rattle.esr_flow.specs.Types.{Arc}
 use Rattle.esr_flow.specs.Graph.{arcs_of}
 use Rattle.esr_flow.proofs.SumLaws.{sums_more, sums_same}
-use Rattle.esr_flow.proofs.flows.sum_arcs.Goals as goal
+use Rattle.esr_flow.proofs.flow_check.sum_arcs.Goals as goal
 
 pub loop-i-preserved : goal.loop-i-preserved
 loop-i-preserved c =

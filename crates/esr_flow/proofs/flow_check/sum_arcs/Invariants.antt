@@ -2,7 +2,7 @@ use Rattle.std.proofs.Common.{◌≡◌, ℕ, ◌<◌, ◌≤◌, true, eqb, get
 use Rattle.esr_cert.specs.Network.{arc_at}
 use Rattle.esr_cert.specs.Flow.{within, carried}
 use Rattle.esr_flow.specs.Graph.{arcs_of}
-use Rattle.esr_flow.proofs.flows.sum_arcs.Given as goal
+use Rattle.esr_flow.proofs.flow_check.sum_arcs.Given as goal
 
 abbrev pub invariant-loop-i : goal.invariant-loop-i
 invariant-loop-i l = record {

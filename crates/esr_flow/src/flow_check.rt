@@ -5,7 +5,7 @@
 ghost use Rattle.std.specs.Prelude.{◌≡◌, ◌≢◌, ℕ, ◌+◌, ◌<◌, ◌≤◌, true, length, get_or, set, IfOk, IfSome};
 ghost use Rattle.esr_cert.specs.Network.{arc_at};
 ghost use Rattle.esr_cert.specs.Flow.{within, amount_at, inflow, outflow, IsFlow, worth};
-ghost use Rattle.esr_flow.specs.Graph.{arcs_of, net_of};
+ghost use Rattle.esr_flow.specs.Graph.{arcs_of, network_of};
 
 use crate::graph::Graph;
 use esr_cert::Arc;
@@ -95,10 +95,10 @@ fn is_conserved(graph: &Graph, into: &[u64], from: &[u64]) -> bool
 }
 
 /// Returns the value of a flow. Returns `None` if the amounts are not a flow, or if one of them is above that value.
-pub fn worth_if_flow(alloc: Global, graph: &Graph, flow: &[u64]) -> Result<Option<u64>, AllocError>
+pub fn value_if_flow(alloc: Global, graph: &Graph, flow: &[u64]) -> Result<Option<u64>, AllocError>
     requires flow { length flow.now ≡ length (arcs_of graph.now) }
-    ensures flow { IfOk result (λ r. IfSome r (λ value. IsFlow (net_of graph.now) flow.now)) }
-    ensures worth { IfOk result (λ r. IfSome r (λ value. value ≡ worth (net_of graph.now) flow.now)) }
+    ensures flow { IfOk result (λ r. IfSome r (λ value. IsFlow (network_of graph.now) flow.now)) }
+    ensures worth { IfOk result (λ r. IfSome r (λ value. value ≡ worth (network_of graph.now) flow.now)) }
     ensures amounts { IfOk result (λ r. IfSome r (λ value. (i : ℕ) → amount_at flow.now i ≤ value)) }
 {
     let mut into = vec![in alloc; 0u64; graph.nodes]?;

@@ -11,11 +11,11 @@ use Rattle.esr_history.specs.Serial.{is_before}
 use Rattle.esr_history.specs.Queries.{updates_of}
 use Rattle.esr_history.proofs.Membership.{In, Pairs, Pairs-left, In-of_filter, In-any, each_in, each_at, any-from_number}
 use Rattle.esr_history.proofs.Bounded.{In-before_first}
-use Rattle.esr_history.proofs.Lawful.{begun_in_range}
+use Rattle.esr_history.proofs.LegalWellFormed.{begun_in_range}
 use Rattle.esr_history.proofs.Locking.{known}
 use Rattle.esr_history.proofs.WithinRanges.{legal_begins}
 use Rattle.esr_history.proofs.Words.{trace}
-use Rattle.esr_history.proofs.Reaches.{legal_reached}
+use Rattle.esr_history.proofs.TraceOfHistory.{legal_reached}
 use Rattle.esr_history.proofs.Laws.{updates_once, updates_in_order}
 use Rattle.esr_order.specs.Statements.{ClosedSetsAreParts}
 use Rattle.esr_order.proofs.Placed.{InOrder, closed_sets_are_parts}
