@@ -224,6 +224,13 @@ fn book_of<M: Metric>(alloc: Global, history: &History<M>) -> Result<Book, Audit
     })
 }
 
+/// States that a history is sound, which its type guarantees. Does nothing.
+pub fn history_is_sound<M: Metric>(history: &History<M>)
+    ensures { IsSound M.distance_by history.now.schedule }
+{
+    let _legal = history.log(); // brings the invariant into the proof
+}
+
 /// Audits a history: returns a serial order of its committed updates, and the finding of each committed query.
 ///
 /// Each reply of the history is the machine's. Its committed updates are conflict-serializable in commit order. No
@@ -241,6 +248,6 @@ pub fn audit_history<M: Metric>(alloc: Global, history: &History<M>) -> Result<B
         → All (λ f. IsAnswer M.distance_by (along history.now.schedule rest) f.query.0 f.distance f.import
         (map (λ t. t.0) f.before.items)) b.findings.items) }
 {
-    let _legal = history.log(); // brings the invariant into the proof
+    history_is_sound(history);
     book_of(alloc, history)
 }

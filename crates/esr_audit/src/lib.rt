@@ -15,6 +15,7 @@ mod reads;
 
 pub use audit::{
     audit_history, audit_query, audit_query_by_index, audit_query_in, certify_with_steps,
+    history_is_sound,
 };
 pub use commits::{CommitLists, commit_lists};
 pub use finding::{AuditError, Book, Finding, Summaries, Summary};

@@ -1,6 +1,6 @@
 //! The parallel audit: a board assigns each job to exactly one of several worker threads.
 //!
-//! A claim is one `fetch_add` and takes no lock. It therefore needs no permission to wait, and its bounds say so: the
+//! A claim is one `fetch_add` and takes no lock. Its signature has no bound that permits waiting, so the
 //! compiler rejects a body that takes a lock. The findings are proved to equal those of one thread, for any number of
 //! workers and any schedule.
 #![tactic(auto)]

@@ -26,7 +26,9 @@ ghost use Rattle.esr_board.specs.Shares.{AreCommitted, AreKept, IsWorked, IsFill
 use crate::board::{Board, BoardError, BoardSeat, MAX_SEATS};
 use crate::gate::Gate;
 use crate::worker::{Share, Worked, take_turns};
-use esr_audit::{AuditError, Book, CommitLists, Finding, Summaries, commit_lists};
+use esr_audit::{
+    AuditError, Book, CommitLists, Finding, Summaries, commit_lists, history_is_sound,
+};
 use esr_history::{History, TxnId};
 use esr_items::Metric;
 use esr_order::Index;
@@ -277,7 +279,7 @@ pub fn audit_parallel<M: Metric + Sync, R: Threads + Sync, G: Gate + Sync>(
         → All (λ f. IsAnswer M.distance_by (along history.now.schedule rest) f.query.0 f.distance f.import
         (map (λ t. t.0) f.before.items)) b.findings.items) }
 {
-    let _legal = history.log(); // brings the invariant into the proof
+    history_is_sound(history);
     match pages_by(rt, alloc, history, workers, gate) {
         Ok(Pages { order, kept }) => Ok(Book {
             order,
@@ -307,7 +309,7 @@ pub fn summarize_parallel<M: Metric + Sync, R: Threads + Sync, G: Gate + Sync>(
         → All (λ s. IsAnswer M.distance_by (along history.now.schedule rest) s.query.0 s.distance s.import
         (listed s.before)) b.summaries.items) }
 {
-    let _legal = history.log(); // brings the invariant into the proof
+    history_is_sound(history);
     match pages_by(rt, alloc, history, workers, gate) {
         Ok(Pages { order, kept }) => Ok(Summaries {
             order,

@@ -1,4 +1,4 @@
-//! Maximum flows, and the solution of the problems of queries.
+//! Maximum flows, and the solver for the placement problem of a query.
 //!
 //! `solve` computes shortest augmenting paths from the zero flow (Edmonds and Karp 1972), in phases (Dinic 1970), and
 //! returns the exact number of augmentations. Audits call `find_certificate`. It starts from a draft of the flow, which

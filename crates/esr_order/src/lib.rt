@@ -1,8 +1,8 @@
 //! The conflict order among the updates that can precede a query, and the placements of a query.
 //!
-//! Commit order is a serial order of the updates, because they hold their locks until they end. It needs no search and
-//! stays the same in every longer history. An update is identified by its position in commit order, so every pair of
-//! the conflict order goes from a lower to a higher position. The set of updates before a query in a placement is then
+//! Commit order is a serial order of the updates, because they hold their locks until they end. It needs no search,
+//! and a longer history only extends it. An update is identified by its position in commit order, so every pair of the
+//! conflict order goes from a lower to a higher position. The set of updates before a query in a placement is then
 //! a closed set of positions, and the least distance of the query is the least cost of a closed set (`laws`).
 #![tactic(auto)]
 

@@ -1,5 +1,5 @@
-//! One machine protected by a lock, and the sessions through which threads call it. Each call that receives a reply is
-//! one entry of one history and leaves a receipt. Closing compares all receipts with the history.
+//! One machine protected by a lock, and the sessions through which threads call it. Each call that receives a reply
+//! appends one entry to a common history and leaves a receipt. Closing compares all receipts with the history.
 //!
 //! A step takes less than a microsecond, so finer locks would cost more than they save. A single lock makes the steps
 //! of all threads one list.
