@@ -1,9 +1,9 @@
 -- The lines of the entries: each event that was accepted or blocked is executed again, and gets the same reply.
-use Rattle.std.proofs.Common.{◌≡◌, ℕ, zero, suc, ◌+◌, ◌-◌, ◌*◌, ◌<◌, ◌≤◌, ℤ, pos, List, [], ◌∷◌, ◌++◌, Bool, true, false, not, cond, nat_le, nat_lt, eqb, ne_eqb, Option, Some, None, Result, Ok, Err, inl, inr, refl, ◌∙◌, ap, sym, subst, arith, length, get_or, take, map, filter, flat_map, append_assoc, append-nil}
-use Rattle.std.specs.List.{cons_option, range_with_len}
+use Rattle.std.proofs.Common.{◌≡◌, ℕ, ◌+◌, ◌-◌, ◌*◌, ◌<◌, ◌≤◌, ℤ, pos, List, [], ◌∷◌, ◌++◌, Bool, true, false, not, cond, nat_le, ne_eqb, Option, Some, None, Ok, inl, inr, refl, ◌∙◌, ap, sym, subst, arith, length, get_or, take, filter, flat_map, append_assoc, append-nil}
+use Rattle.std.specs.List.{cons_option}
 use Rattle.std.proofs.Math.Path.{fun_ext}
 use Rattle.std.proofs.lemmas.Bool.{cases_Bool, cases_lt, not-false, leb-false}
-use Rattle.std.proofs.lemmas.List.{take_more, get_or_past, length-map, length-append}
+use Rattle.std.proofs.lemmas.List.{take_more, get_or_past, length-append}
 use Rattle.std.proofs.lemmas.List.Elements.{filter_map-append}
 use Rattle.std.proofs.lemmas.List.FromFn.{get_or-map-range_with_len, length-map-range_with_len}
 use Rattle.esr_base.specs.declared.limits.TheConstants.{MAX_ENTRIES}
@@ -21,11 +21,10 @@ use Rattle.esr_history.specs.declared.event.Entry.{Entry}
 use Rattle.esr_history.specs.Events.{is_refusal, beginning_of, beginnings, accepted, is_active, is_begun}
 use Rattle.esr_history.specs.Machine.{Schedule, accepted_in, extended, first_reason, acceptance, answered, reply_to, reasons, refusal, IsLegalAfter}
 use Rattle.esr_history.proofs.LegalWellFormed.{begun_in_range, done-accepted, done-refused}
-use Rattle.esr_grammar.specs.Lines.{lines}
 use Rattle.esr_grammar.specs.Command.{Command, IsCommand}
 use Rattle.esr_report.specs.Names.{position_of, is_bound, all_distinct, name_of_transaction}
 use Rattle.esr_report.specs.Lines.{Named, reply_line}
-use Rattle.esr_script.specs.Text.{ScriptState, ask, begin, bound, execute, state_after, item_called, transaction_called}
+use Rattle.esr_script.specs.Text.{ScriptState, ask, begin, bound, execute, item_called, transaction_called}
 use Rattle.esr_dump.specs.Lines.{command_of, entry_text, is_kept, line_of, name_of_item, number_begun}
 use Rattle.esr_dump.specs.RoundTrip.{AreNames}
 use Rattle.esr_dump.proofs.RoundTrip as dumped

@@ -1,21 +1,20 @@
 -- The lines of the items: after those of the first k items the run has declared these k items.
-use Rattle.std.proofs.Common.{◌≡◌, ℕ, zero, suc, ◌+◌, ◌<◌, ◌≤◌, ℤ, pos, List, [], ◌∷◌, ◌++◌, Bool, true, false, not, nat_le, eqb, eqb-true, ne_eqb, unsigned_abs, Option, Some, None, Result, Ok, inl, inr, refl, ◌∙◌, ap, sym, subst, arith, length, get_or, take, map, flat_map, slice_index_or, append_assoc}
-use Rattle.std.specs.List.{All, range_with_len}
+use Rattle.std.proofs.Common.{◌≡◌, ℕ, zero, suc, ◌+◌, ◌<◌, ◌≤◌, ℤ, pos, List, [], ◌∷◌, ◌++◌, true, false, eqb, eqb-true, ne_eqb, unsigned_abs, Option, None, Result, Ok, inl, inr, refl, ◌∙◌, ap, sym, subst, arith, length, take, map, flat_map, slice_index_or}
+use Rattle.std.specs.List.{range_with_len}
 use Rattle.std.proofs.lemmas.Bool.{cases_Bool, le-leb}
-use Rattle.std.proofs.lemmas.List.{take_more, map-append, length-map, length-take}
+use Rattle.std.proofs.lemmas.List.{take_more, map-append, length-take}
 use Rattle.esr_base.specs.declared.limits.TheConstants.{MAX_ITEMS, MAX_VALUE}
-use Rattle.esr_items.specs.Values.{IsValue, is_value, value_at}
+use Rattle.esr_items.specs.Values.{is_value, value_at}
 use Rattle.esr_items.specs.Weights.{weight_of, weight_or_one, is_weight, weight-least, weight-upper_bound}
 use Rattle.esr_history.specs.Machine.{Schedule}
 use Rattle.esr_history.proofs.Charges.{range-push}
-use Rattle.esr_grammar.specs.Lines.{lines}
-use Rattle.esr_grammar.specs.Command.{Command, item, weighted_item, IsCommand}
+use Rattle.esr_grammar.specs.Command.{IsCommand}
 use Rattle.esr_report.specs.Names.{all_distinct}
 use Rattle.esr_report.specs.Lines.{item_line, weighted_item_line}
 use Rattle.esr_report.specs.declared.lines.LineError.{LineError}
 use Rattle.esr_script.specs.declared.fault.RunFault.{RunFault}
-use Rattle.esr_script.specs.Text.{ScriptState, execute, declare_or, item_error, with_item, state_after}
-use Rattle.esr_dump.specs.Lines.{declaration, item_text, line_of, name_of_item}
+use Rattle.esr_script.specs.Text.{ScriptState, execute, declare_or, item_error, with_item}
+use Rattle.esr_dump.specs.Lines.{declaration, item_text, name_of_item}
 use Rattle.esr_dump.specs.RoundTrip.{AreNames}
 use Rattle.esr_dump.proofs.RoundTrip as dumped
 use Rattle.esr_restore.specs.Restores.{IsRunnable}

@@ -1,5 +1,5 @@
 -- Names that are bound one after another: the first k of a list of distinct names.
-use Rattle.std.proofs.Common.{◌≡◌, ℕ, ◌+◌, ◌<◌, ◌≤◌, List, [], ◌∷◌, ◌++◌, true, false, bytes_eq, Option, Some, None, is_some, refl, ◌∙◌, ap, sym, arith, length, get_or, take, lt-ltb}
+use Rattle.std.proofs.Common.{◌≡◌, ℕ, ◌<◌, ◌≤◌, List, [], true, false, bytes_eq, Option, Some, None, is_some, refl, ◌∙◌, ap, sym, arith, length, get_or, take, lt-ltb}
 use Rattle.std.specs.List.{position_or_len}
 use Rattle.std.proofs.lemmas.Bool.{true≢false, false_from_ne_true}
 use Rattle.std.proofs.lemmas.List.{get_or-take, length-take}

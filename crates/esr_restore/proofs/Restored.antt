@@ -1,15 +1,13 @@
 -- The run over a history's script leads to the history.
-use Rattle.std.proofs.Common.{◌≡◌, ℕ, ◌+◌, List, [], ◌++◌, Option, refl, ◌∙◌, ap, subst, sym, arith, length, take, flat_map, append-nil}
-use Rattle.std.specs.List.{range_with_len}
+use Rattle.std.proofs.Common.{◌≡◌, ℕ, ◌+◌, List, [], ◌++◌, refl, ◌∙◌, ap, subst, sym, arith, length, flat_map, append-nil}
 use Rattle.std.proofs.Math.Seq.{take-length}
 use Rattle.esr_items.specs.Weights.{weight_of}
 use Rattle.esr_history.specs.Machine.{Schedule, empty_schedule}
 use Rattle.esr_grammar.specs.Lines.{lines}
-use Rattle.esr_script.specs.declared.fault.RunFault.{RunFault}
 use Rattle.esr_script.specs.Text.{ScriptState, final, outcome_from, start, state_after}
 use Rattle.esr_dump.specs.Lines.{entry_text, items_text, script}
 use Rattle.esr_dump.specs.RoundTrip.{kept}
-use Rattle.esr_restore.specs.Restores.{Restores, LawOfRestoring}
+use Rattle.esr_restore.specs.Restores.{LawOfRestoring}
 use Rattle.esr_restore.proofs.Steps.{Leads, leads_on}
 use Rattle.esr_restore.proofs.Items.{with_items, items_run}
 use Rattle.esr_restore.proofs.Entries as entries

@@ -1,5 +1,5 @@
 -- One line of a script: the state after a spelled command is that after its execution.
-use Rattle.std.proofs.Common.{◌≡◌, ℕ, ◌+◌, ◌≤◌, ◌<◌, ◌^◌, ℤ, pos, negsuc, nat_abs, List, [], ◌∷◌, ◌++◌, false, Option, Result, Ok, Err, refl, ◌∙◌, ap, arith, length, codes, decimal, ne_eqb, append_assoc}
+use Rattle.std.proofs.Common.{◌≡◌, ℕ, ◌+◌, ◌≤◌, ◌<◌, ◌^◌, ℤ, pos, negsuc, nat_abs, List, [], ◌∷◌, ◌++◌, false, Result, Ok, Err, refl, ◌∙◌, ap, arith, length, codes, decimal, ne_eqb, append_assoc}
 use Rattle.std.specs.List.{join_with_byte}
 use Rattle.std.specs.Fmt.{signed_decimal}
 use Rattle.std.proofs.lemmas.Bool.{and_parts, le-ltb, leb-true}
@@ -8,7 +8,7 @@ use Rattle.std.proofs.lemmas.Int.{ints}
 use Rattle.std.proofs.lemmas.Fmt.{length-decimal-le, length_signed_le}
 use Rattle.esr_grammar.specs.declared.limits.TheConstants.{MAX_LINES, MAX_LINE_BYTES}
 use Rattle.esr_grammar.specs.Lines.{lines}
-use Rattle.esr_grammar.specs.Command.{Command, item, weighted_item, begin_update, begin_query, begin_strict_query, read, write, commit, abort, audit, totals, words, spelling, is_name, is_name_byte, is_skipped, IsName, IsCommand}
+use Rattle.esr_grammar.specs.Command.{Command, item, weighted_item, begin_update, begin_query, begin_strict_query, read, write, commit, abort, audit, totals, spelling, is_skipped, IsName, IsCommand}
 use Rattle.esr_grammar.proofs.Spelling.{spelled}
 use Rattle.esr_script.specs.declared.fault.RunFault.{RunFault}
 use Rattle.esr_script.specs.Text.{Outcome, ScriptState, answer, execute, outcome_from, preceded_by, state_after, stopped}
