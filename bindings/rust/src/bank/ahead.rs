@@ -141,6 +141,10 @@ impl Bank {
             state.metrics.updates += 1;
             state.metrics.optimistic_updates += 1;
             state.metrics.reruns += u64::from(attempt.reruns);
+            attempt.watch.charge(|| {
+                let account = state.engine.account(txn);
+                account.map_or(0, |account| account.charged)
+            });
             attempt.watch.commit(true);
             return Ok(Outcome::Committed(place));
         }
