@@ -47,9 +47,15 @@ struct Sleeper {
     is_woken: bool,
 }
 
+/// A value with cache lines of its own.
+#[derive(Debug, Default)]
+#[repr(align(128))]
+struct Apart<T>(T);
+
 #[derive(Debug, Default)]
 struct Gate {
-    state: AtomicU64,
+    /// Threads that poll read it, so it is apart from the counters that they write.
+    state: Apart<AtomicU64>,
     /// The number of polling threads that are not urgent.
     polling: AtomicU64,
     /// The number of polling threads that were woken.
@@ -73,12 +79,13 @@ impl Gate {
 
     fn try_enter(&self) -> bool {
         self.state
+            .0
             .compare_exchange(OPEN, TAKEN, Ordering::SeqCst, Ordering::Relaxed)
             .is_ok()
     }
 
     fn is_open(&self) -> bool {
-        self.state.load(Ordering::Relaxed) == OPEN
+        self.state.0.load(Ordering::Relaxed) == OPEN
     }
 
     /// Enters, or returns false as soon as `is_useful` does while polling. With `has_priority` it does not let urgent threads
@@ -97,7 +104,7 @@ impl Gate {
             if !is_useful() {
                 self.polling.fetch_sub(1, Ordering::SeqCst);
                 // a holder may have relied on this thread
-                if self.state.load(Ordering::SeqCst) == OPEN {
+                if self.state.0.load(Ordering::SeqCst) == OPEN {
                     self.wake();
                 }
                 return false;
@@ -151,7 +158,7 @@ impl Gate {
     }
 
     fn leave(&self) {
-        self.state.swap(OPEN, Ordering::SeqCst);
+        self.state.0.swap(OPEN, Ordering::SeqCst);
         self.wake();
     }
 
@@ -282,7 +289,7 @@ mod tests {
                 let mut value = lock.lock();
                 // scheduling points of a long hold
                 for _ in 0..2 {
-                    lock.gate.state.load(Ordering::SeqCst);
+                    lock.gate.state.0.load(Ordering::SeqCst);
                 }
                 *value += 1;
             }
