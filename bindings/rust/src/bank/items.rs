@@ -309,6 +309,22 @@ mod tests {
         assert!("i4000".number(&items).is_err());
     }
 
+    /// A name differs from one with the same first bytes, and from one with the same head, in a table of few places.
+    #[test]
+    fn similar_names_differ() {
+        let has = |name: &str, other: &str| {
+            let items = Items::new(vec![name.to_owned()]).expect("one name");
+            assert_eq!(name.number(&items), Ok(0));
+            other.number(&items).is_ok()
+        };
+        for letter in 'a'..='z' {
+            assert!(!has("savings of #", &format!("savings of {letter}")));
+            assert!(!has("savings of #", &format!("savings of {letter}#")));
+            let once = letter.to_string();
+            assert!(!has(&once, &once.repeat(3)) && !has(&once.repeat(3), &once));
+        }
+    }
+
     /// One name that no script has leaves the others as they are, and is replaced by one that no other item has.
     #[test]
     fn one_bad_name_is_replaced_alone() {
