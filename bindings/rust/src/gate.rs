@@ -16,8 +16,9 @@
 //!
 //! Rejected: the standard mutex after a spin phase, whose 99.9th percentile is milliseconds when there are more threads than
 //! processors; handing the lock to a sleeper, which leaves it idle until that thread runs and then ends in a convoy (a
-//! seventh of the throughput); ticket and queue locks, which wait for preempted threads; combining, which has the best tail
-//! but runs 10 to 30 % fewer transactions.
+//! seventh of the throughput); ticket and queue locks, which wait for preempted threads; combining, by which the holder
+//! executes the drafts of threads that poll, and which runs 5 to 30 % fewer transactions: their items are then in the cache of
+//! the holder, and the next holder is another thread.
 
 use crate::sync::{AtomicU64, Instant, Thread, current, park_timeout, spin_loop};
 use std::{
@@ -47,9 +48,15 @@ struct Sleeper {
     is_woken: bool,
 }
 
+/// A value in its own cache lines.
+#[derive(Debug, Default)]
+#[repr(align(128))]
+struct Apart<T>(T);
+
 #[derive(Debug, Default)]
 struct Gate {
-    state: AtomicU64,
+    /// Threads that poll read it, so it is apart from the counters that they write.
+    state: Apart<AtomicU64>,
     /// The number of polling threads that are not urgent.
     polling: AtomicU64,
     /// The number of polling threads that were woken.
@@ -73,12 +80,13 @@ impl Gate {
 
     fn try_enter(&self) -> bool {
         self.state
+            .0
             .compare_exchange(OPEN, TAKEN, Ordering::SeqCst, Ordering::Relaxed)
             .is_ok()
     }
 
     fn is_open(&self) -> bool {
-        self.state.load(Ordering::Relaxed) == OPEN
+        self.state.0.load(Ordering::Relaxed) == OPEN
     }
 
     /// Enters, or returns false as soon as `is_useful` does while polling. With `has_priority` it does not let urgent threads
@@ -97,7 +105,7 @@ impl Gate {
             if !is_useful() {
                 self.polling.fetch_sub(1, Ordering::SeqCst);
                 // a holder may have relied on this thread
-                if self.state.load(Ordering::SeqCst) == OPEN {
+                if self.state.0.load(Ordering::SeqCst) == OPEN {
                     self.wake();
                 }
                 return false;
@@ -151,7 +159,7 @@ impl Gate {
     }
 
     fn leave(&self) {
-        self.state.swap(OPEN, Ordering::SeqCst);
+        self.state.0.swap(OPEN, Ordering::SeqCst);
         self.wake();
     }
 
@@ -282,7 +290,7 @@ mod tests {
                 let mut value = lock.lock();
                 // scheduling points of a long hold
                 for _ in 0..2 {
-                    lock.gate.state.load(Ordering::SeqCst);
+                    lock.gate.state.0.load(Ordering::SeqCst);
                 }
                 *value += 1;
             }

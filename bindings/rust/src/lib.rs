@@ -68,6 +68,8 @@ mod bank;
 mod engine;
 mod error;
 mod event;
+#[cfg(any(feature = "tracing", feature = "metrics"))]
+mod forward;
 mod gate;
 #[cfg(test)]
 mod interleave;

@@ -40,6 +40,7 @@ use std::{cell::Cell, collections::HashMap, sync::atomic::Ordering};
 pub(crate) const MAX_VALUE: i64 = 1_000_000_000_000;
 /// Up to this number of items a draft is searched linearly.
 const FEW: usize = 24;
+const BEGIN_UPDATE: u32 = 1;
 const READ: u32 = 2;
 const WRITE: u32 = 3;
 const COMMIT: u32 = 4;
@@ -139,6 +140,7 @@ pub(crate) struct Draft {
     touched: Vec<Touched>,
     /// The indices of the items in `touched`, once there are more than `FEW`.
     places: HashMap<u32, usize>,
+    /// Its begin, and its reads and writes.
     events: Vec<sys::Event>,
     replies: Vec<sys::Reply>,
     overtaken: bool,
@@ -175,6 +177,7 @@ impl Draft {
         self.touched.clear();
         self.places.clear();
         self.events.clear();
+        self.push(BEGIN_UPDATE, 0, 0);
         self.overtaken = false;
         self.moment = mirror.now.load(Ordering::Acquire);
     }
@@ -282,11 +285,12 @@ impl Draft {
         Ok(())
     }
 
-    /// Returns the events as those of transaction `txn`, and a buffer for their replies.
-    pub(crate) fn events_of(&mut self, txn: u32) -> (&[sys::Event], &mut [sys::Reply]) {
+    /// Returns the begin and the events, as those of transaction `txn` with a limit, and a buffer for their replies.
+    pub(crate) fn events_of(&mut self, txn: u32, limit: u64) -> (&[sys::Event], &mut [sys::Reply]) {
         for event in &mut self.events {
             event.txn = txn;
         }
+        self.events[0].limit = limit;
         let count = self.events.len();
         if self.replies.len() < count {
             self.replies.resize(count, sys::Reply::default());
@@ -294,14 +298,16 @@ impl Draft {
         (&self.events, &mut self.replies[..count])
     }
 
+    /// Returns the reads and writes.
     pub(crate) fn events(&self) -> &[sys::Event] {
-        &self.events
+        &self.events[1..]
     }
 
-    /// Checks that all events were answered, and each as the body saw it.
+    /// Checks that all events have a reply, and each the one that the body saw.
     pub(crate) fn judge(&self, answered: usize) -> Result<(), Misfit> {
         for (event, reply) in self.events.iter().zip(&self.replies[..answered]) {
             match (reply.kind, event.kind) {
+                (1, BEGIN_UPDATE) if reply.txn == event.txn => {}
                 (6, _) => return Err(Misfit::Refused(*reply)),
                 (2, READ) if reply.value == event.value => {}
                 (3, WRITE) => {}
@@ -359,7 +365,7 @@ mod tests {
         }
         assert_eq!(draft.write(1, 7), Ok(()));
         assert_eq!(draft.read(&mirror, 1), Ok(7));
-        let kinds = draft.events.iter().map(|e| (e.kind, e.item, e.value));
+        let kinds = draft.events().iter().map(|e| (e.kind, e.item, e.value));
         let kinds: Vec<_> = kinds.collect();
         assert_eq!(kinds, [(READ, 0, 500), (WRITE, 0, 300), (WRITE, 1, 7)]);
         assert_eq!(draft.writes().collect::<Vec<_>>(), [(0, 300), (1, 7)]);
@@ -380,7 +386,7 @@ mod tests {
         for item in (0..200).rev() {
             assert_eq!(draft.read(&mirror, item), Ok(item.into()));
         }
-        assert_eq!(draft.events.len(), 400);
+        assert_eq!(draft.events().len(), 400);
     }
 
     /// A newer value is read as long as earlier reads are still current; otherwise the body is stopped.

@@ -1,7 +1,6 @@
 //! Observers, which a bank calls when a transaction begins, is blocked, runs again or ends, and at audits and renewals.
 //!
-//! The crate has no dependencies, so it does not call the crates `tracing` and `metrics`: Cargo resolves optional
-//! dependencies too, so with them a build without a registry would fail. A short observer forwards to them.
+//! The crate has no dependencies. Observers that forward to the crates `tracing` and `metrics` are macros: see `forward`.
 
 use crate::{Error, Finding, Refused};
 use std::time::Duration;
@@ -18,103 +17,31 @@ use std::time::Duration;
 /// The counts of calls and the sums of their times are those of [`Metrics`](crate::Metrics), except that its `aborts` do not
 /// include transactions that could not begin. It has no count of blocked events.
 ///
-/// # Spans and events of `tracing`
-/// A span for each transaction, with events in it. Nested transactions end in order, so the open spans are a stack:
+/// # Forwarding
+/// With the features `tracing` and `metrics` of this crate, the macros `tracing_observer!` and `metrics_observer!` define
+/// observers that forward to the crates of these names, in the versions of the calling package.
 ///
 /// ```
-/// # mod tracing {
-/// #     // a stand-in for the crate `tracing`, with which `tests/forwards` compiles this
-/// #     #[derive(Clone, Copy)]
-/// #     pub struct Span;
-/// #     impl Span { pub fn entered(self) -> span::EnteredSpan { span::EnteredSpan } }
-/// #     pub mod span {
-/// #         pub struct EnteredSpan;
-/// #         impl EnteredSpan { pub fn record(&self, _: &str, _: &str) {} }
-/// #     }
-/// #     pub mod field { pub struct Empty; }
-/// #     macro_rules! info_span { ($name:literal, $($field:ident = $value:expr),*) => {{ $(let _ = &$value;)* tracing::Span }}; }
-/// #     macro_rules! event { ($($field:ident = $value:expr,)* $text:literal) => {{ $(let _ = &$value;)* let _ = $text; }}; }
-/// #     pub(crate) use {event as info, event as warn, info_span};
-/// # }
-/// use esr::{Audited, Bank, Ended, Error, Observed, Observer, Refused};
-/// use std::cell::RefCell;
+/// use esr::{Audited, Bank, Ended, Error, Observed, Observer};
+/// use std::sync::{Arc, Mutex};
 ///
-/// thread_local!(static SPANS: RefCell<Vec<tracing::span::EnteredSpan>> = const { RefCell::new(Vec::new()) });
+/// #[derive(Clone, Default)]
+/// struct Log(Arc<Mutex<Vec<String>>>);
 ///
-/// struct Traces;
-///
-/// impl Observer for Traces {
-///     fn begun(&self, txn: &Observed<'_>) {
-///         let (kind, name) = (txn.kind(), txn.name.unwrap_or_default());
-///         let span = tracing::info_span!("transaction", kind = kind, name = name, limit = txn.limit, outcome = tracing::field::Empty);
-///         SPANS.with_borrow_mut(|spans| spans.push(span.entered()));
-///     }
-///     fn blocked(&self, _: &Observed<'_>, refused: &Refused) {
-///         tracing::info!(reason = refused.to_string(), "blocked");
-///     }
-///     fn restarted(&self, _: &Observed<'_>, why: &Error) {
-///         tracing::info!(why = why.to_string(), "restarted");
-///     }
-///     fn deadlocked(&self, _: &Observed<'_>, refused: &Refused) {
-///         tracing::warn!(reason = refused.to_string(), "deadlock victim");
-///     }
+/// impl Observer for Log {
 ///     fn audited(&self, audited: &Audited<'_>) {
-///         tracing::info!(charged = audited.finding.import, distance = audited.finding.distance, "audited");
+///         let Audited { finding, .. } = audited;
+///         self.0.lock().unwrap().push(format!("charged {}, off by {}", finding.import, finding.distance));
 ///     }
-///     fn ended(&self, _: &Observed<'_>, ended: &Ended) {
-///         if let Some(span) = SPANS.with_borrow_mut(|spans| spans.pop()) {
-///             span.record("outcome", ended.outcome.as_str());
-///         }
+///     fn ended(&self, transaction: &Observed<'_>, ended: &Ended) {
+///         self.0.lock().unwrap().push(format!("{} {}", transaction.kind(), ended.outcome.as_str()));
 ///     }
 /// }
 ///
-/// let bank = Bank::builder().item("checking", 500).observer(Traces).open()?;
+/// let log = Log::default();
+/// let bank = Bank::builder().item("checking", 500).observer(log.clone()).open()?;
 /// bank.report(100, |report| report.read("checking"))?;
-/// # SPANS.with_borrow(|spans| assert!(spans.is_empty()));
-/// # Ok::<(), Error>(())
-/// ```
-///
-/// # Counters and histograms of `metrics`
-/// ```
-/// # mod metrics {
-/// #     // a stand-in for the crate `metrics`
-/// #     pub struct Counter;
-/// #     impl Counter { pub fn increment(&self, _: u64) {} }
-/// #     pub struct Gauge;
-/// #     impl Gauge { pub fn increment(&self, _: f64) {} pub fn decrement(&self, _: f64) {} }
-/// #     pub struct Histogram;
-/// #     impl Histogram { pub fn record(&self, _: f64) {} }
-/// #     macro_rules! counter { ($name:literal $(, $label:literal => $value:expr)*) => {{ $(let _ = $value;)* metrics::Counter }}; }
-/// #     macro_rules! gauge { ($name:literal) => { metrics::Gauge }; }
-/// #     macro_rules! histogram { ($name:literal) => { metrics::Histogram }; }
-/// #     pub(crate) use {counter, gauge, histogram};
-/// # }
-/// use esr::{Audited, Bank, Ended, Error, Observed, Observer, Renewed};
-///
-/// struct Counts;
-///
-/// impl Observer for Counts {
-///     fn begun(&self, _: &Observed<'_>) {
-///         metrics::gauge!("esr_active_transactions").increment(1.0);
-///     }
-///     fn ended(&self, txn: &Observed<'_>, ended: &Ended) {
-///         metrics::gauge!("esr_active_transactions").decrement(1.0);
-///         metrics::counter!("esr_transactions_total", "kind" => txn.kind(), "outcome" => ended.outcome.as_str()).increment(1);
-///         metrics::counter!("esr_reruns_total").increment(ended.runs.saturating_sub(1));
-///         metrics::histogram!("esr_wait_seconds").record(ended.waited.as_secs_f64());
-///     }
-///     fn audited(&self, audited: &Audited<'_>) {
-///         metrics::histogram!("esr_distance").record(audited.finding.distance as f64);
-///         metrics::histogram!("esr_audit_seconds").record(audited.time.as_secs_f64());
-///     }
-///     fn renewed(&self, renewed: &Renewed) {
-///         metrics::counter!("esr_carried_updates_total").increment(renewed.carried);
-///         metrics::histogram!("esr_renewal_seconds").record(renewed.time.as_secs_f64());
-///     }
-/// }
-///
-/// let bank = Bank::builder().item("checking", 500).observer(Counts).open()?;
-/// bank.report(100, |report| report.read("checking"))?;
+/// assert_eq!(*log.0.lock().unwrap(), ["charged 0, off by 0", "report committed"]);
 /// # Ok::<(), Error>(())
 /// ```
 #[allow(unused_variables)]
@@ -232,6 +159,8 @@ pub struct Ended {
     pub runs: u64,
     /// The time for which it waited for others.
     pub waited: Duration,
+    /// Its charges in its last run: the import of a report, the export of an update. 0 if the engine has executed no run.
+    pub charged: u64,
     /// The time since its begin, including waiting and the report's audit.
     pub time: Duration,
 }

@@ -88,15 +88,19 @@ impl Bank {
             return Ok(Outcome::Stale);
         };
         self.check_running()?;
-        if state.is_nearly_full() {
+        let mut counts = state.engine.counts();
+        if state.is_nearly_full_at(&counts) {
             drop(state);
             state = self.lock_with_capacity(self.waiting_in(options, waiting))?;
+            counts = state.engine.counts();
         }
         // no one else publishes during the hold: a draft that is not stale now has read the engine's committed values
         if draft.is_stale(&self.mirror) {
             return Ok(Outcome::Stale);
         }
-        let outcome = self.submit_in(&mut state, options, draft, attempt)?;
+        // transactions are numbered in the order of their begins
+        let txn = Txn(counts.transactions as u32 + 1);
+        let outcome = self.submit_in(&mut state, options, txn, draft, attempt)?;
         if let (Outcome::Committed(_), Some(waiting)) = (&outcome, waiting) {
             state.count_wait(waiting.waited(), attempt.watch);
         }
@@ -107,19 +111,21 @@ impl Bank {
         &self,
         state: &mut State,
         options: &Options,
+        txn: Txn,
         draft: &mut Draft,
         attempt: &Attempt<'_>,
     ) -> Result<Outcome, Error> {
         let limit = options.limit;
-        let begin = Event::BeginUpdate { limit };
-        let txn = match state.engine.step(begin)? {
-            Reply::Begun(txn) => txn,
-            Reply::Refused(reason) => return Err(Refused::of(reason).limit(limit).into()),
-            other => unreachable!("{other:?}"),
-        };
-        let (events, replies) = draft.events_of(txn.number());
+        let (events, replies) = draft.events_of(txn.number(), limit);
         let (answered, error) = state.engine.replay(events, replies);
         let judged = draft.judge(answered);
+        // the begin is the first of the events
+        let Some(answered) = answered.checked_sub(1) else {
+            return Err(error.unwrap_or(Error::HistoryFull));
+        };
+        if let (0, Err(Misfit::Refused(reply))) = (answered, judged) {
+            return Err(Refused::of(refusal_of(reply)).limit(limit).into());
+        }
         let ended = match (judged, &error) {
             (Ok(()), None) => state.engine.step(Event::Commit { txn }),
             _ => Ok(Reply::Aborted),
@@ -141,6 +147,10 @@ impl Bank {
             state.metrics.updates += 1;
             state.metrics.optimistic_updates += 1;
             state.metrics.reruns += u64::from(attempt.reruns);
+            attempt.watch.charge(|| {
+                let account = state.engine.account(txn);
+                account.map_or(0, |account| account.charged)
+            });
             attempt.watch.commit(true);
             return Ok(Outcome::Committed(place));
         }

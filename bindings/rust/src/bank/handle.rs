@@ -167,6 +167,7 @@ impl<'a> Handle<'a> {
 
     /// Removes it after its end. Returns the transaction it waited for, if it was a deadlock's victim.
     fn remove(&self, state: &mut State) -> Option<Txn> {
+        self.watch.charge(|| state.charged(self.me.handle));
         let waited_for = state.remove(self.me.handle);
         state.count_wait(self.waiting.waited(), self.watch);
         self.bank.ends.fetch_add(1, Ordering::Release);

@@ -2,41 +2,107 @@
 
 use crate::{Error, Refusal, error::Refused};
 use std::{
-    collections::{HashMap, HashSet},
+    collections::HashSet,
     fmt,
-    hash::{BuildHasherDefault, Hasher},
     sync::atomic::{AtomicU32, Ordering},
 };
 
-/// Hashes eight bytes at a time. The names are the program's own, so the hash need not resist chosen collisions.
-#[derive(Default)]
-struct NameHasher {
-    hash: u64,
+/// An odd number with well mixed bits.
+const MIX: u64 = 0x9e37_79b9_7f4a_7c15;
+const NO_ITEM: u32 = u32::MAX;
+
+/// A place of [`Numbers`].
+#[derive(Clone, Copy, Debug)]
+struct Place {
+    /// The head of a name: see [`head_of`].
+    head: u64,
+    length: u32,
+    /// The number of the item, or `NO_ITEM`.
+    number: u32,
 }
 
-impl NameHasher {
-    fn add(&mut self, word: u64) {
-        self.hash = (self.hash.rotate_left(5) ^ word).wrapping_mul(0x9e37_79b9_7f4a_7c15);
-    }
+/// The numbers of items by their names. A look-up of a name of up to eight bytes reads one cache line.
+///
+/// It is an open-addressing table with more than twice as many places as items. The names are the program's own, so the hash
+/// need not resist chosen collisions.
+#[derive(Debug)]
+struct Numbers {
+    places: Box<[Place]>,
+    /// The upper bits of a hash after this shift are a place.
+    shift: u32,
 }
 
-impl Hasher for NameHasher {
-    fn write(&mut self, bytes: &[u8]) {
-        let mut words = bytes.chunks_exact(8);
-        for word in &mut words {
-            let word = word.try_into().expect("it has eight bytes");
-            self.add(u64::from_le_bytes(word));
+/// Returns eight bytes of a name. Names of equal length up to eight differ in these.
+fn head_of(name: &[u8]) -> u64 {
+    let four = |at: usize| u32::from_le_bytes(name[at..at + 4].try_into().expect("four bytes"));
+    match name {
+        [] => 0,
+        [first, .., last] | [first @ last] if name.len() < 4 => {
+            let middle = name[name.len() / 2];
+            u64::from(*first) | u64::from(middle) << 8 | u64::from(*last) << 16
         }
-        let rest = words.remainder().iter().rev();
-        self.add(rest.fold(0, |word, byte| word << 8 | u64::from(*byte)));
+        _ if name.len() <= 8 => u64::from(four(0)) | u64::from(four(name.len() - 4)) << 32,
+        _ => u64::from(four(0)) | u64::from(four(4)) << 32,
+    }
+}
+
+/// Returns the hash of a name, in its upper bits.
+fn hash_of(name: &[u8], head: u64) -> u64 {
+    let rest = name.get(8..).unwrap_or_default().chunks(4);
+    let first = (head ^ name.len() as u64).wrapping_mul(MIX);
+    rest.fold(first, |hash, part| {
+        (hash.rotate_left(23) ^ head_of(part)).wrapping_mul(MIX)
+    })
+}
+
+impl Numbers {
+    fn for_items(count: usize) -> Numbers {
+        let places = (2 * count + 2).next_power_of_two();
+        let empty = Place {
+            head: 0,
+            length: 0,
+            number: NO_ITEM,
+        };
+        Numbers {
+            places: vec![empty; places].into(),
+            shift: u64::BITS - places.trailing_zeros(),
+        }
     }
 
-    fn write_u8(&mut self, byte: u8) {
-        self.add(byte.into());
+    /// Returns the place of a name, or the empty place where it belongs.
+    fn find(&self, name: &str, names: &[String]) -> usize {
+        let bytes = name.as_bytes();
+        let head = head_of(bytes);
+        let mut at = (hash_of(bytes, head) >> self.shift) as usize;
+        loop {
+            let place = &self.places[at];
+            let has_head = place.head == head && place.length as usize == bytes.len();
+            let is_same = || bytes.len() <= 8 || names[place.number as usize] == name;
+            if place.number == NO_ITEM || (has_head && is_same()) {
+                return at;
+            }
+            at = (at + 1) % self.places.len();
+        }
     }
 
-    fn finish(&self) -> u64 {
-        self.hash.rotate_left(26)
+    fn get(&self, name: &str, names: &[String]) -> Option<u32> {
+        let number = self.places[self.find(name, names)].number;
+        (number != NO_ITEM).then_some(number)
+    }
+
+    /// Adds a name. Returns false if it is there already.
+    fn insert(&mut self, number: u32, names: &[String]) -> bool {
+        let name = &names[number as usize];
+        let at = self.find(name, names);
+        if self.places[at].number != NO_ITEM {
+            return false;
+        }
+        self.places[at] = Place {
+            head: head_of(name.as_bytes()),
+            length: name.len() as u32,
+            number,
+        };
+        true
     }
 }
 
@@ -51,7 +117,7 @@ impl Hasher for NameHasher {
 pub struct Items {
     /// Distinguishes banks, so that a handle of another bank is not mistaken.
     bank: u32,
-    numbers: HashMap<String, u32, BuildHasherDefault<NameHasher>>,
+    numbers: Numbers,
     names: Vec<String>,
     /// The names in texts, one on each line.
     texts: String,
@@ -83,10 +149,9 @@ fn names_in_texts(names: &[String]) -> String {
 impl Items {
     pub(super) fn new(names: Vec<String>) -> Result<Items, Error> {
         static BANKS: AtomicU32 = AtomicU32::new(0);
-        let mut numbers =
-            HashMap::with_capacity_and_hasher(names.len(), BuildHasherDefault::default());
+        let mut numbers = Numbers::for_items(names.len());
         for (number, name) in names.iter().enumerate() {
-            if numbers.insert(name.clone(), number as u32).is_some() {
+            if !numbers.insert(number as u32, &names) {
                 return Err(Error::NameTwice { name: name.clone() });
             }
         }
@@ -151,7 +216,7 @@ pub trait ItemKey: sealed::Sealed {
 impl<T: AsRef<str> + ?Sized> ItemKey for &T {
     fn number(&self, items: &Items) -> Result<u32, Error> {
         let name = self.as_ref();
-        let number = items.numbers.get(name).copied();
+        let number = items.numbers.get(name, &items.names);
         number.ok_or_else(|| Refused::of(Refusal::NoSuchItem).item(name).into())
     }
 
@@ -216,6 +281,49 @@ impl fmt::Display for Item {
 #[cfg(test)]
 mod tests {
     use super::*;
+
+    /// Each name of a length from 0 to 20 is found, and no name that differs from all of them in one byte.
+    #[test]
+    fn names_are_found() {
+        let name = |length: usize, changed: usize| {
+            let byte = |at: usize| {
+                if at + 1 == changed {
+                    '#'
+                } else {
+                    (b'a' + at as u8) as char
+                }
+            };
+            (0..length).map(byte).collect::<String>()
+        };
+        let mut names: Vec<String> = (0..=20).map(|length| name(length, 0)).collect();
+        names.extend((0..4_000).map(|n| format!("i{n}")));
+        let items = Items::new(names.clone()).expect("all names differ");
+        for (number, name) in names.iter().enumerate() {
+            assert_eq!(name.as_str().number(&items), Ok(number as u32));
+        }
+        for length in 1..=20 {
+            for changed in 1..=length {
+                assert!(name(length, changed).as_str().number(&items).is_err());
+            }
+        }
+        assert!("i4000".number(&items).is_err());
+    }
+
+    /// A name differs from one with the same first bytes, and from one with the same head, in a table of few places.
+    #[test]
+    fn similar_names_differ() {
+        let has = |name: &str, other: &str| {
+            let items = Items::new(vec![name.to_owned()]).expect("one name");
+            assert_eq!(name.number(&items), Ok(0));
+            other.number(&items).is_ok()
+        };
+        for letter in 'a'..='z' {
+            assert!(!has("savings of #", &format!("savings of {letter}")));
+            assert!(!has("savings of #", &format!("savings of {letter}#")));
+            let once = letter.to_string();
+            assert!(!has(&once, &once.repeat(3)) && !has(&once.repeat(3), &once));
+        }
+    }
 
     /// One name that no script has leaves the others as they are, and is replaced by one that no other item has.
     #[test]

@@ -7,7 +7,7 @@
 
 use super::watch::Watch;
 use crate::{
-    Engine, Error, Event, Metrics, Refusal, Reply, Txn,
+    Counts, Engine, Error, Event, Metrics, Refusal, Reply, Txn,
     engine::{MAX_ENTRIES, MAX_TRANSACTIONS},
     error::Refused,
     gate::Guard,
@@ -114,6 +114,10 @@ impl State {
 
     pub(super) fn is_nearly_full(&mut self) -> bool {
         let counts = self.engine.counts();
+        self.is_nearly_full_at(&counts)
+    }
+
+    pub(super) fn is_nearly_full_at(&self, counts: &Counts) -> bool {
         counts.transactions_left <= self.reserved || counts.entries_left <= NEARLY_FULL
     }
 

@@ -55,6 +55,7 @@ struct Watched<'a> {
 struct Progress {
     runs: u64,
     waited: Duration,
+    charged: u64,
     /// `None` as long as the body runs.
     outcome: Option<Outcome>,
     is_optimistic: bool,
@@ -140,6 +141,14 @@ impl Watch<'_> {
         }
     }
 
+    /// Notes the charges of the last run that the engine has executed. It calls no observer, so the lock may be held.
+    pub(super) fn charge(&self, charged: impl FnOnce() -> u64) {
+        if let Some(watched) = &self.watched {
+            let charged = charged();
+            watched.progress().charged = charged;
+        }
+    }
+
     /// Notes that it has committed. It calls no observer, so the lock may be held.
     pub(super) fn commit(&self, is_optimistic: bool) {
         if let Some(watched) = &self.watched {
@@ -168,6 +177,7 @@ impl Drop for Watch<'_> {
             is_optimistic: progress.is_optimistic,
             runs: progress.runs,
             waited: progress.waited,
+            charged: progress.charged,
             time: watched.begun.elapsed(),
         };
         drop(progress);

@@ -1,4 +1,4 @@
-//! A subscriber of `tracing` that writes a line for each span and event, for `tests/forwards`.
+//! A subscriber of the real crate `tracing` that records a line for each span and event.
 
 use std::{
     collections::BTreeMap,
@@ -11,8 +11,16 @@ use tracing::{
     span::{Attributes, Id, Record},
 };
 
+/// Returns the lines that a function records on this thread.
+pub fn recorded(run: impl FnOnce()) -> Vec<String> {
+    let log = Log::default();
+    tracing::subscriber::with_default(log.clone(), run);
+    let state = log.state.lock().expect("no panic");
+    state.lines.clone()
+}
+
 #[derive(Clone, Default)]
-pub struct Log {
+struct Log {
     state: Arc<Mutex<State>>,
 }
 
@@ -41,10 +49,15 @@ fn fields(record: impl FnOnce(&mut Fields)) -> String {
     texts.collect()
 }
 
-impl Log {
-    pub fn lines(&self) -> Vec<String> {
-        self.state.lock().unwrap().lines.clone()
-    }
+/// Returns the level, the target and, of a span, the name.
+fn head(metadata: &Metadata<'_>) -> String {
+    let name = metadata.is_span().then(|| format!(" {}", metadata.name()));
+    format!(
+        "{} {}{}",
+        metadata.level(),
+        metadata.target(),
+        name.unwrap_or_default()
+    )
 }
 
 impl Subscriber for Log {
@@ -55,9 +68,9 @@ impl Subscriber for Log {
     fn new_span(&self, span: &Attributes<'_>) -> Id {
         let mut state = self.state.lock().unwrap();
         state.spans += 1;
-        let (number, name) = (state.spans, span.metadata().name());
+        let (number, head) = (state.spans, head(span.metadata()));
         let fields = fields(|fields| span.record(fields));
-        state.lines.push(format!("{number} opened: {name}{fields}"));
+        state.lines.push(format!("{number} opened: {head}{fields}"));
         Id::from_u64(number)
     }
 
@@ -73,7 +86,8 @@ impl Subscriber for Log {
         let fields = fields(|fields| event.record(fields));
         let mut state = self.state.lock().unwrap();
         let inside = state.entered.last().copied().unwrap_or_default();
-        state.lines.push(format!("{inside} event:{fields}"));
+        let head = head(event.metadata());
+        state.lines.push(format!("{inside} event: {head}{fields}"));
     }
 
     fn enter(&self, span: &Id) {
