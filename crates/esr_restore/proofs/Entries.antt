@@ -131,7 +131,7 @@ module _ (items transactions : List (List ℕ)) (h : Schedule) (names : AreNames
       rw (ne_eqb (length s.history.entries) MAX_ENTRIES (λ is. omega (arith, is, room)), reply_is e) refl,
     )
 
-    -- after an event that is no begin the same names are bound
+    -- after an event that is not a begin the same names are bound
     at_plain : (name : List ℕ) (e : Event) → beginning_of e ≡ None → IsAt (next_to name e) (extended before e (reply_to weighted before e))
     at_plain name e none =
         let r : Reply = reply_to weighted before e in

@@ -1,0 +1,3 @@
+-- The audit of a query without a certificate.
+
+pub mod Audits

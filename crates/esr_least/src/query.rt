@@ -1,0 +1,92 @@
+//! The audit of one query.
+ghost use Rattle.std.specs.Prelude.{◌≡◌, ◌↔◌, IfOk, IsErrOf, false, map, true};
+ghost use Rattle.esr_history.specs.Queries.{is_committed_query};
+ghost use Rattle.esr_order.specs.Index.{IsWholeIndexOf};
+ghost use Rattle.esr_audit.specs.Findings.{IsFindingOf, summary_of};
+ghost use Rattle.esr_stream.specs.Passes.{IsLeast};
+ghost use Rattle.esr_least.specs.Audits.{audited};
+
+use esr_audit::{AuditError, Finding, audit_query_by_index};
+use esr_history::{History, TxnId};
+use esr_items::Metric;
+use esr_order::{Index, is_committed_query};
+use esr_stream::{Least, least_of};
+use std::alloc::Global;
+
+/// The audit of a committed query: a finding without a problem and a certificate.
+#[derive(Drop)]
+pub struct QueryAudit {
+    pub query: TxnId,
+    /// The least distance of all placements.
+    pub distance: u64,
+    /// The import of the query: at least the distance.
+    pub import: u64,
+    /// The smallest set of updates before the position of a placement of that distance, in commit order.
+    pub before: Vec<TxnId>,
+}
+
+fn of_least<M: Metric>(history: &History<M>, q: TxnId, least: Least) -> QueryAudit
+    requires { IsLeast M.distance_by history.now.schedule q.0 least.distance (map (λ t. t.0) least.before.items) }
+    ensures { audited result ≡ summary_of M.distance_by history.now.schedule q.0 }
+{
+    QueryAudit {
+        query: q,
+        distance: least.distance,
+        import: history.import(q),
+        before: least.before,
+    }
+}
+
+/// Returns the audit of a finding, and frees its problem and its certificate.
+fn of_finding<M: Metric>(history: &History<M>, q: TxnId, finding: Finding) -> QueryAudit
+    requires { IsFindingOf M.distance_by history.now.schedule q.0 finding }
+    ensures { audited result ≡ summary_of M.distance_by history.now.schedule q.0 }
+{
+    let Finding {
+        query: _,
+        distance,
+        import,
+        before,
+        problem,
+        certificate,
+    } = finding;
+    drop(problem);
+    drop(certificate);
+    QueryAudit {
+        query: q,
+        distance,
+        import,
+        before,
+    }
+}
+
+/// Returns the audit of a query. The index has read the whole history.
+///
+/// # Errors
+///
+/// - `NotACommittedQuery` if and only if the transaction is not a query or has not committed.
+/// - `NoMemory` if an allocation failed.
+pub fn summarize_by_index<M: Metric>(
+    alloc: Global,
+    history: &History<M>,
+    index: &Index,
+    q: TxnId,
+) -> Result<QueryAudit, AuditError>
+    requires { IsWholeIndexOf history.now.schedule.entries index.now }
+    ensures summary { IfOk result (λ a. audited a ≡ summary_of M.distance_by history.now.schedule q.0) }
+    ensures committed { IfOk result (λ a. is_committed_query history.now.schedule q.0 ≡ true) }
+    ensures refused { IsErrOf result AuditError.NotACommittedQuery
+        ↔ (is_committed_query history.now.schedule q.0 ≡ false) }
+    ensures workers { ¬ IsErrOf result AuditError.WorkersOutOfRange }
+{
+    if !is_committed_query(history, q) {
+        return Err(AuditError::NotACommittedQuery);
+    }
+    match least_of(alloc, history, index, q) {
+        Err(_) => return Err(AuditError::NoMemory),
+        Ok(Some(least)) => return Ok(of_least(history, q, least)),
+        Ok(None) => {}
+    }
+    let finding = audit_query_by_index(alloc, history, index, q)?;
+    Ok(of_finding(history, q, finding))
+}

@@ -1,0 +1,89 @@
+-- The invariant of a pass: one more update, the start, and the end.
+use Rattle.std.proofs.Common.{◌≡◌, ◌≢◌, ℕ, ℤ, ◌+◌, ◌<◌, ◌≤◌, Bool, true, false, ◌&&◌, List, length, set, sym, ap, ◌∙◌, subst, inl, inr, arith, ◌⊎◌, refl, get_or-set_same, get_or-set_other}
+use Rattle.std.specs.List.{list_any, AllByRecursion}
+use Rattle.std.proofs.lemmas.Bool.{cases_eq}
+use Rattle.esr_history.specs.Events.{last_value}
+use Rattle.esr_history.specs.Machine.{Distance, Schedule, IsLegal}
+use Rattle.esr_history.specs.Serial.{values_by}
+use Rattle.esr_history.specs.Queries.{updates_of, must}
+use Rattle.esr_order.specs.Chains.{nth}
+use Rattle.esr_order.specs.declared.accesses.Access.{Access}
+use Rattle.esr_order.specs.Scans.{accesses_in}
+use Rattle.esr_order.proofs.ConflictOrder.{in_order}
+use Rattle.esr_bound.specs.Amounts.{total, mark_at, left_by_all, HasSlack, Shows}
+use Rattle.esr_bound.proofs.LowerBound.{all_more, law_of_start, law_of_updates, law_of_end}
+use Rattle.esr_stream.specs.Passes.{ItemState, has_slack_at, amount_at, amounts_sum, AreStates, IsRowApplied, IsPassed, StayMarked}
+use Rattle.esr_stream.proofs.StepLaws.{total_states, states_after, step_made, slack_is}
+
+pub mark_same : (marks : List Bool) (k : ℕ) (marked : Bool) → k < length marks → mark_at (set marks k marked) k ≡ marked
+mark_same marks k marked l = get_or-set_same marks k marked false l
+
+pub mark_other : (marks : List Bool) (k i : ℕ) (marked : Bool) → i ≢ k → mark_at (set marks k marked) i ≡ mark_at marks i
+mark_other marks k i marked ne = get_or-set_other marks k i marked false ne
+
+-- a mark that is set or stays is still there
+pub stay_more : (seeds marks : List Bool) (k : ℕ) (marked : Bool) → k < length marks → (mark_at marks k ≡ true → marked ≡ true) → StayMarked seeds marks → StayMarked seeds (set marks k marked)
+stay_more seeds marks k marked l grows stay i is = elim (cases_eq i k) [
+  | inl e ↦ ap (mark_at (set marks k marked)) e ∙ mark_same marks k marked l ∙ grows (sym (ap (mark_at marks) e) ∙ stay i is)
+  | inr ne ↦ mark_other marks k i marked ne ∙ stay i is
+]
+
+module _ (d : Distance) (h : Schedule) (q : ℕ) (legal : IsLegal d h) (C : ℕ → ℤ → ℕ) where
+  abbrev n : ℕ
+  n = length h.opening
+
+  next : (k x : ℕ) → k < length (updates_of h q) → left_by_all h q (k + 1) x ≡ last_value (left_by_all h q k x) (values_by h x (nth (updates_of h q) k))
+  next k x l = all_more h q (in_order d h q legal) k x l
+
+  -- an update that the query must see
+  pub first_more : (k : ℕ) (marks : List Bool) (row : List Access) (old new : List ItemState) (before after : ℕ) → k < length (updates_of h q) → AreStates C h q k marks old → row ≡ accesses_in h.entries (nth (updates_of h q) k)
+      → IsRowApplied C true row old new before after → mark_at marks k ≡ true → AreStates C h q (k + 1) marks new
+  first_more k marks row old new before after inside is is_row put mark =
+      states_after h q C k true marks marks row old new before after is is_row (λ x. next k x inside) put (λ i l. refl) mark
+
+  -- one more update of a pass
+  module _ (worth k : ℕ) (seeds marks : List Bool) (marked : Bool) (row : List Access) (old new : List ItemState) (before after : ℕ)
+      (so_far : IsPassed (length h.opening) C h q worth k seeds marks old) (inside : k < length (updates_of h q)) (sized : k < length marks)
+      (is_row : row ≡ accesses_in h.entries (nth (updates_of h q) k)) (items : AllByRecursion (λ (a : Access). a.item.0 < length h.opening) row)
+      (why : marked ≡ true → (mark_at marks k ≡ true) ⊎ (list_any (λ (a : Access). a.writes && has_slack_at old a.item.0) row ≡ true))
+      (put : IsRowApplied C marked row old new before after) (keeps : before ≤ after) where
+    abbrev marks' : List Bool
+    marks' = set marks k marked
+
+    earlier : (i : ℕ) → i < k → mark_at (set marks k marked) i ≡ mark_at marks i
+    earlier i l = mark_other marks k i marked (λ e. omega (arith, l, e))
+
+    reason : mark_at (set marks k marked) k ≡ true → (mark_at seeds k ≡ true) ⊎ HasSlack (length h.opening) C h q k (amount_at old) marks
+    reason is = elim (why (sym (mark_same marks k marked sized) ∙ is)) [
+      | inl m ↦ inl (sym (so_far.later k (omega arith)) ∙ m)
+      | inr s ↦ inr (slack_is C h q k marks old row so_far.states is_row items s)
+    ]
+
+    pub passed_more : IsPassed (length h.opening) C h q worth (k + 1) seeds (set marks k marked) new
+    passed_more = record {
+      states = states_after h q C k marked marks (set marks k marked) row old new before after so_far.states is_row (λ x. next k x inside) put earlier (mark_same marks k marked sized);
+      later = λ j l. mark_other marks k j marked (λ e. omega (arith, l, e)) ∙ so_far.later j (omega (arith, l));
+      carries = λ S closed has.
+          law_of_updates d h q (length h.opening) C worth k (amount_at old) (amount_at new) (mark_at seeds k) marks (set marks k marked) S legal inside
+          (step_made h q C k marked marks (set marks k marked) row old new before after so_far.states is_row (λ x. next k x inside) put earlier (mark_at seeds k) keeps reason)
+          closed (λ s. has k inside s) (so_far.carries S closed has);
+    }
+
+  -- a pass starts
+  pub passed_start : (first : ℕ) (marks : List Bool) (states : List ItemState) → first ≡ length (must h q) → AreStates C h q first marks states → IsPassed (length h.opening) C h q (amounts_sum states) first marks marks states
+  passed_start first marks states is are = record {
+    states = are;
+    later = λ j l. refl;
+    carries = λ S closed has.
+        law_of_start d h q (length h.opening) C (amounts_sum states) first (amount_at states) marks S legal (record {
+          seen = is;
+          under = λ x l. let u = are.under x l in let c = are.cost x l in omega (arith, u, c);
+          sum = sym (ap (λ m. total m (amount_at states)) (sym are.len) ∙ total_states (λ (i : ItemState). i.amount) states);
+        }) closed;
+  }
+
+  -- and ends
+  pub passed_end : (worth k : ℕ) (seeds marks : List Bool) (states : List ItemState) → k ≡ length (updates_of h q) → IsPassed (length h.opening) C h q worth k seeds marks states → Shows (length h.opening) C h q worth seeds marks
+  passed_end worth k seeds marks states e is =
+      let at_end = subst (λ m. IsPassed (length h.opening) C h q worth m seeds marks states) e is in
+      law_of_end h q (length h.opening) C worth (amount_at states) seeds marks (λ S closed has. at_end.carries S closed has)

@@ -1,0 +1,230 @@
+-- The effect of an update on the states of items is a step of the amounts.
+use Rattle.std.proofs.Common.{All, ◌≡◌, ℕ, zero, suc, ℤ, ◌+◌, ◌<◌, ◌≤◌, Bool, true, false, cond, ◌&&◌, eqb, List, [], ◌∷◌, ◌++◌, length, length-append, filter, map, sum_by, refl, sym, ap, ◌∙◌, subst, inl, inr, arith, ◌⊎◌, nat_lt, eq-eqb}
+use Rattle.std.specs.List.{range_with_len, list_any, AllByRecursion}
+use Rattle.std.proofs.lemmas.Bool.{cases_eq, and_parts, ltb-true}
+use Rattle.std.proofs.lemmas.List.Sums.{sum_by-cons}
+use Rattle.esr_items.specs.Values.{value_at, IsValue}
+use Rattle.std.proofs.lemmas.List.Elements.{All-from_recursion, recursion_from_All}
+use Rattle.esr_history.proofs.WithinRanges.{legal_within_ranges}
+use Rattle.esr_order.proofs.Lists.{of_map}
+use Rattle.esr_history.specs.Events.{last_value}
+use Rattle.esr_history.specs.Machine.{Distance, Schedule, IsLegal}
+use Rattle.esr_history.specs.Operations.{Operation, operations}
+use Rattle.esr_history.specs.Serial.{values_by}
+use Rattle.esr_history.specs.Queries.{updates_of}
+use Rattle.esr_history.proofs.Versions.{wrote_by}
+use Rattle.esr_history.proofs.Words.{values_trace}
+use Rattle.esr_order.specs.declared.accesses.Access.{Access}
+use Rattle.esr_order.specs.Scans.{access_of, accesses_in}
+use Rattle.esr_order.specs.Chains.{nth}
+use Rattle.esr_bound.specs.Amounts.{total, mark_at, Wrote, left_by_all, AreCovered, HasSlack, IsStep}
+use Rattle.esr_history.proofs.LastWriter.{empty_or_not}
+use Rattle.esr_history.proofs.Membership.{In, In-any, In-of_filter, each_in, each_at}
+use Rattle.esr_stream.specs.Passes.{ItemState, state_at, is_write, written_in, has_slack_at, amount_at, AreStates, AreOpening, IsRowApplied}
+
+map_if : {X : Type 0} (f : X → ℤ) (b : Bool) (x : X) (xs : List X) → map f (cond b (x ∷ xs) xs) ≡ cond b (f x ∷ map f xs) (map f xs)
+map_if f true x xs = refl
+map_if f false x xs = refl
+
+-- one more operation
+both_more : (t w i : Bool) (v : ℤ) (L R : List ℤ) → L ≡ R → cond t (cond (w && i) (v ∷ L) L) L ≡ cond ((w && i) && t) (v ∷ R) R
+both_more true true true v L R e = ap (λ l. v ∷ l) e
+both_more true true false v L R e = e
+both_more true false i v L R e = e
+both_more false true true v L R e = e
+both_more false true false v L R e = e
+both_more false false i v L R e = e
+
+access_more : (x : ℕ) (t : Bool) (o : Operation) (F : List Operation) → written_in x (map access_of (cond t (o ∷ F) F))
+    ≡ cond t (cond (o.writes && eqb o.item x) (o.value ∷ written_in x (map access_of F)) (written_in x (map access_of F))) (written_in x (map access_of F))
+access_more x true o F = map_if (λ (a : Access). a.value) (o.writes && eqb o.item x) (access_of o) (filter (is_write x) (map access_of F))
+access_more x false o F = refl
+
+-- the values that an update wrote to an item, by its accesses and by the history
+pub written_is : (h : Schedule) (x u : ℕ) → written_in x (accesses_in h.entries u) ≡ values_by h x u
+written_is h x u = go (operations h) ∙ sym (values_trace h x u)
+  where
+    go : (os : List Operation) → written_in x (map access_of (filter (λ (o : Operation). eqb o.txn u) os)) ≡ map (λ (o : Operation). o.value) (filter (wrote_by x u) os)
+    go [] = refl
+    go (o ∷ os) =
+        access_more x (eqb o.txn u) o (filter (λ (o : Operation). eqb o.txn u) os)
+        ∙ both_more (eqb o.txn u) o.writes (eqb o.item x) o.value (written_in x (map access_of (filter (λ (o : Operation). eqb o.txn u) os))) (map (λ (o : Operation). o.value) (filter (wrote_by x u) os)) (go os)
+        ∙ sym (map_if (λ (o : Operation). o.value) (wrote_by x u o) o (filter (wrote_by x u) os))
+
+-- a sum over the items is the sum over the list
+pub total_states : (f : ItemState → ℕ) (states : List ItemState) → total (length states) (λ x. f (state_at states x)) ≡ sum_by f states
+total_states f states = from states 0 (λ x. let e : 0 + x ≡ x = omega arith in ap (state_at states) e)
+  where
+    from : (rest : List ItemState) (a : ℕ) → ((x : ℕ) → state_at states (a + x) ≡ state_at rest x) → sum_by (λ x. f (state_at states x)) (range_with_len a (length rest)) ≡ sum_by f rest
+    from [] a same = refl
+    from (i ∷ rest) a same =
+        let z : a + 0 ≡ a = omega arith in
+        let here : f (state_at states a) ≡ f i = ap f (sym (ap (state_at states) z) ∙ same 0) in
+        let more : sum_by (λ x. f (state_at states x)) (range_with_len (a + 1) (length rest)) ≡ sum_by f rest = from rest (a + 1) (λ x. let e : (a + 1) + x ≡ a + suc x = omega arith in ap (state_at states) e ∙ same (suc x)) in
+        omega (arith, sum_by-cons (λ x. f (state_at states x)) a (range_with_len (a + 1) (length rest)), sum_by-cons f i rest, here, more)
+
+module _ (h : Schedule) (q : ℕ) (C : ℕ → ℤ → ℕ) (k : ℕ) (marked : Bool) (marks marks' : List Bool) (row : List Access) (old new : List ItemState) (before after : ℕ)
+    (so_far : AreStates C h q k marks old) (is_row : row ≡ accesses_in h.entries (nth (updates_of h q) k))
+    (next : (x : ℕ) → left_by_all h q (k + 1) x ≡ last_value (left_by_all h q k x) (values_by h x (nth (updates_of h q) k)))
+    (put : IsRowApplied C marked row old new before after)
+    (earlier : (i : ℕ) → i < k → mark_at marks' i ≡ mark_at marks i) where
+  abbrev n : ℕ
+  n = length h.opening
+
+  abbrev here : ℕ
+  here = nth (updates_of h q) k
+
+  wrote : (x : ℕ) → written_in x row ≡ values_by h x here
+  wrote x = ap (written_in x) is_row ∙ written_is h x here
+
+  inside : (x : ℕ) → x < length h.opening → x < length old
+  inside x l = omega (arith, l, so_far.len)
+
+  -- the costs after the update
+  costs_after : (x : ℕ) → x < length h.opening → (state_at new x).cost ≡ C x (left_by_all h q (k + 1) x)
+  costs_after x l =
+      put.cost x (left_by_all h q k x) (inside x l) (so_far.cost x l)
+      ∙ ap (λ vs. C x (last_value (left_by_all h q k x) vs)) (wrote x)
+      ∙ ap (C x) (sym (next x))
+
+  -- each writer so far is marked, or a later one is
+  covered_after : (marked_is : mark_at marks' k ≡ marked) (x : ℕ) → x < length h.opening → (state_at new x).covered ≡ true → AreCovered h q (k + 1) marks' x
+  covered_after marked_is x l w i low wrote_i =
+      elim (empty_or_not (values_by h x here)) [
+        | inl none ↦
+            elim (cases_eq i k) [
+              | inl e ↦ absurd (subst (λ j. Wrote h x (nth (updates_of h q) j)) e wrote_i none)
+              | inr ne ↦
+                  let less : i < k = omega arith in
+                  let was : (state_at old x).covered ≡ true = sym (ap (λ (i : ItemState). i.covered) (put.others x (wrote x ∙ none))) ∙ w in
+                  elim (so_far.covered x l was i less wrote_i) [
+                    | inl m ↦ inl (earlier i less ∙ m)
+                    | inr j ↦ inr (j.0, j.1, omega (arith, j.2), j.3, earlier j.0 j.2 ∙ j.4)
+                  ]
+            ]
+        | inr some ↦
+            let m : mark_at marks' k ≡ true = marked_is ∙ sym (put.covered_is x (inside x l) (λ e. some (sym (wrote x) ∙ e))) ∙ w in
+            elim (cases_eq i k) [
+              | inl e ↦ inl (ap (mark_at marks') e ∙ m)
+              | inr ne ↦ inr (k, omega arith, omega arith, some, m)
+            ]
+      ]
+
+  pub states_after : mark_at marks' k ≡ marked → AreStates C h q (k + 1) marks' new
+  states_after marked_is = record {
+    len = put.len ∙ so_far.len;
+    cost = costs_after;
+    under = λ x l. elim (empty_or_not (values_by h x here)) [
+      | inl none ↦
+          let a = ap (λ (i : ItemState). i.amount) (put.others x (wrote x ∙ none)) in
+          let c = ap (λ (i : ItemState). i.cost) (put.others x (wrote x ∙ none)) in
+          let u = so_far.under x l in
+          omega (arith, a, c, u)
+      | inr some ↦ put.under x (inside x l) (λ e. some (sym (wrote x) ∙ e))
+    ];
+    covered = covered_after marked_is;
+  }
+
+  module _ (seed : Bool) (keeps : before ≤ after) (why : mark_at marks' k ≡ true → (seed ≡ true) ⊎ HasSlack (length h.opening) C h q k (amount_at old) marks) where
+    sums : total (length h.opening) (amount_at old) ≤ total (length h.opening) (amount_at new)
+    sums =
+        let a = total_states (λ (i : ItemState). i.amount) old in
+        let b = total_states (λ (i : ItemState). i.amount) new in
+        let c : total (length old) (amount_at old) ≡ total (length h.opening) (amount_at old) = ap (λ m. total m (amount_at old)) so_far.len in
+        let d : total (length new) (amount_at new) ≡ total (length h.opening) (amount_at new) = ap (λ m. total m (amount_at new)) (put.len ∙ so_far.len) in
+        let s = put.sum in
+        omega (arith, a, b, c, d, s, keeps)
+
+    pub step_made : IsStep (length h.opening) C h q k (amount_at old) (amount_at new) seed marks marks'
+    step_made = record {
+      others = λ x l e. ap (λ (i : ItemState). i.amount) (put.others x (wrote x ∙ e));
+      under = λ x l w. let u = put.under x (inside x l) (λ e. w (sym (wrote x) ∙ e)) in let c = costs_after x l in omega (arith, u, c);
+      sum = sums;
+      earlier = earlier;
+      mark = why;
+    }
+
+-- ---- the reason for a mark
+
+written_some : (x : ℕ) (row : List Access) (a : Access) → In a row → is_write x a ≡ true → written_in x row ≡ [] → ⊥
+written_some x [] a i w e = absurd i
+written_some x (b ∷ row) a (inl s) w e =
+    let m : is_write x b ≡ true = ap (is_write x) s ∙ w in
+    let f : written_in x (b ∷ row) ≡ b.value ∷ written_in x row = map_if (λ (a : Access). a.value) (is_write x b) b (filter (is_write x) row) ∙ ap (λ t. cond t (b.value ∷ written_in x row) (written_in x row)) m in
+    let g : b.value ∷ written_in x row ≡ [] = sym f ∙ e in cc
+written_some x (b ∷ row) a (inr i) w e = at (is_write x b) refl (written_some x row a i w)
+  where
+    at : (t : Bool) → is_write x b ≡ t → (written_in x row ≡ [] → ⊥) → ⊥
+    at true m rest =
+        let f : written_in x (b ∷ row) ≡ b.value ∷ written_in x row = map_if (λ (a : Access). a.value) (is_write x b) b (filter (is_write x) row) ∙ ap (λ t. cond t (b.value ∷ written_in x row) (written_in x row)) m in
+        let g : b.value ∷ written_in x row ≡ [] = sym f ∙ e in cc
+    at false m rest =
+        let f : written_in x (b ∷ row) ≡ written_in x row = map_if (λ (a : Access). a.value) (is_write x b) b (filter (is_write x) row) ∙ ap (λ t. cond t (b.value ∷ written_in x row) (written_in x row)) m in
+        rest (sym f ∙ e)
+
+pub slack_is : (C : ℕ → ℤ → ℕ) (h : Schedule) (q k : ℕ) (marks : List Bool) (states : List ItemState) (row : List Access) → AreStates C h q k marks states → row ≡ accesses_in h.entries (nth (updates_of h q) k)
+    → AllByRecursion (λ (a : Access). a.item.0 < length h.opening) row
+    → list_any (λ (a : Access). a.writes && has_slack_at states a.item.0) row ≡ true → HasSlack (length h.opening) C h q k (amount_at states) marks
+slack_is C h q k marks states row are is_row inside any =
+    let r = In-any (λ (a : Access). a.writes && has_slack_at states a.item.0) row any in
+    let a : Access = r.0 in
+    let both = and_parts a.writes (has_slack_at states a.item.0) r.2 in
+    let short = and_parts (state_at states a.item.0).covered (nat_lt (state_at states a.item.0).amount (state_at states a.item.0).cost) both.1 in
+    let known : a.item.0 < length h.opening = each_at (λ (b : Access). b.item.0 < length h.opening) row a inside r.1 in
+    let cost = are.cost a.item.0 known in
+    let low : (state_at states a.item.0).amount < (state_at states a.item.0).cost = ltb-true (state_at states a.item.0).amount (state_at states a.item.0).cost short.1 in
+    let writes : is_write a.item.0 a ≡ true = ap (λ b. b && eqb a.item.0 a.item.0) both.0 ∙ eq-eqb a.item.0 a.item.0 refl in record {
+      item = a.item.0;
+      known = known;
+      wrote = λ none. written_some a.item.0 row a r.1 writes (ap (written_in a.item.0) is_row ∙ written_is h a.item.0 (nth (updates_of h q) k) ∙ none);
+      writers = are.covered a.item.0 known short.0;
+      slack = omega (arith, low, cost);
+    }
+
+-- ---- the opening values
+
+pub opening_none : (C : ℕ → ℤ → ℕ) (opening : List ℤ) (states : List ItemState) → states ≡ [] → AreOpening C opening 0 states
+opening_none C opening states e = record { len = ap length e; cost = λ x l. absurd (omega arith); under = λ x l. absurd (omega arith) }
+
+at_pushed : (states : List ItemState) (i : ItemState) → state_at (states ++ i ∷ []) (length states) ≡ i
+at_pushed [] i = refl
+at_pushed (j ∷ states) i = at_pushed states i
+
+before_pushed : (states : List ItemState) (i : ItemState) (x : ℕ) → x < length states → state_at (states ++ i ∷ []) x ≡ state_at states x
+before_pushed [] i x l = absurd (omega arith)
+before_pushed (j ∷ states) i zero l = refl
+before_pushed (j ∷ states) i (suc x) l = before_pushed states i x (omega arith)
+
+pub opening_more : (C : ℕ → ℤ → ℕ) (opening : List ℤ) (n : ℕ) (states next : List ItemState) (i : ItemState) → AreOpening C opening n states → next ≡ states ++ i ∷ [] → i.cost ≡ C n (value_at opening n) → i.amount ≤ i.cost → AreOpening C opening (n + 1) next
+opening_more C opening n states next i is pushed cost low = record {
+  len = ap length pushed ∙ length-append states (i ∷ []) ∙ (let e = is.len in omega arith);
+  cost = λ x l. elim (cases_eq x n) [
+    | inl e ↦ ap (λ (j : ItemState). j.cost) (own x e) ∙ cost ∙ ap (λ m. C m (value_at opening m)) (sym e)
+    | inr ne ↦ let m : x < n = omega arith in ap (λ (j : ItemState). j.cost) (other x m) ∙ is.cost x m
+  ];
+  under = λ x l. elim (cases_eq x n) [
+    | inl e ↦ let a = ap (λ (j : ItemState). j.cost) (own x e) in let b = ap (λ (j : ItemState). j.amount) (own x e) in omega (arith, a, b, low)
+    | inr ne ↦ let m : x < n = omega arith in let a = ap (λ (j : ItemState). j.cost) (other x m) in let b = ap (λ (j : ItemState). j.amount) (other x m) in let u = is.under x m in omega (arith, a, b, u)
+  ];
+}
+  where
+    own : (x : ℕ) → x ≡ n → state_at next x ≡ i
+    own x e = ap (λ h. state_at h x) pushed ∙ ap (state_at (states ++ i ∷ [])) (e ∙ sym is.len) ∙ at_pushed states i
+
+    other : (x : ℕ) → x < n → state_at next x ≡ state_at states x
+    other x m = ap (λ h. state_at h x) pushed ∙ before_pushed states i x (omega (arith, m, is.len))
+
+pub opening_states_are : (C : ℕ → ℤ → ℕ) (h : Schedule) (q : ℕ) (marks : List Bool) (states : List ItemState) → AreOpening C h.opening (length h.opening) states → AreStates C h q 0 marks states
+opening_states_are C h q marks states is = record {
+  len = is.len;
+  cost = λ x l. is.cost x l;
+  under = is.under;
+  covered = λ x l w i low. absurd (omega arith);
+}
+
+-- the values of accesses are in range
+pub accesses_valued : (d : Distance) (h : Schedule) → All IsValue h.opening → IsLegal d h → (t : ℕ) → All (λ (a : Access). IsValue a.value) (accesses_in h.entries t)
+accesses_valued d h opened legal t = All-from_recursion (λ (a : Access). IsValue a.value) (accesses_in h.entries t) (each_in (λ (a : Access). IsValue a.value) (accesses_in h.entries t) (λ a i.
+    let o = of_map access_of (filter (λ (o : Operation). eqb o.txn t) (operations h)) a i in
+    let v : IsValue o.0.value = each_at (λ (o : Operation). IsValue o.value) (operations h) o.0 (recursion_from_All (λ (o : Operation). IsValue o.value) (operations h) (legal_within_ranges d h opened legal).values) (In-of_filter (λ (o : Operation). eqb o.txn t) (operations h) o.0 o.1).0 in
+    subst IsValue (ap (λ (a : Access). a.value) o.2) v))

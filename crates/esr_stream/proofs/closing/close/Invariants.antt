@@ -1,0 +1,11 @@
+use Rattle.std.proofs.Common.{◌≡◌, length}
+use Rattle.esr_stream.specs.Closing.{seen_later}
+use Rattle.esr_stream.proofs.ClosingLaws.{IsClosedFrom}
+use Rattle.esr_stream.proofs.closing.close.Given as goal
+
+abbrev pub invariant-loop-i : goal.invariant-loop-i
+invariant-loop-i g l = record {
+  read : length l.later.read.items ≡ length l.history.schedule.opening;
+  written : length l.later.written.items ≡ length l.history.schedule.opening;
+  closed : IsClosedFrom l.history.schedule l.fn.q.0 l.i l.fn.marks l.marks (seen_later l.later);
+}

@@ -1,0 +1,29 @@
+use Rattle.std.proofs.Common.{◌<◌, ◌∙◌, ap, arith, length}
+use Rattle.std.proofs.lemmas.Bool.{lt-ltb}
+use Rattle.esr_order.proofs.Early.{must_below}
+use Rattle.esr_order.proofs.Gathered.{commits_length}
+use Rattle.esr_bound.specs.Amounts.{mark_at}
+use Rattle.esr_stream.proofs.CostLaws.{are_read}
+use Rattle.esr_stream.proofs.least.find.Goals as goal
+
+pub draft-requires-clause-read : goal.draft-requires-clause-read
+draft-requires-clause-read g c =
+    are_read g.M.Metric.distance_by c.args.history.now.schedule c.args.q.0 c.log-legal.ensures.range c.log-legal.ensures.legal c.args.lists.now c.requires.items c.requires.lists c.requires.query
+
+pub start-requires-clause-read : goal.start-requires-clause-read
+start-requires-clause-read g c =
+    are_read g.M.Metric.distance_by c.args.history.now.schedule c.args.q.0 c.log-legal.ensures.range c.log-legal.ensures.legal c.args.lists.now c.requires.items c.requires.lists c.requires.query
+
+pub mark_least-requires-clause-read : goal.mark_least-requires-clause-read
+mark_least-requires-clause-read g c =
+    are_read g.M.Metric.distance_by c.args.history.now.schedule c.args.q.0 c.log-legal.ensures.range c.log-legal.ensures.legal c.args.lists.now c.requires.items c.requires.lists c.requires.query
+
+pub mark_least-requires-clause-musts : goal.mark_least-requires-clause-musts
+mark_least-requires-clause-musts g c = λ i l.
+    let h = c.args.history.now.schedule in
+    let d = g.M.Metric.distance_by in
+    let legal = c.log-legal.ensures.legal in
+    let inside : i < length c.args.updates.now = omega (arith, l, c.in_ok-first.ensures, must_below d h c.args.q.0 legal, commits_length d h c.args.q.0 legal c.args.updates.now c.requires.updates) in
+    ap (λ ms. mark_at ms i) c.deref_mut.ensures.value
+    ∙ c.in_ok-marks.ensures.marks i inside
+    ∙ lt-ltb i c.in_ok-first.first l

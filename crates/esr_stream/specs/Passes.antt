@@ -1,0 +1,83 @@
+-- The state of each item along the updates of a query, and the effect of one update on it.
+use Rattle.std.specs.Prelude.{◌≡◌, ◌≤◌, ◌<◌, ◌+◌, ◌&&◌, ◌==◌, ℕ, ℤ, Bool, true, false, nat_lt, List, [], length, filter, map, sum_by, slice_index_or}
+use Rattle.esr_items.specs.Values.{value_at}
+use Rattle.esr_history.specs.Events.{last_value}
+use Rattle.esr_history.specs.Machine.{Distance, Schedule}
+use Rattle.esr_history.specs.Queries.{updates_of}
+use Rattle.esr_order.specs.Placements.{IsClosed}
+use Rattle.esr_order.specs.Least.{least_set, least_cost}
+use Rattle.esr_bound.specs.Amounts.{left_by_all, mark_at, among_marked, cost_by, AreCovered, AreForced, Carries, HasMarked}
+use Rattle.esr_order.specs.declared.accesses.Access.{Access}
+pub use Rattle.esr_stream.specs.declared.items.ItemState.{ItemState}
+
+abbrev pub no_state : ItemState
+no_state = record { cost = 0; amount = 0; covered = false }
+
+abbrev pub state_at : List ItemState → ℕ → ItemState
+state_at states x = slice_index_or states x no_state
+
+-- the values that accesses write to item x, in order
+abbrev pub is_write : ℕ → Access → Bool
+is_write x a = a.writes && (a.item.0 == x)
+
+abbrev pub written_in : ℕ → List Access → List ℤ
+written_in x row = map (λ a. a.value) (filter (is_write x) row)
+
+abbrev pub amount_at : List ItemState → ℕ → ℕ
+amount_at states x = (state_at states x).amount
+
+abbrev pub amounts_sum : List ItemState → ℕ
+amounts_sum states = sum_by (λ i. i.amount) states
+
+-- whether the amount of the version of item x is below its cost, and the writers of x are covered by marks
+abbrev pub has_slack_at : List ItemState → ℕ → Bool
+has_slack_at states x = (state_at states x).covered && nat_lt (state_at states x).amount (state_at states x).cost
+
+-- the states after the first k updates of q, if version v of item x costs C x v
+pub record AreStates (C : ℕ → ℤ → ℕ) (h : Schedule) (q k : ℕ) (marks : List Bool) (states : List ItemState) : Type 0 where
+  pub len : length states ≡ length h.opening
+  pub cost : (x : ℕ) → x < length h.opening → (state_at states x).cost ≡ C x (left_by_all h q k x)
+  pub under : (x : ℕ) → x < length h.opening → amount_at states x ≤ (state_at states x).cost
+  pub covered : (x : ℕ) → x < length h.opening → (state_at states x).covered ≡ true → AreCovered h q k marks x
+
+-- The effect of the accesses of one update, marked or not, on the states. The versions that it overwrites had amounts that
+-- sum to `before`, and the versions that it leaves have amounts that sum to `after`.
+pub record IsRowApplied (C : ℕ → ℤ → ℕ) (marked : Bool) (row : List Access) (old new : List ItemState) (before after : ℕ) : Type 0 where
+  pub len : length new ≡ length old
+  pub others : (x : ℕ) → written_in x row ≡ [] → state_at new x ≡ state_at old x
+  pub cost : (x : ℕ) (v : ℤ) → x < length old → (state_at old x).cost ≡ C x v → (state_at new x).cost ≡ C x (last_value v (written_in x row))
+  pub under : (x : ℕ) → x < length old → (written_in x row ≡ [] → ⊥) → amount_at new x ≤ (state_at new x).cost
+  pub covered_is : (x : ℕ) → x < length old → (written_in x row ≡ [] → ⊥) → (state_at new x).covered ≡ marked
+  pub sum : amounts_sum new + before ≡ amounts_sum old + after
+
+-- the states of the first n items before all updates
+pub record AreOpening (C : ℕ → ℤ → ℕ) (opening : List ℤ) (n : ℕ) (states : List ItemState) : Type 0 where
+  pub len : length states ≡ n
+  pub cost : (x : ℕ) → x < n → (state_at states x).cost ≡ C x (value_at opening x)
+  pub under : (x : ℕ) → x < n → amount_at states x ≤ (state_at states x).cost
+
+-- After the first k updates, if a pass started with the marks `seeds`: the states are those after k updates, later marks are
+-- those of the seeds, and for each closed set with all seeds, the versions that it leaves carry the worth.
+pub record IsPassed (n : ℕ) (C : ℕ → ℤ → ℕ) (h : Schedule) (q worth k : ℕ) (seeds marks : List Bool) (items : List ItemState) : Type 0 where
+  pub states : AreStates C h q k marks items
+  pub later : (j : ℕ) → k ≤ j → mark_at marks j ≡ mark_at seeds j
+  pub carries : (S : ℕ → Bool) → IsClosed h q S → HasMarked h q seeds S → Carries n C h q worth k (amount_at items) marks S
+
+-- marks of updates of which each closed set of cost at most `worth` has all, and which are themselves a closed set; no
+-- closed set costs less
+pub record AreShown (n : ℕ) (C : ℕ → ℤ → ℕ) (h : Schedule) (q worth : ℕ) (marks : List Bool) : Type 0 where
+  pub bound : (S : ℕ → Bool) → IsClosed h q S → worth ≤ cost_by n C h q S
+  pub forced : AreForced n C h q worth marks
+  pub closed : IsClosed h q (among_marked (updates_of h q) marks)
+
+-- the first k updates are marked
+abbrev pub AreFirst : ℕ → List Bool → Type 0
+AreFirst k marks = (i : ℕ) → i < k → mark_at marks i ≡ true
+
+-- each update that was marked still is
+abbrev pub StayMarked : List Bool → List Bool → Type 0
+StayMarked old new = (i : ℕ) → mark_at old i ≡ true → mark_at new i ≡ true
+
+-- the least distance of a query, and in commit order the smallest set of updates before a position of that distance
+abbrev pub IsLeast : Distance → Schedule → ℕ → ℕ → List ℕ → Type 0
+IsLeast d h q distance before = (distance ≡ least_cost d h q) × (before ≡ least_set d h q)

@@ -1,0 +1,147 @@
+//! Adds to a marked set the updates that precede its members.
+//!
+//! A predecessor of an update has a lower position in commit order, so one pass back along the updates closes the set. It
+//! records the items that the members after a position have read and written.
+ghost use Rattle.std.specs.Prelude.{◌≡◌, ◌<◌, ◌||◌, ℕ, ℤ, All, IfOk, false, length, map, true};
+ghost use Rattle.std.specs.List.{list_any};
+ghost use Rattle.esr_history.specs.Queries.{updates_of, must};
+ghost use Rattle.esr_order.specs.Index.{IsWholeIndexOf};
+ghost use Rattle.esr_order.specs.Placements.{IsClosed};
+ghost use Rattle.esr_order.specs.BackwardSearch.{conflicts_with, is_access, marked};
+ghost use Rattle.esr_bound.specs.Amounts.{AreForced, among_marked};
+ghost use Rattle.esr_stream.specs.Closing.{IsAdded, seen_later};
+ghost use Rattle.esr_stream.specs.Passes.{AreFirst, StayMarked};
+
+use esr_history::{History, TxnId};
+use esr_items::Metric;
+use esr_order::{Access, Index};
+use std::alloc::{AllocError, Global};
+
+fn is_marked(flags: &[bool], i: usize) -> bool
+    ensures { result ≡ marked flags.now i }
+{
+    flags.get(i).copied().unwrap_or(false)
+}
+
+/// Marks the items of these accesses, of the writes or of the reads.
+fn mark(flags: &mut [bool], accesses: &[Access], writes: bool)
+    requires items { All (λ a. a.item.0 < length flags.old) accesses.now }
+    ensures len { length flags.new ≡ length flags.old }
+    ensures marks { (x : ℕ) → marked flags.new x
+        ≡ (marked flags.old x || list_any (is_access writes x) accesses.now) }
+{
+    for access in accesses {
+        if access.writes == writes {
+            flags[access.item.0 as usize] = true;
+        }
+    }
+}
+
+/// The items that later marked updates have read, and those that they have written.
+#[derive(Drop)]
+struct Later {
+    read: Vec<bool>,
+    written: Vec<bool>,
+}
+
+impl Later {
+    /// Returns whether one of these accesses conflicts with an access of a later marked update.
+    fn has_conflict(&self, accesses: &[Access]) -> bool
+        ensures { result ≡ list_any (conflicts_with (seen_later self.now)) accesses.now }
+    {
+        accesses.iter().any(|a| {
+            is_marked(&self.written, a.item.0 as usize)
+                || (a.writes && is_marked(&self.read, a.item.0 as usize))
+        })
+    }
+
+    /// Returns whether an update is marked: it is already, or it conflicts with a later marked update.
+    fn is_member(&self, accesses: &[Access], marked: bool) -> bool
+        ensures { result ≡ (marked || list_any (conflicts_with (seen_later self.now)) accesses.now) }
+    {
+        marked || self.has_conflict(accesses)
+    }
+
+    /// Adds the accesses of a marked update.
+    fn add(&mut self, accesses: &[Access])
+        requires read { All (λ a. a.item.0 < length self.old.read.items) accesses.now }
+        requires written { All (λ a. a.item.0 < length self.old.written.items) accesses.now }
+        ensures read_len { length self.new.read.items ≡ length self.old.read.items }
+        ensures written_len { length self.new.written.items ≡ length self.old.written.items }
+        ensures read { (x : ℕ) → marked self.new.read.items x
+            ≡ (marked self.old.read.items x || list_any (is_access false x) accesses.now) }
+        ensures written { (x : ℕ) → marked self.new.written.items x
+            ≡ (marked self.old.written.items x || list_any (is_access true x) accesses.now) }
+    {
+        mark(&mut self.read, accesses, false);
+        mark(&mut self.written, accesses, true);
+    }
+
+    /// Adds the accesses of an update, if it is marked.
+    fn add_if(&mut self, accesses: &[Access], is_member: bool)
+        requires read { All (λ a. a.item.0 < length self.old.read.items) accesses.now }
+        requires written { All (λ a. a.item.0 < length self.old.written.items) accesses.now }
+        ensures read_len { length self.new.read.items ≡ length self.old.read.items }
+        ensures written_len { length self.new.written.items ≡ length self.old.written.items }
+        ensures member { is_member ≡ true → IsAdded accesses.now (seen_later self.old) (seen_later self.new) }
+        ensures other { is_member ≡ false → seen_later self.new ≡ seen_later self.old }
+    {
+        if is_member {
+            self.add(accesses);
+        }
+    }
+}
+
+/// Returns no accesses of these items.
+fn no_later(alloc: Global, items: u32) -> Result<Later, AllocError>
+    ensures read_len { IfOk result (λ later. length later.read.items ≡ items) }
+    ensures written_len { IfOk result (λ later. length later.written.items ≡ items) }
+    ensures read { IfOk result (λ later. (x : ℕ) → marked later.read.items x ≡ false) }
+    ensures written { IfOk result (λ later. (x : ℕ) → marked later.written.items x ≡ false) }
+{
+    let read = vec![in alloc; false; items as usize]?;
+    let written = vec![in alloc; false; items as usize]?;
+    Ok(Later { read, written })
+}
+
+fn is_more(more: bool, is_member: bool, was_member: bool) -> bool {
+    more || is_member != was_member
+}
+
+/// Marks the updates that precede marked updates. Returns whether it marked any.
+///
+/// # Errors
+///
+/// An allocation failed.
+pub fn close<M: Metric>(
+    alloc: Global,
+    history: &History<M>,
+    index: &Index,
+    updates: &[TxnId],
+    marks: &mut [bool],
+    q: TxnId,
+) -> Result<bool, AllocError>
+    requires index { IsWholeIndexOf history.now.schedule.entries index.now }
+    requires updates { map (λ t. t.0) updates.now ≡ updates_of history.now.schedule q.0 }
+    requires marks { length marks.old ≡ length updates.now }
+    ensures len { length marks.new ≡ length marks.old }
+    ensures stay { StayMarked marks.old marks.new }
+    ensures forced { IfOk result (λ _. (n worth : ℕ) (C : ℕ → ℤ → ℕ)
+        → AreForced n C history.now.schedule q.0 worth marks.old
+        → AreForced n C history.now.schedule q.0 worth marks.new) }
+    ensures closed { IfOk result (λ _. AreFirst (length (must history.now.schedule q.0)) marks.old
+        → IsClosed history.now.schedule q.0 (among_marked (updates_of history.now.schedule q.0) marks.new)) }
+{
+    let _legal = history.log(); // brings the invariant into the proof
+    let mut later = no_later(alloc, history.items())?;
+    let mut list = Vec::new(alloc);
+    let mut more = false;
+    for i in (0..updates.len()).rev() {
+        let row = index.accesses_of(history, updates[i], &mut list)?;
+        let is_member = later.is_member(row, marks[i]);
+        more = is_more(more, is_member, marks[i]);
+        marks[i] = is_member;
+        later.add_if(row, is_member);
+    }
+    Ok(more)
+}

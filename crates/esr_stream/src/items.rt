@@ -1,0 +1,227 @@
+//! The state of each item along the updates of a query, and the effect of one update on it.
+ghost use Rattle.std.specs.Prelude.{◌≡◌, ◌≤◌, ◌<◌, ◌&&◌, ◌||◌, ◌+◌, ◌++◌, ◌∷◌, [], ℕ, Bool, List, All, IfOk, IfSome, length, true};
+ghost use Rattle.std.specs.List.{list_any};
+ghost use Rattle.esr_items.specs.Values.{IsValue};
+ghost use Rattle.esr_order.specs.declared.accesses.Access.{Access as AccessValue};
+ghost use Rattle.esr_stream.specs.Passes.{AreStates, IsRowApplied, ItemState as StateValue, amounts_sum, has_slack_at};
+ghost use Rattle.esr_stream.specs.Reads.{AreRead, raised};
+
+use crate::reads::raised_cost;
+use esr_history::History;
+use esr_items::{ItemId, Metric};
+use esr_order::Access;
+use std::alloc::{AllocError, Global};
+
+/// The state of an item after some updates.
+#[derive(Clone, Copy)]
+pub struct ItemState {
+    /// The cost of its version.
+    cost: u64,
+    /// The amount of that version: at most the cost.
+    amount: u64,
+    /// Whether each of its writers so far is marked or precedes a marked writer.
+    covered: bool,
+}
+
+/// Returns the amount at a place, 0 past the end.
+fn amount_at(amounts: &[u64], place: usize) -> u64 {
+    match amounts.get(place) {
+        Some(amount) => *amount,
+        None => 0,
+    }
+}
+
+/// Returns the states of the items before all updates.
+///
+/// # Errors
+///
+/// An allocation failed.
+pub fn opening_states<M: Metric>(
+    alloc: Global,
+    history: &History<M>,
+    lists: &[Vec<i64>],
+    amounts: &[u64],
+) -> Result<Vec<ItemState>, AllocError>
+    requires items { length lists.now ≡ length history.now.schedule.opening }
+    requires read { AreRead lists.now }
+    ensures { IfOk result (λ states. (q : ℕ) (marks : List Bool)
+        → AreStates (raised (M.distance_by history.now.schedule.weights) lists.now) history.now.schedule q 0 marks states.items) }
+{
+    let mut states = Vec::with_capacity(alloc, history.items() as usize)?;
+    for x in 0..history.items() {
+        let cost = raised_cost(
+            history.metric(),
+            lists,
+            ItemId(x),
+            history.opening(ItemId(x)),
+        );
+        states.push(ItemState {
+            cost,
+            amount: amount_at(amounts, x as usize).min(cost),
+            covered: true,
+        })?;
+    }
+    Ok(states)
+}
+
+/// Returns whether the version of an item has slack, and all its writers are covered.
+fn has_slack_at(states: &[ItemState], x: ItemId) -> bool
+    ensures { result ≡ has_slack_at states.now x.0 }
+{
+    match states.get(x.0 as usize) {
+        None => false,
+        Some(state) => state.covered && state.amount < state.cost,
+    }
+}
+
+/// Returns whether an update with these accesses overwrites a version with slack, so that it has to be marked.
+fn has_slack(states: &[ItemState], row: &[Access]) -> bool
+    ensures { result ≡ list_any (λ a. a.writes && has_slack_at states.now a.item.0) row.now }
+{
+    row.iter().any(|a| a.writes && has_slack_at(states, a.item))
+}
+
+/// Returns whether an update is marked: it is already, or it overwrites a version with slack.
+pub fn is_forced(states: &[ItemState], row: &[Access], marked: bool) -> bool
+    ensures { result ≡ (marked || list_any (λ a. a.writes && has_slack_at states.now a.item.0) row.now) }
+{
+    marked || has_slack(states, row)
+}
+
+/// Returns the sum of two numbers, or `None` if it does not fit.
+pub fn add(a: u64, b: u64) -> Option<u64>
+    ensures { IfSome result (λ sum. sum ≡ a + b) }
+{
+    a.checked_add(b)
+}
+
+/// The amount of a version that was overwritten, and the amount of the version that replaced it.
+#[derive(Clone, Copy)]
+struct Moved {
+    before: u64,
+    after: u64,
+}
+
+/// Applies a write to the state of its item.
+fn apply_write<M: Metric>(
+    metric: &M,
+    lists: &[Vec<i64>],
+    states: &mut [ItemState],
+    access: Access,
+    amount: u64,
+    marked: bool,
+) -> Moved
+    requires items { length lists.now ≡ length states.old }
+    requires read { AreRead lists.now }
+    requires item { access.item.0 < length states.old }
+    requires value { IsValue access.value }
+    requires writes { access.writes ≡ true }
+    ensures { (row : List AccessValue) (old : List StateValue) (before after : ℕ)
+        → IsRowApplied (raised (M.distance_by (M.weights metric.now)) lists.now) marked row old states.old before after
+        → IsRowApplied (raised (M.distance_by (M.weights metric.now)) lists.now) marked (row ++ access ∷ []) old states.new
+        (before + result.before) (after + result.after) }
+{
+    let x = access.item.0 as usize;
+    let cost = raised_cost(metric, lists, access.item, access.value);
+    let before = states[x].amount;
+    let lowered = amount.min(cost);
+    states[x] = ItemState {
+        cost,
+        amount: lowered,
+        covered: marked,
+    };
+    Moved {
+        before,
+        after: lowered,
+    }
+}
+
+/// Applies the accesses of an update to the states of the items. Returns whether the sum of the amounts does not decrease,
+/// or `None` if a sum does not fit.
+fn apply_row<M: Metric>(
+    metric: &M,
+    lists: &[Vec<i64>],
+    states: &mut [ItemState],
+    row: &[Access],
+    amounts: &[u64],
+    marked: bool,
+) -> Option<bool>
+    requires items { length lists.now ≡ length states.old }
+    requires read { AreRead lists.now }
+    requires row { All (λ a. a.item.0 < length states.old) row.now }
+    requires values { All (λ a. IsValue a.value) row.now }
+    ensures len { length states.new ≡ length states.old }
+    ensures row { IfSome result (λ keeps. (before : ℕ) × (after : ℕ)
+        × IsRowApplied (raised (M.distance_by (M.weights metric.now)) lists.now) marked row.now states.old states.new before after
+        × (keeps ≡ true → before ≤ after)) }
+{
+    let mut before = 0u64;
+    let mut after = 0u64;
+    for j in 0..row.len() {
+        let access = row[j];
+        if access.writes {
+            let amount = amount_at(amounts, j);
+            let moved = apply_write(metric, lists, states, access, amount, marked);
+            before = add(before, moved.before)?;
+            after = add(after, moved.after)?;
+        }
+    }
+    Some(before <= after)
+}
+
+/// Applies the accesses of an update. Returns `false` if a sum does not fit.
+pub fn fits<M: Metric>(
+    metric: &M,
+    lists: &[Vec<i64>],
+    states: &mut [ItemState],
+    row: &[Access],
+    amounts: &[u64],
+) -> bool
+    requires items { length lists.now ≡ length states.old }
+    requires read { AreRead lists.now }
+    requires row { All (λ a. a.item.0 < length states.old) row.now }
+    requires values { All (λ a. IsValue a.value) row.now }
+    ensures len { length states.new ≡ length states.old }
+    ensures row { result ≡ true → (before : ℕ) × (after : ℕ)
+        × IsRowApplied (raised (M.distance_by (M.weights metric.now)) lists.now) true row.now states.old states.new before after }
+{
+    match apply_row(metric, lists, states, row, amounts, true) {
+        Some(_) => true,
+        None => false,
+    }
+}
+
+/// Applies the accesses of an update. Returns `false` if the sum of the amounts decreases or does not fit.
+pub fn steps<M: Metric>(
+    metric: &M,
+    lists: &[Vec<i64>],
+    states: &mut [ItemState],
+    row: &[Access],
+    amounts: &[u64],
+    marked: bool,
+) -> bool
+    requires items { length lists.now ≡ length states.old }
+    requires read { AreRead lists.now }
+    requires row { All (λ a. a.item.0 < length states.old) row.now }
+    requires values { All (λ a. IsValue a.value) row.now }
+    ensures len { length states.new ≡ length states.old }
+    ensures row { result ≡ true → (before : ℕ) × (after : ℕ)
+        × IsRowApplied (raised (M.distance_by (M.weights metric.now)) lists.now) marked row.now states.old states.new before after
+        × (before ≤ after) }
+{
+    match apply_row(metric, lists, states, row, amounts, marked) {
+        Some(keeps) => keeps,
+        None => false,
+    }
+}
+
+/// Returns the sum of the amounts, or `None` if it does not fit.
+pub fn sum_of(states: &[ItemState]) -> Option<u64>
+    ensures { IfSome result (λ sum. sum ≡ amounts_sum states.now) }
+{
+    let mut sum = 0u64;
+    for state in states {
+        sum = add(sum, state.amount)?;
+    }
+    Some(sum)
+}
