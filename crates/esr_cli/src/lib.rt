@@ -12,7 +12,7 @@ ghost use Rattle.clap.specs.Words.{subcommand_of, subcommand_rows_of, FailsBy};
 ghost use Rattle.clap.specs.Walk.{texts};
 ghost use Rattle.clap.specs.declared.error.kind.ErrorKind.TheVariants.{OutOfMemory};
 ghost use Rattle.esr_cli.specs.Program.{program};
-ghost use Rattle.esr_cli.specs.Job.{certify_in, check_in, count_in, drive_in, explain_in, explore_in, flag_in, format_in, format_of_name, progress_in, request_in, request_of, task_in, requested_task, HasWorkers, IsSyntaxOf};
+ghost use Rattle.esr_cli.specs.Job.{certify_in, check_in, count_in, drive_in, explain_in, explore_in, flag_in, format_in, format_of_name, progress_in, request_in, request_of, shrink_in, task_in, requested_task, HasWorkers, IsSyntaxOf};
 
 mod commands;
 mod help;
@@ -83,6 +83,20 @@ pub enum Task<'a> {
     /// all, or those of one transaction.
     Why {
         name: Option<&'a str>,
+    },
+    /// Runs a script without writing its lines, and draws its transactions step by
+    /// step, for the query `name` or for the one with the largest distance.
+    Timeline {
+        name: Option<&'a str>,
+    },
+    /// Runs a script without writing its lines, and writes its transactions and
+    /// charges as trace events.
+    Trace,
+    /// Runs a script without writing its lines, and writes a small script in which
+    /// the query `name` still has a distance of at least `at_least`, or of at least 1.
+    Shrink {
+        name: &'a str,
+        at_least: Option<u64>,
     },
     /// Runs a script without writing its lines, and lists the lines at fault.
     Lint,
@@ -228,6 +242,16 @@ fn explore_task<'a>(given: &ArgMatches<'a>) -> Task<'a>
     }
 }
 
+fn shrink_task<'a>(given: &ArgMatches<'a>) -> Option<Task<'a>>
+    ensures { option_map requested_task result ≡ shrink_in (rows_of (found_of given.now)) }
+{
+    let name = text(given, "NAME")?;
+    Some(Task::Shrink {
+        name,
+        at_least: count(given, "at-least"),
+    })
+}
+
 fn task_of<'a>(name: &str, given: &ArgMatches<'a>) -> Option<Task<'a>>
     ensures { option_map requested_task result ≡ task_in name.now (rows_of (found_of given.now)) }
 {
@@ -251,6 +275,11 @@ fn task_of<'a>(name: &str, given: &ArgMatches<'a>) -> Option<Task<'a>>
         "why" => Some(Task::Why {
             name: text(given, "NAME"),
         }),
+        "timeline" => Some(Task::Timeline {
+            name: text(given, "NAME"),
+        }),
+        "trace" => Some(Task::Trace),
+        "shrink" => shrink_task(given),
         "lint" => Some(Task::Lint),
         _ => None,
     }

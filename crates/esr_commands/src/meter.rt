@@ -45,7 +45,7 @@ impl<'a, R: Clock + Eprint> Meter<'a, R> {
     }
 
     /// Shows a text, where it is time for one. Of two threads that come at once one does.
-    fn show(&self, text: &impl Display) {
+    pub fn show(&self, text: &impl Display) {
         let Some(began) = self.began else {
             return;
         };

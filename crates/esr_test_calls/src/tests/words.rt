@@ -10,7 +10,7 @@ use std::process::Abort;
 type Words = &'static [&'static str];
 
 /// Words of the command line, and the work that each line asks for.
-static TASKS: [(Words, Task<'static>); 25] = [
+static TASKS: [(Words, Task<'static>); 30] = [
     // `run` takes no name: it answers every line.
     (&["esr", "run"], Task::Run),
     // `check` takes no name: a bundle is of one query.
@@ -157,6 +157,31 @@ static TASKS: [(Words, Task<'static>); 25] = [
     (&["esr", "why"], Task::Why { name: None }),
     // The transaction stands behind the file.
     (&["esr", "why", "-", "u"], Task::Why { name: Some("u") }),
+    // A timeline needs no name.
+    (&["esr", "timeline"], Task::Timeline { name: None }),
+    // The name may follow the file.
+    (
+        &["esr", "timeline", "-", "q"],
+        Task::Timeline { name: Some("q") },
+    ),
+    // Trace events are of a whole script.
+    (&["esr", "trace"], Task::Trace),
+    // A query is shrunk to any distance if no distance is given.
+    (
+        &["esr", "shrink", "q"],
+        Task::Shrink {
+            name: "q",
+            at_least: None,
+        },
+    ),
+    // The largest distance that may be given.
+    (
+        &["esr", "shrink", "--at-least", "1000000000000000000", "q"],
+        Task::Shrink {
+            name: "q",
+            at_least: Some(1_000_000_000_000_000_000),
+        },
+    ),
     // A script is looked at without a name.
     (&["esr", "lint"], Task::Lint),
     // A page tells ten queries in full where no number is given.
@@ -298,7 +323,7 @@ fn options_choose_the_format(rt: HostRuntime) {
 }
 
 /// Words that ask for no job, what is said of them, and the exit status.
-static OTHERS: [(Words, ErrorKind, i32); 18] = [
+static OTHERS: [(Words, ErrorKind, i32); 20] = [
     // A job has to be named.
     (&["esr"], ErrorKind::MissingSubcommand, 2),
     // No job has this name.
@@ -327,6 +352,14 @@ static OTHERS: [(Words, ErrorKind, i32); 18] = [
     ),
     // A picture needs a name too.
     (&["esr", "picture"], ErrorKind::MissingRequiredArgument, 2),
+    // So does a query that is shrunk.
+    (&["esr", "shrink"], ErrorKind::MissingRequiredArgument, 2),
+    // Every query is off by at least 0, so this is not a distance to keep.
+    (
+        &["esr", "shrink", "--at-least", "0", "q"],
+        ErrorKind::ValueValidation,
+        2,
+    ),
     // One worker fewer than there may be.
     (
         &["esr", "audit", "--workers", "0"],
