@@ -29,7 +29,7 @@ use esr_prose::{Passage, Prose};
 use esr_script::{AuditedScript, TeeReader};
 use esr_shrink::{Progress as SearchProgress, Shrink};
 use esr_tables::{Data, ExplanationTable, Ledger, audit_table};
-use esr_timeline::Timeline;
+use esr_timeline::{Timeline, TimelinePart};
 use esr_trace_events::TraceEvents;
 use esr_views::{QueryView, ScriptView};
 use esr_why::Why;
@@ -478,6 +478,7 @@ fn show_page_of<'a, R: Print + Eprint + AllocGlobal + Clock, I: Read + Drop>(
     let origin = origin_of(file, date, notes);
     let page = Page {
         worst,
+        timeline: &TimelinePart,
         picture: &Drawing,
         words: &Passage,
         origin,

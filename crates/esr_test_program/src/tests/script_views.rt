@@ -8,7 +8,7 @@ use esr_picture::Drawing;
 use esr_prose::{Passage, Prose};
 use esr_script::{RunFault, render_script};
 use esr_shrink::{Progress, Shrink};
-use esr_timeline::Timeline;
+use esr_timeline::{Timeline, TimelinePart};
 use esr_trace_events::TraceEvents;
 use esr_views::ScriptView;
 use std::alloc::Global;
@@ -135,9 +135,10 @@ fn only_queries_are_described(rt: HostRuntime) {
 }
 
 /// Returns a page with the details of `worst` queries.
-fn page<'a>(worst: u64, notes: &'a Notes) -> Page<'a, Drawing, Passage> {
+fn page<'a>(worst: u64, notes: &'a Notes) -> Page<'a, TimelinePart, Drawing, Passage> {
     Page {
         worst,
+        timeline: &TimelinePart,
         picture: &Drawing,
         words: &Passage,
         origin: Origin {
@@ -154,9 +155,11 @@ fn page<'a>(worst: u64, notes: &'a Notes) -> Page<'a, Drawing, Passage> {
 fn a_page_has_each_part(rt: HostRuntime) {
     let texts = [
         "<p>1 committed query among 1 committed update.</p>",
-        "<dd>report, 100</dd>",
+        "<dd><a href='#q-report'>report</a>, 100</dd>",
+        "<li><span class='bin'>off by 100 to 999</span><span class='bar'><i class='dis' style='width:80%'></i><b>1</b></span></li>",
         "<li><a href='#q-report' title='report: limit 200, charged 100, off by 100'>",
-        "<tr id='r-report'><td class='num'>1</td><th scope='row'><a href='#q-report'>report</a></th><td>query</td><td class='num'>200</td><td class='num'>100</td><td class='num'>100</td><td class='num'>2</td><td>committed</td><td class='num'>100</td></tr>",
+        "<tr id='r-report'><th scope='row'><a href='#q-report'>report</a></th><td class='num'>100</td><td class='num'>100</td><td class='num'>200</td><td class='num'>100</td><td class='num'>2</td><td>query</td><td>committed</td><td class='num'>1</td></tr>",
+        "aria-label='Timeline of report'",
         "<section id='q-report'><h3>report: off by 100</h3>",
         "<svg xmlns=",
         "<li>savings 1,600, in line 9, as transfer had left it</li>",
@@ -166,8 +169,8 @@ fn a_page_has_each_part(rt: HostRuntime) {
     let notes = Notes::new(alloc);
     has(&rt, alloc, BANK, &page(10, &notes), &texts);
     let texts = [
-        "<td>aborted</td><td class='num'>-</td>",
-        "<td>still active</td><td class='num'>-</td>",
+        "<td class='num'>-</td><td class='num'>6</td><td class='num'>900</td><td class='num'>894</td><td class='num'>1</td><td>query</td><td>aborted</td>",
+        "<td>still active</td>",
         "<h2 id='all'>All queries</h2>",
     ];
     has(&rt, alloc, DAY, &page(0, &notes), &texts);
