@@ -44,7 +44,7 @@ text{fill:#e6edf3}.ha{stroke:#0d1117}.gy{fill:#9aa4af}.rd{fill:#ff7b72}.gn{fill:
 </style>\n";
 
 /// The least width of a picture.
-const NARROWEST: u32 = 440;
+const NARROWEST: u32 = 460;
 
 /// The width of a letter of a sentence.
 const SENTENCE_LETTER: u32 = 8;

@@ -31,7 +31,7 @@ fn keys() -> &'static [Key] {
 }
 
 /// The width of a key with its words.
-const KEY_WIDTH: u32 = 206;
+const KEY_WIDTH: u32 = 216;
 
 /// From row to row.
 const ROW: u32 = 20;
