@@ -12,7 +12,7 @@ ghost use Rattle.clap.specs.Words.{subcommand_of, subcommand_rows_of, FailsBy};
 ghost use Rattle.clap.specs.Walk.{texts};
 ghost use Rattle.clap.specs.declared.error.kind.ErrorKind.TheVariants.{OutOfMemory};
 ghost use Rattle.esr_cli.specs.Program.{program};
-ghost use Rattle.esr_cli.specs.Job.{certify_in, check_in, count_in, drive_in, explain_in, explore_in, flag_in, format_in, format_of_name, progress_in, request_in, request_of, shrink_in, task_in, requested_task, HasWorkers, IsSyntaxOf};
+ghost use Rattle.esr_cli.specs.Job.{certify_in, check_in, count_in, drive_in, explain_in, explore_in, flag_in, format_in, format_of_name, progress_in, request_in, request_in_one, request_of, requested, shrink_in, task_in, requested_task, HasWorkers, IsSyntaxOf};
 
 mod commands;
 mod help;
@@ -285,18 +285,33 @@ fn task_of<'a>(name: &str, given: &ArgMatches<'a>) -> Option<Task<'a>>
     }
 }
 
-fn job_of<'a>(matches: &ArgMatches<'a>) -> Option<Job<'a>>
-    ensures { option_map request_of result ≡ request_in (subcommand_rows_of matches.now) }
+/// Returns the job of a task, with the options that all tasks share.
+fn with_options<'a>(task: Task<'a>, given: &ArgMatches<'a>) -> Job<'a>
+    ensures { request_of result ≡ requested (rows_of (found_of given.now)) (requested_task task.entry) }
 {
-    let (name, given) = matches.subcommand()?;
-    let task = task_of(name, given)?;
-    Some(Job {
+    Job {
         task,
         file: text(given, "FILE"),
         bail: flag(given, "bail"),
         progress: asked_progress(given),
         format: asked_format(given),
-    })
+    }
+}
+
+/// Returns the job of a subcommand and its matches.
+fn job_in<'a>(name: &str, given: &ArgMatches<'a>) -> Option<Job<'a>>
+    ensures { option_map request_of result ≡ request_in_one name.now (rows_of (found_of given.now)) }
+{
+    let task = task_of(name, given)?;
+    Some(with_options(task, given))
+}
+
+#[tactic(auto, using(crate::proofs::Requested::named_rows))]
+fn job_of<'a>(matches: &ArgMatches<'a>) -> Option<Job<'a>>
+    ensures { option_map request_of result ≡ request_in (subcommand_rows_of matches.now) }
+{
+    let (name, given) = matches.subcommand()?;
+    job_in(name, given)
 }
 
 /// The job that the words ask for, from the program's name on.
