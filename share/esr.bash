@@ -3,13 +3,14 @@ _esr() {
     local word=${COMP_WORDS[COMP_CWORD]} command=${COMP_WORDS[1]-} options=
     local script="--bail --progress --no-progress --help"
     if [ "$COMP_CWORD" -eq 1 ]; then
-        mapfile -t COMPREPLY < <(compgen -W "run audit ledger why explain picture page certify check lint drive explore help --help --version" -- "$word")
+        mapfile -t COMPREPLY < <(compgen -W "run audit ledger why explain timeline picture page trace shrink certify check lint drive explore help --help --version" -- "$word")
         return
     fi
     case $command in
-        run | picture | why) options="$script" ;;
+        run | timeline | picture | trace | why) options="$script" ;;
         explain) options="$script --prose --format" ;;
         page) options="$script --worst" ;;
+        shrink) options="$script --at-least" ;;
         certify) options="$script --steps" ;;
         audit) options="$script --workers --format" ;;
         ledger) options="$script --format" ;;

@@ -14,7 +14,7 @@ ghost use Rattle.esr_drive.specs.Drive.{HasWorkers};
 use either::{Left, Right};
 use esr_cli::{Format, Job, Progress, Task, VERSION, command};
 use esr_commands::{
-    AuditText, Console, DriveHelp, Output, Question, RenderQuery, RenderScript, RunScript,
+    AuditText, Console, DriveHelp, Meter, Output, Question, RenderQuery, RenderScript, RunScript,
     WriteBundle, audit_script, audit_script_as, check, execute_command, fail, is_closed_pipe,
     line_at_fault, list_faults, open_file, report_fault,
 };
@@ -27,7 +27,10 @@ use esr_page::{Origin, Page};
 use esr_picture::{Drawing, NotedDrawing};
 use esr_prose::{Passage, Prose};
 use esr_script::{AuditedScript, TeeReader};
+use esr_shrink::{Progress as SearchProgress, Shrink};
 use esr_tables::{Data, ExplanationTable, Ledger, audit_table};
+use esr_timeline::{Timeline, TimelinePart};
+use esr_trace_events::TraceEvents;
 use esr_views::{QueryView, ScriptView};
 use esr_why::Why;
 use httpdate::HttpDate;
@@ -88,33 +91,59 @@ fn is_input<R: Files>(rt: &R, path: &str) -> bool {
 #[derive(Clone, Copy)]
 struct Operands<'a> {
     name: &'a str,
-    file: &'a str,
+    file: Option<&'a str>,
 }
 
-/// Returns the operands of `why` in their usual order, if they were given as NAME and FILE: only the second is an input.
+/// Returns whether an operand can be the name of a transaction.
+fn is_name(word: &str) -> bool {
+    word.len() <= 16
+        && word
+            .bytes()
+            .all(|byte| byte.is_ascii_alphanumeric() || byte == b'_')
+}
+
+/// Returns the operands of `why` and `timeline` in their usual order, if they were given as NAME and FILE: only the second
+/// is an input. The only operand of `timeline` may be a NAME as well.
 fn swapped<'a, R: Files>(rt: &R, task: Task<'a>, file: Option<&'a str>) -> Option<Operands<'a>> {
-    let Task::Why { name } = task else {
+    let first = file?;
+    let (Task::Why { name } | Task::Timeline { name }) = task else {
         return None;
     };
-    let second = name?;
-    let first = file?;
-    if is_input(rt, first) || !is_input(rt, second) {
+    if is_input(rt, first) {
         return None;
     }
-    Some(Operands {
-        name: first,
-        file: second,
-    })
+    match name {
+        Some(second) if is_input(rt, second) => Some(Operands {
+            name: first,
+            file: name,
+        }),
+        None if matches!(task, Task::Timeline { .. }) && is_name(first) => Some(Operands {
+            name: first,
+            file: None,
+        }),
+        _ => None,
+    }
 }
 
-/// Accepts the operands of `why` in both orders.
+/// Returns a task with this name.
+fn with_name<'a>(task: Task<'a>, name: &'a str) -> Task<'a>
+    ensures { HasItsWorkers (requested_task task.entry) → HasItsWorkers (requested_task result) }
+{
+    match task {
+        Task::Why { .. } => Task::Why { name: Some(name) },
+        Task::Timeline { .. } => Task::Timeline { name: Some(name) },
+        task => task,
+    }
+}
+
+/// Accepts the operands of `why` and `timeline` in both orders.
 fn in_order<'a, R: Files>(rt: &R, job: Job<'a>) -> Job<'a>
     ensures { HasItsWorkers (requested_task job.entry.task) → HasItsWorkers (requested_task result.task) }
 {
     match swapped(rt, job.task, job.file) {
         Some(Operands { name, file }) => Job {
-            task: Task::Why { name: Some(name) },
-            file: Some(file),
+            task: with_name(job.task, name),
+            file,
             bail: job.bail,
             progress: job.progress,
             format: job.format,
@@ -129,6 +158,7 @@ fn name_usage(task: Task<'_>) -> Option<&'static str> {
         Task::Certify { .. } => Some("certify NAME FILE"),
         Task::Explain { .. } => Some("explain NAME FILE"),
         Task::Picture { .. } => Some("picture NAME FILE"),
+        Task::Shrink { .. } => Some("shrink NAME FILE"),
         _ => None,
     }
 }
@@ -205,6 +235,45 @@ fn do_task<
             let query_view = &NotedDrawing { notes };
             show_noted_query(rt, console, job, source, input, name, query_view, notes)
         }
+        Task::Timeline { name } => {
+            let notes = &Notes::new(rt.alloc());
+            let script_view = &Timeline { name, notes };
+            show_noted_script(rt, console, job, source, input, script_view, notes)
+        }
+        Task::Trace => {
+            let script_view = &TraceEvents;
+            execute_command(
+                rt,
+                console,
+                job,
+                source,
+                input,
+                &RenderScript {
+                    script_view,
+                    notes: None,
+                },
+            )
+        }
+        Task::Shrink { name, at_least } => {
+            let progress = &SearchMeter(Meter::new(rt, console));
+            let at_least = at_least.unwrap_or(1);
+            let script_view = &Shrink {
+                name,
+                at_least,
+                progress,
+            };
+            execute_command(
+                rt,
+                console,
+                job,
+                source,
+                input,
+                &RenderScript {
+                    script_view,
+                    notes: None,
+                },
+            )
+        }
         Task::Page { worst } => show_page(rt, console, job, source, input, worst),
         Task::Audit { workers } => match data_of(job.format) {
             Some(data) => {
@@ -268,6 +337,21 @@ fn do_task<
             Err(mistake) => fail(rt, &mistake, 2),
         },
         Task::Lint => list_faults(rt, console, source, input),
+    }
+}
+
+/// The progress of a search for a smaller script.
+#[derive(Drop)]
+struct SearchMeter<'a, R>(Meter<'a, R>);
+
+impl<R: Clock + Eprint> SearchProgress for SearchMeter<'_, R> {
+    fn show(&self, runs: u64, events: u64) {
+        self.0
+            .show(&format_args!("run {runs}, with {events} events"));
+    }
+
+    fn clear(&self) {
+        self.0.clear();
     }
 }
 
@@ -394,6 +478,7 @@ fn show_page_of<'a, R: Print + Eprint + AllocGlobal + Clock, I: Read + Drop>(
     let origin = origin_of(file, date, notes);
     let page = Page {
         worst,
+        timeline: &TimelinePart,
         picture: &Drawing,
         words: &Passage,
         origin,

@@ -98,6 +98,15 @@ ledger_shape = built_leaf spec.ledger.top
 abbrev pub why_shape : Shape
 why_shape = built_leaf spec.why.top
 
+abbrev pub timeline_shape : Shape
+timeline_shape = built_leaf spec.timeline.top
+
+abbrev pub trace_shape : Shape
+trace_shape = built_leaf spec.trace.top
+
+abbrev pub shrink_shape : Shape
+shrink_shape = built_leaf spec.shrink.top
+
 abbrev pub audit_shape : Shape
 audit_shape = built_leaf spec.audit.top
 
@@ -141,6 +150,18 @@ ledger_is = record { met = refl; fine = refl; found = refl }
 pub why_is : IsNameOf (codes "why") why_shape
 unfolding clap_on_literals
 why_is = record { met = refl; fine = refl; found = refl }
+
+pub timeline_is : IsNameOf (codes "timeline") timeline_shape
+unfolding clap_on_literals
+timeline_is = record { met = refl; fine = refl; found = refl }
+
+pub trace_is : IsNameOf (codes "trace") trace_shape
+unfolding clap_on_literals
+trace_is = record { met = refl; fine = refl; found = refl }
+
+pub shrink_is : IsNameOf (codes "shrink") shrink_shape
+unfolding clap_on_literals
+shrink_is = record { met = refl; fine = refl; found = refl }
 
 pub audit_is : IsNameOf (codes "audit") audit_shape
 unfolding clap_on_literals

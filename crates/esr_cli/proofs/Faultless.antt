@@ -17,7 +17,7 @@ use Rattle.esr_cli.specs.Job as asked
 use Rattle.esr_cli.specs.Program.{as_script_rule, bail_rule, file_rule, format_rule, name_rule, no_progress_rule, program, progress_rule, with_name, workers_rule, worst_rule}
 use Rattle.esr_cli.specs.Job.{HasWorkers, Request, RequestedTask, flag_in, number_in, request_in, request_of, requested, count_in, task_in, requested_task}
 use Rattle.esr_cli.specs.declared.Job.{Job}
-use Rattle.esr_cli.proofs.Entered.{audit_shape, certify_shape, drive_shape, explain_shape, page_shape}
+use Rattle.esr_cli.proofs.Entered.{audit_shape, certify_shape, drive_shape, explain_shape, page_shape, shrink_shape}
 use Rattle.esr_cli.proofs.Rows.{HasFirst, IsFit, default_there, first_passes, given_there, has_text, level_good}
 use Rattle.esr_cli.proofs.Stops.{StopsElsewhere, first_none, help, then_none, walk_elsewhere}
 
@@ -174,7 +174,16 @@ explain_served words none =
     (given_there (codes "NAME") rows (must_be_given (is_given (codes "NAME") rows) (check_none explain_shape words none))) in
     one_named (λ name. asked.explain name (flag_in (codes "prose") rows)) rows given.text (λ t. tt) given.first
 
--- a number that is read unchanged
+shrink_served : IsServed shrink_shape
+shrink_served words none =
+    let rows = rows_after shrink_shape.rules [] words in
+    let given = has_text (codes "NAME") (λ _. true) rows
+    (level_good (codes "NAME") (λ _. true) shrink_shape words
+    (query_fit, (other_fit _ _ _ refl, (other_fit _ _ _ refl, (other_fit _ _ _ refl, (other_fit _ _ _ refl, (other_fit _ _ _ refl, (other_fit _ _ _ refl, tt))))))) none)
+    (given_there (codes "NAME") rows (must_be_given (is_given (codes "NAME") rows) (check_none shrink_shape words none))) in
+    one_named (λ name. asked.shrink name (count_in (codes "at-least") rows)) rows given.text (λ t. tt) given.first
+
+-- a number that is read as it stands
 pub number : (text : Text) → is_unsigned_in 1 64 text ≡ true
     → (number_in text ≡ Some (digits_value 10 (without_leading_plus text))) × (1 ≤ digits_value 10 (without_leading_plus text)) × (digits_value 10 (without_leading_plus text) ≤ 64)
 number text passes =
@@ -246,7 +255,7 @@ served = (
             inr page_served,
             (
               inr (λ words none. tt),
-              (inr (λ words none. tt), (inr audit_served, (inr drive_served, (inr (λ words none. tt), (inr (λ words none. tt), (inl refl, tt)))))),
+              (inr (λ words none. tt), (inr (λ words none. tt), (inr (λ words none. tt), (inr shrink_served, (inr audit_served, (inr drive_served, (inr (λ words none. tt), (inr (λ words none. tt), (inl refl, tt))))))))),
             ),
           ),
         ),

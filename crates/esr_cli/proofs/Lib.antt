@@ -5,6 +5,7 @@ mod Entered
 mod Faultless
 mod WalksTo
 mod Readings
+mod Requested
 mod Rows
 mod ParsedWords
 mod Stops

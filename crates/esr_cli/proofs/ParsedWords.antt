@@ -21,7 +21,7 @@ use Rattle.esr_cli.specs.Job.{IsSyntaxOfTask, IsCall, IsCount, IsFile, IsPlainWo
 use Rattle.esr_cli.specs.declared.Job.{Job}
 use Rattle.esr_cli.specs.declared.Format.TheVariants.{Text as Plain}
 use Rattle.esr_cli.specs.declared.Progress.TheVariants.{AtATerminal}
-use Rattle.esr_cli.proofs.Entered.{IsNameOf, audit_is, audit_shape, certify_is, certify_shape, check_is, check_shape, drive_is, drive_shape, explain_is, explain_shape, explore_is, explore_shape, fault_of_rest, ledger_is, ledger_shape, lint_is, lint_shape, page_is, page_shape, picture_is, picture_shape, rows_of_rest, run_is, run_shape, why_is, why_shape}
+use Rattle.esr_cli.proofs.Entered.{IsNameOf, audit_is, audit_shape, certify_is, certify_shape, check_is, check_shape, drive_is, drive_shape, explain_is, explain_shape, explore_is, explore_shape, fault_of_rest, ledger_is, ledger_shape, lint_is, lint_shape, page_is, page_shape, picture_is, picture_shape, rows_of_rest, run_is, run_shape, shrink_is, shrink_shape, timeline_is, timeline_shape, trace_is, trace_shape, why_is, why_shape}
 use Rattle.esr_cli.proofs.WalksTo.{IsOperand, WalksTo, at_end, after_operand, fault_at, finished_well, own_fault_is, rows_are, then_operand, then_word}
 use Rattle.esr_cli.proofs.Faultless.{number}
 
@@ -218,6 +218,39 @@ why true None plain =
 why true (Some file) plain =
     remainder (codes "why") why_shape why_is (codes "--bail" ∷ file ∷ []) _ (plainly (asked.why None) (Some file) true) (then_word why_shape _ _ _ _ _ refl refl (then_operand why_shape _ _ _ _ (file_operand file plain) refl refl refl (at_end why_shape _))) refl refl
 
+timeline : (bail : Bool) (file : Option Text) → IsFile file → AreTaken (codes "timeline" ∷ (flag_words bail (codes "--bail") ++ file_words file)) (plainly (asked.timeline None) file bail)
+unfolding clap_on_literals
+timeline false None plain =
+    remainder (codes "timeline") timeline_shape timeline_is ([]) _ (plainly (asked.timeline None) None false) (at_end timeline_shape _) refl refl
+timeline false (Some file) plain =
+    remainder (codes "timeline") timeline_shape timeline_is (file ∷ []) _ (plainly (asked.timeline None) (Some file) false) (then_operand timeline_shape _ _ _ _ (file_operand file plain) refl refl refl (at_end timeline_shape _)) refl refl
+timeline true None plain =
+    remainder (codes "timeline") timeline_shape timeline_is (codes "--bail" ∷ []) _ (plainly (asked.timeline None) None true) (then_word timeline_shape _ _ _ _ _ refl refl (at_end timeline_shape _)) refl refl
+timeline true (Some file) plain =
+    remainder (codes "timeline") timeline_shape timeline_is (codes "--bail" ∷ file ∷ []) _ (plainly (asked.timeline None) (Some file) true) (then_word timeline_shape _ _ _ _ _ refl refl (then_operand timeline_shape _ _ _ _ (file_operand file plain) refl refl refl (at_end timeline_shape _))) refl refl
+
+trace : (bail : Bool) (file : Option Text) → IsFile file → AreTaken (codes "trace" ∷ (flag_words bail (codes "--bail") ++ file_words file)) (plainly asked.trace file bail)
+unfolding clap_on_literals
+trace false None plain =
+    remainder (codes "trace") trace_shape trace_is ([]) _ (plainly asked.trace None false) (at_end trace_shape _) refl refl
+trace false (Some file) plain =
+    remainder (codes "trace") trace_shape trace_is (file ∷ []) _ (plainly asked.trace (Some file) false) (then_operand trace_shape _ _ _ _ (file_operand file plain) refl refl refl (at_end trace_shape _)) refl refl
+trace true None plain =
+    remainder (codes "trace") trace_shape trace_is (codes "--bail" ∷ []) _ (plainly asked.trace None true) (then_word trace_shape _ _ _ _ _ refl refl (at_end trace_shape _)) refl refl
+trace true (Some file) plain =
+    remainder (codes "trace") trace_shape trace_is (codes "--bail" ∷ file ∷ []) _ (plainly asked.trace (Some file) true) (then_word trace_shape _ _ _ _ _ refl refl (then_operand trace_shape _ _ _ _ (file_operand file plain) refl refl refl (at_end trace_shape _))) refl refl
+
+shrink : (query : Text) (bail : Bool) (file : Option Text) → IsOperand query → IsFile file → AreTaken (codes "shrink" ∷ (flag_words bail (codes "--bail") ++ (query ∷ [] ++ file_words file))) (plainly (asked.shrink query None) file bail)
+unfolding clap_on_literals
+shrink query false None is plain =
+    remainder (codes "shrink") shrink_shape shrink_is (query ∷ []) _ (plainly (asked.shrink query None) None false) (then_operand shrink_shape _ _ _ _ is refl refl refl (at_end shrink_shape _)) refl refl
+shrink query false (Some file) is plain =
+    remainder (codes "shrink") shrink_shape shrink_is (query ∷ file ∷ []) _ (plainly (asked.shrink query None) (Some file) false) (then_operand shrink_shape _ _ _ _ is refl refl refl (then_operand shrink_shape _ _ _ _ (file_operand file plain) refl refl refl (at_end shrink_shape _))) refl refl
+shrink query true None is plain =
+    remainder (codes "shrink") shrink_shape shrink_is (codes "--bail" ∷ query ∷ []) _ (plainly (asked.shrink query None) None true) (then_word shrink_shape _ _ _ _ _ refl refl (then_operand shrink_shape _ _ _ _ is refl refl refl (at_end shrink_shape _))) refl refl
+shrink query true (Some file) is plain =
+    remainder (codes "shrink") shrink_shape shrink_is (codes "--bail" ∷ query ∷ file ∷ []) _ (plainly (asked.shrink query None) (Some file) true) (then_word shrink_shape _ _ _ _ _ refl refl (then_operand shrink_shape _ _ _ _ is refl refl refl (then_operand shrink_shape _ _ _ _ (file_operand file plain) refl refl refl (at_end shrink_shape _)))) refl refl
+
 audit : (bail : Bool) (file : Option Text) → IsFile file → AreTaken (codes "audit" ∷ (flag_words bail (codes "--bail") ++ file_words file)) (plainly (asked.audit 4) file bail)
 unfolding clap_on_literals
 audit false None plain =
@@ -341,6 +374,12 @@ taken words (asked.explore None all (Some worst)) file bail syntax = absurd synt
 taken words asked.ledger file bail (named, call) = called words _ _ call (ledger bail file named)
 taken words (asked.why None) file bail (named, call) = called words _ _ call (why bail file named)
 taken words (asked.why (Some name)) file bail syntax = absurd syntax
+taken words (asked.timeline None) file bail (named, call) = called words _ _ call (timeline bail file named)
+taken words (asked.timeline (Some name)) file bail syntax = absurd syntax
+taken words asked.trace file bail (named, call) = called words _ _ call (trace bail file named)
+taken words (asked.shrink query None) file bail (plain, (named, call)) =
+    called words _ _ call (shrink query bail file (plain_operand query plain) named)
+taken words (asked.shrink query (Some distance)) file bail syntax = absurd syntax
 taken words asked.lint file bail (named, none, call) = rw none (called words _ _ call (lint file named))
 
 taken_as : (words : List Text) (wanted : Request) → IsSyntaxOf words wanted → IsTaken words wanted

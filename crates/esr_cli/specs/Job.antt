@@ -26,6 +26,9 @@ pub data RequestedTask : Type 0 where
   explore : (seeds : Option ℕ) → (all : Bool) → (worst : Option Text) → RequestedTask
   ledger : RequestedTask
   why : Option Text → RequestedTask
+  timeline : Option Text → RequestedTask
+  trace : RequestedTask
+  shrink : Text → (at_least : Option ℕ) → RequestedTask
   lint : RequestedTask
 
 -- a request to the program: the task, the file to read, if one is named, whether a line with a fault affects the
@@ -50,6 +53,9 @@ requested_task (task.Drive workers script) = drive workers script
 requested_task (task.Explore seeds all worst) = explore seeds all (option_map (λ by. by.now) worst)
 requested_task task.Ledger = ledger
 requested_task (task.Why name) = why (option_map (λ n. n.now) name)
+requested_task (task.Timeline name) = timeline (option_map (λ n. n.now) name)
+requested_task task.Trace = trace
+requested_task (task.Shrink name at_least) = shrink name.now at_least
 requested_task task.Lint = lint
 
 abbrev pub request_of : Job → Request
@@ -119,7 +125,11 @@ drive_in rows = option_map (λ workers. drive workers (flag_in (codes "as-script
 abbrev pub explore_in : List Row → RequestedTask
 explore_in rows = explore (count_in (codes "seeds") rows) (flag_in (codes "all") rows) (first_of (codes "worst") rows)
 
--- the task requested by a subcommand and its matches
+-- the query of which a smaller script is searched for, and the distance that it keeps
+abbrev pub shrink_in : List Row → Option RequestedTask
+shrink_in rows = option_map (λ name. shrink name (count_in (codes "at-least") rows)) (first_of (codes "NAME") rows)
+
+-- what a subcommand and its matches ask for
 abbrev pub task_in : Text → List Row → Option RequestedTask
 task_in name rows =
     if bytes_eq name (codes "run") then Some run
@@ -133,8 +143,11 @@ task_in name rows =
     else (if bytes_eq name (codes "explore") then Some (explore_in rows)
     else (if bytes_eq name (codes "ledger") then Some ledger
     else (if bytes_eq name (codes "why") then Some (why (first_of (codes "NAME") rows))
+    else (if bytes_eq name (codes "timeline") then Some (timeline (first_of (codes "NAME") rows))
+    else (if bytes_eq name (codes "trace") then Some trace
+    else (if bytes_eq name (codes "shrink") then shrink_in rows
     else (if bytes_eq name (codes "lint") then Some lint
-    else None)))))))))))
+    else None))))))))))))))
 
 -- the request for a task with the other options
 abbrev pub requested : List Row → RequestedTask → Request
@@ -220,6 +233,10 @@ IsSyntaxOfTask (explore None all None) r words =
     IsSyntaxOfReaderTask (codes "explore") (flag_words all (codes "--all")) r words
 IsSyntaxOfTask ledger r words = IsSyntaxOfScriptTask (codes "ledger") [] [] r words
 IsSyntaxOfTask (why None) r words = IsSyntaxOfScriptTask (codes "why") [] [] r words
+IsSyntaxOfTask (timeline None) r words = IsSyntaxOfScriptTask (codes "timeline") [] [] r words
+IsSyntaxOfTask trace r words = IsSyntaxOfScriptTask (codes "trace") [] [] r words
+IsSyntaxOfTask (shrink name None) r words =
+    IsPlainWord name × IsSyntaxOfScriptTask (codes "shrink") [] (name ∷ []) r words
 IsSyntaxOfTask lint r words = IsSyntaxOfReaderTask (codes "lint") [] r words
 IsSyntaxOfTask _ r words = ⊥
 

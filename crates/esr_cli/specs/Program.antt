@@ -86,6 +86,14 @@ verbose_rule = record (new_rule (codes "verbose")) { long = Some (codes "verbose
 abbrev pub of_rule : Rule
 of_rule = new_rule (codes "NAME")
 
+-- the distance that a smaller script keeps
+abbrev pub at_least_rule : Rule
+at_least_rule = record (new_rule (codes "at-least")) {
+  long = Some (codes "at-least");
+  value_names = 1;
+  parser = Some (Unsigned 1 1000000000000000000);
+}
+
 abbrev pub file_rule : Rule
 file_rule = new_rule (codes "FILE")
 
@@ -136,6 +144,15 @@ ledger = with_rule (with_script (new_app (codes "ledger"))) format_rule
 abbrev pub why : App
 why = with_rule (with_script (new_app (codes "why"))) of_rule
 
+abbrev pub timeline : App
+timeline = with_rule (with_script (new_app (codes "timeline"))) of_rule
+
+abbrev pub trace : App
+trace = with_script (new_app (codes "trace"))
+
+abbrev pub shrink : App
+shrink = with_rule (with_name (codes "shrink")) at_least_rule
+
 abbrev pub scripts : App
 scripts =
     with_subcommand (with_subcommand (with_subcommand esr (with_script (new_app (codes "run"))).top) certify.top)
@@ -148,7 +165,10 @@ queries =
 abbrev pub tables : App
 tables = with_subcommand (with_subcommand queries ledger.top) why.top
 
+abbrev pub cases : App
+cases = with_subcommand (with_subcommand (with_subcommand tables timeline.top) trace.top) shrink.top
+
 abbrev pub program : App
 program =
-    with_subcommand (with_subcommand (with_subcommand (with_subcommand tables audit.top) drive.top) explore.top)
+    with_subcommand (with_subcommand (with_subcommand (with_subcommand cases audit.top) drive.top) explore.top)
     lint.top

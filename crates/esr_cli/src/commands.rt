@@ -7,7 +7,7 @@
 ghost use Rattle.std.specs.Prelude.{◌≡◌, IfOk, codes, false};
 ghost use Rattle.clap.specs.Words.{App, app_of, new_app, with_rule, with_subcommand, rule_of};
 ghost use Rattle.clap.specs.declared.builder.command.Command.TheViews.{out-Command};
-ghost use Rattle.esr_cli.specs.Program.{all_rule, as_script_rule, audit, bail_rule, certify, check, drive, esr, explain, explore, file_rule, files_rule, format_rule, ledger, lint, name_rule, no_progress_rule, of_rule, page, program, progress_rule, prose_rule, queries, query_rule, with_file, script_rule, scripts, seeds_rule, steps_rule, tables, verbose_rule, why, with_name, with_script, workers_rule, worst_by_rule, worst_rule};
+ghost use Rattle.esr_cli.specs.Program.{all_rule, as_script_rule, at_least_rule, audit, bail_rule, cases, certify, check, drive, esr, explain, explore, file_rule, files_rule, format_rule, ledger, lint, name_rule, no_progress_rule, of_rule, page, program, progress_rule, prose_rule, queries, query_rule, with_file, script_rule, scripts, seeds_rule, shrink, steps_rule, tables, timeline, trace, verbose_rule, why, with_name, with_script, workers_rule, worst_by_rule, worst_rule};
 
 use crate::{VERSION, help};
 use clap::{Arg, ArgAction, Command, value_parser};
@@ -249,7 +249,19 @@ fn of<'a>(alloc: Global) -> Arg<'a>
     Arg::new(alloc, "NAME").help("Name of the transaction; all transactions if omitted")
 }
 
-/// Creates a command that reads a file.
+/// `--at-least D`
+fn at_least<'a>(alloc: Global) -> Arg<'a>
+    ensures rule { rule_of result ≡ at_least_rule }
+    ensures local { result.global ≡ false }
+{
+    Arg::new(alloc, "at-least")
+        .long("at-least")
+        .value_name("D")
+        .value_parser(value_parser!(u64).range(1..=1_000_000_000_000_000_000))
+        .help("Distance that the query keeps in the smaller script (default 1)")
+}
+
+/// A command that reads a file.
 fn with_file<'a>(
     alloc: Global,
     command: Result<Command<'a>, AllocError>,
@@ -370,7 +382,40 @@ fn why<'a>(alloc: Global) -> Result<Command<'a>, AllocError>
     )
 }
 
-/// Creates the command `audit [--bail] [--workers W] [--format FORMAT] [FILE]`.
+/// `timeline [--bail] [FILE] [NAME]`
+fn timeline<'a>(alloc: Global) -> Result<Command<'a>, AllocError>
+    ensures app { IfOk result (λ c. app_of c ≡ timeline) }
+    ensures local { IfOk result (λ c. (out-Command c).has_globals ≡ false) }
+{
+    let about = "Runs a script and renders what happened, step by step, as an SVG picture";
+    with_argument(
+        with_script(alloc, plain(alloc, "timeline", about, help::TIMELINE)),
+        of(alloc),
+    )
+}
+
+/// `trace [--bail] [FILE]`
+fn trace<'a>(alloc: Global) -> Result<Command<'a>, AllocError>
+    ensures app { IfOk result (λ c. app_of c ≡ trace) }
+    ensures local { IfOk result (λ c. (out-Command c).has_globals ≡ false) }
+{
+    let about = "Runs a script and prints its transactions and charges as trace events";
+    with_script(alloc, plain(alloc, "trace", about, help::TRACE))
+}
+
+/// `shrink [--bail] [--at-least D] NAME [FILE]`
+fn shrink<'a>(alloc: Global) -> Result<Command<'a>, AllocError>
+    ensures app { IfOk result (λ c. app_of c ≡ shrink) }
+    ensures local { IfOk result (λ c. (out-Command c).has_globals ≡ false) }
+{
+    let about = "Runs a script and prints a small script in which a query is still off";
+    with_argument(
+        with_name(alloc, "shrink", about, help::SHRINK),
+        at_least(alloc),
+    )
+}
+
+/// `audit [--bail] [--workers W] [--format FORMAT] [FILE]`
 fn audit<'a>(alloc: Global) -> Result<Command<'a>, AllocError>
     ensures app { IfOk result (λ c. app_of c ≡ audit) }
     ensures local { IfOk result (λ c. (out-Command c).has_globals ≡ false) }
@@ -465,11 +510,20 @@ fn tables<'a>(alloc: Global) -> Result<Command<'a>, AllocError>
     with(commands, why(alloc))
 }
 
-/// Creates the program `esr` with all its commands, as passed to `clap`.
+/// Adds the commands that show how a query came to be off.
+fn cases<'a>(alloc: Global) -> Result<Command<'a>, AllocError>
+    ensures { IfOk result (λ c. app_of c ≡ cases) }
+{
+    let commands = with(tables(alloc)?, timeline(alloc))?;
+    let commands = with(commands, trace(alloc))?;
+    with(commands, shrink(alloc))
+}
+
+/// The program `esr` with all its commands, as `clap` is told of them.
 pub fn program<'a>(alloc: Global) -> Result<Command<'a>, AllocError>
     ensures { IfOk result (λ c. app_of c ≡ program) }
 {
-    let commands = with(tables(alloc)?, audit(alloc))?;
+    let commands = with(cases(alloc)?, audit(alloc))?;
     let commands = with(commands, drive(alloc))?;
     let commands = with(commands, explore(alloc))?;
     with(commands, lint(alloc))

@@ -159,10 +159,43 @@ For example:
   line 2:1: unknown command \"wirte\"; write?";
 
 pub const PAGE: &str =
-    "The page is a single self-contained HTML file: totals, a chart and a table of all
-queries, pictures and explanations of those with the largest distance, and the
-serial order.
+    "The page is a single self-contained HTML file: totals, timelines, pictures and
+explanations of the queries with the largest distance, charts and a table of all
+queries, and the serial order.
 
 For example:
 
   $ esr page examples/report.esr > page.html";
+
+pub const TIMELINE: &str = "The operands are a FILE and a NAME, in either order.
+
+The picture has a lane for each transaction: circles are reads, squares are writes,
+and red crosses are blocked lines. A red arrow is a charge, from the update to the
+report, with its amount. Below a report, its limit fills up. Of a long script, only
+the query NAME and the transactions that concern it are drawn; without a NAME, the
+committed query with the largest distance.
+
+For example:
+
+  $ printf 'item a 1\\nbegin q query 0\\nread q a\\ncommit q\\n' | esr timeline | grep -c '<svg'
+  1";
+
+pub const TRACE: &str =
+    "The output is JSON in the trace-event format, which Perfetto (ui.perfetto.dev) and
+chrome://tracing open: a track for each transaction, a slice for each event, and a
+flow arrow for each charge, from the update to the report. A step takes 1 ms.
+
+For example:
+
+  $ printf 'item a 1\\nbegin q query 0\\nread q a\\ncommit q\\n' | esr trace | grep -c traceEvents
+  1";
+
+pub const SHRINK: &str =
+    "Leaves out transactions, reads, writes and items as long as the query NAME still
+commits with a distance of at least D. The result is the smallest script that was
+found, and is run once more before it is printed. The search is deterministic.
+
+For example:
+
+  $ printf 'item a 1\\nbegin u update 5\\nbegin q query 5\\nwrite u a 3\\nread q a\\nabort u\\ncommit q\\n' | esr shrink q | esr audit | grep 'audit q'
+  audit q distance 2 import 2 before -";

@@ -12,7 +12,7 @@ ghost use Rattle.clap.specs.Words.{subcommand_of, subcommand_rows_of, FailsBy};
 ghost use Rattle.clap.specs.Walk.{texts};
 ghost use Rattle.clap.specs.declared.error.kind.ErrorKind.TheVariants.{OutOfMemory};
 ghost use Rattle.esr_cli.specs.Program.{program};
-ghost use Rattle.esr_cli.specs.Job.{certify_in, check_in, count_in, drive_in, explain_in, explore_in, flag_in, format_in, format_of_name, progress_in, request_in, request_of, task_in, requested_task, HasWorkers, IsSyntaxOf};
+ghost use Rattle.esr_cli.specs.Job.{certify_in, check_in, count_in, drive_in, explain_in, explore_in, flag_in, format_in, format_of_name, progress_in, request_in, request_in_one, request_of, requested, shrink_in, task_in, requested_task, HasWorkers, IsSyntaxOf};
 
 mod commands;
 mod help;
@@ -81,7 +81,21 @@ pub enum Task<'a> {
     Why {
         name: Option<&'a str>,
     },
-    /// Runs a script without writing its lines, and lists the lines with faults.
+    /// Runs a script without writing its lines, and draws its transactions step by
+    /// step, for the query `name` or for the one with the largest distance.
+    Timeline {
+        name: Option<&'a str>,
+    },
+    /// Runs a script without writing its lines, and writes its transactions and
+    /// charges as trace events.
+    Trace,
+    /// Runs a script without writing its lines, and writes a small script in which
+    /// the query `name` still has a distance of at least `at_least`, or of at least 1.
+    Shrink {
+        name: &'a str,
+        at_least: Option<u64>,
+    },
+    /// Runs a script without writing its lines, and lists the lines at fault.
     Lint,
 }
 
@@ -225,6 +239,16 @@ fn explore_task<'a>(given: &ArgMatches<'a>) -> Task<'a>
     }
 }
 
+fn shrink_task<'a>(given: &ArgMatches<'a>) -> Option<Task<'a>>
+    ensures { option_map requested_task result ≡ shrink_in (rows_of (found_of given.now)) }
+{
+    let name = text(given, "NAME")?;
+    Some(Task::Shrink {
+        name,
+        at_least: count(given, "at-least"),
+    })
+}
+
 fn task_of<'a>(name: &str, given: &ArgMatches<'a>) -> Option<Task<'a>>
     ensures { option_map requested_task result ≡ task_in name.now (rows_of (found_of given.now)) }
 {
@@ -248,23 +272,43 @@ fn task_of<'a>(name: &str, given: &ArgMatches<'a>) -> Option<Task<'a>>
         "why" => Some(Task::Why {
             name: text(given, "NAME"),
         }),
+        "timeline" => Some(Task::Timeline {
+            name: text(given, "NAME"),
+        }),
+        "trace" => Some(Task::Trace),
+        "shrink" => shrink_task(given),
         "lint" => Some(Task::Lint),
         _ => None,
     }
 }
 
-fn job_of<'a>(matches: &ArgMatches<'a>) -> Option<Job<'a>>
-    ensures { option_map request_of result ≡ request_in (subcommand_rows_of matches.now) }
+/// Returns the job of a task, with the options that all tasks share.
+fn with_options<'a>(task: Task<'a>, given: &ArgMatches<'a>) -> Job<'a>
+    ensures { request_of result ≡ requested (rows_of (found_of given.now)) (requested_task task.entry) }
 {
-    let (name, given) = matches.subcommand()?;
-    let task = task_of(name, given)?;
-    Some(Job {
+    Job {
         task,
         file: text(given, "FILE"),
         bail: flag(given, "bail"),
         progress: asked_progress(given),
         format: asked_format(given),
-    })
+    }
+}
+
+/// Returns the job of a subcommand and its matches.
+fn job_in<'a>(name: &str, given: &ArgMatches<'a>) -> Option<Job<'a>>
+    ensures { option_map request_of result ≡ request_in_one name.now (rows_of (found_of given.now)) }
+{
+    let task = task_of(name, given)?;
+    Some(with_options(task, given))
+}
+
+#[tactic(auto, using(crate::proofs::Requested::named_rows))]
+fn job_of<'a>(matches: &ArgMatches<'a>) -> Option<Job<'a>>
+    ensures { option_map request_of result ≡ request_in (subcommand_rows_of matches.now) }
+{
+    let (name, given) = matches.subcommand()?;
+    job_in(name, given)
 }
 
 /// Returns the job requested by the arguments, starting with the program's name.

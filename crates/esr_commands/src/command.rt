@@ -251,7 +251,8 @@ fn print_audits<V: AuditText, W: Write>(
 fn not_found_text(task: Task<'_>) -> Option<&'static str> {
     match task {
         Task::Why { .. } => Some("not a transaction"),
-        Task::Explain { prose: true, .. } => Some("not a query"),
+        Task::Explain { prose: true, .. } | Task::Timeline { .. } => Some("not a query"),
+        Task::Shrink { .. } => Some("not a committed query with this distance"),
         _ => None,
     }
 }
@@ -269,8 +270,11 @@ fn sought_by(task: Task<'_>) -> Sought<'_> {
     match task {
         Task::Certify { name, .. }
         | Task::Explain { name, prose: false }
-        | Task::Picture { name } => Sought::CommittedQuery(name),
-        Task::Explain { name, prose: true } => Sought::Query(name),
+        | Task::Picture { name }
+        | Task::Shrink { name, .. } => Sought::CommittedQuery(name),
+        Task::Explain { name, prose: true } | Task::Timeline { name: Some(name) } => {
+            Sought::Query(name)
+        }
         Task::Why { name: Some(name) } => Sought::Transaction(name),
         _ => Sought::Nothing,
     }

@@ -27,5 +27,6 @@ pub use detail::detail_of;
 pub use fault::{DriveHelp, fail, line_at_fault, report_fault};
 pub use judgement::{Question, check};
 pub use listing::list_faults;
+pub use meter::Meter;
 pub use open::open_file;
 pub use output::{Output, is_closed_pipe};

@@ -45,8 +45,8 @@ impl<'a, R: Clock + Eprint> Meter<'a, R> {
         }
     }
 
-    /// Shows a text, if it is time for one. Of two concurrent threads, one does.
-    fn show(&self, text: &impl Display) {
+    /// Shows a text, where it is time for one. Of two threads that come at once one does.
+    pub fn show(&self, text: &impl Display) {
         let Some(began) = self.began else {
             return;
         };

@@ -1,8 +1,9 @@
-//! The chart: a column for each committed query, in the order of their commits, with what it was charged, how far off it
-//! was, and its limit where that is not above the chart. Columns are elements of the page and not a picture, so that
-//! they are as wide as there is room, and each is a link with words of its own. Where a few queries were charged far more
-//! than all others, the chart ends below them, so that the others are seen; a logarithmic scale was rejected, since a bar
-//! would no longer show its amount by its length.
+//! The charts: a column for each committed query, in the order of their commits, in one chart with its distance and in
+//! another one with its charges and its limit, unless that is above the chart. One chart for both was rejected: charges are
+//! often some hundred times the distance, which is then a line of a pixel. Columns are elements of the page and not a
+//! picture, so that they are as wide as there is space, and each is a link with its own title. If a few queries have far
+//! larger amounts than all others, the chart ends below them, so that the others are seen; a logarithmic scale was
+//! rejected, since a bar would no longer show its amount by its length.
 
 use crate::audits::AuditedDistance;
 use crate::rows::{QueryRow, QueryRows};
@@ -15,8 +16,31 @@ const MAX_NAMED: usize = 12;
 /// So many columns there are at most.
 const MAX_COLUMNS: usize = 1000;
 
-/// The chart ends at so many times what all but the dearest queries were charged.
+/// The chart ends at this multiple of the amount of all but the largest queries.
 const FARTHEST: u64 = 5;
+
+/// What the columns of a chart show.
+#[derive(Clone, Copy, PartialEq, Eq)]
+enum Measure {
+    Distance,
+    Charges,
+}
+
+/// Returns the amount of a query.
+fn amount_of(row: &QueryRow<'_>, measure: Measure) -> u64 {
+    match measure {
+        Measure::Distance => row.distance().unwrap_or(0),
+        Measure::Charges => row.charged,
+    }
+}
+
+/// Returns the class of the bars.
+fn class_of(measure: Measure) -> &'static str {
+    match measure {
+        Measure::Distance => "dis",
+        Measure::Charges => "chg",
+    }
+}
 
 /// The height of an amount, in thousandths of the chart's.
 fn height(amount: u64, top: u64) -> u64 {
@@ -61,16 +85,23 @@ fn push_words(out: &mut String, row: &QueryRow<'_>) -> Result<(), AllocError> {
 
 /// A column. Where it goes on above the chart, a gap through all its bars says so: an end that each bar had of its own, as
 /// if torn, crossed that of the bar before it, and could not be seen on narrow bars.
-fn push_column(out: &mut String, row: &QueryRow<'_>, top: u64) -> Result<(), AllocError> {
+fn push_column(
+    out: &mut String,
+    row: &QueryRow<'_>,
+    top: u64,
+    measure: Measure,
+) -> Result<(), AllocError> {
     let name = row.name;
     let target = if row.has_explanation { "q" } else { "r" };
     write!(out, "<li><a href='#{target}-{name}' title='")?;
     push_words(out, row)?;
-    let end = if row.charged > top { " cut" } else { "" };
+    let amount = amount_of(row, measure);
+    let end = if amount > top { " cut" } else { "" };
     write!(out, "'><span class='col{end}' aria-hidden='true'>")?;
-    push_bar(out, "chg", row.charged, top)?;
-    push_bar(out, "dis", row.distance().unwrap_or(0), top)?;
-    push_limit(out, row.limit, top)?;
+    push_bar(out, class_of(measure), amount, top)?;
+    if measure == Measure::Charges {
+        push_limit(out, row.limit, top)?;
+    }
     write!(out, "</span><span class='nam'>{name}</span></a></li>\n")
 }
 
@@ -80,44 +111,49 @@ fn push_columns(
     all: &mut QueryRows<'_>,
     found: &[AuditedDistance],
     top: u64,
+    measure: Measure,
 ) -> Result<(), AllocError> {
     for found in first(found, MAX_COLUMNS) {
         if let Some(row) = all.of(found.query) {
-            push_column(out, row, top)?;
+            push_column(out, row, top, measure)?;
         }
     }
     Ok(())
 }
 
-/// What the queries were charged, ascending.
-fn charges_of(alloc: Global, rows: &[QueryRow<'_>]) -> Result<Vec<u64>, AllocError> {
-    let mut charges = Vec::new(alloc);
+/// Returns the amounts of the committed queries, ascending.
+fn amounts_of(
+    alloc: Global,
+    rows: &[QueryRow<'_>],
+    measure: Measure,
+) -> Result<Vec<u64>, AllocError> {
+    let mut amounts = Vec::new(alloc);
     for row in rows {
         if row.distance().is_some() {
-            charges.push(row.charged)?;
+            amounts.push(amount_of(row, measure))?;
         }
     }
-    charges.sort_unstable();
-    Ok(charges)
+    amounts.sort_unstable();
+    Ok(amounts)
 }
 
-/// The most that a query was charged, a quarter of them left out, and one at least.
-fn usual_charge(charges: &[u64]) -> u64 {
-    let dearest = (charges.len() / 4).max(1);
-    let others = charges.len().saturating_sub(dearest);
-    charges
+/// Returns the largest amount if a quarter of the queries, and one at least, is left out.
+fn usual_amount(amounts: &[u64]) -> u64 {
+    let largest = (amounts.len() / 4).max(1);
+    let others = amounts.len().saturating_sub(largest);
+    amounts
         .get(..others)
         .and_then(<[u64]>::last)
         .copied()
         .unwrap_or(0)
 }
 
-/// What the height of the chart stands for: the most that a query was charged; where that is more than so many times
-/// what most of them were, so many times that; where none was charged anything, the highest limit.
-fn top_of(rows: &[QueryRow<'_>], charges: &[u64]) -> u64 {
-    let upper_bound = charges.last().copied().unwrap_or(0);
-    let end = usual_charge(charges).saturating_mul(FARTHEST);
-    if end > 0 && upper_bound > end {
+/// Returns the amount at the top of the chart: the largest amount; if that is more than a multiple of most others, this
+/// multiple; if all are 0, the highest limit.
+fn top_of(rows: &[QueryRow<'_>], amounts: &[u64]) -> u64 {
+    let most = amounts.last().copied().unwrap_or(0);
+    let end = usual_amount(amounts).saturating_mul(FARTHEST);
+    if end > 0 && most > end {
         end
     } else if upper_bound > 0 {
         upper_bound
@@ -126,13 +162,35 @@ fn top_of(rows: &[QueryRow<'_>], charges: &[u64]) -> u64 {
     }
 }
 
-/// What the colours mean, how high the chart is, and how many columns go beyond it.
-fn push_legend(out: &mut String, top: u64, charges: &[u64]) -> Result<(), AllocError> {
-    let count = charges.len();
-    let above = charges.iter().filter(|charge| **charge > top).count();
-    out.push_str(
-        "<p class='key'><span><i class='chg'></i> charged</span> <span><i class='dis'></i> off by</span> <span><i class='lim'></i> limit, unless it is above the chart</span></p>\n<p>The top of the chart stands for ",
-    )?;
+/// Returns the heading of a chart.
+fn heading_of(measure: Measure) -> &'static str {
+    match measure {
+        Measure::Distance => "<h2>Distances, in the order of the commits</h2>\n",
+        Measure::Charges => "<h2>Charges, in the order of the commits</h2>\n",
+    }
+}
+
+/// Returns the legend of a chart.
+fn legend_of(measure: Measure) -> &'static str {
+    match measure {
+        Measure::Distance => "<p class='key'><span><i class='dis'></i> off by</span></p>\n",
+        Measure::Charges => {
+            "<p class='key'><span><i class='chg'></i> charged</span> <span><i class='lim'></i> limit, unless it is above the chart</span></p>\n"
+        }
+    }
+}
+
+/// Appends the legend of a chart, the amount at its top, and how many columns go beyond it.
+fn push_legend(
+    out: &mut String,
+    top: u64,
+    amounts: &[u64],
+    measure: Measure,
+) -> Result<(), AllocError> {
+    let count = amounts.len();
+    let above = amounts.iter().filter(|amount| **amount > top).count();
+    out.push_str(legend_of(measure))?;
+    out.push_str("<p>The top of the chart is ")?;
     push_number(out, top)?;
     out.push('.')?;
     if above > 0 {
@@ -150,8 +208,8 @@ fn push_legend(out: &mut String, top: u64, charges: &[u64]) -> Result<(), AllocE
     out.push_str("</p>\n")
 }
 
-/// The chart of the committed queries.
-pub fn push_chart(
+/// Appends the charts of the committed queries. A chart of distances that are all 0 is left out.
+pub fn push_charts(
     alloc: Global,
     out: &mut String,
     all: &mut QueryRows<'_>,
@@ -160,19 +218,23 @@ pub fn push_chart(
     if found.is_empty() {
         return out.push_str("<p>No query has committed.</p>\n");
     }
-    let charges = charges_of(alloc, &all.rows)?;
-    push_charted(out, all, found, &charges)
+    if found.iter().any(|found| found.distance > 0) {
+        push_chart(alloc, out, all, found, Measure::Distance)?;
+    }
+    push_chart(alloc, out, all, found, Measure::Charges)
 }
 
-/// The chart of some committed queries, which were charged this.
-fn push_charted(
+/// Appends a chart.
+fn push_chart(
+    alloc: Global,
     out: &mut String,
     all: &mut QueryRows<'_>,
     found: &[AuditedDistance],
-    charges: &[u64],
+    measure: Measure,
 ) -> Result<(), AllocError> {
-    let top = top_of(&all.rows, charges);
-    out.push_str("<h2>Committed queries, in the order of their commits</h2>\n")?;
+    let amounts = amounts_of(alloc, &all.rows, measure)?;
+    let top = top_of(&all.rows, &amounts);
+    out.push_str(heading_of(measure))?;
     let class = if found.len() > MAX_NAMED {
         "chart many"
     } else {
@@ -182,7 +244,7 @@ fn push_charted(
         out,
         "<div class='wide' tabindex='0' role='group' aria-label='Chart'><ol class='{class}'>\n"
     )?;
-    push_columns(out, all, found, top)?;
+    push_columns(out, all, found, top, measure)?;
     out.push_str("</ol></div>\n")?;
-    push_legend(out, top, charges)
+    push_legend(out, top, &amounts, measure)
 }

@@ -50,7 +50,7 @@ pub fn describe_farthest(
     mark(alloc, all, first(&ranks, count))
 }
 
-/// The heading of a query, and the start of its picture.
+/// Appends the heading of a query, and the start of its pictures.
 fn push_heading(out: &mut String, name: &str, distance: u64) -> Result<(), AllocError> {
     write!(out, "<section id='q-{name}'><h3>{name}: ")?;
     if distance == 0 {
@@ -59,14 +59,19 @@ fn push_heading(out: &mut String, name: &str, distance: u64) -> Result<(), Alloc
         out.push_str("off by ")?;
         push_number(out, distance)?;
     }
+    out.push_str("</h3>\n<div class='seen'>\n")
+}
+
+/// Appends the start of a part that scrolls by itself.
+fn open_part(out: &mut String, part: &str, name: &str) -> Result<(), AllocError> {
     write!(
         out,
-        "</h3>\n<div class='wide' tabindex='0' role='group' aria-label='Picture of {name}'>\n"
+        "<div class='wide' tabindex='0' role='group' aria-label='{part} of {name}'>\n"
     )
 }
 
-impl<P: Part, W: Part> Page<'_, P, W> {
-    /// Picture and words of a query, within its section.
+impl<T: Part, P: Part, W: Part> Page<'_, T, P, W> {
+    /// Appends the timeline, the picture and the sentences of a query, within its section.
     fn push(
         &self,
         alloc: Global,
@@ -75,8 +80,13 @@ impl<P: Part, W: Part> Page<'_, P, W> {
         lines: &[u32],
     ) -> Result<(), AllocError> {
         let trace = trace_of(alloc, audited.history, audited.finding.query)?;
-        self.picture.push(alloc, out, audited, lines, &trace)?;
+        let name = name_of_transaction(audited.transactions, audited.finding.query);
+        open_part(out, "Timeline", name)?;
+        self.timeline.push(alloc, out, audited, lines, &trace)?;
         out.push_str("</div>\n")?;
+        open_part(out, "Picture", name)?;
+        self.picture.push(alloc, out, audited, lines, &trace)?;
+        out.push_str("</div>\n</div>\n")?;
         self.words.push(alloc, out, audited, lines, &trace)
     }
 
@@ -143,8 +153,17 @@ pub fn heading_of(rows: &[QueryRow<'_>], explained: &[TxnId]) -> &'static str {
     if explained.is_empty() {
         ""
     } else if rows.iter().any(|row| row.distance().unwrap_or(0) > 0) {
-        "<h2>Largest distances</h2>\n"
+        "<h2>Largest distance</h2>\n"
     } else {
-        "<h2>All exact; the queries with the largest charges</h2>\n"
+        "<h2>All exact; the query with the largest charges</h2>\n"
+    }
+}
+
+/// Returns the heading of the other queries in detail, if there are any.
+pub fn next_heading_of(explained: &[TxnId]) -> &'static str {
+    if explained.is_empty() {
+        ""
+    } else {
+        "<h2>Next queries in detail</h2>\n"
     }
 }

@@ -1,5 +1,5 @@
-//! One HTML page about all queries of a script: the totals, a chart and a table of all queries, the pictures and prose
-//! of the queries with the greatest distances, and the serial order.
+//! One HTML page about all queries of a script: the query with the greatest distance with its timeline, picture and prose,
+//! a histogram and charts, a table of all queries, further queries in detail, and the serial order.
 //!
 //! The page is one file without external resources, so it can be mailed and archived. Names contain only lowercase
 //! letters, digits and `_`, because no other name can be declared, and all other text is fixed words and numbers.
@@ -10,6 +10,7 @@
 mod audits;
 mod chart;
 mod details;
+mod histogram;
 mod page;
 mod rows;
 mod style;

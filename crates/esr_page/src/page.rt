@@ -3,25 +3,27 @@
 ghost use Rattle.std.specs.Prelude.{IfOk};
 ghost use Rattle.esr_page.specs.Page.{IsPage};
 
-use crate::audits::{Audits, audit_all};
-use crate::chart::push_chart;
-use crate::details::{describe_farthest, heading_of};
+use crate::audits::{Audits, audit_all, rank};
+use crate::chart::push_charts;
+use crate::details::{describe_farthest, heading_of, next_heading_of};
+use crate::histogram::push_histogram;
 use crate::rows::{QueryRow, QueryRows, rows_of};
 use crate::style::{head, script};
 use crate::table::push_table;
 use esr_history::TxnId;
 use esr_lint::Notes;
 use esr_report::{Names, name_of_transaction};
-use esr_text::{markup_or_nothing, push_count, push_number, push_plain};
+use esr_text::{first, markup_or_nothing, push_count, push_number, push_plain};
 use esr_trace::Part;
 use esr_views::{Recording, ScriptView};
 use std::alloc::{AllocError, Global};
 
 /// The page about a script.
 #[derive(Drop)]
-pub struct Page<'a, P, W> {
-    /// Of how many queries picture and prose are told, those that were farthest off.
+pub struct Page<'a, T, P, W> {
+    /// The number of queries with a timeline, a picture and prose: those with the greatest distances.
     pub worst: u64,
+    pub timeline: &'a T,
     pub picture: &'a P,
     pub words: &'a W,
     pub origin: Origin<'a>,
@@ -81,7 +83,15 @@ struct PageTotals<'a> {
     exact: u64,
     distance: u64,
     charged: u64,
-    farthest: Option<(&'a str, u64)>,
+    farthest: Option<Farthest<'a>>,
+}
+
+/// The query with the greatest distance.
+#[derive(Clone, Copy)]
+struct Farthest<'a> {
+    name: &'a str,
+    distance: u64,
+    has_explanation: bool,
 }
 
 /// The sums over the queries that committed.
@@ -101,12 +111,12 @@ fn totals_of<'a>(rows: &[QueryRow<'a>]) -> PageTotals<'a> {
         totals.exact = totals.exact.saturating_add(u64::from(distance == 0));
         totals.distance = totals.distance.saturating_add(distance);
         totals.charged = totals.charged.saturating_add(row.charged);
-        if distance > 0
-            && totals
-                .farthest
-                .is_none_or(|(_, upper_bound)| distance > upper_bound)
-        {
-            totals.farthest = Some((row.name, distance));
+        if distance > 0 && totals.farthest.is_none_or(|most| distance > most.distance) {
+            totals.farthest = Some(Farthest {
+                name: row.name,
+                distance,
+                has_explanation: row.has_explanation,
+            });
         }
     }
     totals
@@ -132,12 +142,22 @@ fn push_sums(out: &mut String, totals: PageTotals<'_>, updates: u64) -> Result<(
     out.push_str("</dd></div>\n<div><dt>Total charged</dt><dd>")?;
     push_number(out, totals.charged)?;
     out.push_str("</dd></div>\n")?;
-    if let Some((name, distance)) = totals.farthest {
-        write!(out, "<div><dt>Largest distance</dt><dd>{name}, ")?;
-        push_number(out, distance)?;
-        out.push_str("</dd></div>\n")?;
+    if let Some(farthest) = totals.farthest {
+        push_farthest(out, farthest)?;
     }
     out.push_str("</dl>\n")
+}
+
+/// Appends the greatest distance, with a link to its query.
+fn push_farthest(out: &mut String, farthest: Farthest<'_>) -> Result<(), AllocError> {
+    let name = farthest.name;
+    let target = if farthest.has_explanation { "q" } else { "r" };
+    write!(
+        out,
+        "<div><dt>Largest distance</dt><dd><a href='#{target}-{name}'>{name}</a>, "
+    )?;
+    push_number(out, farthest.distance)?;
+    out.push_str("</dd></div>\n")
 }
 
 /// The committed updates in a serial order, folded away.
@@ -156,20 +176,53 @@ fn push_order(out: &mut String, names: &Names, order: &[TxnId]) -> Result<(), Al
     out.push_str("</p></details>\n")
 }
 
-/// Appends the part above the queries in detail: the origin, the lines with errors, the sums, the chart and the table.
-fn push_overview(
+/// Appends the part above all queries: the origin, the lines with errors and the sums.
+fn push_summary(
     alloc: Global,
     out: &mut String,
     origin: Origin<'_>,
-    all: &mut QueryRows<'_>,
+    all: &QueryRows<'_>,
     audits: &Audits,
 ) -> Result<(), AllocError> {
     out.push_str(head())?;
     push_origin(out, origin)?;
     push_errors(alloc, out, origin.notes)?;
-    push_sums(out, totals_of(&all.rows), audits.order.len() as u64)?;
-    push_chart(alloc, out, all, &audits.found)?;
-    push_table(out, &all.rows)
+    push_sums(out, totals_of(&all.rows), audits.order.len() as u64)
+}
+
+/// Appends the part about all queries: the histogram, the charts and the table.
+fn push_overview(
+    alloc: Global,
+    out: &mut String,
+    all: &mut QueryRows<'_>,
+    audits: &Audits,
+) -> Result<(), AllocError> {
+    push_histogram(alloc, out, &audits.found)?;
+    push_charts(alloc, out, all, &audits.found)?;
+    let rows = in_order(alloc, &all.rows)?;
+    push_table(out, &rows)
+}
+
+/// Returns the queries in the order of the table: the committed ones with the greatest distance first, then the others.
+fn in_order<'a>(alloc: Global, rows: &[QueryRow<'a>]) -> Result<Vec<QueryRow<'a>>, AllocError> {
+    let mut ranks = Vec::new(alloc);
+    for (index, row) in rows.iter().enumerate() {
+        let distance = row.distance();
+        let is_open = distance.is_none();
+        ranks.push((
+            is_open,
+            rank(distance.unwrap_or(0), row.charged, row.query),
+            index,
+        ))?;
+    }
+    ranks.sort_unstable();
+    let mut ordered = Vec::new(alloc);
+    for (_, _, index) in &ranks {
+        if let Some(row) = rows.get(*index) {
+            ordered.push(*row)?;
+        }
+    }
+    Ok(ordered)
 }
 
 /// The document with this body. What is written promises nothing, so it is tested to be markup before it is put into the
@@ -182,7 +235,7 @@ fn document(alloc: Global, body: String) -> Result<Vec<u8>, AllocError>
     Ok(text.into_bytes())
 }
 
-impl<P: Part, W: Part> Page<'_, P, W> {
+impl<T: Part, P: Part, W: Part> Page<'_, T, P, W> {
     /// All that the document has within its outermost element, one after another.
     fn push_body(
         &self,
@@ -193,9 +246,14 @@ impl<P: Part, W: Part> Page<'_, P, W> {
         all: &mut QueryRows<'_>,
         explained: &[TxnId],
     ) -> Result<(), AllocError> {
-        push_overview(alloc, out, self.origin, all, audits)?;
-        out.push_str(heading_of(&all.rows, explained))?;
-        self.push_details(alloc, out, recording, audits, explained)?;
+        push_summary(alloc, out, self.origin, all, audits)?;
+        let worst = first(explained, 1);
+        let others = explained.get(1..).unwrap_or(&[]);
+        out.push_str(heading_of(&all.rows, worst))?;
+        self.push_details(alloc, out, recording, audits, worst)?;
+        push_overview(alloc, out, all, audits)?;
+        out.push_str(next_heading_of(others))?;
+        self.push_details(alloc, out, recording, audits, others)?;
         push_order(out, &recording.transactions, &audits.order)?;
         out.push_str(script())
     }
@@ -226,7 +284,7 @@ impl<P: Part, W: Part> Page<'_, P, W> {
     }
 }
 
-impl<P: Part, W: Part> ScriptView for Page<'_, P, W> {
+impl<T: Part, P: Part, W: Part> ScriptView for Page<'_, T, P, W> {
     ghost IsTextOf = { λ _ _ text. IsPage text };
 
     fn text_of(

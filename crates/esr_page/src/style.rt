@@ -23,9 +23,9 @@ static HEAD: &str = "
 @media (prefers-color-scheme:dark){:root{--ink:#e6edf3;--dim:#9aa4af;--paper:#0d1117;--rule:#3d444d;--link:#78b6f5;--charged:#2f5f8a;--off:#ff7b72}}
 body{margin:0;background:var(--paper);color:var(--ink);font:16px/1.5 sans-serif}
 main{max-width:1120px;margin:0 auto;padding:16px}
-h1{font-size:1.6em;line-height:1.2}
-h2{margin-top:2em;border-bottom:1px solid var(--rule)}
-h3{margin-top:2em}
+h1{font-size:1.6em;line-height:1.2;margin:0}
+h2{margin-top:1.2em;border-bottom:1px solid var(--rule)}
+h3{margin:1em 0 0}
 p,li{max-width:46em;overflow-wrap:anywhere}
 a{color:var(--link)}
 dl{display:flex;flex-wrap:wrap;gap:8px 32px;margin:1em 0}
@@ -33,6 +33,7 @@ dt{color:var(--dim)}
 dd{margin:0;font-size:1.4em;overflow-wrap:anywhere}
 .wide{overflow-x:auto;max-width:100%}
 .wide svg{display:block}
+.seen{display:flex;flex-wrap:wrap;align-items:flex-start}
 ol.chart{display:flex;align-items:flex-start;list-style:none;margin:0;padding:0 0 4px}
 .chart li{max-width:none}
 .many li{flex:1 0 4px}
@@ -54,6 +55,12 @@ ol.chart{display:flex;align-items:flex-start;list-style:none;margin:0;padding:0 
 .key span{margin-right:1.5em}
 .key i{display:inline-block;width:16px;height:12px}
 .key .lim{height:0;margin-bottom:4px}
+.hist{list-style:none;padding:0}
+.hist li{display:flex;gap:8px;align-items:center;max-width:none}
+.bin{flex:0 0 40%;max-width:16em;text-align:right;overflow-wrap:anywhere}
+.bar{flex:1 1 0;display:flex;gap:8px;align-items:center}
+.bar i{display:block;height:14px;min-width:1px}
+.fold tbody tr:nth-child(n+51):not(:target){display:none}
 table{border-collapse:collapse;font-size:.9em}
 th,td{padding:4px 10px;border-bottom:1px solid var(--rule);text-align:left;white-space:nowrap}
 .num{text-align:right;font-variant-numeric:tabular-nums}
@@ -63,7 +70,7 @@ tr:target,section:target h3{outline:2px solid var(--link)}
 .order{color:var(--dim);max-width:none}
 .origin{color:var(--dim);margin-top:0}
 .errors{border:2px solid var(--off);border-radius:6px;padding:0 12px;color:var(--off)}
-@media print{th button{display:contents}*{-webkit-print-color-adjust:exact;print-color-adjust:exact}.wide{overflow:visible}.wide svg{max-width:100%;height:auto}.chart li{flex:1 1 0}table{font-size:.7em}th,td{padding:2px 5px}h2,h3{break-after:avoid}section .wide{break-inside:avoid-page}}
+@media print{.fold tbody tr:nth-child(n+51):not(:target){display:table-row}th button{display:contents}*{-webkit-print-color-adjust:exact;print-color-adjust:exact}.wide{overflow:visible}.wide svg{max-width:100%;height:auto}.chart li{flex:1 1 0}table{font-size:.7em}th,td{padding:2px 5px}h2,h3{break-after:avoid}section .wide{break-inside:avoid-page}}
 </style>
 </head>
 <body>
@@ -82,13 +89,23 @@ button.onclick=()=>{
 const body=head.closest('table').tBodies[0];
 const up=head.getAttribute('aria-sort')==='descending';
 const key=row=>row.cells[at].textContent;
-const number=text=>Number(text.replaceAll(',',''));
-const compare=(a,b)=>isNaN(number(a))||isNaN(number(b))?a.localeCompare(b):number(a)-number(b);
+const number=text=>text==='none'?Infinity:Number(text.replaceAll(',',''));
+const compare=(a,b)=>isNaN(number(a))||isNaN(number(b))?a.localeCompare(b):number(a)-number(b)||0;
 const rows=[...body.rows].sort((a,b)=>up?compare(key(a),key(b)):compare(key(b),key(a)));
 for(const other of head.parentElement.children)other.removeAttribute('aria-sort');
 head.setAttribute('aria-sort',up?'ascending':'descending');
 body.append(...rows);
 };
+}
+for(const table of document.querySelectorAll('table')){
+const count=table.tBodies[0].rows.length;
+if(count>50){
+table.classList.add('fold');
+const more=document.createElement('button');
+more.textContent='Show all '+count+' rows';
+more.onclick=()=>{table.classList.remove('fold');more.remove();};
+table.parentElement.after(more);
+}
 }
 </script>
 </body>

@@ -1,5 +1,5 @@
-//! The table of all queries. It is whole without scripts; where a browser runs the page's own, a press on the head of a
-//! column sorts by it.
+//! The table of all queries. It is complete without scripts; if a browser runs the script of the page, a press on the head
+//! of a column sorts by it, and only the first 50 rows are shown until all are requested.
 
 use crate::rows::{QueryEnd, QueryRow};
 use esr_text::{first, push_number};
@@ -8,8 +8,11 @@ use std::alloc::AllocError;
 /// So many rows there are at most.
 const MAX_ROWS: usize = 2000;
 
+/// The largest limit, which is no limit in practice.
+const NO_LIMIT: u64 = 1_000_000_000_000_000_000;
+
 const HEADINGS: &str =
-    "<h2 id='all'>All queries</h2>\n<div class='wide' tabindex='0' role='group' aria-label='Table'><table>\n<thead><tr><th scope='col' class='num'>Number</th><th scope='col'>Name</th><th scope='col'>Kind</th><th scope='col' class='num'>Limit</th><th scope='col' class='num'>Charged</th><th scope='col' class='num'>Left</th><th scope='col' class='num'>Reads</th><th scope='col'>Ended</th><th scope='col' class='num'>Off by</th></tr></thead>\n<tbody>\n";
+    "<h2 id='all'>All queries</h2>\n<div class='wide' tabindex='0' role='group' aria-label='Table'><table>\n<thead><tr><th scope='col'>Name</th><th scope='col' class='num'>Off by</th><th scope='col' class='num'>Charged</th><th scope='col' class='num'>Limit</th><th scope='col' class='num'>Left</th><th scope='col' class='num'>Reads</th><th scope='col'>Kind</th><th scope='col'>Ended</th><th scope='col' class='num'>Number</th></tr></thead>\n<tbody>\n";
 
 /// A cell with a number.
 fn push_cell(out: &mut String, number: u64) -> Result<(), AllocError> {
@@ -28,38 +31,52 @@ fn push_name(out: &mut String, row: &QueryRow<'_>) -> Result<(), AllocError> {
     }
 }
 
-/// How a query ended, and its distance.
-fn push_end(out: &mut String, end: QueryEnd) -> Result<(), AllocError> {
+/// Appends the distance of a query, if it has committed.
+fn push_distance(out: &mut String, end: QueryEnd) -> Result<(), AllocError> {
     match end {
-        QueryEnd::Committed { distance } => {
-            out.push_str("<td>committed</td>")?;
-            push_cell(out, distance)
-        }
-        QueryEnd::Aborted => out.push_str("<td>aborted</td><td class='num'>-</td>"),
-        QueryEnd::Active => out.push_str("<td>still active</td><td class='num'>-</td>"),
+        QueryEnd::Committed { distance } => push_cell(out, distance),
+        QueryEnd::Aborted | QueryEnd::Active => out.push_str("<td class='num'>-</td>"),
     }
 }
 
-/// A row.
+/// Returns how a query ended, as a cell.
+fn end_cell(end: QueryEnd) -> &'static str {
+    match end {
+        QueryEnd::Committed { .. } => "<td>committed</td>",
+        QueryEnd::Aborted => "<td>aborted</td>",
+        QueryEnd::Active => "<td>still active</td>",
+    }
+}
+
+/// Appends the limit of a query, and the rest of it.
+fn push_limit(out: &mut String, limit: u64, charged: u64) -> Result<(), AllocError> {
+    if limit >= NO_LIMIT {
+        return out.push_str("<td class='num'>none</td><td class='num'>-</td>");
+    }
+    push_cell(out, limit)?;
+    push_cell(out, limit.saturating_sub(charged))
+}
+
+/// Appends a row.
 fn push_row(out: &mut String, row: &QueryRow<'_>) -> Result<(), AllocError> {
     let name = row.name;
     write!(out, "<tr id='r-{name}'>")?;
-    push_cell(out, u64::from(row.query.0))?;
     push_name(out, row)?;
+    push_distance(out, row.end)?;
+    push_cell(out, row.charged)?;
+    push_limit(out, row.limit, row.charged)?;
+    push_cell(out, row.reads)?;
     out.push_str(if row.is_strict {
         "<td>strict</td>"
     } else {
         "<td>query</td>"
     })?;
-    push_cell(out, row.limit)?;
-    push_cell(out, row.charged)?;
-    push_cell(out, row.limit.saturating_sub(row.charged))?;
-    push_cell(out, row.reads)?;
-    push_end(out, row.end)?;
+    out.push_str(end_cell(row.end))?;
+    push_cell(out, u64::from(row.query.0))?;
     out.push_str("</tr>\n")
 }
 
-/// The table.
+/// Appends the table.
 pub fn push_table(out: &mut String, rows: &[QueryRow<'_>]) -> Result<(), AllocError> {
     if rows.is_empty() {
         return Ok(());

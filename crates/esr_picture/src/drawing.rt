@@ -53,11 +53,11 @@ fn in_quotes(alloc: Global, attributes: String) -> String
     }
 }
 
-/// The element with these parts.
-fn element(alloc: Global, parts: Parts) -> Result<String, AllocError>
+/// Returns the element `svg` with these attributes and this body. Attributes or a body that are not well-formed are left
+/// out.
+pub fn element(alloc: Global, attributes: String, body: String) -> Result<String, AllocError>
     ensures { IfOk result (λ text. IsSvg (string_bytes text)) }
 {
-    let Parts { attributes, body } = parts;
     let attributes = in_quotes(alloc, attributes);
     let body = within_one(alloc, body)?;
     let text = format!(in alloc; "<svg{attributes}>{body}</svg>\n")?;
@@ -75,8 +75,8 @@ fn picture_with<'a>(
 {
     let mut scene = scene_of(alloc, audited, trace)?;
     scene.errors = errors;
-    let parts = parts_of(alloc, &scene)?;
-    element(alloc, parts)
+    let Parts { attributes, body } = parts_of(alloc, &scene)?;
+    element(alloc, attributes, body)
 }
 
 /// Returns the picture of the audit of a query.

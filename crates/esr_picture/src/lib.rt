@@ -16,4 +16,4 @@ mod order;
 mod scene;
 mod values;
 
-pub use drawing::{Drawing, NotedDrawing, picture};
+pub use drawing::{Drawing, NotedDrawing, element, picture};

@@ -10,9 +10,9 @@ use std::process::Abort;
 
 type Words = &'static [&'static str];
 
-/// Command lines, and the task that each requests.
-static TASKS: [(Words, Task<'static>); 25] = [
-    // `run` takes no name: it replies to every line.
+/// Words of the command line, and the work that each line asks for.
+static TASKS: [(Words, Task<'static>); 30] = [
+    // `run` takes no name: it answers every line.
     (&["esr", "run"], Task::Run),
     // `check` takes no name: a bundle is of one query.
     (
@@ -158,7 +158,32 @@ static TASKS: [(Words, Task<'static>); 25] = [
     (&["esr", "why"], Task::Why { name: None }),
     // The transaction follows the file.
     (&["esr", "why", "-", "u"], Task::Why { name: Some("u") }),
-    // A script is checked without a name.
+    // A timeline needs no name.
+    (&["esr", "timeline"], Task::Timeline { name: None }),
+    // The name may follow the file.
+    (
+        &["esr", "timeline", "-", "q"],
+        Task::Timeline { name: Some("q") },
+    ),
+    // Trace events are of a whole script.
+    (&["esr", "trace"], Task::Trace),
+    // A query is shrunk to any distance if no distance is given.
+    (
+        &["esr", "shrink", "q"],
+        Task::Shrink {
+            name: "q",
+            at_least: None,
+        },
+    ),
+    // The largest distance that may be given.
+    (
+        &["esr", "shrink", "--at-least", "1000000000000000000", "q"],
+        Task::Shrink {
+            name: "q",
+            at_least: Some(1_000_000_000_000_000_000),
+        },
+    ),
+    // A script is looked at without a name.
     (&["esr", "lint"], Task::Lint),
     // A page shows ten queries in full if no number is given.
     (&["esr", "page"], Task::Page { worst: 10 }),
@@ -298,8 +323,8 @@ fn options_choose_the_format(rt: HostRuntime) {
     }
 }
 
-/// Command lines that request no job, their error, and the exit status.
-static OTHERS: [(Words, ErrorKind, i32); 18] = [
+/// Words that ask for no job, what is said of them, and the exit status.
+static OTHERS: [(Words, ErrorKind, i32); 20] = [
     // A job has to be named.
     (&["esr"], ErrorKind::MissingSubcommand, 2),
     // No job has this name.
@@ -328,6 +353,14 @@ static OTHERS: [(Words, ErrorKind, i32); 18] = [
     ),
     // A picture needs a name too.
     (&["esr", "picture"], ErrorKind::MissingRequiredArgument, 2),
+    // So does a query that is shrunk.
+    (&["esr", "shrink"], ErrorKind::MissingRequiredArgument, 2),
+    // Every query is off by at least 0, so this is not a distance to keep.
+    (
+        &["esr", "shrink", "--at-least", "0", "q"],
+        ErrorKind::ValueValidation,
+        2,
+    ),
     // One worker fewer than there may be.
     (
         &["esr", "audit", "--workers", "0"],

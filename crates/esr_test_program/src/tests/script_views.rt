@@ -1,4 +1,4 @@
-//! Prose and pages. No clause specifies their content.
+//! Prose, pages, timelines, trace events and small scripts. No clause says what is in them.
 
 use crate::tests::pictures::BANK;
 use esr_history::Watched;
@@ -7,6 +7,9 @@ use esr_page::{Origin, Page};
 use esr_picture::Drawing;
 use esr_prose::{Passage, Prose};
 use esr_script::{RunFault, render_script};
+use esr_shrink::{Progress, Shrink};
+use esr_timeline::{Timeline, TimelinePart};
+use esr_trace_events::TraceEvents;
 use esr_views::ScriptView;
 use std::alloc::Global;
 use std::process::Abort;
@@ -132,9 +135,10 @@ fn only_queries_are_described(rt: HostRuntime) {
 }
 
 /// Returns a page with the details of `worst` queries.
-fn page<'a>(worst: u64, notes: &'a Notes) -> Page<'a, Drawing, Passage> {
+fn page<'a>(worst: u64, notes: &'a Notes) -> Page<'a, TimelinePart, Drawing, Passage> {
     Page {
         worst,
+        timeline: &TimelinePart,
         picture: &Drawing,
         words: &Passage,
         origin: Origin {
@@ -151,9 +155,11 @@ fn page<'a>(worst: u64, notes: &'a Notes) -> Page<'a, Drawing, Passage> {
 fn a_page_has_each_part(rt: HostRuntime) {
     let texts = [
         "<p>1 committed query among 1 committed update.</p>",
-        "<dd>report, 100</dd>",
+        "<dd><a href='#q-report'>report</a>, 100</dd>",
+        "<li><span class='bin'>off by 100 to 999</span><span class='bar'><i class='dis' style='width:80%'></i><b>1</b></span></li>",
         "<li><a href='#q-report' title='report: limit 200, charged 100, off by 100'>",
-        "<tr id='r-report'><td class='num'>1</td><th scope='row'><a href='#q-report'>report</a></th><td>query</td><td class='num'>200</td><td class='num'>100</td><td class='num'>100</td><td class='num'>2</td><td>committed</td><td class='num'>100</td></tr>",
+        "<tr id='r-report'><th scope='row'><a href='#q-report'>report</a></th><td class='num'>100</td><td class='num'>100</td><td class='num'>200</td><td class='num'>100</td><td class='num'>2</td><td>query</td><td>committed</td><td class='num'>1</td></tr>",
+        "aria-label='Timeline of report'",
         "<section id='q-report'><h3>report: off by 100</h3>",
         "<svg xmlns=",
         "<li>savings 1,600, in line 9, as transfer had left it</li>",
@@ -163,8 +169,8 @@ fn a_page_has_each_part(rt: HostRuntime) {
     let notes = Notes::new(alloc);
     has(&rt, alloc, BANK, &page(10, &notes), &texts);
     let texts = [
-        "<td>aborted</td><td class='num'>-</td>",
-        "<td>still active</td><td class='num'>-</td>",
+        "<td class='num'>-</td><td class='num'>6</td><td class='num'>900</td><td class='num'>894</td><td class='num'>1</td><td>query</td><td>aborted</td>",
+        "<td>still active</td>",
         "<h2 id='all'>All queries</h2>",
     ];
     has(&rt, alloc, DAY, &page(0, &notes), &texts);
@@ -183,4 +189,161 @@ fn a_page_names_its_origin_and_the_lines_with_errors(rt: HostRuntime) {
         "<li>line 3: unknown command \"a\u{ff06}b\"</li>\n</ul></div>\n",
     ];
     has(&rt, alloc, BANK, &page(10, &notes), &errors);
+}
+
+/// What the timeline of the bank has, of each kind of sign one.
+static BANK_TIMELINE: [&str; 10] = [
+    "<title id='all-timeline-title'>What happened, step by step</title>\n",
+    ">report</text>\n",
+    ">limit 200</text>\n",
+    ">charged 100</text>\n",
+    "<title>step 2, line 4: report read checking: 500</title><circle class='mr' ",
+    "<title>step 4, line 6: transfer wrote checking: 400</title><rect class='mw' ",
+    "<title>step 4, line 6: transfer charged report 100 for checking</title></path>\n",
+    ">+100</text>\n",
+    "<title>step 8, line 10: report committed</title>",
+    ">off by 100</text>\n",
+];
+
+/// A timeline of any content would keep its contract.
+#[test]
+fn a_timeline_has_reads_writes_charges_and_ends(rt: HostRuntime) {
+    let alloc = rt.alloc();
+    let notes = &Notes::new(alloc);
+    let view = Timeline { name: None, notes };
+    has(&rt, alloc, BANK, &view, &BANK_TIMELINE);
+    let view = Timeline {
+        name: Some("report"),
+        notes,
+    };
+    let heading = [
+        ">report: what happened, step by step</text>\n",
+        "url(#report-timeline-tip)",
+    ];
+    has(&rt, alloc, BANK, &view, &heading);
+}
+
+/// An event that is blocked twice by a lock, an aborted update, an active query, and a line with an error.
+const BLOCKED: &str = "item a 7\n\
+        begin u update 9\n\
+        begin v update 9\n\
+        begin q query 1\n\
+        write u a 9\n\
+        read v a\n\
+        read v a\n\
+        read q a\n\
+        abort u\n";
+
+/// Attempts at the same event in a row are drawn as one cross with their number.
+#[test]
+fn blocked_events_are_drawn(rt: HostRuntime) {
+    let alloc = rt.alloc();
+    let notes = &Notes::new(alloc);
+    notes.add(&"line 99: not a command");
+    let view = Timeline { name: None, notes };
+    let texts = [
+        "<title>step 5, line 6: v was blocked from reading a by the lock of u, 2 times</title><path class='mx' ",
+        ">by u x2</text>\n",
+        "<title>step 7, line 8: q was blocked from reading a by the limit of q</title>",
+        ">aborted</text>\n",
+        ">still active</text>\n",
+        ">1 line of the script has an error and is not drawn.</text>\n",
+    ];
+    has(&rt, alloc, BLOCKED, &view, &texts);
+}
+
+/// Only a query has its own timeline.
+#[test]
+fn only_queries_have_a_timeline(rt: HostRuntime) {
+    let alloc = rt.alloc();
+    let notes = &Notes::new(alloc);
+    let refused = Err(RunFault::NotACommittedQuery);
+    for name in ["transfer", "checking", "<"] {
+        let view = Timeline {
+            name: Some(name),
+            notes,
+        };
+        script_views(&rt, alloc, BANK, &view, refused, "");
+    }
+}
+
+/// The trace events of an update that was charged.
+static BANK_EVENTS: [&str; 5] = [
+    "{\"displayTimeUnit\":\"ms\",\"traceEvents\":[\n{\"name\":\"process_name\",",
+    "{\"name\":\"transfer\",\"cat\":\"transaction\",\"ph\":\"X\",\"pid\":1,\"tid\":2,\"ts\":3000,\"dur\":4000,\"args\":{\"step\":3,\"line\":5,\"kind\":\"update\",\"limit\":200,\"import\":0,\"outcome\":\"committed\"}}",
+    "{\"name\":\"write checking\",\"cat\":\"write\",\"ph\":\"X\",\"pid\":1,\"tid\":2,\"ts\":4100,\"dur\":800,\"args\":{\"step\":4,\"line\":6,\"item\":\"checking\",\"value\":400}}",
+    "{\"name\":\"charge\",\"cat\":\"charge\",\"ph\":\"s\",\"pid\":1,\"tid\":2,\"ts\":4300,\"id\":1,\"bp\":\"e\",\"args\":{\"item\":\"checking\",\"amount\":100}}",
+    "{\"name\":\"charge\",\"cat\":\"charge\",\"ph\":\"f\",\"pid\":1,\"tid\":1,\"ts\":4600,\"id\":1,",
+];
+
+/// No clause says what trace events there are.
+#[test]
+fn trace_events_have_slices_and_flows(rt: HostRuntime) {
+    has(&rt, rt.alloc(), BANK, &TraceEvents, &BANK_EVENTS);
+    let blocked = [
+        "{\"name\":\"blocked: read a\",\"cat\":\"blocked\",\"ph\":\"X\",\"pid\":1,\"tid\":2,\"ts\":5100,\"dur\":800,\"args\":{\"step\":5,\"line\":6,\"item\":\"a\",\"blocked_by\":\"lock\",\"of\":\"u\"}}",
+        "\"outcome\":\"aborted\"}}",
+        "\"outcome\":\"active\"}}",
+    ];
+    has(&rt, rt.alloc(), BLOCKED, &TraceEvents, &blocked);
+}
+
+/// Progress that is not shown.
+struct Unshown;
+
+impl Progress for Unshown {
+    fn show(&self, _runs: u64, _events: u64) {}
+
+    fn clear(&self) {}
+}
+
+/// A report that is off by 4 and by 3, with updates and items that have no part in either.
+const TWO_CAUSES: &str = "item a 0\nitem b 0\nitem c 0\n\
+        begin q query 99\n\
+        begin u update 99\n\
+        begin v update 99\n\
+        begin other update 99\n\
+        read q c\n\
+        write u a 4\n\
+        read q a\n\
+        write v b 3\n\
+        read q b\n\
+        abort u\n\
+        abort v\n\
+        write other c 9\n\
+        read other b\n\
+        commit other\n\
+        commit q\n";
+
+/// Returns the view of a small script in which the query of the name is off by at least this distance.
+fn shrink<'a>(name: &'a str, at_least: u64) -> Shrink<'a, Unshown> {
+    Shrink {
+        name,
+        at_least,
+        progress: &Unshown,
+    }
+}
+
+/// Any script keeps the contract, also one in which no query is off.
+#[test]
+fn a_small_script_is_found(rt: HostRuntime) {
+    let alloc = rt.alloc();
+    let one =
+        "item b 0\nbegin q query 99\nbegin v update 99\nwrite v b 3\nread q b\nabort v\ncommit q\n";
+    let one_of_them = shrink("q", 1);
+    script_views(&rt, alloc, TWO_CAUSES, &one_of_them, Ok(()), one);
+    let both =
+        "item a 0\nitem b 0\nbegin q query 99\nbegin u update 99\nbegin v update 99\nwrite u a 4\nread q a\nwrite v b 3\nread q b\nabort u\nabort v\ncommit q\n";
+    script_views(&rt, alloc, TWO_CAUSES, &shrink("q", 7), Ok(()), both);
+}
+
+/// The contract lets this fault come at any time.
+#[test]
+fn only_queries_that_are_off_are_shrunk(rt: HostRuntime) {
+    let alloc = rt.alloc();
+    let refused = Err(RunFault::NotACommittedQuery);
+    script_views(&rt, alloc, TWO_CAUSES, &shrink("q", 8), refused, "");
+    for name in ["u", "a", "nobody"] {
+        script_views(&rt, alloc, TWO_CAUSES, &shrink(name, 1), refused, "");
+    }
 }

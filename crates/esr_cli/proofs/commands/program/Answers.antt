@@ -6,6 +6,6 @@ returns c =
     c.with-4.ensures _ spec.lint
     (c.in_ok-commands-3.ensures _ spec.explore
     (c.in_ok-commands-2.ensures _ spec.drive
-    (c.in_ok-commands.ensures spec.tables spec.audit c.in_ok-tables.ensures c.audit.ensures.app) c.drive.ensures.app)
+    (c.in_ok-commands.ensures spec.cases spec.audit c.in_ok-cases.ensures c.audit.ensures.app) c.drive.ensures.app)
     c.explore.ensures.app)
     c.lint.ensures.app

@@ -1,0 +1,101 @@
+//! The histogram of distances: how many committed queries were exact, and how many were off by amounts of each magnitude.
+
+use crate::audits::AuditedDistance;
+use esr_text::push_number;
+use std::alloc::{AllocError, Global};
+
+/// The number of magnitudes: 0, 1 to 9, 10 to 99, and so on.
+const MAGNITUDES: usize = 20;
+
+/// Returns the magnitude of a distance: the number of its digits, or 0.
+fn magnitude_of(distance: u64) -> usize {
+    let mut bound = 1u64;
+    for magnitude in 0..MAGNITUDES {
+        if distance < bound {
+            return magnitude;
+        }
+        bound = bound.saturating_mul(10);
+    }
+    MAGNITUDES
+}
+
+/// Returns how many distances there are of each magnitude.
+fn counts_of(alloc: Global, found: &[AuditedDistance]) -> Result<Vec<u64>, AllocError> {
+    let mut counts = vec![in alloc; 0u64; MAGNITUDES + 1]?;
+    for found in found {
+        if let Some(count) = counts.get_mut(magnitude_of(found.distance)) {
+            *count = count.saturating_add(1);
+        }
+    }
+    Ok(counts)
+}
+
+/// Appends the range of a magnitude, whose least distance is `least`.
+fn push_range(out: &mut String, magnitude: usize, least: u64) -> Result<(), AllocError> {
+    if magnitude == 0 {
+        return out.push_str("exact");
+    }
+    out.push_str("off by ")?;
+    push_number(out, least)?;
+    out.push_str(" to ")?;
+    push_number(out, least.saturating_mul(10).saturating_sub(1))
+}
+
+/// Appends a bar with its range and its count, of which the largest is `most`.
+fn push_bar(
+    out: &mut String,
+    magnitude: usize,
+    least: u64,
+    count: u64,
+    most: u64,
+) -> Result<(), AllocError> {
+    out.push_str("<li><span class='bin'>")?;
+    push_range(out, magnitude, least)?;
+    let share = count.saturating_mul(80).checked_div(most).unwrap_or(0);
+    let class = if magnitude == 0 { "chg" } else { "dis" };
+    write!(
+        out,
+        "</span><span class='bar'><i class='{class}' style='width:{share}%'></i><b>"
+    )?;
+    push_number(out, count)?;
+    out.push_str("</b></span></li>\n")
+}
+
+/// Returns the number of magnitudes up to the greatest that occurs.
+fn count_magnitudes(counts: &[u64]) -> usize {
+    let mut last = 0usize;
+    for (magnitude, count) in counts.iter().enumerate() {
+        if *count > 0 {
+            last = magnitude;
+        }
+    }
+    last.saturating_add(1)
+}
+
+/// Appends the bars of the magnitudes up to the greatest that occurs.
+fn push_bars(out: &mut String, counts: &[u64]) -> Result<(), AllocError> {
+    let most = counts.iter().copied().max().unwrap_or(0);
+    let mut least = 1u64;
+    for (magnitude, count) in counts.iter().take(count_magnitudes(counts)).enumerate() {
+        push_bar(out, magnitude, least, *count, most)?;
+        if magnitude > 0 {
+            least = least.saturating_mul(10);
+        }
+    }
+    Ok(())
+}
+
+/// Appends the histogram, unless no query has committed.
+pub fn push_histogram(
+    alloc: Global,
+    out: &mut String,
+    found: &[AuditedDistance],
+) -> Result<(), AllocError> {
+    if found.is_empty() {
+        return Ok(());
+    }
+    let counts = counts_of(alloc, found)?;
+    out.push_str("<h2>How many queries were off</h2>\n<ul class='hist'>\n")?;
+    push_bars(out, &counts)?;
+    out.push_str("</ul>\n")
+}

@@ -1,0 +1,157 @@
+//! The charges between lanes, as a machine that replays the history makes them.
+
+use crate::lanes::lane_at;
+use crate::marks::line_at;
+use crate::model::{Arrow, Lane, Source};
+use esr_history::TxnId;
+use esr_trace_events::{Charge, Replay};
+use std::alloc::{AllocError, Global};
+
+/// The queries whose charges are drawn.
+#[derive(Clone, Copy)]
+pub enum Payers {
+    /// One query.
+    One(TxnId),
+    /// All queries that have lanes.
+    All,
+}
+
+impl Payers {
+    /// Returns whether the charges to a query are drawn.
+    fn contain(self, query: TxnId) -> bool {
+        match self {
+            Payers::One(one) => one == query,
+            Payers::All => true,
+        }
+    }
+}
+
+/// Returns the arrow of a charge of an entry to the query of a lane.
+fn arrow_of<'a>(
+    source: Source<'a>,
+    lanes: &[Lane<'a>],
+    to: usize,
+    place: usize,
+    charge: &Charge,
+) -> Arrow<'a> {
+    Arrow {
+        update: charge.update,
+        from: lane_at(lanes, charge.update),
+        to,
+        place,
+        line: line_at(source, place),
+        item: source.items.name_of(charge.item.0).unwrap_or(""),
+        amount: charge.amount,
+    }
+}
+
+/// Adds the charges of an entry.
+fn push_charges<'a>(
+    arrows: &mut Vec<Arrow<'a>>,
+    source: Source<'a>,
+    lanes: &[Lane<'a>],
+    payers: Payers,
+    place: usize,
+    charges: &[Charge],
+) -> Result<(), AllocError> {
+    for charge in charges {
+        if payers.contain(charge.query)
+            && let Some(to) = lane_at(lanes, charge.query)
+        {
+            arrows.push(arrow_of(source, lanes, to, place, charge))?;
+        }
+    }
+    Ok(())
+}
+
+/// Returns the number of entries up to the end of the queries.
+fn count_entries(source: Source<'_>, payers: Payers) -> usize {
+    let count = source.history.log().len();
+    let end = match payers {
+        Payers::One(query) => source.history.facts(query).and_then(|facts| facts.end),
+        Payers::All => None,
+    };
+    end.map_or(count, |end| count.min((end as usize).saturating_add(1)))
+}
+
+/// Returns the charges to queries that have lanes, in the order of their entries.
+pub fn charges_to<'a>(
+    alloc: Global,
+    source: Source<'a>,
+    lanes: &[Lane<'a>],
+    payers: Payers,
+) -> Result<Vec<Arrow<'a>>, AllocError> {
+    let mut arrows = Vec::new(alloc);
+    let mut replay = Replay::new(alloc, source.history)?;
+    for place in 0..count_entries(source, payers) {
+        if let Some(entry) = source.history.log().get(place) {
+            replay.step(alloc, entry)?;
+            push_charges(&mut arrows, source, lanes, payers, place, &replay.charges)?;
+        }
+    }
+    Ok(arrows)
+}
+
+/// Returns the same charges between other lanes: those to queries that have one of them.
+pub fn between<'a>(
+    alloc: Global,
+    arrows: &[Arrow<'a>],
+    before: &[Lane<'a>],
+    lanes: &[Lane<'a>],
+) -> Result<Vec<Arrow<'a>>, AllocError> {
+    let mut moved = Vec::new(alloc);
+    for arrow in arrows {
+        if let Some(query) = before.get(arrow.to)
+            && let Some(to) = lane_at(lanes, query.txn)
+        {
+            let mut arrow = *arrow;
+            arrow.from = lane_at(lanes, arrow.update);
+            arrow.to = to;
+            moved.push(arrow)?;
+        }
+    }
+    Ok(moved)
+}
+
+/// Returns the charges by updates that have lanes.
+pub fn drawable<'a>(alloc: Global, arrows: &[Arrow<'a>]) -> Result<Vec<Arrow<'a>>, AllocError> {
+    let mut kept = Vec::new(alloc);
+    for arrow in arrows {
+        if arrow.from.is_some() {
+            kept.push(*arrow)?;
+        }
+    }
+    Ok(kept)
+}
+
+/// Returns the sum of some charges.
+pub fn sum_of(arrows: &[Arrow<'_>]) -> u64 {
+    let mut sum = 0u64;
+    for arrow in arrows {
+        sum = sum.saturating_add(arrow.amount);
+    }
+    sum
+}
+
+/// Returns the greatest of some charges, at most `most`, in the order of their entries.
+pub fn greatest<'a>(
+    alloc: Global,
+    arrows: &[Arrow<'a>],
+    most: usize,
+) -> Result<Vec<Arrow<'a>>, AllocError> {
+    let mut ranks = Vec::new(alloc);
+    for (index, arrow) in arrows.iter().enumerate() {
+        ranks.push((u64::MAX.saturating_sub(arrow.amount), index))?;
+    }
+    ranks.sort_unstable();
+    ranks.truncate(most);
+    let mut kept: Vec<usize> = ranks.iter().map(|rank| rank.1).collect(alloc)?;
+    kept.sort_unstable();
+    let mut greatest = Vec::new(alloc);
+    for index in &kept {
+        if let Some(arrow) = arrows.get(*index) {
+            greatest.push(*arrow)?;
+        }
+    }
+    Ok(greatest)
+}

@@ -1,0 +1,247 @@
+//! Which transactions have a lane: all of a short script; else the query, and the transactions that concern it.
+
+ghost use Rattle.esr_order.specs.Index.{IsWholeIndexOf};
+
+use crate::model::{Lane, LaneEnd, Source};
+use esr_audit::{AuditError, CommitLists, audit_query, audit_query_by_index, commit_lists};
+use esr_history::{Entry, Event, History, Refusal, Reply, TxnId};
+use esr_items::Weighted;
+use esr_order::Index;
+use esr_report::name_of_transaction;
+use esr_text::first;
+use esr_trace::QueryTrace;
+use std::alloc::{AllocError, Global};
+
+/// The maximum number of lanes.
+pub const MAX_LANES: usize = 12;
+
+/// With at most this many lanes, the writers of the values that were read have lanes too.
+const FEW_LANES: usize = 6;
+
+/// Returns the transaction of an event, unless it is a begin.
+pub fn txn_of(event: Event) -> Option<TxnId> {
+    match event {
+        Event::Read { txn, .. }
+        | Event::Write { txn, .. }
+        | Event::Commit { txn }
+        | Event::Abort { txn } => Some(txn),
+        Event::BeginUpdate { .. } | Event::BeginQuery { .. } => None,
+    }
+}
+
+/// Returns the transaction that blocked an event.
+pub fn blocker_of(reply: Reply) -> Option<TxnId> {
+    match reply {
+        Reply::Refused(
+            Refusal::BlockedByLock(txn)
+            | Refusal::BlockedByImport(txn)
+            | Refusal::BlockedByExport(txn),
+        ) => Some(txn),
+        _ => None,
+    }
+}
+
+/// Adds a transaction that has no lane yet, if there is space for one more.
+fn push_new(chosen: &mut Vec<TxnId>, txn: TxnId, most: usize) -> Result<(), AllocError> {
+    if chosen.len() < most && !chosen.contains(&txn) {
+        chosen.push(txn)?;
+    }
+    Ok(())
+}
+
+/// Returns the other transaction of an entry that blocked the query, or that the query blocked.
+fn opponent_of(entry: Entry, query: TxnId) -> Option<TxnId> {
+    let blocker = blocker_of(entry.reply)?;
+    let txn = txn_of(entry.event)?;
+    if txn == query {
+        Some(blocker)
+    } else if blocker == query {
+        Some(txn)
+    } else {
+        None
+    }
+}
+
+/// Adds the transactions that blocked the query, and those that it blocked.
+fn push_opponents(
+    chosen: &mut Vec<TxnId>,
+    source: Source<'_>,
+    query: TxnId,
+) -> Result<(), AllocError> {
+    let log = source.history.log();
+    for place in 0..log.len() {
+        if let Some(entry) = log.get(place)
+            && let Some(opponent) = opponent_of(entry, query)
+        {
+            push_new(chosen, opponent, MAX_LANES)?;
+        }
+    }
+    Ok(())
+}
+
+/// Adds the writers of the values that the query read.
+fn push_writers(chosen: &mut Vec<TxnId>, trace: &QueryTrace) -> Result<(), AllocError> {
+    for observed in &trace.observed_reads {
+        if let Some(writer) = observed.writer {
+            push_new(chosen, writer, FEW_LANES)?;
+        }
+    }
+    Ok(())
+}
+
+/// Adds the updates that were charged most.
+fn push_charged(
+    alloc: Global,
+    chosen: &mut Vec<TxnId>,
+    trace: &QueryTrace,
+) -> Result<(), AllocError> {
+    let sums = trace.sums_by_update(alloc)?;
+    for sum in first(&sums, MAX_LANES) {
+        push_new(chosen, TxnId(sum.number), MAX_LANES)?;
+    }
+    Ok(())
+}
+
+/// Returns the query and the transactions that concern it, in the order of their begins: the updates that it was charged by, the
+/// transactions that blocked it or that it blocked, and the writers of the values that it read.
+pub fn concerned(
+    alloc: Global,
+    source: Source<'_>,
+    query: TxnId,
+    trace: &QueryTrace,
+) -> Result<Vec<TxnId>, AllocError> {
+    let mut chosen = Vec::new(alloc);
+    chosen.push(query)?;
+    push_charged(alloc, &mut chosen, trace)?;
+    push_opponents(&mut chosen, source, query)?;
+    push_writers(&mut chosen, trace)?;
+    sorted(alloc, &chosen)
+}
+
+/// Returns some transactions, in the order of their begins.
+pub fn sorted(alloc: Global, chosen: &[TxnId]) -> Result<Vec<TxnId>, AllocError> {
+    let mut numbers: Vec<u32> = chosen.iter().map(|txn| txn.0).collect(alloc)?;
+    numbers.sort_unstable();
+    numbers.iter().map(|number| TxnId(*number)).collect(alloc)
+}
+
+/// Returns the transactions that began first, at most `most`.
+pub fn first_begun(
+    alloc: Global,
+    source: Source<'_>,
+    most: usize,
+) -> Result<Vec<TxnId>, AllocError> {
+    let begun = source.history.begun_count().min(most).min(MAX_LANES);
+    let mut chosen = Vec::new(alloc);
+    for number in 0..begun as u32 {
+        chosen.push(TxnId(number.saturating_add(1)))?;
+    }
+    Ok(chosen)
+}
+
+/// Returns the place of a query among those that were farthest off: a greater distance first, then a greater import.
+fn is_farther(a: (u64, u64), b: (u64, u64)) -> bool {
+    a.0 > b.0 || (a.0 == b.0 && a.1 > b.1)
+}
+
+/// Returns the distance of a committed query.
+pub fn distance_of(
+    alloc: Global,
+    source: Source<'_>,
+    query: TxnId,
+) -> Result<Option<u64>, AllocError> {
+    match audit_query(alloc, source.history, query) {
+        Ok(finding) => Ok(Some(finding.distance)),
+        Err(AuditError::NoMemory) => Err(AllocError),
+        Err(_) => Ok(None),
+    }
+}
+
+/// Returns the distance of a committed query, and its import.
+fn measure_of(
+    alloc: Global,
+    history: &History<Weighted>,
+    index: &Index,
+    query: TxnId,
+) -> Result<(u64, u64), AllocError>
+    requires { IsWholeIndexOf history.now.schedule.entries index.now }
+{
+    match audit_query_by_index(alloc, history, index, query) {
+        Ok(finding) => Ok((finding.distance, finding.import)),
+        Err(_) => Err(AllocError),
+    }
+}
+
+/// Returns the committed query with the greatest distance.
+pub fn farthest(alloc: Global, history: &History<Weighted>) -> Result<Option<TxnId>, AllocError> {
+    let Ok(CommitLists { queries, .. }) = commit_lists(alloc, history) else {
+        return Err(AllocError);
+    };
+    let index = Index::of(alloc, history)?;
+    let mut best = None;
+    let mut most = (0, 0);
+    for query in &queries {
+        let measure = measure_of(alloc, history, &index, *query)?;
+        if best.is_none() || is_farther(measure, most) {
+            best = Some(*query);
+            most = measure;
+        }
+    }
+    Ok(best)
+}
+
+/// Returns how a transaction ended.
+fn end_of(alloc: Global, source: Source<'_>, txn: TxnId) -> Result<LaneEnd, AllocError> {
+    let Some(facts) = source.history.facts(txn) else {
+        return Ok(LaneEnd::Active);
+    };
+    let Some(entry) = facts
+        .end
+        .and_then(|place| source.history.log().get(place as usize))
+    else {
+        return Ok(LaneEnd::Active);
+    };
+    match entry.event {
+        Event::Commit { .. } if facts.query => Ok(LaneEnd::Committed {
+            distance: distance_of(alloc, source, txn)?,
+        }),
+        Event::Commit { .. } => Ok(LaneEnd::Committed { distance: None }),
+        _ => Ok(LaneEnd::Aborted),
+    }
+}
+
+/// Returns the lane of a transaction.
+fn lane_of<'a>(alloc: Global, source: Source<'a>, txn: TxnId) -> Result<Lane<'a>, AllocError> {
+    let facts = source.history.facts(txn);
+    let is_query = facts.is_some_and(|facts| facts.query);
+    Ok(Lane {
+        txn,
+        name: name_of_transaction(source.transactions, txn),
+        is_query,
+        limit: facts.map_or(0, |facts| facts.limit),
+        charged: if is_query {
+            source.history.import(txn)
+        } else {
+            0
+        },
+        end: end_of(alloc, source, txn)?,
+    })
+}
+
+/// Returns the lanes of some transactions.
+pub fn lanes_of<'a>(
+    alloc: Global,
+    source: Source<'a>,
+    chosen: &[TxnId],
+) -> Result<Vec<Lane<'a>>, AllocError> {
+    let mut lanes = Vec::new(alloc);
+    for txn in chosen {
+        lanes.push(lane_of(alloc, source, *txn)?)?;
+    }
+    Ok(lanes)
+}
+
+/// Returns the lane of a transaction among these, if it has one.
+pub fn lane_at(lanes: &[Lane<'_>], txn: TxnId) -> Option<usize> {
+    lanes.iter().position(|lane| lane.txn == txn)
+}

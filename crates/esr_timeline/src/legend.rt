@@ -1,0 +1,154 @@
+//! The legend: what each sign means, of those that occur, in rows as wide as the picture.
+
+use crate::elements::{push_circle, push_cross, push_rect, push_square, push_text};
+use crate::layout::{EDGE, Layout};
+use crate::limits::has_bar;
+use crate::model::{Action, Lane, LaneEnd, Scene};
+use std::alloc::AllocError;
+
+/// What a timeline may have to explain.
+#[derive(Clone, Copy, PartialEq, Eq)]
+enum Key {
+    Read,
+    Write,
+    Blocked,
+    Charge,
+    Limit,
+    Open,
+}
+
+static KEYS: [Key; 6] = [
+    Key::Read,
+    Key::Write,
+    Key::Blocked,
+    Key::Charge,
+    Key::Limit,
+    Key::Open,
+];
+
+fn keys() -> &'static [Key] {
+    &KEYS
+}
+
+/// The width of a key with its words.
+const KEY_WIDTH: u32 = 216;
+
+/// From row to row.
+const ROW: u32 = 20;
+
+/// Returns what a key means.
+fn words_of(key: Key) -> &'static str {
+    match key {
+        Key::Read => "read",
+        Key::Write => "write",
+        Key::Blocked => "blocked",
+        Key::Charge => "charge, with its amount",
+        Key::Limit => "used part of the limit",
+        Key::Open => "aborted or still active",
+    }
+}
+
+/// Returns whether a column has an action of a kind.
+fn has_action(layout: &Layout<'_>, key: Key) -> bool {
+    layout.columns.iter().any(|column| {
+        matches!(
+            (key, column.mark.action),
+            (Key::Read, Action::Read { .. })
+                | (Key::Write, Action::Write { .. })
+                | (Key::Blocked, Action::Blocked { .. })
+        )
+    })
+}
+
+/// Returns whether the bar of the limit of a lane is filled.
+fn is_filled(lane: &Lane<'_>) -> bool {
+    has_bar(lane) && lane.charged > 0
+}
+
+/// Returns whether a key occurs.
+fn occurs(scene: &Scene<'_>, layout: &Layout<'_>, key: Key) -> bool {
+    match key {
+        Key::Read | Key::Write | Key::Blocked => has_action(layout, key),
+        Key::Charge => !scene.arrows.is_empty(),
+        Key::Limit => scene.lanes.iter().any(is_filled),
+        Key::Open => scene.lanes.iter().any(|lane| matches!(
+            lane.end,
+            LaneEnd::Aborted | LaneEnd::Active
+        )),
+    }
+}
+
+/// Returns how many keys there are in a row of a picture of this width.
+fn row_length(width: u32) -> u32 {
+    width
+        .saturating_sub(EDGE)
+        .checked_div(KEY_WIDTH)
+        .unwrap_or(1)
+        .max(1)
+}
+
+/// Returns how many keys occur.
+fn count_keys(scene: &Scene<'_>, layout: &Layout<'_>) -> u32 {
+    let mut count = 0u32;
+    for key in keys() {
+        if occurs(scene, layout, *key) {
+            count = count.saturating_add(1);
+        }
+    }
+    count
+}
+
+/// Returns the height of the legend of a picture of this width.
+pub fn legend_height(scene: &Scene<'_>, layout: &Layout<'_>, width: u32) -> u32 {
+    let rows = count_keys(scene, layout).div_ceil(row_length(width));
+    rows.saturating_mul(ROW)
+}
+
+/// Appends the sign of a key.
+fn push_sign(out: &mut String, key: Key, x: u32, y: u32, tip: &str) -> Result<(), AllocError> {
+    let middle = x.saturating_add(13);
+    let height = y.saturating_sub(4);
+    let top = y.saturating_sub(9);
+    match key {
+        Key::Read => push_circle(out, middle, height),
+        Key::Write => push_square(out, middle, height),
+        Key::Blocked => push_cross(out, middle, height),
+        Key::Charge => {
+            let end = x.saturating_add(24);
+            write!(
+                out,
+                "<path class='ar' marker-end='url(#{tip})' d='M{x} {height}H{end}'/>"
+            )
+        }
+        Key::Limit => {
+            push_rect(out, "lu", x, height, 26, 5)?;
+            push_rect(out, "lf", x, top, 26, 10)
+        }
+        Key::Open => push_rect(out, "bu op", x, top, 26, 10),
+    }
+}
+
+/// Appends the legend of a picture of this width.
+pub fn push_legend(
+    out: &mut String,
+    scene: &Scene<'_>,
+    layout: &Layout<'_>,
+    width: u32,
+    y: u32,
+    tip: &str,
+) -> Result<(), AllocError> {
+    let length = row_length(width);
+    let mut place = 0u32;
+    for key in keys() {
+        if occurs(scene, layout, *key) {
+            let column = place.checked_rem(length).unwrap_or(0);
+            let row = place.checked_div(length).unwrap_or(0);
+            let x = EDGE.saturating_add(KEY_WIDTH.saturating_mul(column));
+            let low = y.saturating_add(ROW.saturating_mul(row));
+            push_sign(out, *key, x, low, tip)?;
+            push_text(out, "gy", x.saturating_add(34), low, words_of(*key))?;
+            place = place.saturating_add(1);
+        }
+    }
+    Ok(())
+}

@@ -1,0 +1,102 @@
+//! The bar of a limit below the lane of a query, which fills up with each charge.
+
+use crate::elements::push_rect;
+use crate::layout::{Layout, NO_LIMIT, charges_at_or_before};
+use crate::model::{Arrow, Lane, Scene};
+use std::alloc::AllocError;
+
+/// The height of a bar.
+const HEIGHT: u32 = 10;
+
+/// From the upper edge of a lane to its bar.
+const BELOW: u32 = 61;
+
+/// Returns the height of an amount in a bar, at least 2 if there is any.
+fn height_of(amount: u64, limit: u64) -> u32 {
+    let share = u128::from(amount.min(limit))
+        .saturating_mul(u128::from(HEIGHT))
+        .checked_div(u128::from(limit))
+        .unwrap_or(0)
+        .min(u128::from(HEIGHT)) as u32;
+    if amount > 0 { share.max(2) } else { 0 }
+}
+
+/// A part of a bar with one height.
+#[derive(Clone, Copy)]
+struct Part {
+    start: u32,
+    end: u32,
+    height: u32,
+}
+
+/// Appends a part of a bar.
+fn push_part(out: &mut String, part: Part, top: u32) -> Result<(), AllocError> {
+    let width = part.end.saturating_sub(part.start);
+    if part.height == 0 || width == 0 {
+        return Ok(());
+    }
+    let y = top.saturating_add(HEIGHT.saturating_sub(part.height));
+    push_rect(out, "lu", part.start, y, width, part.height)
+}
+
+/// Returns the sum of the charges to the query of a lane.
+fn charged(arrows: &[Arrow<'_>], lane: usize) -> u64 {
+    let mut sum = 0u64;
+    for arrow in arrows {
+        if arrow.to == lane {
+            sum = sum.saturating_add(arrow.amount);
+        }
+    }
+    sum
+}
+
+/// Appends the parts of a bar.
+fn push_parts(
+    out: &mut String,
+    scene: &Scene<'_>,
+    layout: &Layout<'_>,
+    number: usize,
+    limit: u64,
+    top: u32,
+) -> Result<(), AllocError> {
+    let (start, end) = layout.span(number);
+    let mut part = Part {
+        start,
+        end: start,
+        height: 0,
+    };
+    for column in &layout.columns {
+        let arrows = charges_at_or_before(&scene.all_charges, column.mark.place);
+        let height = height_of(charged(arrows, number), limit);
+        if height != part.height && column.x >= start && column.x <= end {
+            part.end = column.x;
+            push_part(out, part, top)?;
+            part.start = column.x;
+            part.height = height;
+        }
+    }
+    part.end = end;
+    push_part(out, part, top)
+}
+
+/// Returns whether a lane has a bar: that of a query with a limit.
+pub fn has_bar(lane: &Lane<'_>) -> bool {
+    lane.is_query && lane.limit > 0 && lane.limit < NO_LIMIT
+}
+
+/// Appends the bar of the limit of a lane, if it has one.
+pub fn push_limit(
+    out: &mut String,
+    scene: &Scene<'_>,
+    layout: &Layout<'_>,
+    number: usize,
+    lane: &Lane<'_>,
+) -> Result<(), AllocError> {
+    if !has_bar(lane) {
+        return Ok(());
+    }
+    let top = layout.top(number).saturating_add(BELOW);
+    let (start, end) = layout.span(number);
+    push_parts(out, scene, layout, number, lane.limit, top)?;
+    push_rect(out, "lf", start, top, end.saturating_sub(start), HEIGHT)
+}

@@ -1,0 +1,267 @@
+//! The marks on lanes: one pass over the log. An event that was blocked and tried again at once has one mark.
+
+use crate::lanes::{blocker_of, lane_at, txn_of};
+use crate::model::{Action, Arrow, Cause, Lane, Mark, Source};
+use esr_history::{Entry, Event, Refusal, Reply, TxnId};
+use esr_items::ItemId;
+use esr_report::name_of_transaction;
+use std::alloc::{AllocError, Global};
+
+/// Returns the line of an entry, or 0 if it is not known.
+pub fn line_at(source: Source<'_>, place: usize) -> u32 {
+    source.lines.get(place).copied().unwrap_or(0)
+}
+
+/// Returns what blocked an event, if a lock or a limit did.
+fn cause_of(reply: Reply) -> Option<Cause> {
+    match reply {
+        Reply::Refused(Refusal::BlockedByLock(_)) => Some(Cause::Lock),
+        Reply::Refused(Refusal::BlockedByImport(_)) => Some(Cause::Import),
+        Reply::Refused(Refusal::BlockedByExport(_)) => Some(Cause::Export),
+        _ => None,
+    }
+}
+
+/// Returns the action of an entry, unless it was refused for a mistake.
+fn action_of(entry: Entry) -> Option<Action> {
+    if let Some(cause) = cause_of(entry.reply) {
+        return Some(Action::Blocked {
+            is_read: matches!(entry.event, Event::Read { .. }),
+            cause,
+            times: 1,
+        });
+    }
+    match (entry.event, entry.reply) {
+        (_, Reply::Begun(_)) => Some(Action::Begin),
+        (_, Reply::Value(value)) => Some(Action::Read { value }),
+        (Event::Write { value, .. }, Reply::Wrote) => Some(Action::Write { value }),
+        (_, Reply::Committed) => Some(Action::Commit),
+        (_, Reply::Aborted) => Some(Action::Abort),
+        _ => None,
+    }
+}
+
+/// Returns the transaction of an entry.
+fn txn_in(entry: Entry) -> Option<TxnId> {
+    match entry.reply {
+        Reply::Begun(txn) => Some(txn),
+        _ => txn_of(entry.event),
+    }
+}
+
+/// Returns the item of an entry.
+fn item_of(event: Event) -> Option<ItemId> {
+    match event {
+        Event::Read { item, .. } | Event::Write { item, .. } => Some(item),
+        _ => None,
+    }
+}
+
+/// Returns the name of the item of an entry, or nothing.
+fn item_name<'a>(source: Source<'a>, event: Event) -> &'a str {
+    match item_of(event) {
+        Some(item) => source.items.name_of(item.0).unwrap_or(""),
+        None => "",
+    }
+}
+
+/// Returns the name of the transaction that blocked an entry, or nothing.
+fn blocker_name<'a>(source: Source<'a>, reply: Reply) -> &'a str {
+    match blocker_of(reply) {
+        Some(txn) => name_of_transaction(source.transactions, txn),
+        None => "",
+    }
+}
+
+/// Returns the mark of an entry, if its transaction has a lane.
+fn mark_of<'a>(
+    source: Source<'a>,
+    lanes: &[Lane<'a>],
+    place: usize,
+    entry: Entry,
+) -> Option<Mark<'a>> {
+    let lane = lane_at(lanes, txn_in(entry)?)?;
+    let action = action_of(entry)?;
+    Some(Mark {
+        lane,
+        place,
+        line: line_at(source, place),
+        action,
+        item: item_name(source, entry.event),
+        blocker: blocker_name(source, entry.reply),
+        is_key: false,
+    })
+}
+
+/// Returns whether a mark is of the same event as the last one of its lane, which was blocked too.
+fn is_retry(last: &Mark<'_>, mark: &Mark<'_>) -> bool {
+    match (last.action, mark.action) {
+        (
+            Action::Blocked { is_read, cause, .. },
+            Action::Blocked {
+                is_read: reads,
+                cause: now,
+                ..
+            },
+        ) => {
+            is_read == reads
+                && cause == now
+                && last.item == mark.item
+                && last.blocker == mark.blocker
+        }
+        _ => false,
+    }
+}
+
+/// The marks so far, and the last one of each lane.
+#[derive(Drop)]
+struct Marks<'a> {
+    marks: Vec<Mark<'a>>,
+    last: Vec<Option<usize>>,
+}
+
+impl<'a> Marks<'a> {
+    /// Counts one more attempt of the last event of the lane, if the mark is of the same event.
+    fn is_counted(&mut self, mark: &Mark<'a>) -> bool {
+        let Some(index) = self.last.get(mark.lane).copied().flatten() else {
+            return false;
+        };
+        let Some(last) = self.marks.get_mut(index) else {
+            return false;
+        };
+        if !is_retry(last, mark) {
+            return false;
+        }
+        if let Action::Blocked { times, .. } = &mut last.action {
+            *times = times.saturating_add(1);
+        }
+        true
+    }
+
+    /// Adds a mark.
+    fn push(&mut self, mark: Mark<'a>) -> Result<(), AllocError> {
+        if self.is_counted(&mark) {
+            return Ok(());
+        }
+        let index = self.marks.len();
+        if let Some(last) = self.last.get_mut(mark.lane) {
+            *last = Some(index);
+        }
+        self.marks.push(mark)?;
+        Ok(())
+    }
+}
+
+/// Returns the marks on some lanes, in the order of their entries.
+pub fn marks_of<'a>(
+    alloc: Global,
+    source: Source<'a>,
+    lanes: &[Lane<'a>],
+) -> Result<Vec<Mark<'a>>, AllocError> {
+    let mut all = Marks {
+        marks: Vec::new(alloc),
+        last: vec![in alloc; None; lanes.len()]?,
+    };
+    let log = source.history.log();
+    for place in 0..log.len() {
+        if let Some(entry) = log.get(place)
+            && let Some(mark) = mark_of(source, lanes, place, entry)
+        {
+            all.push(mark)?;
+        }
+    }
+    let Marks { marks, .. } = all;
+    Ok(marks)
+}
+
+/// Returns the marks that are on some of the lanes before, on these lanes.
+pub fn marks_on<'a>(
+    alloc: Global,
+    marks: &[Mark<'a>],
+    before: &[Lane<'a>],
+    lanes: &[Lane<'a>],
+) -> Result<Vec<Mark<'a>>, AllocError> {
+    let mut moved = Vec::new(alloc);
+    for mark in marks {
+        if let Some(txn) = before.get(mark.lane).map(|lane| lane.txn)
+            && let Some(lane) = lane_at(lanes, txn)
+        {
+            let mut mark = *mark;
+            mark.lane = lane;
+            moved.push(mark)?;
+        }
+    }
+    Ok(moved)
+}
+
+/// Returns the index of the last mark at or before an entry.
+fn index_at(marks: &[Mark<'_>], place: usize) -> Option<usize> {
+    marks
+        .partition_point(|mark| mark.place <= place)
+        .checked_sub(1)
+}
+
+/// Returns the index of the last read of the item by the query before a charge.
+fn read_before(marks: &[Mark<'_>], arrow: &Arrow<'_>) -> Option<usize> {
+    let mut found = None;
+    for (index, mark) in marks.iter().enumerate() {
+        if mark.lane == arrow.to
+            && mark.place < arrow.place
+            && mark.item == arrow.item
+            && matches!(mark.action, Action::Read { .. })
+        {
+            found = Some(index);
+        }
+    }
+    found
+}
+
+/// Marks the entry of a charge, and the read that a write is charged for.
+fn mark_charge(marks: &mut [Mark<'_>], arrow: &Arrow<'_>) {
+    if let Some(index) = index_at(marks, arrow.place)
+        && let Some(mark) = marks.get_mut(index)
+    {
+        mark.is_key = true;
+    }
+    if let Some(index) = read_before(marks, arrow)
+        && let Some(mark) = marks.get_mut(index)
+    {
+        mark.is_key = true;
+    }
+}
+
+/// Returns whether an event was blocked.
+fn is_blocked(action: Action) -> bool {
+    matches!(action, Action::Blocked { .. })
+}
+
+/// Marks blocked events as such that matter, if they are to be drawn.
+fn mark_blocked(marks: &mut [Mark<'_>], has_blocked: bool) {
+    for mark in marks {
+        mark.is_key = has_blocked && is_blocked(mark.action);
+    }
+}
+
+/// Marks the events that these charges depend on, and the blocked ones if they are to be drawn.
+pub fn mark_keys(marks: &mut [Mark<'_>], arrows: &[Arrow<'_>], has_blocked: bool) {
+    mark_blocked(marks, has_blocked);
+    for arrow in arrows {
+        mark_charge(marks, arrow);
+    }
+}
+
+/// Returns whether a mark bounds its lane.
+pub fn is_bound(action: Action) -> bool {
+    matches!(action, Action::Begin | Action::Commit | Action::Abort)
+}
+
+/// Returns the marks that charges depend on, and those that bound lanes.
+pub fn keys_of<'a>(alloc: Global, marks: &[Mark<'a>]) -> Result<Vec<Mark<'a>>, AllocError> {
+    let mut keys = Vec::new(alloc);
+    for mark in marks {
+        if mark.is_key || is_bound(mark.action) {
+            keys.push(*mark)?;
+        }
+    }
+    Ok(keys)
+}

@@ -1,0 +1,121 @@
+//! What a timeline shows, as plain data: lanes, marks on them in the order of the log, and charges between lanes.
+
+use esr_history::{History, TxnId};
+use esr_items::Weighted;
+use esr_report::Names;
+
+/// A script that has been run.
+#[derive(Clone, Copy)]
+pub struct Source<'a> {
+    /// The names of the items, in the order of their numbers, from 0.
+    pub items: &'a Names,
+    /// The names of the transactions, in the order of their numbers, from 1.
+    pub transactions: &'a Names,
+    pub history: &'a History<Weighted>,
+    /// The line of each entry of the history, from 1.
+    pub lines: &'a [u32],
+}
+
+/// How a transaction ended.
+#[derive(Clone, Copy, PartialEq, Eq)]
+pub enum LaneEnd {
+    /// Of a query, with its distance, if that is known.
+    Committed { distance: Option<u64> },
+    Aborted,
+    Active,
+}
+
+/// A lane: a transaction from its begin to its end.
+#[derive(Clone, Copy)]
+pub struct Lane<'a> {
+    pub txn: TxnId,
+    pub name: &'a str,
+    pub is_query: bool,
+    pub limit: u64,
+    /// The import of a query.
+    pub charged: u64,
+    pub end: LaneEnd,
+}
+
+/// What happens at a mark.
+#[derive(Clone, Copy, PartialEq, Eq)]
+pub enum Action {
+    Begin,
+    Read {
+        value: i64,
+    },
+    Write {
+        value: i64,
+    },
+    /// A read or write that was blocked, one or more times in a row.
+    Blocked {
+        is_read: bool,
+        cause: Cause,
+        times: u64,
+    },
+    Commit,
+    Abort,
+}
+
+/// What blocked an event.
+#[derive(Clone, Copy, PartialEq, Eq)]
+pub enum Cause {
+    Lock,
+    Import,
+    Export,
+}
+
+/// A mark on a lane: an entry of the log.
+#[derive(Clone, Copy)]
+pub struct Mark<'a> {
+    pub lane: usize,
+    /// The index of the entry in the log.
+    pub place: usize,
+    /// The line of the script, or 0 if it is not known.
+    pub line: u32,
+    pub action: Action,
+    /// The name of the item, or nothing.
+    pub item: &'a str,
+    /// The transaction that blocked the event, or nothing.
+    pub blocker: &'a str,
+    /// Whether a charge that is drawn depends on it, or it was blocked.
+    pub is_key: bool,
+}
+
+/// A charge, from an update to the query of a lane.
+#[derive(Clone, Copy)]
+pub struct Arrow<'a> {
+    pub update: TxnId,
+    /// The lane of the update, if it has one.
+    pub from: Option<usize>,
+    /// The lane of the query.
+    pub to: usize,
+    /// The index of the entry in the log.
+    pub place: usize,
+    pub line: u32,
+    pub item: &'a str,
+    pub amount: u64,
+}
+
+/// What is not drawn.
+#[derive(Clone, Copy)]
+pub struct Rest {
+    pub transactions: u64,
+    pub events: u64,
+    pub charges: u64,
+    /// The sum of the charges that are not drawn.
+    pub amount: u64,
+}
+
+/// What is drawn.
+#[derive(Drop)]
+pub struct Scene<'a> {
+    /// The query that the timeline is about, if it is about one.
+    pub query: Option<&'a str>,
+    pub lanes: Vec<Lane<'a>>,
+    /// The charges that are drawn.
+    pub arrows: Vec<Arrow<'a>>,
+    /// All charges to the queries that are drawn, for the bars of their limits.
+    pub all_charges: Vec<Arrow<'a>>,
+    pub rest: Rest,
+}

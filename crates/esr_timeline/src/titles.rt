@@ -1,0 +1,104 @@
+//! The titles of marks and charges, which are shown when a pointer is over them.
+
+use crate::model::{Action, Arrow, Cause, Lane, Mark};
+use esr_text::{push_number, push_value};
+use std::alloc::AllocError;
+
+/// Appends the step of an entry, as `explain` counts it, and its line.
+fn push_step(out: &mut String, place: usize, line: u32) -> Result<(), AllocError> {
+    let step = place.saturating_add(1);
+    write!(out, "step {step}")?;
+    if line > 0 {
+        write!(out, ", line {line}")?;
+    }
+    out.push_str(": ")
+}
+
+/// Returns what a limit or a lock of a transaction did.
+fn cause_words(cause: Cause) -> &'static str {
+    match cause {
+        Cause::Lock => "the lock of ",
+        Cause::Import => "the limit of ",
+        Cause::Export => "the limit of ",
+    }
+}
+
+/// Appends a blocked event.
+fn push_blocked(
+    out: &mut String,
+    name: &str,
+    mark: &Mark<'_>,
+    is_read: bool,
+    cause: Cause,
+    times: u64,
+) -> Result<(), AllocError> {
+    let verb = if is_read { "reading" } else { "writing" };
+    let item = mark.item;
+    write!(out, "{name} was blocked from {verb} {item} by ")?;
+    out.push_str(cause_words(cause))?;
+    out.push_str(mark.blocker)?;
+    if times > 1 {
+        write!(out, ", {times} times")?;
+    }
+    Ok(())
+}
+
+/// Returns what a transaction is.
+fn kind_of(lane: &Lane<'_>) -> &'static str {
+    if lane.is_query { "query" } else { "update" }
+}
+
+/// Appends what happened at a mark.
+fn push_action(out: &mut String, lane: &Lane<'_>, mark: &Mark<'_>) -> Result<(), AllocError> {
+    let name = lane.name;
+    let item = mark.item;
+    match mark.action {
+        Action::Begin => {
+            let kind = kind_of(lane);
+            write!(out, "{name} began as {kind} with limit ")?;
+            push_number(out, lane.limit)
+        }
+        Action::Read { value } => {
+            write!(out, "{name} read {item}: ")?;
+            push_value(out, value)
+        }
+        Action::Write { value } => {
+            write!(out, "{name} wrote {item}: ")?;
+            push_value(out, value)
+        }
+        Action::Blocked {
+            is_read,
+            cause,
+            times,
+        } => push_blocked(out, name, mark, is_read, cause, times),
+        Action::Commit => write!(out, "{name} committed"),
+        Action::Abort => write!(out, "{name} aborted"),
+    }
+}
+
+/// Appends the title of a mark.
+pub fn push_mark_title(
+    out: &mut String,
+    lane: &Lane<'_>,
+    mark: &Mark<'_>,
+) -> Result<(), AllocError> {
+    out.push_str("<title>")?;
+    push_step(out, mark.place, mark.line)?;
+    push_action(out, lane, mark)?;
+    out.push_str("</title>")
+}
+
+/// Appends the title of a charge.
+pub fn push_charge_title(
+    out: &mut String,
+    update: &str,
+    query: &str,
+    arrow: &Arrow<'_>,
+) -> Result<(), AllocError> {
+    let item = arrow.item;
+    out.push_str("<title>")?;
+    push_step(out, arrow.place, arrow.line)?;
+    write!(out, "{update} charged {query} ")?;
+    push_number(out, arrow.amount)?;
+    write!(out, " for {item}</title>")
+}

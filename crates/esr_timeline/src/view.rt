@@ -1,0 +1,121 @@
+//! The timeline as a text of a script, and as a part of a page.
+
+ghost use Rattle.std.specs.Prelude.{IfOk, string_bytes};
+ghost use Rattle.esr_picture.specs.Picture.{IsSvg};
+
+use crate::drawing::{Parts, parts_of};
+use crate::fit::{Picture, timeline_of_query, timeline_of_script};
+use crate::model::Source;
+use esr_history::TxnId;
+use esr_lint::Notes;
+use esr_picture::element;
+use esr_trace::{Audited, Part, QueryTrace, trace_of};
+use esr_views::{Recording, ScriptView};
+use std::alloc::{AllocError, Global};
+
+/// A timeline: of one query, or of the whole script if it is short, or else of the query with the greatest distance.
+#[derive(Drop)]
+pub struct Timeline<'a> {
+    pub name: Option<&'a str>,
+    /// The lines with errors of the script.
+    pub notes: &'a Notes,
+}
+
+/// Returns the element of a timeline.
+fn svg_of<'a>(alloc: Global, mut picture: Picture<'a>, errors: u64) -> Result<String, AllocError>
+    ensures { IfOk result (λ text. IsSvg (string_bytes text)) }
+{
+    let Parts { attributes, body } = parts_of(alloc, &mut picture, errors)?;
+    element(alloc, attributes, body)
+}
+
+/// Returns the query of a name.
+fn query_of(recording: &Recording<'_>, name: &str) -> Option<TxnId> {
+    let number = recording.transactions.number_of(name)?;
+    let query = TxnId(number.saturating_add(1));
+    let facts = recording.history.facts(query)?;
+    facts.query.then_some(query)
+}
+
+/// Returns what a timeline is drawn from.
+fn source_of<'a>(recording: &'a Recording<'_>) -> Source<'a> {
+    Source {
+        items: &recording.items,
+        transactions: &recording.transactions,
+        history: &recording.history,
+        lines: recording.lines,
+    }
+}
+
+/// Returns the timeline of a query.
+fn picture_of_query<'a>(
+    alloc: Global,
+    source: Source<'a>,
+    query: TxnId,
+) -> Result<Picture<'a>, AllocError> {
+    let trace = trace_of(alloc, source.history, query)?;
+    timeline_of_query(alloc, source, query, &trace)
+}
+
+/// Returns the text of a timeline.
+fn text_about<'a>(
+    alloc: Global,
+    recording: &'a Recording<'_>,
+    query: Option<TxnId>,
+    errors: u64,
+) -> Result<Vec<u8>, AllocError>
+    ensures { IfOk result (λ text. IsSvg text.items) }
+{
+    let source = source_of(recording);
+    let picture = match query {
+        Some(query) => picture_of_query(alloc, source, query)?,
+        None => timeline_of_script(alloc, source)?,
+    };
+    let text = svg_of(alloc, picture, errors)?;
+    Ok(text.into_bytes())
+}
+
+impl ScriptView for Timeline<'_> {
+    ghost IsTextOf = { λ _ _ text. IsSvg text };
+
+    fn text_of(
+        &self,
+        alloc: Global,
+        recording: &Recording<'_>,
+    ) -> Result<Option<Vec<u8>>, AllocError> {
+        let query = match self.name {
+            Some(name) => match query_of(recording, name) {
+                Some(query) => Some(query),
+                None => return Ok(None),
+            },
+            None => None,
+        };
+        match text_about(alloc, recording, query, self.notes.count()) {
+            Ok(text) => Ok(Some(text)),
+            Err(error) => Err(error),
+        }
+    }
+}
+
+/// A timeline of an audited query, as a part of a page.
+pub struct TimelinePart;
+
+impl Part for TimelinePart {
+    fn push(
+        &self,
+        alloc: Global,
+        out: &mut String,
+        audited: &Audited<'_>,
+        lines: &[u32],
+        trace: &QueryTrace,
+    ) -> Result<(), AllocError> {
+        let source = Source {
+            items: audited.items,
+            transactions: audited.transactions,
+            history: audited.history,
+            lines,
+        };
+        let picture = timeline_of_query(alloc, source, audited.finding.query, trace)?;
+        out.push_str(&svg_of(alloc, picture, 0)?)
+    }
+}
