@@ -519,7 +519,7 @@ fn cases<'a>(alloc: Global) -> Result<Command<'a>, AllocError>
     with(commands, shrink(alloc))
 }
 
-/// The program `esr` with all its commands, as `clap` is told of them.
+/// Returns the program `esr` with all its commands, as `clap` parses them.
 pub fn program<'a>(alloc: Global) -> Result<Command<'a>, AllocError>
     ensures { IfOk result (λ c. app_of c ≡ program) }
 {

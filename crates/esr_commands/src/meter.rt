@@ -45,7 +45,7 @@ impl<'a, R: Clock + Eprint> Meter<'a, R> {
         }
     }
 
-    /// Shows a text, where it is time for one. Of two threads that come at once one does.
+    /// Shows a text if the interval has passed. Of two concurrent threads, one shows it.
     pub fn show(&self, text: &impl Display) {
         let Some(began) = self.began else {
             return;

@@ -151,9 +151,9 @@ fn usual_amount(amounts: &[u64]) -> u64 {
 /// Returns the amount at the top of the chart: the largest amount; if that is more than a multiple of most others, this
 /// multiple; if all are 0, the highest limit.
 fn top_of(rows: &[QueryRow<'_>], amounts: &[u64]) -> u64 {
-    let most = amounts.last().copied().unwrap_or(0);
+    let upper_bound = amounts.last().copied().unwrap_or(0);
     let end = usual_amount(amounts).saturating_mul(FARTHEST);
-    if end > 0 && most > end {
+    if end > 0 && upper_bound > end {
         end
     } else if upper_bound > 0 {
         upper_bound

@@ -41,17 +41,20 @@ fn push_range(out: &mut String, magnitude: usize, least: u64) -> Result<(), Allo
     push_number(out, least.saturating_mul(10).saturating_sub(1))
 }
 
-/// Appends a bar with its range and its count, of which the largest is `most`.
+/// Appends a bar with its range and its count, of which the largest is `upper_bound`.
 fn push_bar(
     out: &mut String,
     magnitude: usize,
     least: u64,
     count: u64,
-    most: u64,
+    upper_bound: u64,
 ) -> Result<(), AllocError> {
     out.push_str("<li><span class='bin'>")?;
     push_range(out, magnitude, least)?;
-    let share = count.saturating_mul(80).checked_div(most).unwrap_or(0);
+    let share = count
+        .saturating_mul(80)
+        .checked_div(upper_bound)
+        .unwrap_or(0);
     let class = if magnitude == 0 { "chg" } else { "dis" };
     write!(
         out,
@@ -74,10 +77,10 @@ fn count_magnitudes(counts: &[u64]) -> usize {
 
 /// Appends the bars of the magnitudes up to the greatest that occurs.
 fn push_bars(out: &mut String, counts: &[u64]) -> Result<(), AllocError> {
-    let most = counts.iter().copied().max().unwrap_or(0);
+    let upper_bound = counts.iter().copied().max().unwrap_or(0);
     let mut least = 1u64;
     for (magnitude, count) in counts.iter().take(count_magnitudes(counts)).enumerate() {
-        push_bar(out, magnitude, least, *count, most)?;
+        push_bar(out, magnitude, least, *count, upper_bound)?;
         if magnitude > 0 {
             least = least.saturating_mul(10);
         }

@@ -111,7 +111,11 @@ fn totals_of<'a>(rows: &[QueryRow<'a>]) -> PageTotals<'a> {
         totals.exact = totals.exact.saturating_add(u64::from(distance == 0));
         totals.distance = totals.distance.saturating_add(distance);
         totals.charged = totals.charged.saturating_add(row.charged);
-        if distance > 0 && totals.farthest.is_none_or(|most| distance > most.distance) {
+        if distance > 0
+            && totals
+                .farthest
+                .is_none_or(|upper_bound| distance > upper_bound.distance)
+        {
             totals.farthest = Some(Farthest {
                 name: row.name,
                 distance,

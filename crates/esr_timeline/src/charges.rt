@@ -133,18 +133,18 @@ pub fn sum_of(arrows: &[Arrow<'_>]) -> u64 {
     sum
 }
 
-/// Returns the greatest of some charges, at most `most`, in the order of their entries.
+/// Returns the greatest of some charges, at most `upper_bound`, in the order of their entries.
 pub fn greatest<'a>(
     alloc: Global,
     arrows: &[Arrow<'a>],
-    most: usize,
+    upper_bound: usize,
 ) -> Result<Vec<Arrow<'a>>, AllocError> {
     let mut ranks = Vec::new(alloc);
     for (index, arrow) in arrows.iter().enumerate() {
         ranks.push((u64::MAX.saturating_sub(arrow.amount), index))?;
     }
     ranks.sort_unstable();
-    ranks.truncate(most);
+    ranks.truncate(upper_bound);
     let mut kept: Vec<usize> = ranks.iter().map(|rank| rank.1).collect(alloc)?;
     kept.sort_unstable();
     let mut greatest = Vec::new(alloc);

@@ -225,7 +225,7 @@ impl<'a> Material<'a> {
     fn arrows(&self, alloc: Global, detail: Detail) -> Result<Vec<Arrow<'a>>, AllocError> {
         let all = drawable(alloc, &self.charges)?;
         match detail {
-            Detail::Greatest(most) => greatest(alloc, &all, most),
+            Detail::Greatest(upper_bound) => greatest(alloc, &all, upper_bound),
             Detail::All | Detail::Keys | Detail::First(_) => Ok(all),
         }
     }
@@ -251,7 +251,8 @@ impl<'a> Material<'a> {
         arrows: Vec<Arrow<'a>>,
     ) -> Result<Picture<'a>, AllocError> {
         let mut all = marks_on(alloc, &self.marks, &self.lanes, &lanes)?;
-        let has_blocked = !matches!(stage.detail, Detail::Greatest(most) if most < 16);
+        let has_blocked =
+            !matches!(stage.detail, Detail::Greatest(upper_bound) if upper_bound < 16);
         mark_keys(&mut all, &arrows, has_blocked);
         let marks = drawn_marks(alloc, &all, stage.detail)?;
         let arrows = shown(alloc, &arrows, &marks)?;
@@ -311,7 +312,7 @@ fn drawn_marks<'a>(
     match detail {
         Detail::All => all.to_vec(alloc),
         Detail::Keys | Detail::Greatest(_) => keys_of(alloc, all),
-        Detail::First(most) => first(all, most).to_vec(alloc),
+        Detail::First(upper_bound) => first(all, upper_bound).to_vec(alloc),
     }
 }
 

@@ -42,8 +42,8 @@ pub fn blocker_of(reply: Reply) -> Option<TxnId> {
 }
 
 /// Adds a transaction that has no lane yet, if there is space for one more.
-fn push_new(chosen: &mut Vec<TxnId>, txn: TxnId, most: usize) -> Result<(), AllocError> {
-    if chosen.len() < most && !chosen.contains(&txn) {
+fn push_new(chosen: &mut Vec<TxnId>, txn: TxnId, upper_bound: usize) -> Result<(), AllocError> {
+    if chosen.len() < upper_bound && !chosen.contains(&txn) {
         chosen.push(txn)?;
     }
     Ok(())
@@ -125,13 +125,13 @@ pub fn sorted(alloc: Global, chosen: &[TxnId]) -> Result<Vec<TxnId>, AllocError>
     numbers.iter().map(|number| TxnId(*number)).collect(alloc)
 }
 
-/// Returns the transactions that began first, at most `most`.
+/// Returns the transactions that began first, at most `upper_bound`.
 pub fn first_begun(
     alloc: Global,
     source: Source<'_>,
-    most: usize,
+    upper_bound: usize,
 ) -> Result<Vec<TxnId>, AllocError> {
-    let begun = source.history.begun_count().min(most).min(MAX_LANES);
+    let begun = source.history.begun_count().min(upper_bound).min(MAX_LANES);
     let mut chosen = Vec::new(alloc);
     for number in 0..begun as u32 {
         chosen.push(TxnId(number.saturating_add(1)))?;
@@ -179,12 +179,12 @@ pub fn farthest(alloc: Global, history: &History<Weighted>) -> Result<Option<Txn
     };
     let index = Index::of(alloc, history)?;
     let mut best = None;
-    let mut most = (0, 0);
+    let mut upper_bound = (0, 0);
     for query in &queries {
         let measure = measure_of(alloc, history, &index, *query)?;
-        if best.is_none() || is_farther(measure, most) {
+        if best.is_none() || is_farther(measure, upper_bound) {
             best = Some(*query);
-            most = measure;
+            upper_bound = measure;
         }
     }
     Ok(best)
