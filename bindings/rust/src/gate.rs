@@ -17,8 +17,8 @@
 //! Rejected: the standard mutex after a spin phase, whose 99.9th percentile is milliseconds when there are more threads than
 //! processors; handing the lock to a sleeper, which leaves it idle until that thread runs and then ends in a convoy (a
 //! seventh of the throughput); ticket and queue locks, which wait for preempted threads; combining, by which the holder
-//! executes the drafts of threads that poll, and which runs 5 to 30 % fewer transactions: their items are then in the cache of
-//! the holder, and the next holder is another thread.
+//! executes the drafts of threads that poll: it gained nothing (`bench/RESULTS.md`), perhaps because their items are then in the
+//! cache of the holder, and the next holder is another thread.
 
 use crate::sync::{AtomicU64, Instant, Thread, current, park_timeout, spin_loop};
 use std::{
