@@ -440,26 +440,39 @@ fn push_sign(out: &mut String, action: Action, x: u32, y: u32) -> Result<(), All
     }
 }
 
+/// Appends the value of a read or a write.
+fn push_mark_value(out: &mut String, value: i64, x: u32, y: u32) -> Result<(), AllocError> {
+    open_centred(out, "lb ha", x, y)?;
+    push_value(out, value)?;
+    close_text(out)
+}
+
+/// Appends the transaction that blocked an event, and how often if more than once.
+fn push_blocker(
+    out: &mut String,
+    column: &Column<'_>,
+    times: u64,
+    y: u32,
+) -> Result<(), AllocError> {
+    open_centred(out, "lb rd ha", column.x, y)?;
+    out.push_str("by ")?;
+    out.push_str(column.mark.blocker)?;
+    if times > 1 {
+        out.push_str(" x")?;
+        push_number(out, times)?;
+    }
+    close_text(out)
+}
+
 /// Appends the value below a mark, or the transaction that blocked the event.
 fn push_value_label(out: &mut String, column: &Column<'_>, top: u32) -> Result<(), AllocError> {
     let y = top.saturating_add(43);
     match column.mark.action {
-        Action::Read { value } | Action::Write { value } => {
-            open_centred(out, "lb ha", column.x, y)?;
-            push_value(out, value)?;
-        }
-        Action::Blocked { times, .. } => {
-            open_centred(out, "lb rd ha", column.x, y)?;
-            out.push_str("by ")?;
-            out.push_str(column.mark.blocker)?;
-            if times > 1 {
-                out.push_str(" x")?;
-                push_number(out, times)?;
-            }
-        }
-        Action::Begin | Action::Commit | Action::Abort => return Ok(()),
+        Action::Read { value } => push_mark_value(out, value, column.x, y),
+        Action::Write { value } => push_mark_value(out, value, column.x, y),
+        Action::Blocked { times, .. } => push_blocker(out, column, times, y),
+        Action::Begin | Action::Commit | Action::Abort => Ok(()),
     }
-    close_text(out)
 }
 
 /// Appends the labels of a mark.

@@ -65,7 +65,8 @@ fn half_of(letters: usize) -> u32 {
 /// Returns the letters below a mark.
 fn value_letters(mark: &Mark<'_>) -> usize {
     match mark.action {
-        Action::Read { value } | Action::Write { value } => letters_of(value),
+        Action::Read { value } => letters_of(value),
+        Action::Write { value } => letters_of(value),
         Action::Blocked { times, .. } => {
             let count = if times > 1 {
                 number_letters(times).saturating_add(2)
@@ -200,16 +201,16 @@ fn amount_half(arrow: &Arrow<'_>) -> u32 {
 }
 
 /// Returns the charges of an entry, among charges in the order of their entries.
-pub fn charges_at<'a, 'b>(arrows: &'b [Arrow<'a>], place: usize) -> &'b [Arrow<'a>] {
-    let start = arrows.partition_point(|arrow| arrow.place < place);
+pub fn charges_at<'a: 'b, 'b>(arrows: &'b [Arrow<'a>], place: usize) -> &'b [Arrow<'a>] {
     let end = arrows.partition_point(|arrow| arrow.place <= place);
-    arrows.get(start..end).unwrap_or(&[])
+    let start = arrows.partition_point(|arrow| arrow.place < place).min(end);
+    &arrows[start..end]
 }
 
 /// Returns the charges up to an entry, among charges in the order of their entries.
-pub fn charges_at_or_before<'a, 'b>(arrows: &'b [Arrow<'a>], place: usize) -> &'b [Arrow<'a>] {
+pub fn charges_at_or_before<'a: 'b, 'b>(arrows: &'b [Arrow<'a>], place: usize) -> &'b [Arrow<'a>] {
     let end = arrows.partition_point(|arrow| arrow.place <= place);
-    arrows.get(..end).unwrap_or(&[])
+    &arrows[..end]
 }
 
 /// Which labels are drawn, and the least distance of two columns.

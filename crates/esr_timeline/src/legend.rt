@@ -100,7 +100,12 @@ fn count_keys(scene: &Scene<'_>, layout: &Layout<'_>) -> u32 {
 
 /// Returns the height of the legend of a picture of this width.
 pub fn legend_height(scene: &Scene<'_>, layout: &Layout<'_>, width: u32) -> u32 {
-    let rows = count_keys(scene, layout).div_ceil(row_length(width));
+    let length = row_length(width);
+    let count = count_keys(scene, layout);
+    let rows = count
+        .saturating_add(length.saturating_sub(1))
+        .checked_div(length)
+        .unwrap_or(count);
     rows.saturating_mul(ROW)
 }
 

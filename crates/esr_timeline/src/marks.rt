@@ -237,8 +237,10 @@ fn is_blocked(action: Action) -> bool {
 
 /// Marks blocked events as such that matter, if they are to be drawn.
 fn mark_blocked(marks: &mut [Mark<'_>], has_blocked: bool) {
-    for mark in marks {
-        mark.is_key = has_blocked && is_blocked(mark.action);
+    for index in 0..marks.len() {
+        if let Some(mark) = marks.get_mut(index) {
+            mark.is_key = has_blocked && is_blocked(mark.action);
+        }
     }
 }
 
