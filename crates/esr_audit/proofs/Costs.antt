@@ -6,7 +6,7 @@ use Rattle.std.proofs.lemmas.List.Sums.{sum_by-cons}
 use Rattle.std.proofs.lemmas.List.Elements.{recursion_from_All}
 use Rattle.std.proofs.lemmas.List.FromFn.{get_or-map-range_with_len}
 use mathlib.Core.Bool.{or-true}
-use Rattle.esr_history.specs.Machine.{Distance, Schedule, distance_in}
+use Rattle.esr_history.specs.Machine.{DistanceFunction, Schedule, value_distance}
 use Rattle.esr_history.specs.Operations.{Operation}
 use Rattle.esr_history.specs.Serial.{state}
 use Rattle.esr_history.specs.Queries.{updates_of, reads_by, distance_from, members, cost}
@@ -77,10 +77,10 @@ by_item g P n (o ∷ os) a =
     omega (arith, first, rest, sum_by-cons (λ (o : Operation). g o.item o) o os))
 
 -- If the items that q read are below the count of items, the distance of its reads is the sum over these items.
-pub distance_by_item : (d : Distance) (h : Schedule) (q : ℕ) (w : ℕ → ℤ) → AllByRecursion (λ (o : Operation). o.item < length h.opening) (reads_by h q)
+pub distance_by_item : (d : DistanceFunction) (h : Schedule) (q : ℕ) (w : ℕ → ℤ) → AllByRecursion (λ (o : Operation). o.item < length h.opening) (reads_by h q)
     → sum_by (λ x. read_distance d h q x (w x)) (items_read h q) ≡ distance_from d h q w
 distance_by_item d h q w inside =
-    by_item (λ x (o : Operation). distance_in d h x o.value (w x)) (λ x. list_any (λ (o : Operation). eqb o.item x) (reads_by h q)) (length h.opening) (reads_by h q)
+    by_item (λ x (o : Operation). value_distance d h x o.value (w x)) (λ x. list_any (λ (o : Operation). eqb o.item x) (reads_by h q)) (length h.opening) (reads_by h q)
     (each_in (λ (o : Operation). (list_any (λ (p : Operation). eqb p.item o.item) (reads_by h q) ≡ true) × (o.item < length h.opening)) (reads_by h q)
     (λ o i. (read_here (reads_by h q) o i, each_at (λ (o : Operation). o.item < length h.opening) (reads_by h q) o inside i)))
   where
@@ -89,7 +89,7 @@ distance_by_item d h q w inside =
     read_here (p ∷ os) o (inl e) = ap (λ b. b || list_any (λ (p : Operation). eqb p.item o.item) os) (eq-eqb p.item o.item (ap (λ (r : Operation). r.item) e))
     read_here (p ∷ os) o (inr i) = let rest = read_here os o i in ap (λ b. eqb p.item o.item || b) rest ∙ or-true (eqb p.item o.item)
 
-module _ (d : Distance) (h : Schedule) (q : ℕ) (p : Problem) (is_problem : IsProblemOf d h q p) (inside : AllByRecursion (λ (o : Operation). o.item < length h.opening) (reads_by h q)) where
+module _ (d : DistanceFunction) (h : Schedule) (q : ℕ) (p : Problem) (is_problem : IsProblemOf d h q p) (inside : AllByRecursion (λ (o : Operation). o.item < length h.opening) (reads_by h q)) where
   chain_is : (S : ℕ → Bool) (x : ℕ) → filter (has_written h x) p.updates ≡ writers_of h q x → chain_cost (passes_at p.updates S) (chain_for d h q p.updates x) ≡ read_distance d h q x (state h (members h q S) x)
   chain_is S x all =
       let v : version (passes_at p.updates S) (places p.updates (has_written h x)) ≡ version S (writers_of h q x) = places_version p.updates S (has_written h x) ∙ ap (version S) all in

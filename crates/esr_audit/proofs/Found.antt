@@ -5,7 +5,7 @@ use Rattle.std.specs.List.{cons_option, filter_map, slice_get, AllByRecursion}
 use Rattle.std.proofs.lemmas.Bool.{and_parts}
 use Rattle.std.proofs.lemmas.List.Elements.{recursion_from_All}
 use Rattle.esr_items.specs.Values.{IsValue}
-use Rattle.esr_history.specs.Machine.{Distance, Schedule, IsLegal, charges_in, import_in}
+use Rattle.esr_history.specs.Machine.{DistanceFunction, Schedule, IsLegal, charges_in, import_in}
 use Rattle.esr_history.specs.Operations.{Operation, operations}
 use Rattle.esr_history.specs.Queries.{is_committed_query, updates_of, reads_by, cost, ImportBoundsDistance}
 use Rattle.esr_history.proofs.Membership.{Each-filter}
@@ -26,12 +26,12 @@ use Rattle.esr_audit.proofs.Smallest.{known_at, closed_is_least, smallest_is_lea
 use Rattle.esr_audit.proofs.Positions.{passes_as_set, before_members}
 
 -- the items that a query read are among those of the history
-pub reads_inside : (d : Distance) (h : Schedule) (q : ℕ) → All IsValue h.opening → IsLegal d h → AllByRecursion (λ (o : Operation). o.item < length h.opening) (reads_by h q)
+pub reads_inside : (d : DistanceFunction) (h : Schedule) (q : ℕ) → All IsValue h.opening → IsLegal d h → AllByRecursion (λ (o : Operation). o.item < length h.opening) (reads_by h q)
 reads_inside d h q opening_values_in_range legal =
     Each-filter (λ (o : Operation). o.item < length h.opening) (λ (o : Operation). not o.writes && eqb o.txn q) (operations h) (recursion_from_All (λ (o : Operation). o.item < length h.opening) (operations h) (legal_within_ranges d h opening_values_in_range legal).items)
 
 -- A certificate of the problem that was built for a query.
-module _ (d : Distance) (h : Schedule) (q : ℕ) (opening_values_in_range : All IsValue h.opening) (legal : IsLegal d h) (p : Problem) (c : Certificate) (built : IsProblemOf d h q p) (sound : is_well_formed p ≡ true) (certified : Certifies p c) where
+module _ (d : DistanceFunction) (h : Schedule) (q : ℕ) (opening_values_in_range : All IsValue h.opening) (legal : IsLegal d h) (p : Problem) (c : Certificate) (built : IsProblemOf d h q p) (sound : is_well_formed p ≡ true) (certified : Certifies p c) where
   -- the certificate's set, as transactions
   abbrev members : List ℕ
   members = filter_map (slice_get p.updates) c.set

@@ -13,7 +13,7 @@ use Rattle.esr_order.specs.declared.accesses.Access.{Access}
 use Rattle.esr_order.specs.Scans.{access_of, accesses_in}
 use Rattle.esr_order.proofs.Accessed.{reads_are}
 use Rattle.esr_audit.specs.Reads.{item_read_in, item_read_of, ItemRead}
-use Rattle.esr_audit.proofs.Within.{reads_counted, reads_in_range}
+use Rattle.esr_audit.proofs.ProblemRanges.{reads_counted, reads_in_range}
 
 -- the reads among the accesses of q are its reads
 pub item_reads_are : (h : Schedule) (q : ℕ) → map item_read_in (filter (λ (a : Access). not a.writes) (accesses_in h.entries q)) ≡ map item_read_of (reads_by h q)

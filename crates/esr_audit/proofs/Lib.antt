@@ -12,7 +12,7 @@ pub mod Gathered
 pub mod Versions
 pub mod ProblemOfOrder
 pub mod Shape
-pub mod Within
+pub mod ProblemRanges
 pub mod ItemReads
 pub mod BuiltProblem
 pub mod Committed

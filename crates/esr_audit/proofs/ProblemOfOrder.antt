@@ -6,14 +6,14 @@ use Rattle.std.proofs.lemmas.Option.{slice_get-get_or}
 use Rattle.std.proofs.lemmas.List.{length-map}
 use Rattle.std.proofs.lemmas.List.Elements.{All-contains, All-from_recursion, recursion_from_All}
 use Rattle.esr_base.specs.declared.numbers.TxnId.{TxnId}
-use Rattle.esr_history.specs.Machine.{Distance, Schedule, IsLegal, distance_in}
+use Rattle.esr_history.specs.Machine.{DistanceFunction, Schedule, IsLegal, value_distance}
 use Rattle.esr_history.specs.Operations.{Operation}
 use Rattle.esr_history.specs.Serial.{is_before}
 use Rattle.esr_history.specs.Queries.{updates_of, must, reads_by}
 use Rattle.esr_history.proofs.Membership.{In, In-any, In-of_filter, Pairs, each_in, each_at, In-Contains, Contains-In, Pairs-from_all}
 use Rattle.esr_order.specs.Placements.{is_among, IsClosed}
 use Rattle.esr_order.specs.Chains.{nth}
-use Rattle.esr_order.specs.Orders.{ConflictOrder, IsClosedAt, IsOrderAmong}
+use Rattle.esr_order.specs.Orders.{ConflictOrder, IsClosedAt, IsConflictOrderOn}
 use Rattle.esr_order.specs.Relevant.{AreRelevant, has_written}
 use Rattle.esr_order.proofs.RelevantLaws.{relevant_closed, relevant_writers}
 use Rattle.esr_cert.specs.Problem.{Problem, is_closed, in_set, is_ascending}
@@ -25,11 +25,11 @@ use Rattle.esr_audit.proofs.Positions.{filter_agree, ascending_range}
 use Rattle.esr_audit.proofs.Versions.{read_alike, gathered_is_chain}
 
 -- the problem that is gathered from an order
-abbrev pub problem_of_order : Distance → Schedule → ℕ → ConflictOrder → Problem
+abbrev pub problem_of_order : DistanceFunction → Schedule → ℕ → ConflictOrder → Problem
 problem_of_order d h q o = record {
   updates = map (λ (t : TxnId). t.0) o.commits;
   before = o.before;
-  chains = map (chain_of_item (distance_in d h) h.opening o (map item_read_of (reads_by h q))) (items_in (map item_read_of (reads_by h q)) (length h.opening));
+  chains = map (chain_of_item (value_distance d h) h.opening o (map item_read_of (reads_by h q))) (items_in (map item_read_of (reads_by h q)) (length h.opening));
   must = o.must;
 }
 
@@ -53,7 +53,7 @@ ascending_from_pairs : (xs : List ℕ) → Pairs (λ i j. i < j) xs → is_ascen
 ascending_from_pairs (x ∷ y ∷ rest) p = and_from (nat_lt x y) (is_ascending (y ∷ rest)) (lt-ltb x y (p.0).0) (ascending_from_pairs (y ∷ rest) p.1)
 ascending_from_pairs _ p = refl
 
-module _ (d : Distance) (h : Schedule) (q : ℕ) (legal : IsLegal d h) (us : List ℕ) (relevant : AreRelevant h q us) (o : ConflictOrder) (good : IsOrderAmong h q us o) where
+module _ (d : DistanceFunction) (h : Schedule) (q : ℕ) (legal : IsLegal d h) (us : List ℕ) (relevant : AreRelevant h q us) (o : ConflictOrder) (good : IsConflictOrderOn h q us o) where
   count : length o.commits ≡ length us
   count = sym (length-map o.commits (λ (t : TxnId). t.0)) ∙ ap length good.commits
 
@@ -103,10 +103,10 @@ module _ (d : Distance) (h : Schedule) (q : ℕ) (legal : IsLegal d h) (us : Lis
       let r = In-any (λ (p : Operation). eqb p.item x) (reads_by h q) (In-of_filter (λ x. list_any (λ (p : Operation). eqb p.item x) (reads_by h q)) (range_with_len 0 (length h.opening)) x i).1 in
       subst (λ y. filter (has_written h y) us ≡ writers_of h q y) (eqb-true r.0.item x r.2) (relevant_writers d h q legal us relevant r.0 r.1)
 
-  chains_same : (xs : List ℕ) → ((x : ℕ) → In x xs → In x (items_read h q)) → map (chain_of_item (distance_in d h) h.opening o (map item_read_of (reads_by h q))) xs ≡ map (chain_for d h q us) xs
+  chains_same : (xs : List ℕ) → ((x : ℕ) → In x xs → In x (items_read h q)) → map (chain_of_item (value_distance d h) h.opening o (map item_read_of (reads_by h q))) xs ≡ map (chain_for d h q us) xs
   chains_same [] inside = refl
   chains_same (x ∷ xs) inside =
-      ap (λ c. c ∷ map (chain_of_item (distance_in d h) h.opening o (map item_read_of (reads_by h q))) xs) (gathered_is_chain d h q us o x (good.chains x) (all_writers x (inside x (inl refl))))
+      ap (λ c. c ∷ map (chain_of_item (value_distance d h) h.opening o (map item_read_of (reads_by h q))) xs) (gathered_is_chain d h q us o x (good.chains x) (all_writers x (inside x (inl refl))))
       ∙ ap (λ cs. chain_for d h q us x ∷ cs) (chains_same xs (λ y i. inside y (inr i)))
 
   -- ---- closed sets
@@ -151,6 +151,6 @@ module _ (d : Distance) (h : Schedule) (q : ℕ) (legal : IsLegal d h) (us : Lis
     updates = good.commits ∙ relevant.in_order ∙ ap (λ vs. filter (is_among vs) (updates_of h q)) (sym good.commits);
     writers = All-from_recursion (λ x. filter (has_written h x) (map (λ (t : TxnId). t.0) o.commits) ≡ writers_of h q x) (items_read h q) (each_in (λ x. filter (has_written h x) (map (λ (t : TxnId). t.0) o.commits) ≡ writers_of h q x) (items_read h q) (λ x i. ap (filter (has_written h x)) good.commits ∙ all_writers x i));
     must = must_places ∙ ap (λ vs. places vs (is_among (must h q))) (sym good.commits);
-    chains = ap (map (chain_of_item (distance_in d h) h.opening o (map item_read_of (reads_by h q)))) items_same ∙ chains_same (items_read h q) (λ x i. i) ∙ ap (λ vs. map (chain_for d h q vs) (items_read h q)) (sym good.commits);
+    chains = ap (map (chain_of_item (value_distance d h) h.opening o (map item_read_of (reads_by h q)))) items_same ∙ chains_same (items_read h q) (λ x i. i) ∙ ap (λ vs. map (chain_for d h q vs) (items_read h q)) (sym good.commits);
     closed = λ S. subst (λ (vs : List ℕ). (is_closed (problem_of_order d h q o) (passes_at vs S) ≡ true) ↔ IsClosed h q (λ u. is_among vs u && S u)) (sym good.commits) (same_closed S);
   }

@@ -6,13 +6,13 @@ use Rattle.std.proofs.lemmas.List.{length-map}
 use Rattle.std.proofs.lemmas.List.FromFn.{length-range_with_len}
 use Rattle.std.proofs.lemmas.List.Elements.{All-contains}
 use Rattle.esr_base.specs.declared.numbers.TxnId.{TxnId}
-use Rattle.esr_history.specs.Machine.{Distance, Schedule, IsLegal}
+use Rattle.esr_history.specs.Machine.{DistanceFunction, Schedule, IsLegal}
 use Rattle.esr_history.specs.Serial.{is_before}
 use Rattle.esr_history.proofs.Membership.{In, Pairs, Pairs-from_all, any-from_In, Contains-In}
 use Rattle.esr_order.specs.ConflictPairs.{IsLexLess}
 use Rattle.esr_order.specs.Chains as orders
 use Rattle.esr_order.specs.Chains.{nth, chain_from, if_written, last_among}
-use Rattle.esr_order.specs.Orders.{ConflictOrder, IsOrderAmong}
+use Rattle.esr_order.specs.Orders.{ConflictOrder, IsConflictOrderOn}
 use Rattle.esr_order.specs.Relevant.{AreRelevant, has_written}
 use Rattle.esr_cert.specs.Problem.{Chain, in_set, is_ascending, pair_lt, are_pairs_ascending, has_pair, are_linked, is_distinct, chain_has_shape, has_shape}
 use Rattle.esr_cert.proofs.Sound.{all_from}
@@ -63,7 +63,7 @@ linked_from before (w ∷ x ∷ rest) relevant =
     (linked_from before (x ∷ rest) (λ i l. let e : suc i + 1 ≡ suc (i + 1) = omega arith in subst (λ k. Contains before (slice_index_or (x ∷ rest) i 0, slice_index_or (w ∷ x ∷ rest) k 0)) e (relevant (suc i) (omega arith))))
 linked_from before _ relevant = refl
 
-module _ (d : Distance) (h : Schedule) (q : ℕ) (legal : IsLegal d h) (us : List ℕ) (relevant : AreRelevant h q us) (o : ConflictOrder) (good : IsOrderAmong h q us o) where
+module _ (d : DistanceFunction) (h : Schedule) (q : ℕ) (legal : IsLegal d h) (us : List ℕ) (relevant : AreRelevant h q us) (o : ConflictOrder) (good : IsConflictOrderOn h q us o) where
   -- the writers of an item, each a pair with the next
   linked : (x i : ℕ) → i + 1 < length (places us (has_written h x)) → Contains o.before (slice_index_or (places us (has_written h x)) i 0, slice_index_or (places us (has_written h x)) (i + 1) 0)
   linked x i l =

@@ -6,7 +6,7 @@ use Rattle.std.proofs.lemmas.Bool.{cases_eq, eq-eqb, ne_eqb, eqb-true, false≢t
 use Rattle.std.proofs.lemmas.Option.{same_Some}
 use Rattle.std.proofs.lemmas.List.Elements.{All-from_recursion}
 use mathlib.Core.Bool.{and-true}
-use Rattle.esr_history.specs.Machine.{Distance, Schedule}
+use Rattle.esr_history.specs.Machine.{DistanceFunction, Schedule}
 use Rattle.esr_history.specs.Operations.{Operation}
 use Rattle.esr_history.specs.Queries.{updates_of, reads_by, cost}
 use Rattle.esr_history.proofs.Membership.{each_in}
@@ -36,7 +36,7 @@ element [] i l = absurd (omega arith)
 element (u ∷ us) zero l = (u, refl)
 element (u ∷ us) (suc i) l = element us i (omega arith)
 
-module _ (d : Distance) (h : Schedule) (q : ℕ) (p : Problem) (is_problem : IsProblemOf d h q p) (ok : IsProblem p) (inside : AllByRecursion (λ (o : Operation). o.item < length h.opening) (reads_by h q)) where
+module _ (d : DistanceFunction) (h : Schedule) (q : ℕ) (p : Problem) (is_problem : IsProblemOf d h q p) (ok : IsProblem p) (inside : AllByRecursion (λ (o : Operation). o.item < length h.opening) (reads_by h q)) where
   whole_passes : (i : ℕ) → i < size p → passes_at p.updates (λ u. true) i ≡ true
   whole_passes i l = let e = element p.updates i l in passes_here p.updates (λ u. true) i e.0 e.1
 

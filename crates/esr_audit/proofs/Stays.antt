@@ -5,7 +5,7 @@ use Rattle.esr_base.specs.declared.numbers.TxnId.{TxnId}
 use Rattle.esr_history.specs.declared.event.Entry.{Entry}
 use Rattle.esr_history.specs.Events.{is_committed}
 use Rattle.esr_history.specs.Legal.{along}
-use Rattle.esr_history.specs.Machine.{Distance, Schedule, accepted_in, IsLegal}
+use Rattle.esr_history.specs.Machine.{DistanceFunction, Schedule, accepted_in, IsLegal}
 use Rattle.esr_history.proofs.Laws.{audit_stays}
 use Rattle.esr_history.proofs.Membership.{In, each_in, each_at}
 use Rattle.esr_history.specs.Queries.{updates_of, cost, HasSameAudit}
@@ -19,7 +19,7 @@ use Rattle.esr_audit.specs.Findings.{IsAnswer, IsFinding, IsBook, AreSummaries, 
 use Rattle.esr_audit.specs.Ranges.{listed}
 use Rattle.esr_audit.proofs.Committed.{query_committed}
 
-module _ (d : Distance) (h longer : Schedule) (q : ℕ) (alike : HasSameAudit d h longer q) where
+module _ (d : DistanceFunction) (h longer : Schedule) (q : ℕ) (alike : HasSameAudit d h longer q) where
   closed_then : (S : ℕ → Bool) → IsClosed h q S → IsClosed longer q S
   closed_then S c = record {
     downward = λ u v cu cv b t.
@@ -69,12 +69,12 @@ module _ (d : Distance) (h longer : Schedule) (q : ℕ) (alike : HasSameAudit d 
       }
 
 -- the result for a query that has committed
-pub stays : (d : Distance) (h : Schedule) (q distance import : ℕ) (before : List ℕ) → is_committed (accepted_in h) q ≡ true → IsAnswer d h q distance import before
+pub stays : (d : DistanceFunction) (h : Schedule) (q distance import : ℕ) (before : List ℕ) → is_committed (accepted_in h) q ≡ true → IsAnswer d h q distance import before
     → (rest : List Entry) → IsLegal d (along h rest) → IsAnswer d (along h rest) q distance import before
 stays d h q distance import before committed a = λ rest legal. answer_stays d h (along h rest) q (audit_stays d h rest q legal committed) legal distance import before a
 
 -- and to each query of which there is a finding
-findings_answer : (d : Distance) (h : Schedule) (fs : List Finding) → map (λ (f : Finding). f.query.0) fs ≡ committed_queries h → All (IsFinding d h) fs
+findings_answer : (d : DistanceFunction) (h : Schedule) (fs : List Finding) → map (λ (f : Finding). f.query.0) fs ≡ committed_queries h → All (IsFinding d h) fs
     → (rest : List Entry) → IsLegal d (along h rest) → All (λ (f : Finding). IsAnswer d (along h rest) f.query.0 f.distance f.import (map (λ (t : TxnId). t.0) f.before.items)) fs
 findings_answer d h fs queries found rest legal =
     All-from_recursion (λ (f : Finding). IsAnswer d (along h rest) f.query.0 f.distance f.import (map (λ (t : TxnId). t.0) f.before.items)) fs
@@ -86,17 +86,17 @@ findings_answer d h fs queries found rest legal =
     asked [] f i = absurd i
     asked (g ∷ fs) f i = ⊎_elim (λ e. inl (ap (λ (f : Finding). f.query.0) e)) (λ j. inr (asked fs f j)) i
 
-pub findings_stay : (d : Distance) (h : Schedule) (r : Result Book AuditError)
+pub findings_stay : (d : DistanceFunction) (h : Schedule) (r : Result Book AuditError)
     → IfOk r (IsBook d h)
     → IfOk r (λ b. (rest : List Entry) → IsLegal d (along h rest) → All (λ (f : Finding). IsAnswer d (along h rest) f.query.0 f.distance f.import (map (λ (t : TxnId). t.0) f.before.items)) b.findings.items)
 findings_stay d h (Err e) book = tt
 findings_stay d h (Ok b) book = findings_answer d h b.findings.items book.queries book.found
 
 -- the results of summaries are those of the findings
-abbrev IsAnswerIn : Distance → Schedule → ℕ × ℕ × ℕ × List ℕ → Type 0
+abbrev IsAnswerIn : DistanceFunction → Schedule → ℕ × ℕ × ℕ × List ℕ → Type 0
 IsAnswerIn d h t = IsAnswer d h t.0 t.1 t.2 t.3
 
-pub summaries_stay : (d : Distance) (h : Schedule) (r : Result Summaries AuditError)
+pub summaries_stay : (d : DistanceFunction) (h : Schedule) (r : Result Summaries AuditError)
     → IfOk r (AreSummaries d h)
     → IfOk r (λ b. (rest : List Entry) → IsLegal d (along h rest) → All (λ (s : Summary). IsAnswer d (along h rest) s.query.0 s.distance s.import (listed s.before)) b.summaries.items)
 summaries_stay d h (Err e) are = tt

@@ -6,7 +6,7 @@ use Rattle.std.proofs.lemmas.Option.{get_or_from_slice_get}
 use Rattle.std.proofs.lemmas.List.FromFn.{length-map-range_with_len}
 use Rattle.esr_items.specs.Values.{value_at}
 use Rattle.esr_history.specs.Events.{last_value}
-use Rattle.esr_history.specs.Machine.{Distance, Schedule, accepted_in, distance_in}
+use Rattle.esr_history.specs.Machine.{DistanceFunction, Schedule, accepted_in, value_distance}
 use Rattle.esr_history.specs.Operations.{Operation}
 use Rattle.esr_history.specs.Serial.{values_by, state}
 use Rattle.esr_history.specs.Queries.{reads_by}
@@ -166,19 +166,19 @@ versions_are h us o x is =
     ap version_values is ∙ written_values c equal ∙ chain_values h us x
 
 -- the chain that is gathered of an item is that of the problem that represents the query, if all its writers are listed
-pub gathered_is_chain : (d : Distance) (h : Schedule) (q : ℕ) (us : List ℕ) (o : ConflictOrder) (x : ℕ) → chain_at o x ≡ chain_among h us x → filter (has_written h x) us ≡ writers_of h q x
-    → chain_of_item (distance_in d h) h.opening o (map item_read_of (reads_by h q)) x ≡ chain_for d h q us x
+pub gathered_is_chain : (d : DistanceFunction) (h : Schedule) (q : ℕ) (us : List ℕ) (o : ConflictOrder) (x : ℕ) → chain_at o x ≡ chain_among h us x → filter (has_written h x) us ≡ writers_of h q x
+    → chain_of_item (value_distance d h) h.opening o (map item_read_of (reads_by h q)) x ≡ chain_for d h q us x
 gathered_is_chain d h q us o x is all =
     let c : Chain = chain_from (last_among h us x) (length us) in
     let writers : writers_in (chain_at o x) ≡ places us (has_written h x) = ap writers_in is ∙ written_writers c ∙ chain_writers h us x in
     let values : version_values (chain_at o x) ≡ map (λ j. state h (take (suc j) (writers_of h q x)) x) (range_with_len 0 (length (writers_of h q x))) =
     versions_are h us o x is ∙ ap (λ ws. map (λ j. state h (take (suc j) ws) x) (range_with_len 0 (length ws))) all in
-    let D : ℤ → ℕ = distance_sum (distance_in d h) x (values_of (map item_read_of (reads_by h q)) x) in
+    let D : ℤ → ℕ = distance_sum (value_distance d h) x (values_of (map item_read_of (reads_by h q)) x) in
     let costs : map D (value_at h.opening x ∷ version_values (chain_at o x)) ≡ map (version_cost d h q x) (range_with_len 0 (suc (length (writers_of h q x)))) =
     ap (λ vs. map D (value_at h.opening x ∷ vs)) values
     ∙ ap (map D) (versions_from (λ j. state h (take j (writers_of h q x)) x) (length (writers_of h q x)))
     ∙ mapped_twice D (λ j. state h (take j (writers_of h q x)) x) (range_with_len 0 (suc (length (writers_of h q x))))
-    ∙ same_list (λ j. D (state h (take j (writers_of h q x)) x)) (version_cost d h q x) (range_with_len 0 (suc (length (writers_of h q x)))) (λ j. sum_of_reads (distance_in d h) x (state h (take j (writers_of h q x)) x) (reads_by h q)) in
+    ∙ same_list (λ j. D (state h (take j (writers_of h q x)) x)) (version_cost d h q x) (range_with_len 0 (suc (length (writers_of h q x)))) (λ j. sum_of_reads (value_distance d h) x (state h (take j (writers_of h q x)) x) (reads_by h q)) in
     let with_writers : List ℕ → problems.Chain = λ ws. record { item = x; writers = ws; costs = map D (value_at h.opening x ∷ version_values (chain_at o x)) } in
     let with_costs : List ℕ → problems.Chain = λ cs. record { item = x; writers = places us (has_written h x); costs = cs } in
     ap with_writers writers ∙ ap with_costs costs

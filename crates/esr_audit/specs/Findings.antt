@@ -1,7 +1,7 @@
 -- The result of auditing a committed query.
 use Rattle.std.specs.Prelude.{◌≡◌, ◌≤◌, ℕ, true, List, All, filter, map, Some, None, filter_map, slice_get}
 use Rattle.esr_history.specs.Events.{is_query}
-use Rattle.esr_history.specs.Machine.{Distance, Schedule, accepted_in, charges_in, import_in}
+use Rattle.esr_history.specs.Machine.{DistanceFunction, Schedule, accepted_in, charges_in, import_in}
 use Rattle.esr_history.specs.Operations.{commit_order}
 use Rattle.esr_history.specs.Queries.{is_committed_query, members, cost}
 use Rattle.esr_history.specs.Serial.{committed_updates}
@@ -32,7 +32,7 @@ refusal_of NoMemory = refusals.NoMemory
 -- q is a query that has committed. The distance is the least over all placements of q; `before` is, in commit order, the
 -- smallest set of updates before the position in a placement of that distance; and the distance is at most the import
 -- charged to q.
-pub record IsAnswer (d : Distance) (h : Schedule) (q distance import : ℕ) (before : List ℕ) : Type 0 where
+pub record IsAnswer (d : DistanceFunction) (h : Schedule) (q distance import : ℕ) (before : List ℕ) : Type 0 where
   pub committed : is_committed_query h q ≡ true
   pub least : IsLeastDistance d h q distance
   pub in_order : before ≡ members h q (is_among before)
@@ -47,7 +47,7 @@ IsCounted p c = (n : ℕ) × (c.augmentations ≡ Some n) × AugmentsFromZero (n
 
 -- A closed set and a flow of equal worth, of a problem that represents q, prove the distance. The set is the smallest
 -- of those of least cost.
-pub record IsShown (d : Distance) (h : Schedule) (q distance : ℕ) (before : List ℕ) (problem : Problem)
+pub record IsShown (d : DistanceFunction) (h : Schedule) (q distance : ℕ) (before : List ℕ) (problem : Problem)
     (certificate : Certificate) : Type 0 where
   pub is_problem : IsProblemOf d h q problem
   pub certified : Certifies problem certificate
@@ -57,13 +57,13 @@ pub record IsShown (d : Distance) (h : Schedule) (q distance : ℕ) (before : Li
   pub without_count : certificate.augmentations ≡ None
 
 -- the finding of query q
-pub record IsFindingOf (d : Distance) (h : Schedule) (q : ℕ) (f : Finding) : Type 0 where
+pub record IsFindingOf (d : DistanceFunction) (h : Schedule) (q : ℕ) (f : Finding) : Type 0 where
   pub answer : IsAnswer d h q f.distance f.import (map (λ t. t.0) f.before.items)
   pub shown : IsShown d h q f.distance (map (λ t. t.0) f.before.items) f.problem (certificate_of f.certificate)
   pub relevant : AreRelevant h q f.problem.updates
 
 -- the finding of the query that it names
-abbrev pub IsFinding : Distance → Schedule → Finding → Type 0
+abbrev pub IsFinding : DistanceFunction → Schedule → Finding → Type 0
 IsFinding d h f = IsFindingOf d h f.query.0 f
 
 -- the committed queries, in commit order
@@ -79,12 +79,12 @@ abbrev pub seen_summary : Summary → ℕ × ℕ × ℕ × List ℕ
 seen_summary s = (s.query.0, s.distance, s.import, listed s.before)
 
 -- the summary of a committed query: all of it is fixed by the history
-abbrev pub summary_of : Distance → Schedule → ℕ → ℕ × ℕ × ℕ × List ℕ
+abbrev pub summary_of : DistanceFunction → Schedule → ℕ → ℕ × ℕ × ℕ × List ℕ
 summary_of d h q = (q, least_cost d h q, import_in (charges_in d h) q, least_set d h q)
 
 -- The audits of a history: its committed updates in commit order, a finding of each committed query in commit order, and
 -- the results in short, which the history determines.
-pub record AreAudits (d : Distance) (h : Schedule) (updates : List ℕ) (findings : List Finding)
+pub record AreAudits (d : DistanceFunction) (h : Schedule) (updates : List ℕ) (findings : List Finding)
     (results : List (ℕ × ℕ × ℕ × List ℕ)) : Type 0 where
   pub order : updates ≡ committed_updates h
   pub queries : map (λ f. f.query.0) findings ≡ committed_queries h
@@ -93,10 +93,10 @@ pub record AreAudits (d : Distance) (h : Schedule) (updates : List ℕ) (finding
   pub summaries : results ≡ map (summary_of d h) (committed_queries h)
 
 -- the audits as a book stores them, with all findings
-abbrev pub IsBook : Distance → Schedule → Book → Type 0
+abbrev pub IsBook : DistanceFunction → Schedule → Book → Type 0
 IsBook d h b = AreAudits d h (map (λ t. t.0) b.order.items) b.findings.items (map summary b.findings.items)
 
 -- the audits as summaries store them, without their findings
-abbrev pub AreSummaries : Distance → Schedule → Summaries → Type 0
+abbrev pub AreSummaries : DistanceFunction → Schedule → Summaries → Type 0
 AreSummaries d h s =
     (findings : List Finding) × AreAudits d h (map (λ t. t.0) s.order.items) findings (map seen_summary s.summaries.items)

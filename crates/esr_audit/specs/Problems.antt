@@ -1,7 +1,7 @@
 -- The problem that represents a committed query of a history, which an audit solves.
 use Rattle.std.specs.Prelude.{◌≡◌, ◌↔◌, ℕ, ℤ, suc, Bool, true, false, ◌&&◌, ◌==◌, List, length, filter, map, take, sum_by, slice_get, All, Some, None, if◌then◌else◌}
 use Rattle.std.specs.List.{list_any, range_with_len}
-use Rattle.esr_history.specs.Machine.{Distance, Schedule, distance_in}
+use Rattle.esr_history.specs.Machine.{DistanceFunction, Schedule, value_distance}
 use Rattle.esr_history.specs.Serial.{state}
 use Rattle.esr_history.specs.Queries.{updates_of, must, reads_by}
 use Rattle.esr_order.specs.Placements.{is_among, IsClosed}
@@ -24,15 +24,15 @@ abbrev pub writers_of : Schedule → ℕ → ℕ → List ℕ
 writers_of h q x = filter (has_written h x) (updates_of h q)
 
 -- the sum of the distances between a value and the values that q read of item x
-abbrev pub read_distance : Distance → Schedule → ℕ → ℕ → ℤ → ℕ
-read_distance d h q x v = sum_by (λ o. if o.item == x then distance_in d h x o.value v else 0) (reads_by h q)
+abbrev pub read_distance : DistanceFunction → Schedule → ℕ → ℕ → ℤ → ℕ
+read_distance d h q x v = sum_by (λ o. if o.item == x then value_distance d h x o.value v else 0) (reads_by h q)
 
 -- the cost of version j of item x: of the value that its first j writers leave
-abbrev pub version_cost : Distance → Schedule → ℕ → ℕ → ℕ → ℕ
+abbrev pub version_cost : DistanceFunction → Schedule → ℕ → ℕ → ℕ → ℕ
 version_cost d h q x j = read_distance d h q x (state h (take j (writers_of h q x)) x)
 
 -- the chain of item x, with the writers by their positions in us
-abbrev pub chain_for : Distance → Schedule → ℕ → List ℕ → ℕ → Chain
+abbrev pub chain_for : DistanceFunction → Schedule → ℕ → List ℕ → ℕ → Chain
 chain_for d h q us x = record {
   item = x;
   writers = places us (has_written h x);
@@ -41,7 +41,7 @@ chain_for d h q us x = record {
 
 -- The problem represents query q: its updates are some of the query's, in commit order, with all writers of the items
 -- that q read; its chains are those of these items; and it has the same closed sets among its updates.
-pub record IsProblemOf (d : Distance) (h : Schedule) (q : ℕ) (p : Problem) : Type 0 where
+pub record IsProblemOf (d : DistanceFunction) (h : Schedule) (q : ℕ) (p : Problem) : Type 0 where
   pub updates : p.updates ≡ filter (is_among p.updates) (updates_of h q)
   pub writers : All (λ x. filter (has_written h x) p.updates ≡ writers_of h q x) (items_read h q)
   pub must : p.must ≡ places p.updates (is_among (must h q))

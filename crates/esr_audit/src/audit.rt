@@ -13,7 +13,7 @@ ghost use Rattle.esr_history.specs.Sound.{IsSound};
 ghost use Rattle.esr_cert.specs.Certificate.{Certifies};
 ghost use Rattle.esr_cert.specs.Problem.{in_set, IsSmallestLeast};
 ghost use Rattle.esr_cert.specs.Views.{certificate_of};
-ghost use Rattle.esr_order.specs.Orders.{IsOrderAmong};
+ghost use Rattle.esr_order.specs.Orders.{IsConflictOrderOn};
 ghost use Rattle.esr_order.specs.Index.{IsWholeIndexOf};
 ghost use Rattle.esr_order.specs.Relevant.{AreRelevant};
 ghost use Rattle.esr_audit.specs.Findings.{IsAnswer, IsCounted, IsFinding, IsFindingOf, IsBook};
@@ -74,7 +74,7 @@ fn find<M: Metric>(
     order: Order,
     q: TxnId,
 ) -> Result<Finding, NoMemory>
-    requires order { IsOrderAmong history.now.schedule q.0 (map (λ t. t.0) order.commits) order }
+    requires order { IsConflictOrderOn history.now.schedule q.0 (map (λ t. t.0) order.commits) order }
     requires relevant { AreRelevant history.now.schedule q.0 (map (λ t. t.0) order.commits) }
     requires committed { IsTrue (is_committed_query history.now.schedule q.0) }
     ensures query { IfOk result (λ f. f.query ≡ q) }

@@ -3,7 +3,7 @@
 ghost use Rattle.std.specs.Prelude.{map, IfOk, IsTrue};
 ghost use Rattle.esr_history.specs.Events.{is_query};
 ghost use Rattle.esr_history.specs.Machine.{accepted_in};
-ghost use Rattle.esr_order.specs.Orders.{IsOrderAmong};
+ghost use Rattle.esr_order.specs.Orders.{IsConflictOrderOn};
 ghost use Rattle.esr_order.specs.Relevant.{AreRelevant};
 ghost use Rattle.esr_audit.specs.Problems.{IsProblemOf};
 
@@ -22,7 +22,7 @@ pub fn problem_of<M: Metric>(
     mut order: Order,
     q: TxnId,
 ) -> Result<Problem, NoMemory>
-    requires order { IsOrderAmong history.now.schedule q.0 (map (λ t. t.0) order.commits) order }
+    requires order { IsConflictOrderOn history.now.schedule q.0 (map (λ t. t.0) order.commits) order }
     requires relevant { AreRelevant history.now.schedule q.0 (map (λ t. t.0) order.commits) }
     requires query { IsTrue (is_query (accepted_in history.now.schedule) q.0) }
     ensures is_problem { IfOk result (λ p. IsProblemOf M.distance_by history.now.schedule q.0 p) }

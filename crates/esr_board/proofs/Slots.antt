@@ -4,7 +4,7 @@ use Rattle.std.proofs.lemmas.Bool.{cases_eq}
 use Rattle.std.proofs.lemmas.List.{map-append}
 use Rattle.std.proofs.lemmas.List.Sums.{sum_by_push}
 use Rattle.esr_base.specs.declared.numbers.TxnId.{TxnId}
-use Rattle.esr_history.specs.Machine.{Distance, Schedule}
+use Rattle.esr_history.specs.Machine.{DistanceFunction, Schedule}
 use Rattle.esr_history.specs.Queries.{is_committed_query}
 use Rattle.esr_audit.specs.declared.finding.Finding.{Finding}
 use Rattle.esr_audit.specs.declared.finding.AuditError.{AuditError}
@@ -18,7 +18,7 @@ any_holds : (P : ℕ → Type 0) (xs : List ℕ) (a : Any P xs) → P a.1
 any_holds P xs a = a.4
 
 -- the result of a worker
-pub worked_is : {T : Type 0} (keeps : Finding → T → Type 0) (d : Distance) (h : Schedule) (queries : List TxnId) (jobs : ℕ) (old new : List ℕ) (r : Result (Share T) AuditError) → old ≡ [] → length queries ≡ jobs → AreCommitted h queries
+pub worked_is : {T : Type 0} (keeps : Finding → T → Type 0) (d : DistanceFunction) (h : Schedule) (queries : List TxnId) (jobs : ℕ) (old new : List ℕ) (r : Result (Share T) AuditError) → old ≡ [] → length queries ≡ jobs → AreCommitted h queries
     → IfOk r (λ s. HasClaimed jobs old new (map (λ p. p.0) s.found.items)) → IfOk r (λ s. AreKept keeps d h queries jobs s.found.items) → IfOk r (λ _. 0 < count_past jobs new)
     → IfErr r (λ e. (js : List ℕ) × HasClaimed jobs old new js × (e ≡ NotACommittedQuery → Any (λ n. (n < jobs) × (is_committed_query h (query_of queries n).0 ≡ false)) js)) → IfErr r (λ e. e ≢ WorkersOutOfRange)
     → MatchResult r (IsShareOf keeps d h queries jobs new) (λ e. e ≡ NoMemory)
@@ -28,7 +28,7 @@ worked_is keeps d h queries jobs old new (Err WorkersOutOfRange) none_yet len co
 worked_is keeps d h queries jobs old new (Err NotACommittedQuery) none_yet len committed has_claimed found ended err other =
     grind (arith, any_holds, true≢false)
 
-module _ {T : Type 0} (keeps : Finding → T → Type 0) (d : Distance) (h : Schedule) (queries : List TxnId) (slots after : List (Option T)) (job : ℕ) (x : T) (is : after ≡ set slots job (Some x)) (fits : job < length slots) where
+module _ {T : Type 0} (keeps : Finding → T → Type 0) (d : DistanceFunction) (h : Schedule) (queries : List TxnId) (slots after : List (Option T)) (job : ℕ) (x : T) (is : after ≡ set slots job (Some x)) (fits : job < length slots) where
   same_here : get_or (set slots job (Some x)) job None ≡ Some x
   same_here = get_or-set_same slots job (Some x) None fits
 

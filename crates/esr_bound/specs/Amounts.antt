@@ -2,7 +2,7 @@
 -- definitions mention no problem, no network and no flow.
 use Rattle.std.specs.Prelude.{◌≡◌, ◌≤◌, ◌<◌, ◌+◌, ◌⊎◌, ◌&&◌, ◌==◌, ℕ, ℤ, Bool, true, false, List, [], length, take, filter, sum_by, slice_index_or}
 use Rattle.std.specs.List.{range_with_len, list_any}
-use Rattle.esr_history.specs.Machine.{Distance, Schedule, IsLegal}
+use Rattle.esr_history.specs.Machine.{DistanceFunction, Schedule, IsLegal}
 use Rattle.esr_history.specs.Serial.{state, values_by}
 use Rattle.esr_history.specs.Queries.{updates_of, members, must, cost}
 use Rattle.esr_order.specs.Placements.{IsClosed, IsSmallestLeastSet}
@@ -93,11 +93,11 @@ pub record IsStart (n : ℕ) (C : ℕ → ℤ → ℕ) (h : Schedule) (q worth k
 
 -- Three laws: the amounts at the start carry the worth; each update preserves this; at the end it shows the bound.
 abbrev pub LawOfStart : Type 0
-LawOfStart = (d : Distance) (h : Schedule) (q n : ℕ) (C : ℕ → ℤ → ℕ) (worth k : ℕ) (amounts : ℕ → ℕ) (marks : List Bool) (S : ℕ → Bool)
+LawOfStart = (d : DistanceFunction) (h : Schedule) (q n : ℕ) (C : ℕ → ℤ → ℕ) (worth k : ℕ) (amounts : ℕ → ℕ) (marks : List Bool) (S : ℕ → Bool)
     → IsLegal d h → IsStart n C h q worth k amounts → IsClosed h q S → Carries n C h q worth k amounts marks S
 
 abbrev pub LawOfUpdates : Type 0
-LawOfUpdates = (d : Distance) (h : Schedule) (q n : ℕ) (C : ℕ → ℤ → ℕ) (worth k : ℕ) (amounts after : ℕ → ℕ) (seed : Bool) (marks marked : List Bool) (S : ℕ → Bool)
+LawOfUpdates = (d : DistanceFunction) (h : Schedule) (q n : ℕ) (C : ℕ → ℤ → ℕ) (worth k : ℕ) (amounts after : ℕ → ℕ) (seed : Bool) (marks marked : List Bool) (S : ℕ → Bool)
     → IsLegal d h → k < length (updates_of h q) → IsStep n C h q k amounts after seed marks marked
     → IsClosed h q S → (seed ≡ true → S (nth (updates_of h q) k) ≡ true)
     → Carries n C h q worth k amounts marks S → Carries n C h q worth (k + 1) after marked S
@@ -110,7 +110,7 @@ LawOfEnd = (h : Schedule) (q n : ℕ) (C : ℕ → ℤ → ℕ) (worth : ℕ) (a
 -- A marked set that is closed and forced, and whose cost is a lower bound for all closed sets, is the smallest set of
 -- least cost. Costs here are those of the query plus a constant.
 abbrev pub LawOfSet : Type 0
-LawOfSet = (d : Distance) (h : Schedule) (q n : ℕ) (C : ℕ → ℤ → ℕ) (extra worth : ℕ) (marks : List Bool)
+LawOfSet = (d : DistanceFunction) (h : Schedule) (q n : ℕ) (C : ℕ → ℤ → ℕ) (extra worth : ℕ) (marks : List Bool)
     → ((S : ℕ → Bool) → cost_by n C h q S ≡ extra + cost d h q S)
     → ((S : ℕ → Bool) → IsClosed h q S → worth ≤ cost_by n C h q S)
     → AreForced n C h q worth marks

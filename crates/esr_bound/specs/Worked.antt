@@ -1,6 +1,6 @@
 -- Worked examples: the costs of versions along the commit order, amounts below these, and the costs of closed sets.
 use Rattle.std.specs.Prelude.{◌≡◌, ◌==◌, ℕ, ℤ, true, false, List, [], ◌∷◌, refl, map, sum_by, slice_index_or, if◌then◌else◌}
-use Rattle.esr_history.specs.Machine.{distance_in}
+use Rattle.esr_history.specs.Machine.{value_distance}
 use Rattle.esr_history.specs.Queries.{reads_by}
 use Rattle.esr_history.specs.Worked.{plain}
 use Rattle.esr_history.specs.WorkedOrder.{two_updates_over_a_report}
@@ -9,7 +9,7 @@ use Rattle.esr_history.specs.Queries as queries
 
 -- the distance of the report's reads of item x from a version
 abbrev cost_of : ℕ → ℤ → ℕ
-cost_of x v = sum_by (λ o. if o.item == x then distance_in plain two_updates_over_a_report x o.value v else 0) (reads_by two_updates_over_a_report 1)
+cost_of x v = sum_by (λ o. if o.item == x then value_distance plain two_updates_over_a_report x o.value v else 0) (reads_by two_updates_over_a_report 1)
 
 -- the costs of the two items at the start, after the first update, and after both
 costs_along : map (λ k. map (λ x. cost_of x (left_by_all two_updates_over_a_report 1 k x)) (0 ∷ 1 ∷ [])) (0 ∷ 1 ∷ 2 ∷ [])

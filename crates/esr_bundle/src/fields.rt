@@ -14,13 +14,13 @@ use std::alloc::Global;
 
 /// A type that can be decoded from a JSON value: `decoded` specifies the decoder, and `model_of` the model of a value.
 pub trait FromJson: Drop + Sized {
-    ghost Kind: { Type 0 };
+    ghost Decoded: { Type 0 };
 
-    ghost model_of: { Self → Kind };
+    ghost model_of: { Self → Decoded };
 
-    ghost decoded: { Data → Option Kind };
+    ghost decoded: { Data → Option Decoded };
 
-    fn read(alloc: Global, value: &Value) -> Result<Self, BundleFault>
+    fn decode(alloc: Global, value: &Value) -> Result<Self, BundleFault>
         ensures ok { IfOk result (λ v. decoded (view value.now) ≡ Some (model_of v)) }
         ensures err { IfErr result (λ e. e ≢ BundleFault.NoMemory → (e ≡ BundleFault.Shape)
             × (decoded (view value.now) ≡ None)) };
@@ -37,37 +37,37 @@ fn pair(value: &Value) -> Option<(u64, u64)>
 }
 
 impl FromJson for u64 {
-    ghost Kind = { ℕ };
+    ghost Decoded = { ℕ };
 
     ghost model_of = { λ n. n };
 
     ghost decoded = { as_natural };
 
-    fn read(_alloc: Global, value: &Value) -> Result<u64, BundleFault> {
+    fn decode(_alloc: Global, value: &Value) -> Result<u64, BundleFault> {
         value.as_u64().ok_or(BundleFault::Shape)
     }
 }
 
 impl FromJson for (u64, u64) {
-    ghost Kind = { ℕ × ℕ };
+    ghost Decoded = { ℕ × ℕ };
 
     ghost model_of = { λ e. e };
 
     ghost decoded = { pair_of };
 
-    fn read(_alloc: Global, value: &Value) -> Result<(u64, u64), BundleFault> {
+    fn decode(_alloc: Global, value: &Value) -> Result<(u64, u64), BundleFault> {
         pair(value).ok_or(BundleFault::Shape)
     }
 }
 
 impl FromJson for Vec<u64> {
-    ghost Kind = { List ℕ };
+    ghost Decoded = { List ℕ };
 
     ghost model_of = { λ row. row.items };
 
     ghost decoded = { as_naturals };
 
-    fn read(alloc: Global, value: &Value) -> Result<Vec<u64>, BundleFault> {
+    fn decode(alloc: Global, value: &Value) -> Result<Vec<u64>, BundleFault> {
         numbers(alloc, value)
     }
 }
@@ -83,7 +83,7 @@ pub fn list<T: FromJson>(alloc: Global, value: &Value) -> Result<Vec<T>, BundleF
     };
     let mut found = Vec::new(alloc);
     for item in items {
-        let part = T::read(alloc, item)?;
+        let part = T::decode(alloc, item)?;
         if found.push(part).is_err() {
             return Err(BundleFault::NoMemory);
         }
@@ -122,7 +122,7 @@ pub fn has_key_count(value: &Value, count: usize) -> bool
 /// Returns 1 if the object has the key, and 0 otherwise.
 pub fn key_presence(value: &Value, key: &str) -> usize
     ensures value { result ≡ key_presence (get key.now (view value.now)) }
-    ensures small { result ≤ 1 }
+    ensures at_most_one { result ≤ 1 }
 {
     match value.get(key) {
         Some(_) => 1,
@@ -135,7 +135,7 @@ pub fn key_presence(value: &Value, key: &str) -> usize
 /// # Errors
 ///
 /// `Shape` if there is no such key.
-pub fn at<'a>(value: &'a Value, key: &str) -> Result<&'a Value, BundleFault>
+pub fn member<'a>(value: &'a Value, key: &str) -> Result<&'a Value, BundleFault>
     ensures ok { IfOk result (λ v. get key.now (view value.now) ≡ Some (view v.now)) }
     ensures err { IfErr result (λ e. (e ≡ BundleFault.Shape) × (get key.now (view value.now) ≡ None)) }
 {
@@ -151,7 +151,7 @@ pub fn decode_member<T: FromJson>(alloc: Global, value: &Value, key: &str) -> Re
     ensures err { IfErr result (λ e. e ≢ BundleFault.NoMemory → (e ≡ BundleFault.Shape)
         × (field T.decoded key.now (view value.now) ≡ None)) }
 {
-    T::read(alloc, at(value, key)?)
+    T::decode(alloc, member(value, key)?)
 }
 
 /// Decodes the list of numbers at a key, or returns an empty list if there is no such key.

@@ -11,7 +11,7 @@ ghost use Rattle.esr_bundle.specs.Reading.{IsTree, HasNoTree, IsReadingOf};
 
 use crate::draft::CertificateDraft;
 use crate::fields::{
-    FromJson, at, decode_member, has_key_count, key_presence, list, optional_number,
+    FromJson, decode_member, has_key_count, key_presence, list, member, optional_number,
     optional_numbers, pairs,
 };
 use crate::sound::finish;
@@ -20,13 +20,13 @@ use serde_json::Value;
 use std::alloc::Global;
 
 impl FromJson for ChainDraft {
-    ghost Kind = { Chain };
+    ghost Decoded = { Chain };
 
     ghost model_of = { drafted_chain };
 
     ghost decoded = { chain_of };
 
-    fn read(alloc: Global, value: &Value) -> Result<ChainDraft, BundleFault> {
+    fn decode(alloc: Global, value: &Value) -> Result<ChainDraft, BundleFault> {
         if !has_key_count(value, 3) {
             return Err(BundleFault::Shape);
         }
@@ -42,18 +42,18 @@ impl FromJson for ChainDraft {
 }
 
 impl FromJson for ProblemDraft {
-    ghost Kind = { Problem };
+    ghost Decoded = { Problem };
 
     ghost model_of = { drafted_problem };
 
     ghost decoded = { problem_of };
 
-    fn read(alloc: Global, value: &Value) -> Result<ProblemDraft, BundleFault> {
+    fn decode(alloc: Global, value: &Value) -> Result<ProblemDraft, BundleFault> {
         if !has_key_count(value, 3 + key_presence(value, "must")) {
             return Err(BundleFault::Shape);
         }
-        let before = pairs(alloc, at(value, "before")?)?;
-        let chains = list(alloc, at(value, "chains")?)?;
+        let before = pairs(alloc, member(value, "before")?)?;
+        let chains = list(alloc, member(value, "chains")?)?;
         let must = optional_numbers(alloc, value, "must")?;
         let updates = decode_member(alloc, value, "updates")?;
         Ok(ProblemDraft {
@@ -66,13 +66,13 @@ impl FromJson for ProblemDraft {
 }
 
 impl FromJson for CertificateDraft {
-    ghost Kind = { Certificate };
+    ghost Decoded = { Certificate };
 
     ghost model_of = { drafted_certificate };
 
     ghost decoded = { certificate_of };
 
-    fn read(alloc: Global, value: &Value) -> Result<CertificateDraft, BundleFault> {
+    fn decode(alloc: Global, value: &Value) -> Result<CertificateDraft, BundleFault> {
         if !has_key_count(
             value,
             4 + key_presence(value, "augmentations") + key_presence(value, "must_flow"),
@@ -81,7 +81,7 @@ impl FromJson for CertificateDraft {
         }
         let augmentations = optional_number(value, "augmentations")?;
         let back_flow = decode_member(alloc, value, "back_flow")?;
-        let chain_flow = list(alloc, at(value, "chain_flow")?)?;
+        let chain_flow = list(alloc, member(value, "chain_flow")?)?;
         let must_flow = optional_numbers(alloc, value, "must_flow")?;
         let set = decode_member(alloc, value, "set")?;
         let worth = decode_member(alloc, value, "worth")?;

@@ -6,7 +6,7 @@ use Rattle.esr_engine.specs.Capacity.{transaction_count}
 use Rattle.esr_dump.specs.Naming.{item_names, transaction_names}
 use Rattle.esr_dump.specs.Lines.{script}
 use Rattle.esr_explain.specs.Explain.{explanation}
-use Rattle.esr_tables.specs.Written as sheet
+use Rattle.esr_tables.specs.Written as tables
 
 -- the item names read from `names`, or `None` if it does not have a name for each item
 abbrev pub parsed_item_names : Schedule → List ℕ → Option (List (List ℕ))
@@ -37,9 +37,10 @@ pub record IsExplanationOf (h : Schedule) (q : ℕ) (names text : List ℕ) : Ty
 
 -- the ledger of a history
 abbrev pub IsLedgerOf : Schedule → List ℕ → Type 0
-IsLedgerOf h text = sheet.IsLedgerOf h (transaction_names (transaction_count h)) text
+IsLedgerOf h text = tables.IsLedgerOf h (transaction_names (transaction_count h)) text
 
--- the statuses that a script's and a ledger's call returns, and those of an explanation's and a picture's call
+-- the statuses of `esr_script` and `esr_ledger`: done (0), names that are not valid (5), a buffer too small (7), no
+-- memory (13), an engine that is not open (14); of `esr_explain` and `esr_picture` also: not a committed query (6)
 abbrev pub IsTextStatus : ℕ → Type 0
 IsTextStatus n = (n ≡ 0) ⊎ ((n ≡ 5) ⊎ ((n ≡ 7) ⊎ ((n ≡ 13) ⊎ (n ≡ 14))))
 

@@ -11,8 +11,8 @@ use Rattle.clap.proofs.WalkLemmas.{walk_stopped}
 use Rattle.clap.proofs.OnLiterals.{clap_on_literals}
 use Rattle.clap.specs.Words.{new_app}
 use Rattle.esr_cli.proofs.WalksTo.{own_fault}
-use Rattle.esr_cli.specs.Program as spec
-use Rattle.esr_cli.specs.Program.{program}
+use Rattle.esr_cli.specs.ArgumentRules as spec
+use Rattle.esr_cli.specs.ArgumentRules.{program}
 
 abbrev shell : App
 shell = built program

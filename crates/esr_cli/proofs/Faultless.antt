@@ -14,7 +14,7 @@ use Rattle.clap.specs.Takes.{is_given}
 use Rattle.clap.specs.Faults.{check_fault, defaults_fault, entered_fault, fault_of, is_simple_and_free, level_fault, settle_fault, values_fault, walk_fault}
 use Rattle.clap.proofs.OnLiterals.{clap_on_literals}
 use Rattle.esr_cli.specs.Job as asked
-use Rattle.esr_cli.specs.Program.{as_script_rule, bail_rule, file_rule, format_rule, name_rule, no_progress_rule, program, progress_rule, with_name, workers_rule, worst_rule}
+use Rattle.esr_cli.specs.ArgumentRules.{as_script_rule, bail_rule, file_rule, format_rule, name_rule, no_progress_rule, program, progress_rule, with_name, workers_rule, worst_rule}
 use Rattle.esr_cli.specs.Job.{HasWorkers, Request, RequestedTask, flag_in, number_in, request_in, request_of, requested, count_in, task_in, requested_task}
 use Rattle.esr_cli.specs.declared.Job.{Job}
 use Rattle.esr_cli.proofs.Entered.{audit_shape, certify_shape, drive_shape, explain_shape, page_shape, shrink_shape}

@@ -16,7 +16,7 @@ use Rattle.clap.specs.declared.builder.value_parser.ValueParser.TheVariants.{Uns
 use Rattle.clap.specs.declared.error.Error.{Error}
 use Rattle.clap.specs.declared.error.kind.ErrorKind.TheVariants as kind
 use Rattle.esr_cli.specs.Job as asked
-use Rattle.esr_cli.specs.Program.{program}
+use Rattle.esr_cli.specs.ArgumentRules.{program}
 use Rattle.esr_cli.specs.Job.{IsSyntaxOfTask, IsCall, IsCount, IsFile, IsPlainWord, Request, IsSyntaxOf, RequestedTask, file_words, flag_words, number_in, request_in, request_of}
 use Rattle.esr_cli.specs.declared.Job.{Job}
 use Rattle.esr_cli.specs.declared.Format.TheVariants.{Text as Plain}

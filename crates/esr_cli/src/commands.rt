@@ -7,7 +7,7 @@
 ghost use Rattle.std.specs.Prelude.{◌≡◌, IfOk, codes, false};
 ghost use Rattle.clap.specs.Words.{App, app_of, new_app, with_rule, with_subcommand, rule_of};
 ghost use Rattle.clap.specs.declared.builder.command.Command.TheViews.{out-Command};
-ghost use Rattle.esr_cli.specs.Program.{all_rule, as_script_rule, at_least_rule, audit, bail_rule, cases, certify, check, drive, esr, explain, explore, file_rule, files_rule, format_rule, ledger, lint, name_rule, no_progress_rule, of_rule, page, program, progress_rule, prose_rule, queries, query_rule, with_file, script_rule, scripts, seeds_rule, shrink, steps_rule, tables, timeline, trace, verbose_rule, why, with_name, with_script, workers_rule, worst_by_rule, worst_rule};
+ghost use Rattle.esr_cli.specs.ArgumentRules.{all_rule, as_script_rule, at_least_rule, audit, bail_rule, cases, certify, check, drive, esr, explain, explore, file_rule, files_rule, format_rule, ledger, lint, name_rule, no_progress_rule, of_rule, page, program, progress_rule, prose_rule, queries, query_rule, with_file, script_rule, scripts, seeds_rule, shrink, steps_rule, tables, timeline, trace, verbose_rule, why, with_name, with_script, workers_rule, worst_by_rule, worst_rule};
 
 use crate::{VERSION, help};
 use clap::{Arg, ArgAction, Command, value_parser};

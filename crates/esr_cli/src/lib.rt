@@ -11,7 +11,7 @@ ghost use Rattle.clap.specs.Words.{fault_of, first_of, found_of, kind_of, rows_o
 ghost use Rattle.clap.specs.Words.{subcommand_of, subcommand_rows_of, FailsBy};
 ghost use Rattle.clap.specs.Walk.{texts};
 ghost use Rattle.clap.specs.declared.error.kind.ErrorKind.TheVariants.{OutOfMemory};
-ghost use Rattle.esr_cli.specs.Program.{program};
+ghost use Rattle.esr_cli.specs.ArgumentRules.{program};
 ghost use Rattle.esr_cli.specs.Job.{certify_in, check_in, count_in, drive_in, explain_in, explore_in, flag_in, format_in, format_of_name, progress_in, request_in, request_in_one, request_of, requested, shrink_in, task_in, requested_task, HasWorkers, IsSyntaxOf};
 
 mod commands;

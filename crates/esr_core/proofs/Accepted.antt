@@ -8,7 +8,7 @@ use Rattle.std.proofs.lemmas.List.Sums.{sum_by-le-sum_by}
 use Rattle.esr_items.specs.Values.{versions_at}
 use Rattle.esr_core.specs.Types.{Versions, ItemId, TxnId, Event, BeginUpdate, BeginQuery, Read, Write, Commit, Abort, Refusal}
 use Rattle.esr_history.specs.Events.{txn_numbers, reads, reads_any, is_query, is_update, is_active, holds_read, read_count, total_read_count}
-use Rattle.esr_history.specs.Machine.{Distance, Schedule, accepted_in, due_in, first_reason, refusal, reasons, Charge, import_full, export_full}
+use Rattle.esr_history.specs.Machine.{DistanceFunction, Schedule, accepted_in, due_in, first_reason, refusal, reasons, Charge, import_full, export_full}
 use Rattle.esr_history.specs.ItemLocks.{ItemLocks, query_reads}
 use Rattle.esr_history.proofs.Allowed.{none_applies, read_allowed}
 use Rattle.esr_history.proofs.LegalWellFormed.{when_none, not_ended}
@@ -20,7 +20,7 @@ use Rattle.esr_locks.specs.Tables.{locks_at}
 use Rattle.esr_core.specs.Represented.{Represents, books_of, Transaction}
 use Rattle.esr_core.specs.States.{reason_of, read_charge, charged_once}
 use Rattle.esr_core.proofs.Locks.{locks_at_item}
-use Rattle.esr_core.proofs.Accounts.{books-kept}
+use Rattle.esr_core.proofs.Accounts.{books-unchanged}
 use Rattle.esr_core.proofs.Charges.{charges_by, quote_reason, books-charged}
 use Rattle.esr_core.proofs.Reasons.{due_some, due_none}
 
@@ -48,14 +48,14 @@ reads_le es t x = sum_by-le-sum_by (λ e. if reads t x e then 1 else 0) (λ e. i
     one : (e : Event) → (if reads t x e then 1 else 0) ≤ (if reads_any t e then 1 else 0)
     one e = le (reads t x e) (reads_any t e) (any e)
 
-pub read_active : (d : Distance) (h : Schedule) (t : TxnId) (x : ItemId) → refusal d h (Read t x) ≡ None → is_active (accepted_in h) t.0 ≡ true
+pub read_active : (d : DistanceFunction) (h : Schedule) (t : TxnId) (x : ItemId) → refusal d h (Read t x) ≡ None → is_active (accepted_in h) t.0 ≡ true
 read_active d h t x none = not_ended h t.0 (read_allowed d h t x (none_applies (reasons d h (Read t x)) none)).active
 
-pub read_bounded : (d : Distance) (h : Schedule) (t : TxnId) (x : ItemId) → refusal d h (Read t x) ≡ None → is_query (accepted_in h) t.0 ≡ true → total_read_count (accepted_in h) t.0 < 1000
+pub read_bounded : (d : DistanceFunction) (h : Schedule) (t : TxnId) (x : ItemId) → refusal d h (Read t x) ≡ None → is_query (accepted_in h) t.0 ≡ true → total_read_count (accepted_in h) t.0 < 1000
 read_bounded d h t x none query =
     grind (arith, read_allowed d h t x (none_applies (reasons d h (Read t x)) none), none_applies (reasons d h (Read t x)) none, when_none, nat_tests)
 
-module _ (d : Distance) (h : Schedule) (items : List Versions) (table : List Transaction) (locks : List ItemLocks) (accounts : List Account) (rep : Represents (d h.weights) h.opening (accepted_in h) items table locks accounts) where
+module _ (d : DistanceFunction) (h : Schedule) (items : List Versions) (table : List Transaction) (locks : List ItemLocks) (accounts : List Account) (rep : Represents (d h.weights) h.opening (accepted_in h) items table locks accounts) where
   -- the charge of a read that is not refused fits
   pub read_fits : (t u : TxnId) (x : ItemId) (amount : ℕ) → refusal d h (Read t x) ≡ None → is_query (accepted_in h) t.0 ≡ true → is_update (accepted_in h) u.0 ≡ true → due_in d h (Read t x) ≡ charges_by u.0 ((t, amount) ∷ [])
       → quote_of accounts u ((t, amount) ∷ []) ≡ Fits
@@ -88,7 +88,7 @@ module _ (d : Distance) (h : Schedule) (items : List Versions) (table : List Tra
   read_books t x query l = at (read_charge (d h.weights x.0) (versions_at items x.0) (locks_at locks x.0).writer) refl
     where
       at : (o : Option (TxnId × ℕ)) → read_charge (d h.weights x.0) (versions_at items x.0) (locks_at locks x.0).writer ≡ o → charged_once accounts t o ≡ books_of (d h.weights) h.opening (accepted_in h ++ Read t x ∷ [])
-      at None is = rep.books ∙ books-kept (d h.weights) h.opening (accepted_in h) (Read t x) refl (due_none d h items table locks accounts rep t x l is)
+      at None is = rep.books ∙ books-unchanged (d h.weights) h.opening (accepted_in h) (Read t x) refl (due_none d h items table locks accounts rep t x l is)
       at (Some c) is =
           let owed = due_some d h items table locks accounts rep t x c query l is in
           ap (λ (as' : List Account). charged as' c.0 ((t, c.1) ∷ [])) rep.books ∙ books-charged (d h.weights) h.opening (accepted_in h) (Read t x) refl c.0 ((t, c.1) ∷ []) owed.1 owed.0

@@ -4,7 +4,7 @@ use Rattle.std.proofs.lemmas.Bool.{and_parts, and_from}
 use Rattle.esr_core.specs.Types.{Entry}
 use Rattle.esr_core.specs.Carried.{new_number, settled, charged_in, IsCarriedOver, IsReport, IsReport.reads, IsReport.continues, IsReport.is_carried, ReportsAreBounded, ReportsAreBoundedAtCommit, LawOfActiveQueries, LawOfReports}
 use Rattle.esr_history.specs.Events.{is_query, is_active, limit_of}
-use Rattle.esr_history.specs.Machine.{Distance, Schedule, accepted_in, charges_in, import_in, export_in, IsLegal}
+use Rattle.esr_history.specs.Machine.{DistanceFunction, Schedule, accepted_in, charges_in, import_in, export_in, IsLegal}
 use Rattle.esr_history.specs.Legal.{along}
 use Rattle.esr_history.specs.Operations.{Operation}
 use Rattle.esr_history.specs.Serial.{state}
@@ -16,15 +16,15 @@ use Rattle.esr_history.proofs.Charges.{legal_within_limits}
 use Rattle.esr_history.proofs.ReportBoundsLaws.{begin_stays, import_grows, bound_grows, bound_at_commit, reads_are_within, import_bounds_active, open_is_imported}
 
 -- the data of a report's bound in its present history
-record IsBounded (d : Distance) (limit : ℕ) (h : Schedule) (q : ℕ) (read_before : List Operation) (part : ℕ) : Type 0 where
+record IsBounded (d : DistanceFunction) (limit : ℕ) (h : Schedule) (q : ℕ) (read_before : List Operation) (part : ℕ) : Type 0 where
   legal : IsLegal d h
   is_within : AreReadsWithinBound d h q read_before (part + import_in (charges_in d h) q)
   limits : part + limit_of (accepted_in h) q ≡ limit
 
-charged_to_query : (h : Schedule) (q : ℕ) (d : Distance) → is_query (accepted_in h) q ≡ true → charged_in h (charges_in d h) q ≡ import_in (charges_in d h) q
+charged_to_query : (h : Schedule) (q : ℕ) (d : DistanceFunction) → is_query (accepted_in h) q ≡ true → charged_in h (charges_in d h) q ≡ import_in (charges_in d h) q
 charged_to_query h q d is = ap (λ b. if b then import_in (charges_in d h) q else export_in (charges_in d h) q) is
 
-module _ (d : Distance) (metric : (w : List ℕ) → IsMetric (d w)) where
+module _ (d : DistanceFunction) (metric : (w : List ℕ) → IsMetric (d w)) where
   pub within_carried : (h k : Schedule) → IsCarriedOver d h k → (q : ℕ) (read_before : List Operation) (b : ℕ) → AreReadsWithinBound d h q read_before b → AreReadsWithinBound d k (new_number h q).0 read_before b
   within_carried h k c q read_before b is =
       let act = and_parts (is_query (accepted_in h) q) (is_active (accepted_in h) q) is.active in
@@ -95,7 +95,7 @@ module _ (d : Distance) (metric : (w : List ℕ) → IsMetric (d w)) where
         omega (arith, low, same, all),
       )
 
-as_metric : (d : Distance) → AreDistances d → (w : List ℕ) → IsMetric (d w)
+as_metric : (d : DistanceFunction) → AreDistances d → (w : List ℕ) → IsMetric (d w)
 as_metric d a w = record { same = a.same w; symmetric = a.symmetric w; triangle = a.triangle w }
 
 pub law_of_active_queries : LawOfActiveQueries

@@ -6,21 +6,21 @@ use Rattle.std.proofs.lemmas.Option.{same_Some}
 use Rattle.std.proofs.lemmas.List.Sums.{sum_by-cons}
 use Rattle.std.proofs.lemmas.List.Elements.{All-from_recursion}
 use Rattle.esr_core.specs.Types.{ItemId, TxnId, Event, Write, Refusal, BlockedByImport, BlockedByExport}
-use Rattle.esr_history.specs.Events.{kind_of, beginning_of, beginnings, txn_numbers, limit_of, is_begun, is_query, is_update, holds_read, read_count, current_value}
-use Rattle.esr_history.specs.Machine.{Distance, Schedule, Charge, accepted_in, due, charges, charges_in, charge_of_write, import_in, export_in, total, import_full, export_full, first_reason}
+use Rattle.esr_history.specs.Events.{kind_of, begin_record_of, begin_records, txn_numbers, limit_of, is_begun, is_query, is_update, holds_read, read_count, current_value}
+use Rattle.esr_history.specs.Machine.{DistanceFunction, Schedule, Charge, accepted_in, due, charges, charges_in, charge_of_write, import_in, export_in, total, import_full, export_full, first_reason}
 use Rattle.esr_history.specs.ItemLocks.{query_reads}
 use Rattle.esr_history.specs.Ascending.{IsAscendingBy}
 use Rattle.esr_history.proofs.Charges.{import-push, export-push}
 use Rattle.esr_history.proofs.Ranges.{map_same, filter_map_ascends}
 use Rattle.esr_history.proofs.Sides.{due_kinds, no_import}
-use Rattle.esr_history.proofs.Words.{query_not_update}
+use Rattle.esr_history.proofs.TraceAgreement.{query_not_update}
 use Rattle.esr_history.proofs.Sums.{query_begun}
 use Rattle.esr_history.proofs.WellFormed.{update_begun}
 use Rattle.esr_ledgers.specs.declared.account.Account.{Account}
 use Rattle.esr_ledgers.specs.Books.{number, is_open_query, limit_at, account_amount, total_of, would_pass, quoted, quote_of, raised, charged_to_queries, charged, AreCharges}
 use Rattle.esr_core.specs.Represented.{account_after, books_of}
 use Rattle.esr_core.specs.States.{reason_of, charges_to}
-use Rattle.esr_core.proofs.Held.{numbers-kept, query-kept, limit-kept}
+use Rattle.esr_core.proofs.Held.{txn_numbers-unchanged, is_query-unchanged, limit-unchanged}
 use Rattle.esr_core.proofs.Rows.{begun_at}
 use Rattle.esr_core.proofs.Accounts.{open_query_is, open_update_is, limit_is, import_is, export_is}
 use Rattle.std.proofs.lemmas.Grind.{common_steps}
@@ -94,13 +94,13 @@ imported_row u (c ∷ cs) f own us =
 
 module _ (d : ℕ → ℤ → ℤ → ℕ) (opening : List ℤ) (events : List Event) where
   -- the accounts after charges that are due
-  pub books-charged : (e : Event) → beginning_of e ≡ None → (u : TxnId) (cs : List (TxnId × ℕ)) → is_update events u.0 ≡ true → due d opening events e ≡ charges_by u.0 cs
+  pub books-charged : (e : Event) → begin_record_of e ≡ None → (u : TxnId) (cs : List (TxnId × ℕ)) → is_update events u.0 ≡ true → due d opening events e ≡ charges_by u.0 cs
       → charged (books_of d opening events) u cs ≡ books_of d opening (events ++ e ∷ [])
   books-charged e none u cs update owed =
       ap (raised u.0 (total_of cs)) (imported_row u.0 cs (account_after d opening events) (λ v. refl) (txn_numbers events))
       ∙ (raised_row u.0 (total_of cs) (λ v. more (import_in (charges_by u.0 cs) v) (account_after d opening events v)) (λ v. refl) (txn_numbers events)
-      ∙ (map_same (λ v. if v == u.0 then more (total_of cs) (more (import_in (charges_by u.0 cs) v) (account_after d opening events v)) else more (import_in (charges_by u.0 cs) v) (account_after d opening events v)) (account_after d opening (events ++ e ∷ [])) 1 (length (beginnings events)) same
-      ∙ ap (map (account_after d opening (events ++ e ∷ []))) (sym (numbers-kept events e none))))
+      ∙ (map_same (λ v. if v == u.0 then more (total_of cs) (more (import_in (charges_by u.0 cs) v) (account_after d opening events v)) else more (import_in (charges_by u.0 cs) v) (account_after d opening events v)) (account_after d opening (events ++ e ∷ [])) 1 (length (begin_records events)) same
+      ∙ ap (map (account_after d opening (events ++ e ∷ []))) (sym (txn_numbers-unchanged events e none))))
     where
       imports : (t : ℕ) → import_in (charges d opening (events ++ e ∷ [])) t ≡ import_in (charges d opening events) t + import_in (charges_by u.0 cs) t
       imports t = import-push d opening events e t ∙ ap (λ (gs : List Charge). import_in (charges d opening events) t + import_in gs t) owed
@@ -110,7 +110,7 @@ module _ (d : ℕ → ℤ → ℤ → ℕ) (opening : List ℤ) (events : List E
 
       kept : (t : ℕ) (q : Bool) (i x : ℕ) → is_query events t ≡ q → (if q then import_in (charges d opening (events ++ e ∷ [])) t else export_in (charges d opening (events ++ e ∷ [])) t) ≡ (if q then i else x)
           → ◌≡◌ {A = Account} (record { number = record { 0 = t }; kind = kind_of q; limit = limit_of events t; amount = if q then i else x }) (account_after d opening (events ++ e ∷ []) t)
-      kept t q i x is amounts = grind (arith, query-kept events e none t, limit-kept events e none t)
+      kept t q i x is amounts = grind (arith, is_query-unchanged events e none t, limit-unchanged events e none t)
 
       at : (t : ℕ) (q : Bool) → is_query events t ≡ q → is_begun events t ≡ true
           → (if t == u.0 then more (total_of cs) (more (import_in (charges_by u.0 cs) t) (record { number = record { 0 = t }; kind = kind_of q; limit = limit_of events t; amount = if q then import_in (charges d opening events) t else export_in (charges d opening events) t })) else more (import_in (charges_by u.0 cs) t) (record { number = record { 0 = t }; kind = kind_of q; limit = limit_of events t; amount = if q then import_in (charges d opening events) t else export_in (charges d opening events) t })) ≡ account_after d opening (events ++ e ∷ []) t
@@ -127,7 +127,7 @@ module _ (d : ℕ → ℤ → ℤ → ℕ) (opening : List ℤ) (events : List E
                 rw (ne_eqb t u.0 ne, nothing) (kept t false 0 (export_in (charges d opening events) t + 0) is (exports t ∙ ap (λ b. export_in (charges d opening events) t + (if b then total_of cs else 0)) (ne_eqb u.0 t (λ (g : u.0 ≡ t). ne (sym g)))))
           ]
 
-      same : (t : ℕ) → 1 ≤ t → t < 1 + length (beginnings events) → (if t == u.0 then more (total_of cs) (more (import_in (charges_by u.0 cs) t) (account_after d opening events t)) else more (import_in (charges_by u.0 cs) t) (account_after d opening events t)) ≡ account_after d opening (events ++ e ∷ []) t
+      same : (t : ℕ) → 1 ≤ t → t < 1 + length (begin_records events) → (if t == u.0 then more (total_of cs) (more (import_in (charges_by u.0 cs) t) (account_after d opening events t)) else more (import_in (charges_by u.0 cs) t) (account_after d opening events t)) ≡ account_after d opening (events ++ e ∷ []) t
       same zero low high = absurd (omega arith)
       same (suc k) low high = at (suc k) (is_query events (suc k)) refl (begun_at events k (omega arith))
 
@@ -145,7 +145,7 @@ module _ (d : ℕ → ℤ → ℤ → ℕ) (opening : List ℤ) (events : List E
   are_charges-write u x amount update = record {
     update = open_update_is d opening events u.0 update;
     queries = All-from_recursion (λ (c : TxnId × ℕ). is_open_query (books_of d opening events) c.0.0 ≡ true) (charges_to amount (filter_map (query_reads events x) (txn_numbers events))) (each (txn_numbers events));
-    ascending = rise (filter_map (query_reads events x) (txn_numbers events)) (filter_map_ascends (λ (r : ℕ × ℕ). r.0) (query_reads events x) own 1 (length (beginnings events)));
+    ascending = rise (filter_map (query_reads events x) (txn_numbers events)) (filter_map_ascends (λ (r : ℕ × ℕ). r.0) (query_reads events x) own 1 (length (begin_records events)));
   }
     where
       each : (us : List ℕ) → AllByRecursion (λ (c : TxnId × ℕ). is_open_query (books_of d opening events) c.0.0 ≡ true) (charges_to amount (filter_map (query_reads events x) us))
@@ -173,7 +173,7 @@ module _ (d : ℕ → ℤ → ℤ → ℕ) (opening : List ℤ) (events : List E
       rise (r ∷ rs) asc = (above r.0 rs asc.0, rise rs asc.1)
 
 -- the quote of charges as the history's reasons
-module _ (d : Distance) (h : Schedule) where
+module _ (d : DistanceFunction) (h : Schedule) where
   first_import : (u : ℕ) (cs : List (TxnId × ℕ)) → AllByRecursion (λ (c : TxnId × ℕ). is_query (accepted_in h) c.0.0 ≡ true) cs
       → import_full d h (charges_by u cs) ≡ option_map (λ (c : TxnId × ℕ). BlockedByImport c.0) (find (λ (c : TxnId × ℕ). would_pass (books_of (d h.weights) h.opening (accepted_in h)) c.0.0 c.1) cs)
   first_import u [] all = refl

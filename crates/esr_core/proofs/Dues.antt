@@ -4,7 +4,7 @@ use Rattle.std.proofs.lemmas.List.Sums.{sum_by-cons}
 use Rattle.esr_items.specs.Values.{versions_at}
 use Rattle.esr_core.specs.Types.{Versions, ItemId, TxnId, Read, Write}
 use Rattle.esr_history.specs.Events.{is_query, is_update}
-use Rattle.esr_history.specs.Machine.{Distance, Schedule, Charge, accepted_in, due_in, charge_of_read, import_in, writer}
+use Rattle.esr_history.specs.Machine.{DistanceFunction, Schedule, Charge, accepted_in, due_in, charge_of_read, import_in, writer}
 use Rattle.esr_history.specs.ItemLocks.{ItemLocks}
 use Rattle.esr_history.specs.Imports.{imported}
 use Rattle.esr_ledgers.specs.declared.account.Account.{Account}
@@ -22,7 +22,7 @@ import_is_sum u (c ∷ cs) q =
     ∙ (ap (λ n. (if c.0.0 == q then c.1 else 0) + n) (import_is_sum u cs q)
     ∙ sym (sum_by-cons (λ (g : Charge). if g.query == q then g.amount else 0) (charge_to u c) (charges_by u cs)))
 
-module _ (d : Distance) (h : Schedule) (items : List Versions) (table : List Transaction) (locks : List ItemLocks) (accounts : List Account) (rep : Represents (d h.weights) h.opening (accepted_in h) items table locks accounts) where
+module _ (d : DistanceFunction) (h : Schedule) (items : List Versions) (table : List Transaction) (locks : List ItemLocks) (accounts : List Account) (rep : Represents (d h.weights) h.opening (accepted_in h) items table locks accounts) where
   pub owed_imports : (t : TxnId) (x : ItemId) (v : ℤ) (l : x.0 < length items) → is_update (accepted_in h) t.0 ≡ true → (q : ℕ)
       → imported (owed d h items table locks accounts rep t x v l) q ≡ import_in (due_in d h (Write t x v)) q
   owed_imports t x v l update q =

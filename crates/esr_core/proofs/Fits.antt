@@ -6,10 +6,10 @@ use Rattle.std.proofs.lemmas.List.{length-map}
 use Rattle.std.proofs.lemmas.List.FromFn.{length-map-range_with_len}
 use Rattle.esr_core.specs.Types.{Event, BeginUpdate, BeginQuery, Read, Write, Commit, Abort, Value, Entry}
 use Rattle.esr_core.specs.Carried.{active_numbers, new_number, carried_begin, carried_operation, carried_read, LawOfCarriedLength}
-use Rattle.esr_history.specs.Events.{is_refusal, beginning_of, beginnings, txn_numbers, is_active, is_query, is_update, current_value}
-use Rattle.esr_history.specs.Machine.{Distance, Schedule, accepted_in}
+use Rattle.esr_history.specs.Events.{is_refusal, begin_record_of, begin_records, txn_numbers, is_active, is_query, is_update, current_value}
+use Rattle.esr_history.specs.Machine.{DistanceFunction, Schedule, accepted_in}
 use Rattle.esr_history.specs.ReportBounds.{is_active_query}
-use Rattle.esr_history.proofs.Words.{query_not_update}
+use Rattle.esr_history.proofs.TraceAgreement.{query_not_update}
 
 kept_bounded : {X : Type 0} (p : X → Bool) (xs : List X) → length (filter p xs) ≤ length xs
 kept_bounded p [] = omega arith
@@ -26,7 +26,7 @@ count_if false y xs = omega arith
 range_length : (a n : ℕ) → length (range_with_len a n) ≡ n
 range_length a n = sym (length-map (range_with_len a n) (λ k. k)) ∙ length-map-range_with_len (λ k. k) a n
 
-module _ (d : Distance) (h : Schedule) where
+module _ (d : DistanceFunction) (h : Schedule) where
   apart : (t : ℕ) → cond (is_update (accepted_in h) t && is_active (accepted_in h) t) 1 0 + cond (is_active_query h t) 1 0 ≤ 1
   apart t = both (is_update (accepted_in h) t && is_active (accepted_in h) t) (is_active_query h t) (λ u q.
       true≢false (sym (and_parts (is_update (accepted_in h) t) (is_active (accepted_in h) t) u).0 ∙ query_not_update (accepted_in h) t (and_parts (is_query (accepted_in h) t) (is_active (accepted_in h) t) q).0))
@@ -43,14 +43,14 @@ module _ (d : Distance) (h : Schedule) where
 
   -- each accepted entry is carried at most once
   fewer : (es : List Entry) →
-      length (filter_map beginning_of (map (λ e. e.event) es))
+      length (filter_map begin_record_of (map (λ e. e.event) es))
       + (length (filter_map (λ e. carried_operation h e.reply e.event) es) + length (filter_map (carried_read h) (map (λ e. e.event) es))) ≤ length es
   fewer [] = omega arith
   fewer (e ∷ es) = at e.event (fewer es)
     where
-      at : (v : Event) → length (filter_map beginning_of (map (λ e. e.event) es))
+      at : (v : Event) → length (filter_map begin_record_of (map (λ e. e.event) es))
           + (length (filter_map (λ e. carried_operation h e.reply e.event) es) + length (filter_map (carried_read h) (map (λ e. e.event) es))) ≤ length es
-          → length (cons_option (beginning_of v) (filter_map beginning_of (map (λ e. e.event) es)))
+          → length (cons_option (begin_record_of v) (filter_map begin_record_of (map (λ e. e.event) es)))
           + (length (cons_option (carried_operation h e.reply v) (filter_map (λ e. carried_operation h e.reply e.event) es)) + length (cons_option (carried_read h v) (filter_map (carried_read h) (map (λ e. e.event) es)))) ≤ suc (length es)
       at (BeginUpdate limit) rest = omega (arith, rest)
       at (BeginQuery limit strict) rest = omega (arith, rest)
@@ -71,8 +71,8 @@ law_of_carried_length d h =
     let es : List Entry = filter (λ e. not (is_refusal e.reply)) h.entries in
     let begins : length (map (carried_begin d h) (active_numbers h)) ≡ length (active_numbers h) = length-map (active_numbers h) (carried_begin d h) in
     let active : length (active_numbers h) ≤ length (txn_numbers (accepted_in h)) = kept_bounded (is_active (accepted_in h)) (txn_numbers (accepted_in h)) in
-    let all : length (txn_numbers (accepted_in h)) ≡ length (beginnings (accepted_in h)) = range_length 1 (length (beginnings (accepted_in h))) in
-    let within_max : length (beginnings (accepted_in h)) + (length (filter_map (λ e. carried_operation h e.reply e.event) es) + length (filter_map (carried_read h) (accepted_in h))) ≤ length es = fewer d h es in
+    let all : length (txn_numbers (accepted_in h)) ≡ length (begin_records (accepted_in h)) = range_length 1 (length (begin_records (accepted_in h))) in
+    let within_max : length (begin_records (accepted_in h)) + (length (filter_map (λ e. carried_operation h e.reply e.event) es) + length (filter_map (carried_read h) (accepted_in h))) ≤ length es = fewer d h es in
     let kept : length es ≤ length h.entries = kept_bounded (λ e. not (is_refusal e.reply)) h.entries in
     rw (
       length-append (map (carried_begin d h) (active_numbers h)) (filter_map (λ e. carried_operation h e.reply e.event) es ++ filter_map (carried_read h) (accepted_in h)),

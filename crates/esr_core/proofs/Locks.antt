@@ -9,7 +9,7 @@ use Rattle.std.proofs.lemmas.List.Sums.{sum_by_push}
 use mathlib.Core.List.{map-map}
 use mathlib.Core.Bool.{and-true}
 use Rattle.esr_core.specs.Types.{ItemId, TxnId, Event, Read, Write}
-use Rattle.esr_history.specs.Events.{Beginning, beginning_of, beginnings, beginning, txn_numbers, commits, aborts, reads, writes, is_active, is_begun, is_query, is_update, holds_read, holds_write, read_count}
+use Rattle.esr_history.specs.Events.{BeginRecord, begin_record_of, begin_records, begin_record, txn_numbers, commits, aborts, reads, writes, is_active, is_begun, is_query, is_update, holds_read, holds_write, read_count}
 use Rattle.esr_history.specs.Machine.{writer}
 use Rattle.esr_history.specs.ItemLocks.{ItemLocks, query_reads, item_locks, locks_of}
 use Rattle.esr_history.specs.WellFormed.{IsWellFormed}
@@ -20,10 +20,10 @@ use Rattle.esr_history.proofs.WellFormed.{active_parts, update_begun}
 use Rattle.esr_history.proofs.LegalWellFormed.{begun_in_range}
 use Rattle.esr_history.proofs.Ranges.{map_same, set_range, filter_map_upserted, filter_map_dropped, filter-filter_map, kept_if, kept_if_own, find_same, any_in_filter, filter_in_any}
 use Rattle.esr_history.proofs.TraceOfHistory.{count_none}
-use Rattle.esr_history.proofs.Words.{query_not_update}
+use Rattle.esr_history.proofs.TraceAgreement.{query_not_update}
 use Rattle.esr_locks.specs.Tables.{locks_at, no_locks, is_writer, is_reader, with_reader, with_writer, with_query_read, released, blocks_read, blocks_write}
-use Rattle.esr_locks.proofs.Least.{IsSmallest-same}
-use Rattle.esr_core.proofs.Held.{active-kept, held-begin, IsBegin, numbers-kept, query-kept, update-kept, beginnings-begin, beginning-begin, not_named, read_names_reader, write_names_writer, update_or_query}
+use Rattle.esr_locks.proofs.Least.{IsSmallest-extensional}
+use Rattle.esr_core.proofs.Held.{is_active-unchanged, held-begin, IsBegin, txn_numbers-unchanged, is_query-unchanged, is_update-unchanged, begin_records-begin, begin_record-begin, next_number_is_unused, read_names_reader, write_names_writer, update_or_query}
 use Rattle.std.proofs.lemmas.Grind.{common_steps}
 
 -- whether update u is active and has written (read) item x, and so holds its lock
@@ -40,7 +40,7 @@ pub locks_at_item : (events : List Event) (n x : ℕ) → x < n → locks_at (lo
 locks_at_item events n x l = get_or-map-range_with_len (item_locks events) 0 n x x no_locks l (omega arith)
 
 -- the number of a lock holder is in 1..n if n transactions have begun
-holder_in_range : (events : List Event) (u : ℕ) (p : Bool) → (is_active events u && p) ≡ true → (1 ≤ u) × (u < 1 + length (beginnings events))
+holder_in_range : (events : List Event) (u : ℕ) (p : Bool) → (is_active events u && p) ≡ true → (1 ≤ u) × (u < 1 + length (begin_records events))
 holder_in_range events u p is = begun_in_range events u (active_parts events u (and_parts (is_active events u) p is).0).0
 
 filter_map_agree : {X : Type 0} (f g : ℕ → Option X) → ((u : ℕ) → f u ≡ g u) → (us : List ℕ) → filter_map f us ≡ filter_map g us
@@ -53,13 +53,13 @@ module _ (events : List Event) (o : IsWellFormed events) where
   one_writer x u v is_u is_v =
       same_Some u v (sym (o.exclusive u x (and_parts (is_update events u) (holds_write events u x) is_u).1) ∙ o.exclusive v x (and_parts (is_update events v) (holds_write events v x) is_v).1)
 
-  writer_in_range : (x u : ℕ) → update_holds_write events x u ≡ true → (1 ≤ u) × (u < 1 + length (beginnings events))
+  writer_in_range : (x u : ℕ) → update_holds_write events x u ≡ true → (1 ≤ u) × (u < 1 + length (begin_records events))
   writer_in_range x u is = holder_in_range events u (list_any (writes u x) events) (and_parts (is_update events u) (holds_write events u x) is).1
 
   -- the holder of the write lock is found
   pub writer_found : (x u : ℕ) → update_holds_write events x u ≡ true → writer events x ≡ Some u
   writer_found x u is =
-      find_least (update_holds_write events x) (length (beginnings events)) (Some u)
+      find_least (update_holds_write events x) (length (begin_records events)) (Some u)
       (is, λ v l. false_from_ne_true (update_holds_write events x v) (λ is_v. let e : v ≡ u = one_writer x v u is_v is in omega arith))
       (writer_in_range x)
 
@@ -79,16 +79,16 @@ module _ (events : List Event) (o : IsWellFormed events) where
   reader_is x u =
       elim (cases_Bool (update_holds_read events x u)) [
         | inl is ↦
-            let n : (1 ≤ u) × (u < 1 + length (beginnings events)) = holder_in_range events u (list_any (reads u x) events) (and_parts (is_update events u) (holds_read events u x) is).1 in
-            filter_in_any (update_holds_read events x) u 1 (length (beginnings events)) is n.0 n.1 ∙ sym is
+            let n : (1 ≤ u) × (u < 1 + length (begin_records events)) = holder_in_range events u (list_any (reads u x) events) (and_parts (is_update events u) (holds_read events u x) is).1 in
+            filter_in_any (update_holds_read events x) u 1 (length (begin_records events)) is n.0 n.1 ∙ sym is
         | inr isnt ↦ false_from_ne_true (is_reader (item_locks events x) u) (λ it. false≢true (sym isnt ∙ any_in_filter (update_holds_read events x) u (txn_numbers events) it)) ∙ sym isnt
       ]
 
   -- the search over all transactions finds the update that blocks a read
   pub find_read_blocker : (t x : ℕ) (r : Option ℕ) → IsSmallest (blocks_read (item_locks events x) t) r → find (λ u. not (u == t) && update_holds_write events x u) (txn_numbers events) ≡ r
   find_read_blocker t x r least =
-      find_least (λ u. not (u == t) && update_holds_write events x u) (length (beginnings events)) r
-      (IsSmallest-same (blocks_read (item_locks events x) t) (λ u. not (u == t) && update_holds_write events x u) r (λ u. ap (λ b. not (u == t) && b) (writer_is x u)) least)
+      find_least (λ u. not (u == t) && update_holds_write events x u) (length (begin_records events)) r
+      (IsSmallest-extensional (blocks_read (item_locks events x) t) (λ u. not (u == t) && update_holds_write events x u) r (λ u. ap (λ b. not (u == t) && b) (writer_is x u)) least)
       (λ u is. writer_in_range x u (and_parts (not (u == t)) (update_holds_write events x u) is).1)
 
   holds_either_lock : (u x : ℕ) → (update_holds_read events x u || update_holds_write events x u) ≡ (is_update events u && (holds_read events u x || holds_write events u x))
@@ -96,12 +96,12 @@ module _ (events : List Event) (o : IsWellFormed events) where
 
   pub find_write_blocker : (t x : ℕ) (r : Option ℕ) → IsSmallest (blocks_write (item_locks events x) t) r → find (λ u. not (u == t) && (is_update events u && (holds_read events u x || holds_write events u x))) (txn_numbers events) ≡ r
   find_write_blocker t x r least =
-      find_least (λ u. not (u == t) && (is_update events u && (holds_read events u x || holds_write events u x))) (length (beginnings events)) r
-      (IsSmallest-same (blocks_write (item_locks events x) t) (λ u. not (u == t) && (is_update events u && (holds_read events u x || holds_write events u x))) r
+      find_least (λ u. not (u == t) && (is_update events u && (holds_read events u x || holds_write events u x))) (length (begin_records events)) r
+      (IsSmallest-extensional (blocks_write (item_locks events x) t) (λ u. not (u == t) && (is_update events u && (holds_read events u x || holds_write events u x))) r
       (λ u. ap (λ b. not (u == t) && b) (ap (λ b. b || is_writer (item_locks events x) u) (reader_is x u) ∙ (ap (λ b. update_holds_read events x u || b) (writer_is x u) ∙ holds_either_lock u x))) least)
       number
     where
-      number : (u : ℕ) → (not (u == t) && (is_update events u && (holds_read events u x || holds_write events u x))) ≡ true → (1 ≤ u) × (u < 1 + length (beginnings events))
+      number : (u : ℕ) → (not (u == t) && (is_update events u && (holds_read events u x || holds_write events u x))) ≡ true → (1 ≤ u) × (u < 1 + length (begin_records events))
       number u is = begun_in_range events u (update_begun events u (and_parts (is_update events u) (holds_read events u x || holds_write events u x) (and_parts (not (u == t)) (is_update events u && (holds_read events u x || holds_write events u x)) is).1).0)
 
 locks_congruent : (w v : Option ℕ) (r s : List ℕ) (q p : List (ℕ × ℕ)) → w ≡ v → r ≡ s → q ≡ p → ◌≡◌ {A = ItemLocks} (record { writer = w; readers = r; queries = q }) (record { writer = v; readers = s; queries = p })
@@ -124,101 +124,101 @@ query_reads_keyed_by_query events x u y is = at (is_query events u && holds_read
     at false is' = absurd (cc)
 
 -- An event other than a begin, a commit or an abort.
-module _ (events : List Event) (e : Event) (none : beginning_of e ≡ None) (c : (t : ℕ) → commits t e ≡ false) (a : (t : ℕ) → aborts t e ≡ false) (x : ℕ) where
+module _ (events : List Event) (e : Event) (none : begin_record_of e ≡ None) (c : (t : ℕ) → commits t e ≡ false) (a : (t : ℕ) → aborts t e ≡ false) (x : ℕ) where
   update_holds_write-step : (u : ℕ) → update_holds_write (events ++ e ∷ []) x u ≡ (is_update events u && (is_active events u && (list_any (writes u x) events || writes u x e)))
-  update_holds_write-step u = rw (update-kept events e none u, active-kept events e none c a u, any_push (writes u x) events e) refl
+  update_holds_write-step u = rw (is_update-unchanged events e none u, is_active-unchanged events e none c a u, any_push (writes u x) events e) refl
 
   update_holds_read-step : (u : ℕ) → update_holds_read (events ++ e ∷ []) x u ≡ (is_update events u && (is_active events u && (list_any (reads u x) events || reads u x e)))
-  update_holds_read-step u = rw (update-kept events e none u, active-kept events e none c a u, any_push (reads u x) events e) refl
+  update_holds_read-step u = rw (is_update-unchanged events e none u, is_active-unchanged events e none c a u, any_push (reads u x) events e) refl
 
-  count-step : (u : ℕ) → read_count (events ++ e ∷ []) u x ≡ read_count events u x + (if reads u x e then 1 else 0)
-  count-step u = sum_by_push (λ f. if reads u x f then 1 else 0) events e
+  read_count-extended : (u : ℕ) → read_count (events ++ e ∷ []) u x ≡ read_count events u x + (if reads u x e then 1 else 0)
+  read_count-extended u = sum_by_push (λ f. if reads u x f then 1 else 0) events e
 
   query_reads-step : (u : ℕ) → query_reads (events ++ e ∷ []) x u ≡ (if is_query events u && (is_active events u && (list_any (reads u x) events || reads u x e)) then Some (u, read_count events u x + (if reads u x e then 1 else 0)) else None)
-  query_reads-step u = rw (query-kept events e none u, active-kept events e none c a u, any_push (reads u x) events e, count-step u) refl
+  query_reads-step u = rw (is_query-unchanged events e none u, is_active-unchanged events e none c a u, any_push (reads u x) events e, read_count-extended u) refl
 
-  update_holds_write-same : (u : ℕ) → writes u x e ≡ false → update_holds_write (events ++ e ∷ []) x u ≡ update_holds_write events x u
-  update_holds_write-same u fails = update_holds_write-step u ∙ ap (λ b. is_update events u && (is_active events u && b)) (ap (λ b. list_any (writes u x) events || b) fails ∙ or_false (list_any (writes u x) events))
+  update_holds_write-unchanged : (u : ℕ) → writes u x e ≡ false → update_holds_write (events ++ e ∷ []) x u ≡ update_holds_write events x u
+  update_holds_write-unchanged u fails = update_holds_write-step u ∙ ap (λ b. is_update events u && (is_active events u && b)) (ap (λ b. list_any (writes u x) events || b) fails ∙ or_false (list_any (writes u x) events))
 
-  update_holds_read-same : (u : ℕ) → reads u x e ≡ false → update_holds_read (events ++ e ∷ []) x u ≡ update_holds_read events x u
-  update_holds_read-same u fails = update_holds_read-step u ∙ ap (λ b. is_update events u && (is_active events u && b)) (ap (λ b. list_any (reads u x) events || b) fails ∙ or_false (list_any (reads u x) events))
+  update_holds_read-unchanged : (u : ℕ) → reads u x e ≡ false → update_holds_read (events ++ e ∷ []) x u ≡ update_holds_read events x u
+  update_holds_read-unchanged u fails = update_holds_read-step u ∙ ap (λ b. is_update events u && (is_active events u && b)) (ap (λ b. list_any (reads u x) events || b) fails ∙ or_false (list_any (reads u x) events))
 
-  query_reads-same : (u : ℕ) → reads u x e ≡ false → query_reads (events ++ e ∷ []) x u ≡ query_reads events x u
-  query_reads-same u fails = grind (arith, query_reads-step u, or_false (list_any (reads u x) events), add-zero (read_count events u x))
+  query_reads-unchanged : (u : ℕ) → reads u x e ≡ false → query_reads (events ++ e ∷ []) x u ≡ query_reads events x u
+  query_reads-unchanged u fails = grind (arith, query_reads-step u, or_false (list_any (reads u x) events), add-zero (read_count events u x))
 
   -- an event that neither reads nor writes the item leaves its locks unchanged
-  locks-other : ((u : ℕ) → writes u x e ≡ false) → ((u : ℕ) → reads u x e ≡ false) → item_locks (events ++ e ∷ []) x ≡ item_locks events x
-  locks-other w r = locks_extensional events (events ++ e ∷ []) x (numbers-kept events e none) (λ u. update_holds_write-same u (w u)) (λ u. update_holds_read-same u (r u)) (λ u. query_reads-same u (r u))
+  locks-unaffected : ((u : ℕ) → writes u x e ≡ false) → ((u : ℕ) → reads u x e ≡ false) → item_locks (events ++ e ∷ []) x ≡ item_locks events x
+  locks-unaffected w r = locks_extensional events (events ++ e ∷ []) x (txn_numbers-unchanged events e none) (λ u. update_holds_write-unchanged u (w u)) (λ u. update_holds_read-unchanged u (r u)) (λ u. query_reads-unchanged u (r u))
 
 -- a read by an update
 module _ (events : List Event) (t : TxnId) (x : ItemId) where
-  reads_it : reads t.0 x.0 (Read t x) ≡ true
-  reads_it = and_from (t.0 == t.0) (x.0 == x.0) (eq-eqb t.0 t.0 refl) (eq-eqb x.0 x.0 refl)
+  read_matches_itself : reads t.0 x.0 (Read t x) ≡ true
+  read_matches_itself = and_from (t.0 == t.0) (x.0 == x.0) (eq-eqb t.0 t.0 refl) (eq-eqb x.0 x.0 refl)
 
   no_other_reads : (u : ℕ) → (u ≡ t.0 → ⊥) → reads u x.0 (Read t x) ≡ false
   no_other_reads u ne = and_left (t.0 == u) (x.0 == x.0) (ne_eqb t.0 u (λ (f : t.0 ≡ u). ne (sym f)))
 
   writer_unchanged_by_read : writer (events ++ Read t x ∷ []) x.0 ≡ writer events x.0
-  writer_unchanged_by_read = ap (find (update_holds_write (events ++ Read t x ∷ []) x.0)) (numbers-kept events (Read t x) refl) ∙ find_same (update_holds_write (events ++ Read t x ∷ []) x.0) (update_holds_write events x.0) (λ u. update_holds_write-same events (Read t x) refl (λ v. refl) (λ v. refl) x.0 u refl) (txn_numbers events)
+  writer_unchanged_by_read = ap (find (update_holds_write (events ++ Read t x ∷ []) x.0)) (txn_numbers-unchanged events (Read t x) refl) ∙ find_same (update_holds_write (events ++ Read t x ∷ []) x.0) (update_holds_write events x.0) (λ u. update_holds_write-unchanged events (Read t x) refl (λ v. refl) (λ v. refl) x.0 u refl) (txn_numbers events)
 
   locks-read : is_update events t.0 ≡ true → is_active events t.0 ≡ true → item_locks (events ++ Read t x ∷ []) x.0 ≡ with_reader t.0 (item_locks events x.0)
   locks-read update act =
       let r : filter (update_holds_read (events ++ Read t x ∷ []) x.0) (txn_numbers (events ++ Read t x ∷ [])) ≡ upserted (λ u. u) t.0 t.0 (λ u. u) (filter (update_holds_read events x.0) (txn_numbers events)) =
-      ap (filter (update_holds_read (events ++ Read t x ∷ []) x.0)) (numbers-kept events (Read t x) refl)
+      ap (filter (update_holds_read (events ++ Read t x ∷ []) x.0)) (txn_numbers-unchanged events (Read t x) refl)
       ∙ (filter-filter_map (update_holds_read (events ++ Read t x ∷ []) x.0) (txn_numbers events)
       ∙ (filter_map_upserted (λ u. u) (kept_if (update_holds_read events x.0)) (kept_if_own (update_holds_read events x.0)) (kept_if (update_holds_read (events ++ Read t x ∷ []) x.0)) t.0 t.0 (λ u. u)
-      (λ u ne. ap (λ b. if b then Some u else None) (update_holds_read-same events (Read t x) refl (λ v. refl) (λ v. refl) x.0 u (no_other_reads u ne)))
-      (ap (λ b. if b then Some t.0 else None) reads_now ∙ was (update_holds_read events x.0 t.0))
-      1 (length (beginnings events)) number.0 number.1
+      (λ u ne. ap (λ b. if b then Some u else None) (update_holds_read-unchanged events (Read t x) refl (λ v. refl) (λ v. refl) x.0 u (no_other_reads u ne)))
+      (ap (λ b. if b then Some t.0 else None) holds_read_after ∙ was (update_holds_read events x.0 t.0))
+      1 (length (begin_records events)) number.0 number.1
       ∙ ap (upserted (λ u. u) t.0 t.0 (λ u. u)) (sym (filter-filter_map (update_holds_read events x.0) (txn_numbers events))))) in
       let q : filter_map (query_reads (events ++ Read t x ∷ []) x.0) (txn_numbers (events ++ Read t x ∷ [])) ≡ filter_map (query_reads events x.0) (txn_numbers events) =
-      ap (filter_map (query_reads (events ++ Read t x ∷ []) x.0)) (numbers-kept events (Read t x) refl) ∙ filter_map_agree (query_reads (events ++ Read t x ∷ []) x.0) (query_reads events x.0) queries (txn_numbers events) in
+      ap (filter_map (query_reads (events ++ Read t x ∷ []) x.0)) (txn_numbers-unchanged events (Read t x) refl) ∙ filter_map_agree (query_reads (events ++ Read t x ∷ []) x.0) (query_reads events x.0) queries (txn_numbers events) in
       locks_congruent (writer (events ++ Read t x ∷ []) x.0) (writer events x.0) (filter (update_holds_read (events ++ Read t x ∷ []) x.0) (txn_numbers (events ++ Read t x ∷ []))) (upserted (λ u. u) t.0 t.0 (λ u. u) (filter (update_holds_read events x.0) (txn_numbers events)))
       (filter_map (query_reads (events ++ Read t x ∷ []) x.0) (txn_numbers (events ++ Read t x ∷ []))) (filter_map (query_reads events x.0) (txn_numbers events)) writer_unchanged_by_read r q
     where
-      number : (1 ≤ t.0) × (t.0 < 1 + length (beginnings events))
+      number : (1 ≤ t.0) × (t.0 < 1 + length (begin_records events))
       number = begun_in_range events t.0 (update_begun events t.0 update)
 
-      reads_now : update_holds_read (events ++ Read t x ∷ []) x.0 t.0 ≡ true
-      reads_now =
+      holds_read_after : update_holds_read (events ++ Read t x ∷ []) x.0 t.0 ≡ true
+      holds_read_after =
           update_holds_read-step events (Read t x) refl (λ v. refl) (λ v. refl) x.0 t.0
           ∙ (ap (λ b. b && (is_active events t.0 && (list_any (reads t.0 x.0) events || reads t.0 x.0 (Read t x)))) update
           ∙ (ap (λ b. b && (list_any (reads t.0 x.0) events || reads t.0 x.0 (Read t x))) act
-          ∙ or_right (list_any (reads t.0 x.0) events) (reads t.0 x.0 (Read t x)) reads_it))
+          ∙ or_right (list_any (reads t.0 x.0) events) (reads t.0 x.0 (Read t x)) read_matches_itself))
 
       was : (b : Bool) → ◌≡◌ {A = Option ℕ} (Some t.0) (Some (unwrap_or (option_map (λ u. u) (if b then Some t.0 else None)) t.0))
       was true = refl
       was false = refl
 
       queries : (u : ℕ) → query_reads (events ++ Read t x ∷ []) x.0 u ≡ query_reads events x.0 u
-      queries u = grind (arith, cases_eq u t.0, query_reads-step events (Read t x) refl (λ v. refl) (λ v. refl) x.0 u, query_reads-same events (Read t x) refl (λ v. refl) (λ v. refl) x.0 u, no_other_reads u, update_or_query events t.0 update)
+      queries u = grind (arith, cases_eq u t.0, query_reads-step events (Read t x) refl (λ v. refl) (λ v. refl) x.0 u, query_reads-unchanged events (Read t x) refl (λ v. refl) (λ v. refl) x.0 u, no_other_reads u, update_or_query events t.0 update)
 
   -- a read by a query
   locks-query_read : is_query events t.0 ≡ true → is_active events t.0 ≡ true → item_locks (events ++ Read t x ∷ []) x.0 ≡ with_query_read t.0 (item_locks events x.0)
   locks-query_read query act =
       let r : filter (update_holds_read (events ++ Read t x ∷ []) x.0) (txn_numbers (events ++ Read t x ∷ [])) ≡ filter (update_holds_read events x.0) (txn_numbers events) =
-      ap (filter (update_holds_read (events ++ Read t x ∷ []) x.0)) (numbers-kept events (Read t x) refl) ∙ filter_agree (update_holds_read (events ++ Read t x ∷ []) x.0) (update_holds_read events x.0) readers (txn_numbers events) in
+      ap (filter (update_holds_read (events ++ Read t x ∷ []) x.0)) (txn_numbers-unchanged events (Read t x) refl) ∙ filter_agree (update_holds_read (events ++ Read t x ∷ []) x.0) (update_holds_read events x.0) readers (txn_numbers events) in
       let q : filter_map (query_reads (events ++ Read t x ∷ []) x.0) (txn_numbers (events ++ Read t x ∷ [])) ≡ upserted (λ (p : ℕ × ℕ). p.0) t.0 (t.0, 1) (λ (p : ℕ × ℕ). (p.0, p.1 + 1)) (filter_map (query_reads events x.0) (txn_numbers events)) =
-      ap (filter_map (query_reads (events ++ Read t x ∷ []) x.0)) (numbers-kept events (Read t x) refl)
+      ap (filter_map (query_reads (events ++ Read t x ∷ []) x.0)) (txn_numbers-unchanged events (Read t x) refl)
       ∙ filter_map_upserted (λ (p : ℕ × ℕ). p.0) (query_reads events x.0) (query_reads_keyed_by_query events x.0) (query_reads (events ++ Read t x ∷ []) x.0) t.0 (t.0, 1) (λ (p : ℕ × ℕ). (p.0, p.1 + 1))
-      (λ u ne. query_reads-same events (Read t x) refl (λ v. refl) (λ v. refl) x.0 u (no_other_reads u ne))
-      (reads_now ∙ was (list_any (reads t.0 x.0) events) refl)
-      1 (length (beginnings events)) number.0 number.1 in
+      (λ u ne. query_reads-unchanged events (Read t x) refl (λ v. refl) (λ v. refl) x.0 u (no_other_reads u ne))
+      (holds_read_after ∙ was (list_any (reads t.0 x.0) events) refl)
+      1 (length (begin_records events)) number.0 number.1 in
       locks_congruent (writer (events ++ Read t x ∷ []) x.0) (writer events x.0) (filter (update_holds_read (events ++ Read t x ∷ []) x.0) (txn_numbers (events ++ Read t x ∷ []))) (filter (update_holds_read events x.0) (txn_numbers events))
       (filter_map (query_reads (events ++ Read t x ∷ []) x.0) (txn_numbers (events ++ Read t x ∷ []))) (upserted (λ (p : ℕ × ℕ). p.0) t.0 (t.0, 1) (λ (p : ℕ × ℕ). (p.0, p.1 + 1)) (filter_map (query_reads events x.0) (txn_numbers events))) writer_unchanged_by_read r q
     where
-      number : (1 ≤ t.0) × (t.0 < 1 + length (beginnings events))
+      number : (1 ≤ t.0) × (t.0 < 1 + length (begin_records events))
       number = begun_in_range events t.0 (active_parts events t.0 act).0
 
       readers : (u : ℕ) → update_holds_read (events ++ Read t x ∷ []) x.0 u ≡ update_holds_read events x.0 u
-      readers u = grind (arith, cases_eq u t.0, update_holds_read-step events (Read t x) refl (λ v. refl) (λ v. refl) x.0 u, update_holds_read-same events (Read t x) refl (λ v. refl) (λ v. refl) x.0 u, no_other_reads u, query_not_update events t.0 query)
+      readers u = grind (arith, cases_eq u t.0, update_holds_read-step events (Read t x) refl (λ v. refl) (λ v. refl) x.0 u, update_holds_read-unchanged events (Read t x) refl (λ v. refl) (λ v. refl) x.0 u, no_other_reads u, query_not_update events t.0 query)
 
-      reads_now : query_reads (events ++ Read t x ∷ []) x.0 t.0 ≡ Some (t.0, read_count events t.0 x.0 + 1)
-      reads_now =
+      holds_read_after : query_reads (events ++ Read t x ∷ []) x.0 t.0 ≡ Some (t.0, read_count events t.0 x.0 + 1)
+      holds_read_after =
           query_reads-step events (Read t x) refl (λ v. refl) (λ v. refl) x.0 t.0
           ∙ (ap (λ b. if b && (is_active events t.0 && (list_any (reads t.0 x.0) events || reads t.0 x.0 (Read t x))) then Some (t.0, read_count events t.0 x.0 + (if reads t.0 x.0 (Read t x) then 1 else 0)) else None) query
           ∙ (ap (λ b. if b && (list_any (reads t.0 x.0) events || reads t.0 x.0 (Read t x)) then Some (t.0, read_count events t.0 x.0 + (if reads t.0 x.0 (Read t x) then 1 else 0)) else None) act
-          ∙ (ap (λ b. if list_any (reads t.0 x.0) events || b then Some (t.0, read_count events t.0 x.0 + (if b then 1 else 0)) else None) reads_it
+          ∙ (ap (λ b. if list_any (reads t.0 x.0) events || b then Some (t.0, read_count events t.0 x.0 + (if b then 1 else 0)) else None) read_matches_itself
           ∙ ap (λ b. if b then Some (t.0, read_count events t.0 x.0 + 1) else None) (or_right (list_any (reads t.0 x.0) events) true refl))))
 
       was : (b : Bool) → list_any (reads t.0 x.0) events ≡ b → ◌≡◌ {A = Option (ℕ × ℕ)} (Some (t.0, read_count events t.0 x.0 + 1)) (Some (unwrap_or (option_map (λ (p : ℕ × ℕ). (p.0, p.1 + 1)) (query_reads events x.0 t.0)) (t.0, 1)))
@@ -232,9 +232,9 @@ module _ (events : List Event) (t : TxnId) (x : ItemId) (v : ℤ) where
   locks-write o update act =
       let w : writer (events ++ Write t x v ∷ []) x.0 ≡ Some t.0 = writer_found (events ++ Write t x v ∷ []) o x.0 t.0 writes_now in
       let r : filter (update_holds_read (events ++ Write t x v ∷ []) x.0) (txn_numbers (events ++ Write t x v ∷ [])) ≡ filter (update_holds_read events x.0) (txn_numbers events) =
-      ap (filter (update_holds_read (events ++ Write t x v ∷ []) x.0)) (numbers-kept events (Write t x v) refl) ∙ filter_agree (update_holds_read (events ++ Write t x v ∷ []) x.0) (update_holds_read events x.0) (λ u. update_holds_read-same events (Write t x v) refl (λ w. refl) (λ w. refl) x.0 u refl) (txn_numbers events) in
+      ap (filter (update_holds_read (events ++ Write t x v ∷ []) x.0)) (txn_numbers-unchanged events (Write t x v) refl) ∙ filter_agree (update_holds_read (events ++ Write t x v ∷ []) x.0) (update_holds_read events x.0) (λ u. update_holds_read-unchanged events (Write t x v) refl (λ w. refl) (λ w. refl) x.0 u refl) (txn_numbers events) in
       let q : filter_map (query_reads (events ++ Write t x v ∷ []) x.0) (txn_numbers (events ++ Write t x v ∷ [])) ≡ filter_map (query_reads events x.0) (txn_numbers events) =
-      ap (filter_map (query_reads (events ++ Write t x v ∷ []) x.0)) (numbers-kept events (Write t x v) refl) ∙ filter_map_agree (query_reads (events ++ Write t x v ∷ []) x.0) (query_reads events x.0) (λ u. query_reads-same events (Write t x v) refl (λ w. refl) (λ w. refl) x.0 u refl) (txn_numbers events) in
+      ap (filter_map (query_reads (events ++ Write t x v ∷ []) x.0)) (txn_numbers-unchanged events (Write t x v) refl) ∙ filter_map_agree (query_reads (events ++ Write t x v ∷ []) x.0) (query_reads events x.0) (λ u. query_reads-unchanged events (Write t x v) refl (λ w. refl) (λ w. refl) x.0 u refl) (txn_numbers events) in
       locks_congruent (writer (events ++ Write t x v ∷ []) x.0) (Some t.0) (filter (update_holds_read (events ++ Write t x v ∷ []) x.0) (txn_numbers (events ++ Write t x v ∷ []))) (filter (update_holds_read events x.0) (txn_numbers events))
       (filter_map (query_reads (events ++ Write t x v ∷ []) x.0) (txn_numbers (events ++ Write t x v ∷ []))) (filter_map (query_reads events x.0) (txn_numbers events)) w r q
     where
@@ -246,7 +246,7 @@ module _ (events : List Event) (t : TxnId) (x : ItemId) (v : ℤ) where
           ∙ or_right (list_any (writes t.0 x.0) events) (writes t.0 x.0 (Write t x v)) (and_from (t.0 == t.0) (x.0 == x.0) (eq-eqb t.0 t.0 refl) (eq-eqb x.0 x.0 refl))))
 
 -- the end of a transaction
-module _ (events : List Event) (o : IsWellFormed events) (e : Event) (none : beginning_of e ≡ None) (t : ℕ) (ends : (u : ℕ) → is_active (events ++ e ∷ []) u ≡ (is_active events u && not (t == u)))
+module _ (events : List Event) (o : IsWellFormed events) (e : Event) (none : begin_record_of e ≡ None) (t : ℕ) (ends : (u : ℕ) → is_active (events ++ e ∷ []) u ≡ (is_active events u && not (t == u)))
     (no_reads : (u x : ℕ) → reads u x e ≡ false) (no_writes : (u x : ℕ) → writes u x e ≡ false) (x : ℕ) where
   and_not_swap : (a b e' c : Bool) → (a && ((b && not e') && c)) ≡ ((a && (b && c)) && not e')
   and_not_swap true true true c = sym (and_right c false refl)
@@ -256,18 +256,18 @@ module _ (events : List Event) (o : IsWellFormed events) (e : Event) (none : beg
   and_not_swap false b e' c = refl
 
   update_holds_write-end : (u : ℕ) → update_holds_write (events ++ e ∷ []) x u ≡ (update_holds_write events x u && not (t == u))
-  update_holds_write-end u = rw (update-kept events e none u, ends u, any_push_no (writes u x) events e (no_writes u x)) (and_not_swap (is_update events u) (is_active events u) (t == u) (list_any (writes u x) events))
+  update_holds_write-end u = rw (is_update-unchanged events e none u, ends u, any_push_no (writes u x) events e (no_writes u x)) (and_not_swap (is_update events u) (is_active events u) (t == u) (list_any (writes u x) events))
 
   update_holds_read-end : (u : ℕ) → update_holds_read (events ++ e ∷ []) x u ≡ (update_holds_read events x u && not (t == u))
-  update_holds_read-end u = rw (update-kept events e none u, ends u, any_push_no (reads u x) events e (no_reads u x)) (and_not_swap (is_update events u) (is_active events u) (t == u) (list_any (reads u x) events))
+  update_holds_read-end u = rw (is_update-unchanged events e none u, ends u, any_push_no (reads u x) events e (no_reads u x)) (and_not_swap (is_update events u) (is_active events u) (t == u) (list_any (reads u x) events))
 
-  count-end : (u : ℕ) → read_count (events ++ e ∷ []) u x ≡ read_count events u x
-  count-end u = sum_by_push (λ f. if reads u x f then 1 else 0) events e ∙ (ap (λ b. read_count events u x + (if b then 1 else 0)) (no_reads u x) ∙ add-zero (read_count events u x))
+  read_count-unchanged_by_end : (u : ℕ) → read_count (events ++ e ∷ []) u x ≡ read_count events u x
+  read_count-unchanged_by_end u = sum_by_push (λ f. if reads u x f then 1 else 0) events e ∙ (ap (λ b. read_count events u x + (if b then 1 else 0)) (no_reads u x) ∙ add-zero (read_count events u x))
 
   query_reads-end : (u : ℕ) → query_reads (events ++ e ∷ []) x u ≡ (if (is_query events u && holds_read events u x) && not (t == u) then Some (u, read_count events u x) else None)
   query_reads-end u =
-      ap (λ n. if is_query (events ++ e ∷ []) u && holds_read (events ++ e ∷ []) u x then Some (u, n) else None) (count-end u)
-      ∙ ap (λ b. if b then Some (u, read_count events u x) else None) (rw (query-kept events e none u, ends u, any_push_no (reads u x) events e (no_reads u x)) (and_not_swap (is_query events u) (is_active events u) (t == u) (list_any (reads u x) events)))
+      ap (λ n. if is_query (events ++ e ∷ []) u && holds_read (events ++ e ∷ []) u x then Some (u, n) else None) (read_count-unchanged_by_end u)
+      ∙ ap (λ b. if b then Some (u, read_count events u x) else None) (rw (is_query-unchanged events e none u, ends u, any_push_no (reads u x) events e (no_reads u x)) (and_not_swap (is_query events u) (is_active events u) (t == u) (list_any (reads u x) events)))
 
   and_not_other : (b : Bool) (u : ℕ) → (u ≡ t → ⊥) → (b && not (t == u)) ≡ b
   and_not_other b u ne = ap (λ c. b && not c) (ne_eqb t u (λ (f : t ≡ u). ne (sym f))) ∙ and-true b
@@ -278,20 +278,20 @@ module _ (events : List Event) (o : IsWellFormed events) (e : Event) (none : beg
   pub locks-end : item_locks (events ++ e ∷ []) x ≡ released t (item_locks events x)
   locks-end =
       let r : filter (update_holds_read (events ++ e ∷ []) x) (txn_numbers (events ++ e ∷ [])) ≡ filter (λ u. not (u == t)) (filter (update_holds_read events x) (txn_numbers events)) =
-      ap (filter (update_holds_read (events ++ e ∷ []) x)) (numbers-kept events e none)
+      ap (filter (update_holds_read (events ++ e ∷ []) x)) (txn_numbers-unchanged events e none)
       ∙ (filter-filter_map (update_holds_read (events ++ e ∷ []) x) (txn_numbers events)
       ∙ (filter_map_dropped (λ u. u) (kept_if (update_holds_read events x)) (kept_if_own (update_holds_read events x)) (kept_if (update_holds_read (events ++ e ∷ []) x)) t
       (λ u ne. ap (λ b. if b then Some u else None) (update_holds_read-end u ∙ and_not_other (update_holds_read events x u) u ne))
       (ap (λ b. if b then Some t else None) (update_holds_read-end t ∙ and_not_self (update_holds_read events x t))) (txn_numbers events)
       ∙ ap (filter (λ u. not (u == t))) (sym (filter-filter_map (update_holds_read events x) (txn_numbers events))))) in
       let q : filter_map (query_reads (events ++ e ∷ []) x) (txn_numbers (events ++ e ∷ [])) ≡ filter (λ (p : ℕ × ℕ). not (p.0 == t)) (filter_map (query_reads events x) (txn_numbers events)) =
-      ap (filter_map (query_reads (events ++ e ∷ []) x)) (numbers-kept events e none)
+      ap (filter_map (query_reads (events ++ e ∷ []) x)) (txn_numbers-unchanged events e none)
       ∙ filter_map_dropped (λ (p : ℕ × ℕ). p.0) (query_reads events x) (query_reads_keyed_by_query events x) (query_reads (events ++ e ∷ []) x) t
       (λ u ne. query_reads-end u ∙ ap (λ b. if b then Some (u, read_count events u x) else None) (and_not_other (is_query events u && holds_read events u x) u ne))
       (query_reads-end t ∙ ap (λ b. if b then Some (t, read_count events t x) else None) (and_not_self (is_query events t && holds_read events t x))) (txn_numbers events) in
       locks_congruent (writer (events ++ e ∷ []) x) (if is_writer (item_locks events x) t then None else writer events x) (filter (update_holds_read (events ++ e ∷ []) x) (txn_numbers (events ++ e ∷ []))) (filter (λ u. not (u == t)) (filter (update_holds_read events x) (txn_numbers events)))
       (filter_map (query_reads (events ++ e ∷ []) x) (txn_numbers (events ++ e ∷ []))) (filter (λ (p : ℕ × ℕ). not (p.0 == t)) (filter_map (query_reads events x) (txn_numbers events)))
-      (ap (find (update_holds_write (events ++ e ∷ []) x)) (numbers-kept events e none) ∙ writers (update_holds_write events x t) refl) r q
+      (ap (find (update_holds_write (events ++ e ∷ []) x)) (txn_numbers-unchanged events e none) ∙ writers (update_holds_write events x t) refl) r q
     where
       writers : (b : Bool) → update_holds_write events x t ≡ b → find (update_holds_write (events ++ e ∷ []) x) (txn_numbers events) ≡ (if is_writer (item_locks events x) t then None else writer events x)
       writers true is =
@@ -330,9 +330,9 @@ find_range_push p a n fails = ap (find p) (range-push a n) ∙ at (range_with_le
           | inr isnt ↦ rw isnt (at us)
         ]
 
-module _ (events : List Event) (o : IsWellFormed events) (e : Event) (b : Beginning) (is : IsBegin e b) (x : ℕ) where
-  longer : txn_numbers (events ++ e ∷ []) ≡ range_with_len 1 (length (beginnings events) + 1)
-  longer = ap (λ (bs : List Beginning). range_with_len 1 (length bs)) (beginnings-begin events e b is) ∙ ap (range_with_len 1) (length-append (beginnings events) (b ∷ []))
+module _ (events : List Event) (o : IsWellFormed events) (e : Event) (b : BeginRecord) (is : IsBegin e b) (x : ℕ) where
+  longer : txn_numbers (events ++ e ∷ []) ≡ range_with_len 1 (length (begin_records events) + 1)
+  longer = ap (λ (bs : List BeginRecord). range_with_len 1 (length bs)) (begin_records-begin events e b is) ∙ ap (range_with_len 1) (length-append (begin_records events) (b ∷ []))
 
   holds_read-begin : (u : ℕ) → holds_read (events ++ e ∷ []) u x ≡ holds_read events u x
   holds_read-begin u = held-begin events o e (reads u x) u is.commits_none is.aborts_none (is.reads_none u x) (read_names_reader u x)
@@ -341,30 +341,30 @@ module _ (events : List Event) (o : IsWellFormed events) (e : Event) (b : Beginn
   holds_write-begin u = held-begin events o e (writes u x) u is.commits_none is.aborts_none (is.writes_none u x) (write_names_writer u x)
 
   -- a lock holder has begun before, so the new begin does not change its kind
-  kind-same : (k : Option Beginning → Bool) (u : ℕ) (p : Bool) → (p ≡ true → is_begun events u ≡ true) → (k (beginning (events ++ e ∷ []) u) && p) ≡ (k (beginning events u) && p)
-  kind-same k u true begun = ap (λ w. k w && true) (beginning-begin events e u (begun refl))
-  kind-same k u false begun = and_right (k (beginning (events ++ e ∷ []) u)) false refl ∙ sym (and_right (k (beginning events u)) false refl)
+  kind-unchanged : (k : Option BeginRecord → Bool) (u : ℕ) (p : Bool) → (p ≡ true → is_begun events u ≡ true) → (k (begin_record (events ++ e ∷ []) u) && p) ≡ (k (begin_record events u) && p)
+  kind-unchanged k u true begun = ap (λ w. k w && true) (begin_record-begin events e u (begun refl))
+  kind-unchanged k u false begun = and_right (k (begin_record (events ++ e ∷ []) u)) false refl ∙ sym (and_right (k (begin_record events u)) false refl)
 
   begun_holder : (u : ℕ) (p : Bool) → (is_active events u && p) ≡ true → is_begun events u ≡ true
   begun_holder u p held = (active_parts events u (and_parts (is_active events u) p held).0).0
 
   update_holds_write-begin : (u : ℕ) → update_holds_write (events ++ e ∷ []) x u ≡ update_holds_write events x u
-  update_holds_write-begin u = ap (λ p. is_update (events ++ e ∷ []) u && p) (holds_write-begin u) ∙ kind-same (λ w. unwrap_or (option_map (λ c. not c.query) w) false) u (holds_write events u x) (begun_holder u (list_any (writes u x) events))
+  update_holds_write-begin u = ap (λ p. is_update (events ++ e ∷ []) u && p) (holds_write-begin u) ∙ kind-unchanged (λ w. unwrap_or (option_map (λ c. not c.query) w) false) u (holds_write events u x) (begun_holder u (list_any (writes u x) events))
 
   update_holds_read-begin : (u : ℕ) → update_holds_read (events ++ e ∷ []) x u ≡ update_holds_read events x u
-  update_holds_read-begin u = ap (λ p. is_update (events ++ e ∷ []) u && p) (holds_read-begin u) ∙ kind-same (λ w. unwrap_or (option_map (λ c. not c.query) w) false) u (holds_read events u x) (begun_holder u (list_any (reads u x) events))
+  update_holds_read-begin u = ap (λ p. is_update (events ++ e ∷ []) u && p) (holds_read-begin u) ∙ kind-unchanged (λ w. unwrap_or (option_map (λ c. not c.query) w) false) u (holds_read events u x) (begun_holder u (list_any (reads u x) events))
 
   query_reads-begin : (u : ℕ) → query_reads (events ++ e ∷ []) x u ≡ query_reads events x u
   query_reads-begin u =
       ap (λ n. if is_query (events ++ e ∷ []) u && holds_read (events ++ e ∷ []) u x then Some (u, n) else None) (sum_by_push (λ f. if reads u x f then 1 else 0) events e ∙ (ap (λ c. read_count events u x + (if c then 1 else 0)) (is.reads_none u x) ∙ add-zero (read_count events u x)))
-      ∙ ap (λ p. if p then Some (u, read_count events u x) else None) (ap (λ p. is_query (events ++ e ∷ []) u && p) (holds_read-begin u) ∙ kind-same (λ w. unwrap_or (option_map (λ c. c.query) w) false) u (holds_read events u x) (begun_holder u (list_any (reads u x) events)))
+      ∙ ap (λ p. if p then Some (u, read_count events u x) else None) (ap (λ p. is_query (events ++ e ∷ []) u && p) (holds_read-begin u) ∙ kind-unchanged (λ w. unwrap_or (option_map (λ c. c.query) w) false) u (holds_read events u x) (begun_holder u (list_any (reads u x) events)))
 
   pub locks-begin : item_locks (events ++ e ∷ []) x ≡ item_locks events x
   locks-begin =
-      let n = length (beginnings events) in
+      let n = length (begin_records events) in
       let number : 1 + n ≡ suc n = omega arith in
-      let no_write : holds_write events (1 + n) x ≡ false = ap (λ k. holds_write events k x) number ∙ and_right (is_active events (suc n)) (list_any (writes (suc n) x) events) (not_named events o (writes (suc n) x) (write_names_writer (suc n) x)) in
-      let no_read : holds_read events (1 + n) x ≡ false = ap (λ k. holds_read events k x) number ∙ and_right (is_active events (suc n)) (list_any (reads (suc n) x) events) (not_named events o (reads (suc n) x) (read_names_reader (suc n) x)) in
+      let no_write : holds_write events (1 + n) x ≡ false = ap (λ k. holds_write events k x) number ∙ and_right (is_active events (suc n)) (list_any (writes (suc n) x) events) (next_number_is_unused events o (writes (suc n) x) (write_names_writer (suc n) x)) in
+      let no_read : holds_read events (1 + n) x ≡ false = ap (λ k. holds_read events k x) number ∙ and_right (is_active events (suc n)) (list_any (reads (suc n) x) events) (next_number_is_unused events o (reads (suc n) x) (read_names_reader (suc n) x)) in
       let w : writer (events ++ e ∷ []) x ≡ writer events x =
       ap (find (update_holds_write (events ++ e ∷ []) x)) longer
       ∙ (find_same (update_holds_write (events ++ e ∷ []) x) (update_holds_write events x) update_holds_write-begin (range_with_len 1 (n + 1))
@@ -385,7 +385,7 @@ module _ (events : List Event) (o : IsWellFormed events) (e : Event) (b : Beginn
 
 -- The locks on all items, after each event.
 
-pub locks_of-begin : (events : List Event) → IsWellFormed events → (e : Event) (b : Beginning) → IsBegin e b → (n : ℕ) → locks_of (events ++ e ∷ []) n ≡ locks_of events n
+pub locks_of-begin : (events : List Event) → IsWellFormed events → (e : Event) (b : BeginRecord) → IsBegin e b → (n : ℕ) → locks_of (events ++ e ∷ []) n ≡ locks_of events n
 locks_of-begin events o e b is n = map_same (item_locks (events ++ e ∷ [])) (item_locks events) 0 n (λ x low high. locks-begin events o e b is x)
 
 item_locks_set : (events : List Event) (e : Event) (n x : ℕ) (f : ItemLocks → ItemLocks) → x < n → item_locks (events ++ e ∷ []) x ≡ f (item_locks events x) → ((y : ℕ) → (y ≡ x → ⊥) → item_locks (events ++ e ∷ []) y ≡ item_locks events y)
@@ -395,19 +395,19 @@ item_locks_set events e n x f l here other = grind (arith, set_range, locks_at_i
 pub locks_of-read : (events : List Event) (t : TxnId) (x : ItemId) (n : ℕ) → x.0 < n → is_update events t.0 ≡ true → is_active events t.0 ≡ true → set (locks_of events n) x.0 (with_reader t.0 (locks_at (locks_of events n) x.0)) ≡ locks_of (events ++ Read t x ∷ []) n
 locks_of-read events t x n l update act =
     item_locks_set events (Read t x) n x.0 (with_reader t.0) l (locks-read events t x update act)
-    (λ y ne. locks-other events (Read t x) refl (λ w. refl) (λ w. refl) y (λ u. refl) (λ u. and_right (t.0 == u) (x.0 == y) (ne_eqb x.0 y (λ (f : x.0 ≡ y). ne (sym f)))))
+    (λ y ne. locks-unaffected events (Read t x) refl (λ w. refl) (λ w. refl) y (λ u. refl) (λ u. and_right (t.0 == u) (x.0 == y) (ne_eqb x.0 y (λ (f : x.0 ≡ y). ne (sym f)))))
 
 pub locks_of-query_read : (events : List Event) (t : TxnId) (x : ItemId) (n : ℕ) → x.0 < n → is_query events t.0 ≡ true → is_active events t.0 ≡ true → set (locks_of events n) x.0 (with_query_read t.0 (locks_at (locks_of events n) x.0)) ≡ locks_of (events ++ Read t x ∷ []) n
 locks_of-query_read events t x n l query act =
     item_locks_set events (Read t x) n x.0 (with_query_read t.0) l (locks-query_read events t x query act)
-    (λ y ne. locks-other events (Read t x) refl (λ w. refl) (λ w. refl) y (λ u. refl) (λ u. and_right (t.0 == u) (x.0 == y) (ne_eqb x.0 y (λ (f : x.0 ≡ y). ne (sym f)))))
+    (λ y ne. locks-unaffected events (Read t x) refl (λ w. refl) (λ w. refl) y (λ u. refl) (λ u. and_right (t.0 == u) (x.0 == y) (ne_eqb x.0 y (λ (f : x.0 ≡ y). ne (sym f)))))
 
 pub locks_of-write : (events : List Event) (t : TxnId) (x : ItemId) (v : ℤ) (n : ℕ) → x.0 < n → IsWellFormed (events ++ Write t x v ∷ []) → is_update events t.0 ≡ true → is_active events t.0 ≡ true → set (locks_of events n) x.0 (with_writer t.0 (locks_at (locks_of events n) x.0)) ≡ locks_of (events ++ Write t x v ∷ []) n
 locks_of-write events t x v n l o update act =
     item_locks_set events (Write t x v) n x.0 (with_writer t.0) l (locks-write events t x v o update act)
-    (λ y ne. locks-other events (Write t x v) refl (λ w. refl) (λ w. refl) y (λ u. and_right (t.0 == u) (x.0 == y) (ne_eqb x.0 y (λ (f : x.0 ≡ y). ne (sym f)))) (λ u. refl))
+    (λ y ne. locks-unaffected events (Write t x v) refl (λ w. refl) (λ w. refl) y (λ u. and_right (t.0 == u) (x.0 == y) (ne_eqb x.0 y (λ (f : x.0 ≡ y). ne (sym f)))) (λ u. refl))
 
-pub locks_of-end : (events : List Event) → IsWellFormed events → (e : Event) → beginning_of e ≡ None → (t : ℕ) → ((u : ℕ) → is_active (events ++ e ∷ []) u ≡ (is_active events u && not (t == u)))
+pub locks_of-end : (events : List Event) → IsWellFormed events → (e : Event) → begin_record_of e ≡ None → (t : ℕ) → ((u : ℕ) → is_active (events ++ e ∷ []) u ≡ (is_active events u && not (t == u)))
     → ((u x : ℕ) → reads u x e ≡ false) → ((u x : ℕ) → writes u x e ≡ false) → (n : ℕ) → map (released t) (locks_of events n) ≡ locks_of (events ++ e ∷ []) n
 locks_of-end events o e none t ends r w n =
     map-map (released t) (item_locks events) (range_with_len 0 n) ∙ map_same (λ x. released t (item_locks events x)) (item_locks (events ++ e ∷ [])) 0 n (λ x low high. sym (locks-end events o e none t ends r w x))

@@ -7,7 +7,7 @@ use Rattle.esr_history.specs.Events.{kind_of, is_query_kind, txn_numbers, is_que
 use Rattle.esr_history.specs.Machine.{charges, import_in, export_in}
 use Rattle.esr_history.proofs.KindLaws.{query_kind}
 use Rattle.esr_history.proofs.Sides.{charges_kinds, no_import, no_export}
-use Rattle.esr_history.proofs.Words.{query_not_update}
+use Rattle.esr_history.proofs.TraceAgreement.{query_not_update}
 use Rattle.esr_ledgers.specs.declared.account.Account.{Account}
 use Rattle.esr_ledgers.specs.Books.{imports, exports}
 use Rattle.esr_core.specs.Represented.{account_after, books_of}

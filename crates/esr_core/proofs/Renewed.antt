@@ -6,7 +6,7 @@ use Rattle.std.proofs.lemmas.List.FromFn.{get_or-map-range_with_len, length-map-
 use Rattle.esr_items.specs.Values.{value_at, both_versions}
 use Rattle.esr_core.specs.Types.{Versions, Event}
 use Rattle.esr_history.specs.Events.{txn_numbers, is_active, last_value, committed_value}
-use Rattle.esr_history.specs.Machine.{Distance, Schedule, IsLegal}
+use Rattle.esr_history.specs.Machine.{DistanceFunction, Schedule, IsLegal}
 use Rattle.esr_history.specs.Serial.{committed_updates, state, values_by}
 use Rattle.esr_history.proofs.Laws.{legal_serializable}
 use Rattle.esr_history.specs.ItemLocks.{ItemLocks}
@@ -33,7 +33,7 @@ tied_values d opening events items table locks accounts rep =
     get_or-map (λ (w : Versions). w.committed) items x (both_versions (pos 0)) e (rw rep.count in_opening)
     ∙ (rep.committed x in_opening ∙ sym (get_or-map-range_with_len f 0 (length opening) x x e in_opening (omega arith))))
 
-module _ (d : Distance) (h k : Schedule) (first : IsLegal d h) (second : IsLegal d k) (opens : k.opening ≡ committed_values h) where
+module _ (d : DistanceFunction) (h k : Schedule) (first : IsLegal d h) (second : IsLegal d k) (opens : k.opening ≡ committed_values h) where
   -- the second opens as the first leaves its items
   starts : (x : ℕ) → x < length h.opening → value_at k.opening x ≡ state h (committed_updates h) x
   starts x l = grind (arith, get_or-map-range_with_len, pos 0, legal_serializable d h first)

@@ -6,11 +6,11 @@ use Rattle.std.proofs.lemmas.Bool.{cases_Bool, false≢true, cases_eq, ne_eqb, a
 use Rattle.std.proofs.lemmas.Option.{same_Some}
 use Rattle.esr_items.specs.Values.{current_at, committed_at, current_set, both_versions}
 use Rattle.esr_core.specs.Types.{Versions, ItemId, TxnId, Event, Read, Write, Commit, Abort}
-use Rattle.esr_history.specs.Events.{Beginning, kind_of, beginning_of, beginnings, commits, aborts, reads, reads_any, writes, written, is_begun, is_committed, is_aborted, is_active, is_query, is_update, holds_write, committed_value, current_value}
+use Rattle.esr_history.specs.Events.{BeginRecord, kind_of, begin_record_of, begin_records, commits, aborts, reads, reads_any, writes, written, is_begun, is_committed, is_aborted, is_active, is_query, is_update, holds_write, committed_value, current_value}
 use Rattle.esr_history.specs.Machine.{due}
 use Rattle.esr_history.specs.ItemLocks.{ItemLocks}
 use Rattle.esr_history.specs.WellFormed.{IsWellFormed}
-use Rattle.esr_history.proofs.Values.{current-kept, committed-kept, current-write, current-write_other, committed-write, committed-commit, committed-commit_other, current-abort, current-abort_other, stays}
+use Rattle.esr_history.proofs.Values.{current-unchanged, committed-unchanged, current-write, current-write_other, committed-write, committed-commit, committed-commit_other, current-abort, current-abort_other, stays}
 use Rattle.esr_history.proofs.WellFormed.{MayFollow, IsWellFormed-push, active_parts, update_begun}
 use Rattle.esr_ledgers.specs.declared.account.Account.{Account}
 use Rattle.esr_ledgers.specs.Books.{new_account, with_account}
@@ -18,9 +18,9 @@ use Rattle.esr_locks.specs.Tables.{locks_at, is_writer, with_reader, with_writer
 use Rattle.esr_core.specs.States.{end_event}
 use Rattle.esr_core.specs.Represented.{Represents, books_of, Transaction}
 use Rattle.esr_core.proofs.Held.{IsBegin, active-commit, active-abort, update_or_query}
-use Rattle.esr_core.proofs.Rows.{rows-begin, rows-kept, rows-read, rows-end}
+use Rattle.esr_core.proofs.Rows.{rows-begin, rows-unchanged, rows-read, rows-end}
 use Rattle.esr_core.proofs.Locks.{locks_at_item, writer_is, locks_of-begin, locks_of-read, locks_of-query_read, locks_of-write, locks_of-end}
-use Rattle.esr_core.proofs.Accounts.{books-kept, books-begin}
+use Rattle.esr_core.proofs.Accounts.{books-unchanged, books-begin}
 
 -- a property of a commit and of an abort holds of an end
 pub by : (P : Event → Type 0) (commits : Bool) (t : TxnId) → P (Commit t) → P (Abort t) → P (end_event commits t)
@@ -29,21 +29,21 @@ by P false t commit abort = abort
 
 module _ (d : ℕ → ℤ → ℤ → ℕ) (opening : List ℤ) (events : List Event) (items : List Versions) (table : List Transaction) (locks : List ItemLocks) (accounts : List Account) (rep : Represents d opening events items table locks accounts) where
   -- an event that writes nothing and ends no transaction leaves the values
-  current-same : (e : Event) → ((x : ℕ) (k : ℕ → Bool) → written k x e ≡ None) → ((u : ℕ) → aborts u e ≡ false) → (x : ℕ) → x < length opening → current_at items x ≡ current_value opening (events ++ e ∷ []) x
-  current-same e isnt ends x l = rep.current x l ∙ sym (current-kept opening events x e (isnt x) ends)
+  current-agrees : (e : Event) → ((x : ℕ) (k : ℕ → Bool) → written k x e ≡ None) → ((u : ℕ) → aborts u e ≡ false) → (x : ℕ) → x < length opening → current_at items x ≡ current_value opening (events ++ e ∷ []) x
+  current-agrees e isnt ends x l = rep.current x l ∙ sym (current-unchanged opening events x e (isnt x) ends)
 
-  committed-same : (e : Event) → ((x : ℕ) (k : ℕ → Bool) → written k x e ≡ None) → ((u : ℕ) → commits u e ≡ false) → (x : ℕ) → x < length opening → committed_at items x ≡ committed_value opening (events ++ e ∷ []) x
-  committed-same e isnt ends x l = rep.committed x l ∙ sym (committed-kept opening events x e (isnt x) ends)
+  committed-agrees : (e : Event) → ((x : ℕ) (k : ℕ → Bool) → written k x e ≡ None) → ((u : ℕ) → commits u e ≡ false) → (x : ℕ) → x < length opening → committed_at items x ≡ committed_value opening (events ++ e ∷ []) x
+  committed-agrees e isnt ends x l = rep.committed x l ∙ sym (committed-unchanged opening events x e (isnt x) ends)
 
-  pub represents-begin : (e : Event) (b : Beginning) → IsBegin e b → due d opening events e ≡ [] → ((x : ℕ) (k : ℕ → Bool) → written k x e ≡ None)
-      → Represents d opening (events ++ e ∷ []) items (table ++ record { kind = kind_of b.query; active = true; reads = 0 } ∷ []) locks (with_account accounts (new_account (kind_of b.query) (record { 0 = suc (length (beginnings events)) }) b.limit))
+  pub represents-begin : (e : Event) (b : BeginRecord) → IsBegin e b → due d opening events e ≡ [] → ((x : ℕ) (k : ℕ → Bool) → written k x e ≡ None)
+      → Represents d opening (events ++ e ∷ []) items (table ++ record { kind = kind_of b.query; active = true; reads = 0 } ∷ []) locks (with_account accounts (new_account (kind_of b.query) (record { 0 = suc (length (begin_records events)) }) b.limit))
   represents-begin e b is nothing isnt = record {
     count = rep.count;
-    current = current-same e isnt is.aborts_none;
-    committed = committed-same e isnt is.commits_none;
+    current = current-agrees e isnt is.aborts_none;
+    committed = committed-agrees e isnt is.commits_none;
     rows = rows-begin events rep.orderly e b is table rep.rows;
     locked = rep.locked ∙ sym (locks_of-begin events rep.orderly e b is (length opening));
-    books = ap (λ (as' : List Account). with_account as' (new_account (kind_of b.query) (record { 0 = suc (length (beginnings events)) }) b.limit)) rep.books ∙ books-begin d opening events e b is nothing;
+    books = ap (λ (as' : List Account). with_account as' (new_account (kind_of b.query) (record { 0 = suc (length (begin_records events)) }) b.limit)) rep.books ∙ books-begin d opening events e b is nothing;
     orderly = IsWellFormed-push events e rep.orderly (record { active = λ t f. absurd (false≢true (sym (is.names_none t) ∙ f)); updates = λ t x f. absurd (false≢true (sym (is.writes_none t x) ∙ f)); alone = λ t x f. absurd (false≢true (sym (is.writes_none t x) ∙ f)) });
   }
 
@@ -53,11 +53,11 @@ module _ (d : ℕ → ℤ → ℤ → ℕ) (opening : List ℤ) (events : List E
       let no_query : is_query events t.0 ≡ false = update_or_query events t.0 update in
       record {
         count = rep.count;
-        current = current-same (Read t x) (λ y k. refl) (λ u. refl);
-        committed = committed-same (Read t x) (λ y k. refl) (λ u. refl);
-        rows = rows-kept events (Read t x) refl (λ u. refl) (λ u. refl) (λ u is. ne_eqb t.0 u (λ (f : t.0 ≡ u). false≢true (sym no_query ∙ (ap (is_query events) f ∙ is)))) table rep.rows;
+        current = current-agrees (Read t x) (λ y k. refl) (λ u. refl);
+        committed = committed-agrees (Read t x) (λ y k. refl) (λ u. refl);
+        rows = rows-unchanged events (Read t x) refl (λ u. refl) (λ u. refl) (λ u is. ne_eqb t.0 u (λ (f : t.0 ≡ u). false≢true (sym no_query ∙ (ap (is_query events) f ∙ is)))) table rep.rows;
         locked = ap (λ (ls : List ItemLocks). set ls x.0 (with_reader t.0 (locks_at ls x.0))) rep.locked ∙ locks_of-read events t x (length opening) inside update act;
-        books = rep.books ∙ books-kept d opening events (Read t x) refl (rw no_query refl);
+        books = rep.books ∙ books-unchanged d opening events (Read t x) refl (rw no_query refl);
         orderly = IsWellFormed-push events (Read t x) rep.orderly may;
       }
 
@@ -66,8 +66,8 @@ module _ (d : ℕ → ℤ → ℤ → ℕ) (opening : List ℤ) (events : List E
       → Represents d opening (events ++ Read t x ∷ []) items (set table k (record row { reads = row.reads + 1 })) (set locks x.0 (with_query_read t.0 (locks_at locks x.0))) accounts_new
   represents-query t x k row accounts_new query act may inside number in_table at books = record {
     count = rep.count;
-    current = current-same (Read t x) (λ y k. refl) (λ u. refl);
-    committed = committed-same (Read t x) (λ y k. refl) (λ u. refl);
+    current = current-agrees (Read t x) (λ y k. refl) (λ u. refl);
+    committed = committed-agrees (Read t x) (λ y k. refl) (λ u. refl);
     rows = rows-read events (Read t x) refl k row (λ u. refl) (λ u. refl) (ap (is_query events) (sym number) ∙ query) (λ u. ap (λ n. n == u) number) table rep.rows in_table at;
     locked = ap (λ (ls : List ItemLocks). set ls x.0 (with_query_read t.0 (locks_at ls x.0))) rep.locked ∙ locks_of-query_read events t x (length opening) inside query act;
     books = books;
@@ -94,7 +94,7 @@ module _ (d : ℕ → ℤ → ℤ → ℕ) (opening : List ℤ) (events : List E
               ap (committed_at (current_set items x.0 v)) (sym e) ∙ (ap (λ (w : Versions). w.committed) (get_or-set_same items x.0 (record { committed = committed_at items x.0; current = v }) (both_versions (pos 0)) here) ∙ (ap (committed_at items) e ∙ (rep.committed y l ∙ sym (committed-write opening events y t x v parts.1))))
           | inr ne ↦ ap (λ (w : Versions). w.committed) (get_or-set_other items x.0 y (record { committed = committed_at items x.0; current = v }) (both_versions (pos 0)) (λ (f : y ≡ x.0). ne (sym f))) ∙ (rep.committed y l ∙ sym (committed-write opening events y t x v parts.1))
         ];
-        rows = rows-kept events (Write t x v) refl (λ u. refl) (λ u. refl) (λ u is. refl) table rep.rows;
+        rows = rows-unchanged events (Write t x v) refl (λ u. refl) (λ u. refl) (λ u is. refl) table rep.rows;
         locked = ap (λ (ls : List ItemLocks). set ls x.0 (with_writer t.0 (locks_at ls x.0))) rep.locked ∙ locks_of-write events t x v (length opening) inside orderly_then update act;
         books = books;
         orderly = orderly_then;
@@ -138,12 +138,12 @@ module _ (d : ℕ → ℤ → ℤ → ℕ) (opening : List ℤ) (events : List E
     committed = λ x l. committed_is x (rw rep.count l) ∙ committed-end commits x l;
     rows = rows-end events (end_event commits t) begins k row (λ u. rw (sym number) (ends u)) (λ u. by (λ e. reads_any u e ≡ false) commits t refl refl) table rep.rows in_table at;
     locked = ap (map (released t.0)) rep.locked ∙ locks_of-end events rep.orderly (end_event commits t) begins t.0 ends (λ u x. by (λ e. reads u x e ≡ false) commits t refl refl) (λ u x. by (λ e. writes u x e ≡ false) commits t refl refl) (length opening);
-    books = rep.books ∙ books-kept d opening events (end_event commits t) begins (by (λ e. due d opening events e ≡ []) commits t refl refl);
+    books = rep.books ∙ books-unchanged d opening events (end_event commits t) begins (by (λ e. due d opening events e ≡ []) commits t refl refl);
     orderly = IsWellFormed-push events (end_event commits t) rep.orderly may;
   }
     where
-      begins : beginning_of (end_event commits t) ≡ None
-      begins = by (λ e. beginning_of e ≡ None) commits t refl refl
+      begins : begin_record_of (end_event commits t) ≡ None
+      begins = by (λ e. begin_record_of e ≡ None) commits t refl refl
 
       ends : (u : ℕ) → is_active (events ++ end_event commits t ∷ []) u ≡ (is_active events u && not (t.0 == u))
       ends u = by (λ e. is_active (events ++ e ∷ []) u ≡ (is_active events u && not (t.0 == u))) commits t (active-commit events t u) (active-abort events t u)
@@ -152,7 +152,7 @@ module _ (d : ℕ → ℤ → ℤ → ℕ) (opening : List ℤ) (events : List E
       parts = active_parts events t.0 act
 
       current-end : (commits : Bool) (x : ℕ) → x < length opening → (if not commits && is_writer (locks_at locks x) t.0 then committed_at items x else current_at items x) ≡ current_value opening (events ++ end_event commits t ∷ []) x
-      current-end true x l = rep.current x l ∙ sym (current-kept opening events x (Commit t) (λ w. refl) (λ u. refl))
+      current-end true x l = rep.current x l ∙ sym (current-unchanged opening events x (Commit t) (λ w. refl) (λ u. refl))
       current-end false x l = elim (cases_Bool (is_writer (locks_at locks x) t.0)) [
         | inl has ↦ rw has (rep.committed x l ∙ sym (current-abort opening events x t parts.1 (others_ended t.0 x l has)))
         | inr none ↦ rw none (rep.current x l ∙ sym (current-abort_other opening events x t (wrote_nothing t.0 x l act none)))
@@ -163,4 +163,4 @@ module _ (d : ℕ → ℤ → ℤ → ℕ) (opening : List ℤ) (events : List E
         | inl has ↦ rw has (rep.current x l ∙ sym (committed-commit opening events x t (rep.orderly.exclusive t.0 x (holds t.0 x l has)) parts.2))
         | inr none ↦ rw none (rep.committed x l ∙ sym (committed-commit_other opening events x t (wrote_nothing t.0 x l act none)))
       ]
-      committed-end false x l = rep.committed x l ∙ sym (committed-kept opening events x (Abort t) (λ w. refl) (λ u. refl))
+      committed-end false x l = rep.committed x l ∙ sym (committed-unchanged opening events x (Abort t) (λ w. refl) (λ u. refl))

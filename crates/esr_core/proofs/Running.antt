@@ -9,21 +9,21 @@ use Rattle.esr_items.specs.Values.{value_at}
 use Rattle.esr_core.specs.Types.{TxnId, ItemId, Event, Read, Commit, Value, Committed, Entry}
 use Rattle.esr_core.specs.Carried.{LawOfActiveUpdates, LawOfCurrentValues}
 use Rattle.esr_history.specs.Events.{is_update, is_active, is_begun, is_committed, is_aborted, accepted, written, last_value, committed_value, commits}
-use Rattle.esr_history.specs.Machine.{Distance, Schedule, accepted_in, extended, reply_to, IsLegal}
+use Rattle.esr_history.specs.Machine.{DistanceFunction, Schedule, accepted_in, extended, reply_to, IsLegal}
 use Rattle.esr_history.specs.Legal.{IsLegal-extended}
 use Rattle.esr_history.specs.Operations.{committer, commit_order}
 use Rattle.esr_history.specs.Serial.{committed_updates, values_by, state}
 use Rattle.esr_history.proofs.Lists.{filter_map_push}
 use Rattle.esr_history.proofs.Actives.{current_by_active}
 use Rattle.esr_history.proofs.LegalWellFormed.{done-accepted, legal_orderly}
-use Rattle.esr_history.proofs.WellFormed.{active_parts, beginning-kept}
+use Rattle.esr_history.proofs.WellFormed.{active_parts, begin_record-unchanged}
 use Rattle.esr_history.proofs.Bounded.{before_first-all}
 use Rattle.esr_history.proofs.Membership.{In-of_filter, In-from_any, any-from_number}
 use Rattle.esr_history.proofs.Traces.{is_among}
-use Rattle.esr_history.proofs.Words.{committed_among}
+use Rattle.esr_history.proofs.TraceAgreement.{committed_among}
 use Rattle.esr_history.proofs.Laws.{legal_serializable}
 
-module _ (d : Distance) (h : Schedule) (legal : IsLegal d h) (t : TxnId) (update : is_update (accepted_in h) t.0 ≡ true) (active : is_active (accepted_in h) t.0 ≡ true) where
+module _ (d : DistanceFunction) (h : Schedule) (legal : IsLegal d h) (t : TxnId) (update : is_update (accepted_in h) t.0 ≡ true) (active : is_active (accepted_in h) t.0 ≡ true) where
   abbrev e : Event
   e = Commit t
 
@@ -43,7 +43,7 @@ module _ (d : Distance) (h : Schedule) (legal : IsLegal d h) (t : TxnId) (update
   events = done-accepted h e Committed refl
 
   same_updates : is_update (accepted_in longer) ≡ is_update (accepted_in h)
-  same_updates = ap is_update events ∙ fun_ext (λ u. ap (λ o. unwrap_or (option_map (λ b. not b.query) o) false) (beginning-kept (accepted_in h) e u refl))
+  same_updates = ap is_update events ∙ fun_ext (λ u. ap (λ o. unwrap_or (option_map (λ b. not b.query) o) false) (begin_record-unchanged (accepted_in h) e u refl))
 
   same_values : (x : ℕ) → values_by longer x ≡ values_by h x
   same_values x = fun_ext (λ u. ap (filter_map (written (λ s. s == u) x)) events ∙ (filter_map_push (written (λ s. s == u) x) (accepted_in h) e ∙ append-nil (values_by h x u)))

@@ -5,7 +5,7 @@ use Rattle.std.proofs.lemmas.Bool.{and_parts}
 use Rattle.esr_items.specs.Values.{current_at}
 use Rattle.esr_core.specs.Types.{Versions, ItemId, TxnId, Event, Write, Refusal, QueryMayNotWrite}
 use Rattle.esr_history.specs.Events.{txn_numbers, is_query, is_update, is_active, holds_read, read_count, current_value}
-use Rattle.esr_history.specs.Machine.{Distance, Schedule, accepted_in, due_in, first_reason, not_begun, ended, no_item, query_writes, out_of_range, write_blocked, import_full, export_full, refusal}
+use Rattle.esr_history.specs.Machine.{DistanceFunction, Schedule, accepted_in, due_in, first_reason, not_begun, ended, no_item, query_writes, out_of_range, write_blocked, import_full, export_full, refusal}
 use Rattle.esr_history.specs.ItemLocks.{ItemLocks, query_reads}
 use Rattle.esr_history.proofs.Allowed.{WriteOpen, none_applies, write_open}
 use Rattle.esr_history.proofs.LegalWellFormed.{when_none, not_ended, update_from}
@@ -33,7 +33,7 @@ pub update_of : (h : Schedule) (t : TxnId) (x : ItemId) (v : ℤ) → barred h t
 update_of h t x v none =
     update_from (accepted_in h) t.0 (active_parts (accepted_in h) t.0 (active_of h t x v none)).0 (when_none (is_query (accepted_in h) t.0) QueryMayNotWrite (open_of h t x v none).update)
 
-pub barred_first : (d : Distance) (h : Schedule) (t : TxnId) (x : ItemId) (v : ℤ) (why : Refusal) → barred h t x v ≡ Some why → refusal d h (Write t x v) ≡ Some why
+pub barred_first : (d : DistanceFunction) (h : Schedule) (t : TxnId) (x : ItemId) (v : ℤ) (why : Refusal) → barred h t x v ≡ Some why → refusal d h (Write t x v) ≡ Some why
 barred_first d h t x v why is = grind (arith, write_first)
 
 queries_charged : (events : List Event) (x amount : ℕ) (us : List ℕ) → AllByRecursion (λ (c : TxnId × ℕ). is_query events c.0.0 ≡ true) (charges_to amount (filter_map (query_reads events x) us))
@@ -45,7 +45,7 @@ queries_charged events x amount (q ∷ us) = at (is_query events q && holds_read
     at true is later = ((and_parts (is_query events q) (holds_read events q x) is).0, later)
     at false is later = later
 
-module _ (d : Distance) (h : Schedule) (items : List Versions) (table : List Transaction) (locks : List ItemLocks) (accounts : List Account) (rep : Represents (d h.weights) h.opening (accepted_in h) items table locks accounts) (t : TxnId) (x : ItemId) (v : ℤ) (l : x.0 < length items) where
+module _ (d : DistanceFunction) (h : Schedule) (items : List Versions) (table : List Transaction) (locks : List ItemLocks) (accounts : List Account) (rep : Represents (d h.weights) h.opening (accepted_in h) items table locks accounts) (t : TxnId) (x : ItemId) (v : ℤ) (l : x.0 < length items) where
   abbrev pub owed : List (TxnId × ℕ)
   owed = charges_to (d h.weights x.0 v (current_at items x.0)) (locks_at locks x.0).queries
 

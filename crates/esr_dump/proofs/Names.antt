@@ -7,7 +7,7 @@ use Rattle.std.proofs.lemmas.Bool.Decides.{nat_tests}
 use Rattle.std.proofs.lemmas.Fmt.{length-decimal-le}
 use Rattle.std.proofs.lemmas.List.{length-map, map-append}
 use Rattle.std.proofs.lemmas.List.FromFn.{length-map-range_with_len, get_or-map-range_with_len, map-range_with_len_more}
-use Rattle.esr_history.specs.Events.{accepted, beginning_of, beginnings, is_refusal, Beginning}
+use Rattle.esr_history.specs.Events.{accepted, begin_record_of, begin_records, is_refusal, BeginRecord}
 use Rattle.esr_history.specs.Machine.{Schedule, accepted_in}
 use Rattle.esr_history.specs.declared.event.Entry.{Entry}
 use Rattle.esr_history.specs.declared.event.Event.{Event}
@@ -55,13 +55,13 @@ pub first_long : (count : ℕ) (names : List (List ℕ)) → length (first_names
 first_long count names = length-map-range_with_len (λ i. slice_index_or names i []) 0 count
 
 -- there is a name for each item and each transaction, and it is valid in a line
-pub names_are : (items transactions : List (List ℕ)) (h : Schedule) → length h.opening < 2 ^ 32 → length (beginnings (accepted_in h)) + 1 < 2 ^ 32
-    → AreNames (spelled (codes "i") 0 (first_names (length h.opening) items)) (spelled (codes "t") 1 (first_names (length (beginnings (accepted_in h))) transactions)) h
+pub names_are : (items transactions : List (List ℕ)) (h : Schedule) → length h.opening < 2 ^ 32 → length (begin_records (accepted_in h)) + 1 < 2 ^ 32
+    → AreNames (spelled (codes "i") 0 (first_names (length h.opening) items)) (spelled (codes "t") 1 (first_names (length (begin_records (accepted_in h))) transactions)) h
 names_are items transactions h bounded_items within_max =
     let xs = first_names (length h.opening) items in
-    let ts = first_names (length (beginnings (accepted_in h))) transactions in
+    let ts = first_names (length (begin_records (accepted_in h))) transactions in
     let xs_long = first_long (length h.opening) items in
-    let ts_long = first_long (length (beginnings (accepted_in h))) transactions in
+    let ts_long = first_long (length (begin_records (accepted_in h))) transactions in
     record {
       all_items = omega (arith, xs_long, spelled_long 105 0 xs);
       all_transactions = omega (arith, ts_long, spelled_long 116 1 ts);
@@ -76,16 +76,16 @@ fewer_filtered p (e ∷ es) = elim (cases_Bool (p e)) [
   | inr is ↦ rw is (omega (arith, fewer_filtered p es))
 ]
 
-one_found : (o : Option Beginning) (bs : List Beginning) (n : ℕ) → length bs ≤ n → length (cons_option o bs) ≤ n + 1
+one_found : (o : Option BeginRecord) (bs : List BeginRecord) (n : ℕ) → length bs ≤ n → length (cons_option o bs) ≤ n + 1
 one_found None bs n le = omega (arith, le)
 one_found (Some b) bs n le = omega (arith, le)
 
-fewer_found : (es : List Event) → length (beginnings es) ≤ length es
+fewer_found : (es : List Event) → length (begin_records es) ≤ length es
 fewer_found [] = omega arith
-fewer_found (e ∷ es) = omega (arith, one_found (beginning_of e) (beginnings es) (length es) (fewer_found es))
+fewer_found (e ∷ es) = omega (arith, one_found (begin_record_of e) (begin_records es) (length es) (fewer_found es))
 
 -- no more begin than there are entries
-pub bounded_begun : (es : List Entry) → length (beginnings (accepted es)) ≤ length es
+pub bounded_begun : (es : List Entry) → length (begin_records (accepted es)) ≤ length es
 bounded_begun es =
     let p : Entry → Bool = λ e. not (is_refusal e.reply) in
     omega (arith, fewer_found (accepted es), length-map (filter p es) (λ (e : Entry). e.event), fewer_filtered p es)
@@ -113,12 +113,12 @@ spelled_none word first words numbers n is long are = are ∙ ap (all_numbered w
     go false same = refl
 
 -- the script by these tables recreates the history
-pub carried_past : (items transactions xs ts : List (List ℕ)) (n m : ℕ) (h : Schedule) (text : List ℕ) → n ≡ length h.opening → m ≡ length (beginnings (accepted_in h))
+pub carried_past : (items transactions xs ts : List (List ℕ)) (n m : ℕ) (h : Schedule) (text : List ℕ) → n ≡ length h.opening → m ≡ length (begin_records (accepted_in h))
     → items ≡ spelled (codes "i") 0 (first_names n xs) → transactions ≡ spelled (codes "t") 1 (first_names m ts)
     → n < 2 ^ 32 → m + 1 < 2 ^ 32 → (AreNames items transactions h → RoundTrips items transactions h text) → IsDump xs ts h text
 carried_past items transactions xs ts n m h text n_is m_is is are bounded_items within_max again =
     let own : List (List ℕ) = spelled (codes "i") 0 (first_names (length h.opening) xs) in
-    let others : List (List ℕ) = spelled (codes "t") 1 (first_names (length (beginnings (accepted_in h))) ts) in
+    let others : List (List ℕ) = spelled (codes "t") 1 (first_names (length (begin_records (accepted_in h))) ts) in
     let items_are : items ≡ own = is ∙ ap (λ k. spelled (codes "i") 0 (first_names k xs)) n_is in
     let transactions_are : transactions ≡ others = are ∙ ap (λ k. spelled (codes "t") 1 (first_names k ts)) m_is in
     let named : AreNames own others h = names_are xs ts h (omega (arith, n_is)) (omega (arith, m_is)) in

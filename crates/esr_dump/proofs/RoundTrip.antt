@@ -18,8 +18,8 @@ use Rattle.esr_history.specs.declared.event.Reply.TheVariants.{Begun, Value, Wro
 use Rattle.esr_history.specs.declared.event.Refusal.{Refusal}
 use Rattle.esr_history.specs.declared.event.Refusal.TheVariants.{NoSuchTransaction, AlreadyEnded, NoSuchItem, QueryMayNotWrite, ValueOutOfRange, LimitOutOfRange, TooManyTransactions}
 use Rattle.esr_history.specs.declared.event.Entry.{Entry}
-use Rattle.esr_history.specs.Events.{is_refusal, beginning_of, beginnings, accepted, is_active, is_begun, is_query}
-use Rattle.esr_history.specs.Machine.{Distance, Schedule, empty_schedule, accepted_in, extended, when, first_reason, answered, reply_to, IsLegal, IsLegalAfter}
+use Rattle.esr_history.specs.Events.{is_refusal, begin_record_of, begin_records, accepted, is_active, is_begun, is_query}
+use Rattle.esr_history.specs.Machine.{DistanceFunction, Schedule, empty_schedule, accepted_in, extended, when, first_reason, answered, reply_to, IsLegal, IsLegalAfter}
 use Rattle.esr_history.proofs.LegalWellFormed.{begun_in_range, done-accepted, done-refused}
 use Rattle.esr_grammar.specs.Command.{Command, IsName, IsCommand, IsInt}
 use Rattle.esr_report.specs.Names.{position_of, all_distinct, name_of_transaction}
@@ -64,11 +64,11 @@ accepted_both xs ys =
     let p : Entry → Bool = λ e. not (is_refusal e.reply) in
     ap (map (λ (e : Entry). e.event)) (filter-append p xs ys) ∙ map-append (λ (e : Entry). e.event) (filter p xs) (filter p ys)
 
-pub fewer : (xs ys : List Entry) → length (beginnings (accepted xs)) ≤ length (beginnings (accepted (xs ++ ys)))
+pub fewer : (xs ys : List Entry) → length (begin_records (accepted xs)) ≤ length (begin_records (accepted (xs ++ ys)))
 fewer xs ys =
-    let all : beginnings (accepted (xs ++ ys)) ≡ beginnings (accepted xs) ++ beginnings (accepted ys) =
-    ap beginnings (accepted_both xs ys) ∙ filter_map-append beginning_of (accepted xs) (accepted ys) in
-    omega (arith, ap length all ∙ length-append (beginnings (accepted xs)) (beginnings (accepted ys)))
+    let all : begin_records (accepted (xs ++ ys)) ≡ begin_records (accepted xs) ++ begin_records (accepted ys) =
+    ap begin_records (accepted_both xs ys) ∙ filter_map-append begin_record_of (accepted xs) (accepted ys) in
+    omega (arith, ap length all ∙ length-append (begin_records (accepted xs)) (begin_records (accepted ys)))
 
 -- ---- a kept entry passed every check whose refusals are not kept
 
@@ -107,7 +107,7 @@ pub lost_refusal : (r : Reply) → is_kept r ≡ false → (why : Refusal) × (r
 lost_refusal (Refused why) lost = (why, refl)
 lost_refusal _ lost = absurd (cc)
 
-same_reply : (d : Distance) (x y : Schedule) (e : Event) → x.opening ≡ y.opening → x.weights ≡ y.weights → accepted_in x ≡ accepted_in y → reply_to d x e ≡ reply_to d y e
+same_reply : (d : DistanceFunction) (x y : Schedule) (e : Event) → x.opening ≡ y.opening → x.weights ≡ y.weights → accepted_in x ≡ accepted_in y → reply_to d x e ≡ reply_to d y e
 same_reply d x y (BeginUpdate limit) opens weights events = rw events refl
 same_reply d x y (BeginQuery limit strict) opens weights events = rw events refl
 same_reply d x y (Read t z) opens weights events = rw (opens, weights, events) refl
@@ -120,7 +120,7 @@ done_more x y e r same =
     let one : List Entry = record { event = e; reply = r } ∷ [] in
     accepted_both x.entries one ∙ (ap (λ (es : List Event). es ++ accepted one) same ∙ sym (accepted_both y.entries one))
 
-pub kept_legal : (d : Distance) (before g : Schedule) (later : List Entry) → IsLegalAfter d before later → before.opening ≡ g.opening → before.weights ≡ g.weights → accepted_in before ≡ accepted_in g
+pub kept_legal : (d : DistanceFunction) (before g : Schedule) (later : List Entry) → IsLegalAfter d before later → before.opening ≡ g.opening → before.weights ≡ g.weights → accepted_in before ≡ accepted_in g
     → IsLegalAfter d g (filter (λ (e : Entry). is_kept e.reply) later)
 kept_legal d before g [] legal opens weights events = tt
 kept_legal d before g (e ∷ later) legal opens weights events = elim (cases_Bool (is_kept e.reply)) [
@@ -141,14 +141,14 @@ module _ (items transactions : List (List ℕ)) (h : Schedule) (names : AreNames
       let inside : x.0 < length items = omega (arith, within, names.all_items) in
       (names.items_spelled x.0 [] inside, rw (own_place items x.0 apart inside) refl)
 
-  transaction_fact : (t : TxnId) → 1 ≤ t.0 → t.0 ≤ length (beginnings (accepted_in h))
+  transaction_fact : (t : TxnId) → 1 ≤ t.0 → t.0 ≤ length (begin_records (accepted_in h))
       → IsName (name_of_transaction transactions t.0) × (transaction_called transactions (name_of_transaction transactions t.0) ≡ Some t)
   transaction_fact t first last =
       let inside : t.0 - 1 < length transactions = omega (arith, first, last, names.all_transactions) in
       let same : t.0 - 1 + 1 ≡ t.0 = omega (arith, first) in
       (names.transactions_spelled (t.0 - 1) [] inside, rw (own_place transactions (t.0 - 1) apart_too inside) (ap (λ (n : ℕ). Some (record { 0 = n })) same))
 
-  module _ (before : Schedule) (opens : before.opening ≡ h.opening) (some : length (beginnings (accepted_in before)) ≤ length (beginnings (accepted_in h))) where
+  module _ (before : Schedule) (opens : before.opening ≡ h.opening) (some : length (begin_records (accepted_in before)) ≤ length (begin_records (accepted_in h))) where
     begun_fact : (t : TxnId) → not (is_begun (accepted_in before) t.0) ≡ false
         → IsName (name_of_transaction transactions t.0) × (transaction_called transactions (name_of_transaction transactions t.0) ≡ Some t)
     begun_fact t begun =
@@ -162,33 +162,33 @@ module _ (items transactions : List (List ℕ)) (h : Schedule) (names : AreNames
     abbrev pub Requests : Event → Reply → Type 0
     Requests e r = IsCommand (command_of items transactions r e) × (event_of items transactions (command_of items transactions r e) ≡ Some e)
 
-    new_name : (e : Event) (r : Reply) (n : ℕ) → r ≡ Begun (record { 0 = n + 1 }) → n ≡ length (beginnings (accepted_in before)) → length (beginnings (accepted_in before ++ e ∷ [])) ≡ n + 1
-        → length (beginnings (accepted_in (extended before e r))) ≤ length (beginnings (accepted_in h))
+    new_name : (e : Event) (r : Reply) (n : ℕ) → r ≡ Begun (record { 0 = n + 1 }) → n ≡ length (begin_records (accepted_in before)) → length (begin_records (accepted_in before ++ e ∷ [])) ≡ n + 1
+        → length (begin_records (accepted_in (extended before e r))) ≤ length (begin_records (accepted_in h))
         → IsName (name_of_transaction transactions (n + 1))
     new_name e r n is count more within_max =
         let after : accepted_in (extended before e r) ≡ accepted_in before ++ e ∷ [] = done-accepted before e r (ap is_refusal is) in
         let number : TxnId = record { 0 = n + 1 } in
-        (transaction_fact number (omega arith) (omega (arith, within_max, ap (λ (es : List Event). length (beginnings es)) after, more))).0
+        (transaction_fact number (omega arith) (omega (arith, within_max, ap (λ (es : List Event). length (begin_records es)) after, more))).0
 
-    pub begins : (e : Event) (b : _) → beginning_of e ≡ Some b → length (beginnings (accepted_in before ++ e ∷ [])) ≡ length (beginnings (accepted_in before)) + 1
+    pub begins : (e : Event) (b : _) → begin_record_of e ≡ Some b → length (begin_records (accepted_in before ++ e ∷ [])) ≡ length (begin_records (accepted_in before)) + 1
     begins e b is =
-        ap length (filter_map-append beginning_of (accepted_in before) (e ∷ []) ∙ ap (λ o. beginnings (accepted_in before) ++ cons_option o []) is)
-        ∙ length-append (beginnings (accepted_in before)) (b ∷ [])
+        ap length (filter_map-append begin_record_of (accepted_in before) (e ∷ []) ∙ ap (λ o. begin_records (accepted_in before) ++ cons_option o []) is)
+        ∙ length-append (begin_records (accepted_in before)) (b ∷ [])
 
     -- a kept begin got the next number, whose name is valid, and its limit is in range
-    pub begun_kept : (e : Event) (b : _) (limit : ℕ) (r : Reply) → beginning_of e ≡ Some b
-        → r ≡ answered (first_reason (when (nat_lt 1000000000000000000 limit) LimitOutOfRange ∷ when (nat_le 65535 (length (beginnings (accepted_in before)))) TooManyTransactions ∷ [])) (Begun (record { 0 = length (beginnings (accepted_in before)) + 1 }))
-        → is_kept r ≡ true → length (beginnings (accepted_in (extended before e r))) ≤ length (beginnings (accepted_in h))
-        → (r ≡ Begun (record { 0 = length (beginnings (accepted_in before)) + 1 })) × (IsName (name_of_transaction transactions (length (beginnings (accepted_in before)) + 1)) × (limit < 10 ^ 19))
+    pub begun_kept : (e : Event) (b : _) (limit : ℕ) (r : Reply) → begin_record_of e ≡ Some b
+        → r ≡ answered (first_reason (when (nat_lt 1000000000000000000 limit) LimitOutOfRange ∷ when (nat_le 65535 (length (begin_records (accepted_in before)))) TooManyTransactions ∷ [])) (Begun (record { 0 = length (begin_records (accepted_in before)) + 1 }))
+        → is_kept r ≡ true → length (begin_records (accepted_in (extended before e r))) ≤ length (begin_records (accepted_in h))
+        → (r ≡ Begun (record { 0 = length (begin_records (accepted_in before)) + 1 })) × (IsName (name_of_transaction transactions (length (begin_records (accepted_in before)) + 1)) × (limit < 10 ^ 19))
     begun_kept e b limit r begins_so is stays within_max =
         let low = passed (nat_lt 1000000000000000000 limit) LimitOutOfRange _ _ refl (ap is_kept (sym is) ∙ stays) in
-        let below_max = passed (nat_le 65535 (length (beginnings (accepted_in before)))) TooManyTransactions _ _ refl low.1 in
+        let below_max = passed (nat_le 65535 (length (begin_records (accepted_in before)))) TooManyTransactions _ _ refl low.1 in
         let begun = is ∙ none_left _ _ LimitOutOfRange TooManyTransactions _ low.0 below_max.0 in
-        let name = new_name e r (length (beginnings (accepted_in before))) begun refl (begins e b begins_so) within_max in
+        let name = new_name e r (length (begin_records (accepted_in before))) begun refl (begins e b begins_so) within_max in
         (begun, (name, omega (arith, ltb-false 1000000000000000000 limit low.0)))
 
     pub asks : (e : Event) (r : Reply) → r ≡ reply_to weighted before e → is_kept r ≡ true
-        → length (beginnings (accepted_in (extended before e r))) ≤ length (beginnings (accepted_in h)) → Requests e r
+        → length (begin_records (accepted_in (extended before e r))) ≤ length (begin_records (accepted_in h)) → Requests e r
     asks (BeginUpdate limit) r is stays within_max =
         let kept = begun_kept (BeginUpdate limit) _ limit r refl is stays within_max in rw kept.0 (kept.1, refl)
     asks (BeginQuery limit true) r is stays within_max =
@@ -222,19 +222,19 @@ module _ (items transactions : List (List ℕ)) (h : Schedule) (names : AreNames
 
   module _ {X : Type 0} (of : Command → Option X) (q : Entry → Option X)
       (means : (before : Schedule) (e : Entry) → e.reply ≡ reply_to weighted before e.event → is_kept e.reply ≡ true → before.opening ≡ h.opening
-      → length (beginnings (accepted_in before)) ≤ length (beginnings (accepted_in h)) → length (beginnings (accepted_in (extended before e.event e.reply))) ≤ length (beginnings (accepted_in h))
+      → length (begin_records (accepted_in before)) ≤ length (begin_records (accepted_in h)) → length (begin_records (accepted_in (extended before e.event e.reply))) ≤ length (begin_records (accepted_in h))
       → of (command_of items transactions e.reply e.event) ≡ q e) where
     entries_found : (before : Schedule) (later : List Entry) → IsLegalAfter weighted before later → before.opening ≡ h.opening
-        → length (beginnings (accepted (before.entries ++ later))) ≤ length (beginnings (accepted_in h))
+        → length (begin_records (accepted (before.entries ++ later))) ≤ length (begin_records (accepted_in h))
         → found_in of (flat_map (entry_text items transactions) later) ≡ filter_map q (filter (λ (e : Entry). is_kept e.reply) later)
     entries_found before [] legal opens within_max = refl
     entries_found before (e ∷ later) legal opens within_max =
         let next : Schedule = extended before e.event e.reply in
         let joined_up : next.entries ++ later ≡ before.entries ++ e ∷ later = append_assoc before.entries (e ∷ []) later in
-        let bounded_next : length (beginnings (accepted (next.entries ++ later))) ≤ length (beginnings (accepted_in h)) =
-        subst (λ (es : List Entry). length (beginnings (accepted es)) ≤ length (beginnings (accepted_in h))) (sym joined_up) within_max in
-        let bounded_before : length (beginnings (accepted_in before)) ≤ length (beginnings (accepted_in h)) = omega (arith, within_max, fewer before.entries (e ∷ later)) in
-        let bounded_after : length (beginnings (accepted_in next)) ≤ length (beginnings (accepted_in h)) = omega (arith, bounded_next, fewer next.entries later) in
+        let bounded_next : length (begin_records (accepted (next.entries ++ later))) ≤ length (begin_records (accepted_in h)) =
+        subst (λ (es : List Entry). length (begin_records (accepted es)) ≤ length (begin_records (accepted_in h))) (sym joined_up) within_max in
+        let bounded_before : length (begin_records (accepted_in before)) ≤ length (begin_records (accepted_in h)) = omega (arith, within_max, fewer before.entries (e ∷ later)) in
+        let bounded_after : length (begin_records (accepted_in next)) ≤ length (begin_records (accepted_in h)) = omega (arith, bounded_next, fewer next.entries later) in
         let rest = entries_found next later legal.1 opens bounded_next in
         elim (cases_Bool (is_kept e.reply)) [
           | inl stays ↦

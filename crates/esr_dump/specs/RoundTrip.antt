@@ -8,7 +8,7 @@ use Rattle.esr_base.specs.declared.numbers.ItemId.{ItemId}
 use Rattle.esr_base.specs.declared.numbers.TxnId.{TxnId}
 use Rattle.esr_history.specs.declared.event.Event.{Event}
 use Rattle.esr_history.specs.declared.event.Event.TheVariants as event
-use Rattle.esr_history.specs.Events.{beginnings}
+use Rattle.esr_history.specs.Events.{begin_records}
 use Rattle.esr_history.specs.Machine.{Schedule, IsLegal, accepted_in}
 use Rattle.esr_grammar.specs.Command.{Command, item, weighted_item, begin_update, begin_query, begin_strict_query, read, write, commit, abort, audit, totals, IsName, both, reading}
 use Rattle.esr_grammar.specs.Lines.{lines}
@@ -56,7 +56,7 @@ kept h = record h { entries = filter (λ e. is_kept e.reply) h.entries }
 -- there is a valid name for each item and each transaction
 pub record AreNames (items transactions : List (List ℕ)) (h : Schedule) : Type 0 where
   pub all_items : length h.opening ≤ length items
-  pub all_transactions : length (beginnings (accepted_in h)) ≤ length transactions
+  pub all_transactions : length (begin_records (accepted_in h)) ≤ length transactions
   pub items_spelled : All IsName items
   pub transactions_spelled : All IsName transactions
 
@@ -72,4 +72,4 @@ pub record RoundTrips (items transactions : List (List ℕ)) (h : Schedule) (tex
 abbrev pub IsDump : (items transactions : List (List ℕ)) → Schedule → List ℕ → Type 0
 IsDump items transactions h text =
     RoundTrips (spelled (codes "i") 0 (first_names (length h.opening) items))
-    (spelled (codes "t") 1 (first_names (length (beginnings (accepted_in h))) transactions)) h text
+    (spelled (codes "t") 1 (first_names (length (begin_records (accepted_in h))) transactions)) h text

@@ -14,15 +14,15 @@ use Rattle.esr_history.specs.declared.event.Event.{Event}
 use Rattle.esr_history.specs.declared.event.Reply.{Reply}
 use Rattle.esr_history.specs.declared.event.Event.TheVariants.{BeginUpdate, BeginQuery, Read, Write, Commit, Abort}
 use Rattle.esr_history.specs.declared.event.Reply.TheVariants.{Begun, Wrote, Committed, Aborted, Refused}
-use Rattle.esr_history.specs.Events.{Beginning, kind_of, beginning_of, beginnings, txn_numbers, commits, aborts, reads_any, is_active, is_begun, is_refusal}
-use Rattle.esr_history.specs.Machine.{Distance, Schedule, accepted_in, extended, reply_to, refusal, acceptance, first_reason, not_begun, ended, when}
+use Rattle.esr_history.specs.Events.{BeginRecord, kind_of, begin_record_of, begin_records, txn_numbers, commits, aborts, reads_any, is_active, is_begun, is_refusal}
+use Rattle.esr_history.specs.Machine.{DistanceFunction, Schedule, accepted_in, extended, reply_to, refusal, acceptance, first_reason, not_begun, ended, when}
 use Rattle.esr_history.specs.WellFormed.{IsWellFormed}
 use Rattle.esr_history.proofs.Allowed.{none_applies, end_allowed}
 use Rattle.esr_history.proofs.LegalWellFormed.{done-refused, done-accepted, not_ended, begun_in_range}
 use Rattle.esr_history.proofs.WellFormed.{active_parts}
 use Rattle.esr_core.specs.declared.state.Transaction.{Transaction}
 use Rattle.esr_core.specs.Represented.{transaction_after, transactions_after}
-use Rattle.esr_core.proofs.Held.{IsBegin, begin_update, begin_query, active-kept, active-commit, active-abort, numbers-kept}
+use Rattle.esr_core.proofs.Held.{IsBegin, begin_update, begin_query, is_active-unchanged, active-commit, active-abort, txn_numbers-unchanged}
 use Rattle.esr_core.proofs.Rows.{rows-begin, rows-end}
 use Rattle.esr_engine.specs.Capacity.{active_count, active_after, transaction_count, is_end, is_full, no_begin, taken}
 
@@ -38,7 +38,7 @@ rows_count : (events : List Event) → count_by (λ (r : Transaction). r.active)
 rows_count events = rows_in events (txn_numbers events)
 
 -- a begin is one more
-count-begin : (events : List Event) → IsWellFormed events → (e : Event) (b : Beginning) → IsBegin e b → active_count (events ++ e ∷ []) ≡ active_count events + 1
+count-begin : (events : List Event) → IsWellFormed events → (e : Event) (b : BeginRecord) → IsBegin e b → active_count (events ++ e ∷ []) ≡ active_count events + 1
 count-begin events o e b is =
     let row : Transaction = record { kind = kind_of b.query; active = true; reads = 0 } in
     sym (rows_count (events ++ e ∷ []))
@@ -47,25 +47,25 @@ count-begin events o e b is =
     ∙ ap (λ n. n + 1) (rows_count events)))
 
 -- an event that begins and ends nothing leaves them
-count-kept : (events : List Event) (e : Event) → beginning_of e ≡ None → ((t : ℕ) → commits t e ≡ false) → ((t : ℕ) → aborts t e ≡ false) → active_count (events ++ e ∷ []) ≡ active_count events
-count-kept events e none c a =
-    ap (λ (p : ℕ → Bool). count_by p (txn_numbers (events ++ e ∷ []))) (fun_ext (λ t. active-kept events e none c a t))
-    ∙ ap (count_by (is_active events)) (numbers-kept events e none)
+count-unchanged : (events : List Event) (e : Event) → begin_record_of e ≡ None → ((t : ℕ) → commits t e ≡ false) → ((t : ℕ) → aborts t e ≡ false) → active_count (events ++ e ∷ []) ≡ active_count events
+count-unchanged events e none c a =
+    ap (λ (p : ℕ → Bool). count_by p (txn_numbers (events ++ e ∷ []))) (fun_ext (λ t. is_active-unchanged events e none c a t))
+    ∙ ap (count_by (is_active events)) (txn_numbers-unchanged events e none)
 
 -- the end of an active transaction is one less
-count-end : (events : List Event) (e : Event) (t : ℕ) → beginning_of e ≡ None → ((u : ℕ) → is_active (events ++ e ∷ []) u ≡ (is_active events u && not (t == u))) → ((u : ℕ) → reads_any u e ≡ false)
+count-end : (events : List Event) (e : Event) (t : ℕ) → begin_record_of e ≡ None → ((u : ℕ) → is_active (events ++ e ∷ []) u ≡ (is_active events u && not (t == u))) → ((u : ℕ) → reads_any u e ≡ false)
     → is_active events t ≡ true → active_count (events ++ e ∷ []) + 1 ≡ active_count events
 count-end events e zero none ends by act =
-    let n : (1 ≤ 0) × (0 < 1 + length (beginnings events)) = begun_in_range events 0 (active_parts events 0 act).0 in
+    let n : (1 ≤ 0) × (0 < 1 + length (begin_records events)) = begun_in_range events 0 (active_parts events 0 act).0 in
     absurd (omega arith)
 count-end events e (suc k) none ends by act =
     let f : Transaction → ℕ = λ r. cond r.active 1 0 in
     let table : List Transaction = transactions_after events in
     let r : Transaction = transaction_after events (suc k) in
-    let n : (1 ≤ suc k) × (suc k < 1 + length (beginnings events)) = begun_in_range events (suc k) (active_parts events (suc k) act).0 in
-    let long : length table ≡ length (beginnings events) = length-map-range_with_len (transaction_after events) 1 (length (beginnings events)) in
+    let n : (1 ≤ suc k) × (suc k < 1 + length (begin_records events)) = begun_in_range events (suc k) (active_parts events (suc k) act).0 in
+    let long : length table ≡ length (begin_records events) = length-map-range_with_len (transaction_after events) 1 (length (begin_records events)) in
     let inside : k < length table = omega arith in
-    let at : get_or table k r ≡ r = get_or-map-range_with_len (transaction_after events) 1 (length (beginnings events)) k (suc k) r (omega arith) (omega arith) in
+    let at : get_or table k r ≡ r = get_or-map-range_with_len (transaction_after events) 1 (length (begin_records events)) k (suc k) r (omega arith) (omega arith) in
     let after : set table k (record r { active = false }) ≡ transactions_after (events ++ e ∷ []) = rows-end events e none k r ends by table refl inside (sym at) in
     let sums : count_by (λ (q : Transaction). q.active) (set table k (record r { active = false })) + f (get_or table k r) ≡ count_by (λ (q : Transaction). q.active) table + 0 = sum_by-set f table k (record r { active = false }) r inside in
     let one : f (get_or table k r) ≡ 1 = ap f at ∙ ap (λ b. cond b 1 0) act in
@@ -87,11 +87,11 @@ counted_refused h e r why is = subst (Counted h e) (sym is) (record {
 })
 
 -- an event that begins and ends nothing
-counted_same : (h : Schedule) (e : Event) (r : Reply) → beginning_of e ≡ None → ((t : ℕ) → commits t e ≡ false) → ((t : ℕ) → aborts t e ≡ false) → is_refusal r ≡ false
+counted_same : (h : Schedule) (e : Event) (r : Reply) → begin_record_of e ≡ None → ((t : ℕ) → commits t e ≡ false) → ((t : ℕ) → aborts t e ≡ false) → is_refusal r ≡ false
     → active_after (active_count (accepted_in h)) r ≡ active_count (accepted_in h) → is_end r ≡ false → Counted h e r
 counted_same h e r none c a accepted same no_end = record {
   some = λ f. absurd (false≢true (sym no_end ∙ f));
-  count = ap active_count (done-accepted h e r accepted) ∙ (count-kept (accepted_in h) e none c a ∙ sym same);
+  count = ap active_count (done-accepted h e r accepted) ∙ (count-unchanged (accepted_in h) e none c a ∙ sym same);
 }
 
 below : (n : ℕ) → nat_le 1000000 n ≡ false → n + 1 ≤ 1000000
@@ -119,12 +119,12 @@ idle false false full why is some capacity = capacity
 idle_capacity : (h : Schedule) (t : TxnId) (why : Refusal) → first_reason (not_begun h t.0 ∷ ended h t.0 ∷ []) ≡ Some why → (not (is_active (accepted_in h) t.0) && nat_le 1000000 (taken h)) ≡ false → nat_le 1000000 (taken h) ≡ false
 idle_capacity h t why some capacity = idle (is_begun (accepted_in h) t.0) (is_active (accepted_in h) t.0) (nat_le 1000000 (taken h)) why (λ act. (active_parts (accepted_in h) t.0 act).0) some capacity
 
-module _ (d : Distance) (h : Schedule) (o : IsWellFormed (accepted_in h)) where
+module _ (d : DistanceFunction) (h : Schedule) (o : IsWellFormed (accepted_in h)) where
   pub end_active : (t : TxnId) → first_reason (not_begun h t.0 ∷ ended h t.0 ∷ []) ≡ None → is_active (accepted_in h) t.0 ≡ true
   end_active t none = not_ended h t.0 (end_allowed h t (none_applies (not_begun h t.0 ∷ ended h t.0 ∷ []) none)).active
 
   counted_end : (e : Event) (t : TxnId) (r : Reply) → is_refusal r ≡ false → active_after (active_count (accepted_in h)) r ≡ active_count (accepted_in h) - 1
-      → beginning_of e ≡ None → ((u : ℕ) → is_active (accepted_in h ++ e ∷ []) u ≡ (is_active (accepted_in h) u && not (t.0 == u))) → ((u : ℕ) → reads_any u e ≡ false) → is_active (accepted_in h) t.0 ≡ true → Counted h e r
+      → begin_record_of e ≡ None → ((u : ℕ) → is_active (accepted_in h ++ e ∷ []) u ≡ (is_active (accepted_in h) u && not (t.0 == u))) → ((u : ℕ) → reads_any u e ≡ false) → is_active (accepted_in h) t.0 ≡ true → Counted h e r
   counted_end e t r accepted less none ends by act =
       let one : active_count (accepted_in h ++ e ∷ []) + 1 ≡ active_count (accepted_in h) = count-end (accepted_in h) e t.0 none ends by act in
       let new : active_count (accepted_in (extended h e r)) ≡ active_count (accepted_in h ++ e ∷ []) = ap active_count (done-accepted h e r accepted) in
@@ -133,11 +133,11 @@ module _ (d : Distance) (h : Schedule) (o : IsWellFormed (accepted_in h)) where
   accepted_counts : (e : Event) → refusal d h e ≡ None → Counted h e (acceptance h e)
   accepted_counts (BeginUpdate l) none = record {
     some = λ f. absurd (false≢true f);
-    count = ap active_count (done-accepted h (BeginUpdate l) (Begun (record { 0 = length (beginnings (accepted_in h)) + 1 })) refl) ∙ count-begin (accepted_in h) o (BeginUpdate l) _ (begin_update l);
+    count = ap active_count (done-accepted h (BeginUpdate l) (Begun (record { 0 = length (begin_records (accepted_in h)) + 1 })) refl) ∙ count-begin (accepted_in h) o (BeginUpdate l) _ (begin_update l);
   }
   accepted_counts (BeginQuery l s) none = record {
     some = λ f. absurd (false≢true f);
-    count = ap active_count (done-accepted h (BeginQuery l s) (Begun (record { 0 = length (beginnings (accepted_in h)) + 1 })) refl) ∙ count-begin (accepted_in h) o (BeginQuery l s) _ (begin_query l s);
+    count = ap active_count (done-accepted h (BeginQuery l s) (Begun (record { 0 = length (begin_records (accepted_in h)) + 1 })) refl) ∙ count-begin (accepted_in h) o (BeginQuery l s) _ (begin_query l s);
   }
   accepted_counts (Read t x) none = counted_same h (Read t x) _ refl (λ u. refl) (λ u. refl) refl refl refl
   accepted_counts (Write t x v) none = counted_same h (Write t x v) _ refl (λ u. refl) (λ u. refl) refl refl refl
@@ -174,8 +174,8 @@ module _ (d : Distance) (h : Schedule) (o : IsWellFormed (accepted_in h)) where
           subst (λ (r : Reply). length (extended h e r).entries + active_after (active_count (accepted_in h)) r ≤ 1000000) (sym reply) (accepted e none capacity)
         where
           accepted : (e : Event) → refusal d h e ≡ None → is_full h e ≡ false → length (extended h e (acceptance h e)).entries + active_after (active_count (accepted_in h)) (acceptance h e) ≤ 1000000
-          accepted (BeginUpdate l) none capacity = let more : taken h + 2 ≤ 1000000 = begin_pair h capacity in omega (arith, length_push h.entries (record { event = BeginUpdate l; reply = Begun (record { 0 = length (beginnings (accepted_in h)) + 1 }) }), more)
-          accepted (BeginQuery l s) none capacity = let more : taken h + 2 ≤ 1000000 = begin_pair h capacity in omega (arith, length_push h.entries (record { event = BeginQuery l s; reply = Begun (record { 0 = length (beginnings (accepted_in h)) + 1 }) }), more)
+          accepted (BeginUpdate l) none capacity = let more : taken h + 2 ≤ 1000000 = begin_pair h capacity in omega (arith, length_push h.entries (record { event = BeginUpdate l; reply = Begun (record { 0 = length (begin_records (accepted_in h)) + 1 }) }), more)
+          accepted (BeginQuery l s) none capacity = let more : taken h + 2 ≤ 1000000 = begin_pair h capacity in omega (arith, length_push h.entries (record { event = BeginQuery l s; reply = Begun (record { 0 = length (begin_records (accepted_in h)) + 1 }) }), more)
           accepted (Read t x) none capacity = let more : taken h + 1 ≤ 1000000 = below (taken h) capacity in omega (arith, length_push h.entries (record { event = Read t x; reply = acceptance h (Read t x) }), more)
           accepted (Write t x v) none capacity = let more : taken h + 1 ≤ 1000000 = below (taken h) capacity in omega (arith, length_push h.entries (record { event = Write t x v; reply = Wrote }), more)
           accepted (Commit t) none capacity = let some : 0 < active_count (accepted_in h) = (accepted_counts (Commit t) none).some refl in omega (arith, length_push h.entries (record { event = Commit t; reply = Committed }), some)

@@ -23,7 +23,7 @@ use Rattle.esr_history.proofs.Lists.{any_push, any_push_no}
 use Rattle.esr_history.proofs.WellFormed.{active_parts, update_begun}
 use Rattle.esr_history.proofs.Steps.{last_written_agree}
 use Rattle.esr_history.proofs.Values.{current-write, stays}
-use Rattle.esr_core.proofs.Held.{active-kept}
+use Rattle.esr_core.proofs.Held.{is_active-unchanged}
 use Rattle.esr_core.proofs.Locks.{writer_is}
 use Rattle.esr_engine.specs.declared.engine.Unanswered.{Unanswered}
 use Rattle.esr_engine.specs.ForUpdate.{after, has_lock, lock_event, locked, reply_for_update, after_for_update, IsHeldValue}
@@ -62,7 +62,7 @@ module _ (h : Schedule) (o : IsWellFormed (accepted_in h)) (x : ItemId) where
 
     -- a read keeps the holder of the write lock
     read_keeps : (done' : List Event) → holds_write done' t.0 x.0 ≡ true → holds_write (done' ++ Read t x ∷ []) t.0 x.0 ≡ true
-    read_keeps done' held = rw (active-kept done' (Read t x) refl (λ u. refl) (λ u. refl) t.0, any_push_no (writes t.0 x.0) done' (Read t x) refl) held
+    read_keeps done' held = rw (is_active-unchanged done' (Read t x) refl (λ u. refl) (λ u. refl) t.0, any_push_no (writes t.0 x.0) done' (Read t x) refl) held
 
     -- a read that is accepted after a history in which its reader holds the lock
     held_read : (g : Schedule) (v : ℤ) → v ≡ current_value g.opening (accepted_in g) x.0 → g.opening ≡ h.opening → current_value h.opening (accepted_in g) x.0 ≡ current_value h.opening (accepted_in h) x.0

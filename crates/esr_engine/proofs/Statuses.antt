@@ -2,8 +2,8 @@
 use Rattle.std.proofs.Common.{◌≡◌, ℕ, true, false, not, ◌&&◌, refl, sym, ◌∙◌, ap, Option, None, Some, is_some, if◌then◌else◌, option_map}
 use Rattle.esr_history.specs.declared.back_links.Facts.{Facts}
 use Rattle.esr_history.specs.BackLinks.{accepted_end, last_place, facts_by, facts_of}
-use Rattle.esr_history.specs.Events.{Beginning, kind_of, beginning, is_active, is_begun, is_committed}
-use Rattle.esr_history.specs.Machine.{Distance, Schedule, IsLegal, accepted_in}
+use Rattle.esr_history.specs.Events.{BeginRecord, kind_of, begin_record, is_active, is_begun, is_committed}
+use Rattle.esr_history.specs.Machine.{DistanceFunction, Schedule, IsLegal, accepted_in}
 use Rattle.esr_order.specs.Scans.{is_commit_at}
 use Rattle.esr_order.proofs.Commits.{commit_at_end, facts_none}
 use Rattle.esr_engine.specs.declared.account.TxnStatus.{TxnStatus}
@@ -12,7 +12,7 @@ use Rattle.esr_engine.specs.Accounts.{status_of, charged_to, account_from, accou
 use Rattle.esr_engine.specs.Statuses.{status_at}
 use Rattle.esr_engine.proofs.Ends.{active_is}
 
-module _ (d : Distance) (h : Schedule) (legal : IsLegal d h) (t : ℕ) where
+module _ (d : DistanceFunction) (h : Schedule) (legal : IsLegal d h) (t : ℕ) where
   -- the index of its end determines its status
   status_is : is_begun (accepted_in h) t ≡ true → status_at h.entries (last_place accepted_end t h.entries) ≡ status_of (accepted_in h) t
   status_is begun = at (last_place accepted_end t h.entries) refl
@@ -29,9 +29,9 @@ module _ (d : Distance) (h : Schedule) (legal : IsLegal d h) (t : ℕ) where
 
   pub account_from_facts : (f : Facts) → Some f ≡ facts_of h.entries t → (charged : ℕ) → charged ≡ charged_to d h f.query t → (s : TxnStatus) → s ≡ status_at h.entries f.end
       → Some (record { kind = kind_of f.query; limit = f.limit; charged = charged; txn_status = s }) ≡ account_of d h t
-  account_from_facts f is charged amount s known = at (beginning (accepted_in h) t) refl is
+  account_from_facts f is charged amount s known = at (begin_record (accepted_in h) t) refl is
     where
-      at : (o : Option Beginning) → beginning (accepted_in h) t ≡ o → Some f ≡ facts_by o (last_place accepted_end t h.entries)
+      at : (o : Option BeginRecord) → begin_record (accepted_in h) t ≡ o → Some f ≡ facts_by o (last_place accepted_end t h.entries)
           → Some (record { kind = kind_of f.query; limit = f.limit; charged = charged; txn_status = s }) ≡ account_of d h t
       at None begun g = absurd (cc)
       at (Some b) begun g =
@@ -43,5 +43,5 @@ module _ (d : Distance) (h : Schedule) (legal : IsLegal d h) (t : ℕ) where
           ∙ (ap (λ (w : TxnStatus). Some (record { kind = kind_of b.query; limit = b.limit; charged = charged_to d h b.query t; txn_status = w })) before_it
           ∙ sym (ap (option_map (account_from d h t)) begun)))
 
-pub no_account : (d : Distance) (h : Schedule) (t : ℕ) → None ≡ facts_of h.entries t → None ≡ account_of d h t
+pub no_account : (d : DistanceFunction) (h : Schedule) (t : ℕ) → None ≡ facts_of h.entries t → None ≡ account_of d h t
 no_account d h t is = sym (ap (option_map (account_from d h t)) (facts_none h.entries t is))

@@ -1,8 +1,8 @@
 -- The account of one transaction in a history.
 use Rattle.std.specs.Prelude.{ℕ, Bool, true, false, List, Option, option_map, if◌then◌else◌}
 use Rattle.esr_history.specs.declared.event.Event.{Event}
-use Rattle.esr_history.specs.Events.{Beginning, kind_of, beginning, is_active, is_committed}
-use Rattle.esr_history.specs.Machine.{Distance, Schedule, accepted_in, charges_in, import_in, export_in}
+use Rattle.esr_history.specs.Events.{BeginRecord, kind_of, begin_record, is_active, is_committed}
+use Rattle.esr_history.specs.Machine.{DistanceFunction, Schedule, accepted_in, charges_in, import_in, export_in}
 use Rattle.esr_engine.specs.declared.account.AccountView.{AccountView}
 use Rattle.esr_engine.specs.declared.account.TxnStatus.{TxnStatus}
 use Rattle.esr_engine.specs.declared.account.TxnStatus.TheVariants.{Active, Committed, Aborted}
@@ -12,12 +12,12 @@ abbrev pub status_of : List Event → ℕ → TxnStatus
 status_of events t = if is_active events t then Active else (if is_committed events t then Committed else Aborted)
 
 -- the amount that a query has imported, or an update exported
-abbrev pub charged_to : Distance → Schedule → Bool → ℕ → ℕ
+abbrev pub charged_to : DistanceFunction → Schedule → Bool → ℕ → ℕ
 charged_to d h true t = import_in (charges_in d h) t
 charged_to d h false t = export_in (charges_in d h) t
 
 -- the account of a transaction that began so
-abbrev pub account_from : Distance → Schedule → ℕ → Beginning → AccountView
+abbrev pub account_from : DistanceFunction → Schedule → ℕ → BeginRecord → AccountView
 account_from d h t b = record {
   kind = kind_of b.query;
   limit = b.limit;
@@ -26,5 +26,5 @@ account_from d h t b = record {
 }
 
 -- the account of a transaction, if it has begun
-abbrev pub account_of : Distance → Schedule → ℕ → Option AccountView
-account_of d h t = option_map (account_from d h t) (beginning (accepted_in h) t)
+abbrev pub account_of : DistanceFunction → Schedule → ℕ → Option AccountView
+account_of d h t = option_map (account_from d h t) (begin_record (accepted_in h) t)

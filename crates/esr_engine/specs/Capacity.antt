@@ -7,8 +7,8 @@ use Rattle.esr_history.specs.declared.event.Event.{Event}
 use Rattle.esr_history.specs.declared.event.Reply.{Reply}
 use Rattle.esr_history.specs.declared.event.Event.TheVariants.{BeginUpdate, BeginQuery, Commit, Abort}
 use Rattle.esr_history.specs.declared.event.Reply.TheVariants.{Begun, Committed, Aborted}
-use Rattle.esr_history.specs.Events.{beginnings, txn_numbers, is_active}
-use Rattle.esr_history.specs.Machine.{Distance, Schedule, accepted_in, reply_to}
+use Rattle.esr_history.specs.Events.{begin_records, txn_numbers, is_active}
+use Rattle.esr_history.specs.Machine.{DistanceFunction, Schedule, accepted_in, reply_to}
 use Rattle.esr_engine.specs.declared.engine.Counts.{Counts}
 
 -- how many transactions are active
@@ -21,7 +21,7 @@ taken h = length h.entries + active_count (accepted_in h)
 
 -- how many transactions have begun
 abbrev pub transaction_count : Schedule → ℕ
-transaction_count h = length (beginnings (accepted_in h))
+transaction_count h = length (begin_records (accepted_in h))
 
 -- a begin needs an entry and one for its end, and a number
 abbrev pub no_begin : Schedule → Bool
@@ -36,7 +36,7 @@ is_full h (Abort t) = not (is_active (accepted_in h) t.0) && nat_le MAX_ENTRIES 
 is_full h _ = nat_le MAX_ENTRIES (taken h)
 
 -- There is an entry left for the end of each active transaction, and either end is accepted.
-pub record NeverStuck (d : Distance) (h : Schedule) : Type 0 where
+pub record NeverStuck (d : DistanceFunction) (h : Schedule) : Type 0 where
   pub capacity : taken h ≤ MAX_ENTRIES
   pub fits : (t : TxnId) → is_active (accepted_in h) t.0 ≡ true → (is_full h (Commit t) ≡ false) × (is_full h (Abort t) ≡ false)
   pub commits : (t : TxnId) → is_active (accepted_in h) t.0 ≡ true → reply_to d h (Commit t) ≡ Committed

@@ -12,14 +12,14 @@ use Rattle.esr_history.specs.declared.event.Event.TheVariants.{BeginUpdate, Begi
 use Rattle.esr_history.specs.declared.event.Reply.{Reply}
 use Rattle.esr_history.specs.declared.event.Entry.{Entry}
 use Rattle.esr_history.specs.Events.{written, last_value}
-use Rattle.esr_history.specs.Machine.{Distance, Schedule, IsLegal}
+use Rattle.esr_history.specs.Machine.{DistanceFunction, Schedule, IsLegal}
 use Rattle.esr_history.specs.Operations.{Operation, operation_by, operation_of, operations}
 use Rattle.esr_history.specs.Ranges.{IsWithinRanges}
 use Rattle.esr_history.specs.Serial.{state, values_by}
 use Rattle.esr_history.specs.Queries.{reads_by}
 use Rattle.esr_history.proofs.WithinRanges.{legal_within_ranges}
 use Rattle.esr_order.proofs.Entries.{accepts}
-use Rattle.esr_audit.proofs.Within.{state_in_range}
+use Rattle.esr_audit.proofs.ProblemRanges.{state_in_range}
 use Rattle.esr_order.specs.declared.accesses.Access.{Access}
 use Rattle.esr_order.specs.Scans.{access_of, accesses_in}
 use Rattle.esr_explain.specs.Accesses.{access_line, put, put_all}
@@ -158,7 +158,7 @@ both : {X : Type 0} (P Q : X → Type 0) (xs : List X) → AllByRecursion P xs �
 both P Q [] p q = tt
 both P Q (x ∷ xs) p q = ((p.0, q.0), both P Q xs p.1 q.1)
 
-module _ (d : Distance) (h : Schedule) (opened : All IsValue h.opening) (legal : IsLegal d h) where
+module _ (d : DistanceFunction) (h : Schedule) (opened : All IsValue h.opening) (legal : IsLegal d h) where
   -- accesses are of values of items that there are
   pub accesses_inside : (t : ℕ) → AllByRecursion (λ (a : Access). IsInside (length h.opening) a.item.0 a.value) (accesses_in h.entries t)
   accesses_inside t =

@@ -7,7 +7,7 @@ use Rattle.esr_history.specs.declared.event.Reply.{Reply}
 use Rattle.esr_history.specs.declared.event.Entry.{Entry}
 use Rattle.esr_history.specs.Events.{limit_of}
 use Rattle.esr_items.specs.Weights.{weighted}
-use Rattle.esr_history.specs.Machine.{Distance, Schedule, IsLegal, IsLegalAfter, empty_schedule, accepted_in, extended, reply_to}
+use Rattle.esr_history.specs.Machine.{DistanceFunction, Schedule, IsLegal, IsLegalAfter, empty_schedule, accepted_in, extended, reply_to}
 use Rattle.esr_core.specs.declared.machine.StepError.{StepError}
 use Rattle.esr_history.proofs.Onward.{legal_parts}
 use Rattle.esr_history.proofs.Charges.{range-push}
@@ -26,12 +26,12 @@ one_more (x ∷ es) zero e is = ap (λ y. y ∷ []) (same_Some x e is)
 one_more (x ∷ es) (suc i) e is = ap (λ l. x ∷ l) (one_more es i e is)
 
 -- the reply of each entry is the machine's, after the entries before it
-reply_at : (d : Distance) (h : Schedule) (i : ℕ) (e : Entry) → IsLegal d h → slice_get h.entries i ≡ Some e → e.reply ≡ reply_to d (until i h) e.event
+reply_at : (d : DistanceFunction) (h : Schedule) (i : ℕ) (e : Entry) → IsLegal d h → slice_get h.entries i ≡ Some e → e.reply ≡ reply_to d (until i h) e.event
 reply_at d h i e legal is =
     (legal_parts d (empty_schedule h) (take i h.entries) (e ∷ drop (suc i) h.entries) (subst (IsLegalAfter d (empty_schedule h)) (parts_at h.entries i e is) legal)).1.0
 
 -- the machine's reply to the event of the next entry makes the history one entry longer
-pub until_more : (d : Distance) (h : Schedule) (i : ℕ) (e : Entry) (r : Reply) → IsLegal d h → slice_get h.entries i ≡ Some e → r ≡ reply_to d (until i h) e.event
+pub until_more : (d : DistanceFunction) (h : Schedule) (i : ℕ) (e : Entry) (r : Reply) → IsLegal d h → slice_get h.entries i ≡ Some e → r ≡ reply_to d (until i h) e.event
     → extended (until i h) e.event r ≡ until (i + 1) h
 until_more d h i e r legal is reply =
     let same : r ≡ e.reply = reply ∙ sym (reply_at d h i e legal is) in
@@ -51,7 +51,7 @@ text_more f n =
 
 -- ---- the line of an entry
 
-module _ (d : Distance) (h : Schedule) (items transactions : List (List ℕ)) (q i : ℕ) (e : Entry) where
+module _ (d : DistanceFunction) (h : Schedule) (items transactions : List (List ℕ)) (q i : ℕ) (e : Entry) where
   pub line_none : imported d h q (i + 1) ≡ imported d h q i → charge_at d h items transactions q i (Some e) ≡ []
   line_none same = ap (λ b. if b then [] else met_line d h items transactions q i (meeting (until i h) e.event)) (eq-eqb (imported d h q (i + 1)) (imported d h q i) same)
 

@@ -6,7 +6,7 @@ use Rattle.esr_history.specs.declared.event.Event.{Event}
 use Rattle.esr_history.specs.declared.event.Event.TheVariants.{Read, Write}
 use Rattle.esr_history.specs.declared.event.Entry.{Entry}
 use Rattle.esr_history.specs.Events.{limit_of}
-use Rattle.esr_history.specs.Machine.{Distance, Schedule, accepted_in, distance_in, writer, charges_in, import_in, export_in}
+use Rattle.esr_history.specs.Machine.{DistanceFunction, Schedule, accepted_in, value_distance, writer, charges_in, import_in, export_in}
 use Rattle.esr_history.specs.Serial.{state}
 use Rattle.esr_history.specs.Queries.{updates_of, reads_by}
 use Rattle.esr_order.specs.Least.{least_set, least_cost}
@@ -36,9 +36,9 @@ abbrev pub read_line : (ℕ → ℤ → ℤ → ℕ) → (items : List (List ℕ
 read_line d items x value nearest = named_read_line (name_of_item items x) value nearest (d x value nearest)
 
 -- the lines of the reads of q, in order, with the values that the updates us leave
-abbrev pub read_lines : Distance → Schedule → (items : List (List ℕ)) → ℕ → (us : List ℕ) → List ℕ
+abbrev pub read_lines : DistanceFunction → Schedule → (items : List (List ℕ)) → ℕ → (us : List ℕ) → List ℕ
 read_lines d h items q us =
-    flat_map (λ o. read_line (distance_in d h) items o.item o.value (state h us o.item)) (reads_by h q)
+    flat_map (λ o. read_line (value_distance d h) items o.item o.value (state h us o.item)) (reads_by h q)
 
 -- the updates of q but for these, in commit order
 abbrev pub others : Schedule → ℕ → List ℕ → List ℕ
@@ -51,10 +51,10 @@ abbrev pub until : ℕ → Schedule → Schedule
 until i h = record h { entries = take i h.entries }
 
 -- the import of q by then, and the export of u
-abbrev pub imported : Distance → Schedule → ℕ → ℕ → ℕ
+abbrev pub imported : DistanceFunction → Schedule → ℕ → ℕ → ℕ
 imported d h q i = import_in (charges_in d (until i h)) q
 
-abbrev pub exported : Distance → Schedule → ℕ → ℕ → ℕ
+abbrev pub exported : DistanceFunction → Schedule → ℕ → ℕ → ℕ
 exported d h u i = export_in (charges_in d (until i h)) u
 
 -- a read meets the update that has written the item and has not ended, if there is one
@@ -70,7 +70,7 @@ meeting h (Write u x v) = Some (record { operation = operation.Write; update = u
 meeting h _ = None
 
 -- The charge to q of the entry at place i: the amount that q imported by it, and the rest of both limits then.
-abbrev pub charge_of : Distance → Schedule → ℕ → ℕ → Meeting → Charge
+abbrev pub charge_of : DistanceFunction → Schedule → ℕ → ℕ → Meeting → Charge
 charge_of d h q i m = record {
   amount = imported d h q (i + 1) - imported d h q i;
   step = i + 1;
@@ -100,18 +100,18 @@ charge_line items transactions c =
     (name_of_item items c.meeting.item.0) c
 
 -- the line of a meeting by which q is charged
-abbrev pub met_line : Distance → Schedule → (items transactions : List (List ℕ)) → ℕ → ℕ → Option Meeting → List ℕ
+abbrev pub met_line : DistanceFunction → Schedule → (items transactions : List (List ℕ)) → ℕ → ℕ → Option Meeting → List ℕ
 met_line d h items transactions q i None = []
 met_line d h items transactions q i (Some m) = charge_line items transactions (charge_of d h q i m)
 
 -- the line of the charge of the entry at place i, if q imported something by it
-abbrev pub charge_at : Distance → Schedule → (items transactions : List (List ℕ)) → ℕ → ℕ → Option Entry → List ℕ
+abbrev pub charge_at : DistanceFunction → Schedule → (items transactions : List (List ℕ)) → ℕ → ℕ → Option Entry → List ℕ
 charge_at d h items transactions q i None = []
 charge_at d h items transactions q i (Some e) =
     if imported d h q (i + 1) == imported d h q i then []
     else met_line d h items transactions q i (meeting (until i h) e.event)
 
-abbrev pub charge_lines : Distance → Schedule → (items transactions : List (List ℕ)) → ℕ → List ℕ
+abbrev pub charge_lines : DistanceFunction → Schedule → (items transactions : List (List ℕ)) → ℕ → List ℕ
 charge_lines d h items transactions q =
     flat_map (λ i. charge_at d h items transactions q i (slice_get h.entries i)) (range_with_len 0 (length h.entries))
 
@@ -123,7 +123,7 @@ sums_line distance import = line (codes "distance" ∷ decimal distance ∷ code
 
 -- The reads of q, with the values of the nearest placement; the charges to q, in order; the updates before that
 -- placement, and the others; and the sums.
-abbrev pub explanation : Distance → Schedule → (items transactions : List (List ℕ)) → ℕ → List ℕ
+abbrev pub explanation : DistanceFunction → Schedule → (items transactions : List (List ℕ)) → ℕ → List ℕ
 explanation d h items transactions q =
     read_lines d h items q (least_set d h q)
     ++ charge_lines d h items transactions q

@@ -37,32 +37,32 @@ fn is_within(arc: Arc, amount: u64) -> bool
 
 /// Adds the amount of an arc to the inflow of its head and to the outflow of its tail. Returns false if the amount is
 /// above the arc's capacity or a sum overflows.
-fn add_arc(arc: Arc, amount: u64, into: &mut [u64], from: &mut [u64]) -> bool
-    requires to { arc.to < length into.old }
-    requires from { arc.from < length from.old }
-    ensures within { result ≡ true → within amount arc.capacity ≡ true }
-    ensures into { result ≡ true → into.new ≡ set into.old arc.to (get_or into.old arc.to 0 + amount) }
-    ensures from { result ≡ true → from.new ≡ set from.old arc.from (get_or from.old arc.from 0 + amount) }
+fn add_arc(arc: Arc, amount: u64, inflows: &mut [u64], outflows: &mut [u64]) -> bool
+    requires to { arc.to < length inflows.old }
+    requires outflows { arc.from < length outflows.old }
+    ensures capacity { result ≡ true → within amount arc.capacity ≡ true }
+    ensures inflows { result ≡ true → inflows.new ≡ set inflows.old arc.to (get_or inflows.old arc.to 0 + amount) }
+    ensures outflows { result ≡ true → outflows.new ≡ set outflows.old arc.from (get_or outflows.old arc.from 0 + amount) }
 {
     is_within(arc, amount)
-        && add_to(into, arc.to as usize, amount)
-        && add_to(from, arc.from as usize, amount)
+        && add_to(inflows, arc.to as usize, amount)
+        && add_to(outflows, arc.from as usize, amount)
 }
 
 /// Computes the inflow and the outflow of each node, and returns the greatest amount. Returns `None` if an amount is
 /// above the capacity of its arc or a sum overflows.
-fn sum_arcs(graph: &Graph, flow: &[u64], into: &mut [u64], from: &mut [u64]) -> Option<u64>
+fn sum_arcs(graph: &Graph, flow: &[u64], inflows: &mut [u64], outflows: &mut [u64]) -> Option<u64>
     requires flow { length flow.now ≡ length (arcs_of graph.now) }
-    requires into { length into.old ≡ graph.now.nodes }
-    requires from { length from.old ≡ graph.now.nodes }
-    requires nothing { (v : ℕ) → (get_or into.old v 0 ≡ 0) × (get_or from.old v 0 ≡ 0) }
-    ensures within { IfSome result (λ upper_bound. (i : ℕ) → i < length flow.now
+    requires inflows { length inflows.old ≡ graph.now.nodes }
+    requires outflows { length outflows.old ≡ graph.now.nodes }
+    requires zero { (v : ℕ) → (get_or inflows.old v 0 ≡ 0) × (get_or outflows.old v 0 ≡ 0) }
+    ensures capacities { IfSome result (λ upper_bound. (i : ℕ) → i < length flow.now
         → within (get_or flow.now i 0) (arc_at (arcs_of graph.now) i).capacity ≡ true) }
     ensures upper_bound { IfSome result (λ upper_bound. (i : ℕ) → i < length flow.now → get_or flow.now i 0 ≤ upper_bound) }
-    ensures into { IfSome result (λ upper_bound. (v : ℕ) → v < graph.now.nodes
-        → get_or into.new v 0 ≡ inflow (arcs_of graph.now) flow.now v) }
-    ensures from { IfSome result (λ upper_bound. (v : ℕ) → v < graph.now.nodes
-        → get_or from.new v 0 ≡ outflow (arcs_of graph.now) flow.now v) }
+    ensures inflows { IfSome result (λ upper_bound. (v : ℕ) → v < graph.now.nodes
+        → get_or inflows.new v 0 ≡ inflow (arcs_of graph.now) flow.now v) }
+    ensures outflows { IfSome result (λ upper_bound. (v : ℕ) → v < graph.now.nodes
+        → get_or outflows.new v 0 ≡ outflow (arcs_of graph.now) flow.now v) }
 {
     let mut greatest = 0;
     for i in 0..flow.len() {
@@ -71,7 +71,7 @@ fn sum_arcs(graph: &Graph, flow: &[u64], into: &mut [u64], from: &mut [u64]) -> 
             continue;
         }
         let arc = graph.problem.arc(i as u32);
-        if !add_arc(arc, amount, into, from) {
+        if !add_arc(arc, amount, inflows, outflows) {
             return None;
         }
         greatest = amount.max(greatest);
@@ -80,14 +80,14 @@ fn sum_arcs(graph: &Graph, flow: &[u64], into: &mut [u64], from: &mut [u64]) -> 
 }
 
 /// Returns whether inflow equals outflow at each node other than the source and the sink.
-fn is_conserved(graph: &Graph, into: &[u64], from: &[u64]) -> bool
-    requires into { length into.now ≡ graph.now.nodes }
-    requires from { length from.now ≡ graph.now.nodes }
+fn is_conserved(graph: &Graph, inflows: &[u64], outflows: &[u64]) -> bool
+    requires inflows { length inflows.now ≡ graph.now.nodes }
+    requires outflows { length outflows.now ≡ graph.now.nodes }
     ensures { result ≡ true → (v : ℕ) → v < graph.now.nodes → v ≢ graph.now.source → v ≢ graph.now.sink
-        → get_or into.now v 0 ≡ get_or from.now v 0 }
+        → get_or inflows.now v 0 ≡ get_or outflows.now v 0 }
 {
     for v in 0..graph.nodes {
-        if v != graph.source && v != graph.sink && into[v] != from[v] {
+        if v != graph.source && v != graph.sink && inflows[v] != outflows[v] {
             return false;
         }
     }
@@ -101,13 +101,13 @@ pub fn value_if_flow(alloc: Global, graph: &Graph, flow: &[u64]) -> Result<Optio
     ensures worth { IfOk result (λ r. IfSome r (λ value. value ≡ worth (network_of graph.now) flow.now)) }
     ensures amounts { IfOk result (λ r. IfSome r (λ value. (i : ℕ) → amount_at flow.now i ≤ value)) }
 {
-    let mut into = vec![in alloc; 0u64; graph.nodes]?;
-    let mut from = vec![in alloc; 0u64; graph.nodes]?;
-    let Some(greatest) = sum_arcs(graph, flow, &mut into, &mut from) else {
+    let mut inflows = vec![in alloc; 0u64; graph.nodes]?;
+    let mut outflows = vec![in alloc; 0u64; graph.nodes]?;
+    let Some(greatest) = sum_arcs(graph, flow, &mut inflows, &mut outflows) else {
         return Ok(None);
     };
-    let worth = from[graph.source];
-    if greatest <= worth && is_conserved(graph, &into, &from) {
+    let worth = outflows[graph.source];
+    if greatest <= worth && is_conserved(graph, &inflows, &outflows) {
         Ok(Some(worth))
     } else {
         Ok(None)

@@ -1,7 +1,7 @@
 -- Consequences of a read, a write and an end that are not refused, one for each reason to refuse.
 use Rattle.std.proofs.Common.{◌≡◌, ℤ, List, [], ◌∷◌, Option, None, Some, refl, arith}
 use Rattle.esr_history.specs.Events.{ItemId, TxnId, Read, Write, Refusal}
-use Rattle.esr_history.specs.Machine.{Distance, Schedule, not_begun, ended, no_item, query_writes, out_of_range, many_reads, read_blocked, write_blocked, import_full, export_full, due_in, first_reason, reasons}
+use Rattle.esr_history.specs.Machine.{DistanceFunction, Schedule, not_begun, ended, no_item, query_writes, out_of_range, many_reads, read_blocked, write_blocked, import_full, export_full, due_in, first_reason, reasons}
 
 -- none of the reasons applies
 abbrev pub NoneApplies : List (Option Refusal) → Type 0
@@ -13,7 +13,7 @@ none_applies [] none = tt
 none_applies (None ∷ rs) none = (refl, none_applies rs none)
 none_applies (Some why ∷ rs) none = absurd (cc)
 
-pub record ReadAllowed (d : Distance) (h : Schedule) (t : TxnId) (x : ItemId) : Type 0 where
+pub record ReadAllowed (d : DistanceFunction) (h : Schedule) (t : TxnId) (x : ItemId) : Type 0 where
   pub begun : not_begun h t.0 ≡ None
   pub active : ended h t.0 ≡ None
   pub item : no_item h x.0 ≡ None
@@ -31,7 +31,7 @@ pub record WriteOpen (h : Schedule) (t : TxnId) (x : ItemId) (v : ℤ) : Type 0 
   pub value : out_of_range v ≡ None
   pub free : write_blocked h t.0 x.0 ≡ None
 
-pub record WriteAllowed (d : Distance) (h : Schedule) (t : TxnId) (x : ItemId) (v : ℤ) : Type 0 where
+pub record WriteAllowed (d : DistanceFunction) (h : Schedule) (t : TxnId) (x : ItemId) (v : ℤ) : Type 0 where
   pub uncharged : WriteOpen h t x v
   pub imports : import_full d h (due_in d h (Write t x v)) ≡ None
   pub exports : export_full d h (due_in d h (Write t x v)) ≡ None
@@ -41,7 +41,7 @@ pub record EndAllowed (h : Schedule) (t : TxnId) : Type 0 where
   pub active : ended h t.0 ≡ None
 
 -- The reasons are numbered here alone, in their order.
-pub read_allowed : (d : Distance) (h : Schedule) (t : TxnId) (x : ItemId) → NoneApplies (reasons d h (Read t x)) → ReadAllowed d h t x
+pub read_allowed : (d : DistanceFunction) (h : Schedule) (t : TxnId) (x : ItemId) → NoneApplies (reasons d h (Read t x)) → ReadAllowed d h t x
 read_allowed d h t x none = record {
   begun = none.0;
   active = none.1.0;
@@ -63,7 +63,7 @@ write_open h t x v none = record {
   free = none.1.1.1.1.1.0;
 }
 
-pub write_allowed : (d : Distance) (h : Schedule) (t : TxnId) (x : ItemId) (v : ℤ) → NoneApplies (reasons d h (Write t x v)) → WriteAllowed d h t x v
+pub write_allowed : (d : DistanceFunction) (h : Schedule) (t : TxnId) (x : ItemId) (v : ℤ) → NoneApplies (reasons d h (Write t x v)) → WriteAllowed d h t x v
 write_allowed d h t x v none = grind (arith, write_open)
 
 pub end_allowed : (h : Schedule) (t : TxnId) → NoneApplies (not_begun h t.0 ∷ ended h t.0 ∷ []) → EndAllowed h t

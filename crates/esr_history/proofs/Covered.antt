@@ -3,7 +3,7 @@ use Rattle.std.proofs.Common.{◌≡◌, ℕ, ◌+◌, ◌*◌, ◌≤◌, ℤ, 
 use Rattle.std.proofs.lemmas.List.Sums.{sum_by-cons, sum_by_push}
 use Rattle.std.proofs.lemmas.Bool.{true≢false, cases_Bool, cases_eq, and_parts, and_from, eqb-true, eq-eqb, ne_eqb, not-true, not_from_false, not-false, false_from_ne_true, cond-true, cond-false}
 use Rattle.esr_history.specs.Operations.{Operation}
-use Rattle.esr_history.specs.Events.{Beginning}
+use Rattle.esr_history.specs.Events.{BeginRecord}
 use Rattle.esr_history.proofs.Membership.{In, filter_none_in}
 use Rattle.esr_history.proofs.Traces.{holds_of, Setting, IsMetric, reads_item, Trace, update_in, query_in, begun_in, ended_in, Active, with_operation, read_of, write_of, current_in, committed_in, read_count_in, Reached, Reached.nothing, Reached.begin, Reached.read_update, Reached.read_query, Reached.write, Reached.commit, Reached.abort}
 use Rattle.esr_history.proofs.Locking.{known, update_stays, ended_kept_commit, ended_kept_abort}
@@ -12,15 +12,15 @@ use Rattle.esr_history.proofs.Versions.{writers, settled, item_parts, current_af
 abbrev pub read_by : ℕ → Operation → Bool
 read_by q o = not o.writes && eqb o.txn q
 
-abbrev pub distance_in : (ℕ → ℤ → ℤ → ℕ) → Trace → ℕ → (ℕ → ℤ) → ℕ
-distance_in d t q w = sum_by (λ o. d o.item o.value (w o.item)) (filter (read_by q) t.operations)
+abbrev pub value_distance : (ℕ → ℤ → ℤ → ℕ) → Trace → ℕ → (ℕ → ℤ) → ℕ
+value_distance d t q w = sum_by (λ o. d o.item o.value (w o.item)) (filter (read_by q) t.operations)
 
 -- each item at its committed or its current value
 abbrev pub IsMixture : (ℕ → ℤ) → Trace → (ℕ → ℤ) → Type 0
 IsMixture o t w = (x : ℕ) → (w x ≡ committed_in o t x) ⊎ (w x ≡ current_in o t x)
 
 abbrev pub IsCovered : Setting → Trace → (ℕ → ℕ) → Type 0
-IsCovered s t m = (q : ℕ) → ended_in t q ≡ false → update_in t q ≡ false → (w : ℕ → ℤ) → IsMixture s.opening t w → distance_in s.distance t q w ≤ m q
+IsCovered s t m = (q : ℕ) → ended_in t q ≡ false → update_in t q ≡ false → (w : ℕ → ℤ) → IsMixture s.opening t w → value_distance s.distance t q w ≤ m q
 
 -- an operation of another leaves the reads of q
 pub reads_with : (t : Trace) (o : Operation) (q : ℕ) → read_by q o ≡ false → filter (read_by q) (t.operations ++ o ∷ []) ≡ filter (read_by q) t.operations
@@ -66,7 +66,7 @@ sums_within p c f g k (x ∷ xs) h =
 pub unbegun : {s : Setting} {t : Trace} {m : ℕ → ℕ} → Reached s t m → (q : ℕ) → begun_in t q ≡ false → filter (read_by q) t.operations ≡ []
 unbegun {t = t} r q h = grind (arith, filter_none_in, false_from_ne_true, true≢false, known r, begun_in t, read_parts)
 
-pub query_from : (o : Option Beginning) → is_some o ≡ true → holds_of (λ s. not s.query) o ≡ false → holds_of (λ s. s.query) o ≡ true
+pub query_from : (o : Option BeginRecord) → is_some o ≡ true → holds_of (λ s. not s.query) o ≡ false → holds_of (λ s. s.query) o ≡ true
 query_from None b h = absurd (true≢false (sym b))
 query_from (Some s) b h = not-false s.query h
 
@@ -146,7 +146,7 @@ write_covered {s = s} {t = t} {m = m} d r was u x v c ac up paid = λ q eq uq w 
         sums_within (read_by q) counts f g k t.operations (λ o i h. single q w wx o i h) in
         ⊎_elim
         (λ b. chain (sum_by f (filter (read_by q) t.operations)) (sum_by g (filter (read_by q) t.operations)) (count_by counts t.operations * k) (m q) (c q) grown below
-        (paid q (record { begun = b; open_ended = eq }) (query_from (t.beginning q) b uq)))
+        (paid q (record { begun = b; open_ended = eq }) (query_from (t.begin_record q) b uq)))
         (λ nb. subst (λ l. sum_by f l ≤ m q + c q) (sym (unbegun r q nb)) (nothing_le (m q + c q)))
         (cases_Bool (begun_in t q))
 
@@ -155,11 +155,11 @@ covered d nothing = λ q eq uq w mix. omega arith
 covered {s = s} d (begin {t = t} r b keeps) = λ q eq uq w mix.
     covered d r q eq
     (false_from_ne_true (update_in t q) (λ h.
-    let bg : begun_in t q ≡ true = begun_if (t.beginning q) h in
+    let bg : begun_in t q ≡ true = begun_if (t.begin_record q) h in
     true≢false (sym (update_stays t b q keeps bg ∙ h) ∙ uq)))
     w mix
   where
-    begun_if : (o : Option Beginning) → holds_of (λ s. not s.query) o ≡ true → is_some o ≡ true
+    begun_if : (o : Option BeginRecord) → holds_of (λ s. not s.query) o ≡ true → is_some o ≡ true
     begun_if None h = absurd (true≢false (sym h))
     begun_if (Some b) h = refl
 covered {s = s} d (read_update {t = t} {m = m} r u x ac up free) = λ q eq uq w mix.

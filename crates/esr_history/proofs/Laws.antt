@@ -7,7 +7,7 @@ use Rattle.std.proofs.lemmas.Bool.{and_parts, or_left}
 use Rattle.std.proofs.lemmas.List.Elements.{filter-append, filter_map-append}
 use Rattle.esr_items.specs.Values.{value_at}
 use Rattle.esr_history.specs.Events.{accepted, is_query, is_update, is_committed, written, last_value, ItemId, TxnId, Read, Value, Entry}
-use Rattle.esr_history.specs.Machine.{Distance, Schedule, accepted_in, distance_in, import_in, charges_in, IsLegal}
+use Rattle.esr_history.specs.Machine.{DistanceFunction, Schedule, accepted_in, value_distance, import_in, charges_in, IsLegal}
 use Rattle.esr_history.specs.Legal.{along}
 use Rattle.esr_history.specs.Operations.{Operation, operations, operations_in, commit_order}
 use Rattle.esr_history.specs.Serial.{is_before, committed_updates, state, IsSerializable}
@@ -16,9 +16,9 @@ use Rattle.esr_history.proofs.Membership.{get_seam, Pairs, Pairs-filter, All-fro
 use Rattle.esr_history.proofs.Traces.{IsMetric, is_among, after_writes}
 use Rattle.esr_history.proofs.Locking.{known, commits_in_order, commits_once}
 use Rattle.esr_history.proofs.Versions.{wrote_by, state_in, committed_version, flat_map_agree}
-use Rattle.esr_history.proofs.Bounded.{bounded, before_first-kept}
+use Rattle.esr_history.proofs.Bounded.{bounded, before_first-unchanged}
 use Rattle.esr_history.proofs.Replays.{reads_ahead}
-use Rattle.esr_history.proofs.Words.{query_not_update, trace, committed_among, written_trace, committed_trace, state_trace}
+use Rattle.esr_history.proofs.TraceAgreement.{query_not_update, trace, committed_among, written_trace, committed_trace, state_trace}
 use Rattle.esr_history.proofs.TraceOfHistory.{legal_reached}
 use Rattle.esr_history.proofs.Onward.{IsAfter, legal_after, legal_front, has_begins}
 
@@ -26,7 +26,7 @@ use Rattle.esr_history.proofs.Onward.{IsAfter, legal_after, legal_front, has_beg
 pub operations-append : (xs ys : List Entry) → operations_in (xs ++ ys) ≡ operations_in xs ++ operations_in ys
 operations-append xs ys = grind (arith, filter-append, filter_map-append, filter)
 
-module _ (d : Distance) (h : Schedule) (legal : IsLegal d h) where
+module _ (d : DistanceFunction) (h : Schedule) (legal : IsLegal d h) where
   -- in commit order, each committed update once and after those before it
   pub updates_once : Pairs (λ u v. u ≡ v → ⊥) (committed_updates h)
   updates_once = Pairs-filter (λ u v. u ≡ v → ⊥) (is_update (accepted_in h)) (commit_order (accepted_in h)) (commits_once (legal_reached d h legal))
@@ -67,7 +67,7 @@ all_members [] = refl
 all_members (x ∷ xs) = ap (λ zs. x ∷ zs) (all_members xs)
 
 -- with all its updates before it, a committed query costs at most its import
-pub import_bounds_distance : (d : Distance) → ((w : List ℕ) → IsMetric (d w)) → (h : Schedule) → IsLegal d h → ImportBoundsDistance d h
+pub import_bounds_distance : (d : DistanceFunction) → ((w : List ℕ) → IsMetric (d w)) → (h : Schedule) → IsLegal d h → ImportBoundsDistance d h
 import_bounds_distance d metric h legal q is =
     let p = and_parts (is_query (accepted_in h) q) (is_committed (accepted_in h) q) is in
     let values : state h (members h q (λ _. true)) ≡ state_in (value_at h.opening) (trace h) (updates_of h q) = ap (state h) (all_members (updates_of h q)) ∙ fun_ext (state_trace h (updates_of h q)) in
@@ -75,13 +75,13 @@ import_bounds_distance d metric h legal q is =
     (bounded (metric h.weights) (legal_reached d h legal) q (sym (committed_among (accepted_in h) q) ∙ p.1) (query_not_update (accepted_in h) q p.0))
 
 -- the audit of a committed query has the same result in every longer legal history
-pub audit_stays : (d : Distance) (h : Schedule) (rest : List Entry) (q : ℕ) → IsLegal d (along h rest) → is_committed (accepted_in h) q ≡ true → HasSameAudit d h (along h rest) q
+pub audit_stays : (d : DistanceFunction) (h : Schedule) (rest : List Entry) (q : ℕ) → IsLegal d (along h rest) → is_committed (accepted_in h) q ≡ true → HasSameAudit d h (along h rest) q
 audit_stays d h rest q legal over =
     let longer : Schedule = along h rest in
     let after : IsAfter d h q longer = legal_after d h rest q legal over in
     let same = after.same in
     let begun = (known (legal_reached d h (legal_front d h rest legal))).of_ends q (or_left (is_among (commit_order (accepted_in h)) q) (is_among (trace h).aborts q) (sym (committed_among (accepted_in h) q) ∙ over)) in
-    let front : before_begin longer q ≡ before_begin h q = before_first-kept (λ (e : Entry). begins q e.reply) h.entries rest (has_begins d h (legal_front d h rest legal) q begun) in
+    let front : before_begin longer q ≡ before_begin h q = before_first-unchanged (λ (e : Entry). begins q e.reply) h.entries rest (has_begins d h (legal_front d h rest legal) q begun) in
     record {
       committed =
           ap (λ o. unwrap_or (option_map (λ b. b.query) o) false && is_committed (accepted_in longer) q) same.begins
@@ -93,7 +93,7 @@ audit_stays d h rest q legal over =
           ∙ ap (λ us. if is_strict (accepted_in h) q then filter (is_committed (accepted (before_begin h q))) us else []) same.updates);
       order = λ u v iu iv. same.order u v (Contains-In (updates_of h q) u iu) (Contains-In (updates_of h q) v iv);
       costs = λ S.
-          ap (λ l. sum_by (λ (o : Operation). distance_in d h o.item o.value (state longer (members longer q S) o.item)) l) same.reads
+          ap (λ l. sum_by (λ (o : Operation). value_distance d h o.item o.value (state longer (members longer q S) o.item)) l) same.reads
           ∙ ap (distance_from d h q) (fun_ext (λ x.
           ap (λ us. state longer (filter S us) x) same.updates
           ∙ (state_trace longer (members h q S) x

@@ -8,7 +8,7 @@ use Rattle.std.proofs.lemmas.List.Elements.{filter-append, filter_map-append}
 use Rattle.std.proofs.lemmas.Option.{slice_get_past}
 use Rattle.esr_history.specs.declared.back_links.Begin.{Begin}
 use Rattle.esr_history.specs.declared.back_links.BackLinks.{BackLinks}
-use Rattle.esr_history.specs.Events.{Beginning, is_query_kind, is_refusal, accepted, beginnings, beginning_of, Event, BeginUpdate, BeginQuery, Read, Write, Commit, Abort, Reply, Entry}
+use Rattle.esr_history.specs.Events.{BeginRecord, is_query_kind, is_refusal, accepted, begin_records, begin_record_of, Event, BeginUpdate, BeginQuery, Read, Write, Commit, Abort, Reply, Entry}
 use Rattle.esr_history.specs.BackLinks.{item_of, txn_of, ender, item_in, txn_in, accepted_item, accepted_txn, accepted_end, facts_by, facts_of, is_key, places_from, last_place, last_of_key, earlier, earlier_at, coded, decoded, key_at, links_by, lasts_by, begin_of, begun_count, AreLinks, IsFit, with_key, txns_after, ends_after, begins_after, IsNumbered, Facts}
 use Rattle.esr_history.proofs.Charges.{range-push}
 use Rattle.esr_history.proofs.KindLaws.{query_kind}
@@ -118,23 +118,23 @@ accepted_push es e is = grind (arith, map, filter-append, filter, cond, map-appe
 pub accepted_refused : (es : List Entry) (e : Entry) → is_refusal e.reply ≡ true → accepted (es ++ e ∷ []) ≡ accepted es
 accepted_refused es e is = grind (arith, map, filter-append, filter, cond, append-nil)
 
-begins_push : (es : List Entry) (e : Entry) → is_refusal e.reply ≡ false → beginnings (accepted (es ++ e ∷ [])) ≡ beginnings (accepted es) ++ cons_option (beginning_of e.event) []
-begins_push es e is = ap beginnings (accepted_push es e is) ∙ filter_map-append beginning_of (accepted es) (e.event ∷ [])
+begins_push : (es : List Entry) (e : Entry) → is_refusal e.reply ≡ false → begin_records (accepted (es ++ e ∷ [])) ≡ begin_records (accepted es) ++ cons_option (begin_record_of e.event) []
+begins_push es e is = ap begin_records (accepted_push es e is) ∙ filter_map-append begin_record_of (accepted es) (e.event ∷ [])
 
 pub count_refused : (es : List Entry) (e : Entry) → is_refusal e.reply ≡ true → begun_count (es ++ e ∷ []) ≡ begun_count es
-count_refused es e is = ap (λ l. length (beginnings l)) (accepted_refused es e is)
+count_refused es e is = ap (λ l. length (begin_records l)) (accepted_refused es e is)
 
-pub count_same : (es : List Entry) (e : Entry) → is_refusal e.reply ≡ false → beginning_of e.event ≡ None → begun_count (es ++ e ∷ []) ≡ begun_count es
-count_same es e is none = ap length (begins_push es e is ∙ (ap (λ o. beginnings (accepted es) ++ cons_option o []) none ∙ append-nil (beginnings (accepted es))))
+pub count_same : (es : List Entry) (e : Entry) → is_refusal e.reply ≡ false → begin_record_of e.event ≡ None → begun_count (es ++ e ∷ []) ≡ begun_count es
+count_same es e is none = ap length (begins_push es e is ∙ (ap (λ o. begin_records (accepted es) ++ cons_option o []) none ∙ append-nil (begin_records (accepted es))))
 
-pub count_more : (es : List Entry) (e : Entry) (b : Beginning) → is_refusal e.reply ≡ false → beginning_of e.event ≡ Some b → begun_count (es ++ e ∷ []) ≡ begun_count es + 1
-count_more es e b is some = ap length (begins_push es e is ∙ ap (λ o. beginnings (accepted es) ++ cons_option o []) some) ∙ length-append (beginnings (accepted es)) (b ∷ [])
+pub count_more : (es : List Entry) (e : Entry) (b : BeginRecord) → is_refusal e.reply ≡ false → begin_record_of e.event ≡ Some b → begun_count (es ++ e ∷ []) ≡ begun_count es + 1
+count_more es e b is some = ap length (begins_push es e is ∙ ap (λ o. begin_records (accepted es) ++ cons_option o []) some) ∙ length-append (begin_records (accepted es)) (b ∷ [])
 
-begins_same : (es : List Entry) (e : Entry) → is_refusal e.reply ≡ false → beginning_of e.event ≡ None → map begin_of (beginnings (accepted (es ++ e ∷ []))) ≡ map begin_of (beginnings (accepted es))
-begins_same es e is none = ap (map begin_of) (begins_push es e is ∙ (ap (λ o. beginnings (accepted es) ++ cons_option o []) none ∙ append-nil (beginnings (accepted es))))
+begins_same : (es : List Entry) (e : Entry) → is_refusal e.reply ≡ false → begin_record_of e.event ≡ None → map begin_of (begin_records (accepted (es ++ e ∷ []))) ≡ map begin_of (begin_records (accepted es))
+begins_same es e is none = ap (map begin_of) (begins_push es e is ∙ (ap (λ o. begin_records (accepted es) ++ cons_option o []) none ∙ append-nil (begin_records (accepted es))))
 
-begins_more : (es : List Entry) (e : Entry) (b : Beginning) → is_refusal e.reply ≡ false → beginning_of e.event ≡ Some b → map begin_of (beginnings (accepted (es ++ e ∷ []))) ≡ map begin_of (beginnings (accepted es)) ++ begin_of b ∷ []
-begins_more es e b is some = ap (map begin_of) (begins_push es e is ∙ ap (λ o. beginnings (accepted es) ++ cons_option o []) some) ∙ map-append begin_of (beginnings (accepted es)) (b ∷ [])
+begins_more : (es : List Entry) (e : Entry) (b : BeginRecord) → is_refusal e.reply ≡ false → begin_record_of e.event ≡ Some b → map begin_of (begin_records (accepted (es ++ e ∷ []))) ≡ map begin_of (begin_records (accepted es)) ++ begin_of b ∷ []
+begins_more es e b is some = ap (map begin_of) (begins_push es e is ∙ ap (λ o. begin_records (accepted es) ++ cons_option o []) some) ∙ map-append begin_of (begin_records (accepted es)) (b ∷ [])
 
 -- the tables of keys after an accepted entry
 items_after : (es : List Entry) (e : Entry) (n : ℕ) → is_refusal e.reply ≡ false → lasts_by accepted_item (es ++ e ∷ []) n ≡ with_key (lasts_by accepted_item es n) (item_of e.event) (length es + 1)
@@ -145,7 +145,7 @@ items_after es e n is = at (item_of e.event) (ap (λ b. if b then None else item
     at (Some k) key = lasts_some accepted_item es e n k key
 
 -- the tables by transactions after one more entry of a transaction that has begun
-module _ (es : List Entry) (e : Entry) (is : is_refusal e.reply ≡ false) (none : beginning_of e.event ≡ None) where
+module _ (es : List Entry) (e : Entry) (is : is_refusal e.reply ≡ false) (none : begin_record_of e.event ≡ None) where
   txns_known : (t : ℕ) → txn_of e.event e.reply ≡ Some t → lasts_by accepted_txn (es ++ e ∷ []) (begun_count (es ++ e ∷ []) + 1) ≡ slice_set (lasts_by accepted_txn es (begun_count es + 1)) t (length es + 1)
   txns_known t own = grind (arith, count_same es e is none, lasts_some)
 
@@ -156,7 +156,7 @@ module _ (es : List Entry) (e : Entry) (is : is_refusal e.reply ≡ false) (none
   ends_none own = grind (arith, count_same es e is none, lasts_none)
 
 -- and after a begin
-module _ (es : List Entry) (e : Entry) (is : is_refusal e.reply ≡ false) (b : Beginning) (some : beginning_of e.event ≡ Some b) where
+module _ (es : List Entry) (e : Entry) (is : is_refusal e.reply ≡ false) (b : BeginRecord) (some : begin_record_of e.event ≡ Some b) where
   count : begun_count (es ++ e ∷ []) ≡ begun_count es + 1
   count = count_more es e b is some
 
@@ -191,7 +191,7 @@ ends_after_entry n es (Commit t) r is fit = ends_known es (record { event = Comm
 ends_after_entry n es (Abort t) r is fit = ends_known es (record { event = Abort t; reply = r }) is refl t.0 refl
 
 begins_after_entry : (es : List Entry) (ev : Event) (r : Reply) → is_refusal r ≡ false
-    → map begin_of (beginnings (accepted (es ++ record { event = ev; reply = r } ∷ []))) ≡ begins_after (map begin_of (beginnings (accepted es))) ev
+    → map begin_of (begin_records (accepted (es ++ record { event = ev; reply = r } ∷ []))) ≡ begins_after (map begin_of (begin_records (accepted es))) ev
 begins_after_entry es (BeginUpdate l) r is = begins_more es (record { event = BeginUpdate l; reply = r }) (record { query = false; strict = false; limit = l }) is refl
 begins_after_entry es (BeginQuery l s) r is = begins_more es (record { event = BeginQuery l s; reply = r }) (record { query = true; strict = s; limit = l }) is refl
 begins_after_entry es (Read t x) r is = begins_same es (record { event = Read t x; reply = r }) is refl
@@ -230,22 +230,22 @@ module _ (n : ℕ) (es : List Entry) (l : BackLinks) (are : AreLinks n es l) (fi
   }
 
 -- the facts of a transaction that has begun
-found : (bs : List Beginning) (k : ℕ) (b : Begin) (end : Option ℕ) → k < length bs → b ≡ get_or (map begin_of bs) k b → Some (record { query = is_query_kind b.kind; limit = b.limit; end = end }) ≡ facts_by (slice_get bs k) end
+found : (bs : List BeginRecord) (k : ℕ) (b : Begin) (end : Option ℕ) → k < length bs → b ≡ get_or (map begin_of bs) k b → Some (record { query = is_query_kind b.kind; limit = b.limit; end = end }) ≡ facts_by (slice_get bs k) end
 found [] k b end l is = absurd (omega arith)
 found (c ∷ bs) zero b end l is =
     ap (λ (b : Begin). let f : Facts = record { query = is_query_kind b.kind; limit = b.limit; end = end } in Some f) is
     ∙ ap (λ (q : Bool). let f : Facts = record { query = q; limit = c.limit; end = end } in Some f) (query_kind c.query)
 found (c ∷ bs) (suc k) b end l is = found bs k b end (omega arith) is
 
-pub facts_are : (es : List Entry) (t : ℕ) (begins : List Begin) (b : Begin) (end : Option ℕ) → begins ≡ map begin_of (beginnings (accepted es)) → (t ≡ 0 → ⊥) → t - 1 < length begins → b ≡ get_or begins (t - 1) b → end ≡ last_place accepted_end t es
+pub facts_are : (es : List Entry) (t : ℕ) (begins : List Begin) (b : Begin) (end : Option ℕ) → begins ≡ map begin_of (begin_records (accepted es)) → (t ≡ 0 → ⊥) → t - 1 < length begins → b ≡ get_or begins (t - 1) b → end ≡ last_place accepted_end t es
     → Some (record { query = is_query_kind b.kind; limit = b.limit; end = end }) ≡ facts_of es t
 facts_are es zero begins b end are some l is at = absurd (some refl)
 facts_are es (suc k) begins b end are some l is at =
     let e : suc k - 1 ≡ k = omega arith in
-    let len : length (map begin_of (beginnings (accepted es))) ≡ length (beginnings (accepted es)) = length-map (beginnings (accepted es)) begin_of in
-    let inside : k < length (beginnings (accepted es)) = omega (arith, l, ap length are, len, e) in
-    found (beginnings (accepted es)) k b end inside (is ∙ (ap (λ m. get_or begins m b) e ∙ ap (λ l. get_or l k b) are))
-    ∙ ap (facts_by (slice_get (beginnings (accepted es)) k)) at
+    let len : length (map begin_of (begin_records (accepted es))) ≡ length (begin_records (accepted es)) = length-map (begin_records (accepted es)) begin_of in
+    let inside : k < length (begin_records (accepted es)) = omega (arith, l, ap length are, len, e) in
+    found (begin_records (accepted es)) k b end inside (is ∙ (ap (λ m. get_or begins m b) e ∙ ap (λ l. get_or l k b) are))
+    ∙ ap (facts_by (slice_get (begin_records (accepted es)) k)) at
 
 pub lasts_length : (key : Entry → Option ℕ) (es : List Entry) (n : ℕ) → length (lasts_by key es n) ≡ n
 lasts_length key es n = at 0 n

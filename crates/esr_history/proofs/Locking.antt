@@ -6,7 +6,7 @@ use Rattle.std.proofs.lemmas.List.Folds.{list_any-append}
 use Rattle.std.proofs.lemmas.List.Elements.{filter-append}
 use Rattle.std.proofs.lemmas.Bool.{true≢false, cond_both, cases_Bool, and_parts, or_cases, or_left, or_right, eqb-true, eq-eqb, not-true, false_from_ne_true, eqb-false}
 use Rattle.esr_history.specs.Operations.{Operation}
-use Rattle.esr_history.specs.Events.{Beginning}
+use Rattle.esr_history.specs.Events.{BeginRecord}
 use Rattle.esr_history.specs.Serial.{any_ordered_pair, conflict}
 use Rattle.esr_history.proofs.Membership.{In, Pairs, each_at, In-of_filter, Pairs-append, Pairs-map, Pairs-push, In-push, filter_agree_in, In-any, any-from_number}
 use Rattle.esr_history.proofs.Traces.{is_among, holds_of, Setting, Trace, update_in, begun_in, ended_in, with_operation, with_commit, with_abort, with_begins, Keeps, read_of, write_of, current_in, Reached, Reached.nothing, Reached.begin, Reached.read_update, Reached.read_query, Reached.write, Reached.commit, Reached.abort}
@@ -86,7 +86,7 @@ conflict_parts a b h =
     let r = and_parts (eqb a.item b.item) (a.writes || b.writes) p.1 in
     record { apart = eqb-false a.txn b.txn (not-true (eqb a.txn b.txn) p.0); same_item = eqb-true a.item b.item r.0; one_writes = r.1 }
 
-pub update_stays : (t : Trace) (b : ℕ → Option Beginning) (u : ℕ) → Keeps t.beginning b → begun_in t u ≡ true → update_in (with_begins t b) u ≡ update_in t u
+pub update_stays : (t : Trace) (b : ℕ → Option BeginRecord) (u : ℕ) → Keeps t.begin_record b → begun_in t u ≡ true → update_in (with_begins t b) u ≡ update_in t u
 update_stays t b u keeps h = ap (holds_of (λ b. not b.query)) (keeps u h)
 
 pub locks : {s : Setting} {t : Trace} {m : ℕ → ℕ} → Reached s t m → Pairs (Locked t) t.operations

@@ -5,7 +5,7 @@ use Rattle.std.proofs.Math.Path.{fun_ext}
 use Rattle.std.proofs.lemmas.List.Sums.{sum_by-cons, sum_by_push}
 use Rattle.std.proofs.lemmas.Bool.{true≢false, cases_Bool, cases_eq, and_parts, and_from, eq-eqb, ne_eqb, false_from_ne_true, cond-true}
 use Rattle.esr_history.specs.Operations.{Operation}
-use Rattle.esr_history.specs.Events.{Beginning}
+use Rattle.esr_history.specs.Events.{BeginRecord}
 use Rattle.esr_history.proofs.Membership.{In}
 use Rattle.esr_history.proofs.Traces.{holds_of, Setting, IsMetric, reads_item, writes_item, Trace, update_in, begun_in, ended_in, NoOtherWriter, with_operation, with_commit, with_abort, read_of, write_of, current_in, committed_in, Reached, Reached.nothing, Reached.begin, Reached.read_update, Reached.read_query, Reached.write, Reached.commit, Reached.abort}
 use Rattle.esr_history.proofs.Locking.{update_stays, ended_kept_commit, ended_kept_abort}
@@ -52,10 +52,10 @@ open_within d nothing q eq uq = omega arith
 open_within d (begin {t = t} r b keeps) q eq uq =
     open_within d r q eq
     (false_from_ne_true (update_in t q) (λ h.
-    let bg : begun_in t q ≡ true = begun_if (t.beginning q) h in
+    let bg : begun_in t q ≡ true = begun_if (t.begin_record q) h in
     true≢false (sym (update_stays t b q keeps bg ∙ h) ∙ uq)))
   where
-    begun_if : (o : Option Beginning) → holds_of (λ s. not s.query) o ≡ true → is_some o ≡ true
+    begun_if : (o : Option BeginRecord) → holds_of (λ s. not s.query) o ≡ true → is_some o ≡ true
     begun_if None h = absurd (true≢false (sym h))
     begun_if (Some b) h = refl
 open_within {s = s} d (read_update {t = t} {m = m} r u x ac up free) q eq uq =
@@ -94,7 +94,7 @@ open_within {s = s} d (write {t = t} {m = m} r u x v c ac up free paid) q eq uq 
     let grown : sum_by (λ o. lag s (with_operation t (write_of u x v)) o.item) (filter (read_by q) t.operations) ≤ sum_by (λ o. lag s t o.item) (filter (read_by q) t.operations) + count_by counts t.operations * k =
     sums_within (read_by q) counts (λ o. lag s (with_operation t (write_of u x v)) o.item) (λ o. lag s t o.item) k t.operations (λ o i h. single o h) in
     chain (sum_by (λ o. lag s (with_operation t (write_of u x v)) o.item) (filter (read_by q) t.operations)) (sum_by (λ o. lag s t o.item) (filter (read_by q) t.operations)) (count_by counts t.operations * k) (m q) (c q) grown below
-    (paid q (record { begun = b; open_ended = eq }) (query_from (t.beginning q) b uq)))
+    (paid q (record { begun = b; open_ended = eq }) (query_from (t.begin_record q) b uq)))
     (λ nb. subst (λ l. sum_by (λ o. lag s (with_operation t (write_of u x v)) o.item) l ≤ m q + c q) (sym (unbegun r q nb)) (nothing_le (m q + c q)))
     (cases_Bool (begun_in t q)))
   where

@@ -8,7 +8,7 @@ use Rattle.esr_history.proofs.Membership.{In, In-of_filter, In-filter, filter_ag
 use Rattle.esr_history.proofs.Traces.{is_among, after_writes, writes_item, Setting, Trace, update_in, ended_in, Active, NoOtherWriter, with_operation, with_commit, with_abort, with_begins, read_of, write_of, current_in, committed_in, Reached, Reached.nothing, Reached.begin, Reached.read_update, Reached.read_query, Reached.write, Reached.commit, Reached.abort}
 use Rattle.esr_history.proofs.Locking.{known, locks, Locked, update_stays, among_push, among_new, among_other, committed_updates_in, ended_kept_commit, ended_kept_abort}
 use Rattle.esr_history.proofs.Versions.{writers, item_parts, wrote_by, wrote_parts, conflict_of, pairs_either, ended_agree, current_split, committed_after, committed_with, state_in, state_with, committed_version, commit_among}
-use Rattle.esr_history.proofs.Bounded.{before_first-kept, before_first-all, In-before_first}
+use Rattle.esr_history.proofs.Bounded.{before_first-unchanged, before_first-all, In-before_first}
 
 -- if the other writers of x have ended, the current value without u's writes is the committed one
 abort_settled : {s : Setting} {t : Trace} {m : ℕ → ℕ} → Reached s t m → (o : ℕ → ℤ) (u x : ℕ) → Active t u → NoOtherWriter t u x → current_in o (with_abort t u) x ≡ committed_in o t x
@@ -131,7 +131,7 @@ reads_ahead {s = s} (commit {t = t} re u a) = λ k r g rd c.
     ⊎_elim
     (λ old. reads_ahead re k r g rd old
     ∙ (ap (λ us. after_writes (state_in s.opening t us r.item) (filter (wrote_by r.item r.txn) (take k t.operations)))
-    (sym (before_first-kept (λ v. eqb v r.txn) cs (filter (update_in t) (u ∷ [])) old))
+    (sym (before_first-unchanged (λ v. eqb v r.txn) cs (filter (update_in t) (u ∷ [])) old))
     ∙ ap answer (sym e)))
     (λ no.
     let i : In r.txn (committed_updates_in (with_commit t u)) = In-from_any (committed_updates_in (with_commit t u)) r.txn c in

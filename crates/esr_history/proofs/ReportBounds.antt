@@ -6,13 +6,13 @@ use Rattle.std.proofs.Math.Nat.{le_trans, mul-le-mul_right}
 use Rattle.std.proofs.lemmas.List.Sums.{sum_by-cons, sum_by_push}
 use Rattle.std.proofs.lemmas.Bool.{true≢false, cases_Bool, cases_eq, eq-eqb, ne_eqb, false_from_ne_true, cond-true, cond-false, or_parts, or_left}
 use Rattle.esr_history.specs.Operations.{Operation}
-use Rattle.esr_history.specs.Events.{Beginning}
+use Rattle.esr_history.specs.Events.{BeginRecord}
 use Rattle.esr_history.proofs.Membership.{In, filter_agree_in, any-from_number}
 use Rattle.esr_history.proofs.Traces.{is_among, holds_of, Setting, IsMetric, reads_item, writes_item, Trace, update_in, query_in, ended_in, Active, NoOtherWriter, with_operation, with_commit, with_abort, with_begins, read_of, write_of, current_in, committed_in, read_count_in, Reached, IsKept, reached_kept}
 use Rattle.esr_history.proofs.Locking.{known, update_stays, among_push, committed_updates_in, ended_kept_commit, ended_kept_abort}
 use Rattle.esr_history.proofs.Versions.{writers, settled, item_parts, current_after_abort, committed_after_commit, committed_with, current_with_other, current_with_write, filter_push_false, filter_push_true, state_in, state_with, committed_version}
 use Rattle.esr_history.proofs.Covered.{read_by, IsMixture}
-use Rattle.esr_history.proofs.Bounded.{before_first-kept, before_first-all, In-before_first, updates_of_in, listed_committed}
+use Rattle.esr_history.proofs.Bounded.{before_first-unchanged, before_first-all, In-before_first, updates_of_in, listed_committed}
 
 -- the distance of the values read from the values w
 abbrev pub distance_at : (ℕ → ℤ → ℤ → ℕ) → List Operation → (ℕ → ℤ) → ℕ
@@ -36,15 +36,15 @@ mixture_before o t r w reads running mix y =
     ⊎_elim (λ e. inl (e ∙ committed_with o t r y running))
     (λ e. inr (e ∙ current_with_other o t r y (ap (λ b. b && eqb r.item y) reads))) (mix y)
 
-module _ {s : Setting} (d : IsMetric s.distance) (t : Trace) (q : ℕ) (read_ops : List Operation) (b : ℕ) (was : AreReadsWithin s t q read_ops b) where
+module _ {s : Setting} (d : IsMetric s.distance) (t : Trace) (q : ℕ) (read_ops : List Operation) (b : ℕ) (bound_before : AreReadsWithin s t q read_ops b) where
   looser : (c : ℕ) → AreReadsWithin s t q read_ops (b + c)
-  looser c = record { held = was.held; within = λ w mix. let h : distance_at s.distance read_ops w ≤ b = was.within w mix in omega (arith, h) }
+  looser c = record { held = bound_before.held; within = λ w mix. let h : distance_at s.distance read_ops w ≤ b = bound_before.within w mix in omega (arith, h) }
 
   -- a read by another
   read_by_other : (r : Operation) → r.writes ≡ false → ended_in t r.txn ≡ false → AreReadsWithin s (with_operation t r) q read_ops b
   read_by_other r reads running = record {
-    held = λ x. count_more (λ o. reads_item x o && eqb o.txn q) t.operations r (count_by (λ o. eqb o.item x) read_ops) (was.held x);
-    within = λ w mix. was.within w (mixture_before s.opening t r w reads running mix);
+    held = λ x. count_more (λ o. reads_item x o && eqb o.txn q) t.operations r (count_by (λ o. eqb o.item x) read_ops) (bound_before.held x);
+    within = λ w mix. bound_before.within w (mixture_before s.opening t r w reads running mix);
   }
 
   -- its own read, of a value that is within the charge of both values of the item
@@ -55,7 +55,7 @@ module _ {s : Setting} (d : IsMetric s.distance) (t : Trace) (q : ℕ) (read_ops
     held = counted;
     within = λ w mix.
         let old : IsMixture s.opening t w = mixture_before s.opening t r w refl running mix in
-        let h : distance_at s.distance read_ops w ≤ b = was.within w old in
+        let h : distance_at s.distance read_ops w ≤ b = bound_before.within w old in
         let one : s.distance x (current_in s.opening t x) (w x) ≤ c = paid w old in
         rw (sum_by_push (λ o. s.distance o.item o.value (w o.item)) read_ops r) (omega (arith, h, one));
   }
@@ -72,7 +72,7 @@ module _ {s : Setting} (d : IsMetric s.distance) (t : Trace) (q : ℕ) (read_ops
 
       counted : (y : ℕ) → count_by (λ o. eqb o.item y) (read_ops ++ r ∷ []) ≤ count_by (λ o. reads_item y o && eqb o.txn q) (t.operations ++ r ∷ [])
       counted y =
-          let h : count_by (λ o. eqb o.item y) read_ops ≤ count_by (λ o. reads_item y o && eqb o.txn q) t.operations = was.held y in
+          let h : count_by (λ o. eqb o.item y) read_ops ≤ count_by (λ o. reads_item y o && eqb o.txn q) t.operations = bound_before.held y in
           let k : cond (eqb x y) 1 0 ≤ cond (reads_item y r && eqb q q) 1 0 = both y in
           rw (count_push (λ o. eqb o.item y) read_ops r, count_push (λ o. reads_item y o && eqb o.txn q) t.operations r) (omega (arith, h, k))
 
@@ -81,10 +81,10 @@ module _ {s : Setting} (d : IsMetric s.distance) (t : Trace) (q : ℕ) (read_ops
       → read_count_in t x q * s.distance x v (current_in s.opening t x) ≤ c
       → AreReadsWithin s (with_operation t (write_of u x v)) q read_ops (b + c)
   written u x v c running paid = record {
-    held = λ y. count_more (λ o. reads_item y o && eqb o.txn q) t.operations (write_of u x v) (count_by (λ o. eqb o.item y) read_ops) (was.held y);
+    held = λ y. count_more (λ o. reads_item y o && eqb o.txn q) t.operations (write_of u x v) (count_by (λ o. eqb o.item y) read_ops) (bound_before.held y);
     within = λ w mix.
         ⊎_elim
-        (λ e. more_le (distance_at s.distance read_ops w) b c (was.within w
+        (λ e. more_le (distance_at s.distance read_ops w) b c (bound_before.within w
         (λ y. ⊎_elim (λ yx. inl (ap w yx ∙ (e ∙ (committed_with s.opening t (write_of u x v) x running ∙ ap (committed_in s.opening t) (sym yx))))) (λ nyx. elsewhere w y nyx (mix y)) (cases_eq y x))))
         (λ e. moved w (e ∙ current_with_write s.opening t (write_of u x v) x running (eq-eqb x x refl)) (λ y nyx. elsewhere w y nyx (mix y)))
         (mix x);
@@ -141,22 +141,22 @@ module _ {s : Setting} (d : IsMetric s.distance) (t : Trace) (q : ℕ) (read_ops
           (λ yx. inr (cond-true (eqb y x) cur (w y) (eq-eqb y x yx) ∙ ap (current_in s.opening t) (sym yx)))
           (λ nyx. let z : w0 y ≡ w y = cond-false (eqb y x) cur (w y) (ne_eqb y x nyx) in ⊎_elim (λ e. inl (z ∙ e)) (λ e. inr (z ∙ e)) (other y nyx))
           (cases_eq y x) in
-          let below : distance_at s.distance read_ops w0 ≤ b = was.within w0 mix0 in
+          let below : distance_at s.distance read_ops w0 ≤ b = bound_before.within w0 mix0 in
           let grown : distance_at s.distance read_ops w ≤ distance_at s.distance read_ops w0 + count_by (λ o. eqb o.item x) read_ops * k =
           sums (λ o. s.distance o.item o.value (w o.item)) (λ o. s.distance o.item o.value (w0 o.item)) k read_ops (single w wx) in
-          let charged : count_by (λ o. eqb o.item x) read_ops * k ≤ c = product (count_by (λ o. eqb o.item x) read_ops) (read_count_in t x q) k c (was.held x) paid in
+          let charged : count_by (λ o. eqb o.item x) read_ops * k ≤ c = product (count_by (λ o. eqb o.item x) read_ops) (read_count_in t x q) k c (bound_before.held x) paid in
           omega (arith, below, grown, charged)
 
   ended_commit_within : {m : ℕ → ℕ} → Reached s t m → (u : ℕ) → Active t u → AreReadsWithin s (with_commit t u) q read_ops b
   ended_commit_within r u a = record {
-    held = was.held;
-    within = λ w mix. was.within w (λ x. ⊎_elim (λ e. ⊎_elim (λ f. inl (e ∙ f)) (λ f. inr (e ∙ f)) (committed_after_commit r s.opening u x a)) (λ e. inr e) (mix x));
+    held = bound_before.held;
+    within = λ w mix. bound_before.within w (λ x. ⊎_elim (λ e. ⊎_elim (λ f. inl (e ∙ f)) (λ f. inr (e ∙ f)) (committed_after_commit r s.opening u x a)) (λ e. inr e) (mix x));
   }
 
   ended_abort_within : {m : ℕ → ℕ} → Reached s t m → (u : ℕ) → Active t u → AreReadsWithin s (with_abort t u) q read_ops b
   ended_abort_within r u a = record {
-    held = was.held;
-    within = λ w mix. was.within w (λ x. ⊎_elim (λ e. inl e) (λ e. ⊎_elim (λ f. inl (e ∙ f)) (λ f. inr (e ∙ f)) (current_after_abort r s.opening u x a)) (mix x));
+    held = bound_before.held;
+    within = λ w mix. bound_before.within w (λ x. ⊎_elim (λ e. inl e) (λ e. ⊎_elim (λ f. inl (e ∙ f)) (λ f. inr (e ∙ f)) (current_after_abort r s.opening u x a)) (mix x));
   }
 
 -- From a trace on in which q had read `before` and imported an amount: each later read is added to its reads, each
@@ -176,11 +176,11 @@ module _ (s : Setting) (d : IsMetric s.distance) (q : ℕ) (before : List Operat
   abbrev P : Trace → (ℕ → ℕ) → Type 0
   P = IsOnward s q before imported read_ops b
 
-  begun_query : (o : Option Beginning) → holds_of (λ s. s.query) o ≡ true → is_some o ≡ true
+  begun_query : (o : Option BeginRecord) → holds_of (λ s. s.query) o ≡ true → is_some o ≡ true
   begun_query None h = absurd (true≢false (sym h))
   begun_query (Some b) h = refl
 
-  query_no_update : (o : Option Beginning) → holds_of (λ s. s.query) o ≡ true → holds_of (λ s. not s.query) o ≡ true → ⊥
+  query_no_update : (o : Option BeginRecord) → holds_of (λ s. s.query) o ≡ true → holds_of (λ s. not s.query) o ≡ true → ⊥
   query_no_update None h k = true≢false (sym h)
   query_no_update (Some b) h k = true≢false (sym k ∙ ap not h)
 
@@ -220,7 +220,7 @@ module _ (s : Setting) (d : IsMetric s.distance) (q : ℕ) (before : List Operat
       ⊎_elim
       (λ old.
       subst (λ us. distance_at s.distance (read_ops ++ p.later) (state_in s.opening t us) ≤ b + p.more)
-      (ap (filter (update_in t)) (sym (before_first-kept (λ u. eqb u q) t.commits (u ∷ []) old)))
+      (ap (filter (update_in t)) (sym (before_first-unchanged (λ u. eqb u q) t.commits (u ∷ []) old)))
       (p.within_at_commit old))
       (λ no.
       let e : u ≡ q = ⊎_elim (λ h. absurd (true≢false (sym h ∙ no))) (λ h. h) (among_push t.commits u q c) in
@@ -274,7 +274,7 @@ module _ (s : Setting) (d : IsMetric s.distance) (q : ℕ) (before : List Operat
   onward_kept = record {
     begins = λ t m p β keep. record {
       reached = (reached_kept s).begins t m p.reached β keep;
-      query = ap (holds_of (λ s. s.query)) (keep q (begun_query (t.beginning q) p.query)) ∙ p.query;
+      query = ap (holds_of (λ s. s.query)) (keep q (begun_query (t.begin_record q) p.query)) ∙ p.query;
       later = p.later;
       reads = p.reads;
       more = p.more;
@@ -288,7 +288,7 @@ module _ (s : Setting) (d : IsMetric s.distance) (q : ℕ) (before : List Operat
     };
     update_reads = λ t m p u x a up free.
         let r : Operation = read_of u x (current_in s.opening t x) in
-        let ne : u ≡ q → ⊥ = λ e. query_no_update (t.beginning q) p.query (ap (update_in t) (sym e) ∙ up) in
+        let ne : u ≡ q → ⊥ = λ e. query_no_update (t.begin_record q) p.query (ap (update_in t) (sym e) ∙ up) in
         record {
           reached = (reached_kept s).update_reads t m p.reached u x a up free;
           query = p.query;
@@ -318,7 +318,7 @@ module _ (s : Setting) (d : IsMetric s.distance) (q : ℕ) (before : List Operat
       within_while_active = λ e.
           subst (λ n. AreReadsWithin s (with_operation t (write_of u x v)) q (read_ops ++ p.later) n) (omega arith)
           (written d t q (read_ops ++ p.later) (b + p.more) (p.within_while_active e) u x v (c q) a.open_ended
-          (paid q (record { begun = begun_query (t.beginning q) p.query; open_ended = e }) p.query));
+          (paid q (record { begun = begun_query (t.begin_record q) p.query; open_ended = e }) p.query));
       within_at_commit = λ over. more_le (distance_at s.distance (read_ops ++ p.later) (state_in s.opening (with_operation t (write_of u x v)) (updates_of_in t q))) b p.more (c q) (then_after t p (write_of u x v) a.open_ended over);
     };
     commits = λ t m p u a. record {

@@ -6,8 +6,8 @@ use Rattle.std.proofs.Math.Path.{fun_ext}
 use Rattle.std.proofs.lemmas.List.{append_cancel_left}
 use Rattle.std.proofs.lemmas.List.Elements.{filter-append}
 use Rattle.esr_items.specs.Values.{value_at}
-use Rattle.esr_history.specs.Events.{Beginning, beginning, is_begun, is_refusal, is_query, is_active, is_committed, current_value, Event, Reply, Refused, Value, Begun, Wrote, Committed, Aborted, Entry}
-use Rattle.esr_history.specs.Machine.{Distance, Schedule, accepted_in, empty_schedule, distance_in, charges_in, import_in, extended, reply_to, IsLegal}
+use Rattle.esr_history.specs.Events.{BeginRecord, begin_record, is_begun, is_refusal, is_query, is_active, is_committed, current_value, Event, Reply, Refused, Value, Begun, Wrote, Committed, Aborted, Entry}
+use Rattle.esr_history.specs.Machine.{DistanceFunction, Schedule, accepted_in, empty_schedule, value_distance, charges_in, import_in, extended, reply_to, IsLegal}
 use Rattle.esr_history.specs.Legal.{along, legal_induction_after}
 use Rattle.esr_history.specs.Operations.{Operation, operations, operations_in}
 use Rattle.esr_history.specs.Queries.{reads_by, updates_of}
@@ -18,12 +18,12 @@ use Rattle.esr_history.proofs.Covered.{read_by, covered}
 use Rattle.esr_history.proofs.Covered as mixed
 use Rattle.esr_history.proofs.Open.{open_within}
 use Rattle.esr_history.proofs.ReportBounds.{distance_at, AreReadsWithin, IsOnward, onward_kept}
-use Rattle.esr_history.proofs.Words.{trace, query_not_update, committed_trace, current_trace, reads_trace, active_trace, state_trace, committed_among}
+use Rattle.esr_history.proofs.TraceAgreement.{trace, query_not_update, committed_trace, current_trace, reads_trace, active_trace, state_trace, committed_among}
 use Rattle.esr_history.proofs.TraceOfHistory.{setting, imports, kept_step, legal_reached}
 use Rattle.esr_history.proofs.Onward.{legal_parts, legal_front}
 use Rattle.esr_history.proofs.Laws.{operations-append}
 use Rattle.esr_history.proofs.LegalWellFormed.{done-refused, done-accepted}
-use Rattle.esr_history.proofs.WellFormed.{beginning-push}
+use Rattle.esr_history.proofs.WellFormed.{begin_record-push}
 
 and_true : (b : Bool) → (b && true) ≡ b
 and_true true = refl
@@ -41,9 +41,9 @@ from_trace : (h : Schedule) (w : ℕ → ℤ) → mixed.IsMixture (value_at h.op
 from_trace h w mix x = ⊎_elim (λ e. inl (e ∙ sym (committed_trace h x))) (λ e. inr (e ∙ sym (current_trace h x))) (mix x)
 
 -- how a transaction began stays
-pub begin_stays : (d : Distance) (h : Schedule) (later : List Entry) (t : ℕ) → IsLegal d (along h later) → is_begun (accepted_in h) t ≡ true → beginning (accepted_in (along h later)) t ≡ beginning (accepted_in h) t
+pub begin_stays : (d : DistanceFunction) (h : Schedule) (later : List Entry) (t : ℕ) → IsLegal d (along h later) → is_begun (accepted_in h) t ≡ true → begin_record (accepted_in (along h later)) t ≡ begin_record (accepted_in h) t
 begin_stays d h later t legal begun =
-    legal_induction_after d (λ g. beginning (accepted_in g) t ≡ beginning (accepted_in h) t) step h later (legal_parts d (empty_schedule h) h.entries later legal).1 refl
+    legal_induction_after d (λ g. begin_record (accepted_in g) t ≡ begin_record (accepted_in h) t) step h later (legal_parts d (empty_schedule h) h.entries later legal).1 refl
   where
     refused_done : (g : Schedule) (e : Event) (r : Reply) → is_refusal r ≡ true → accepted_in (extended g e r) ≡ accepted_in g
     refused_done g e (Refused why) refuses = done-refused g e why
@@ -53,18 +53,18 @@ begin_stays d h later t legal begun =
     refused_done g e Committed refuses = absurd (true≢false (sym refuses))
     refused_done g e Aborted refuses = absurd (true≢false (sym refuses))
 
-    step : (g : Schedule) (e : Event) (r : Reply) → r ≡ reply_to d g e → beginning (accepted_in g) t ≡ beginning (accepted_in h) t → beginning (accepted_in (extended g e r)) t ≡ beginning (accepted_in h) t
+    step : (g : Schedule) (e : Event) (r : Reply) → r ≡ reply_to d g e → begin_record (accepted_in g) t ≡ begin_record (accepted_in h) t → begin_record (accepted_in (extended g e r)) t ≡ begin_record (accepted_in h) t
     step g e r is same = at (is_refusal r) refl
       where
-        grown : (b : Option Beginning) → beginning (accepted_in g) t ≡ b → is_some b ≡ true → beginning (accepted_in g ++ e ∷ []) t ≡ beginning (accepted_in g) t
+        grown : (b : Option BeginRecord) → begin_record (accepted_in g) t ≡ b → is_some b ≡ true → begin_record (accepted_in g ++ e ∷ []) t ≡ begin_record (accepted_in g) t
         grown None was some = absurd (true≢false (sym some))
-        grown (Some b) was some = beginning-push (accepted_in g) e t b was ∙ sym was
+        grown (Some b) was some = begin_record-push (accepted_in g) e t b was ∙ sym was
 
-        at : (b : Bool) → is_refusal r ≡ b → beginning (accepted_in (extended g e r)) t ≡ beginning (accepted_in h) t
-        at false accepts = ap (λ (es : List Event). beginning es t) (done-accepted g e r accepts) ∙ (grown (beginning (accepted_in g) t) refl (ap is_some same ∙ begun) ∙ same)
-        at true refuses = ap (λ (es : List Event). beginning es t) (refused_done g e r refuses) ∙ same
+        at : (b : Bool) → is_refusal r ≡ b → begin_record (accepted_in (extended g e r)) t ≡ begin_record (accepted_in h) t
+        at false accepts = ap (λ (es : List Event). begin_record es t) (done-accepted g e r accepts) ∙ (grown (begin_record (accepted_in g) t) refl (ap is_some same ∙ begun) ∙ same)
+        at true refuses = ap (λ (es : List Event). begin_record es t) (refused_done g e r refuses) ∙ same
 
-module _ (d : Distance) (metric : (w : List ℕ) → IsMetric (d w)) where
+module _ (d : DistanceFunction) (metric : (w : List ℕ) → IsMetric (d w)) where
   pub import_bounds_active : (h : Schedule) → IsLegal d h → ImportBoundsActive d h
   import_bounds_active h legal q is w mix =
       let p = and_parts (is_query (accepted_in h) q) (is_active (accepted_in h) q) is in
@@ -132,15 +132,15 @@ module _ (d : Distance) (metric : (w : List ℕ) → IsMetric (d w)) where
       let k : Schedule = along h later in
       let p = and_parts (is_query (accepted_in k) q) (is_committed (accepted_in k) q) over in
       subst (λ (w : ℕ → ℤ). distance_of_reads d h (read_ops ++ reads_in later q) w ≤ b + more) (sym (fun_ext (state_trace k (updates_of k q))))
-      (subst (λ l. distance_at (distance_in d h) (read_ops ++ l) (state_in (value_at k.opening) (trace k) (updates_of k q)) ≤ b + more) (same_later h q read_ops b is later legal)
-      (subst (λ n. distance_at (distance_in d h) (read_ops ++ (onward h q read_ops b is later legal).later) (state_in (value_at k.opening) (trace k) (updates_of k q)) ≤ b + n) (same_more h q read_ops b is later legal more grown)
+      (subst (λ l. distance_at (value_distance d h) (read_ops ++ l) (state_in (value_at k.opening) (trace k) (updates_of k q)) ≤ b + more) (same_later h q read_ops b is later legal)
+      (subst (λ n. distance_at (value_distance d h) (read_ops ++ (onward h q read_ops b is later legal).later) (state_in (value_at k.opening) (trace k) (updates_of k q)) ≤ b + n) (same_more h q read_ops b is later legal more grown)
       ((onward h q read_ops b is later legal).within_at_commit (sym (committed_among (accepted_in k) q) ∙ p.1))))
 
   pub open_is_imported : (h : Schedule) → IsLegal d h → OpenIsImported d h
   open_is_imported h legal q is =
       let p = and_parts (is_query (accepted_in h) q) (is_active (accepted_in h) q) is in
       subst (λ (f : ℕ → ℕ). sum_by (λ (o : Operation). f o.item) (reads_by h q) ≤ import_in (charges_in d h) q)
-      (fun_ext (λ x. ap (λ v. distance_in d h x v (committed_in (value_at h.opening) (trace h) x)) (sym (current_trace h x)) ∙ ap (distance_in d h x (current_value h.opening (accepted_in h) x)) (sym (committed_trace h x))))
+      (fun_ext (λ x. ap (λ v. value_distance d h x v (committed_in (value_at h.opening) (trace h) x)) (sym (current_trace h x)) ∙ ap (value_distance d h x (current_value h.opening (accepted_in h) x)) (sym (committed_trace h x))))
       (open_within (metric h.weights) (legal_reached d h legal) q (active_trace h q p.1).open_ended (query_not_update (accepted_in h) q p.0))
 
   -- the values that an active query got are its reads, within its import

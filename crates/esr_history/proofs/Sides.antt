@@ -4,9 +4,9 @@ use Rattle.std.specs.List.{filter_map, AllByRecursion}
 use Rattle.std.proofs.lemmas.Bool.{false≢true, ne_eqb, and_parts}
 use Rattle.std.proofs.lemmas.List.Sums.{sum_by-cons}
 use Rattle.std.proofs.lemmas.Option.{same_Some}
-use Rattle.esr_history.specs.Events.{Beginning, beginning, txn_numbers, is_query, is_update, read_count, holds_read, current_value, Event, Read, Write}
+use Rattle.esr_history.specs.Events.{BeginRecord, begin_record, txn_numbers, is_query, is_update, read_count, holds_read, current_value, Event, Read, Write}
 use Rattle.esr_history.specs.Machine.{Charge, due, charges, charges_after, charge_of_write, import_in, export_in}
-use Rattle.esr_history.proofs.WellFormed.{beginning-push, is_update-push}
+use Rattle.esr_history.proofs.WellFormed.{begin_record-push, is_update-push}
 use Rattle.esr_history.proofs.Lists.{find_some, Each-filter_map}
 use Rattle.esr_history.proofs.Membership.{Each-append}
 
@@ -15,11 +15,11 @@ abbrev pub IsOfKinds : List Event → Charge → Type 0
 IsOfKinds events c = (is_query events c.query ≡ true) × (is_update events c.update ≡ true)
 
 pub is_query-push : (events : List Event) (e : Event) (t : ℕ) → is_query events t ≡ true → is_query (events ++ e ∷ []) t ≡ true
-is_query-push events e t is = at (beginning events t) refl is
+is_query-push events e t is = at (begin_record events t) refl is
   where
-    at : (b : Option Beginning) → beginning events t ≡ b → unwrap_or (option_map (λ c. c.query) b) false ≡ true → is_query (events ++ e ∷ []) t ≡ true
+    at : (b : Option BeginRecord) → begin_record events t ≡ b → unwrap_or (option_map (λ c. c.query) b) false ≡ true → is_query (events ++ e ∷ []) t ≡ true
     at None none no_query = absurd (false≢true no_query)
-    at (Some b) some query = ap (λ o. unwrap_or (option_map (λ c. c.query) o) false) (beginning-push events e t b some) ∙ query
+    at (Some b) some query = ap (λ o. unwrap_or (option_map (λ c. c.query) o) false) (begin_record-push events e t b some) ∙ query
 
 all_later : (before : List Event) (e : Event) (cs : List Charge) → AllByRecursion (IsOfKinds before) cs → AllByRecursion (IsOfKinds (before ++ e ∷ [])) cs
 all_later before e [] all = tt

@@ -4,14 +4,14 @@ use Rattle.std.specs.List.{list_any, before_first}
 use Rattle.std.proofs.lemmas.List.Folds.{list_any-append}
 use Rattle.std.proofs.lemmas.Bool.{true≢false, and_parts, and_right, or_cases, or_left, or_right, or_parts, eqb-true, ne_eqb, false_from_ne_true}
 use Rattle.esr_history.specs.Operations.{Operation}
-use Rattle.esr_history.specs.Events.{Beginning}
+use Rattle.esr_history.specs.Events.{BeginRecord}
 use Rattle.esr_history.specs.Serial.{any_ordered_pair, conflict}
 use Rattle.esr_history.proofs.Membership.{In, filter_agree_in, any-from_number}
 use Rattle.esr_history.proofs.Traces.{is_among, Trace, update_in, ended_in, with_operation, with_commit, with_abort, with_begins, Keeps}
 use Rattle.esr_history.proofs.Locking.{Known, update_stays, is_before_in, any_pair_push, among_keep}
 use Rattle.esr_history.proofs.Versions.{filter_push_false, wrote_by}
 use Rattle.esr_history.proofs.Covered.{read_by}
-use Rattle.esr_history.proofs.Bounded.{before_first-kept, In-before_first, updates_of_in, listed_committed}
+use Rattle.esr_history.proofs.Bounded.{before_first-unchanged, In-before_first, updates_of_in, listed_committed}
 
 pub any_pair_keep : {X : Type 0} (r : X → X → Bool) (xs : List X) (y : X) → any_ordered_pair r xs ≡ true → any_ordered_pair r (xs ++ y ∷ []) ≡ true
 any_pair_keep r [] y h = absurd (true≢false (sym h))
@@ -25,7 +25,7 @@ any_pair_keep r (x ∷ xs) y h =
 -- of a committed query: its updates, its reads, the writes of its updates and their order, as in the trace t0
 pub record SameFor (q : ℕ) (t0 t : Trace) : Type 0 where
   pub committed : is_among t.commits q ≡ true
-  pub begins : t.beginning q ≡ t0.beginning q
+  pub begins : t.begin_record q ≡ t0.begin_record q
   pub updates : updates_of_in t q ≡ updates_of_in t0 q
   pub reads : filter (read_by q) t.operations ≡ filter (read_by q) t0.operations
   pub writes : (u x : ℕ) → In u (updates_of_in t0 q) → filter (wrote_by x u) t.operations ≡ filter (wrote_by x u) t0.operations
@@ -35,7 +35,7 @@ same_from_iff : (a b : Bool) → (a ≡ true → b ≡ true) → (b ≡ true →
 same_from_iff true b f g = sym (f refl)
 same_from_iff false b f g = sym (false_from_ne_true b (λ h. true≢false (sym (g h))))
 
-pub same_with_begins : (q : ℕ) (t0 t : Trace) (b : ℕ → Option Beginning) → Keeps t.beginning b → Known t → SameFor q t0 t → SameFor q t0 (with_begins t b)
+pub same_with_begins : (q : ℕ) (t0 t : Trace) (b : ℕ → Option BeginRecord) → Keeps t.begin_record b → Known t → SameFor q t0 t → SameFor q t0 (with_begins t b)
 same_with_begins q t0 t b keeps k h = record {
   committed = h.committed;
   begins = keeps q (k.of_ends q (or_left (is_among t.commits q) (is_among t.aborts q) h.committed)) ∙ h.begins;
@@ -72,7 +72,7 @@ same_with_operation q t0 t o running h = record {
     in_commits u i = listed_committed t q u (subst (In u) (sym h.updates) i)
 
 pub same_with_commit : (q : ℕ) (t0 t : Trace) (u : ℕ) → SameFor q t0 t → SameFor q t0 (with_commit t u)
-same_with_commit q t0 t u h = grind (arith, among_keep, filter (update_in t), update_in t, before_first-kept, eqb)
+same_with_commit q t0 t u h = grind (arith, among_keep, filter (update_in t), update_in t, before_first-unchanged, eqb)
 
 pub same_with_abort : (q : ℕ) (t0 t : Trace) (u : ℕ) → SameFor q t0 t → SameFor q t0 (with_abort t u)
 same_with_abort q t0 t u h = record { committed = h.committed; begins = h.begins; updates = h.updates; reads = h.reads; writes = h.writes; order = h.order }

@@ -2,7 +2,7 @@
 -- step.
 use Rattle.std.proofs.Common.{◌≡◌, ℕ, ◌+◌, ◌*◌, ◌≤◌, ℤ, Bool, true, false, not, ◌&&◌, ◌||◌, ◌⊎◌, List, [], ◌∷◌, ◌++◌, filter, eqb, Option, count_by, map, is_some, unwrap_or, option_map}
 use Rattle.std.specs.List.{list_any}
-use Rattle.esr_history.specs.Events.{Beginning, last_value}
+use Rattle.esr_history.specs.Events.{BeginRecord, last_value}
 use Rattle.esr_history.specs.Operations.{Operation}
 use Rattle.esr_history.proofs.Membership.{In}
 
@@ -30,22 +30,22 @@ pub record Trace : Type 0 where
   pub operations : List Operation
   pub commits : List ℕ
   pub aborts : List ℕ
-  pub beginning : ℕ → Option Beginning
+  pub begin_record : ℕ → Option BeginRecord
 
 abbrev pub is_among : List ℕ → ℕ → Bool
 is_among ts t = list_any (λ u. eqb u t) ts
 
-abbrev pub holds_of : (Beginning → Bool) → Option Beginning → Bool
+abbrev pub holds_of : (BeginRecord → Bool) → Option BeginRecord → Bool
 holds_of test b = unwrap_or (option_map test b) false
 
 abbrev pub update_in : Trace → ℕ → Bool
-update_in t u = holds_of (λ b. not b.query) (t.beginning u)
+update_in t u = holds_of (λ b. not b.query) (t.begin_record u)
 
 abbrev pub query_in : Trace → ℕ → Bool
-query_in t u = holds_of (λ b. b.query) (t.beginning u)
+query_in t u = holds_of (λ b. b.query) (t.begin_record u)
 
 abbrev pub begun_in : Trace → ℕ → Bool
-begun_in t u = is_some (t.beginning u)
+begun_in t u = is_some (t.begin_record u)
 
 abbrev pub ended_in : Trace → ℕ → Bool
 ended_in t u = is_among t.commits u || is_among t.aborts u
@@ -78,11 +78,11 @@ with_commit t u = record t { commits = t.commits ++ u ∷ [] }
 abbrev pub with_abort : Trace → ℕ → Trace
 with_abort t u = record t { aborts = t.aborts ++ u ∷ [] }
 
-abbrev pub with_begins : Trace → (ℕ → Option Beginning) → Trace
-with_begins t b = record t { beginning = b }
+abbrev pub with_begins : Trace → (ℕ → Option BeginRecord) → Trace
+with_begins t b = record t { begin_record = b }
 
 -- how a transaction began stays
-abbrev pub Keeps : (ℕ → Option Beginning) → (ℕ → Option Beginning) → Type 0
+abbrev pub Keeps : (ℕ → Option BeginRecord) → (ℕ → Option BeginRecord) → Type 0
 Keeps before then = (u : ℕ) → is_some (before u) ≡ true → then u ≡ before u
 
 abbrev pub read_count_in : Trace → ℕ → ℕ → ℕ
@@ -96,8 +96,8 @@ write_of u x v = record { txn = u; item = x; writes = true; value = v }
 
 -- the traces of legal histories, with the amount charged to each query
 pub data Reached (s : Setting) : Trace → (ℕ → ℕ) → Type 0 where
-  nothing : {b : ℕ → Option Beginning} → Reached s (record { operations = []; commits = []; aborts = []; beginning = b }) (λ _. 0)
-  begin : {t : Trace} {m : ℕ → ℕ} → Reached s t m → (b : ℕ → Option Beginning) → Keeps t.beginning b → Reached s (with_begins t b) m
+  nothing : {b : ℕ → Option BeginRecord} → Reached s (record { operations = []; commits = []; aborts = []; begin_record = b }) (λ _. 0)
+  begin : {t : Trace} {m : ℕ → ℕ} → Reached s t m → (b : ℕ → Option BeginRecord) → Keeps t.begin_record b → Reached s (with_begins t b) m
   read_update : {t : Trace} {m : ℕ → ℕ} → Reached s t m → (u x : ℕ) → Active t u → update_in t u ≡ true → NoOtherWriter t u x →
       Reached s (with_operation t (read_of u x (current_in s.opening t x))) m
   read_query : {t : Trace} {m : ℕ → ℕ} → Reached s t m → (u x : ℕ) (c : ℕ → ℕ) → Active t u → update_in t u ≡ false →
@@ -111,7 +111,7 @@ pub data Reached (s : Setting) : Trace → (ℕ → ℕ) → Type 0 where
 
 -- each accepted step preserves P
 pub record IsKept (s : Setting) (P : Trace → (ℕ → ℕ) → Type 0) : Type 0 where
-  pub begins : (t : Trace) (m : ℕ → ℕ) → P t m → (b : ℕ → Option Beginning) → Keeps t.beginning b → P (with_begins t b) m
+  pub begins : (t : Trace) (m : ℕ → ℕ) → P t m → (b : ℕ → Option BeginRecord) → Keeps t.begin_record b → P (with_begins t b) m
   pub update_reads : (t : Trace) (m : ℕ → ℕ) → P t m → (u x : ℕ) → Active t u → update_in t u ≡ true → NoOtherWriter t u x →
       P (with_operation t (read_of u x (current_in s.opening t x))) m
   pub query_reads : (t : Trace) (m : ℕ → ℕ) → P t m → (u x : ℕ) (c : ℕ → ℕ) → Active t u → update_in t u ≡ false →

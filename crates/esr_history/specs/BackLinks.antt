@@ -4,7 +4,7 @@ use Rattle.std.specs.List.{last_or, range_with_len}
 pub use Rattle.esr_history.specs.declared.back_links.Facts.{Facts}
 use Rattle.esr_history.specs.declared.back_links.Begin.{Begin}
 use Rattle.esr_history.specs.declared.back_links.BackLinks.{BackLinks}
-use Rattle.esr_history.specs.Events.{Beginning, Update, Query, kind_of, is_refusal, accepted, beginnings, beginning, Event, BeginUpdate, BeginQuery, Read, Write, Commit, Abort, Reply, Begun, Entry}
+use Rattle.esr_history.specs.Events.{BeginRecord, Update, Query, kind_of, is_refusal, accepted, begin_records, begin_record, Event, BeginUpdate, BeginQuery, Read, Write, Commit, Abort, Reply, Begun, Entry}
 
 -- the item that an event is on
 abbrev pub item_of : Event → Option ℕ
@@ -74,12 +74,12 @@ abbrev pub earlier : (Entry → Option ℕ) → (Entry → Option ℕ) → List 
 earlier key own es i = earlier_at key (option_map own (slice_get es i)) (take i es)
 
 -- how a transaction began and where it ended
-abbrev pub facts_by : Option Beginning → Option ℕ → Option Facts
+abbrev pub facts_by : Option BeginRecord → Option ℕ → Option Facts
 facts_by None end = None
 facts_by (Some b) end = Some (record { query = b.query; limit = b.limit; end = end })
 
 abbrev pub facts_of : List Entry → ℕ → Option Facts
-facts_of es t = facts_by (beginning (accepted es) t) (last_place accepted_end t es)
+facts_of es t = facts_by (begin_record (accepted es) t) (last_place accepted_end t es)
 
 -- Encodes an optional entry index in a table: 0 for none, else the index plus 1.
 abbrev pub coded : Option ℕ → ℕ
@@ -101,12 +101,12 @@ links_by key own es = map (λ i. coded (earlier key own es i)) (range_with_len 0
 abbrev pub lasts_by : (Entry → Option ℕ) → List Entry → ℕ → List ℕ
 lasts_by key es n = map (λ k. coded (last_place key k es)) (range_with_len 0 n)
 
-abbrev pub begin_of : Beginning → Begin
+abbrev pub begin_of : BeginRecord → Begin
 begin_of b = record { kind = kind_of b.query; limit = b.limit }
 
 -- how many transactions have begun
 abbrev pub begun_count : List Entry → ℕ
-begun_count es = length (beginnings (accepted es))
+begun_count es = length (begin_records (accepted es))
 
 -- the tables are those of the entries, over n items
 pub record AreLinks (n : ℕ) (es : List Entry) (l : BackLinks) : Type 0 where
@@ -115,7 +115,7 @@ pub record AreLinks (n : ℕ) (es : List Entry) (l : BackLinks) : Type 0 where
   pub items : l.items.items ≡ lasts_by accepted_item es n
   pub txns : l.txns.items ≡ lasts_by accepted_txn es (begun_count es + 1)
   pub ends : l.ends.items ≡ lasts_by accepted_end es (begun_count es + 1)
-  pub begins : l.begins.items ≡ map begin_of (beginnings (accepted es))
+  pub begins : l.begins.items ≡ map begin_of (begin_records (accepted es))
 
 -- accepted entries are on items below n, and of transactions that have begun
 pub record IsFit (n : ℕ) (es : List Entry) : Type 0 where

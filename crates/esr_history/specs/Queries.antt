@@ -2,8 +2,8 @@
 -- updates leave.
 use Rattle.std.specs.Prelude.{◌≡◌, ℕ, ℤ, Bool, true, false, not, ◌&&◌, ◌==◌, ◌≤◌, IsTrue, List, [], filter, Contains, sum_by, unwrap_or, if◌then◌else◌, option_map}
 use Rattle.std.specs.List.{before_first}
-use Rattle.esr_history.specs.Events.{beginning, is_query, is_update, is_committed, accepted, Reply, Begun, Event, Entry}
-use Rattle.esr_history.specs.Machine.{Distance, Schedule, accepted_in, distance_in, charges_in, import_in}
+use Rattle.esr_history.specs.Events.{begin_record, is_query, is_update, is_committed, accepted, Reply, Begun, Event, Entry}
+use Rattle.esr_history.specs.Machine.{DistanceFunction, Schedule, accepted_in, value_distance, charges_in, import_in}
 use Rattle.esr_history.specs.Operations.{Operation, operations, commit_order}
 use Rattle.esr_history.specs.Serial.{is_before, state}
 
@@ -15,7 +15,7 @@ abbrev pub updates_of : Schedule → ℕ → List ℕ
 updates_of h q = filter (is_update (accepted_in h)) (before_first (λ t. t == q) (commit_order (accepted_in h)))
 
 abbrev pub is_strict : List Event → ℕ → Bool
-is_strict events t = unwrap_or (option_map (λ b. b.strict) (beginning events t)) false
+is_strict events t = unwrap_or (option_map (λ b. b.strict) (begin_record events t)) false
 
 abbrev pub begins : ℕ → Reply → Bool
 begins q (Begun t) = t.0 == q
@@ -34,25 +34,25 @@ abbrev pub reads_by : Schedule → ℕ → List Operation
 reads_by h q = filter (λ o. not o.writes && (o.txn == q)) (operations h)
 
 -- the distance between the values that q read and the values w of the items
-abbrev pub distance_from : Distance → Schedule → ℕ → (ℕ → ℤ) → ℕ
-distance_from d h q w = sum_by (λ o. distance_in d h o.item o.value (w o.item)) (reads_by h q)
+abbrev pub distance_from : DistanceFunction → Schedule → ℕ → (ℕ → ℤ) → ℕ
+distance_from d h q w = sum_by (λ o. value_distance d h o.item o.value (w o.item)) (reads_by h q)
 
 -- the members of S among the updates of q, in commit order
 abbrev pub members : Schedule → ℕ → (ℕ → Bool) → List ℕ
 members h q S = filter S (updates_of h q)
 
 -- the distance between the values that q read and the version that S leaves: its members run in commit order
-abbrev pub cost : Distance → Schedule → ℕ → (ℕ → Bool) → ℕ
+abbrev pub cost : DistanceFunction → Schedule → ℕ → (ℕ → Bool) → ℕ
 cost d h q S = distance_from d h q (state h (members h q S))
 
 -- With all its updates before it, the reads of a committed query are within the import charged to it.
-abbrev pub ImportBoundsDistance : Distance → Schedule → Type 0
+abbrev pub ImportBoundsDistance : DistanceFunction → Schedule → Type 0
 ImportBoundsDistance d h =
     (q : ℕ) → IsTrue (is_committed_query h q) → cost d h q (λ _. true) ≤ import_in (charges_in d h) q
 
 -- Two histories agree on the data of the audit of q: its updates, those that it must see, their order, the cost of each
 -- set, and the import.
-pub record HasSameAudit (d : Distance) (h longer : Schedule) (q : ℕ) : Type 0 where
+pub record HasSameAudit (d : DistanceFunction) (h longer : Schedule) (q : ℕ) : Type 0 where
   pub committed : is_committed_query longer q ≡ is_committed_query h q
   pub updates : updates_of longer q ≡ updates_of h q
   pub musts : must longer q ≡ must h q

@@ -2,10 +2,10 @@
 use Rattle.std.specs.Prelude.{◌≡◌, ℕ, ℤ, pos, List, [], ◌∷◌, true, false, refl, map, Some}
 use Rattle.esr_items.specs.Values.{gap}
 use Rattle.esr_history.specs.Events.{TxnId, ItemId, Event, BeginUpdate, BeginQuery, Read, Write, Commit, Abort, Reply, Begun, Value, Wrote, Committed, Aborted, Refused, NoSuchTransaction, AlreadyEnded, NoSuchItem, QueryMayNotWrite, ValueOutOfRange, LimitOutOfRange, BlockedByLock, BlockedByImport, BlockedByExport}
-use Rattle.esr_history.specs.Machine.{Schedule, Distance, schedule_of, extended, reply_to, charges_in, total, import_in, export_in, accepted_in}
+use Rattle.esr_history.specs.Machine.{Schedule, DistanceFunction, schedule_of, extended, reply_to, charges_in, total, import_in, export_in, accepted_in}
 use Rattle.esr_history.specs.ItemLocks.{item_locks}
 
-abbrev pub plain : Distance
+abbrev pub plain : DistanceFunction
 plain w x a b = gap a b
 
 -- a history of items with these opening values, before its first entry
@@ -92,16 +92,16 @@ smaller_of_two_sets_import : import_in (charges_in plain smaller_of_two_sets) 1 
 smaller_of_two_sets_import = refl
 
 -- a lock is held to the end of its transaction
-abbrev upgrade_waits_for_a_reader : Schedule
-upgrade_waits_for_a_reader =
+abbrev upgrade_is_blocked_by_a_reader : Schedule
+upgrade_is_blocked_by_a_reader =
     played (started_from (pos 0 ∷ []))
     (BeginUpdate 0 ∷ BeginUpdate 0 ∷ Read (txn 1) (item 0) ∷ Read (txn 2) (item 0) ∷ Write (txn 1) (item 0) (pos 1)
     ∷ Commit (txn 2) ∷ Write (txn 1) (item 0) (pos 1) ∷ Commit (txn 1) ∷ [])
 
-upgrade_waits_for_a_reader_replies : replies upgrade_waits_for_a_reader
+upgrade_is_blocked_by_a_reader_replies : replies upgrade_is_blocked_by_a_reader
     ≡ Begun (txn 1) ∷ Begun (txn 2) ∷ Value (pos 0) ∷ Value (pos 0) ∷ Refused (BlockedByLock (txn 2)) ∷ Committed
     ∷ Wrote ∷ Committed ∷ []
-upgrade_waits_for_a_reader_replies = refl
+upgrade_is_blocked_by_a_reader_replies = refl
 
 -- each refusal by its name
 abbrev every_refusal_in_order : Schedule

@@ -6,7 +6,7 @@
 ghost use Rattle.std.specs.Prelude.{◌≡◌, ◌+◌, ◌<◌, ◌≤◌, ◌^◌, ◌∷◌, [], ℕ, false, length, slice_index_or, vec_capacity, IfOk};
 ghost use Rattle.esr_history.specs.Events.{is_refusal};
 ghost use Rattle.esr_history.specs.Imports.{imported, with_number, AreImports, AreDue};
-ghost use Rattle.esr_history.specs.Machine.{Distance, Schedule, IsLegal, extended, reply_to};
+ghost use Rattle.esr_history.specs.Machine.{DistanceFunction, Schedule, IsLegal, extended, reply_to};
 
 use crate::event::{Entry, Event};
 use esr_base::TxnId;
@@ -70,7 +70,7 @@ pub fn note(imports: &mut Vec<u64>, entry: Entry, charges: &[(TxnId, u64)])
     requires spare_capacity { length imports.old.items < vec_capacity imports.old }
     requires fits { is_refusal entry.reply ≡ false → (t : ℕ)
         → slice_index_or imports.old.items t 0 + imported charges.now t < 2 ^ 64 }
-    ensures imports { (d : Distance) (h : Schedule) → IsLegal d h → entry.reply ≡ reply_to d h entry.event
+    ensures imports { (d : DistanceFunction) (h : Schedule) → IsLegal d h → entry.reply ≡ reply_to d h entry.event
         → AreDue d h entry.event entry.reply charges.now
         → AreImports d h imports.old.items → AreImports d (extended h entry.event entry.reply) imports.new.items }
     ensures spare_capacity { (k : ℕ) → length imports.old.items + (k + 1) ≤ vec_capacity imports.old

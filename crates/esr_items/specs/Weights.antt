@@ -40,8 +40,8 @@ weighted-zero weights x a b h =
     gap-zero a b (eq_of_mul-eq-mul_left w (weight-least (slice_index_or weights x 1)) (gap a b) 0 (h
     ∙ sym (mul-zero w)))
 
-pub weighted-same : (weights : List ℕ) (x : ℕ) (a : ℤ) → weighted weights x a a ≡ 0
-weighted-same weights x a = ap (λ n. weight_of weights x * n) (gap-same a) ∙ mul-zero (weight_of weights x)
+pub weighted-equal_values : (weights : List ℕ) (x : ℕ) (a : ℤ) → weighted weights x a a ≡ 0
+weighted-equal_values weights x a = ap (λ n. weight_of weights x * n) (gap-same a) ∙ mul-zero (weight_of weights x)
 
 pub weighted_comm : (weights : List ℕ) (x : ℕ) (a b : ℤ) → weighted weights x a b ≡ weighted weights x b a
 weighted_comm weights x a b = ap (λ n. weight_of weights x * n) (gap_comm a b)

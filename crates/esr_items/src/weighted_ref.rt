@@ -9,7 +9,7 @@ use esr_base::ItemId;
 pub struct WeightedRef<'a>(pub &'a Weighted);
 
 impl Metric for WeightedRef<'_> {
-    ghost use Rattle.esr_items.specs.Weights.{weighted, weighted-zero, weighted-same, weighted_comm, weighted-triangle, weighted-bounded};
+    ghost use Rattle.esr_items.specs.Weights.{weighted, weighted-zero, weighted-equal_values, weighted_comm, weighted-triangle, weighted-bounded};
 
     ghost weights = { λ m. m.0.now };
 
@@ -21,7 +21,7 @@ impl Metric for WeightedRef<'_> {
 
     ghost zero = { weighted-zero };
 
-    ghost same = { weighted-same };
+    ghost same = { weighted-equal_values };
 
     ghost symmetric = { weighted_comm };
 

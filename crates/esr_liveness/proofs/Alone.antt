@@ -9,8 +9,8 @@ use Rattle.esr_history.specs.declared.event.Refusal.{Refusal}
 use Rattle.esr_history.specs.declared.event.Refusal.TheVariants.{NoSuchTransaction, AlreadyEnded, NoSuchItem, QueryMayNotWrite, ValueOutOfRange, TooManyReads}
 use Rattle.esr_items.specs.Values.{is_value}
 use Rattle.esr_base.specs.declared.limits.TheConstants.{MAX_READS}
-use Rattle.esr_history.specs.Events.{Beginning, total_read_count, beginning, is_active, is_begun, is_query, is_update, txn_numbers, reads, writes}
-use Rattle.esr_history.specs.Machine.{Distance, Schedule, accepted_in, acceptance, blocked_by, charge_of_write, distance_in, due_in, export_full, import_full, read_blocked, reasons, reply_to, write_blocked}
+use Rattle.esr_history.specs.Events.{BeginRecord, total_read_count, begin_record, is_active, is_begun, is_query, is_update, txn_numbers, reads, writes}
+use Rattle.esr_history.specs.Machine.{DistanceFunction, Schedule, accepted_in, acceptance, blocked_by, charge_of_write, value_distance, due_in, export_full, import_full, read_blocked, reasons, reply_to, write_blocked}
 use Rattle.std.specs.List.{list_any}
 use Rattle.std.specs.Prelude.{length, nat_le}
 use Rattle.esr_liveness.specs.Liveness.{IsAlone, LawOfLoneUpdates, blocker_in, has_locked, has_written}
@@ -20,7 +20,7 @@ filter_map_none : {X Y : Type 0} (f : X → Option Y) (xs : List X) → ((x : X)
 filter_map_none f [] none = refl
 filter_map_none f (x ∷ xs) none = rw (none x) (filter_map_none f xs none)
 
-update_no_query : (o : Option Beginning) → unwrap_or (option_map (λ b. not b.query) o) false ≡ true
+update_no_query : (o : Option BeginRecord) → unwrap_or (option_map (λ b. not b.query) o) false ≡ true
     → unwrap_or (option_map (λ b. b.query) o) false ≡ false
 update_no_query None is = absurd (false≢true is)
 update_no_query (Some b) is = not-true b.query is
@@ -44,9 +44,9 @@ no_charge false active read c lone = refl
 no_charge true false read c lone = refl
 no_charge true true read c lone = absurd (true≢false (lone refl))
 
-module _ (d : Distance) (h : Schedule) (t : TxnId) (x : ItemId) (update : is_update (accepted_in h) t.0 ≡ true) (alone : IsAlone h t.0) where
+module _ (d : DistanceFunction) (h : Schedule) (t : TxnId) (x : ItemId) (update : is_update (accepted_in h) t.0 ≡ true) (alone : IsAlone h t.0) where
   not_query : is_query (accepted_in h) t.0 ≡ false
-  not_query = update_no_query (beginning (accepted_in h) t.0) update
+  not_query = update_no_query (begin_record (accepted_in h) t.0) update
 
   inactive : (u : ℕ) → not (u == t.0) ≡ true → is_active (accepted_in h) u ≡ false
   inactive u other =
@@ -74,7 +74,7 @@ module _ (d : Distance) (h : Schedule) (t : TxnId) (x : ItemId) (update : is_upd
   write_free : (v : ℤ) → due_in d h (Write t x v) ≡ []
   write_free v =
       rw update
-      (filter_map_none (charge_of_write (distance_in d h) h.opening (accepted_in h) t.0 x.0 v) (txn_numbers (accepted_in h))
+      (filter_map_none (charge_of_write (value_distance d h) h.opening (accepted_in h) t.0 x.0 v) (txn_numbers (accepted_in h))
       (λ q. no_charge (is_query (accepted_in h) q) (is_active (accepted_in h) q) (list_any (reads q x.0) (accepted_in h)) _ (λ active. subst (λ u. is_query (accepted_in h) u ≡ false) (sym (alone q active)) not_query)))
 
   no_one : (r : Option Refusal) → r ≡ None → Names (λ u. ⊥) r

@@ -12,8 +12,8 @@ use Rattle.esr_history.specs.declared.event.Event.TheVariants.{BeginUpdate, Begi
 use Rattle.esr_history.specs.declared.event.Refusal.{Refusal}
 use Rattle.esr_history.specs.declared.event.Refusal.TheVariants.{NoSuchTransaction, AlreadyEnded, NoSuchItem, QueryMayNotWrite, ValueOutOfRange, LimitOutOfRange, TooManyReads, TooManyTransactions, BlockedByLock, BlockedByImport, BlockedByExport}
 use Rattle.esr_history.specs.declared.event.Reply.{Reply}
-use Rattle.esr_history.specs.Events.{total_read_count, beginnings, is_active, is_begun, is_query, is_update, holds_read, holds_write, txn_numbers, reads, writes}
-use Rattle.esr_history.specs.Machine.{Distance, Schedule, Charge, accepted_in, acceptance, answered, blocked_by, charge_of_read, charge_of_write, distance_in, due_in, export_full, first_reason, import_full, read_blocked, reasons, when, write_blocked, writer}
+use Rattle.esr_history.specs.Events.{total_read_count, begin_records, is_active, is_begun, is_query, is_update, holds_read, holds_write, txn_numbers, reads, writes}
+use Rattle.esr_history.specs.Machine.{DistanceFunction, Schedule, Charge, accepted_in, acceptance, answered, blocked_by, charge_of_read, charge_of_write, value_distance, due_in, export_full, first_reason, import_full, read_blocked, reasons, when, write_blocked, writer}
 use Rattle.esr_history.specs.Refusals.{refusal_blocker}
 use Rattle.esr_history.proofs.Lists.{Each-filter_map, find_some}
 use Rattle.esr_base.specs.declared.limits.TheConstants.{MAX_LIMIT, MAX_TRANSACTIONS}
@@ -42,7 +42,7 @@ given_if : (b : Bool) (c e : Charge) → (if b then Some c else None) ≡ Some e
 given_if true c e is = (refl, same_Some c e is)
 given_if false c e is = absurd (cc)
 
-module _ (d : Distance) (h : Schedule) where
+module _ (d : DistanceFunction) (h : Schedule) where
   abbrev Active : ℕ → Type 0
   Active u = is_active (accepted_in h) u ≡ true
 
@@ -54,12 +54,12 @@ module _ (d : Distance) (h : Schedule) where
   AreOpen c = Active c.query × Active c.update
 
   read_charges : (q x : ℕ) → Active q → (o : Option ℕ) → ((u : ℕ) → o ≡ Some u → Active u)
-      → AllByRecursion AreOpen (charge_of_read (distance_in d h) h.opening (accepted_in h) q x o)
+      → AllByRecursion AreOpen (charge_of_read (value_distance d h) h.opening (accepted_in h) q x o)
   read_charges q x active None has = tt
   read_charges q x active (Some u) has = ((active, has u refl), tt)
 
   write_charges : (u x : ℕ) (v : ℤ) → Active u → (q : ℕ) (c : Charge)
-      → charge_of_write (distance_in d h) h.opening (accepted_in h) u x v q ≡ Some c → AreOpen c
+      → charge_of_write (value_distance d h) h.opening (accepted_in h) u x v q ≡ Some c → AreOpen c
   write_charges u x v active q c is =
       let given = given_if (is_query (accepted_in h) q && holds_read (accepted_in h) q x) _ c is in
       let reader = and_parts (is_query (accepted_in h) q) (holds_read (accepted_in h) q x) given.0 in
@@ -80,7 +80,7 @@ module _ (d : Distance) (h : Schedule) where
   due_of_write : (t : TxnId) (x : ItemId) (v : ℤ) → Active t.0 → AllByRecursion AreOpen (due_in d h (Write t x v))
   due_of_write t x v active =
       elim (cases_Bool (is_update (accepted_in h) t.0)) [
-        | inl passes ↦ rw passes (Each-filter_map AreOpen (charge_of_write (distance_in d h) h.opening (accepted_in h) t.0 x.0 v) (write_charges t.0 x.0 v active) (txn_numbers (accepted_in h)))
+        | inl passes ↦ rw passes (Each-filter_map AreOpen (charge_of_write (value_distance d h) h.opening (accepted_in h) t.0 x.0 v) (write_charges t.0 x.0 v active) (txn_numbers (accepted_in h)))
         | inr fails ↦ rw fails tt
       ]
 
@@ -131,10 +131,10 @@ module _ (d : Distance) (h : Schedule) where
 pub law_of_blockers : LawOfBlockers
 law_of_blockers d h (BeginUpdate limit) u is =
     blocked_by_reason (IsOpen d h) (reasons d h (BeginUpdate limit)) (acceptance h (BeginUpdate limit))
-    (names_none (IsOpen d h) (nat_lt MAX_LIMIT limit) LimitOutOfRange refl, (names_none (IsOpen d h) (nat_le MAX_TRANSACTIONS (length (beginnings (accepted_in h)))) TooManyTransactions refl, tt)) refl u is
+    (names_none (IsOpen d h) (nat_lt MAX_LIMIT limit) LimitOutOfRange refl, (names_none (IsOpen d h) (nat_le MAX_TRANSACTIONS (length (begin_records (accepted_in h)))) TooManyTransactions refl, tt)) refl u is
 law_of_blockers d h (BeginQuery limit strict) u is =
     blocked_by_reason (IsOpen d h) (reasons d h (BeginQuery limit strict)) (acceptance h (BeginQuery limit strict))
-    (names_none (IsOpen d h) (nat_lt MAX_LIMIT limit) LimitOutOfRange refl, (names_none (IsOpen d h) (nat_le MAX_TRANSACTIONS (length (beginnings (accepted_in h)))) TooManyTransactions refl, tt)) refl u is
+    (names_none (IsOpen d h) (nat_lt MAX_LIMIT limit) LimitOutOfRange refl, (names_none (IsOpen d h) (nat_le MAX_TRANSACTIONS (length (begin_records (accepted_in h)))) TooManyTransactions refl, tt)) refl u is
 law_of_blockers d h (Read t x) u is =
     acts d h t u _ (acceptance h (Read t x)) refl
     (λ active. (

@@ -9,7 +9,7 @@ use Rattle.esr_history.specs.declared.event.Refusal.{Refusal}
 use Rattle.esr_history.specs.declared.event.Refusal.TheVariants.{NoSuchTransaction, AlreadyEnded}
 use Rattle.esr_history.specs.declared.event.Reply.{Reply}
 use Rattle.esr_history.specs.declared.event.Reply.TheVariants.{Aborted, Committed}
-use Rattle.esr_history.specs.Events.{Beginning, aborts, beginning, beginning_of, beginnings, commits, is_aborted, is_active, is_begun, is_committed, is_query, is_refusal, is_update, txn_numbers, reads, writes}
+use Rattle.esr_history.specs.Events.{BeginRecord, aborts, begin_record, begin_record_of, begin_records, commits, is_aborted, is_active, is_begun, is_committed, is_query, is_refusal, is_update, txn_numbers, reads, writes}
 use Rattle.esr_history.specs.Machine.{Schedule, accepted_in, answered, extended, first_reason, when}
 use Rattle.esr_history.proofs.LegalWellFormed.{done-accepted}
 use Rattle.esr_history.proofs.Lists.{any_push, any_push_no, filter_map_push_none}
@@ -18,7 +18,7 @@ use Rattle.esr_liveness.specs.Liveness.{IsEndOf, LawOfEnds, has_locked, has_writ
 
 -- An end of transaction u: it begins, reads and writes nothing, and ends u alone.
 pub record Ends (u : ℕ) (end : Event) : Type 0 where
-  pub begins : beginning_of end ≡ None
+  pub begins : begin_record_of end ≡ None
   pub reads_none : (t x : ℕ) → reads t x end ≡ false
   pub writes_none : (t x : ℕ) → writes t x end ≡ false
   pub ends : (c a : Bool) (w : ℕ) → (not (c || commits w end) && not (a || aborts w end)) ≡ ((not c && not a) && not (u == w))
@@ -83,10 +83,10 @@ module _ (events : List Event) (end : Event) (u : ℕ) (is : Ends u end) where
   abbrev later : List Event
   later = events ++ end ∷ []
 
-  same_beginnings : beginnings later ≡ beginnings events
-  same_beginnings = filter_map_push_none beginning_of events end is.begins
+  same_beginnings : begin_records later ≡ begin_records events
+  same_beginnings = filter_map_push_none begin_record_of events end is.begins
 
-  same_beginning : (t : ℕ) → beginning later t ≡ beginning events t
+  same_beginning : (t : ℕ) → begin_record later t ≡ begin_record events t
   same_beginning zero = refl
   same_beginning (suc k) = ap (λ bs. slice_get bs k) same_beginnings
 
@@ -96,10 +96,10 @@ module _ (events : List Event) (end : Event) (u : ℕ) (is : Ends u end) where
       (and_assoc (is_begun events w) (not (is_committed events w) && not (is_aborted events w)) (not (u == w)))
 
   same_update : (w : ℕ) → is_update later w ≡ is_update events w
-  same_update w = ap (λ o. unwrap_or (option_map (λ (b : Beginning). not b.query) o) false) (same_beginning w)
+  same_update w = ap (λ o. unwrap_or (option_map (λ (b : BeginRecord). not b.query) o) false) (same_beginning w)
 
   same_query : (w : ℕ) → is_query later w ≡ is_query events w
-  same_query w = ap (λ o. unwrap_or (option_map (λ (b : Beginning). b.query) o) false) (same_beginning w)
+  same_query w = ap (λ o. unwrap_or (option_map (λ (b : BeginRecord). b.query) o) false) (same_beginning w)
 
   same_writes : (w x : ℕ) → list_any (writes w x) later ≡ list_any (writes w x) events
   same_writes w x = any_push_no (writes w x) events end (is.writes_none w x)

@@ -6,7 +6,7 @@ use Rattle.esr_history.specs.declared.event.Event.TheVariants.{Read, Write, Comm
 use Rattle.esr_history.specs.declared.event.Reply.{Reply}
 use Rattle.esr_history.specs.declared.event.Reply.TheVariants.{Refused, Committed, Aborted}
 use Rattle.esr_history.specs.Events.{is_active, is_query, is_update, holds_read, holds_write, txn_numbers}
-use Rattle.esr_history.specs.Machine.{Distance, Schedule, accepted_in, extended, reply_to}
+use Rattle.esr_history.specs.Machine.{DistanceFunction, Schedule, accepted_in, extended, reply_to}
 use Rattle.esr_history.specs.WellFormed.{names}
 use Rattle.esr_history.specs.Refusals.{refusal_blocker}
 
@@ -20,7 +20,7 @@ abbrev pub IsAlone : Schedule → ℕ → Type 0
 IsAlone h t = (u : ℕ) → is_active (accepted_in h) u ≡ true → u ≡ t
 
 abbrev pub LawOfLoneUpdates : Type 0
-LawOfLoneUpdates = (d : Distance) (h : Schedule) (e : Event) (t : ℕ) → names t e ≡ true
+LawOfLoneUpdates = (d : DistanceFunction) (h : Schedule) (e : Event) (t : ℕ) → names t e ≡ true
     → is_update (accepted_in h) t ≡ true → IsAlone h t → blocker_in (reply_to d h e) ≡ None
 
 -- whether an update other than t holds the write lock on item x, or either lock
@@ -37,7 +37,7 @@ holders_against events (Write t x v) = filter (has_locked events t.0 x.0) (txn_n
 holders_against events _ = []
 
 abbrev pub LawOfBlockers : Type 0
-LawOfBlockers = (d : Distance) (h : Schedule) (e : Event) (u : TxnId) → blocker_in (reply_to d h e) ≡ Some u
+LawOfBlockers = (d : DistanceFunction) (h : Schedule) (e : Event) (u : TxnId) → blocker_in (reply_to d h e) ≡ Some u
     → is_active (accepted_in h) u.0 ≡ true
 
 -- The transaction ends by this event.
@@ -46,11 +46,11 @@ IsEndOf u (Commit t) Committed = t ≡ u
 IsEndOf u (Abort t) Aborted = t ≡ u
 IsEndOf u _ _ = ⊥
 
-pub record Frees (d : Distance) (h : Schedule) (u : TxnId) : Type 0 where
+pub record Frees (d : DistanceFunction) (h : Schedule) (u : TxnId) : Type 0 where
   pub aborts : reply_to d h (Abort u) ≡ Aborted
   pub frees : (end : Event) (reply : Reply) (e : Event) → IsEndOf u end reply
       → holders_against (accepted_in (extended h end reply)) e
       ≡ filter (λ w. not (u.0 == w)) (holders_against (accepted_in h) e)
 
 abbrev pub LawOfEnds : Type 0
-LawOfEnds = (d : Distance) (h : Schedule) (u : TxnId) → is_active (accepted_in h) u.0 ≡ true → Frees d h u
+LawOfEnds = (d : DistanceFunction) (h : Schedule) (u : TxnId) → is_active (accepted_in h) u.0 ≡ true → Frees d h u

@@ -5,9 +5,9 @@ use Rattle.std.proofs.lemmas.Bool.{cases_eq, eq-eqb, ne_eqb, and_right, and_left
 use Rattle.std.proofs.lemmas.List.Elements.{All-cons, All-head, All-tail}
 use Rattle.esr_history.specs.Ascending.{IsAscendingBy, IsSmallest}
 
-pub IsSmallest-same : (p q : ℕ → Bool) (r : Option ℕ) → ((u : ℕ) → p u ≡ q u) → IsSmallest p r → IsSmallest q r
-IsSmallest-same p q None same least = λ u. sym (same u) ∙ least u
-IsSmallest-same p q (Some u) same least = (sym (same u) ∙ least.0, λ v l. sym (same v) ∙ least.1 v l)
+pub IsSmallest-extensional : (p q : ℕ → Bool) (r : Option ℕ) → ((u : ℕ) → p u ≡ q u) → IsSmallest p r → IsSmallest q r
+IsSmallest-extensional p q None same least = λ u. sym (same u) ∙ least u
+IsSmallest-extensional p q (Some u) same least = (sym (same u) ∙ least.0, λ v l. sym (same v) ∙ least.1 v l)
 
 module _ {X : Type 0} (key : X → ℕ) where
   none_lower : (a v : ℕ) → v ≤ a → (xs : List X) → AllByRecursion (λ y. a < key y) xs → list_any (λ y. key y == v) xs ≡ false
@@ -20,7 +20,7 @@ module _ {X : Type 0} (key : X → ℕ) where
   pub least_other : (t : ℕ) (xs : List X) → IsAscendingBy key xs → IsSmallest (λ u. not (u == t) && list_any (λ y. key y == u) xs) (option_map key (find (λ y. not (key y == t)) xs))
   least_other t [] asc = λ u. and_right (not (u == t)) false refl
   least_other t (x ∷ xs) asc =
-      grind (arith, cases_eq, eq-eqb, IsSmallest-same, least_other t xs asc.1, ne_eqb, and_left, and_right, none_lower)
+      grind (arith, cases_eq, eq-eqb, IsSmallest-extensional, least_other t xs asc.1, ne_eqb, and_left, and_right, none_lower)
 
 -- a property of each element of a mapped list
 pub All-from_map : {X Y : Type 0} (f : X → Y) (P : Y → Type 0) (xs : List X) → All P (map f xs) → All (λ x. P (f x)) xs

@@ -2,4 +2,4 @@
 
 pub mod Modes
 pub mod Tables
-pub mod Rows
+pub mod LockEntries

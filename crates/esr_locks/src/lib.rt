@@ -5,10 +5,10 @@
 //! can find the queries to charge.
 #![tactic(auto)]
 
+mod entry;
 mod lists;
 mod locked_items;
 mod mode;
-mod row;
 mod table;
 
 pub use lists::QueryReads;

@@ -10,7 +10,7 @@ ghost use Rattle.std.specs.List.{list_any, insert, AllByRecursion};
 ghost use Rattle.smallvec.specs.SmallVec.{HasRoomFor};
 ghost use Rattle.esr_base.specs.declared.limits.TheConstants.{MAX_READS};
 ghost use Rattle.esr_history.specs.Ascending.{IsAscendingBy, IsPlaceOf, IsGapFor, upserted};
-ghost use Rattle.esr_locks.specs.Rows.{Reserves, reader, first_reads, more_reads};
+ghost use Rattle.esr_locks.specs.LockEntries.{Reserves, reader, first_reads, more_reads};
 
 use esr_history::TxnId;
 use smallvec::SmallVec;
@@ -113,14 +113,14 @@ pub fn reserve_one<T: MadeWith<Global> + Drop, const N: usize>(
 /// Returns the index of a transaction's row in a list, or else the index at which to insert it.
 #[inline(always)]
 fn place_of<R: Numbered + MadeWith<Global>, const N: usize>(
-    rows: &SmallVec<R, N>,
+    entries: &SmallVec<R, N>,
     t: TxnId,
 ) -> Result<usize, usize>
-    requires { IsAscendingBy R.number rows.now.items }
-    ensures found { IfOk result (IsPlaceOf R.number rows.now.items t.0) }
-    ensures absent { IfErr result (IsGapFor R.number rows.now.items t.0) }
+    requires { IsAscendingBy R.number entries.now.items }
+    ensures found { IfOk result (IsPlaceOf R.number entries.now.items t.0) }
+    ensures absent { IfErr result (IsGapFor R.number entries.now.items t.0) }
 {
-    rows.binary_search_by_key(&t.0, |r| r.number())
+    entries.binary_search_by_key(&t.0, |r| r.number())
 }
 
 /// Returns the first reader other than `t`.
@@ -209,43 +209,43 @@ pub fn count_read(queries: &mut Queries, q: TxnId) -> bool
 /// Drops the only row, if it is of the transaction.
 #[inline(always)]
 fn drop_only<R: Numbered + MadeWith<Global> + Drop, const N: usize>(
-    rows: &mut SmallVec<R, N>,
+    entries: &mut SmallVec<R, N>,
     t: TxnId,
 )
-    requires { length rows.old.items ≡ 1 }
-    ensures { rows.new.items ≡ filter (λ r. not (R.number r == t.0)) rows.old.items }
+    requires { length entries.old.items ≡ 1 }
+    ensures { entries.new.items ≡ filter (λ r. not (R.number r == t.0)) entries.old.items }
 {
-    if rows[0].number() == t.0 {
-        let _ = rows.pop();
+    if entries[0].number() == t.0 {
+        let _ = entries.pop();
     }
 }
 
 /// Drops the row of a transaction from a list that may have others.
 #[inline(never)]
 fn drop_among<R: Numbered + MadeWith<Global> + Drop, const N: usize>(
-    rows: &mut SmallVec<R, N>,
+    entries: &mut SmallVec<R, N>,
     t: TxnId,
 )
-    requires { IsAscendingBy R.number rows.old.items }
-    ensures { rows.new.items ≡ filter (λ r. not (R.number r == t.0)) rows.old.items }
+    requires { IsAscendingBy R.number entries.old.items }
+    ensures { entries.new.items ≡ filter (λ r. not (R.number r == t.0)) entries.old.items }
 {
-    if let Ok(at) = place_of(rows, t) {
-        let _ = rows.remove(at);
+    if let Ok(at) = place_of(entries, t) {
+        let _ = entries.remove(at);
     }
 }
 
 /// Drops the row of a transaction. Most lists are empty, or have no other row, and then there is nothing to search.
 #[inline(always)]
 pub fn drop_row<R: Numbered + MadeWith<Global> + Drop, const N: usize>(
-    rows: &mut SmallVec<R, N>,
+    entries: &mut SmallVec<R, N>,
     t: TxnId,
 )
-    requires { IsAscendingBy R.number rows.old.items }
-    ensures { rows.new.items ≡ filter (λ r. not (R.number r == t.0)) rows.old.items }
+    requires { IsAscendingBy R.number entries.old.items }
+    ensures { entries.new.items ≡ filter (λ r. not (R.number r == t.0)) entries.old.items }
 {
-    match rows.len() {
+    match entries.len() {
         0 => {}
-        1 => drop_only(rows, t),
-        _ => drop_among(rows, t),
+        1 => drop_only(entries, t),
+        _ => drop_among(entries, t),
     }
 }

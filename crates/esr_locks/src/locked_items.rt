@@ -17,9 +17,9 @@ pub struct LockedItems {
 
 impl Model for LockedItems {
     ghost use Rattle.std.specs.Prelude.{◌-◌, length};
-    ghost use Rattle.esr_locks.specs.Rows.{LockedItemsOf};
+    ghost use Rattle.esr_locks.specs.LockEntries.{LockedItemsModel};
 
-    ghost Value = { LockedItemsOf };
+    ghost Value = { LockedItemsModel };
 
     ghost view = { λ h. record { items = h.list.items; spare_capacity = h.list.capacity - length h.list.items } };
 }

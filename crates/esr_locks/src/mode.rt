@@ -22,10 +22,10 @@ pub enum Mode {
 
 /// Returns whether a held lock of one mode conflicts with a request of another transaction for the other mode.
 #[inline(always)]
-pub fn conflicts(held: Mode, asked: Mode) -> bool
-    ensures { result ≡ conflicts held asked }
+pub fn conflicts(by_transaction: Mode, asked: Mode) -> bool
+    ensures { result ≡ conflicts by_transaction asked }
 {
-    match (held, asked) {
+    match (by_transaction, asked) {
         (Mode::Read, Mode::Write) => true,
         (Mode::Write, Mode::Read | Mode::Write) => true,
         _ => false,

@@ -11,13 +11,13 @@ ghost use Rattle.std.specs.Prelude.{◌≡◌, ℕ, ◌<◌, ◌≤◌, ◌==◌
 ghost use Rattle.std.specs.List.{range_with_len};
 ghost use Rattle.esr_base.specs.declared.limits.TheConstants.{MAX_READS};
 ghost use Rattle.esr_history.specs.Ascending.{IsAscendingBy, IsSmallest};
-ghost use Rattle.esr_locks.specs.Rows.{query_and_count, row_at, items_locked_by, with_lock, has_lock_in_mode, IsLockTable};
+ghost use Rattle.esr_locks.specs.LockEntries.{query_and_count, entry_at, items_locked_by, with_lock, has_lock_in_mode, IsLockTable};
 ghost use Rattle.esr_locks.specs.Tables.{no_locks, locks_at, spare_lock_capacity, has_lock, has_update_lock, has_query_lock, contains_item, blocks_read, blocks_write, with_reader, with_writer, with_query_read, released, Table};
 
+use crate::entry::LockEntry;
 use crate::lists::QueryReads;
 use crate::locked_items::LockedItems;
 use crate::mode::Mode;
-use crate::row::Row;
 use esr_history::{NoMemory, TxnId};
 use esr_items::ItemId;
 use std::alloc::{AllocError, Global};
@@ -31,8 +31,8 @@ use std::marker::Model;
 /// number.
 #[derive(Drop)]
 pub struct LockTable {
-    rows: Vec<Row>,
-    held: Vec<LockedItems>,
+    entries: Vec<LockEntry>,
+    by_transaction: Vec<LockedItems>,
     alloc: Global,
 }
 
@@ -40,87 +40,95 @@ impl Model for LockTable {
     ghost Value = { Table };
 
     ghost view = { λ t. record {
-      locks = map (λ r. r.locks) t.rows.items;
+      locks = map (λ r. r.locks) t.entries.items;
       spare_by_item = map
-          (λ r. r.spare_capacity) t.rows.items;
-      spare_by_transaction = map (λ h. h.spare_capacity) t.held.items;
+          (λ r. r.spare_capacity) t.entries.items;
+      spare_by_transaction = map (λ h. h.spare_capacity) t.by_transaction.items;
     } };
 
-    ghost invariant = { λ t. IsLockTable t.rows.items t.held.items };
+    ghost invariant = { λ t. IsLockTable t.entries.items t.by_transaction.items };
 }
 
-/// Returns one row without locks for each item.
-fn empty_rows(alloc: Global, items: u32) -> Result<Vec<Row>, AllocError>
-    ensures { IfOk result (λ rows. map (λ r. r.locks) rows.items ≡ map (λ x. no_locks) (range_with_len 0 items)) }
+/// Returns one entry without locks for each item.
+fn empty_entries(alloc: Global, items: u32) -> Result<Vec<LockEntry>, AllocError>
+    ensures { IfOk result (λ entries. map (λ r. r.locks) entries.items ≡ map (λ x. no_locks) (range_with_len 0 items)) }
 {
-    let mut rows = Vec::new(alloc);
+    let mut entries = Vec::new(alloc);
     for x in 0..items {
-        rows.push(Row::new(alloc))?;
+        entries.push(LockEntry::new(alloc))?;
     }
-    Ok(rows)
+    Ok(entries)
 }
 
 /// Appends empty lists of items until `t` has one.
 #[cold]
 #[inline(never)]
-fn grow_lists(held: &mut Vec<LockedItems>, alloc: Global, t: TxnId) -> Result<(), AllocError>
-    ensures items { (u : ℕ) → (items_locked_by held.new.items u).items ≡ (items_locked_by held.old.items u).items }
-    ensures ok { OnOk result (t.0 < length held.new.items) }
-    ensures no_capacity { OnErr result (length held.old.items ≤ t.0) }
+fn grow_lists(
+    by_transaction: &mut Vec<LockedItems>,
+    alloc: Global,
+    t: TxnId,
+) -> Result<(), AllocError>
+    ensures items { (u : ℕ) → (items_locked_by by_transaction.new.items u).items ≡ (items_locked_by by_transaction.old.items u).items }
+    ensures ok { OnOk result (t.0 < length by_transaction.new.items) }
+    ensures list_missing { OnErr result (length by_transaction.old.items ≤ t.0) }
 {
-    while held.len() <= t.0 as usize {
-        held.push(LockedItems::new(alloc))?;
+    while by_transaction.len() <= t.0 as usize {
+        by_transaction.push(LockedItems::new(alloc))?;
     }
     Ok(())
 }
 
 /// Ensures that `t` has a list of items.
 #[inline(always)]
-fn ensure_list(held: &mut Vec<LockedItems>, alloc: Global, t: TxnId) -> Result<(), AllocError>
-    ensures items { (u : ℕ) → (items_locked_by held.new.items u).items ≡ (items_locked_by held.old.items u).items }
-    ensures ok { OnOk result (t.0 < length held.new.items) }
-    ensures no_capacity { OnErr result (length held.old.items ≤ t.0) }
-    ensures unchanged_if_present { t.0 < length held.old.items → held.new.items ≡ held.old.items }
+fn ensure_list(
+    by_transaction: &mut Vec<LockedItems>,
+    alloc: Global,
+    t: TxnId,
+) -> Result<(), AllocError>
+    ensures items { (u : ℕ) → (items_locked_by by_transaction.new.items u).items ≡ (items_locked_by by_transaction.old.items u).items }
+    ensures ok { OnOk result (t.0 < length by_transaction.new.items) }
+    ensures list_missing { OnErr result (length by_transaction.old.items ≤ t.0) }
+    ensures unchanged_if_present { t.0 < length by_transaction.old.items → by_transaction.new.items ≡ by_transaction.old.items }
 {
-    if (t.0 as usize) < held.len() {
+    if (t.0 as usize) < by_transaction.len() {
         return Ok(());
     }
-    grow_lists(held, alloc, t)
+    grow_lists(by_transaction, alloc, t)
 }
 
 /// Returns the items in the list of a transaction.
-fn listed(held: &[LockedItems], t: TxnId) -> &[ItemId]
-    ensures { result.now ≡ (items_locked_by held.now t.0).items }
+fn locked_items_of(by_transaction: &[LockedItems], t: TxnId) -> &[ItemId]
+    ensures { result.now ≡ (items_locked_by by_transaction.now t.0).items }
 {
     let at = t.0 as usize;
-    if at < held.len() {
-        held[at].items()
+    if at < by_transaction.len() {
+        by_transaction[at].items()
     } else {
         &[]
     }
 }
 
 /// Replaces the list of a transaction by an empty one, and frees its memory.
-fn clear_list(held: &mut Vec<LockedItems>, alloc: Global, t: TxnId)
-    ensures { (u : ℕ) → (items_locked_by held.new.items u).items
-        ≡ (if t.0 == u then [] else (items_locked_by held.old.items u).items) }
+fn clear_list(by_transaction: &mut Vec<LockedItems>, alloc: Global, t: TxnId)
+    ensures { (u : ℕ) → (items_locked_by by_transaction.new.items u).items
+        ≡ (if t.0 == u then [] else (items_locked_by by_transaction.old.items u).items) }
 {
     let at = t.0 as usize;
-    if at < held.len() {
-        held[at] = LockedItems::new(alloc);
+    if at < by_transaction.len() {
+        by_transaction[at] = LockedItems::new(alloc);
     }
 }
 
 /// Releases the locks of a transaction on the items.
-fn release_each(rows: &mut Vec<Row>, items: &[ItemId], t: TxnId)
-    requires { All (λ i. i.0 < length rows.old.items) items.now }
-    ensures len { length rows.new.items ≡ length rows.old.items }
-    ensures locks { (x : ℕ) → x < length rows.old.items
-        → (row_at rows.new.items x).locks ≡ (if contains_item items.now x then released t.0
-        (row_at rows.old.items x).locks else (row_at rows.old.items x).locks) }
+fn release_each(entries: &mut Vec<LockEntry>, items: &[ItemId], t: TxnId)
+    requires { All (λ i. i.0 < length entries.old.items) items.now }
+    ensures len { length entries.new.items ≡ length entries.old.items }
+    ensures locks { (x : ℕ) → x < length entries.old.items
+        → (entry_at entries.new.items x).locks ≡ (if contains_item items.now x then released t.0
+        (entry_at entries.old.items x).locks else (entry_at entries.old.items x).locks) }
 {
     for x in items {
-        rows[x.0 as usize].release(t);
+        entries[x.0 as usize].release(t);
     }
 }
 
@@ -133,10 +141,10 @@ impl LockTable {
     pub fn new(alloc: Global, items: u32) -> Result<LockTable, NoMemory>
         ensures { IfOk result (λ t. t.locks ≡ map (λ x. no_locks) (range_with_len 0 items)) }
     {
-        match empty_rows(alloc, items) {
-            Ok(rows) => Ok(LockTable {
-                rows,
-                held: Vec::new(alloc),
+        match empty_entries(alloc, items) {
+            Ok(entries) => Ok(LockTable {
+                entries,
+                by_transaction: Vec::new(alloc),
                 alloc,
             }),
             Err(_) => Err(NoMemory),
@@ -147,7 +155,7 @@ impl LockTable {
     pub fn reserve_transactions(&mut self, transactions: usize)
         ensures { self.new ≡ self.old }
     {
-        let _ = self.held.reserve(transactions);
+        let _ = self.by_transaction.reserve(transactions);
     }
 
     /// Returns the update that blocks a read of the item by update `t`: another that has written it.
@@ -156,7 +164,7 @@ impl LockTable {
         requires { x.0 < length self.now.locks }
         ensures { IsSmallest (blocks_read (locks_at self.now.locks x.0) t.0) (option_map (λ u. u.0) result) }
     {
-        self.rows[x.0 as usize].blocking_update(t, Mode::Read)
+        self.entries[x.0 as usize].blocking_update(t, Mode::Read)
     }
 
     /// Returns the update with the smallest number that blocks a write of the item by `t`: another
@@ -166,7 +174,7 @@ impl LockTable {
         requires { x.0 < length self.now.locks }
         ensures { IsSmallest (blocks_write (locks_at self.now.locks x.0) t.0) (option_map (λ u. u.0) result) }
     {
-        self.rows[x.0 as usize].blocking_update(t, Mode::Write)
+        self.entries[x.0 as usize].blocking_update(t, Mode::Write)
     }
 
     /// Returns the update that has written the item.
@@ -174,7 +182,7 @@ impl LockTable {
         requires { x.0 < length self.now.locks }
         ensures { option_map (λ u. u.0) result ≡ (locks_at self.now.locks x.0).writer }
     {
-        self.rows[x.0 as usize].writer()
+        self.entries[x.0 as usize].writer()
     }
 
     /// Returns the queries that have read the item, in ascending order, each with its number of reads.
@@ -184,17 +192,17 @@ impl LockTable {
         ensures ascending { IsAscendingBy (λ r. r.query.0) result.now }
         ensures upper_bound { All (λ r. r.count ≤ MAX_READS) result.now }
     {
-        self.rows[x.0 as usize].queries()
+        self.entries[x.0 as usize].queries()
     }
 
     /// Returns the items on which a transaction holds a lock. The table does not know the kind of a
     /// transaction: an item may occur twice if it was locked both as a query's and as an update's.
     pub fn items_of(&self, t: TxnId) -> &[ItemId]
         ensures in_range { All (λ i. i.0 < length self.now.locks) result.now }
-        ensures listed { (x : ℕ) → x < length self.now.locks → has_lock (locks_at self.now.locks x) t.0 ≡ true
+        ensures complete { (x : ℕ) → x < length self.now.locks → has_lock (locks_at self.now.locks x) t.0 ≡ true
             → contains_item result.now x ≡ true }
     {
-        listed(&self.held, t)
+        locked_items_of(&self.by_transaction, t)
     }
 
     /// Reserves capacity for one more lock of a transaction on an item.
@@ -209,13 +217,13 @@ impl LockTable {
         ensures ok { OnOk result (0 < spare_lock_capacity self.new t.0 x.0) }
         ensures no_capacity { OnErr result (spare_lock_capacity self.old t.0 x.0 ≡ 0) }
     {
-        if self.rows[x.0 as usize].reserve().is_err() {
+        if self.entries[x.0 as usize].reserve().is_err() {
             return Err(NoMemory);
         }
-        if ensure_list(&mut self.held, self.alloc, t).is_err() {
+        if ensure_list(&mut self.by_transaction, self.alloc, t).is_err() {
             return Err(NoMemory);
         }
-        if self.held[t.0 as usize].reserve().is_err() {
+        if self.by_transaction[t.0 as usize].reserve().is_err() {
             return Err(NoMemory);
         }
         Ok(())
@@ -231,8 +239,8 @@ impl LockTable {
         ensures already_locked { has_lock_in_mode mode (locks_at self.old.locks x.0) t.0 ≡ true → self.new.spare_by_transaction ≡ self.old.spare_by_transaction }
         ensures locks { self.new.locks ≡ slice_set self.old.locks x.0 (with_lock mode t.0 (locks_at self.old.locks x.0)) }
     {
-        if self.rows[x.0 as usize].add(t, mode) {
-            self.held[t.0 as usize].push(x);
+        if self.entries[x.0 as usize].add(t, mode) {
+            self.by_transaction[t.0 as usize].push(x);
         }
     }
 
@@ -273,7 +281,11 @@ impl LockTable {
     pub fn release(&mut self, t: TxnId)
         ensures { self.new.locks ≡ map (released t.0) self.old.locks }
     {
-        release_each(&mut self.rows, listed(&self.held, t), t);
-        clear_list(&mut self.held, self.alloc, t);
+        release_each(
+            &mut self.entries,
+            locked_items_of(&self.by_transaction, t),
+            t,
+        );
+        clear_list(&mut self.by_transaction, self.alloc, t);
     }
 }

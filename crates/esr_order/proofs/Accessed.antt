@@ -9,7 +9,7 @@ use Rattle.esr_history.specs.declared.event.Reply.{Reply}
 use Rattle.esr_history.specs.declared.event.Entry.{Entry}
 use Rattle.esr_history.specs.Events.{is_refusal}
 use Rattle.esr_history.specs.BackLinks.{accepted_txn, txn_in, txn_of, is_key, places_from, last_place, earlier, coded}
-use Rattle.esr_history.specs.Machine.{Distance, Schedule, IsLegal}
+use Rattle.esr_history.specs.Machine.{DistanceFunction, Schedule, IsLegal}
 use Rattle.esr_history.specs.Operations.{Operation, operation_of, operation_by, operations_in, answer}
 use Rattle.esr_history.specs.Queries.{reads_by}
 use Rattle.esr_history.proofs.Membership.{get_seam, In-of_filter, each_in}
@@ -108,7 +108,7 @@ module _ (es : List Entry) (t : ℕ) (accesses : List Access) (next : Option ℕ
   back_done none = b.restored ∙ (ap (λ l. filter_map access_in (filter_map (slice_get es) l)) (walk_done accepted_txn t es b.places next none b.walk) ∙ accesses_along t es)
 
 -- they are on items of the history
-pub accesses_inside : (d : Distance) (h : Schedule) → IsLegal d h → (t n : ℕ) → n ≡ length h.opening → All (λ a. a.item.0 < n) (accesses_in h.entries t)
+pub accesses_inside : (d : DistanceFunction) (h : Schedule) → IsLegal d h → (t n : ℕ) → n ≡ length h.opening → All (λ a. a.item.0 < n) (accesses_in h.entries t)
 accesses_inside d h legal t n is = All-from_recursion (λ (a : Access). a.item.0 < n) (accesses_in h.entries t) (each_in (λ (a : Access). a.item.0 < n) (accesses_in h.entries t) (λ a i.
     let o = of_map access_of (filter (by t) (operations_in h.entries)) a i in
     let l : o.0.item < length h.opening = legal_items d h legal o.0 (In-of_filter (by t) (operations_in h.entries) o.0 o.1).0 in

@@ -4,14 +4,14 @@ use Rattle.std.specs.List.{list_any}
 use Rattle.std.proofs.lemmas.List.{reverse-append}
 use Rattle.std.proofs.lemmas.Bool.{true≢false, and_parts, and_from, or_cases, or_left, or_right, eqb-true, eq-eqb, ne_eqb, false_from_ne_true}
 use Rattle.esr_base.specs.declared.numbers.TxnId.{TxnId}
-use Rattle.esr_history.specs.Machine.{Distance, Schedule, IsLegal}
+use Rattle.esr_history.specs.Machine.{DistanceFunction, Schedule, IsLegal}
 use Rattle.esr_history.specs.Operations.{Operation, operations}
 use Rattle.esr_history.specs.Serial.{is_before}
 use Rattle.esr_history.specs.Queries.{updates_of, must, reads_by}
 use Rattle.esr_history.proofs.Membership.{In, In-Contains, Contains-In, In-any, In-filter, In-of_filter, In-from_any, any-from_In, All-from_pairs, filter_agree_in}
 use Rattle.esr_history.proofs.Traces.{writes_item}
 use Rattle.esr_history.proofs.Versions.{wrote_by, wrote_parts}
-use Rattle.esr_history.proofs.Words.{wrote_trace}
+use Rattle.esr_history.proofs.TraceAgreement.{wrote_trace}
 use Rattle.esr_order.specs.declared.search.Items.{Items}
 use Rattle.esr_order.specs.Placements.{is_among}
 use Rattle.esr_order.specs.Scans.{access_of, accesses_in, Access}
@@ -123,7 +123,7 @@ relevant_all h q us n = record {
   );
 }
 
-module _ (d : Distance) (h : Schedule) (q : ℕ) (legal : IsLegal d h) where
+module _ (d : DistanceFunction) (h : Schedule) (q : ℕ) (legal : IsLegal d h) where
   once : AllPairs (λ u v. u ≢ v) (updates_of h q)
   once = All-from_pairs (λ u v. u ≢ v) (updates_of h q) (in_order d h q legal).once
 
@@ -270,7 +270,7 @@ pub record IsSought (h : Schedule) (q i : ℕ) (items : Items) (relevant : List 
   pub seen : AreSeen h q (map (λ t. t.0) (reverse relevant)) (seen_items items)
   pub relevant_from : IsRelevantFrom h q i (map (λ t. t.0) (reverse relevant))
 
-module _ (d : Distance) (h : Schedule) (q : ℕ) (legal : IsLegal d h) (updates : List TxnId) (same : map (λ t. t.0) updates ≡ updates_of h q) (k i : ℕ) (next : k ≡ suc i) (inside : i < length (updates_of h q)) (here : i < length updates)
+module _ (d : DistanceFunction) (h : Schedule) (q : ℕ) (legal : IsLegal d h) (updates : List TxnId) (same : map (λ t. t.0) updates ≡ updates_of h q) (k i : ℕ) (next : k ≡ suc i) (inside : i < length (updates_of h q)) (here : i < length updates)
     (items : Items) (relevant : List TxnId) (so_far : IsSought h q k items relevant) (list : List Access) (did_by : list ≡ accesses_in h.entries (get_or updates i no_txn).0) where
   abbrev us : List ℕ
   us = map (λ (t : TxnId). t.0) (reverse relevant)

@@ -13,15 +13,15 @@ use Rattle.esr_history.specs.declared.event.Event.{Event}
 use Rattle.esr_history.specs.declared.event.Event.TheVariants.{BeginUpdate, BeginQuery, Read, Write, Commit, Abort}
 use Rattle.esr_history.specs.declared.event.Entry.{Entry}
 use Rattle.esr_history.specs.declared.back_links.Facts.{Facts}
-use Rattle.esr_history.specs.Events.{Beginning, is_refusal, accepted, beginning, beginning_of, beginnings, is_begun, is_query, is_update, is_committed}
-use Rattle.esr_history.specs.Machine.{Distance, Schedule, accepted_in, IsLegal}
+use Rattle.esr_history.specs.Events.{BeginRecord, is_refusal, accepted, begin_record, begin_record_of, begin_records, is_begun, is_query, is_update, is_committed}
+use Rattle.esr_history.specs.Machine.{DistanceFunction, Schedule, accepted_in, IsLegal}
 use Rattle.esr_history.specs.Operations.{committer, commit_order}
 use Rattle.esr_history.specs.Queries.{is_committed_query, updates_of, must, is_strict, before_begin}
 use Rattle.esr_history.specs.BackLinks.{ender, accepted_end, is_key, last_place, facts_by, facts_of}
 use Rattle.esr_history.proofs.Membership.{In, In-from_any, In-Contains, Contains-In, In-of_filter, In-append_left, In-append_right, In-append_cases, filter_agree_in, any-from_number}
 use Rattle.esr_history.proofs.Bounded.{In-before_first, before_first-here, before_first-later}
 use Rattle.esr_history.proofs.WithinRanges.{legal_begins}
-use Rattle.esr_history.proofs.Words.{committed_among, trace}
+use Rattle.esr_history.proofs.TraceAgreement.{committed_among, trace}
 use Rattle.esr_history.proofs.LegalWellFormed.{begun_in_range}
 use Rattle.esr_history.proofs.Locking.{known}
 use Rattle.esr_history.proofs.TraceOfHistory.{legal_reached}
@@ -34,24 +34,24 @@ use Rattle.esr_order.proofs.Spans.{end_is, IsBegunAt, begun_at}
 
 -- ---- facts
 module _ (es : List Entry) (t : ℕ) where
-  pub facts_none : None ≡ facts_of es t → beginning (accepted es) t ≡ None
-  facts_none none = at (beginning (accepted es) t) none
+  pub facts_none : None ≡ facts_of es t → begin_record (accepted es) t ≡ None
+  facts_none none = at (begin_record (accepted es) t) none
     where
-      at : (b : Option Beginning) → None ≡ facts_by b (last_place accepted_end t es) → b ≡ None
+      at : (b : Option BeginRecord) → None ≡ facts_by b (last_place accepted_end t es) → b ≡ None
       at None e = refl
       at (Some b) e = absurd (cc)
 
-  pub facts_some : (f : Facts) → Some f ≡ facts_of es t → (b : Beginning) × (beginning (accepted es) t ≡ Some b) × (f.query ≡ b.query) × (f.end ≡ last_place accepted_end t es)
-  facts_some f some = at (beginning (accepted es) t) refl some
+  pub facts_some : (f : Facts) → Some f ≡ facts_of es t → (b : BeginRecord) × (begin_record (accepted es) t ≡ Some b) × (f.query ≡ b.query) × (f.end ≡ last_place accepted_end t es)
+  facts_some f some = at (begin_record (accepted es) t) refl some
     where
-      at : (o : Option Beginning) → beginning (accepted es) t ≡ o → Some f ≡ facts_by o (last_place accepted_end t es) → (b : Beginning) × (beginning (accepted es) t ≡ Some b) × (f.query ≡ b.query) × (f.end ≡ last_place accepted_end t es)
+      at : (o : Option BeginRecord) → begin_record (accepted es) t ≡ o → Some f ≡ facts_by o (last_place accepted_end t es) → (b : BeginRecord) × (begin_record (accepted es) t ≡ Some b) × (f.query ≡ b.query) × (f.end ≡ last_place accepted_end t es)
       at None is e = absurd (cc)
       at (Some b) is e =
           let s : f ≡ record { query = b.query; limit = b.limit; end = last_place accepted_end t es } = same_Some f (record { query = b.query; limit = b.limit; end = last_place accepted_end t es }) e in
           (b, is, ap (λ (g : Facts). g.query) s, ap (λ (g : Facts). g.end) s)
 
   pub query_some : (f : Facts) → Some f ≡ facts_of es t → f.query ≡ is_query (accepted es) t
-  query_some f some = let s = facts_some f some in s.2 ∙ sym (ap (λ (b : Option Beginning). unwrap_or (option_map (λ c. c.query) b) false) s.1)
+  query_some f some = let s = facts_some f some in s.2 ∙ sym (ap (λ (b : Option BeginRecord). unwrap_or (option_map (λ c. c.query) b) false) s.1)
 
   pub end_some : (f : Facts) → Some f ≡ facts_of es t → f.end ≡ last_place accepted_end t es
   end_some f some = (facts_some f some).3
@@ -127,7 +127,7 @@ entry_commits es i e u at is =
     committed_among (accepted es) u.0
     ∙ any-from_number (commit_order (accepted es)) u.0 (subst (In u.0) (committed_are es) (numbers_in (filter_map commit_in es) u (in_given commit_in es e u (in_at es i e at) is)))
 
-module _ (d : Distance) (h : Schedule) (legal : IsLegal d h) where
+module _ (d : DistanceFunction) (h : Schedule) (legal : IsLegal d h) where
   -- a transaction has committed if and only if its end is a commit
   pub commit_at_end : (t : ℕ) → is_commit_at h.entries (last_place accepted_end t h.entries) ≡ is_committed (accepted_in h) t
   commit_at_end t = ends (last_place accepted_end t h.entries) refl
@@ -182,7 +182,7 @@ module _ (d : Distance) (h : Schedule) (legal : IsLegal d h) where
   ended_early t place is =
       let c = commit_entry h.entries t is in
       let end : last_place accepted_end t h.entries ≡ Some c.0 = end_is d h legal t c.0 c.1 c.3 (subst (λ k. is_key (accepted_end c.1) k ≡ true) c.5 (commit_key c.1 c.2 c.4)) in
-      ended (beginning (accepted_in h) t) refl (committed_begun t is)
+      ended (begin_record (accepted_in h) t) refl (committed_begun t is)
       ∙ (ap (λ o. is_end_before o place) end
       ∙ ⊎_elim
       (λ l. nat_lt_true c.0 place l ∙ sym (subst (λ k. is_committed (accepted (take place h.entries)) k ≡ true) c.5 (entry_commits (take place h.entries) c.0 c.1 c.2 (get_front h.entries place c.0 c.1 l c.3) c.4)))
@@ -194,7 +194,7 @@ module _ (d : Distance) (h : Schedule) (legal : IsLegal d h) where
       omega (arith, same, low, g))))
       (cases_lt c.0 place))
     where
-      ended : (o : Option Beginning) → beginning (accepted_in h) t ≡ o → is_some o ≡ true → has_ended_before h t place ≡ is_end_before (last_place accepted_end t h.entries) place
+      ended : (o : Option BeginRecord) → begin_record (accepted_in h) t ≡ o → is_some o ≡ true → has_ended_before h t place ≡ is_end_before (last_place accepted_end t h.entries) place
       ended None none begun = absurd (true≢false (sym begun))
       ended (Some b) some begun = ap (λ o. is_ended_before (facts_by o (last_place accepted_end t h.entries)) place) some
 
@@ -245,26 +245,26 @@ updates_are h q committed are updates is =
         ]
 
 pub query_begun : (h : Schedule) (q : ℕ) → is_committed_query h q ≡ true → is_begun (accepted_in h) q ≡ true
-query_begun h q is = at (beginning (accepted_in h) q) (and_parts (is_query (accepted_in h) q) (is_committed (accepted_in h) q) is).0
+query_begun h q is = at (begin_record (accepted_in h) q) (and_parts (is_query (accepted_in h) q) (is_committed (accepted_in h) q) is).0
   where
-    at : (b : Option Beginning) → unwrap_or (option_map (λ c. c.query) b) false ≡ true → is_some b ≡ true
+    at : (b : Option BeginRecord) → unwrap_or (option_map (λ c. c.query) b) false ≡ true → is_some b ≡ true
     at None e = e
     at (Some b) e = refl
 
 -- ---- the begin of a transaction
-pub begin_place : (d : Distance) (h : Schedule) → IsLegal d h → (t : ℕ) → is_begun (accepted_in h) t ≡ true → (b : Beginning) × (beginning (accepted_in h) t ≡ Some b) × ((p : ℕ) × IsBegunAt h.entries t b p)
-begin_place d h legal t begun = at (beginning (accepted_in h) t) refl begun
+pub begin_place : (d : DistanceFunction) (h : Schedule) → IsLegal d h → (t : ℕ) → is_begun (accepted_in h) t ≡ true → (b : BeginRecord) × (begin_record (accepted_in h) t ≡ Some b) × ((p : ℕ) × IsBegunAt h.entries t b p)
+begin_place d h legal t begun = at (begin_record (accepted_in h) t) refl begun
   where
-    at : (o : Option Beginning) → beginning (accepted_in h) t ≡ o → is_some o ≡ true → (b : Beginning) × (beginning (accepted_in h) t ≡ Some b) × ((p : ℕ) × IsBegunAt h.entries t b p)
+    at : (o : Option BeginRecord) → begin_record (accepted_in h) t ≡ o → is_some o ≡ true → (b : BeginRecord) × (begin_record (accepted_in h) t ≡ Some b) × ((p : ℕ) × IsBegunAt h.entries t b p)
     at None is e = absurd (true≢false (sym e))
     at (Some b) is e = (b, is, begun_at d h legal t b is)
 
-pub strict_is : (es : List Entry) (t : ℕ) (b : Beginning) → beginning (accepted es) t ≡ Some b → (e : Entry) → beginning_of e.event ≡ Some b → begins_strictly e.event ≡ is_strict (accepted es) t
-strict_is es t b is e event = at e.event event ∙ sym (ap (λ (o : Option Beginning). unwrap_or (option_map (λ c. c.strict) o) false) is)
+pub strict_is : (es : List Entry) (t : ℕ) (b : BeginRecord) → begin_record (accepted es) t ≡ Some b → (e : Entry) → begin_record_of e.event ≡ Some b → begins_strictly e.event ≡ is_strict (accepted es) t
+strict_is es t b is e event = at e.event event ∙ sym (ap (λ (o : Option BeginRecord). unwrap_or (option_map (λ c. c.strict) o) false) is)
   where
-    at : (ev : Event) → beginning_of ev ≡ Some b → begins_strictly ev ≡ b.strict
-    at (BeginUpdate l) f = ap (λ (c : Beginning). c.strict) (same_Some (record { query = false; strict = false; limit = l }) b f)
-    at (BeginQuery l s) f = ap (λ (c : Beginning). c.strict) (same_Some (record { query = true; strict = s; limit = l }) b f)
+    at : (ev : Event) → begin_record_of ev ≡ Some b → begins_strictly ev ≡ b.strict
+    at (BeginUpdate l) f = ap (λ (c : BeginRecord). c.strict) (same_Some (record { query = false; strict = false; limit = l }) b f)
+    at (BeginQuery l s) f = ap (λ (c : BeginRecord). c.strict) (same_Some (record { query = true; strict = s; limit = l }) b f)
     at (Read u x) f = absurd (cc)
     at (Write u x v) f = absurd (cc)
     at (Commit u) f = absurd (cc)
@@ -295,11 +295,11 @@ ends_more es t ends more end is grown was = subst (AreEndsBelow es (t + 1)) (sym
         last None is p i = absurd i
         last (Some e) is p i = sym is ∙ ⊎_elim (λ f. ap Some f) (λ b. absurd b) i
 
-pub known_below : (d : Distance) (h : Schedule) → IsLegal d h → (t : ℕ) (f : Facts) → Some f ≡ facts_of h.entries t → (1 ≤ t) × (t ≤ 65535)
+pub known_below : (d : DistanceFunction) (h : Schedule) → IsLegal d h → (t : ℕ) (f : Facts) → Some f ≡ facts_of h.entries t → (1 ≤ t) × (t ≤ 65535)
 known_below d h legal t f some =
     let s = facts_some h.entries t f some in
     let n = begun_in_range (accepted_in h) t (ap is_some s.1) in
-    let upper_bound : length (beginnings (accepted_in h)) ≤ 65535 = legal_begins d h legal in
+    let upper_bound : length (begin_records (accepted_in h)) ≤ 65535 = legal_begins d h legal in
     (n.0, omega (arith, n.1, upper_bound))
 
 pub ends_all : (h : Schedule) (t : ℕ) (ends found : List ℕ) → 1 ≤ t → None ≡ facts_of h.entries t → AreEndsBelow h.entries t ends → ((p : ℕ) → In p ends → Contains found p) → ((p : ℕ) → Contains found p → In p ends) → AreEnds h found
@@ -311,11 +311,11 @@ ends_all h t ends found low none below there back = record {
   only = λ p c. below.only p (back p c);
 }
   where
-    past : (bs : List Beginning) (j : ℕ) → slice_get bs j ≡ None → length bs ≤ j
+    past : (bs : List BeginRecord) (j : ℕ) → slice_get bs j ≡ None → length bs ≤ j
     past [] j is = omega arith
     past (b ∷ bs) zero is = absurd (cc)
     past (b ∷ bs) (suc j) is = let l : length bs ≤ j = past bs j is in omega arith
 
-    below_end : (t : ℕ) → 1 ≤ t → beginning (accepted_in h) t ≡ None → (k : ℕ) → k < 1 + length (beginnings (accepted_in h)) → k < t
+    below_end : (t : ℕ) → 1 ≤ t → begin_record (accepted_in h) t ≡ None → (k : ℕ) → k < 1 + length (begin_records (accepted_in h)) → k < t
     below_end zero low is k l = absurd (omega arith)
-    below_end (suc j) low is k l = let m : length (beginnings (accepted_in h)) ≤ j = past (beginnings (accepted_in h)) j is in omega arith
+    below_end (suc j) low is k l = let m : length (begin_records (accepted_in h)) ≤ j = past (begin_records (accepted_in h)) j is in omega arith

@@ -4,20 +4,20 @@ use Rattle.std.specs.List.{slice_get, range_with_len, AllByRecursion}
 use Rattle.std.proofs.lemmas.Bool.{cases_order}
 use Rattle.std.proofs.lemmas.List.Elements.{All-contains, All-from_recursion, recursion_from_All, Contains-get_or}
 use Rattle.esr_base.specs.declared.numbers.TxnId.{TxnId}
-use Rattle.esr_history.specs.Machine.{Distance, Schedule, IsLegal}
+use Rattle.esr_history.specs.Machine.{DistanceFunction, Schedule, IsLegal}
 use Rattle.esr_history.specs.Operations.{operations}
 use Rattle.esr_history.specs.Serial.{is_before, values_by}
 use Rattle.esr_history.specs.Queries.{updates_of, must}
 use Rattle.esr_history.proofs.Membership.{In, In-filter, Contains-In, In-Contains, Pairs, All-from_pairs, Pairs-filter, In-of_filter, each_in, each_at, filter_none_in}
 use Rattle.esr_history.proofs.Versions.{wrote_by, wrote_parts}
-use Rattle.esr_history.proofs.Words.{values_trace}
+use Rattle.esr_history.proofs.TraceAgreement.{values_trace}
 use Rattle.esr_history.proofs.WithinRanges.{legal_items}
 use Rattle.esr_order.specs.UpdateOperations.{UpdateOperation}
 use Rattle.esr_order.specs.Turns.{turns}
 use Rattle.esr_order.specs.ConflictPairs.{is_conflict_pair, IsLexLess}
 use Rattle.esr_order.specs.Conflicts.{AreConflicts, AreNextPaired}
 use Rattle.esr_order.specs.Chains.{Chain, chain_from, if_written, some_chain, last_of, last_in, last_by_update, last_among, nth, chain_among}
-use Rattle.esr_order.specs.Orders.{ConflictOrder, chain_at, written_chain, IsClosedAt, IsClosedOn, IsOrderAmong, IsOrderOf}
+use Rattle.esr_order.specs.Orders.{ConflictOrder, chain_at, written_chain, IsClosedAt, IsClosedOn, IsConflictOrderOn, IsConflictOrder}
 use Rattle.esr_order.proofs.Kept.{on, writes_in}
 use Rattle.esr_order.proofs.Fewer.{writes_on, between, wrote_last, last_wrote, next_in}
 use Rattle.esr_order.proofs.Placing.{chain_agree}
@@ -51,7 +51,7 @@ get_past C f a zero x l = refl
 get_past C f a (suc n) zero l = absurd (omega arith)
 get_past C f a (suc n) (suc x) l = get_past C f (a + 1) n x (omega arith)
 
-module _ (d : Distance) (h : Schedule) (q : ℕ) (legal : IsLegal d h) (us : List ℕ) (once : AllPairs (λ u v. u ≢ v) us) (keeps : AllPairs (λ u v. is_before h v u ≡ false) us) where
+module _ (d : DistanceFunction) (h : Schedule) (q : ℕ) (legal : IsLegal d h) (us : List ℕ) (once : AllPairs (λ u v. u ≢ v) us) (keeps : AllPairs (λ u v. is_before h v u ≡ false) us) where
   abbrev steps : List UpdateOperation
   steps = turns (operations h) 0 us
 
@@ -61,11 +61,11 @@ module _ (d : Distance) (h : Schedule) (q : ℕ) (legal : IsLegal d h) (us : Lis
   last_same : (x i : ℕ) → i < length us → last_by_update steps x i ≡ last_among h us x i
   last_same x i l = last_written_by (operations h) us x i l ∙ sym (ap last_of (values_trace h x (nth us i)))
 
-  all_placed : All (λ s. s.place < length us) steps
+  all_placed : All (λ s. s.position < length us) steps
   all_placed = placed (operations h) us
 
-  rising : (x : ℕ) → Pairs (λ (a b : UpdateOperation). a.place ≤ b.place) (writes_in (on x steps))
-  rising x = Pairs-filter (λ (a b : UpdateOperation). a.place ≤ b.place) (λ (s : UpdateOperation). s.writes) (on x steps) (Pairs-filter (λ (a b : UpdateOperation). a.place ≤ b.place) (λ (s : UpdateOperation). eqb s.item x) steps (rises (operations h) 0 us))
+  rising : (x : ℕ) → Pairs (λ (a b : UpdateOperation). a.position ≤ b.position) (writes_in (on x steps))
+  rising x = Pairs-filter (λ (a b : UpdateOperation). a.position ≤ b.position) (λ (s : UpdateOperation). s.writes) (on x steps) (Pairs-filter (λ (a b : UpdateOperation). a.position ≤ b.position) (λ (s : UpdateOperation). eqb s.item x) steps (rises (operations h) 0 us))
 
   module _ (before : List (ℕ × ℕ)) (ascends : AllPairs IsLexLess before) (conflicting : AreConflicts steps before) (next : (x : ℕ) → AreNextPaired before (writes_in (on x steps))) (n : ℕ) (part : n ≤ length us) (musts : map (nth us) (range_with_len 0 n) ≡ must h q) (within_max : length us ≤ 65535) (commits : List TxnId) where
     abbrev found : ConflictOrder
@@ -156,21 +156,21 @@ module _ (d : Distance) (h : Schedule) (q : ℕ) (legal : IsLegal d h) (us : Lis
         let b = writer_there (slice_index_or ws (i + 1) 0) (wrote (i + 1) 0 l) in
         between (writes_in (on x steps)) before (next x) (rising x)
         (slice_index_or ws i 0) (slice_index_or ws (i + 1) 0) (ascending i (i + 1) 0 (omega arith) l) a.0 a.1 a.2 b.0 b.1 b.2
-        (λ s j above. next_in ws ascending i l s.place (writer_listed s j) above))
+        (λ s j above. next_in ws ascending i l s.position (writer_listed s j) above))
       where
         last_here : (w : ℕ) → w < length us → last_in (writes_in (on x steps)) w ≡ last_among h us x w
         last_here w l = ap (λ ss. last_in ss w) (writes_on x steps) ∙ last_same x w l
 
-        writer_there : (w : ℕ) → (w < length us) × (is_some (last_among h us x w) ≡ true) → (s : UpdateOperation) × In s (writes_in (on x steps)) × (s.place ≡ w)
+        writer_there : (w : ℕ) → (w < length us) × (is_some (last_among h us x w) ≡ true) → (s : UpdateOperation) × In s (writes_in (on x steps)) × (s.position ≡ w)
         writer_there w p = last_wrote (writes_in (on x steps)) w (ap is_some (last_here w p.0) ∙ p.1)
 
-        writer_listed : (s : UpdateOperation) → In s (writes_in (on x steps)) → In s.place (filter (λ i. is_some (last_among h us x i)) (range_with_len 0 (length us)))
+        writer_listed : (s : UpdateOperation) → In s (writes_in (on x steps)) → In s.position (filter (λ i. is_some (last_among h us x i)) (range_with_len 0 (length us)))
         writer_listed s j =
-            let at : s.place < length us = All-contains (λ (s : UpdateOperation). s.place < length us) steps s all_placed (In-Contains steps s (In-of_filter (λ (s : UpdateOperation). eqb s.item x) steps s (In-of_filter (λ (s : UpdateOperation). s.writes) (on x steps) s j).0).0) in
-            In-filter (λ i. is_some (last_among h us x i)) (range_with_len 0 (length us)) s.place (in_range 0 (length us) s.place (omega arith) (omega arith))
-            (sym (ap is_some (last_here s.place at)) ∙ wrote_last (writes_in (on x steps)) s j)
+            let at : s.position < length us = All-contains (λ (s : UpdateOperation). s.position < length us) steps s all_placed (In-Contains steps s (In-of_filter (λ (s : UpdateOperation). eqb s.item x) steps s (In-of_filter (λ (s : UpdateOperation). s.writes) (on x steps) s j).0).0) in
+            In-filter (λ i. is_some (last_among h us x i)) (range_with_len 0 (length us)) s.position (in_range 0 (length us) s.position (omega arith) (omega arith))
+            (sym (ap is_some (last_here s.position at)) ∙ wrote_last (writes_in (on x steps)) s j)
 
-    pub order_found : map (λ t. t.0) commits ≡ us → IsOrderAmong h q us found
+    pub order_found : map (λ t. t.0) commits ≡ us → IsConflictOrderOn h q us found
     order_found same =
         let len : length commits ≡ length us = sym (length_numbers commits) ∙ ap length same in
         let below : 0 + n ≤ length commits = omega arith in
@@ -193,7 +193,7 @@ module _ (d : Distance) (h : Schedule) (q : ℕ) (legal : IsLegal d h) (us : Lis
         length_numbers (t ∷ ts) = ap suc (length_numbers ts)
 
 -- among all updates of the query
-pub order_whole : (h : Schedule) (q : ℕ) (o : ConflictOrder) → IsOrderAmong h q (updates_of h q) o → IsOrderOf h q o
+pub order_whole : (h : Schedule) (q : ℕ) (o : ConflictOrder) → IsConflictOrderOn h q (updates_of h q) o → IsConflictOrder h q o
 order_whole h q o a = record {
   commits = a.commits;
   serial = a.serial;

@@ -6,13 +6,13 @@ use Rattle.std.proofs.lemmas.List.{take-append-drop, length-append, map-append}
 use Rattle.std.proofs.lemmas.List.Elements.{filter-append, filter_map-append}
 use Rattle.esr_history.specs.declared.event.Entry.{Entry}
 use Rattle.esr_history.specs.Events.{accepted, is_update, is_committed, is_begun}
-use Rattle.esr_history.specs.Machine.{Distance, Schedule, accepted_in, IsLegal}
+use Rattle.esr_history.specs.Machine.{DistanceFunction, Schedule, accepted_in, IsLegal}
 use Rattle.esr_history.specs.Operations.{committer, commit_order}
 use Rattle.esr_history.specs.Queries.{begins, before_begin, updates_of, must, is_strict}
 use Rattle.esr_history.proofs.Membership.{In, Pairs, Pairs-across, In-of_filter, filter_none_in, In-from_any, any-from_number}
 use Rattle.esr_history.proofs.Bounded.{before_first-here, before_first-later, In-before_first}
 use Rattle.esr_history.proofs.Locking.{known, commits_once}
-use Rattle.esr_history.proofs.Words.{committed_among, trace}
+use Rattle.esr_history.proofs.TraceAgreement.{committed_among, trace}
 use Rattle.esr_history.proofs.TraceOfHistory.{legal_reached}
 use Rattle.esr_history.proofs.Onward.{legal_front, has_begins}
 use Rattle.esr_order.specs.Chains.{update_at}
@@ -50,7 +50,7 @@ part_at past (e ∷ es) rest =
     at [] x ys = refl
     at (y ∷ xs) x ys = at xs x ys
 
-module _ (d : Distance) (h : Schedule) (q : ℕ) (legal : IsLegal d h) where
+module _ (d : DistanceFunction) (h : Schedule) (q : ℕ) (legal : IsLegal d h) where
   -- the entries before the begin of q, and the commits among them
   abbrev early : List ℕ
   early = commit_order (accepted (before_begin h q))

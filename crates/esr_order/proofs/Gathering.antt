@@ -81,15 +81,15 @@ later_operation links rows steps s are linked read link put row added = record {
 }
 
 -- one more access of a turn, before those from the next on
-module _ {V W : Type 0} (see : V → Chain) (read : W → List ℕ) (chains : List V) (readers : List W) (place i next : ℕ) (is : next ≡ suc i) (accesses : List Access) (inside : i < length accesses) where
+module _ {V W : Type 0} (see : V → Chain) (read : W → List ℕ) (chains : List V) (readers : List W) (position i next : ℕ) (is : next ≡ suc i) (accesses : List Access) (inside : i < length accesses) where
   abbrev access : Access
   access = get_or accesses i no_access
 
   abbrev done : List UpdateOperation
-  done = map (operation_at place) (drop next accesses)
+  done = map (operation_at position) (drop next accesses)
 
-  taken : operation_at place access ∷ done ≡ map (operation_at place) (drop i accesses)
-  taken = sym (ap (map (operation_at place)) (drop_next accesses i no_access inside) ∙ ap (λ n. operation_at place access ∷ map (operation_at place) (drop n accesses)) (sym is))
+  taken : operation_at position access ∷ done ≡ map (operation_at position) (drop i accesses)
+  taken = sym (ap (map (operation_at position)) (drop_next accesses i no_access inside) ∙ ap (λ n. operation_at position access ∷ map (operation_at position) (drop n accesses)) (sym is))
 
   module _ (linked : access.item.0 < length chains) (in_rows : access.item.0 < length readers) (steps : List UpdateOperation) (are : AreLater (map see chains) (map read readers) (done ++ steps)) (d : V) (e : W) where
     abbrev link : Chain
@@ -110,22 +110,22 @@ module _ {V W : Type 0} (see : V → Chain) (read : W → List ℕ) (chains : Li
     present : access.item.0 < length (map read readers)
     present = omega (arith, in_rows, length-map readers read)
 
-    pub turn_later : (v : V) → see v ≡ with_operation link (operation_at place access) → (w : W) → read w ≡ readers_with row (operation_at place access)
-        → AreLater (map see (slice_set chains access.item.0 v)) (map read (slice_set readers access.item.0 w)) (map (operation_at place) (drop i accesses) ++ steps)
+    pub turn_later : (v : V) → see v ≡ with_operation link (operation_at position access) → (w : W) → read w ≡ readers_with row (operation_at position access)
+        → AreLater (map see (slice_set chains access.item.0 v)) (map read (slice_set readers access.item.0 w)) (map (operation_at position) (drop i accesses) ++ steps)
     turn_later v put w added =
         subst (λ l. AreLater (map see (slice_set chains access.item.0 v)) (map read (slice_set readers access.item.0 w)) (l ++ steps)) taken
-        (subst (λ cs. AreLater cs (map read (slice_set readers access.item.0 w)) (operation_at place access ∷ (done ++ steps))) (sym (map-set see chains access.item.0 v))
-        (subst (λ rs. AreLater (slice_set (map see chains) access.item.0 (see v)) rs (operation_at place access ∷ (done ++ steps))) (sym (map-set read readers access.item.0 w))
-        (later_operation (map see chains) (map read readers) (done ++ steps) (operation_at place access) are there present
-        (see v) (put ∙ ap (λ c. with_operation c (operation_at place access)) (sym link_is)) (read w) (added ∙ ap (λ r. readers_with r (operation_at place access)) (sym row_is)))))
+        (subst (λ cs. AreLater cs (map read (slice_set readers access.item.0 w)) (operation_at position access ∷ (done ++ steps))) (sym (map-set see chains access.item.0 v))
+        (subst (λ rs. AreLater (slice_set (map see chains) access.item.0 (see v)) rs (operation_at position access ∷ (done ++ steps))) (sym (map-set read readers access.item.0 w))
+        (later_operation (map see chains) (map read readers) (done ++ steps) (operation_at position access) are there present
+        (see v) (put ∙ ap (λ c. with_operation c (operation_at position access)) (sym link_is)) (read w) (added ∙ ap (λ r. readers_with r (operation_at position access)) (sym row_is)))))
 
-    pub turn_conflicting : (first conflicts : List ℕ) → conflicts ≡ first ++ turn_conflicts done steps → (more : List ℕ) → more ≡ conflicts ++ conflicts_of link row (operation_at place access) → more ≡ first ++ turn_conflicts (map (operation_at place) (drop i accesses)) steps
+    pub turn_conflicting : (first conflicts : List ℕ) → conflicts ≡ first ++ turn_conflicts done steps → (more : List ℕ) → more ≡ conflicts ++ conflicts_of link row (operation_at position access) → more ≡ first ++ turn_conflicts (map (operation_at position) (drop i accesses)) steps
     turn_conflicting first conflicts so_far more added =
         added
-        ∙ (ap (λ l. l ++ conflicts_of link row (operation_at place access)) so_far
-        ∙ (append_assoc first (turn_conflicts done steps) (conflicts_of link row (operation_at place access))
-        ∙ (ap (λ c. first ++ (turn_conflicts done steps ++ conflicts_of c row (operation_at place access))) (sym link_is ∙ are.chains access.item.0 there)
-        ∙ (ap (λ r. first ++ (turn_conflicts done steps ++ conflicts_of (chain_back access.item.0 (done ++ steps)) r (operation_at place access))) (sym row_is ∙ are.readers access.item.0 present)
+        ∙ (ap (λ l. l ++ conflicts_of link row (operation_at position access)) so_far
+        ∙ (append_assoc first (turn_conflicts done steps) (conflicts_of link row (operation_at position access))
+        ∙ (ap (λ c. first ++ (turn_conflicts done steps ++ conflicts_of c row (operation_at position access))) (sym link_is ∙ are.chains access.item.0 there)
+        ∙ (ap (λ r. first ++ (turn_conflicts done steps ++ conflicts_of (chain_back access.item.0 (done ++ steps)) r (operation_at position access))) (sym row_is ∙ are.readers access.item.0 present)
         ∙ ap (λ l. first ++ turn_conflicts l steps) taken))))
 
 -- ---- update by update
@@ -137,9 +137,9 @@ turn_is h i t = twice (filter (λ (o : Operation). eqb o.txn t) (operations h))
     twice [] = refl
     twice (o ∷ os) = ap (λ l. placed_operation i o ∷ l) (twice os)
 
-placed_at : (i : ℕ) (accesses : List Access) (s : UpdateOperation) → In s (map (operation_at i) accesses) → s.place ≡ i
+placed_at : (i : ℕ) (accesses : List Access) (s : UpdateOperation) → In s (map (operation_at i) accesses) → s.position ≡ i
 placed_at i [] s j = absurd j
-placed_at i (a ∷ accesses) s j = ⊎_elim (λ e. sym (ap (λ (s : UpdateOperation). s.place) e)) (λ k. placed_at i accesses s k) j
+placed_at i (a ∷ accesses) s j = ⊎_elim (λ e. sym (ap (λ (s : UpdateOperation). s.position) e)) (λ k. placed_at i accesses s k) j
 
 -- the steps of the updates from a position on
 abbrev pub rest : Schedule → List TxnId → ℕ → List UpdateOperation
@@ -246,8 +246,8 @@ module _ (h : Schedule) (updates : List TxnId) (i : ℕ) (is : i ≡ 0) (links :
   pub gathered_chains : map turned links ≡ map (λ x. chain_from (last_by_update steps x) (length updates)) (range_with_len 0 (length links))
   gathered_chains = each links 0 (λ x l. let z : x ≡ 0 + x = omega arith in g.later.chains x l ∙ ap (λ y. chain_back y (rest h updates i)) z)
     where
-      below : (s : UpdateOperation) → In s steps → s.place < length updates
-      below s j = let l : s.place < length (map (λ (t : TxnId). t.0) updates) = All-contains (λ (s : UpdateOperation). s.place < length (map (λ (t : TxnId). t.0) updates)) steps s (turns_of.placed (operations h) (map (λ (t : TxnId). t.0) updates)) (In-Contains steps s j) in omega (arith, l, length-map updates (λ (t : TxnId). t.0))
+      below : (s : UpdateOperation) → In s steps → s.position < length updates
+      below s j = let l : s.position < length (map (λ (t : TxnId). t.0) updates) = All-contains (λ (s : UpdateOperation). s.position < length (map (λ (t : TxnId). t.0) updates)) steps s (turns_of.placed (operations h) (map (λ (t : TxnId). t.0) updates)) (In-Contains steps s j) in omega (arith, l, length-map updates (λ (t : TxnId). t.0))
 
       turned_is : (x : ℕ) → turned (chain_back x (rest h updates i)) ≡ chain_from (last_by_update steps x) (length updates)
       turned_is x = ap (λ ss. turned (chain_back x ss)) all ∙ chain_turned x (length updates) steps (turns_of.rises (operations h) 0 (map (λ (t : TxnId). t.0) updates)) below

@@ -6,14 +6,14 @@ use Rattle.std.proofs.lemmas.List.Elements.{filter_map-append}
 use Rattle.esr_base.specs.declared.numbers.TxnId.{TxnId}
 use Rattle.esr_history.specs.declared.event.Entry.{Entry}
 use Rattle.esr_history.specs.Events.{is_committed}
-use Rattle.esr_history.specs.Machine.{Distance, Schedule, IsLegal, accepted_in}
+use Rattle.esr_history.specs.Machine.{DistanceFunction, Schedule, IsLegal, accepted_in}
 use Rattle.esr_history.specs.Operations.{commit_order}
 use Rattle.esr_order.specs.Scans.{commit_in}
 use Rattle.esr_order.specs.Index.{Indexed, IsIndexOf}
 use Rattle.esr_order.specs.AccessRows.{AreRowsOf}
 use Rattle.esr_order.proofs.Commits.{committed_are, numbers_in}
 use Rattle.esr_history.proofs.Membership.{In, any-from_number}
-use Rattle.esr_history.proofs.Words.{committed_among}
+use Rattle.esr_history.proofs.TraceAgreement.{committed_among}
 use Rattle.esr_order.proofs.Rowed.{rows_later}
 
 -- all entries were read
@@ -45,7 +45,7 @@ index_over h i is all first k d l =
     ∙ any-from_number (commit_order (accepted_in h)) t.0 (subst (In t.0) (index_whole h i is all) (numbers_in i.commits t (in_get i.commits (first + k) d inside))))
 
 -- one entry more is read
-pub index_more : (d : Distance) (h : Schedule) → IsLegal d h → (i : Indexed) (e : Entry) (commits : List TxnId) → IsIndexOf h.entries i → Some e ≡ slice_get h.entries i.read → commits ≡ i.commits ++ filter_map commit_in (e ∷ [])
+pub index_more : (d : DistanceFunction) (h : Schedule) → IsLegal d h → (i : Indexed) (e : Entry) (commits : List TxnId) → IsIndexOf h.entries i → Some e ≡ slice_get h.entries i.read → commits ≡ i.commits ++ filter_map commit_in (e ∷ [])
     → IsIndexOf h.entries (record { read = i.read + 1; commits = commits; rows = i.rows })
 index_more d h legal i e commits is at added =
     let entries = h.entries in

@@ -3,7 +3,7 @@ use Rattle.std.proofs.Common.{◌≡◌, ℕ, ◌≤◌, Bool, true, false, not,
 use Rattle.std.specs.List.{list_all}
 use Rattle.std.proofs.lemmas.Bool.{true≢false, cond_both, cases_Bool, and_parts, and_from, or_cases, or_left, or_right, not-true, not_from_false, false_from_ne_true, le-leb, leb-true}
 use Rattle.std.proofs.lemmas.List.Elements.{recursion_from_All}
-use Rattle.esr_history.specs.Machine.{Distance, Schedule, accepted_in}
+use Rattle.esr_history.specs.Machine.{DistanceFunction, Schedule, accepted_in}
 use Rattle.esr_history.specs.Events.{is_committed, accepted}
 use Rattle.esr_history.specs.Serial.{is_before, state}
 use Rattle.esr_history.specs.Queries.{updates_of, must, is_strict, before_begin, distance_from, members, cost}
@@ -107,10 +107,10 @@ module _ (h : Schedule) (q : ℕ) where
   members_same : (S : ℕ → Bool) → members h q (is_among (members h q S)) ≡ members h q S
   members_same S = filter_agree_in (is_among (members h q S)) S (updates_of h q) (among_part S (updates_of h q))
 
-  cost_same : (d : Distance) (S : ℕ → Bool) → cost d h q (is_among (members h q S)) ≡ cost d h q S
+  cost_same : (d : DistanceFunction) (S : ℕ → Bool) → cost d h q (is_among (members h q S)) ≡ cost d h q S
   cost_same d S = ap (λ us. distance_from d h q (state h us)) (members_same S)
 
-  least_of : (d : Distance) (p : List ℕ) → In p (least_parts d h q) → IsLeastSet d h q (is_among p)
+  least_of : (d : DistanceFunction) (p : List ℕ) → In p (least_parts d h q) → IsLeastSet d h q (is_among p)
   least_of d p i =
       let least = In-of_filter (is_least_part d h q) (closed_parts h q) p i in
       let closed = In-of_filter (is_closed_part h q) (parts (updates_of h q)) p least.0 in
@@ -122,7 +122,7 @@ module _ (h : Schedule) (q : ℕ) where
             subst (λ n. cost d h q (is_among p) ≤ n) (cost_same d T) no_less;
       }
 
-  least_in : (d : Distance) (S : ℕ → Bool) → IsLeastSet d h q S → In (members h q S) (least_parts d h q)
+  least_in : (d : DistanceFunction) (S : ℕ → Bool) → IsLeastSet d h q S → In (members h q S) (least_parts d h q)
   least_in d S l =
       In-filter (is_least_part d h q) (closed_parts h q) (members h q S) (part_in S l.closed)
       (all_from (λ other. nat_le (cost d h q (is_among (members h q S))) (cost d h q (is_among other))) (closed_parts h q) (λ other i.
@@ -130,7 +130,7 @@ module _ (h : Schedule) (q : ℕ) where
       le-leb (cost d h q (is_among (members h q S))) (cost d h q (is_among other))
       (subst (λ n. n ≤ cost d h q (is_among other)) (sym (cost_same d S)) (l.none_less (is_among other) (closed_set other closed.1)))))
 
-  smallest_listed : (d : Distance) (S : ℕ → Bool) → IsSmallestLeastSet d h q S → members h q S ≡ least_set d h q
+  smallest_listed : (d : DistanceFunction) (S : ℕ → Bool) → IsSmallestLeastSet d h q S → members h q S ≡ least_set d h q
   smallest_listed d S s =
       filter_agree_in S (λ u. list_all (λ part. is_among part u) (least_parts d h q)) (updates_of h q) (λ u i.
       ⊎_elim

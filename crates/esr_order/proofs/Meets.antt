@@ -4,7 +4,7 @@ use Rattle.std.proofs.lemmas.List.Sums.{sum_by-cons}
 use Rattle.std.proofs.lemmas.Bool.{true≢false, cases_Bool, and_parts, and_from, or_cases, or_left, or_right, cases_eq}
 use Rattle.esr_items.specs.Values.{value_at}
 use Rattle.esr_history.specs.Events.{last_value}
-use Rattle.esr_history.specs.Machine.{Distance, Schedule, distance_in}
+use Rattle.esr_history.specs.Machine.{DistanceFunction, Schedule, value_distance}
 use Rattle.esr_history.specs.Operations.{Operation}
 use Rattle.esr_history.specs.Serial.{values_by, state}
 use Rattle.esr_history.specs.Queries.{updates_of, reads_by, members, cost}
@@ -114,13 +114,13 @@ sums_agree f g j k (x ∷ xs) h =
     four : (a b c d e m n p : ℕ) → a + c ≡ e + n → b + d ≡ m + p → (a + b) + (c + d) ≡ (e + m) + (n + p)
     four a b c d e m n p h1 h2 = omega arith
 
-pub meet_costs : (d : Distance) (h : Schedule) (q : ℕ) (S T : ℕ → Bool) → IsClosed h q S → IsClosed h q T →
+pub meet_costs : (d : DistanceFunction) (h : Schedule) (q : ℕ) (S T : ℕ → Bool) → IsClosed h q S → IsClosed h q T →
     cost d h q (both S T) + cost d h q (either S T) ≡ cost d h q S + cost d h q T
 meet_costs d h q S T cs ct =
     sums_agree
-    (λ o. distance_in d h o.item o.value (state h (members h q (both S T)) o.item)) (λ o. distance_in d h o.item o.value (state h (members h q (either S T)) o.item))
-    (λ o. distance_in d h o.item o.value (state h (members h q S) o.item)) (λ o. distance_in d h o.item o.value (state h (members h q T) o.item))
-    (reads_by h q) (λ o. meet_values h q o.item S T cs ct (distance_in d h o.item o.value))
+    (λ o. value_distance d h o.item o.value (state h (members h q (both S T)) o.item)) (λ o. value_distance d h o.item o.value (state h (members h q (either S T)) o.item))
+    (λ o. value_distance d h o.item o.value (state h (members h q S) o.item)) (λ o. value_distance d h o.item o.value (state h (members h q T) o.item))
+    (reads_by h q) (λ o. meet_values h q o.item S T cs ct (value_distance d h o.item o.value))
 
 pub both_closed : (h : Schedule) (q : ℕ) (S T : ℕ → Bool) → IsClosed h q S → IsClosed h q T → IsClosed h q (both S T)
 both_closed h q S T cs ct = record {
@@ -135,7 +135,7 @@ either_closed h q S T cs ct = record {
 }
 
 -- so the closed sets of least cost are closed under meets
-pub least_meet : (d : Distance) (h : Schedule) (q : ℕ) (S T : ℕ → Bool) → IsLeastSet d h q S → IsLeastSet d h q T → IsLeastSet d h q (both S T)
+pub least_meet : (d : DistanceFunction) (h : Schedule) (q : ℕ) (S T : ℕ → Bool) → IsLeastSet d h q S → IsLeastSet d h q T → IsLeastSet d h q (both S T)
 least_meet d h q S T ls lt = record {
   closed = both_closed h q S T ls.closed lt.closed;
   none_less = λ R c.

@@ -4,7 +4,7 @@ use Rattle.std.proofs.Math.Path.{fun_ext}
 use Rattle.std.proofs.Math.Seq.{take-append_seam}
 use Rattle.std.proofs.lemmas.Bool.{true≢false, cases_Bool, not-true, not_from_false, false_from_ne_true}
 use Rattle.esr_items.specs.Values.{value_at}
-use Rattle.esr_history.specs.Machine.{Distance, Schedule}
+use Rattle.esr_history.specs.Machine.{DistanceFunction, Schedule}
 use Rattle.esr_history.specs.Serial.{is_before, values_by, state}
 use Rattle.esr_history.specs.Queries.{updates_of, distance_from, members, cost}
 use Rattle.esr_history.proofs.Membership.{In, Pairs, In-Contains, Contains-In, Pairs-from_all, All-from_pairs, In-append_cases, In-append_left, In-append_right, In-filter, In-of_filter, Pairs-filter, Pairs-append, Pairs-left, Pairs-across, In-from_any, any-from_number}
@@ -50,7 +50,7 @@ module _ (h : Schedule) (q : ℕ) (good : InOrder h q) where
       (λ u i. In-filter (is_among (take k order)) (updates_of h q) u (listed order k p u i) (any-from_number (take k order) u i))
       (λ u i. In-from_any (take k order) u (In-of_filter (is_among (take k order)) (updates_of h q) u i).1)
 
-  pub part_cost : (d : Distance) (order : List ℕ) (k : ℕ) → IsPlacement h q order k →
+  pub part_cost : (d : DistanceFunction) (order : List ℕ) (k : ℕ) → IsPlacement h q order k →
       placement_distance d h q order k ≡ cost d h q (is_among (take k order))
   part_cost d order k p = ap (distance_from d h q) (fun_ext (part_state order k p))
 
@@ -105,11 +105,11 @@ module _ (h : Schedule) (q : ℕ) (good : InOrder h q) where
       bound : (S : ℕ → Bool) → length (members h q S) ≤ length (split_order S)
       bound S = omega (arith, length-append (members h q S) (members h q (λ u. not (S u))))
 
-  pub closed_cost : (d : Distance) (S : ℕ → Bool) →
+  pub closed_cost : (d : DistanceFunction) (S : ℕ → Bool) →
       placement_distance d h q (split_order S) (length (members h q S)) ≡ cost d h q S
   closed_cost d S = ap (λ l. distance_from d h q (state h l)) (split_front S)
 
-  pub closed_sets_are_parts : (d : Distance) → ClosedSetsAreParts d h q
+  pub closed_sets_are_parts : (d : DistanceFunction) → ClosedSetsAreParts d h q
   closed_sets_are_parts d = record {
     part_is_closed = part_closed;
     part_leaves = part_state;

@@ -3,7 +3,7 @@ use Rattle.std.proofs.Common.{◌≡◌, ◌≢◌, ℕ, zero, suc, ◌<◌, ◌
 use Rattle.std.specs.List.{range_with_len}
 use Rattle.std.proofs.lemmas.List.{length-map}
 use Rattle.esr_base.specs.declared.numbers.TxnId.{TxnId}
-use Rattle.esr_history.specs.Machine.{Distance, Schedule, IsLegal}
+use Rattle.esr_history.specs.Machine.{DistanceFunction, Schedule, IsLegal}
 use Rattle.esr_history.specs.Serial.{is_before}
 use Rattle.esr_history.specs.Queries.{updates_of, must}
 use Rattle.esr_history.proofs.Membership.{In, In-Contains, Contains-In, any-from_number, each_at, Pairs, All-from_pairs, Pairs-filter}
@@ -39,7 +39,7 @@ pub record IsRelevantRun (h : Schedule) (q first : ℕ) (commits : List TxnId) :
   pub first_inside : first ≤ length commits
   pub musts : map (nth (map (λ t. t.0) commits)) (range_with_len 0 first) ≡ must h q
 
-module _ (d : Distance) (h : Schedule) (q : ℕ) (legal : IsLegal d h) where
+module _ (d : DistanceFunction) (h : Schedule) (q : ℕ) (legal : IsLegal d h) where
   pub there : (i : ℕ) → i < length (updates_of h q) → Contains (updates_of h q) (update_at h q i)
   there i l = (i, l, same_default (updates_of h q) i (update_at h q i) 0 l)
 

@@ -3,7 +3,7 @@
 use Rattle.std.proofs.Common.{◌≡◌, ◌↔◌, ℕ, ◌<◌, Bool, true, false, ◌&&◌, List, [], ◌∷◌, length, refl, sym, ◌∙◌, ap, subst, arith, inl, inr, ⊎_elim, AllPairs, Contains, filter, map, cond}
 use Rattle.std.specs.List.{range_with_len}
 use Rattle.std.proofs.lemmas.Bool.{true≢false, cases_order, and_parts}
-use Rattle.esr_history.specs.Machine.{Distance, Schedule, IsLegal}
+use Rattle.esr_history.specs.Machine.{DistanceFunction, Schedule, IsLegal}
 use Rattle.esr_history.specs.Operations.{Operation, operations}
 use Rattle.esr_history.specs.Serial.{is_before}
 use Rattle.esr_history.specs.Queries.{updates_of, must, reads_by}
@@ -18,7 +18,7 @@ use Rattle.esr_order.proofs.Complete.{range_below, in_range}
 use Rattle.esr_order.proofs.Turns.{not_before_itself}
 use Rattle.esr_order.proofs.Lists.{in_map, of_map, at_place}
 
-module _ (d : Distance) (h : Schedule) (q : ℕ) (legal : IsLegal d h) where
+module _ (d : DistanceFunction) (h : Schedule) (q : ℕ) (legal : IsLegal d h) where
   keeps : AllPairs (λ u v. is_before h v u ≡ false) (updates_of h q)
   keeps = All-from_pairs (λ u v. is_before h v u ≡ false) (updates_of h q) (in_order d h q legal).keeps
 

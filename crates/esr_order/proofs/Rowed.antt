@@ -5,7 +5,7 @@ use Rattle.std.proofs.lemmas.Bool.{cases_eq}
 use Rattle.std.proofs.lemmas.List.{take-append-le, take_all, drop-append-le, length-append, get_or-set_same, get_or-set_other, map-set}
 use Rattle.esr_history.specs.declared.event.Entry.{Entry}
 use Rattle.esr_history.specs.Events.{accepted, is_committed}
-use Rattle.esr_history.specs.Machine.{Distance, Schedule, IsLegal}
+use Rattle.esr_history.specs.Machine.{DistanceFunction, Schedule, IsLegal}
 use Rattle.esr_order.specs.Scans.{Access, accesses_in}
 use Rattle.esr_order.specs.AccessRows.{IsWithin, row_in, row_at, AreRowsOf}
 use Rattle.esr_order.specs.declared.rows.RowSpan.{RowSpan}
@@ -72,7 +72,7 @@ rows_more entries rows more t row are over is others u = elim (others u) [
 ]
 
 -- rows of the first entries of a legal history are rows of more of them
-pub rows_later : (d : Distance) (h : Schedule) → IsLegal d h → (n m : ℕ) → n ≤ m → (rows : List (List Access)) → AreRowsOf (take n h.entries) rows → AreRowsOf (take m h.entries) rows
+pub rows_later : (d : DistanceFunction) (h : Schedule) → IsLegal d h → (n m : ℕ) → n ≤ m → (rows : List (List Access)) → AreRowsOf (take n h.entries) rows → AreRowsOf (take m h.entries) rows
 rows_later d h legal n m le rows are t = elim (are t) [
   | inl none ↦ inl none
   | inr row ↦ let s = settled_next d h legal n m le t row.0 in inr (s.0, row.1 ∙ sym s.1)

@@ -11,7 +11,7 @@ use Rattle.esr_history.specs.declared.event.Reply.TheVariants.{Begun, Value, Wro
 use Rattle.esr_history.specs.declared.event.Refusal.{Refusal}
 use Rattle.esr_history.specs.declared.event.Entry.{Entry}
 use Rattle.esr_history.specs.Events.{is_refusal, is_active, is_committed, commits, accepted}
-use Rattle.esr_history.specs.Machine.{Distance, Schedule, accepted_in, extended, empty_schedule, reply_to, IsLegal}
+use Rattle.esr_history.specs.Machine.{DistanceFunction, Schedule, accepted_in, extended, empty_schedule, reply_to, IsLegal}
 use Rattle.esr_history.specs.Legal.{along, legal_induction_after}
 use Rattle.esr_history.specs.Operations.{Operation, operation_by, operations}
 use Rattle.esr_history.proofs.Allowed.{read_allowed, write_allowed}
@@ -40,7 +40,7 @@ record IsSettled (h : Schedule) (t : ℕ) (g : Schedule) : Type 0 where
   over : is_committed (accepted_in g) t ≡ true
   same : filter (by t) (operations g) ≡ filter (by t) (operations h)
 
-module _ (d : Distance) (h : Schedule) (t : ℕ) (g : Schedule) (was : IsSettled h t g) where
+module _ (d : DistanceFunction) (h : Schedule) (t : ℕ) (g : Schedule) (was : IsSettled h t g) where
   ended : (u : ℕ) → is_active (accepted_in g) u ≡ true → u ≡ t → ⊥
   ended u act e = true≢false (sym was.over ∙ (ap (is_committed (accepted_in g)) (sym e) ∙ (active_parts (accepted_in g) u act).1))
 
@@ -70,12 +70,12 @@ module _ (d : Distance) (h : Schedule) (t : ℕ) (g : Schedule) (was : IsSettled
     })
   ]
 
-settled : (d : Distance) (h : Schedule) (rest : List Entry) (t : ℕ) → IsLegal d (along h rest) → is_committed (accepted_in h) t ≡ true → IsSettled h t (along h rest)
+settled : (d : DistanceFunction) (h : Schedule) (rest : List Entry) (t : ℕ) → IsLegal d (along h rest) → is_committed (accepted_in h) t ≡ true → IsSettled h t (along h rest)
 settled d h rest t legal over =
     legal_induction_after d (IsSettled h t) (λ g e r is was. settled_step d h t g was e r is) h rest (legal_parts d (empty_schedule h) h.entries rest legal).1 (record { over = over; same = refl })
 
 -- if t has committed within the first n entries, these contain all its accesses
-settled_first : (d : Distance) (h : Schedule) → IsLegal d h → (n t : ℕ) → is_committed (accepted (take n h.entries)) t ≡ true
+settled_first : (d : DistanceFunction) (h : Schedule) → IsLegal d h → (n t : ℕ) → is_committed (accepted (take n h.entries)) t ≡ true
     → (is_committed (accepted_in h) t ≡ true) × (accesses_in h.entries t ≡ accesses_in (take n h.entries) t)
 settled_first d h legal n t over =
     let front : Schedule = record h { entries = take n h.entries } in
@@ -84,7 +84,7 @@ settled_first d h legal n t over =
     (s.over, ap (map access_of) s.same)
 
 -- and in more of them
-pub settled_next : (d : Distance) (h : Schedule) → IsLegal d h → (n m : ℕ) → n ≤ m → (t : ℕ) → is_committed (accepted (take n h.entries)) t ≡ true
+pub settled_next : (d : DistanceFunction) (h : Schedule) → IsLegal d h → (n m : ℕ) → n ≤ m → (t : ℕ) → is_committed (accepted (take n h.entries)) t ≡ true
     → (is_committed (accepted (take m h.entries)) t ≡ true) × (accesses_in (take m h.entries) t ≡ accesses_in (take n h.entries) t)
 settled_next d h legal n m le t over =
     let front : Schedule = record h { entries = take m h.entries } in

@@ -10,14 +10,14 @@ use Rattle.esr_history.specs.declared.event.Event.TheVariants.{BeginUpdate, Begi
 use Rattle.esr_history.specs.declared.event.Reply.{Reply}
 use Rattle.esr_history.specs.declared.event.Reply.TheVariants.{Begun, Value, Wrote, Committed, Aborted, Refused}
 use Rattle.esr_history.specs.declared.event.Entry.{Entry}
-use Rattle.esr_history.specs.Events.{Beginning, is_refusal, accepted, beginnings, beginning, beginning_of, is_active, is_committed, is_aborted, commits, aborts}
-use Rattle.esr_history.specs.Machine.{Distance, Schedule, accepted_in, extended, reply_to, acceptance, IsLegal}
+use Rattle.esr_history.specs.Events.{BeginRecord, is_refusal, accepted, begin_records, begin_record, begin_record_of, is_active, is_committed, is_aborted, commits, aborts}
+use Rattle.esr_history.specs.Machine.{DistanceFunction, Schedule, accepted_in, extended, reply_to, acceptance, IsLegal}
 use Rattle.esr_history.specs.Legal.{legal_induction, IsLegal-extended}
 use Rattle.esr_history.specs.Queries.{begins, before_begin}
 use Rattle.esr_history.specs.BackLinks.{ender, txn_of, accepted_end, accepted_txn, is_key, places_from, last_place, begun_count}
 use Rattle.esr_history.proofs.Lists.{any_push, slice_get_push, filter_map_push}
 use Rattle.esr_history.proofs.Membership.{In, get_seam}
-use Rattle.esr_history.proofs.WellFormed.{active_parts, beginning-kept}
+use Rattle.esr_history.proofs.WellFormed.{active_parts, begin_record-unchanged}
 use Rattle.esr_history.proofs.Bounded.{before_first-all}
 use Rattle.esr_history.proofs.LegalWellFormed.{not_ended}
 use Rattle.esr_history.proofs.Linking.{places_push, accepted_push, accepted_refused, count_refused, count_same, count_more}
@@ -55,7 +55,7 @@ no_ends (e ∷ es) t n c a = at (is_refusal e.reply) refl (no_ends es t (n + 1))
         let as' = or_parts (aborts t e.event) (is_aborted (accepted es) t) (sym (ap (λ l. is_aborted l t) (events false ok)) ∙ a) in
         skip (ap (λ b. is_key (if b then None else ender e.event) t) ok ∙ end_key e.event t cs.0 as'.0) (rest cs.1 as'.1)
 
-active_ends : (d : Distance) (h : Schedule) (e : Event) (r : Reply) → r ≡ reply_to d h e → is_refusal r ≡ false → (t : ℕ) → is_key (ender e) t ≡ true → is_active (accepted_in h) t ≡ true
+active_ends : (d : DistanceFunction) (h : Schedule) (e : Event) (r : Reply) → r ≡ reply_to d h e → is_refusal r ≡ false → (t : ℕ) → is_key (ender e) t ≡ true → is_active (accepted_in h) t ≡ true
 active_ends d h (BeginUpdate l) r is ok t key = absurd (true≢false (sym key))
 active_ends d h (BeginQuery l s) r is ok t key = absurd (true≢false (sym key))
 active_ends d h (Read u x) r is ok t key = absurd (true≢false (sym key))
@@ -66,7 +66,7 @@ active_ends d h (Abort u) r is ok t key = subst (λ v. is_active (accepted_in h)
 HasOneEnd : Schedule → Type 0
 HasOneEnd h = (t : ℕ) → length (places_from accepted_end t 0 h.entries) ≤ 1
 
-one_end_next : (d : Distance) (h : Schedule) (e : Event) (r : Reply) → r ≡ reply_to d h e → HasOneEnd h → HasOneEnd (extended h e r)
+one_end_next : (d : DistanceFunction) (h : Schedule) (e : Event) (r : Reply) → r ≡ reply_to d h e → HasOneEnd h → HasOneEnd (extended h e r)
 unfolding HasOneEnd
 one_end_next d h e r is one t = rw (places_push accepted_end t 0 h.entries (record { event = e; reply = r })) (at (is_refusal r) refl (is_key (ender e) t) refl)
   where
@@ -78,7 +78,7 @@ one_end_next d h e r is one t = rw (places_push accepted_end t 0 h.entries (reco
         let parts = active_parts (accepted_in h) t (active_ends d h e r is ok t key) in
         rw (ok, key, no_ends h.entries t 0 parts.1 parts.2) (omega arith)
 
-one_end : (d : Distance) (h : Schedule) → IsLegal d h → HasOneEnd h
+one_end : (d : DistanceFunction) (h : Schedule) → IsLegal d h → HasOneEnd h
 unfolding HasOneEnd
 one_end d h legal = legal_induction d HasOneEnd (one_end_next d) h (λ t. omega arith) legal
 
@@ -88,7 +88,7 @@ single (x ∷ []) i l j = ⊎_elim (λ e. ap Some e) (λ b. absurd b) j
 single (x ∷ y ∷ xs) i l j = absurd (omega arith)
 
 -- the entry that ends a transaction is the one at which the transaction ends
-pub end_is : (d : Distance) (h : Schedule) → IsLegal d h → (t i : ℕ) (e : Entry) → slice_get h.entries i ≡ Some e → is_key (accepted_end e) t ≡ true → last_place accepted_end t h.entries ≡ Some i
+pub end_is : (d : DistanceFunction) (h : Schedule) → IsLegal d h → (t i : ℕ) (e : Entry) → slice_get h.entries i ≡ Some e → is_key (accepted_end e) t ≡ true → last_place accepted_end t h.entries ≡ Some i
 unfolding HasOneEnd
 end_is d h legal t i e at key =
     let z : 0 + i ≡ i = omega arith in
@@ -99,20 +99,20 @@ abbrev begins_at : ℕ → Entry → Bool
 begins_at t e = begins t e.reply
 
 -- transaction t, which began so, has its first entry at place p, and no entry before it begins t
-pub record IsBegunAt (es : List Entry) (t : ℕ) (b : Beginning) (p : ℕ) : Type 0 where
+pub record IsBegunAt (es : List Entry) (t : ℕ) (b : BeginRecord) (p : ℕ) : Type 0 where
   pub entry : Entry
   pub at : slice_get es p ≡ Some entry
   pub begins_it : begins t entry.reply ≡ true
-  pub event : beginning_of entry.event ≡ Some b
+  pub event : begin_record_of entry.event ≡ Some b
   pub rest : List ℕ
   pub first : places_from accepted_txn t 0 es ≡ p ∷ rest
   pub none : list_any (begins_at t) (take p es) ≡ false
 
 record AreBegun (h : Schedule) : Type 0 where
-  some : (t : ℕ) (b : Beginning) → beginning (accepted_in h) t ≡ Some b → (p : ℕ) × IsBegunAt h.entries t b p
+  some : (t : ℕ) (b : BeginRecord) → begin_record (accepted_in h) t ≡ Some b → (p : ℕ) × IsBegunAt h.entries t b p
   none : (t : ℕ) → begun_count h.entries < t → list_any (begins_at t) h.entries ≡ false
 
-kept : (es : List Entry) (x : Entry) (t : ℕ) (b : Beginning) (p : ℕ) → IsBegunAt es t b p → IsBegunAt (es ++ x ∷ []) t b p
+kept : (es : List Entry) (x : Entry) (t : ℕ) (b : BeginRecord) (p : ℕ) → IsBegunAt es t b p → IsBegunAt (es ++ x ∷ []) t b p
 kept es x t b p was =
     let inside : p < length es = get_inside es p was.entry was.at in
     let more = cond (is_key (accepted_txn x) t) ((0 + length es) ∷ []) [] in
@@ -134,15 +134,15 @@ refused_begins Committed t is = refl
 refused_begins Aborted t is = refl
 refused_begins (Refused why) t is = refl
 
-get_last : (bs : List Beginning) (b c : Beginning) (k : ℕ) → slice_get (bs ++ b ∷ []) k ≡ Some c → (slice_get bs k ≡ Some c) ⊎ ((k ≡ length bs) × (b ≡ c))
+get_last : (bs : List BeginRecord) (b c : BeginRecord) (k : ℕ) → slice_get (bs ++ b ∷ []) k ≡ Some c → (slice_get bs k ≡ Some c) ⊎ ((k ≡ length bs) × (b ≡ c))
 get_last [] b c zero is = inr (refl, same_Some b c is)
 get_last [] b c (suc k) is = absurd (cc)
 get_last (x ∷ bs) b c zero is = inl is
 get_last (x ∷ bs) b c (suc k) is = ⊎_elim (λ e. inl e) (λ e. inr (omega (arith, e.0), e.1)) (get_last bs b c k is)
 
-module _ (d : Distance) (h : Schedule) (legal : IsLegal d h) (was : AreBegun h) where
+module _ (d : DistanceFunction) (h : Schedule) (legal : IsLegal d h) (was : AreBegun h) where
   -- after an entry that begins nothing
-  same_begun : (x : Entry) → ((t : ℕ) → beginning (accepted (h.entries ++ x ∷ [])) t ≡ beginning (accepted_in h) t) → begun_count (h.entries ++ x ∷ []) ≡ begun_count h.entries → ((t : ℕ) → begins t x.reply ≡ false)
+  same_begun : (x : Entry) → ((t : ℕ) → begin_record (accepted (h.entries ++ x ∷ [])) t ≡ begin_record (accepted_in h) t) → begun_count (h.entries ++ x ∷ []) ≡ begun_count h.entries → ((t : ℕ) → begins t x.reply ≡ false)
       → AreBegun (record h { entries = h.entries ++ x ∷ [] })
   same_begun x same count none_begins = record {
     some = λ t b is. let w = was.some t b (sym (same t) ∙ is) in (w.0, kept h.entries x t b w.0 w.1);
@@ -152,7 +152,7 @@ module _ (d : Distance) (h : Schedule) (legal : IsLegal d h) (was : AreBegun h) 
   }
 
   -- after an accepted begin
-  more_begun : (e : Event) (b : Beginning) → beginning_of e ≡ Some b → txn_of e (Begun (record { 0 = begun_count h.entries + 1 })) ≡ Some (begun_count h.entries + 1)
+  more_begun : (e : Event) (b : BeginRecord) → begin_record_of e ≡ Some b → txn_of e (Begun (record { 0 = begun_count h.entries + 1 })) ≡ Some (begun_count h.entries + 1)
       → AreBegun (extended h e (Begun (record { 0 = begun_count h.entries + 1 })))
   more_begun e b is own = record { some = λ t c at. found t c at; none = λ t past. later t past }
     where
@@ -162,8 +162,8 @@ module _ (d : Distance) (h : Schedule) (legal : IsLegal d h) (was : AreBegun h) 
       x : Entry
       x = record { event = e; reply = Begun (record { 0 = begun_count h.entries + 1 }) }
 
-      grown : beginnings (accepted (h.entries ++ record { event = e; reply = Begun (record { 0 = begun_count h.entries + 1 }) } ∷ [])) ≡ beginnings (accepted_in h) ++ b ∷ []
-      grown = ap beginnings (accepted_push h.entries (record { event = e; reply = Begun (record { 0 = begun_count h.entries + 1 }) }) refl) ∙ (filter_map_push beginning_of (accepted_in h) e ∙ ap (λ o. beginnings (accepted_in h) ++ cons_option o []) is)
+      grown : begin_records (accepted (h.entries ++ record { event = e; reply = Begun (record { 0 = begun_count h.entries + 1 }) } ∷ [])) ≡ begin_records (accepted_in h) ++ b ∷ []
+      grown = ap begin_records (accepted_push h.entries (record { event = e; reply = Begun (record { 0 = begun_count h.entries + 1 }) }) refl) ∙ (filter_map_push begin_record_of (accepted_in h) e ∙ ap (λ o. begin_records (accepted_in h) ++ cons_option o []) is)
 
       first_one : (t : ℕ) → t ≡ begun_count h.entries + 1 → IsBegunAt (h.entries ++ record { event = e; reply = Begun (record { 0 = begun_count h.entries + 1 }) } ∷ []) t b (length h.entries)
       first_one t num =
@@ -184,7 +184,7 @@ module _ (d : Distance) (h : Schedule) (legal : IsLegal d h) (was : AreBegun h) 
             none = ap (list_any (begins_at t)) (take-append_seam h.entries (record { event = e; reply = Begun (record { 0 = begun_count h.entries + 1 }) } ∷ [])) ∙ was.none t past;
           }
 
-      found : (t : ℕ) (c : Beginning) → beginning (accepted (h.entries ++ record { event = e; reply = Begun (record { 0 = begun_count h.entries + 1 }) } ∷ [])) t ≡ Some c
+      found : (t : ℕ) (c : BeginRecord) → begin_record (accepted (h.entries ++ record { event = e; reply = Begun (record { 0 = begun_count h.entries + 1 }) } ∷ [])) t ≡ Some c
           → (p : ℕ) × IsBegunAt (h.entries ++ record { event = e; reply = Begun (record { 0 = begun_count h.entries + 1 }) } ∷ []) t c p
       found zero c at = absurd (cc)
       found (suc k) c at =
@@ -193,7 +193,7 @@ module _ (d : Distance) (h : Schedule) (legal : IsLegal d h) (was : AreBegun h) 
           (λ last.
           let num : suc k ≡ begun_count h.entries + 1 = ap suc last.0 ∙ sym (add-one (begun_count h.entries)) in
           (length h.entries, subst (λ b. IsBegunAt (h.entries ++ record { event = e; reply = Begun (record { 0 = begun_count h.entries + 1 }) } ∷ []) (suc k) b (length h.entries)) last.1 (first_one (suc k) num)))
-          (get_last (beginnings (accepted_in h)) b c k (ap (λ bs. slice_get bs k) (sym grown) ∙ at))
+          (get_last (begin_records (accepted_in h)) b c k (ap (λ bs. slice_get bs k) (sym grown) ∙ at))
 
       later : (t : ℕ) → begun_count (h.entries ++ record { event = e; reply = Begun (record { 0 = begun_count h.entries + 1 }) } ∷ []) < t → list_any (begins_at t) (h.entries ++ record { event = e; reply = Begun (record { 0 = begun_count h.entries + 1 }) } ∷ []) ≡ false
       later t past =
@@ -207,11 +207,11 @@ module _ (d : Distance) (h : Schedule) (legal : IsLegal d h) (was : AreBegun h) 
     where
       at_refusal : is_refusal r ≡ true → AreBegun (extended h e r)
       at_refusal refused =
-          same_begun (record { event = e; reply = r }) (λ t. ap (λ es. beginning es t) (accepted_refused h.entries (record { event = e; reply = r }) refused)) (count_refused h.entries (record { event = e; reply = r }) refused) (λ t. refused_begins r t refused)
+          same_begun (record { event = e; reply = r }) (λ t. ap (λ es. begin_record es t) (accepted_refused h.entries (record { event = e; reply = r }) refused)) (count_refused h.entries (record { event = e; reply = r }) refused) (λ t. refused_begins r t refused)
 
-      other : (e : Event) (w : Reply) → is_refusal w ≡ false → beginning_of e ≡ None → ((t : ℕ) → begins t w ≡ false) → AreBegun (extended h e w)
+      other : (e : Event) (w : Reply) → is_refusal w ≡ false → begin_record_of e ≡ None → ((t : ℕ) → begins t w ≡ false) → AreBegun (extended h e w)
       other e w ok none none_begins =
-          same_begun (record { event = e; reply = w }) (λ t. ap (λ es. beginning es t) (accepted_push h.entries (record { event = e; reply = w }) ok) ∙ beginning-kept (accepted_in h) e t none) (count_same h.entries (record { event = e; reply = w }) ok none) none_begins
+          same_begun (record { event = e; reply = w }) (λ t. ap (λ es. begin_record es t) (accepted_push h.entries (record { event = e; reply = w }) ok) ∙ begin_record-unchanged (accepted_in h) e t none) (count_same h.entries (record { event = e; reply = w }) ok none) none_begins
 
       at_accept : (e : Event) → AreBegun (extended h e (acceptance h e))
       at_accept (BeginUpdate l) = more_begun (BeginUpdate l) (record { query = false; strict = false; limit = l }) refl refl
@@ -221,25 +221,25 @@ module _ (d : Distance) (h : Schedule) (legal : IsLegal d h) (was : AreBegun h) 
       at_accept (Commit t) = other (Commit t) Committed refl refl (λ t. refl)
       at_accept (Abort t) = other (Abort t) Aborted refl refl (λ t. refl)
 
-record LegalBegun (d : Distance) (h : Schedule) : Type 0 where
+record LegalBegun (d : DistanceFunction) (h : Schedule) : Type 0 where
   legal : IsLegal d h
   begun : AreBegun h
 
-begun_all : (d : Distance) (h : Schedule) → IsLegal d h → AreBegun h
+begun_all : (d : DistanceFunction) (h : Schedule) → IsLegal d h → AreBegun h
 begun_all d h legal =
     (legal_induction d (LegalBegun d) (λ g e r is w. record { legal = IsLegal-extended d g e r w.legal is; begun = begun_next d g w.legal w.begun e r is }) h
     (record { legal = tt; begun = record { some = λ t b is. absurd (no_one t b is); none = λ t l. refl } }) legal).begun
   where
-    no_one : (t : ℕ) (b : Beginning) → beginning [] t ≡ Some b → ⊥
+    no_one : (t : ℕ) (b : BeginRecord) → begin_record [] t ≡ Some b → ⊥
     no_one zero b is = cc
     no_one (suc k) b is = cc
 
 -- a transaction that has begun
-pub begun_at : (d : Distance) (h : Schedule) → IsLegal d h → (t : ℕ) (b : Beginning) → beginning (accepted_in h) t ≡ Some b → (p : ℕ) × IsBegunAt h.entries t b p
+pub begun_at : (d : DistanceFunction) (h : Schedule) → IsLegal d h → (t : ℕ) (b : BeginRecord) → begin_record (accepted_in h) t ≡ Some b → (p : ℕ) × IsBegunAt h.entries t b p
 begun_at d h legal t b is = (begun_all d h legal).some t b is
 
 -- the entries before its begin
-pub before_begin_is : (h : Schedule) (t : ℕ) (b : Beginning) (p : ℕ) → IsBegunAt h.entries t b p → take p h.entries ≡ before_begin h t
+pub before_begin_is : (h : Schedule) (t : ℕ) (b : BeginRecord) (p : ℕ) → IsBegunAt h.entries t b p → take p h.entries ≡ before_begin h t
 before_begin_is h t b p was =
     let parts : take p h.entries ++ was.entry ∷ drop (p + 1) h.entries ≡ h.entries = ap (λ l. take p h.entries ++ l) (sym (drop_get h.entries p was.entry was.at)) ∙ take-append-drop p h.entries in
     sym (ap (before_first (begins_at t)) (sym parts) ∙ before_first-all (begins_at t) (take p h.entries) was.entry (drop (p + 1) h.entries) was.none was.begins_it)

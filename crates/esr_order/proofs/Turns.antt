@@ -21,7 +21,7 @@ abbrev by : ℕ → Operation → Bool
 by t o = eqb o.txn t
 
 abbrev in_place : ℕ → UpdateOperation → Bool
-in_place i s = eqb s.place i
+in_place i s = eqb s.position i
 
 -- no update is before itself
 pub not_before_itself : (ops : List Operation) (u : ℕ) → any_ordered_pair (λ a b. eqb a.txn u && (eqb b.txn u && conflict a b)) ops ≡ true → ⊥
@@ -60,35 +60,35 @@ module _ (os : List Operation) where
       let e : n + 1 + k ≡ n + suc k = omega arith in
       In-append_right (turn os n u) (turns os (n + 1) us) (placed_operation (n + suc k) o) (subst (λ m. In (placed_operation m o) (turns os (n + 1) us)) e (to_turns (n + 1) us k o (omega arith) i is))
 
-  in_turn : (n u : ℕ) (s : UpdateOperation) → In s (turn os n u) → s.place ≡ n
-  in_turn n u s i = sym (ap (λ (s : UpdateOperation). s.place) (of_map (placed_operation n) (filter (by u) os) s i).2)
+  in_turn : (n u : ℕ) (s : UpdateOperation) → In s (turn os n u) → s.position ≡ n
+  in_turn n u s i = sym (ap (λ (s : UpdateOperation). s.position) (of_map (placed_operation n) (filter (by u) os) s i).2)
 
-  from_turns : (n : ℕ) (us : List ℕ) (s : UpdateOperation) → In s (turns os n us) → n ≤ s.place
-  from_turns n us s i = let r = in_turns n us s i in let e : n + r.0 ≡ s.place = ap (λ (s : UpdateOperation). s.place) r.5 in omega arith
+  from_turns : (n : ℕ) (us : List ℕ) (s : UpdateOperation) → In s (turns os n us) → n ≤ s.position
+  from_turns n us s i = let r = in_turns n us s i in let e : n + r.0 ≡ s.position = ap (λ (s : UpdateOperation). s.position) r.5 in omega arith
 
   -- they are in the order of the positions
-  pub rises : (n : ℕ) (us : List ℕ) → Pairs (λ a b. a.place ≤ b.place) (turns os n us)
+  pub rises : (n : ℕ) (us : List ℕ) → Pairs (λ a b. a.position ≤ b.position) (turns os n us)
   rises n [] = tt
-  rises n (u ∷ us) = Pairs-append (λ (a b : UpdateOperation). a.place ≤ b.place) (turn os n u) (turns os (n + 1) us) (level (filter (by u) os)) (rises (n + 1) us)
-      (λ a b i j. let low : a.place ≡ n = in_turn n u a i in let high : n + 1 ≤ b.place = from_turns (n + 1) us b j in omega arith)
+  rises n (u ∷ us) = Pairs-append (λ (a b : UpdateOperation). a.position ≤ b.position) (turn os n u) (turns os (n + 1) us) (level (filter (by u) os)) (rises (n + 1) us)
+      (λ a b i j. let low : a.position ≡ n = in_turn n u a i in let high : n + 1 ≤ b.position = from_turns (n + 1) us b j in omega arith)
     where
-      level : (ps : List Operation) → Pairs (λ (a b : UpdateOperation). a.place ≤ b.place) (map (placed_operation n) ps)
+      level : (ps : List Operation) → Pairs (λ (a b : UpdateOperation). a.position ≤ b.position) (map (placed_operation n) ps)
       level [] = tt
-      level (p ∷ ps) = (each_in (λ (b : UpdateOperation). n ≤ b.place) (map (placed_operation n) ps) (λ b i. let e : n ≡ b.place = ap (λ (s : UpdateOperation). s.place) (of_map (placed_operation n) ps b i).2 in omega arith), level ps)
+      level (p ∷ ps) = (each_in (λ (b : UpdateOperation). n ≤ b.position) (map (placed_operation n) ps) (λ b i. let e : n ≡ b.position = ap (λ (s : UpdateOperation). s.position) (of_map (placed_operation n) ps b i).2 in omega arith), level ps)
 
-  pub placed : (us : List ℕ) → All (λ s. s.place < length us) (turns os 0 us)
-  placed us = All-from_recursion (λ (s : UpdateOperation). s.place < length us) (turns os 0 us) (each_in (λ (s : UpdateOperation). s.place < length us) (turns os 0 us) (λ s i.
+  pub placed : (us : List ℕ) → All (λ s. s.position < length us) (turns os 0 us)
+  placed us = All-from_recursion (λ (s : UpdateOperation). s.position < length us) (turns os 0 us) (each_in (λ (s : UpdateOperation). s.position < length us) (turns os 0 us) (λ s i.
       let r = in_turns 0 us s i in
       let l : r.0 < length us = r.2 in
-      let e : 0 + r.0 ≡ s.place = ap (λ (s : UpdateOperation). s.place) r.5 in
+      let e : 0 + r.0 ≡ s.position = ap (λ (s : UpdateOperation). s.position) r.5 in
       omega arith))
 
   -- ---- the operations of the update at a position
 
-  here : (p : UpdateOperation → Bool) (n u : ℕ) (s : UpdateOperation) → In s (filter p (turn os n u)) → s.place ≡ n
+  here : (p : UpdateOperation → Bool) (n u : ℕ) (s : UpdateOperation) → In s (filter p (turn os n u)) → s.position ≡ n
   here p n u s j = in_turn n u s (In-of_filter p (turn os n u) s j).0
 
-  later : (p : UpdateOperation → Bool) (n : ℕ) (us : List ℕ) (s : UpdateOperation) → In s (filter p (turns os (n + 1) us)) → n + 1 ≤ s.place
+  later : (p : UpdateOperation → Bool) (n : ℕ) (us : List ℕ) (s : UpdateOperation) → In s (filter p (turns os (n + 1) us)) → n + 1 ≤ s.position
   later p n us s j = from_turns (n + 1) us s (In-of_filter p (turns os (n + 1) us) s j).0
 
   own : (p : UpdateOperation → Bool) (n : ℕ) (us : List ℕ) (i : ℕ) → i < length us → filter (in_place (n + i)) (filter p (turns os n us)) ≡ filter p (turn os (n + i) (nth us i))
@@ -97,15 +97,15 @@ module _ (os : List Operation) where
       let z : n + 0 ≡ n = omega arith in
       ap (filter (in_place (n + 0))) (filter-append p (turn os n u) (turns os (n + 1) us))
       ∙ (filter-append (in_place (n + 0)) (filter p (turn os n u)) (filter p (turns os (n + 1) us))
-      ∙ (ap (λ ss. filter (in_place (n + 0)) (filter p (turn os n u)) ++ ss) (filter_none_in (in_place (n + 0)) (filter p (turns os (n + 1) us)) (λ s j. ne_eqb s.place (n + 0) (λ e. let m : n + 1 ≤ s.place = later p n us s j in absurd (omega (arith, e, m)))))
+      ∙ (ap (λ ss. filter (in_place (n + 0)) (filter p (turn os n u)) ++ ss) (filter_none_in (in_place (n + 0)) (filter p (turns os (n + 1) us)) (λ s j. ne_eqb s.position (n + 0) (λ e. let m : n + 1 ≤ s.position = later p n us s j in absurd (omega (arith, e, m)))))
       ∙ (append-nil (filter (in_place (n + 0)) (filter p (turn os n u)))
-      ∙ (filter_all_in (in_place (n + 0)) (filter p (turn os n u)) (λ s j. eq-eqb s.place (n + 0) (here p n u s j ∙ sym z))
+      ∙ (filter_all_in (in_place (n + 0)) (filter p (turn os n u)) (λ s j. eq-eqb s.position (n + 0) (here p n u s j ∙ sym z))
       ∙ ap (λ k. filter p (turn os k u)) (sym z)))))
   own p n (u ∷ us) (suc i) l =
       let e : n + suc i ≡ n + 1 + i = omega arith in
       ap (filter (in_place (n + suc i))) (filter-append p (turn os n u) (turns os (n + 1) us))
       ∙ (filter-append (in_place (n + suc i)) (filter p (turn os n u)) (filter p (turns os (n + 1) us))
-      ∙ (ap (λ ss. ss ++ filter (in_place (n + suc i)) (filter p (turns os (n + 1) us))) (filter_none_in (in_place (n + suc i)) (filter p (turn os n u)) (λ s j. ne_eqb s.place (n + suc i) (λ f. let m : s.place ≡ n = here p n u s j in absurd (omega (arith, f, m)))))
+      ∙ (ap (λ ss. ss ++ filter (in_place (n + suc i)) (filter p (turns os (n + 1) us))) (filter_none_in (in_place (n + suc i)) (filter p (turn os n u)) (λ s j. ne_eqb s.position (n + suc i) (λ f. let m : s.position ≡ n = here p n u s j in absurd (omega (arith, f, m)))))
       ∙ (ap (λ k. filter (in_place k) (filter p (turns os (n + 1) us))) e
       ∙ (own p (n + 1) us i (omega arith)
       ∙ ap (λ k. filter p (turn os k (nth us i))) (sym e)))))
@@ -194,7 +194,7 @@ conflict_parts h u v is =
 
 module _ (h : Schedule) (us : List ℕ) (once : AllPairs (λ u v. u ≢ v) us) (keeps : AllPairs (λ u v. is_before h v u ≡ false) us) where
   abbrev tests : ℕ → ℕ → UpdateOperation → UpdateOperation → Bool
-  tests i j a b = eqb a.place i && (eqb b.place j && operations_conflict a b)
+  tests i j a b = eqb a.position i && (eqb b.position j && operations_conflict a b)
 
   pub up : (i j : ℕ) → i < length us → j < length us → is_before h (nth us i) (nth us j) ≡ true → i < j
   up i j li lj b =
@@ -206,29 +206,29 @@ module _ (h : Schedule) (us : List ℕ) (once : AllPairs (λ u v. u ≢ v) us) (
   pub pair_inside : (i j : ℕ) → is_conflict_pair (turns (operations h) 0 us) i j ≡ true → (i < length us) × (j < length us)
   pair_inside i j is =
       let w = pair_parts (λ a b. ⊤) (tests i j) (turns (operations h) 0 us) (any_two (turns (operations h) 0 us)) is in
-      let p = and_parts (eqb w.0.place i) (eqb w.1.place j && operations_conflict w.0 w.1) w.4 in
-      (below w.0 w.2 i (eqb-true w.0.place i p.0), below w.1 w.3 j (eqb-true w.1.place j (and_parts (eqb w.1.place j) (operations_conflict w.0 w.1) p.1).0))
+      let p = and_parts (eqb w.0.position i) (eqb w.1.position j && operations_conflict w.0 w.1) w.4 in
+      (below w.0 w.2 i (eqb-true w.0.position i p.0), below w.1 w.3 j (eqb-true w.1.position j (and_parts (eqb w.1.position j) (operations_conflict w.0 w.1) p.1).0))
     where
-      below : (s : UpdateOperation) → In s (turns (operations h) 0 us) → (k : ℕ) → s.place ≡ k → k < length us
-      below s i k is = subst (λ m. m < length us) is (All-contains (λ (s : UpdateOperation). s.place < length us) (turns (operations h) 0 us) s (placed (operations h) us) (In-Contains (turns (operations h) 0 us) s i))
+      below : (s : UpdateOperation) → In s (turns (operations h) 0 us) → (k : ℕ) → s.position ≡ k → k < length us
+      below s i k is = subst (λ m. m < length us) is (All-contains (λ (s : UpdateOperation). s.position < length us) (turns (operations h) 0 us) s (placed (operations h) us) (In-Contains (turns (operations h) 0 us) s i))
 
   pair_to : (i j : ℕ) → i < length us → j < length us → is_conflict_pair (turns (operations h) 0 us) i j ≡ true → is_before h (nth us i) (nth us j) ≡ true
   pair_to i j li lj is =
-      let w = pair_parts (λ (a b : UpdateOperation). a.place ≤ b.place) (tests i j) (turns (operations h) 0 us) (rises (operations h) 0 us) is in
-      let p = and_parts (eqb w.0.place i) (eqb w.1.place j && operations_conflict w.0 w.1) w.4 in
-      let r = and_parts (eqb w.1.place j) (operations_conflict w.0 w.1) p.1 in
+      let w = pair_parts (λ (a b : UpdateOperation). a.position ≤ b.position) (tests i j) (turns (operations h) 0 us) (rises (operations h) 0 us) is in
+      let p = and_parts (eqb w.0.position i) (eqb w.1.position j && operations_conflict w.0 w.1) w.4 in
+      let r = and_parts (eqb w.1.position j) (operations_conflict w.0 w.1) p.1 in
       let c = clash_parts w.0 w.1 r.1 in
-      let same = and_parts (eqb w.0.item w.1.item) (w.0.writes || w.1.writes) (and_parts (not (eqb w.0.place w.1.place)) (eqb w.0.item w.1.item && (w.0.writes || w.1.writes)) r.1).1 in
+      let same = and_parts (eqb w.0.item w.1.item) (w.0.writes || w.1.writes) (and_parts (not (eqb w.0.position w.1.position)) (eqb w.0.item w.1.item && (w.0.writes || w.1.writes)) r.1).1 in
       let a = in_turns (operations h) 0 us w.0 w.2 in
       let b = in_turns (operations h) 0 us w.1 w.3 in
-      let pi : w.0.place ≡ i = eqb-true w.0.place i p.0 in
-      let pj : w.1.place ≡ j = eqb-true w.1.place j r.0 in
-      let ai : 0 + a.0 ≡ w.0.place = ap (λ (s : UpdateOperation). s.place) a.5 in
-      let bj : 0 + b.0 ≡ w.1.place = ap (λ (s : UpdateOperation). s.place) b.5 in
+      let pi : w.0.position ≡ i = eqb-true w.0.position i p.0 in
+      let pj : w.1.position ≡ j = eqb-true w.1.position j r.0 in
+      let ai : 0 + a.0 ≡ w.0.position = ap (λ (s : UpdateOperation). s.position) a.5 in
+      let bj : 0 + b.0 ≡ w.1.position = ap (λ (s : UpdateOperation). s.position) b.5 in
       let ei : a.0 ≡ i = omega arith in
       let ej : b.0 ≡ j = omega arith in
-      let le : w.0.place ≤ w.1.place = w.5 in
-      let lt : i < j = ⊎_elim (λ e. absurd (c.0 e)) (λ o. ⊎_elim (λ lt. omega (arith, lt)) (λ gt. absurd (omega (arith, gt, le))) o) (cases_order w.0.place w.1.place) in
+      let le : w.0.position ≤ w.1.position = w.5 in
+      let lt : i < j = ⊎_elim (λ e. absurd (c.0 e)) (λ o. ⊎_elim (λ lt. omega (arith, lt)) (λ gt. absurd (omega (arith, gt, le))) o) (cases_order w.0.position w.1.position) in
       let au : a.1.txn ≡ nth us i = a.4 ∙ ap (nth us) ei in
       let bv : b.1.txn ≡ nth us j = b.4 ∙ ap (nth us) ej in
       ahead h a.1 b.1 a.3 b.3 (λ e. once i j 0 lt lj (sym au ∙ (e ∙ bv)))
@@ -242,19 +242,19 @@ module _ (h : Schedule) (us : List ℕ) (once : AllPairs (λ u v. u ≢ v) us) (
       let w = conflict_parts h (nth us i) (nth us j) is in
       let a : UpdateOperation = placed_operation (0 + i) w.0 in
       let b : UpdateOperation = placed_operation (0 + j) w.1 in
-      let ne : a.place ≡ b.place → ⊥ = λ e. absurd (omega (arith, e, lt)) in
+      let ne : a.position ≡ b.position → ⊥ = λ e. absurd (omega (arith, e, lt)) in
       ⊎_elim (λ t. t)
-      (λ t. let back = pair_parts (λ (a b : UpdateOperation). a.place ≤ b.place) (tests j i) (turns (operations h) 0 us) (rises (operations h) 0 us) t in
-      let q = and_parts (eqb back.0.place j) (eqb back.1.place i && operations_conflict back.0 back.1) back.4 in
-      let pj : back.0.place ≡ j = eqb-true back.0.place j q.0 in
-      let pi : back.1.place ≡ i = eqb-true back.1.place i (and_parts (eqb back.1.place i) (operations_conflict back.0 back.1) q.1).0 in
-      let le : back.0.place ≤ back.1.place = back.5 in
+      (λ t. let back = pair_parts (λ (a b : UpdateOperation). a.position ≤ b.position) (tests j i) (turns (operations h) 0 us) (rises (operations h) 0 us) t in
+      let q = and_parts (eqb back.0.position j) (eqb back.1.position i && operations_conflict back.0 back.1) back.4 in
+      let pj : back.0.position ≡ j = eqb-true back.0.position j q.0 in
+      let pi : back.1.position ≡ i = eqb-true back.1.position i (and_parts (eqb back.1.position i) (operations_conflict back.0 back.1) q.1).0 in
+      let le : back.0.position ≤ back.1.position = back.5 in
       absurd (omega arith))
       (pair_total (tests i j) (tests j i) (turns (operations h) 0 us) a b
       (to_turns (operations h) 0 us i w.0 li w.2 w.4) (to_turns (operations h) 0 us j w.1 lj w.3 w.5)
-      (λ e. ne (ap (λ (s : UpdateOperation). s.place) e))
-      (and_from (eqb a.place i) (eqb b.place j && operations_conflict a b) (eq-eqb a.place i (omega arith)) (and_from (eqb b.place j) (operations_conflict a b) (eq-eqb b.place j (omega arith)) (clash_from a b ne w.6 w.7)))
-      (and_from (eqb b.place j) (eqb a.place i && operations_conflict b a) (eq-eqb b.place j (omega arith)) (and_from (eqb a.place i) (operations_conflict b a) (eq-eqb a.place i (omega arith)) (clash_from b a (λ e. ne (sym e)) (sym w.6) (or_swap w.0.writes w.1.writes w.7)))))
+      (λ e. ne (ap (λ (s : UpdateOperation). s.position) e))
+      (and_from (eqb a.position i) (eqb b.position j && operations_conflict a b) (eq-eqb a.position i (omega arith)) (and_from (eqb b.position j) (operations_conflict a b) (eq-eqb b.position j (omega arith)) (clash_from a b ne w.6 w.7)))
+      (and_from (eqb b.position j) (eqb a.position i && operations_conflict b a) (eq-eqb b.position j (omega arith)) (and_from (eqb a.position i) (operations_conflict b a) (eq-eqb a.position i (omega arith)) (clash_from b a (λ e. ne (sym e)) (sym w.6) (or_swap w.0.writes w.1.writes w.7)))))
 
   pub pair_before : (i j : ℕ) → i < length us → j < length us → is_conflict_pair (turns (operations h) 0 us) i j ≡ is_before h (nth us i) (nth us j)
   pair_before i j li lj = same_truth (is_conflict_pair (turns (operations h) 0 us) i j) (is_before h (nth us i) (nth us j)) (pair_to i j li lj) (pair_from i j li lj)

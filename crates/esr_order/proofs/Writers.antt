@@ -8,7 +8,7 @@ use Rattle.esr_history.specs.Serial.{any_ordered_pair, conflict, is_before, valu
 use Rattle.esr_history.proofs.Membership.{In, any-from_In, filter-some}
 use Rattle.esr_history.proofs.LastWriter.{Orders}
 use Rattle.esr_history.proofs.Versions.{wrote_by, wrote_parts, conflict_of}
-use Rattle.esr_history.proofs.Words.{values_trace}
+use Rattle.esr_history.proofs.TraceAgreement.{values_trace}
 
 -- of two elements one is ahead of the other
 pub pair_total : {X : Type 0} (r s : X → X → Bool) (xs : List X) (a b : X) → In a xs → In b xs → (a ≡ b → ⊥) → r a b ≡ true → s b a ≡ true →

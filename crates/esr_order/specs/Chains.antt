@@ -61,7 +61,7 @@ chain_of h q x = some_chain (chain_from (last_written h q x) (length (updates_of
 
 -- the last value that the update at position i wrote, of writes of one item
 abbrev pub last_in : List UpdateOperation → ℕ → Option ℤ
-last_in writes i = last_of (map (λ s. s.value) (filter (λ s. s.place == i) writes))
+last_in writes i = last_of (map (λ s. s.value) (filter (λ s. s.position == i) writes))
 
 -- the last value that the update at position i wrote to item x
 abbrev pub last_by_update : List UpdateOperation → ℕ → ℕ → Option ℤ

@@ -26,7 +26,7 @@ abbrev pub AreNextPaired : List (ℕ × ℕ) → List UpdateOperation → Type 0
 AreNextPaired pairs [] = ⊤
 AreNextPaired pairs (a ∷ []) = ⊤
 AreNextPaired pairs (a ∷ b ∷ operations) =
-    (a.place ≢ b.place → Contains pairs (a.place, b.place)) × AreNextPaired pairs (b ∷ operations)
+    (a.position ≢ b.position → Contains pairs (a.position, b.position)) × AreNextPaired pairs (b ∷ operations)
 
 -- The pairs are clashes of the operations, at most two for each, and a set that is closed by them is closed by all
 -- clashes.

@@ -9,10 +9,10 @@ no_one = record { writers = []; values = [] }
 
 -- a chain, and the readers, with an operation before
 abbrev pub with_operation : Chain → UpdateOperation → Chain
-with_operation c s = if s.writes then with_write c s.place s.value else c
+with_operation c s = if s.writes then with_write c s.position s.value else c
 
 abbrev pub readers_with : List ℕ → UpdateOperation → List ℕ
-readers_with readers s = if s.writes then [] else readers ++ s.place ∷ []
+readers_with readers s = if s.writes then [] else readers ++ s.position ∷ []
 
 -- the chain of item x, back from the last writer to the first
 abbrev pub chain_back : ℕ → List UpdateOperation → Chain

@@ -1,7 +1,7 @@
 -- The smallest closed set of least cost, found by listing all closed sets of a query's updates.
 use Rattle.std.specs.Prelude.{ℕ, ◌++◌, Bool, not, ◌&&◌, ◌||◌, nat_le, List, [], ◌∷◌, filter, map}
 use Rattle.std.specs.List.{list_all}
-use Rattle.esr_history.specs.Machine.{Distance, Schedule}
+use Rattle.esr_history.specs.Machine.{DistanceFunction, Schedule}
 use Rattle.esr_history.specs.Serial.{is_before}
 use Rattle.esr_history.specs.Queries.{updates_of, must, cost}
 use Rattle.esr_order.specs.Placements.{is_among}
@@ -22,18 +22,18 @@ abbrev pub closed_parts : Schedule → ℕ → List (List ℕ)
 closed_parts h q = filter (is_closed_part h q) (parts (updates_of h q))
 
 -- whether no closed set costs less
-abbrev pub is_least_part : Distance → Schedule → ℕ → List ℕ → Bool
+abbrev pub is_least_part : DistanceFunction → Schedule → ℕ → List ℕ → Bool
 is_least_part d h q part =
     list_all (λ other. nat_le (cost d h q (is_among part)) (cost d h q (is_among other))) (closed_parts h q)
 
 -- the closed sets of least cost
-abbrev pub least_parts : Distance → Schedule → ℕ → List (List ℕ)
+abbrev pub least_parts : DistanceFunction → Schedule → ℕ → List (List ℕ)
 least_parts d h q = filter (is_least_part d h q) (closed_parts h q)
 
 -- their intersection, in commit order
-abbrev pub least_set : Distance → Schedule → ℕ → List ℕ
+abbrev pub least_set : DistanceFunction → Schedule → ℕ → List ℕ
 least_set d h q = filter (λ u. list_all (λ part. is_among part u) (least_parts d h q)) (updates_of h q)
 
 -- and its cost
-abbrev pub least_cost : Distance → Schedule → ℕ → ℕ
+abbrev pub least_cost : DistanceFunction → Schedule → ℕ → ℕ
 least_cost d h q = cost d h q (is_among (least_set d h q))

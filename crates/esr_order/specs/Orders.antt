@@ -36,7 +36,7 @@ operations_of h q = filter (λ o. is_among (updates_of h q) o.txn) (operations h
 
 -- The updates that committed before q, with the necessary parts of their conflict order and their versions. Updates are
 -- identified by their positions in commit order.
-pub record IsOrderOf (h : Schedule) (q : ℕ) (o : ConflictOrder) : Type 0 where
+pub record IsConflictOrder (h : Schedule) (q : ℕ) (o : ConflictOrder) : Type 0 where
   pub commits : map (λ t. t.0) o.commits ≡ updates_of h q
   pub serial : IsSerialOrder h (updates_of h q) (updates_of h q)
   pub within_max : length o.commits ≤ MAX_TRANSACTIONS
@@ -63,7 +63,7 @@ pub record IsClosedAt (us : List ℕ) (o : ConflictOrder) (S : ℕ → Bool) : T
   pub downward : All (λ p. IsTrue (S (nth us p.1)) → IsTrue (S (nth us p.0))) o.before
   pub holds_must : All (λ i. IsTrue (S (nth us i))) o.must
 
-pub record IsOrderAmong (h : Schedule) (q : ℕ) (us : List ℕ) (o : ConflictOrder) : Type 0 where
+pub record IsConflictOrderOn (h : Schedule) (q : ℕ) (us : List ℕ) (o : ConflictOrder) : Type 0 where
   pub commits : map (λ t. t.0) o.commits ≡ us
   pub serial : IsSerialOrder h us us
   pub within_max : length o.commits ≤ MAX_TRANSACTIONS

@@ -1,7 +1,7 @@
 -- The placements of a committed query in serial orders of its updates, and the closed sets of its updates.
 use Rattle.std.specs.Prelude.{◌≡◌, ◌≤◌, ℕ, Bool, IsTrue, List, ◌==◌, take, length, Contains, All}
 use Rattle.std.specs.List.{list_any}
-use Rattle.esr_history.specs.Machine.{Distance, Schedule}
+use Rattle.esr_history.specs.Machine.{DistanceFunction, Schedule}
 use Rattle.esr_history.specs.Serial.{is_before, IsSerialOrder, state}
 use Rattle.esr_history.specs.Queries.{updates_of, must, distance_from, cost}
 
@@ -17,11 +17,11 @@ pub record IsPlacement (h : Schedule) (q : ℕ) (order : List ℕ) (position : �
   pub holds_must : (u : ℕ) → Contains (must h q) u → Contains (take position order) u
 
 -- the distance between the values that q read and the serial state at the position
-abbrev pub placement_distance : Distance → Schedule → ℕ → List ℕ → ℕ → ℕ
+abbrev pub placement_distance : DistanceFunction → Schedule → ℕ → List ℕ → ℕ → ℕ
 placement_distance d h q order position = distance_from d h q (state h (take position order))
 
 -- some placement of q has distance n, and none has less
-pub record IsLeastDistance (d : Distance) (h : Schedule) (q : ℕ) (n : ℕ) : Type 0 where
+pub record IsLeastDistance (d : DistanceFunction) (h : Schedule) (q : ℕ) (n : ℕ) : Type 0 where
   pub order : List ℕ
   pub position : ℕ
   pub is_placement : IsPlacement h q order position
@@ -35,11 +35,11 @@ pub record IsClosed (h : Schedule) (q : ℕ) (S : ℕ → Bool) : Type 0 where
   pub holds_must : (u : ℕ) → Contains (must h q) u → IsTrue (S u)
 
 -- a closed set of least cost
-pub record IsLeastSet (d : Distance) (h : Schedule) (q : ℕ) (S : ℕ → Bool) : Type 0 where
+pub record IsLeastSet (d : DistanceFunction) (h : Schedule) (q : ℕ) (S : ℕ → Bool) : Type 0 where
   pub closed : IsClosed h q S
   pub none_less : (T : ℕ → Bool) → IsClosed h q T → cost d h q S ≤ cost d h q T
 
 -- that is contained in each closed set of least cost
-pub record IsSmallestLeastSet (d : Distance) (h : Schedule) (q : ℕ) (S : ℕ → Bool) : Type 0 where
+pub record IsSmallestLeastSet (d : DistanceFunction) (h : Schedule) (q : ℕ) (S : ℕ → Bool) : Type 0 where
   pub least : IsLeastSet d h q S
   pub smallest : (T : ℕ → Bool) → IsLeastSet d h q T → All (λ u. IsTrue (S u) → IsTrue (T u)) (updates_of h q)

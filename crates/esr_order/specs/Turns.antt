@@ -8,10 +8,10 @@ use Rattle.esr_order.specs.UpdateOperations.{UpdateOperation}
 
 -- an operation, and an access, of the update at position i
 abbrev pub placed_operation : ℕ → Operation → UpdateOperation
-placed_operation i o = record { place = i; item = o.item; writes = o.writes; value = o.value }
+placed_operation i o = record { position = i; item = o.item; writes = o.writes; value = o.value }
 
 abbrev pub operation_at : ℕ → Access → UpdateOperation
-operation_at i a = record { place = i; item = a.item.0; writes = a.writes; value = a.value }
+operation_at i a = record { position = i; item = a.item.0; writes = a.writes; value = a.value }
 
 -- the operations of t, which has position i
 abbrev pub turn : List Operation → ℕ → ℕ → List UpdateOperation

@@ -39,13 +39,13 @@ pub fn latest_writer(links: &Links) -> Option<u32>
 }
 
 /// Adds a write of the update at a position to a chain in reverse order, unless it has a later write of that update.
-pub fn put_write(links: &mut Links, place: u32, value: i64) -> Result<(), AllocError>
-    ensures { OnOk result (seen_links links.new ≡ with_write (seen_links links.old) place value) }
+pub fn put_write(links: &mut Links, position: u32, value: i64) -> Result<(), AllocError>
+    ensures { OnOk result (seen_links links.new ≡ with_write (seen_links links.old) position value) }
 {
-    if latest_writer(links) != Some(place) {
+    if latest_writer(links) != Some(position) {
         links.values.push(value)?;
-        links.writers.push(place)?;
-        links.latest = Some(place);
+        links.writers.push(position)?;
+        links.latest = Some(position);
     }
     Ok(())
 }

@@ -35,23 +35,23 @@ fn put_operation(
     links: &mut Links,
     readers: &mut Vec<u32>,
     access: Access,
-    place: u32,
+    position: u32,
     conflicts: &mut Vec<u32>,
 ) -> Result<(), AllocError>
     ensures chain { OnOk result (seen_links links.new
-        ≡ with_operation (seen_links links.old) (operation_at place access)) }
-    ensures readers { OnOk result (readers.new.items ≡ readers_with readers.old.items (operation_at place access)) }
+        ≡ with_operation (seen_links links.old) (operation_at position access)) }
+    ensures readers { OnOk result (readers.new.items ≡ readers_with readers.old.items (operation_at position access)) }
     ensures conflicts { OnOk result (conflicts.new.items
-        ≡ conflicts.old.items ++ conflicts_of (seen_links links.old) readers.old.items (operation_at place access)) }
+        ≡ conflicts.old.items ++ conflicts_of (seen_links links.old) readers.old.items (operation_at position access)) }
 {
     if let Some(writer) = latest_writer(links) {
         conflicts.push(writer)?;
     }
     if access.writes {
         conflicts.append(readers)?;
-        put_write(links, place, access.value)?;
+        put_write(links, position, access.value)?;
     } else {
-        readers.push(place)?;
+        readers.push(position)?;
     }
     Ok(())
 }
@@ -62,7 +62,7 @@ fn put_turn(
     chains: &mut [Links],
     readers: &mut [Vec<u32>],
     accesses: &[Access],
-    place: u32,
+    position: u32,
     conflicts: &mut Vec<u32>,
 ) -> Result<(), AllocError>
     requires linked { All (λ a. a.item.0 < length chains.old) accesses.now }
@@ -72,10 +72,10 @@ fn put_turn(
     ensures later { OnOk result ((operations : List UpdateOperation)
         → AreLater (map seen_links chains.old) (map (λ r. r.items) readers.old) operations
         → AreLater (map seen_links chains.new) (map (λ r. r.items) readers.new)
-        (map (operation_at place) accesses.now ++ operations)) }
+        (map (operation_at position) accesses.now ++ operations)) }
     ensures conflicts { OnOk result ((operations : List UpdateOperation)
         → AreLater (map seen_links chains.old) (map (λ r. r.items) readers.old) operations
-        → conflicts.new.items ≡ conflicts.old.items ++ turn_conflicts (map (operation_at place) accesses.now) operations) }
+        → conflicts.new.items ≡ conflicts.old.items ++ turn_conflicts (map (operation_at position) accesses.now) operations) }
 {
     for i in (0..accesses.len()).rev() {
         let x = accesses[i].item.0 as usize;
@@ -83,7 +83,7 @@ fn put_turn(
             &mut chains[x],
             &mut readers[x],
             accesses[i],
-            place,
+            position,
             conflicts,
         )?;
     }

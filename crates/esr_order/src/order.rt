@@ -12,7 +12,7 @@ ghost use Rattle.esr_base.specs.declared.limits.TheConstants.{MAX_TRANSACTIONS};
 ghost use Rattle.esr_history.specs.Queries.{is_committed_query, must};
 ghost use Rattle.esr_order.specs.Chains.{seen_links, nth};
 ghost use Rattle.esr_order.specs.declared.order.OrderError.TheVariants.{NoMemory};
-ghost use Rattle.esr_order.specs.Orders.{ConflictOrder, IsOrderOf, IsOrderAmong, chain_at, operations_of};
+ghost use Rattle.esr_order.specs.Orders.{ConflictOrder, IsConflictOrder, IsConflictOrderOn, chain_at, operations_of};
 ghost use Rattle.esr_order.specs.AccessRows.{AreRowsOf};
 ghost use Rattle.esr_order.specs.Index.{IsWholeIndexOf};
 ghost use Rattle.esr_order.specs.Relevant.{AreRelevant};
@@ -99,7 +99,7 @@ fn among<M: Metric>(
     requires first { first ≤ length commits.items }
     ensures commits { IfOk result (λ o. o.commits ≡ commits.items) }
     ensures order { IfOk result (λ o. (q : ℕ) → map (nth (map (λ t. t.0) commits.items)) (range_with_len 0 first)
-        ≡ must history.now.schedule q → IsOrderAmong history.now.schedule q (map (λ t. t.0) commits.items) o) }
+        ≡ must history.now.schedule q → IsConflictOrderOn history.now.schedule q (map (λ t. t.0) commits.items) o) }
     ensures sparse { IfOk result (λ o. length o.before ≤ 2 * length
         (filter (λ p. is_among (map (λ t. t.0) commits.items) p.txn) (operations history.now.schedule))) }
 {
@@ -125,7 +125,7 @@ fn relevant_with<M: Metric>(
     requires list { map (λ t. t.0) committed.now ≡ commit_order (accepted_in history.now.schedule) }
     requires rows { AreRowsOf history.now.schedule.entries rows.now }
     ensures relevant { IfOk result (λ o. AreRelevant history.now.schedule q.0 (map (λ t. t.0) o.commits)) }
-    ensures ok { IfOk result (λ o. IsOrderAmong history.now.schedule q.0 (map (λ t. t.0) o.commits) o) }
+    ensures ok { IfOk result (λ o. IsConflictOrderOn history.now.schedule q.0 (map (λ t. t.0) o.commits) o) }
     ensures refused { IsErrOf result OrderError.NotACommittedQuery
         ↔ (is_committed_query history.now.schedule q.0 ≡ false) }
 {
@@ -150,7 +150,7 @@ fn relevant_with<M: Metric>(
 impl Order {
     /// Builds the order of a committed query of a legal history.
     pub fn of<M: Metric>(alloc: Global, history: &History<M>, q: TxnId) -> Result<Order, OrderError>
-        ensures ok { IfOk result (λ o. IsOrderOf history.now.schedule q.0 o) }
+        ensures ok { IfOk result (λ o. IsConflictOrder history.now.schedule q.0 o) }
         ensures sparse { IfOk result (λ o. length o.before ≤ 2 * length (operations_of history.now.schedule q.0)) }
         ensures refused { IsErrOf result OrderError.NotACommittedQuery
             ↔ (is_committed_query history.now.schedule q.0 ≡ false) }
@@ -175,7 +175,7 @@ impl Order {
         q: TxnId,
     ) -> Result<Order, OrderError>
         ensures relevant { IfOk result (λ o. AreRelevant history.now.schedule q.0 (map (λ t. t.0) o.commits)) }
-        ensures ok { IfOk result (λ o. IsOrderAmong history.now.schedule q.0 (map (λ t. t.0) o.commits) o) }
+        ensures ok { IfOk result (λ o. IsConflictOrderOn history.now.schedule q.0 (map (λ t. t.0) o.commits) o) }
         ensures refused { IsErrOf result OrderError.NotACommittedQuery
             ↔ (is_committed_query history.now.schedule q.0 ≡ false) }
     {
@@ -196,7 +196,7 @@ impl Order {
     ) -> Result<Order, OrderError>
         requires { map (λ t. t.0) committed.now ≡ commit_order (accepted_in history.now.schedule) }
         ensures relevant { IfOk result (λ o. AreRelevant history.now.schedule q.0 (map (λ t. t.0) o.commits)) }
-        ensures ok { IfOk result (λ o. IsOrderAmong history.now.schedule q.0 (map (λ t. t.0) o.commits) o) }
+        ensures ok { IfOk result (λ o. IsConflictOrderOn history.now.schedule q.0 (map (λ t. t.0) o.commits) o) }
         ensures refused { IsErrOf result OrderError.NotACommittedQuery
             ↔ (is_committed_query history.now.schedule q.0 ≡ false) }
     {
@@ -213,7 +213,7 @@ impl Order {
     ) -> Result<Order, OrderError>
         requires { IsWholeIndexOf history.now.schedule.entries index.now }
         ensures relevant { IfOk result (λ o. AreRelevant history.now.schedule q.0 (map (λ t. t.0) o.commits)) }
-        ensures ok { IfOk result (λ o. IsOrderAmong history.now.schedule q.0 (map (λ t. t.0) o.commits) o) }
+        ensures ok { IfOk result (λ o. IsConflictOrderOn history.now.schedule q.0 (map (λ t. t.0) o.commits) o) }
         ensures refused { IsErrOf result OrderError.NotACommittedQuery
             ↔ (is_committed_query history.now.schedule q.0 ≡ false) }
     {

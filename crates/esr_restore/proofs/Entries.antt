@@ -18,7 +18,7 @@ use Rattle.esr_history.specs.declared.event.Reply.TheVariants.{Begun, Value, Wro
 use Rattle.esr_history.specs.declared.event.Refusal.{Refusal}
 use Rattle.esr_history.specs.declared.event.Refusal.TheVariants.{NoSuchTransaction, AlreadyEnded, NoSuchItem}
 use Rattle.esr_history.specs.declared.event.Entry.{Entry}
-use Rattle.esr_history.specs.Events.{is_refusal, beginning_of, beginnings, accepted, is_active, is_begun}
+use Rattle.esr_history.specs.Events.{is_refusal, begin_record_of, begin_records, accepted, is_active, is_begun}
 use Rattle.esr_history.specs.Machine.{Schedule, accepted_in, extended, first_reason, acceptance, answered, reply_to, reasons, refusal, IsLegalAfter}
 use Rattle.esr_history.proofs.LegalWellFormed.{begun_in_range, done-accepted, done-refused}
 use Rattle.esr_grammar.specs.Command.{Command, IsCommand}
@@ -57,13 +57,13 @@ same_reply x y e opens distances events =
 
 -- ---- only an accepted begin binds a name
 
-begins_none : (before : Schedule) (e : Event) (r : Reply) → is_refusal r ≡ false → beginning_of e ≡ None → beginnings (accepted_in (extended before e r)) ≡ beginnings (accepted_in before)
+begins_none : (before : Schedule) (e : Event) (r : Reply) → is_refusal r ≡ false → begin_record_of e ≡ None → begin_records (accepted_in (extended before e r)) ≡ begin_records (accepted_in before)
 begins_none before e r is none =
-    ap beginnings (done-accepted before e r is) ∙ (filter_map-append beginning_of (accepted_in before) (e ∷ [])
-    ∙ (ap (λ (o : Option _). beginnings (accepted_in before) ++ cons_option o []) none ∙ append-nil (beginnings (accepted_in before))))
+    ap begin_records (done-accepted before e r is) ∙ (filter_map-append begin_record_of (accepted_in before) (e ∷ [])
+    ∙ (ap (λ (o : Option _). begin_records (accepted_in before) ++ cons_option o []) none ∙ append-nil (begin_records (accepted_in before))))
 
-same_begins : (before : Schedule) (e : Event) (r : Reply) → beginning_of e ≡ None → beginnings (accepted_in (extended before e r)) ≡ beginnings (accepted_in before)
-same_begins before e (Refused why) none = ap beginnings (done-refused before e why)
+same_begins : (before : Schedule) (e : Event) (r : Reply) → begin_record_of e ≡ None → begin_records (accepted_in (extended before e r)) ≡ begin_records (accepted_in before)
+same_begins before e (Refused why) none = ap begin_records (done-refused before e why)
 same_begins before e (Begun t) none = begins_none before e (Begun t) refl none
 same_begins before e (Value v) none = begins_none before e (Value v) refl none
 same_begins before e Wrote none = begins_none before e Wrote refl none
@@ -74,7 +74,7 @@ binds_none : (names : List (List ℕ)) (name : List ℕ) (o : Option Refusal) (r
 binds_none names name None r none = none
 binds_none names name (Some why) r none = refl
 
-none_bound : (names : List (List ℕ)) (name : List ℕ) (h : Schedule) (e : Event) → beginning_of e ≡ None → bound names name (reply_to weighted h e) ≡ names
+none_bound : (names : List (List ℕ)) (name : List ℕ) (h : Schedule) (e : Event) → begin_record_of e ≡ None → bound names name (reply_to weighted h e) ≡ names
 none_bound names name h (Read t x) none = binds_none names name (refusal weighted h (Read t x)) _ refl
 none_bound names name h (Write t x v) none = binds_none names name (refusal weighted h (Write t x v)) _ refl
 none_bound names name h (Commit t) none = binds_none names name (refusal weighted h (Commit t)) _ refl
@@ -109,10 +109,10 @@ module _ (items transactions : List (List ℕ)) (h : Schedule) (names : AreNames
     pub opening_is : s.history.opening ≡ h.opening
     pub weights_are : s.history.weights ≡ weights
     pub events_are : accepted_in s.history ≡ accepted_in before
-    pub transactions_are : s.transactions ≡ take (length (beginnings (accepted_in before))) transactions
+    pub transactions_are : s.transactions ≡ take (length (begin_records (accepted_in before))) transactions
 
   module _ (s : ScriptState) (before : Schedule) (at : IsAt s before) (opens : before.opening ≡ h.opening) (weighs : before.weights ≡ h.weights)
-      (within_max : length (beginnings (accepted_in before)) ≤ length (beginnings (accepted_in h))) (room : length s.history.entries < MAX_ENTRIES) where
+      (within_max : length (begin_records (accepted_in before)) ≤ length (begin_records (accepted_in h))) (room : length s.history.entries < MAX_ENTRIES) where
     reply_is : (e : Event) → reply_to weighted s.history e ≡ reply_to weighted before e
     reply_is e =
         same_reply s.history before e (at.opening_is ∙ sym opens) (ap weighted at.weights_are ∙ same_distance ∙ ap weighted (sym weighs)) at.events_are
@@ -132,7 +132,7 @@ module _ (items transactions : List (List ℕ)) (h : Schedule) (names : AreNames
     )
 
     -- after an event that is not a begin the same names are bound
-    at_plain : (name : List ℕ) (e : Event) → beginning_of e ≡ None → IsAt (next_to name e) (extended before e (reply_to weighted before e))
+    at_plain : (name : List ℕ) (e : Event) → begin_record_of e ≡ None → IsAt (next_to name e) (extended before e (reply_to weighted before e))
     at_plain name e none =
         let r : Reply = reply_to weighted before e in
         record {
@@ -150,7 +150,7 @@ module _ (items transactions : List (List ℕ)) (h : Schedule) (names : AreNames
         let n = begun_in_range (accepted_in before) t.0 (not-false (is_begun (accepted_in before) t.0) begun) in
         let place : position_of s.transactions (name_of_transaction transactions t.0) ≡ Some (t.0 - 1) =
         ap (λ (bs : List (List ℕ)). position_of bs (name_of_transaction transactions t.0)) at.transactions_are
-        ∙ bound_at transactions distinct_too (length (beginnings (accepted_in before))) (t.0 - 1) (omega (arith, n.0, n.1)) (omega (arith, within_max, names.all_transactions)) in
+        ∙ bound_at transactions distinct_too (length (begin_records (accepted_in before))) (t.0 - 1) (omega (arith, n.0, n.1)) (omega (arith, within_max, names.all_transactions)) in
         let same : t.0 - 1 + 1 ≡ t.0 = omega (arith, n.0) in
         rw place (ap (λ (n : ℕ). record { 0 = n }) same)
 
@@ -168,18 +168,18 @@ module _ (items transactions : List (List ℕ)) (h : Schedule) (names : AreNames
         (next : ScriptState) × (text : List ℕ) × (execute s (command_of items transactions (reply_to weighted before e) e) ≡ Ok (next, text))
         × IsAt next (extended before e (reply_to weighted before e)) × (next.history ≡ extended s.history e (reply_to weighted before e))
 
-    step_of_begin : (e : Event) (b : _) (limit : ℕ) → beginning_of e ≡ Some b
+    step_of_begin : (e : Event) (b : _) (limit : ℕ) → begin_record_of e ≡ Some b
         → reply_to weighted before e ≡ answered (first_reason (reasons weighted before (BeginUpdate limit))) (acceptance before (BeginUpdate limit))
-        → is_kept (reply_to weighted before e) ≡ true → length (beginnings (accepted_in (extended before e (reply_to weighted before e)))) ≤ length (beginnings (accepted_in h))
+        → is_kept (reply_to weighted before e) ≡ true → length (begin_records (accepted_in (extended before e (reply_to weighted before e)))) ≤ length (begin_records (accepted_in h))
         → (next : ScriptState) × (text : List ℕ) × (begin s (name_of_transaction transactions (number_begun (reply_to weighted before e))) e ≡ Ok (next, text))
         × IsAt next (extended before e (reply_to weighted before e)) × (next.history ≡ extended s.history e (reply_to weighted before e))
     step_of_begin e b limit begins is stays bounded_after =
-        let m : ℕ = length (beginnings (accepted_in before)) in
+        let m : ℕ = length (begin_records (accepted_in before)) in
         let r : Reply = reply_to weighted before e in
         let kept = dumped.begun_kept items transactions h names distinct distinct_too before opens within_max e b limit r begins is stays bounded_after in
         let accepted_now : accepted_in (extended before e r) ≡ accepted_in before ++ e ∷ [] = done-accepted before e r (ap is_refusal kept.0) in
-        let count : length (beginnings (accepted_in (extended before e r))) ≡ m + 1 =
-        ap (λ (es : List Event). length (beginnings es)) accepted_now ∙ dumped.begins items transactions h names distinct distinct_too before opens within_max e b begins in
+        let count : length (begin_records (accepted_in (extended before e r))) ≡ m + 1 =
+        ap (λ (es : List Event). length (begin_records es)) accepted_now ∙ dumped.begins items transactions h names distinct distinct_too before opens within_max e b begins in
         let inside : m < length transactions = omega (arith, count, bounded_after, names.all_transactions) in
         let number : number_begun r ≡ m + 1 = ap number_begun kept.0 in
         let name_is : name_of_transaction transactions (number_begun r) ≡ get_or transactions m [] = ap (λ (n : ℕ). get_or transactions n []) (omega (arith, number)) in
@@ -203,7 +203,7 @@ module _ (items transactions : List (List ℕ)) (h : Schedule) (names : AreNames
           refl,
         )
 
-    step : (e : Event) → is_kept (reply_to weighted before e) ≡ true → length (beginnings (accepted_in (extended before e (reply_to weighted before e)))) ≤ length (beginnings (accepted_in h)) → IsExecuted e
+    step : (e : Event) → is_kept (reply_to weighted before e) ≡ true → length (begin_records (accepted_in (extended before e (reply_to weighted before e)))) ≤ length (begin_records (accepted_in h)) → IsExecuted e
     step (BeginUpdate limit) stays bounded_after = step_of_begin (BeginUpdate limit) _ limit refl refl stays bounded_after
     step (BeginQuery limit true) stays bounded_after = step_of_begin (BeginQuery limit true) _ limit refl refl stays bounded_after
     step (BeginQuery limit false) stays bounded_after = step_of_begin (BeginQuery limit false) _ limit refl refl stays bounded_after
@@ -255,7 +255,7 @@ module _ (items transactions : List (List ℕ)) (h : Schedule) (names : AreNames
     pub history : next.history ≡ record s.history { entries = s.history.entries ++ filter (λ (e : Entry). is_kept e.reply) later }
 
   pub entries_run : (s : ScriptState) (before : Schedule) (later : List Entry) → IsAt s before → before.opening ≡ h.opening → before.weights ≡ h.weights → IsLegalAfter weighted before later
-      → length (beginnings (accepted (before.entries ++ later))) ≤ length (beginnings (accepted_in h)) → length s.history.entries + length later ≤ MAX_ENTRIES
+      → length (begin_records (accepted (before.entries ++ later))) ≤ length (begin_records (accepted_in h)) → length s.history.entries + length later ≤ MAX_ENTRIES
       → Ends s later
   entries_run s before [] at opens weighs legal within_max room = record {
     next = s;
@@ -270,15 +270,15 @@ module _ (items transactions : List (List ℕ)) (h : Schedule) (names : AreNames
       let later_kept : List Entry = filter (λ (n : Entry). is_kept n.reply) later in
       let with_entries : List Entry → Schedule = λ es. record s.history { entries = es } in
       let joined : next.entries ++ later ≡ before.entries ++ e ∷ later = append_assoc before.entries (e ∷ []) later in
-      let bounded_next : length (beginnings (accepted (next.entries ++ later))) ≤ length (beginnings (accepted_in h)) =
-      subst (λ (es : List Entry). length (beginnings (accepted es)) ≤ length (beginnings (accepted_in h))) (sym joined) within_max in
-      let bounded_before : length (beginnings (accepted_in before)) ≤ length (beginnings (accepted_in h)) = omega (arith, within_max, dumped.fewer before.entries (e ∷ later)) in
-      let bounded_after : length (beginnings (accepted_in next)) ≤ length (beginnings (accepted_in h)) = omega (arith, bounded_next, dumped.fewer next.entries later) in
+      let bounded_next : length (begin_records (accepted (next.entries ++ later))) ≤ length (begin_records (accepted_in h)) =
+      subst (λ (es : List Entry). length (begin_records (accepted es)) ≤ length (begin_records (accepted_in h))) (sym joined) within_max in
+      let bounded_before : length (begin_records (accepted_in before)) ≤ length (begin_records (accepted_in h)) = omega (arith, within_max, dumped.fewer before.entries (e ∷ later)) in
+      let bounded_after : length (begin_records (accepted_in next)) ≤ length (begin_records (accepted_in h)) = omega (arith, bounded_next, dumped.fewer next.entries later) in
       elim (cases_Bool (is_kept e.reply)) [
         | inl stays ↦
             let replied : e.reply ≡ reply_to weighted before e.event = legal.0 in
             let does = step s before at opens weighs bounded_before (omega (arith, room)) e.event (ap is_kept (sym replied) ∙ stays)
-            (subst (λ (o : Reply). length (beginnings (accepted_in (extended before e.event o))) ≤ length (beginnings (accepted_in h))) replied bounded_after) in
+            (subst (λ (o : Reply). length (begin_records (accepted_in (extended before e.event o))) ≤ length (begin_records (accepted_in h))) replied bounded_after) in
             let command : Command = command_of items transactions e.reply e.event in
             let spelled : IsCommand command = (dumped.asks items transactions h names distinct distinct_too before opens bounded_before e.event e.reply replied stays bounded_after).0 in
             let line : entry_text items transactions e ≡ line_of command = rw stays refl in
@@ -305,7 +305,7 @@ module _ (items transactions : List (List ℕ)) (h : Schedule) (names : AreNames
               opening_is = at.opening_is;
               weights_are = at.weights_are;
               events_are = at.events_are ∙ sym same;
-              transactions_are = at.transactions_are ∙ ap (λ (es : List Event). take (length (beginnings es)) transactions) (sym same);
+              transactions_are = at.transactions_are ∙ ap (λ (es : List Event). take (length (begin_records es)) transactions) (sym same);
             } in
             let rest : Ends s later = entries_run s next later at_next opens weighs legal.1 bounded_next (omega (arith, room)) in
             let line : [] ≡ entry_text items transactions e = ap (λ (b : Bool). cond b (line_of (command_of items transactions e.reply e.event)) []) (sym lost) in

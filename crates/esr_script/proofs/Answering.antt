@@ -16,8 +16,8 @@ use Rattle.std.proofs.lemmas.Grind.{common_steps}
 four : {a b c d e f : ℕ} {us vs : List ℕ} → a ≡ b → c ≡ d → e ≡ f → us ≡ vs → ◌≡◌ {A = ℕ × ℕ × ℕ × List ℕ} (a, c, e, us) (b, d, f, vs)
 four {a} {b} {c} {d} {e} {f} {us} {vs} x y z w = grind (arith, common_steps)
 
-module _ (s : ScriptState) (items names : List (List ℕ)) (was : Bool) (first h : Schedule) (name : List ℕ) (q : TxnId)
-    (seen : record { items = items; transactions = names; closed = was; history = first } ≡ s) (same : h ≡ first) (called : q ≡ transaction_called s name) where
+module _ (s : ScriptState) (items names : List (List ℕ)) (was_closed : Bool) (first h : Schedule) (name : List ℕ) (q : TxnId)
+    (seen : record { items = items; transactions = names; closed = was_closed; history = first } ≡ s) (same : h ≡ first) (called : q ≡ transaction_called s name) where
   history_is : h ≡ s.history
   history_is = same ∙ ap (λ (z : ScriptState). z.history) seen
 

@@ -24,9 +24,9 @@ lines_of_map f g [] = refl
 lines_of_map f g (x ∷ xs) = ap (λ l. f (g x) ++ l) (lines_of_map f g xs)
 
 -- the lines of a book over a history are the output of a state with this history
-pub book_lines : (items names : List (List ℕ)) (was : Bool) (h0 h : Schedule) (s : ScriptState)
+pub book_lines : (items names : List (List ℕ)) (was_closed : Bool) (h0 h : Schedule) (s : ScriptState)
     (order : List ℕ) (summaries : List (ℕ × ℕ × ℕ × List ℕ)) (imports exports entries : ℕ)
-    → record { items = items; transactions = names; closed = was; history = h0 } ≡ s → h ≡ h0
+    → record { items = items; transactions = names; closed = was_closed; history = h0 } ≡ s → h ≡ h0
     → order ≡ committed_updates h → summaries ≡ map (summary_of weighted h) (committed_queries h) → imports ≡ all_imports weighted h → exports ≡ all_exports weighted h → entries ≡ length h.entries
     → order_line names order ++ flat_map (finding_line names) summaries ++ totals_line imports exports entries ≡ audit_output s
-book_lines items names was h0 h s order summaries imports exports entries seen same o t i e n = grind (arith, common_steps)
+book_lines items names was_closed h0 h s order summaries imports exports entries seen same o t i e n = grind (arith, common_steps)

@@ -1,6 +1,6 @@
 -- The line of an audit agrees with its finding.
 use Rattle.std.proofs.Common.{◌≡◌, ℕ, Result, Ok, Err, IfOk, map, ◌∙◌}
-use Rattle.esr_history.specs.Machine.{Distance, Schedule, charges_in, import_in}
+use Rattle.esr_history.specs.Machine.{DistanceFunction, Schedule, charges_in, import_in}
 use Rattle.esr_cert.specs.Views.{certificate_of}
 use Rattle.esr_order.specs.Placements.{is_among}
 use Rattle.esr_order.specs.Least.{least_set, least_cost}
@@ -10,7 +10,7 @@ use Rattle.esr_audit.specs.declared.finding.Finding.{Finding}
 use Rattle.esr_audit.specs.declared.finding.AuditError.{AuditError}
 use Rattle.esr_audit.specs.Findings.{IsShown, IsFindingOf}
 
-module _ (d : Distance) (h : Schedule) (q : ℕ) where
+module _ (d : DistanceFunction) (h : Schedule) (q : ℕ) where
   pub distance_is : (r : Result Finding AuditError) → IfOk r (IsFindingOf d h q) → IfOk r (λ f. f.distance ≡ least_cost d h q)
   distance_is (Ok f) a = a.answer.distance_is ∙ (law_of_listed_sets d h q (is_among (map (λ t. t.0) f.before.items)) a.answer.smallest).1
   distance_is (Err e) a = tt

@@ -12,11 +12,11 @@ own_write_read_back : IsWholeText (outcome (codes "item a 100\nbegin u update 0\
 unfolding digits
 own_write_read_back = refl
 
-upgrade_waits_for_a_reader : IsWholeText
+upgrade_is_blocked_by_a_reader : IsWholeText
     (outcome (codes "item a 0\nbegin u update 0\nbegin v update 0\nread u a\nread v a\nwrite u a 1\ncommit v\nwrite u a 1\ncommit u\n"))
     (codes "item a 0\nbegun u 1\nbegun v 2\nu a 0\nv a 0\nblocked 9 lock v\ncommitted v\nwrote u a 1\ncommitted u\n")
 unfolding digits
-upgrade_waits_for_a_reader = refl
+upgrade_is_blocked_by_a_reader = refl
 
 -- faults of lines, names that are not bound, a note, and a last line with no line feed
 lines_at_fault : IsWholeText

@@ -1,6 +1,6 @@
 -- Receipts of answered calls, and lists of receipts that match a history.
 use Rattle.std.specs.Prelude.{◌≡◌, ℕ, ◌+◌, ◌<◌, ◌≤◌, ◌==◌, Bool, true, false, List, [], ◌∷◌, ◌++◌, length, slice_get, count_by, All, Some, Result, Ok, Err, ℤ, flat_map, sum_by}
-use Rattle.esr_history.specs.Machine.{Distance, IsLegal, schedule_of}
+use Rattle.esr_history.specs.Machine.{DistanceFunction, IsLegal, schedule_of}
 use Rattle.esr_history.specs.declared.event.Event.{Event}
 use Rattle.esr_history.specs.declared.event.Reply.{Reply}
 use Rattle.esr_history.specs.declared.event.Reply.TheVariants.{Begun, Value, Wrote, Committed, Aborted, Refused}
@@ -19,7 +19,7 @@ receipt place event reply = record { at = place; event = event; reply = reply }
 
 -- some legal history of these opening values and this metric has its last entry at the receipt's place,
 -- and that entry is the receipt's
-abbrev pub IsReceipt : Distance → List ℤ → List ℕ → Receipt → Type 0
+abbrev pub IsReceipt : DistanceFunction → List ℤ → List ℕ → Receipt → Type 0
 IsReceipt d opening weights r =
     (before : List Entry) × (length before ≡ r.at) × IsLegal d (schedule_of opening weights (before ++ entry_of r ∷ []))
 
@@ -111,6 +111,6 @@ is_blocked Aborted = false
 is_blocked (Refused why) = is_block why
 
 -- receipts of calls with this event that were all blocked
-abbrev pub AreBlocked : Distance → List ℤ → List ℕ → Event → List Receipt → Type 0
+abbrev pub AreBlocked : DistanceFunction → List ℤ → List ℕ → Event → List Receipt → Type 0
 AreBlocked d opening weights event rs =
     All (λ r. (r.event ≡ event) × IsReceipt d opening weights r × (is_blocked r.reply ≡ true)) rs

@@ -2,7 +2,7 @@
 use Rattle.std.proofs.Common.{◌≡◌, ℕ, suc, ◌<◌, ◌≤◌, Bool, true, false, ◌&&◌, ◌||◌, eqb, List, length, filter, set, refl, sym, ap, ◌∙◌, subst, inl, inr, ⊎_elim, arith}
 use Rattle.std.specs.List.{list_any}
 use Rattle.std.proofs.lemmas.Bool.{true≢false, and_parts, and_from, or_cases, or_left, or_right, eqb-true, cases_eq}
-use Rattle.esr_history.specs.Machine.{Distance, Schedule, IsLegal}
+use Rattle.esr_history.specs.Machine.{DistanceFunction, Schedule, IsLegal}
 use Rattle.esr_history.specs.Operations.{Operation, operations}
 use Rattle.esr_history.specs.Serial.{is_before}
 use Rattle.esr_history.specs.Queries.{updates_of}
@@ -48,7 +48,7 @@ closed_start h q k marks s past read written = record {
   spread = λ S closed has. has;
 }
 
-module _ (d : Distance) (h : Schedule) (q : ℕ) (legal : IsLegal d h) (k i : ℕ) (next : k ≡ suc i) (inside : i < length (updates_of h q)) (seeds marks : List Bool) (sized : i < length marks) (s t : Seen) (so_far : IsClosedFrom h q k seeds marks s)
+module _ (d : DistanceFunction) (h : Schedule) (q : ℕ) (legal : IsLegal d h) (k i : ℕ) (next : k ≡ suc i) (inside : i < length (updates_of h q)) (seeds marks : List Bool) (sized : i < length marks) (s t : Seen) (so_far : IsClosedFrom h q k seeds marks s)
     (row : List Access) (is_row : row ≡ accesses_in h.entries (nth (updates_of h q) i)) (member : Bool) (is_member : member ≡ (mark_at marks i || list_any (conflicts_with s) row))
     (added : member ≡ true → IsAdded row s t) (other : member ≡ false → t ≡ s) where
   abbrev u : ℕ

@@ -12,7 +12,7 @@ use Rattle.esr_history.specs.declared.event.Event.TheVariants.{BeginUpdate, Begi
 use Rattle.esr_history.specs.declared.event.Reply.{Reply}
 use Rattle.esr_history.specs.declared.event.Entry.{Entry}
 use Rattle.esr_history.specs.Events.{is_query, is_committed, is_refusal, reads_any, total_read_count}
-use Rattle.esr_history.specs.Machine.{Distance, Schedule, IsLegal, accepted_in, distance_in}
+use Rattle.esr_history.specs.Machine.{DistanceFunction, Schedule, IsLegal, accepted_in, value_distance}
 use Rattle.esr_history.specs.Operations.{Operation, operations, operation_by, operation_of, answer}
 use Rattle.esr_history.specs.Ranges.{IsWithinRanges}
 use Rattle.esr_history.specs.Serial.{state}
@@ -150,15 +150,15 @@ reads_in_range h range q = each_in (λ (o : Operation). IsValue o.value × (o.it
 
 -- ---- the lists of values
 
-module _ (d : Distance) (h : Schedule) (q : ℕ) (opened : All IsValue h.opening) (legal : IsLegal d h) (lists : List (Vec ℤ Global)) (sized : length lists ≡ length h.opening) (is : (x : ℕ) → x < length h.opening → list_at lists x ≡ values_of (accesses_in h.entries q) x) where
+module _ (d : DistanceFunction) (h : Schedule) (q : ℕ) (opened : All IsValue h.opening) (legal : IsLegal d h) (lists : List (Vec ℤ Global)) (sized : length lists ≡ length h.opening) (is : (x : ℕ) → x < length h.opening → list_at lists x ≡ values_of (accesses_in h.entries q) x) where
   range : IsWithinRanges h
   range = legal_within_ranges d h opened legal
 
-  pub costs_are : (S : ℕ → Bool) → cost_by (length h.opening) (raised (distance_in d h) lists) h q S ≡ length h.opening * 17592186044416 + cost d h q S
+  pub costs_are : (S : ℕ → Bool) → cost_by (length h.opening) (raised (value_distance d h) lists) h q S ≡ length h.opening * 17592186044416 + cost d h q S
   costs_are S =
       let w : ℕ → ℤ = state h (members h q S) in
       let n : ℕ = length h.opening in
-      let D = distance_in d h in
+      let D = value_distance d h in
       let parts : ℕ → ℕ = λ x. distance_sum D x (list_at lists x) (w x) in
       let each : ℕ → ℕ = λ x. sum_by (λ (o : Operation). cond (eqb o.item x) (D x o.value (w x)) 0) (reads_by h q) in
       let a : sum_by parts (range_with_len 0 n) ≡ sum_by each (range_with_len 0 n) =

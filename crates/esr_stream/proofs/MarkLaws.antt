@@ -2,7 +2,7 @@
 use Rattle.std.proofs.Common.{◌≡◌, ◌≢◌, ℕ, zero, suc, ◌+◌, ◌<◌, ◌≤◌, Bool, true, false, ◌&&◌, eqb, cond, List, [], ◌∷◌, ◌++◌, length, take, map, filter, refl, sym, ap, ◌∙◌, subst, inl, inr, ⊎_elim, arith, AllPairs, Contains, nat_lt}
 use Rattle.std.specs.List.{range_with_len}
 use Rattle.std.proofs.lemmas.Bool.{and_parts, and_from, eqb-true, eq-eqb, cases_order, ltb-true}
-use Rattle.esr_history.specs.Machine.{Distance, Schedule, IsLegal}
+use Rattle.esr_history.specs.Machine.{DistanceFunction, Schedule, IsLegal}
 use Rattle.esr_history.specs.Serial.{is_before}
 use Rattle.esr_history.specs.Queries.{updates_of, must}
 use Rattle.esr_history.proofs.Membership.{In, In-any, any-from_In, Contains-In, All-from_pairs}
@@ -17,7 +17,7 @@ use Rattle.esr_bound.specs.Amounts.{mark_at, among_marked, AreForced}
 use Rattle.esr_bound.proofs.LowerBound.{in_range, range_in, pairs_at}
 use Rattle.esr_stream.specs.Passes.{AreFirst}
 
-module _ (d : Distance) (h : Schedule) (q : ℕ) (legal : IsLegal d h) (marks : List Bool) where
+module _ (d : DistanceFunction) (h : Schedule) (q : ℕ) (legal : IsLegal d h) (marks : List Bool) where
   abbrev us : List ℕ
   us = updates_of h q
 
@@ -74,7 +74,7 @@ module _ (d : Distance) (h : Schedule) (q : ℕ) (legal : IsLegal d h) (marks : 
       ∙ sym (ap (filter S) (Rattle.std.proofs.lemmas.List.take_more (updates_of h q) k 0 l) ∙ Rattle.std.proofs.lemmas.List.Elements.filter-append S (take k (updates_of h q)) (nth (updates_of h q) k ∷ []))
 
 -- the updates that q must see are in every closed set
-pub first_forced : (d : Distance) (h : Schedule) (q : ℕ) → IsLegal d h → (n worth : ℕ) (C : ℕ → Rattle.std.proofs.Common.ℤ → ℕ) (first : ℕ) (marks : List Bool) → first ≡ length (must h q)
+pub first_forced : (d : DistanceFunction) (h : Schedule) (q : ℕ) → IsLegal d h → (n worth : ℕ) (C : ℕ → Rattle.std.proofs.Common.ℤ → ℕ) (first : ℕ) (marks : List Bool) → first ≡ length (must h q)
     → ((i : ℕ) → i < length (updates_of h q) → mark_at marks i ≡ nat_lt i first) → AreForced n C h q worth marks
 first_forced d h q legal n worth C first marks is only S closed low i l m =
     let early : i < first = ltb-true i first (sym (only i l) ∙ m) in

@@ -5,7 +5,7 @@ use Rattle.std.proofs.lemmas.Bool.{cases_eq, cases_Bool}
 use Rattle.std.proofs.lemmas.List.Sums.{sum_by-cons}
 use Rattle.esr_items.specs.Values.{IsValue, value_at}
 use Rattle.esr_history.specs.Events.{last_value}
-use Rattle.esr_history.specs.Machine.{Distance, Schedule, IsLegal}
+use Rattle.esr_history.specs.Machine.{DistanceFunction, Schedule, IsLegal}
 use Rattle.esr_history.specs.Serial.{state}
 use Rattle.esr_history.specs.Queries.{updates_of, members}
 use Rattle.esr_history.proofs.LastWriter.{last_value-append}
@@ -59,7 +59,7 @@ module _ (vs vs' : List ℤ) (a : Access) (inside : a.item.0 < length vs) (write
 
 -- ---- one update
 
-module _ (d : Distance) (h : Schedule) (q : ℕ) (legal : IsLegal d h) (marks : List Bool) where
+module _ (d : DistanceFunction) (h : Schedule) (q : ℕ) (legal : IsLegal d h) (marks : List Bool) where
   abbrev S : ℕ → Bool
   S = among_marked (updates_of h q) marks
 

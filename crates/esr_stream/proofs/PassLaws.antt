@@ -3,7 +3,7 @@ use Rattle.std.proofs.Common.{◌≡◌, ◌≢◌, ℕ, ℤ, ◌+◌, ◌<◌, 
 use Rattle.std.specs.List.{list_any, AllByRecursion}
 use Rattle.std.proofs.lemmas.Bool.{cases_eq}
 use Rattle.esr_history.specs.Events.{last_value}
-use Rattle.esr_history.specs.Machine.{Distance, Schedule, IsLegal}
+use Rattle.esr_history.specs.Machine.{DistanceFunction, Schedule, IsLegal}
 use Rattle.esr_history.specs.Serial.{values_by}
 use Rattle.esr_history.specs.Queries.{updates_of, must}
 use Rattle.esr_order.specs.Chains.{nth}
@@ -28,7 +28,7 @@ stay_more seeds marks k marked l grows stay i is = elim (cases_eq i k) [
   | inr ne ↦ mark_other marks k i marked ne ∙ stay i is
 ]
 
-module _ (d : Distance) (h : Schedule) (q : ℕ) (legal : IsLegal d h) (C : ℕ → ℤ → ℕ) where
+module _ (d : DistanceFunction) (h : Schedule) (q : ℕ) (legal : IsLegal d h) (C : ℕ → ℤ → ℕ) where
   abbrev n : ℕ
   n = length h.opening
 

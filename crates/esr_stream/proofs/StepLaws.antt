@@ -8,12 +8,12 @@ use Rattle.std.proofs.lemmas.List.Elements.{All-from_recursion, recursion_from_A
 use Rattle.esr_history.proofs.WithinRanges.{legal_within_ranges}
 use Rattle.esr_order.proofs.Lists.{of_map}
 use Rattle.esr_history.specs.Events.{last_value}
-use Rattle.esr_history.specs.Machine.{Distance, Schedule, IsLegal}
+use Rattle.esr_history.specs.Machine.{DistanceFunction, Schedule, IsLegal}
 use Rattle.esr_history.specs.Operations.{Operation, operations}
 use Rattle.esr_history.specs.Serial.{values_by}
 use Rattle.esr_history.specs.Queries.{updates_of}
 use Rattle.esr_history.proofs.Versions.{wrote_by}
-use Rattle.esr_history.proofs.Words.{values_trace}
+use Rattle.esr_history.proofs.TraceAgreement.{values_trace}
 use Rattle.esr_order.specs.declared.accesses.Access.{Access}
 use Rattle.esr_order.specs.Scans.{access_of, accesses_in}
 use Rattle.esr_order.specs.Chains.{nth}
@@ -223,7 +223,7 @@ opening_states_are C h q marks states is = record {
 }
 
 -- the values of accesses are in range
-pub accesses_valued : (d : Distance) (h : Schedule) → All IsValue h.opening → IsLegal d h → (t : ℕ) → All (λ (a : Access). IsValue a.value) (accesses_in h.entries t)
+pub accesses_valued : (d : DistanceFunction) (h : Schedule) → All IsValue h.opening → IsLegal d h → (t : ℕ) → All (λ (a : Access). IsValue a.value) (accesses_in h.entries t)
 accesses_valued d h opened legal t = All-from_recursion (λ (a : Access). IsValue a.value) (accesses_in h.entries t) (each_in (λ (a : Access). IsValue a.value) (accesses_in h.entries t) (λ a i.
     let o = of_map access_of (filter (λ (o : Operation). eqb o.txn t) (operations h)) a i in
     let v : IsValue o.0.value = each_at (λ (o : Operation). IsValue o.value) (operations h) o.0 (recursion_from_All (λ (o : Operation). IsValue o.value) (operations h) (legal_within_ranges d h opened legal).values) (In-of_filter (λ (o : Operation). eqb o.txn t) (operations h) o.0 o.1).0 in

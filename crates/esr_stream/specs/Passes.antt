@@ -2,7 +2,7 @@
 use Rattle.std.specs.Prelude.{◌≡◌, ◌≤◌, ◌<◌, ◌+◌, ◌&&◌, ◌==◌, ℕ, ℤ, Bool, true, false, nat_lt, List, [], length, filter, map, sum_by, slice_index_or}
 use Rattle.esr_items.specs.Values.{value_at}
 use Rattle.esr_history.specs.Events.{last_value}
-use Rattle.esr_history.specs.Machine.{Distance, Schedule}
+use Rattle.esr_history.specs.Machine.{DistanceFunction, Schedule}
 use Rattle.esr_history.specs.Queries.{updates_of}
 use Rattle.esr_order.specs.Placements.{IsClosed}
 use Rattle.esr_order.specs.Least.{least_set, least_cost}
@@ -79,5 +79,5 @@ abbrev pub StayMarked : List Bool → List Bool → Type 0
 StayMarked old new = (i : ℕ) → mark_at old i ≡ true → mark_at new i ≡ true
 
 -- the least distance of a query, and in commit order the smallest set of updates before a position of that distance
-abbrev pub IsLeast : Distance → Schedule → ℕ → ℕ → List ℕ → Type 0
+abbrev pub IsLeast : DistanceFunction → Schedule → ℕ → ℕ → List ℕ → Type 0
 IsLeast d h q distance before = (distance ≡ least_cost d h q) × (before ≡ least_set d h q)

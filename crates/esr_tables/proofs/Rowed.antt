@@ -2,8 +2,8 @@
 use Rattle.std.proofs.Common.{◌≡◌, ℕ, zero, suc, ◌-◌, ◌≤◌, Bool, false, List, [], sym, ◌∙◌, ap, ap₂, arith, Option, Some, map, is_some, slice_get, unwrap_or, if◌then◌else◌}
 use Rattle.std.proofs.lemmas.Option.{slice_get-map}
 use Rattle.esr_base.specs.declared.numbers.TxnId.{TxnId}
-use Rattle.esr_history.specs.Events.{beginnings, is_query, limit_of}
-use Rattle.esr_history.specs.Machine.{Distance, Schedule, charges_in, accepted_in, export_in, import_in, IsLegal}
+use Rattle.esr_history.specs.Events.{begin_records, is_query, limit_of}
+use Rattle.esr_history.specs.Machine.{DistanceFunction, Schedule, charges_in, accepted_in, export_in, import_in, IsLegal}
 use Rattle.esr_history.specs.declared.back_links.Facts.{Facts}
 use Rattle.esr_history.specs.BackLinks.{accepted_end, facts_of, last_place}
 use Rattle.esr_order.proofs.Commits.{commit_at_end, end_some}
@@ -18,16 +18,16 @@ use Rattle.esr_tables.specs.Rows.{charged_of, distance_of, end_of, kind_at, kind
 use Rattle.esr_tables.specs.Entries.{end_at}
 
 -- its kind
-pub kind_there : (h : Schedule) (kinds : List RowKind) (t : ℕ) → 1 ≤ t → kinds ≡ map kind_of (beginnings (accepted_in h)) → unwrap_or (slice_get kinds (t - 1)) Update ≡ kind_at h t
+pub kind_there : (h : Schedule) (kinds : List RowKind) (t : ℕ) → 1 ≤ t → kinds ≡ map kind_of (begin_records (accepted_in h)) → unwrap_or (slice_get kinds (t - 1)) Update ≡ kind_at h t
 kind_there h kinds zero low is = absurd (omega arith)
 kind_there h kinds (suc k) low is =
     let same : suc k - 1 ≡ k = omega arith in
     ap (λ i. unwrap_or (slice_get kinds i) Update) same
     ∙ (ap (λ (l : List RowKind). unwrap_or (slice_get l k) Update) is
-    ∙ ap (λ o. unwrap_or o Update) (slice_get-map kind_of (beginnings (accepted_in h)) k))
+    ∙ ap (λ o. unwrap_or o Update) (slice_get-map kind_of (begin_records (accepted_in h)) k))
 
 -- the end of a transaction
-pub end_there : (d : Distance) (h : Schedule) → IsLegal d h → (t : ℕ) (f : Facts) → Some f ≡ facts_of h.entries t → end_at h.entries f.end ≡ end_of h t
+pub end_there : (d : DistanceFunction) (h : Schedule) → IsLegal d h → (t : ℕ) (f : Facts) → Some f ≡ facts_of h.entries t → end_at h.entries f.end ≡ end_of h t
 end_there d h legal t f some =
     let is : f.end ≡ last_place accepted_end t h.entries = end_some h.entries t f some in
     ap (end_at h.entries) is

@@ -1,7 +1,7 @@
 -- A ledger as CSV.
 use Rattle.std.specs.Prelude.{ℕ, List, [], ◌∷◌, ◌++◌, codes, decimal, Option, None, Some}
 use Rattle.std.specs.List.{flat_map}
-use Rattle.esr_history.specs.Machine.{Distance, Schedule}
+use Rattle.esr_history.specs.Machine.{DistanceFunction, Schedule}
 use Rattle.esr_report.specs.Names.{name_of_transaction}
 use Rattle.esr_tables.specs.declared.kinds.RowKind.{RowKind}
 use Rattle.esr_tables.specs.declared.kinds.RowKind.TheVariants.{Update, Query, Strict}
@@ -56,5 +56,5 @@ abbrev pub named_line : (names : List (List ℕ)) → (first last : ℕ → ℕ)
 named_line names first last r = row_line (name_of_transaction names r.number.0) r (first r.number.0) (last r.number.0)
 
 -- the ledger of a history
-abbrev pub ledger_csv : Distance → Schedule → (names : List (List ℕ)) → (first last : ℕ → ℕ) → List ℕ
+abbrev pub ledger_csv : DistanceFunction → Schedule → (names : List (List ℕ)) → (first last : ℕ → ℕ) → List ℕ
 ledger_csv d h names first last = head ++ flat_map (named_line names first last) (rows_of d h)

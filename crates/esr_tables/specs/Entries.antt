@@ -5,7 +5,7 @@ use Rattle.esr_history.specs.declared.event.Reply.{Reply}
 use Rattle.esr_history.specs.declared.event.Entry.{Entry}
 use Rattle.esr_history.specs.declared.event.Reply.TheVariants.{Value, Wrote, Refused}
 use Rattle.esr_history.specs.declared.event.Refusal.TheVariants.{BlockedByLock, BlockedByImport, BlockedByExport}
-use Rattle.esr_history.specs.Events.{beginnings, beginning_of, is_refusal}
+use Rattle.esr_history.specs.Events.{begin_records, begin_record_of, is_refusal}
 use Rattle.esr_history.specs.Machine.{Schedule, accepted_in, charges_in, export_in}
 use Rattle.esr_history.specs.BackLinks.{begun_count}
 use Rattle.esr_items.specs.Weights.{weighted}
@@ -19,7 +19,7 @@ use Rattle.esr_tables.specs.Rows.{distance_of, kind_of, tally_of}
 
 -- the kind of the transaction that an entry begins, if that is accepted
 abbrev pub kind_in : Entry → Option RowKind
-kind_in e = if is_refusal e.reply then None else option_map kind_of (beginning_of e.event)
+kind_in e = if is_refusal e.reply then None else option_map kind_of (begin_record_of e.event)
 
 -- a tally with one more reply
 abbrev pub with_answer : Tally → Reply → Tally
@@ -48,7 +48,7 @@ end_at es end = if is_commit_at es end then Committed else (if is_some end then 
 
 -- the columns of all transactions
 pub record AreColumns (h : Schedule) (c : Columns) : Type 0 where
-  pub kinds : c.kinds.items ≡ map kind_of (beginnings (accepted_in h))
+  pub kinds : c.kinds.items ≡ map kind_of (begin_records (accepted_in h))
   pub many : begun_count h.entries < length c.tallies.items
   pub tallies : AreTallies h.entries c.tallies.items
   pub exports : c.exports.items ≡ map (export_in (charges_in weighted h)) (range_with_len 0 (begun_count h.entries + 1))

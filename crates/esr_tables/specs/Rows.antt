@@ -4,8 +4,8 @@ use Rattle.esr_history.specs.declared.event.Reply.{Reply}
 use Rattle.esr_history.specs.declared.event.Entry.{Entry}
 use Rattle.esr_history.specs.declared.event.Reply.TheVariants.{Value, Wrote, Refused}
 use Rattle.esr_history.specs.declared.event.Refusal.TheVariants.{BlockedByLock, BlockedByImport, BlockedByExport}
-use Rattle.esr_history.specs.Events.{Beginning, beginning, txn_numbers, limit_of, is_query, is_committed}
-use Rattle.esr_history.specs.Machine.{Distance, Schedule, accepted_in, charges_in, import_in, export_in}
+use Rattle.esr_history.specs.Events.{BeginRecord, begin_record, txn_numbers, limit_of, is_query, is_committed}
+use Rattle.esr_history.specs.Machine.{DistanceFunction, Schedule, accepted_in, charges_in, import_in, export_in}
 use Rattle.esr_history.specs.Queries.{is_committed_query}
 use Rattle.esr_history.specs.BackLinks.{txn_in, is_key, last_place, accepted_end}
 use Rattle.esr_order.specs.Least.{least_cost}
@@ -18,11 +18,11 @@ use Rattle.esr_tables.specs.declared.tallies.Tally.{Tally}
 
 -- ---- its kind
 
-abbrev pub kind_of : Beginning → RowKind
+abbrev pub kind_of : BeginRecord → RowKind
 kind_of b = if b.query then (if b.strict then Strict else Query) else Update
 
 abbrev pub kind_at : Schedule → ℕ → RowKind
-kind_at h t = unwrap_or (option_map kind_of (beginning (accepted_in h) t)) Update
+kind_at h t = unwrap_or (option_map kind_of (begin_record (accepted_in h) t)) Update
 
 -- ---- the counts of its lines, by their replies
 
@@ -72,16 +72,16 @@ end_of h t =
 -- ---- amounts
 
 -- the import of a query, or the export of an update
-abbrev pub charged_of : Distance → Schedule → ℕ → ℕ
+abbrev pub charged_of : DistanceFunction → Schedule → ℕ → ℕ
 charged_of d h t = if is_query (accepted_in h) t then import_in (charges_in d h) t else export_in (charges_in d h) t
 
 -- the distance of a committed query from the nearest serial placement
-abbrev pub distance_of : Distance → Schedule → ℕ → Option ℕ
+abbrev pub distance_of : DistanceFunction → Schedule → ℕ → Option ℕ
 distance_of d h t = if is_committed_query h t then Some (least_cost d h t) else None
 
 -- ---- the whole
 
-abbrev pub row_of : Distance → Schedule → ℕ → Row
+abbrev pub row_of : DistanceFunction → Schedule → ℕ → Row
 row_of d h t = record {
   number = record { 0 = t };
   kind = kind_at h t;
@@ -94,5 +94,5 @@ row_of d h t = record {
 }
 
 -- a row for each transaction, in the order of their numbers
-abbrev pub rows_of : Distance → Schedule → List Row
+abbrev pub rows_of : DistanceFunction → Schedule → List Row
 rows_of d h = map (row_of d h) (txn_numbers (accepted_in h))

@@ -3,7 +3,7 @@
 
 ghost use Rattle.std.specs.Prelude.{◌≡◌, ◌++◌, ◌∷◌, [], map, IfOk, OnOk};
 ghost use Rattle.std.specs.List.{filter_map};
-ghost use Rattle.esr_history.specs.Events.{beginnings};
+ghost use Rattle.esr_history.specs.Events.{begin_records};
 ghost use Rattle.esr_history.specs.Machine.{accepted_in};
 ghost use Rattle.esr_tables.specs.Rows.{kind_of};
 ghost use Rattle.esr_tables.specs.Entries.{kind_in};
@@ -54,7 +54,7 @@ fn push_kind(kinds: &mut Vec<RowKind>, entry: Entry) -> Result<(), AllocError>
 
 /// Returns the kinds of the transactions, starting with transaction 1.
 pub fn kinds(alloc: Global, history: &History<Weighted>) -> Result<Vec<RowKind>, AllocError>
-    ensures { IfOk result (λ v. v.items ≡ map kind_of (beginnings (accepted_in history.now.schedule))) }
+    ensures { IfOk result (λ v. v.items ≡ map kind_of (begin_records (accepted_in history.now.schedule))) }
 {
     let log = history.log();
     let mut kinds = Vec::new(alloc);

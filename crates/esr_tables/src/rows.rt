@@ -6,7 +6,7 @@ ghost use Rattle.esr_order.specs.Scans.{commits_in};
 ghost use Rattle.std.specs.List.{range_with_len};
 ghost use Rattle.esr_history.specs.declared.event.Entry.{Entry};
 ghost use Rattle.esr_history.specs.BackLinks.{begun_count};
-ghost use Rattle.esr_history.specs.Events.{beginnings, is_query, limit_of};
+ghost use Rattle.esr_history.specs.Events.{begin_records, is_query, limit_of};
 ghost use Rattle.esr_history.specs.Machine.{Schedule, charges_in, accepted_in, export_in};
 ghost use Rattle.esr_items.specs.Weights.{weighted};
 ghost use Rattle.esr_tables.specs.Rows.{charged_of, end_of, kind_at, kind_of, row_of, tally_of};
@@ -106,7 +106,7 @@ fn end_of(history: &History<Weighted>, t: TxnId) -> RowEnd
 /// Returns the kind of a transaction.
 fn kind_at(kinds: &[RowKind], t: TxnId) -> RowKind
     requires { 1 ≤ t.0 }
-    ensures { (h : Schedule) → kinds.now ≡ map kind_of (beginnings (accepted_in h)) → result ≡ kind_at h t.0 }
+    ensures { (h : Schedule) → kinds.now ≡ map kind_of (begin_records (accepted_in h)) → result ≡ kind_at h t.0 }
 {
     match kinds.get(t.0 as usize - 1) {
         Some(kind) => *kind,

@@ -12,9 +12,9 @@ use Rattle.esr_base.specs.declared.numbers.TxnId.{TxnId}
 use Rattle.esr_history.specs.declared.event.Event.TheVariants.{Read, Write}
 use Rattle.esr_history.specs.Events.{is_query, is_update, current_value, committed_value}
 use Rattle.esr_history.specs.ItemLocks.{item_locks}
-use Rattle.esr_history.specs.Machine.{Distance, Schedule, Charge, accepted_in, distance_in, due_in, writer, charge_of_read, total}
+use Rattle.esr_history.specs.Machine.{DistanceFunction, Schedule, Charge, accepted_in, value_distance, due_in, writer, charge_of_read, total}
 use Rattle.esr_locks.specs.declared.lists.QueryReads.{QueryReads}
-use Rattle.esr_locks.specs.Rows.{query_and_count}
+use Rattle.esr_locks.specs.LockEntries.{query_and_count}
 use Rattle.esr_core.specs.States.{charges_to}
 use Rattle.esr_core.proofs.Charges.{charges_by, due-write}
 use Rattle.esr_why.specs.declared.shortfall.Shortfall.{Shortfall}
@@ -45,17 +45,17 @@ pub some_elements : {X Y : Type 0} (f : X → Y) (xs : List X) → (length xs ==
 some_elements f [] is none = absurd (false≢true (sym is ∙ eq-eqb 0 0 refl))
 some_elements f (x ∷ xs) is none = cc
 
-module _ (d : Distance) (h : Schedule) where
+module _ (d : DistanceFunction) (h : Schedule) where
   single : (q u due : ℕ) → shortfalls_of d h ((record { query = q; update = u; amount = due }) ∷ []) ≡ listed (import_lack d h q due) ++ listed (export_lack d h u due)
   single q u due =
       let c : Charge = record { query = q; update = u; amount = due } in
       let same : total (c ∷ []) ≡ due = sum_by-cons (λ (g : Charge). g.amount) c [] ∙ omega arith in
       ap₂ (λ (a b : List Shortfall). a ++ b) (one (import_lack d h q due)) (ap (λ n. listed (export_lack d h u n)) same)
 
-  due_of_read : (q : TxnId) (x : ItemId) (w : Option ℕ) → is_query (accepted_in h) q.0 ≡ true → writer (accepted_in h) x.0 ≡ w → due_in d h (Read q x) ≡ charge_of_read (distance_in d h) h.opening (accepted_in h) q.0 x.0 w
+  due_of_read : (q : TxnId) (x : ItemId) (w : Option ℕ) → is_query (accepted_in h) q.0 ≡ true → writer (accepted_in h) x.0 ≡ w → due_in d h (Read q x) ≡ charge_of_read (value_distance d h) h.opening (accepted_in h) q.0 x.0 w
   due_of_read q x w query found =
-      ap (λ b. if b then charge_of_read (distance_in d h) h.opening (accepted_in h) q.0 x.0 (writer (accepted_in h) x.0) else []) query
-      ∙ ap (charge_of_read (distance_in d h) h.opening (accepted_in h) q.0 x.0) found
+      ap (λ b. if b then charge_of_read (value_distance d h) h.opening (accepted_in h) q.0 x.0 (writer (accepted_in h) x.0) else []) query
+      ∙ ap (charge_of_read (value_distance d h) h.opening (accepted_in h) q.0 x.0) found
 
   pub read_some : (q : TxnId) (x : ItemId) (u : ℕ) → is_query (accepted_in h) q.0 ≡ true → writer (accepted_in h) x.0 ≡ Some u
       → listed (import_lack d h q.0 (d h.weights x.0 (current_value h.opening (accepted_in h) x.0) (committed_value h.opening (accepted_in h) x.0)))
@@ -84,7 +84,7 @@ module _ (d : Distance) (h : Schedule) where
   each x v = d h.weights x.0 v (current_value h.opening (accepted_in h) x.0)
 
   due_of_write : (u : TxnId) (x : ItemId) (v : ℤ) → is_update (accepted_in h) u.0 ≡ true → due_in d h (Write u x v) ≡ charges_by u.0 (charges_to (each x v) (item_locks (accepted_in h) x.0).queries)
-  due_of_write u x v update = due-write (distance_in d h) h.opening (accepted_in h) u x v update
+  due_of_write u x v update = due-write (value_distance d h) h.opening (accepted_in h) u x v update
 
   pub write_none : (u : TxnId) (x : ItemId) (v : ℤ) → is_update (accepted_in h) u.0 ≡ true → (item_locks (accepted_in h) x.0).queries ≡ [] → [] ≡ shortfalls d h (Write u x v)
   write_none u x v update none = sym (ap (shortfalls_of d h) (due_of_write u x v update ∙ ap (λ (rs : List (ℕ × ℕ)). charges_by u.0 (charges_to (each x v) rs)) none))

@@ -2,7 +2,7 @@
 use Rattle.std.proofs.Common.{◌≡◌, ℕ, zero, suc, ◌+◌, List, [], ◌∷◌, ◌++◌, take, drop, refl, sym, ◌∙◌, ap, subst, arith, Some, slice_get}
 use Rattle.std.proofs.lemmas.Option.{same_Some}
 use Rattle.esr_history.specs.declared.event.Entry.{Entry}
-use Rattle.esr_history.specs.Machine.{Distance, Schedule, IsLegal, IsLegalAfter, empty_schedule, extended, reply_to}
+use Rattle.esr_history.specs.Machine.{DistanceFunction, Schedule, IsLegal, IsLegalAfter, empty_schedule, extended, reply_to}
 use Rattle.esr_history.proofs.Onward.{legal_parts}
 use Rattle.esr_why.specs.Replays.{until}
 
@@ -18,7 +18,7 @@ one_more (x ∷ es) zero e is = ap (λ y. y ∷ []) (same_Some x e is)
 one_more (x ∷ es) (suc i) e is = ap (λ l. x ∷ l) (one_more es i e is)
 
 -- the reply of each entry is the machine's, after the entries before it
-pub reply_at : (d : Distance) (h : Schedule) (i : ℕ) (e : Entry) → IsLegal d h → slice_get h.entries i ≡ Some e → e.reply ≡ reply_to d (until i h) e.event
+pub reply_at : (d : DistanceFunction) (h : Schedule) (i : ℕ) (e : Entry) → IsLegal d h → slice_get h.entries i ≡ Some e → e.reply ≡ reply_to d (until i h) e.event
 reply_at d h i e legal is =
     (legal_parts d (empty_schedule h) (take i h.entries) (e ∷ drop (suc i) h.entries) (subst (IsLegalAfter d (empty_schedule h)) (parts_at h.entries i e is) legal)).1.0
 

@@ -3,7 +3,7 @@ use Rattle.std.specs.Prelude.{ℕ, ◌+◌, List, [], ◌∷◌, ◌++◌, Optio
 use Rattle.std.specs.List.{filter_map}
 use Rattle.esr_history.specs.declared.event.Event.{Event}
 use Rattle.esr_history.specs.Events.{limit_of}
-use Rattle.esr_history.specs.Machine.{Distance, Schedule, Charge, accepted_in, due_in, charges_in, import_in, export_in, total}
+use Rattle.esr_history.specs.Machine.{DistanceFunction, Schedule, Charge, accepted_in, due_in, charges_in, import_in, export_in, total}
 use Rattle.esr_why.specs.declared.shortfall.Side.{Side}
 use Rattle.esr_why.specs.declared.shortfall.Side.TheVariants.{Import, Export}
 use Rattle.esr_why.specs.declared.shortfall.Shortfall.{Shortfall}
@@ -24,10 +24,10 @@ lack side t due used limit =
     else None
 
 -- the shortfall of a query to import this amount, and of an update to export it
-abbrev pub import_lack : Distance → Schedule → ℕ → ℕ → Option Shortfall
+abbrev pub import_lack : DistanceFunction → Schedule → ℕ → ℕ → Option Shortfall
 import_lack d h q due = lack Import q due (import_in (charges_in d h) q) (limit_of (accepted_in h) q)
 
-abbrev pub export_lack : Distance → Schedule → ℕ → ℕ → Option Shortfall
+abbrev pub export_lack : DistanceFunction → Schedule → ℕ → ℕ → Option Shortfall
 export_lack d h u due = lack Export u due (export_in (charges_in d h) u) (limit_of (accepted_in h) u)
 
 abbrev pub listed : Option Shortfall → List Shortfall
@@ -35,14 +35,14 @@ listed None = []
 listed (Some s) = s ∷ []
 
 -- the shortfall of the update for all these charges together
-abbrev pub export_shortfall : Distance → Schedule → List Charge → List Shortfall
+abbrev pub export_shortfall : DistanceFunction → Schedule → List Charge → List Shortfall
 export_shortfall d h [] = []
 export_shortfall d h (c ∷ cs) = listed (export_lack d h c.update (total (c ∷ cs)))
 
 -- the shortfalls for charges: of the queries' limits, and then of the update's
-abbrev pub shortfalls_of : Distance → Schedule → List Charge → List Shortfall
+abbrev pub shortfalls_of : DistanceFunction → Schedule → List Charge → List Shortfall
 shortfalls_of d h cs = filter_map (λ c. import_lack d h c.query c.amount) cs ++ export_shortfall d h cs
 
 -- the shortfalls of the event after a history for the charges due
-abbrev pub shortfalls : Distance → Schedule → Event → List Shortfall
+abbrev pub shortfalls : DistanceFunction → Schedule → Event → List Shortfall
 shortfalls d h e = shortfalls_of d h (due_in d h e)

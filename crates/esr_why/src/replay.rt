@@ -7,7 +7,7 @@ ghost use Rattle.esr_history.specs.Events.{current_value, is_query, is_update};
 ghost use Rattle.esr_history.specs.Machine.{empty_schedule, accepted_in, extended, reply_to, writer, Schedule};
 ghost use Rattle.esr_base.specs.declared.limits.TheConstants.{MAX_READS};
 ghost use Rattle.esr_history.specs.ItemLocks.{item_locks};
-ghost use Rattle.esr_locks.specs.Rows.{query_and_count};
+ghost use Rattle.esr_locks.specs.LockEntries.{query_and_count};
 ghost use Rattle.esr_why.specs.Locks.{lock_by};
 
 use esr_core::Machine;

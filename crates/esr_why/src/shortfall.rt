@@ -10,7 +10,7 @@ ghost use Rattle.esr_items.specs.Weights.{weighted};
 ghost use Rattle.esr_base.specs.declared.limits.TheConstants.{MAX_READS};
 ghost use Rattle.esr_history.specs.Events.{is_query, is_update, limit_of};
 ghost use Rattle.esr_history.specs.Machine.{accepted_in};
-ghost use Rattle.esr_locks.specs.Rows.{query_and_count};
+ghost use Rattle.esr_locks.specs.LockEntries.{query_and_count};
 ghost use Rattle.esr_why.specs.Notes.{IsInRange};
 ghost use Rattle.esr_why.specs.Shortfalls.{lack, import_lack, export_lack, listed, shortfalls};
 

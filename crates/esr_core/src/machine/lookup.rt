@@ -6,7 +6,7 @@ ghost use Rattle.esr_items.specs.Values.{IsValue};
 ghost use Rattle.esr_history.specs.Events.{current_value};
 ghost use Rattle.esr_history.specs.ItemLocks.{item_locks};
 ghost use Rattle.esr_history.specs.Machine.{charges_in, accepted_in, export_in, writer};
-ghost use Rattle.esr_locks.specs.Rows.{query_and_count};
+ghost use Rattle.esr_locks.specs.LockEntries.{query_and_count};
 
 use super::Machine;
 use esr_history::TxnId;

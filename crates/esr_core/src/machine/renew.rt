@@ -11,7 +11,7 @@ ghost use Rattle.esr_items.specs.Values.{IsValue};
 ghost use Rattle.esr_history.specs.declared.event.Entry.{Entry};
 ghost use Rattle.esr_history.specs.Events.{committed_value};
 ghost use Rattle.esr_history.specs.Legal.{along};
-ghost use Rattle.esr_history.specs.Machine.{Distance, Schedule, IsLegal, accepted_in};
+ghost use Rattle.esr_history.specs.Machine.{DistanceFunction, Schedule, IsLegal, accepted_in};
 ghost use Rattle.esr_core.specs.States.{IsStateOf};
 ghost use Rattle.esr_core.specs.Renewed.{committed_values, has_active, renewed, AreSerializableAsOne};
 
@@ -100,7 +100,7 @@ impl<M: Metric + Drop> Machine<M> {
     /// Returns the state of an empty history over the committed values, and these values. The state has capacity for as
     /// many transactions as before, so that its lists need not grow again.
     fn fresh(&self, alloc: Global) -> Result<(State, Vec<i64>), NoMemory>
-        ensures state { IfOk result (λ p. (d : Distance) (h : Schedule) → h.entries ≡ [] → h.opening ≡ p.1.items
+        ensures state { IfOk result (λ p. (d : DistanceFunction) (h : Schedule) → h.entries ≡ [] → h.opening ≡ p.1.items
             → IsStateOf d h p.0) }
         ensures opening { IfOk result (λ p. p.1.items ≡ committed_values self.now) }
         ensures range { IfOk result (λ p. All IsValue p.1.items) }

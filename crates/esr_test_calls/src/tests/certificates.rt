@@ -11,9 +11,9 @@ use std::process::Abort;
 /// An item with its writers, and what each version costs.
 pub(super) type Item<'a> = (u32, &'a [u32], &'a [u64]);
 
-/// The parts of a problem.
+/// The parts of a problem: updates, conflicting pairs, items, and the updates that every placement must have.
 #[derive(Clone, Copy)]
-struct OneItemEvent<'a> {
+struct ProblemParts<'a> {
     updates: &'a [u32],
     before: &'a [(u32, u32)],
     items: &'a [Item<'a>],
@@ -21,7 +21,7 @@ struct OneItemEvent<'a> {
 }
 
 /// Two updates in a row, and two items: the second wrote both, the first one of them.
-const REPORT: OneItemEvent<'static> = OneItemEvent {
+const REPORT: ProblemParts<'static> = ProblemParts {
     updates: &[2, 3],
     before: &[(0, 1)],
     items: &[(0, &[0, 1], &[0, 10, 1]), (1, &[1], &[8, 0])],
@@ -34,24 +34,24 @@ const TOO_DEAR: &[Item<'static>] = &[
 ];
 
 /// Two updates in a row, each of a separate item.
-const THIRD_ITEM: OneItemEvent<'static> = OneItemEvent {
+const THIRD_ITEM: ProblemParts<'static> = ProblemParts {
     items: &[(0, &[0], &[0, 6]), (1, &[1], &[2, 0])],
     ..REPORT
 };
 
-const NOTHING: OneItemEvent<'static> = OneItemEvent {
+const NOTHING: ProblemParts<'static> = ProblemParts {
     updates: &[],
     before: &[],
     items: &[],
     must: &[],
 };
 
-const ONE_ITEM: OneItemEvent<'static> = OneItemEvent {
+const ONE_ITEM: ProblemParts<'static> = ProblemParts {
     items: &[(0, &[], &[4])],
     ..NOTHING
 };
 
-const STRICT: OneItemEvent<'static> = OneItemEvent {
+const STRICT: ProblemParts<'static> = ProblemParts {
     updates: &[1],
     before: &[],
     items: &[(0, &[0], &[0, 5])],
@@ -158,15 +158,15 @@ const OF_SEEN: [Case; 5] = [
     (Set(&[]), Some(Fault::SetNotClosed)),
 ];
 
-fn faulty_problems() -> &'static [(OneItemEvent<'static>, BundleFault)] {
+fn faulty_problems() -> &'static [(ProblemParts<'static>, BundleFault)] {
     &REFUSED
 }
 
 /// Parts that do not form a problem, and the rule that each breaks.
-static REFUSED: [(OneItemEvent<'static>, BundleFault); 5] = [
+static REFUSED: [(ProblemParts<'static>, BundleFault); 5] = [
     // Neighbours of a chain do not form a pair.
     (
-        OneItemEvent {
+        ProblemParts {
             before: &[],
             ..REPORT
         },
@@ -174,7 +174,7 @@ static REFUSED: [(OneItemEvent<'static>, BundleFault); 5] = [
     ),
     // 0 is not a transaction.
     (
-        OneItemEvent {
+        ProblemParts {
             updates: &[2, 0],
             ..REPORT
         },
@@ -182,7 +182,7 @@ static REFUSED: [(OneItemEvent<'static>, BundleFault); 5] = [
     ),
     // A cost is above what reads can cost.
     (
-        OneItemEvent {
+        ProblemParts {
             items: TOO_DEAR,
             ..REPORT
         },
@@ -190,7 +190,7 @@ static REFUSED: [(OneItemEvent<'static>, BundleFault); 5] = [
     ),
     // An update occurs twice, which is a fault of shape and reported before the cost.
     (
-        OneItemEvent {
+        ProblemParts {
             updates: &[2, 2],
             items: TOO_DEAR,
             ..REPORT
@@ -199,7 +199,7 @@ static REFUSED: [(OneItemEvent<'static>, BundleFault); 5] = [
     ),
     // A required update is not one of the updates.
     (
-        OneItemEvent {
+        ProblemParts {
             items: &[],
             must: &[1],
             ..STRICT
@@ -234,11 +234,11 @@ pub(super) fn chains(alloc: Global, items: &[Item]) -> Result<Vec<Chain>, AllocE
     Ok(chains)
 }
 
-fn problem(alloc: Global, asked: OneItemEvent) -> Result<Problem, BundleFault> {
-    let chains = chains(alloc, asked.items)?;
-    let updates = numbers(alloc, asked.updates)?;
-    let before = asked.before.to_vec(alloc)?;
-    let must = asked.must.to_vec(alloc)?;
+fn problem(alloc: Global, parts: ProblemParts) -> Result<Problem, BundleFault> {
+    let chains = chains(alloc, parts.items)?;
+    let updates = numbers(alloc, parts.updates)?;
+    let before = parts.before.to_vec(alloc)?;
+    let must = parts.must.to_vec(alloc)?;
     Problem::new(alloc, updates, before, chains, must)
 }
 
@@ -289,8 +289,8 @@ fn change_certificate(
 }
 
 /// Compares the first fault of a certificate with each of these changes.
-fn check_all(rt: &impl Abort, alloc: Global, asked: OneItemEvent, parts: Parts, cases: &[Case]) {
-    let Ok(problem) = problem(alloc, asked) else {
+fn check_all(rt: &impl Abort, alloc: Global, of: ProblemParts, parts: Parts, cases: &[Case]) {
+    let Ok(problem) = problem(alloc, of) else {
         panic!(rt; "a problem")
     };
     for (change, fault) in cases {
@@ -348,8 +348,8 @@ fn a_problem_keeps_its_parts(rt: HostRuntime) {
 /// The contract permits out of memory in place of each fault; and a definition determines that shape precedes range.
 #[test]
 fn a_problem_keeps_its_rules(rt: HostRuntime) {
-    for (i, (asked, fault)) in faulty_problems().iter().enumerate() {
-        assert!(rt; problem(rt.alloc(), *asked).err() == Some(*fault), "at {i}");
+    for (i, (parts, fault)) in faulty_problems().iter().enumerate() {
+        assert!(rt; problem(rt.alloc(), *parts).err() == Some(*fault), "at {i}");
     }
     assert!(rt; BundleFault::Range.number() == 3);
 }

@@ -2,7 +2,7 @@
 //! No clause states that the machine ever replies, since one that is always out of memory keeps its contract, nor that
 //! the definitions are those of the documentation.
 
-use OneItemEvent::{Commit, Query, Read, Update, Write};
+use OneItemEvent::{BeginQuery, BeginUpdate, Commit, Read, Write};
 use esr_core::{Machine, RenewError, StepError, Totals};
 use esr_history::Reply::{Aborted, Begun, Committed, Refused, Value, Wrote};
 use esr_history::{Event, NoMemory, Refusal, Reply, TxnId};
@@ -13,19 +13,20 @@ use std::process::Abort;
 /// An event on the machine's only item. The argument of a begin is its limit, that of every other event its transaction.
 #[derive(Clone, Copy)]
 enum OneItemEvent {
-    Update(u64),
-    Query(u64),
+    BeginUpdate(u64),
+    BeginQuery(u64),
     Read(u32),
     Write(u32, i64),
     Commit(u32),
     Abort(u32),
 }
 
-fn event(asked: OneItemEvent) -> Event {
+/// Returns the event of the machine.
+fn event_of(asked: OneItemEvent) -> Event {
     let item = ItemId(0);
     match asked {
-        Update(limit) => Event::BeginUpdate { limit },
-        Query(limit) => Event::BeginQuery {
+        BeginUpdate(limit) => Event::BeginUpdate { limit },
+        BeginQuery(limit) => Event::BeginQuery {
             limit,
             strict: false,
         },
@@ -64,7 +65,7 @@ fn open_with_retry(rt: &impl Abort, alloc: Global, value: i64) -> Machine<Plain>
 
 /// Executes an event and checks its reply. If an allocation fails, the machine must be unchanged, and a retry must get
 /// the same reply.
-fn step(rt: &impl Abort, machine: &mut Machine<Plain>, event: Event, reply: Reply) {
+fn check_reply(rt: &impl Abort, machine: &mut Machine<Plain>, event: Event, reply: Reply) {
     let totals = machine.totals();
     let entries = machine.log().len();
     let answer = match machine.step(event) {
@@ -81,9 +82,9 @@ fn step(rt: &impl Abort, machine: &mut Machine<Plain>, event: Event, reply: Repl
 }
 
 /// Executes the events in order and checks each reply.
-fn run_events(rt: &impl Abort, machine: &mut Machine<Plain>, rows: &[(OneItemEvent, Reply)]) {
+fn check_replies(rt: &impl Abort, machine: &mut Machine<Plain>, rows: &[(OneItemEvent, Reply)]) {
     for (asked, reply) in rows {
-        step(rt, machine, event(*asked), *reply);
+        check_reply(rt, machine, event_of(*asked), *reply);
     }
 }
 
@@ -97,7 +98,7 @@ fn check_run(
     import: u128,
 ) {
     let mut machine = open_with_retry(rt, alloc, value);
-    run_events(rt, &mut machine, rows);
+    check_replies(rt, &mut machine, rows);
     let totals = Totals {
         import,
         export: import,
@@ -107,8 +108,8 @@ fn check_run(
 }
 
 const REPORT_AND_WRITER: [(OneItemEvent, Reply); 6] = [
-    (Update(50), Begun(TxnId(1))),
-    (Query(10), Begun(TxnId(2))),
+    (BeginUpdate(50), Begun(TxnId(1))),
+    (BeginQuery(10), Begun(TxnId(2))),
     (Write(1, 107), Wrote),
     (Read(2), Value(107)),
     (Commit(1), Committed),
@@ -121,11 +122,11 @@ fn report_concurrent_with_writer(rt: HostRuntime) {
     check_run(&rt, rt.alloc(), 100, &REPORT_AND_WRITER, 7);
 }
 
-const OVER_QUERIES: [(OneItemEvent, Reply); 9] = [
-    (Query(10), Begun(TxnId(1))),
-    (Query(5), Begun(TxnId(2))),
-    (Update(14), Begun(TxnId(3))),
-    (Update(15), Begun(TxnId(4))),
+const ONE_WRITE_TWO_QUERIES: [(OneItemEvent, Reply); 9] = [
+    (BeginQuery(10), Begun(TxnId(1))),
+    (BeginQuery(5), Begun(TxnId(2))),
+    (BeginUpdate(14), Begun(TxnId(3))),
+    (BeginUpdate(15), Begun(TxnId(4))),
     (Read(1), Value(0)),
     (Read(1), Value(0)),
     (Read(2), Value(0)),
@@ -137,12 +138,12 @@ const OVER_QUERIES: [(OneItemEvent, Reply); 9] = [
 /// suffices, and 14 does not.
 #[test]
 fn export_limit_covers_all_queries(rt: HostRuntime) {
-    check_run(&rt, rt.alloc(), 0, &OVER_QUERIES, 15);
+    check_run(&rt, rt.alloc(), 0, &ONE_WRITE_TWO_QUERIES, 15);
 }
 
 const UPGRADE: [(OneItemEvent, Reply); 8] = [
-    (Update(0), Begun(TxnId(1))),
-    (Update(0), Begun(TxnId(2))),
+    (BeginUpdate(0), Begun(TxnId(1))),
+    (BeginUpdate(0), Begun(TxnId(2))),
     (Read(1), Value(0)),
     (Read(2), Value(0)),
     (Write(1, 1), Refused(Refusal::BlockedByLock(TxnId(2)))),
@@ -154,15 +155,15 @@ const UPGRADE: [(OneItemEvent, Reply); 8] = [
 /// A definition that refused every upgrade of a lock would also be serializable. Here the upgrade succeeds once the
 /// other reader has ended.
 #[test]
-fn upgrade_waits_for_a_reader(rt: HostRuntime) {
+fn upgrade_is_blocked_by_a_reader(rt: HostRuntime) {
     check_run(&rt, rt.alloc(), 0, &UPGRADE, 0);
 }
 
 const ABORTED: [(OneItemEvent, Reply); 5] = [
-    (Update(0), Begun(TxnId(1))),
+    (BeginUpdate(0), Begun(TxnId(1))),
     (Write(1, 5), Wrote),
     (OneItemEvent::Abort(1), Aborted),
-    (Update(0), Begun(TxnId(2))),
+    (BeginUpdate(0), Begun(TxnId(2))),
     (Read(2), Value(1)),
 ];
 
@@ -170,7 +171,7 @@ const ABORTED: [(OneItemEvent, Reply); 5] = [
 #[test]
 fn abort_rolls_back(rt: HostRuntime) {
     let mut machine = open_with_retry(&rt, rt.alloc(), 1);
-    run_events(&rt, &mut machine, &ABORTED);
+    check_replies(&rt, &mut machine, &ABORTED);
     assert!(rt; machine.history().items() == 1);
     assert!(rt; machine.close().log().len() == 5);
 }
@@ -188,15 +189,19 @@ fn renew_with_retry(m: &mut Machine<Plain>, alloc: Global) -> Result<(), RenewEr
 fn renewal_starts_from_committed_values(rt: HostRuntime) {
     let mut machine = open_with_retry(&rt, rt.alloc(), 1);
     let m = &mut machine;
-    run_events(
+    check_replies(
         &rt,
         m,
-        &[(Update(0), Begun(TxnId(1))), (Write(1, 5), Wrote)],
+        &[(BeginUpdate(0), Begun(TxnId(1))), (Write(1, 5), Wrote)],
     );
     assert!(rt; m.has_active());
     assert!(rt; renew_with_retry(m, rt.alloc()) == Err(RenewError::TransactionActive));
-    run_events(&rt, m, &[(Commit(1), Committed)]);
+    check_replies(&rt, m, &[(Commit(1), Committed)]);
     assert!(rt; renew_with_retry(m, rt.alloc()) == Ok(()));
     assert!(rt; m.log().len() == 0);
-    run_events(&rt, m, &[(Update(0), Begun(TxnId(1))), (Read(1), Value(5))]);
+    check_replies(
+        &rt,
+        m,
+        &[(BeginUpdate(0), Begun(TxnId(1))), (Read(1), Value(5))],
+    );
 }

@@ -1,6 +1,6 @@
 use Rattle.std.proofs.Common.{codes}
 use Rattle.clap.specs.Words.{new_app}
-use Rattle.esr_cli.specs.Program as spec
+use Rattle.esr_cli.specs.ArgumentRules as spec
 use Rattle.esr_cli.proofs.commands.drive.Goals as goal
 
 pub returns-clause-app : goal.returns-clause-app

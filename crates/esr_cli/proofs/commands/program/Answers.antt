@@ -1,4 +1,4 @@
-use Rattle.esr_cli.specs.Program as spec
+use Rattle.esr_cli.specs.ArgumentRules as spec
 use Rattle.esr_cli.proofs.commands.program.Goals as goal
 
 pub returns : goal.returns

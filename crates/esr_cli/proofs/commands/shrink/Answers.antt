@@ -1,5 +1,5 @@
 use Rattle.std.proofs.Common.{codes}
-use Rattle.esr_cli.specs.Program as spec
+use Rattle.esr_cli.specs.ArgumentRules as spec
 use Rattle.esr_cli.proofs.commands.shrink.Goals as goal
 
 pub returns-clause-app : goal.returns-clause-app

@@ -1,5 +1,5 @@
 use Rattle.clap.specs.Words.{new_app, with_rule}
-use Rattle.esr_cli.specs.Program as spec
+use Rattle.esr_cli.specs.ArgumentRules as spec
 use Rattle.esr_cli.proofs.commands.with_name.Goals as goal
 
 pub returns-clause-app : goal.returns-clause-app

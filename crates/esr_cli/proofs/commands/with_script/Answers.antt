@@ -1,5 +1,5 @@
 use Rattle.clap.specs.Words.{with_rule}
-use Rattle.esr_cli.specs.Program as spec
+use Rattle.esr_cli.specs.ArgumentRules as spec
 use Rattle.esr_cli.proofs.commands.with_script.Goals as goal
 
 pub returns-clause-app : goal.returns-clause-app

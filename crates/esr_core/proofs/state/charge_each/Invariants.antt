@@ -1,5 +1,5 @@
 use Rattle.std.proofs.Common.{◌≡◌, take, map}
-use Rattle.esr_locks.specs.Rows.{query_and_count}
+use Rattle.esr_locks.specs.LockEntries.{query_and_count}
 use Rattle.esr_core.specs.States.{charges_to}
 use Rattle.esr_core.proofs.state.charge_each.Given as goal
 

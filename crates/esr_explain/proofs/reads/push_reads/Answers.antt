@@ -2,7 +2,7 @@ use Rattle.std.proofs.Common.{◌≡◌, ◌∙◌, ◌++◌, List, OnOk, ℕ, �
 use Rattle.esr_items.specs.Values.{value_at, IsValue}
 use Rattle.esr_items.specs.Weights.{weighted}
 use Rattle.esr_base.specs.declared.numbers.TxnId.{TxnId}
-use Rattle.esr_history.specs.Machine.{distance_in}
+use Rattle.esr_history.specs.Machine.{value_distance}
 use Rattle.esr_history.specs.Serial.{state}
 use Rattle.esr_order.specs.Scans.{accesses_in}
 use Rattle.esr_explain.specs.Accesses.{access_line}
@@ -20,7 +20,7 @@ pub returns : goal.returns
 returns c =
     let h = c.args.history.now.schedule in let q = c.args.q.0 in let items = c.args.items.now in
     let us : List ℕ = map (λ (t : TxnId). t.0) c.args.before.now in
-    let D : ℕ → ℤ → ℤ → ℕ = distance_in weighted h in
+    let D : ℕ → ℤ → ℤ → ℕ = value_distance weighted h in
     let vs : List ℤ = c.in_ok-values.values.items in
     let lines : flat_map (access_line (weighted c.metric.result.now) items (value_at c.deref-2.result.now)) c.deref.result.now ≡ read_lines weighted h items q us =
     ap (λ (w : List ℕ). flat_map (access_line (weighted w) items (value_at c.deref-2.result.now)) c.deref.result.now) c.metric.ensures

@@ -13,15 +13,15 @@ loop-i-preserved c =
     let added : c.add_arc.result ≡ true = search rules in
     let in_arcs : i < length arcs = omega (arith, c.loop-i-test.true, c.requires.flow) in
     let ends = c.args.graph.now.kept.is_network.ends i in_arcs in
-    let capacity : within (get_or flow i 0) (arc_at arcs i).capacity ≡ true = ap (λ (a : Arc). within (get_or flow i 0) a.capacity) (sym is) ∙ c.add_arc.ensures.within added in
-    let to : c.add_arc.new.into ≡ set c.loop-i.into (arc_at arcs i).to (get_or c.loop-i.into (arc_at arcs i).to 0 + amount_at flow i) =
-    subst (λ (a : Arc). c.add_arc.new.into ≡ set c.loop-i.into a.to (get_or c.loop-i.into a.to 0 + amount_at flow i)) is (c.add_arc.ensures.into added) in
-    let out : c.add_arc.new.from ≡ set c.loop-i.from (arc_at arcs i).from (get_or c.loop-i.from (arc_at arcs i).from 0 + amount_at flow i) =
-    subst (λ (a : Arc). c.add_arc.new.from ≡ set c.loop-i.from a.from (get_or c.loop-i.from a.from 0 + amount_at flow i)) is (c.add_arc.ensures.from added) in record {
+    let capacity : within (get_or flow i 0) (arc_at arcs i).capacity ≡ true = ap (λ (a : Arc). within (get_or flow i 0) a.capacity) (sym is) ∙ c.add_arc.ensures.capacity added in
+    let to : c.add_arc.new.inflows ≡ set c.loop-i.inflows (arc_at arcs i).to (get_or c.loop-i.inflows (arc_at arcs i).to 0 + amount_at flow i) =
+    subst (λ (a : Arc). c.add_arc.new.inflows ≡ set c.loop-i.inflows a.to (get_or c.loop-i.inflows a.to 0 + amount_at flow i)) is (c.add_arc.ensures.inflows added) in
+    let out : c.add_arc.new.outflows ≡ set c.loop-i.outflows (arc_at arcs i).from (get_or c.loop-i.outflows (arc_at arcs i).from 0 + amount_at flow i) =
+    subst (λ (a : Arc). c.add_arc.new.outflows ≡ set c.loop-i.outflows a.from (get_or c.loop-i.outflows a.from 0 + amount_at flow i)) is (c.add_arc.ensures.outflows added) in record {
       capacities = below_more _ _ c.loop-i.invariant.capacities capacity;
       upper_bound = below_more _ _ (λ k l. omega (arith, c.loop-i.invariant.upper_bound k l, c.max-greatest.ensures)) (omega (arith, c.max-greatest.ensures));
-      to = sums_more arcs flow c.requires.flow i in_arcs (λ a. a.to) c.loop-i.into c.add_arc.new.into nodes (omega (arith, c.loop-i.auto.into, c.requires.into)) ends.1 to c.loop-i.invariant.to;
-      out = sums_more arcs flow c.requires.flow i in_arcs (λ a. a.from) c.loop-i.from c.add_arc.new.from nodes (omega (arith, c.loop-i.auto.from, c.requires.from)) ends.0 out c.loop-i.invariant.out;
+      to = sums_more arcs flow c.requires.flow i in_arcs (λ a. a.to) c.loop-i.inflows c.add_arc.new.inflows nodes (omega (arith, c.loop-i.auto.inflows, c.requires.inflows)) ends.1 to c.loop-i.invariant.to;
+      out = sums_more arcs flow c.requires.flow i in_arcs (λ a. a.from) c.loop-i.outflows c.add_arc.new.outflows nodes (omega (arith, c.loop-i.auto.outflows, c.requires.outflows)) ends.0 out c.loop-i.invariant.out;
     }
 
 nothing_within : (limit : Option ℕ) → within 0 limit ≡ true
@@ -35,6 +35,6 @@ loop-i-preserved-then-amount-eq0 c =
     let none : amount_at flow i ≡ 0 = c.if-amount-eq0.true in record {
       capacities = below_more _ _ c.loop-i.invariant.capacities (subst (λ n. within n (arc_at arcs i).capacity ≡ true) (sym none) (nothing_within (arc_at arcs i).capacity));
       upper_bound = below_more _ _ c.loop-i.invariant.upper_bound (omega (arith, none));
-      to = sums_same arcs flow c.requires.flow i in_arcs (λ a. a.to) c.loop-i.into nodes none c.loop-i.invariant.to;
-      out = sums_same arcs flow c.requires.flow i in_arcs (λ a. a.from) c.loop-i.from nodes none c.loop-i.invariant.out;
+      to = sums_same arcs flow c.requires.flow i in_arcs (λ a. a.to) c.loop-i.inflows nodes none c.loop-i.invariant.to;
+      out = sums_same arcs flow c.requires.flow i in_arcs (λ a. a.from) c.loop-i.outflows nodes none c.loop-i.invariant.out;
     }

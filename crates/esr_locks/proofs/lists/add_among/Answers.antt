@@ -1,6 +1,6 @@
 use Rattle.std.proofs.Common.{sym, ap, not, arith}
 use Rattle.esr_history.proofs.Ascending.{placed_same, placed_gap, any_place, any_gap}
-use Rattle.esr_locks.specs.Rows.{reader}
+use Rattle.esr_locks.specs.LockEntries.{reader}
 use Rattle.esr_locks.proofs.lists.add_among.Goals as goal
 
 pub returns-in-Ok-clause-items : goal.returns-in-Ok-clause-items

@@ -3,7 +3,7 @@ use Rattle.std.proofs.Math.ListN.{length-set}
 use Rattle.smallvec.proofs.SmallVecLemmas.{items-with_items}
 use Rattle.esr_history.proofs.Ascending.{placed_at, placed_gap, any_gap}
 use Rattle.esr_locks.specs.declared.lists.QueryReads.{QueryReads}
-use Rattle.esr_locks.specs.Rows.{first_reads, more_reads}
+use Rattle.esr_locks.specs.LockEntries.{first_reads, more_reads}
 use Rattle.esr_locks.proofs.lists.count_read.Goals as goal
 
 pub returns-in-Ok-clause-items : goal.returns-in-Ok-clause-items

@@ -11,7 +11,7 @@ loop-i-preserved c =
     let accesses = c.args.accesses.now in
     let chains = c.loop-i.chains in
     let readers = c.loop-i.readers in
-    let place = c.args.place in
+    let position = c.args.position in
     let i = c.loop-i.i - 1 in
     let next : c.loop-i.i ≡ suc i = omega (arith, c.loop-i-test.true) in
     let inside : i < length accesses = omega (arith, c.loop-i-test.true, c.loop-i.auto.i) in
@@ -22,9 +22,9 @@ loop-i-preserved c =
       length-set readers x c.put_operation.new.readers ∙ c.loop-i.invariant.1,
       λ steps are.
           let now = c.loop-i.invariant.2 steps are in (
-            turn_later seen_links (λ r. r.items) chains readers place i c.loop-i.i next accesses inside linked read steps now.0 c.index-chains-x.result c.index-readers-x.result
+            turn_later seen_links (λ r. r.items) chains readers position i c.loop-i.i next accesses inside linked read steps now.0 c.index-chains-x.result c.index-readers-x.result
                 c.put_operation.new.links c.in_ok-put_operation.ensures.chain c.put_operation.new.readers c.in_ok-put_operation.ensures.readers,
-            turn_conflicting seen_links (λ r. r.items) chains readers place i c.loop-i.i next accesses inside linked read steps now.0 c.index-chains-x.result c.index-readers-x.result
+            turn_conflicting seen_links (λ r. r.items) chains readers position i c.loop-i.i next accesses inside linked read steps now.0 c.index-chains-x.result c.index-readers-x.result
                 c.args.conflicts.now.items c.loop-i.conflicts.items now.1 c.put_operation.new.conflicts.items c.in_ok-put_operation.ensures.conflicts,
           ),
     )
@@ -36,17 +36,17 @@ loop-i-init c =
       refl,
       refl,
       λ steps are. (
-        subst (λ l. AreLater (map seen_links c.args.chains.now) (map (λ r. r.items) c.args.readers.now) (map (operation_at c.args.place) l ++ steps)) (sym none) are,
-        subst (λ l. c.args.conflicts.now.items ≡ c.args.conflicts.now.items ++ turn_conflicts (map (operation_at c.args.place) l) steps) (sym none) (sym (append-nil c.args.conflicts.now.items)),
+        subst (λ l. AreLater (map seen_links c.args.chains.now) (map (λ r. r.items) c.args.readers.now) (map (operation_at c.args.position) l ++ steps)) (sym none) are,
+        subst (λ l. c.args.conflicts.now.items ≡ c.args.conflicts.now.items ++ turn_conflicts (map (operation_at c.args.position) l) steps) (sym none) (sym (append-nil c.args.conflicts.now.items)),
       ),
     )
 
 pub returns-clause-later : goal.returns-clause-later
 returns-clause-later c operations are =
     let start : c.loop-i.i ≡ 0 = omega (arith, c.loop-i-test.false) in
-    subst (λ i. AreLater (map seen_links c.loop-i.chains) (map (λ r. r.items) c.loop-i.readers) (map (operation_at c.args.place) (drop i c.args.accesses.now) ++ operations)) start (c.loop-i.invariant.2 operations are).0
+    subst (λ i. AreLater (map seen_links c.loop-i.chains) (map (λ r. r.items) c.loop-i.readers) (map (operation_at c.args.position) (drop i c.args.accesses.now) ++ operations)) start (c.loop-i.invariant.2 operations are).0
 
 pub returns-clause-conflicts : goal.returns-clause-conflicts
 returns-clause-conflicts c operations are =
     let start : c.loop-i.i ≡ 0 = omega (arith, c.loop-i-test.false) in
-    subst (λ i. c.loop-i.conflicts.items ≡ c.args.conflicts.now.items ++ turn_conflicts (map (operation_at c.args.place) (drop i c.args.accesses.now)) operations) start (c.loop-i.invariant.2 operations are).1
+    subst (λ i. c.loop-i.conflicts.items ≡ c.args.conflicts.now.items ++ turn_conflicts (map (operation_at c.args.position) (drop i c.args.accesses.now)) operations) start (c.loop-i.invariant.2 operations are).1

@@ -1,7 +1,7 @@
 use Rattle.std.proofs.Common.{◌∙◌, map, sym, ap, subst}
 use Rattle.esr_base.specs.declared.numbers.TxnId.{TxnId}
 use Rattle.esr_order.specs.Relevant.{AreRelevant}
-use Rattle.esr_order.specs.Orders.{IsOrderAmong}
+use Rattle.esr_order.specs.Orders.{IsConflictOrderOn}
 use Rattle.esr_order.proofs.Commits.{updates_are, query_begun}
 use Rattle.esr_order.proofs.RelevantFound.{IsRelevantRun, relevant_run}
 use Rattle.esr_order.proofs.order.relevant_with.Goals as goal
@@ -42,4 +42,4 @@ pub returns-clause-ok : goal.returns-clause-ok
 returns-clause-ok g c =
     let r : IsRelevantRun c.args.history.now.schedule c.args.q.0 c.in_ok-first.first c.in_ok-relevant.relevant.updates.items =
     relevant_run g.M.Metric.distance_by c.args.history.now.schedule c.args.q.0 c.log-legal.ensures.legal c.in_ok-relevant.relevant.updates.items c.in_ok-relevant.ensures.relevant c.in_ok-first.first c.in_ok-first.ensures in
-    subst (λ ts. IsOrderAmong c.args.history.now.schedule c.args.q.0 (map (λ (t : TxnId). t.0) ts) c.in_ok-order.order) (sym c.in_ok-order.ensures.commits) (c.in_ok-order.ensures.order c.args.q.0 r.musts)
+    subst (λ ts. IsConflictOrderOn c.args.history.now.schedule c.args.q.0 (map (λ (t : TxnId). t.0) ts) c.in_ok-order.order) (sym c.in_ok-order.ensures.commits) (c.in_ok-order.ensures.order c.args.q.0 r.musts)

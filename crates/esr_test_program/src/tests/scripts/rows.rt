@@ -37,7 +37,7 @@ static ROWS: [Row; 39] = [
     },
     // Two readers of an item, one of which requests a write: it is blocked until the other has ended.
     Row {
-        name: "upgrade_waits_for_a_reader",
+        name: "upgrade_is_blocked_by_a_reader",
         script: "item a 0\n\
             begin u update 0\n\
             begin v update 0\n\

@@ -1,5 +1,5 @@
 use Rattle.std.proofs.Common.{◌≡◌, ◌≤◌, ◌*◌, take, map, sum_by}
-use Rattle.esr_locks.specs.Rows.{query_and_count}
+use Rattle.esr_locks.specs.LockEntries.{query_and_count}
 use Rattle.esr_why.proofs.shortfall.total.Given as goal
 
 abbrev pub invariant-loop-r : goal.invariant-loop-r

@@ -1,7 +1,7 @@
 use Rattle.std.proofs.Common.{◌≡◌, ◌-◌, ◌<◌, ◌≤◌, ◌∷◌, [], refl, sym, arith, None, length, true}
 use Rattle.esr_core.specs.Types.{Reply, Committed, Aborted}
 use Rattle.esr_history.specs.Events.{is_active}
-use Rattle.esr_history.specs.Machine.{Distance, Schedule, accepted_in, refusal, first_reason, not_begun, ended, acceptance, extended, reply_to}
+use Rattle.esr_history.specs.Machine.{DistanceFunction, Schedule, accepted_in, refusal, first_reason, not_begun, ended, acceptance, extended, reply_to}
 use Rattle.esr_history.proofs.Allowed.{none_applies, end_allowed}
 use Rattle.esr_history.proofs.LegalWellFormed.{not_ended, follows}
 use Rattle.esr_core.specs.declared.state.State.{State}
@@ -15,7 +15,7 @@ abbrev state : After-end_row → State
 state c = record { items = c.settle_all.new.items; transactions = c.end_row.new.rows; locks = c.release.new.self; ledgers = c.args.self.now.ledgers }
 
 -- the reply that an end is owed
-answered : (c : After-end_row) (d : Distance) (h : Schedule) (r : Reply) → r ≡ acceptance h (end_event (keeps c.args.end) c.args.t) → IsStateOf d h c.args.self.now
+answered : (c : After-end_row) (d : DistanceFunction) (h : Schedule) (r : Reply) → r ≡ acceptance h (end_event (keeps c.args.end) c.args.t) → IsStateOf d h c.args.self.now
     → (r ≡ reply_to d h (end_event (keeps c.args.end) c.args.t)) × IsStateOf d (extended h (end_event (keeps c.args.end) c.args.t) r) (state c)
 answered c d h r is rep =
     let s = c.args.self.now in

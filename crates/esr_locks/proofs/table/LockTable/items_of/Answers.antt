@@ -3,7 +3,7 @@ use Rattle.esr_locks.proofs.Tables.{table_listed, table_within}
 use Rattle.esr_locks.proofs.table.LockTable.items_of.Goals as goal
 
 pub returns-clause-in_range : goal.returns-clause-in_range
-returns-clause-in_range c = grind (arith, map, c.listed.ensures, table_within)
+returns-clause-in_range c = grind (arith, map, c.locked_items_of.ensures, table_within)
 
-pub returns-clause-listed : goal.returns-clause-listed
-returns-clause-listed c = grind (arith, map, c.listed.ensures, table_listed)
+pub returns-clause-complete : goal.returns-clause-complete
+returns-clause-complete c = grind (arith, map, c.locked_items_of.ensures, table_listed)

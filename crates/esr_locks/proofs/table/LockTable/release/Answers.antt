@@ -1,22 +1,22 @@
 use Rattle.std.proofs.Common.{◌≡◌, ℕ, ◌<◌, subst, map, length, if◌then◌else◌, arith}
-use Rattle.esr_locks.specs.Rows.{RowOf, row_at, items_locked_by}
+use Rattle.esr_locks.specs.LockEntries.{LockEntryModel, entry_at, items_locked_by}
 use Rattle.esr_locks.specs.Tables.{Table, released, contains_item}
 use Rattle.esr_locks.proofs.Tables.{released_all, IsLockTable-released}
 use Rattle.esr_locks.proofs.table.LockTable.release.Goals as goal
 use Rattle.esr_locks.proofs.table.LockTable.release.Goals.{After-release_each}
 use Rattle.std.proofs.lemmas.Grind.{common_steps}
 
-each : (c : After-release_each) (x : ℕ) → x < length c.self.inside.rows.items
-    → (row_at c.release_each.new.rows.items x).locks ≡ (if contains_item (items_locked_by c.self.inside.held.items c.args.t.0).items x then released c.args.t.0 (row_at c.self.inside.rows.items x).locks else (row_at c.self.inside.rows.items x).locks)
+each : (c : After-release_each) (x : ℕ) → x < length c.self.inside.entries.items
+    → (entry_at c.release_each.new.entries.items x).locks ≡ (if contains_item (items_locked_by c.self.inside.by_transaction.items c.args.t.0).items x then released c.args.t.0 (entry_at c.self.inside.entries.items x).locks else (entry_at c.self.inside.entries.items x).locks)
 each c x l = grind (arith, common_steps)
 
 pub invariant_of-self : goal.invariant_of-self
 invariant_of-self c =
-    IsLockTable-released c.self.inside.rows.items c.self.inside.held.items c.self.invariant c.args.t.0 c.release_each.new.rows.items c.clear_list.new.held.items
+    IsLockTable-released c.self.inside.entries.items c.self.inside.by_transaction.items c.self.invariant c.args.t.0 c.release_each.new.entries.items c.clear_list.new.by_transaction.items
     c.release_each.ensures.len (each (goal.at.invariant_of-self c).After-release_each) c.clear_list.ensures
 
 pub returns : goal.returns
 returns c =
-    subst (λ (v : Table). map (λ (r : RowOf). r.locks) c.release_each.new.rows.items ≡ map (released c.args.t.0) v.locks) c.self.view_is
-    (released_all c.self.inside.rows.items c.self.inside.held.items c.self.invariant c.args.t.0 c.release_each.new.rows.items c.clear_list.new.held.items
+    subst (λ (v : Table). map (λ (r : LockEntryModel). r.locks) c.release_each.new.entries.items ≡ map (released c.args.t.0) v.locks) c.self.view_is
+    (released_all c.self.inside.entries.items c.self.inside.by_transaction.items c.self.invariant c.args.t.0 c.release_each.new.entries.items c.clear_list.new.by_transaction.items
     c.release_each.ensures.len (each (goal.at.returns c).After-release_each) c.clear_list.ensures)

@@ -6,7 +6,7 @@ use Rattle.esr_history.proofs.Membership.{All-from_pairs}
 use Rattle.esr_history.specs.Operations.{operations}
 use Rattle.esr_order.specs.Placements.{is_among}
 use Rattle.esr_order.specs.Chains.{nth}
-use Rattle.esr_order.specs.Orders.{IsOrderAmong}
+use Rattle.esr_order.specs.Orders.{IsConflictOrderOn}
 use Rattle.esr_order.proofs.ConflictOrder.{in_order}
 use Rattle.esr_order.proofs.Early.{must_below, must_positions}
 use Rattle.esr_order.proofs.Complete.{order_whole}
@@ -45,7 +45,7 @@ returns-clause-ok g c =
     let q = c.args.q.0 in
     let same : map (λ t. t.0) c.in_ok-commits.commits.items ≡ updates_of h q = updates_are h q c.deref.result.now (ap (map (λ t. t.0)) c.deref.ensures.value ∙ c.in_ok-committed.ensures) c.in_ok-commits.commits.items c.in_ok-commits.ensures in
     order_whole h q c.in_ok-order.order
-    (subst (λ us. IsOrderAmong h q us c.in_ok-order.order) same
+    (subst (λ us. IsConflictOrderOn h q us c.in_ok-order.order) same
     (c.in_ok-order.ensures.order q (ap (λ us. map (nth us) (range_with_len 0 c.in_ok-first.first)) same ∙ must_positions g.M.Metric.distance_by h q c.log-legal.ensures.legal c.in_ok-first.first c.in_ok-first.ensures)))
 
 pub returns-clause-sparse : goal.returns-clause-sparse

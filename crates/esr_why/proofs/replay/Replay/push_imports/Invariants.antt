@@ -1,6 +1,6 @@
 use Rattle.std.proofs.Common.{◌≡◌, ◌*◌, ◌++◌, take, map, filter_map}
 use Rattle.esr_items.specs.Weights.{weighted}
-use Rattle.esr_locks.specs.Rows.{query_and_count}
+use Rattle.esr_locks.specs.LockEntries.{query_and_count}
 use Rattle.esr_why.specs.Shortfalls.{import_lack}
 use Rattle.esr_why.proofs.replay.Replay.push_imports.Given as goal
 

@@ -5,7 +5,7 @@ use Rattle.esr_items.specs.Weights.{weighted, weighted-bounded}
 use Rattle.esr_history.specs.Events.{current_value}
 use Rattle.esr_history.specs.ItemLocks.{item_locks}
 use Rattle.esr_history.specs.Machine.{Schedule, accepted_in}
-use Rattle.esr_locks.specs.Rows.{query_and_count}
+use Rattle.esr_locks.specs.LockEntries.{query_and_count}
 use Rattle.esr_why.specs.declared.shortfall.Shortfall.{Shortfall}
 use Rattle.esr_why.specs.Shortfalls.{import_lack, export_lack, listed}
 use Rattle.esr_why.proofs.Amounts.{each, no_elements, some_elements, write_none, write_some}

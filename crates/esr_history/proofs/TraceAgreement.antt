@@ -7,7 +7,7 @@ use Rattle.std.proofs.lemmas.List.{map-append}
 use Rattle.std.proofs.lemmas.List.Sums.{sum_by-cons}
 use mathlib.Core.Bool.{and_comm}
 use Rattle.esr_items.specs.Values.{value_at}
-use Rattle.esr_history.specs.Events.{is_refusal, beginning, is_active, is_committed, is_aborted, reads, writes, read_count, written, last_value, committed_value, current_value, Beginning, is_query, is_update, Event, BeginUpdate, BeginQuery, Read, Write, Commit, Abort, Reply, Entry}
+use Rattle.esr_history.specs.Events.{is_refusal, begin_record, is_active, is_committed, is_aborted, reads, writes, read_count, written, last_value, committed_value, current_value, BeginRecord, is_query, is_update, Event, BeginUpdate, BeginQuery, Read, Write, Commit, Abort, Reply, Entry}
 use Rattle.esr_history.specs.Machine.{Schedule, accepted_in}
 use Rattle.esr_history.specs.Operations.{Operation, operation_by, operation_of, operations, commit_order, answer}
 use Rattle.esr_history.specs.Serial.{values_by, state}
@@ -21,7 +21,7 @@ aborter _ = None
 
 -- the operations, ends and begins of a history
 abbrev pub trace : Schedule → Trace
-trace h = record { operations = operations h; commits = commit_order (accepted_in h); aborts = filter_map aborter (accepted_in h); beginning = beginning (accepted_in h) }
+trace h = record { operations = operations h; commits = commit_order (accepted_in h); aborts = filter_map aborter (accepted_in h); begin_record = begin_record (accepted_in h) }
 
 abbrev accepts : Entry → Bool
 accepts e = not (is_refusal e.reply)
@@ -80,9 +80,9 @@ read_kept t x (e ∷ es) =
 
 -- a query is not an update
 pub query_not_update : (events : List Event) (t : ℕ) → is_query events t ≡ true → is_update events t ≡ false
-query_not_update events t is = at (beginning events t) is
+query_not_update events t is = at (begin_record events t) is
   where
-    at : (b : Option Beginning) → unwrap_or (option_map (λ c. c.query) b) false ≡ true → unwrap_or (option_map (λ c. not c.query) b) false ≡ false
+    at : (b : Option BeginRecord) → unwrap_or (option_map (λ c. c.query) b) false ≡ true → unwrap_or (option_map (λ c. not c.query) b) false ≡ false
     at None q = refl
     at (Some b) q = ap not q
 

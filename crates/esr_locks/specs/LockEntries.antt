@@ -1,4 +1,4 @@
--- The locks on one item, as a row of the table.
+-- The entry of an item in the lock table.
 use Rattle.std.specs.Prelude.{◌≡◌, ℕ, Bool, ◌+◌, ◌<◌, ◌≤◌, List, [], length, true, All, slice_index_or, Result, OnOk, OnErr}
 use Rattle.smallvec.specs.SmallVec.{SmallVec, HasRoomFor}
 use Rattle.esr_base.specs.declared.numbers.ItemId.{ItemId}
@@ -9,8 +9,8 @@ use Rattle.esr_locks.specs.declared.lists.QueryReads.{QueryReads}
 use Rattle.esr_locks.specs.Modes.{Mode, Read, Write, QueryRead}
 use Rattle.esr_locks.specs.Tables.{no_locks, has_lock, has_update_lock, has_query_lock, with_reader, with_writer, with_query_read, contains_item}
 
--- a row as contracts see it: the locks, and the capacity left for more
-pub record RowOf : Type 0 where
+-- the model of an entry: the locks, and the capacity left for more
+pub record LockEntryModel : Type 0 where
   pub locks : ItemLocks
   pub spare_capacity : ℕ
 
@@ -50,24 +50,24 @@ has_lock_in_mode Write = has_update_lock
 has_lock_in_mode QueryRead = has_query_lock
 
 -- the items that a transaction has locked, as contracts see them: the items, and the capacity left for more
-pub record LockedItemsOf : Type 0 where
+pub record LockedItemsModel : Type 0 where
   pub items : List ItemId
   pub spare_capacity : ℕ
 
-abbrev pub nothing_held : LockedItemsOf
-nothing_held = record { items = []; spare_capacity = 0 }
+abbrev pub empty_list : LockedItemsModel
+empty_list = record { items = []; spare_capacity = 0 }
 
-abbrev pub empty_row : RowOf
-empty_row = record { locks = no_locks; spare_capacity = 0 }
+abbrev pub empty_entry : LockEntryModel
+empty_entry = record { locks = no_locks; spare_capacity = 0 }
 
-abbrev pub row_at : List RowOf → ℕ → RowOf
-row_at rows x = slice_index_or rows x empty_row
+abbrev pub entry_at : List LockEntryModel → ℕ → LockEntryModel
+entry_at entries x = slice_index_or entries x empty_entry
 
-abbrev pub items_locked_by : List LockedItemsOf → ℕ → LockedItemsOf
-items_locked_by held t = slice_index_or held t nothing_held
+abbrev pub items_locked_by : List LockedItemsModel → ℕ → LockedItemsModel
+items_locked_by by_transaction t = slice_index_or by_transaction t empty_list
 
 -- the items listed for a transaction are those on which it holds a lock, and perhaps more
-pub record IsLockTable (rows : List RowOf) (held : List LockedItemsOf) : Type 0 where
-  pub within : (t : ℕ) → All (λ i. i.0 < length rows) (items_locked_by held t).items
-  pub listed : (t x : ℕ) → x < length rows → has_lock (row_at rows x).locks t ≡ true
-      → contains_item (items_locked_by held t).items x ≡ true
+pub record IsLockTable (entries : List LockEntryModel) (by_transaction : List LockedItemsModel) : Type 0 where
+  pub within : (t : ℕ) → All (λ i. i.0 < length entries) (items_locked_by by_transaction t).items
+  pub listed : (t x : ℕ) → x < length entries → has_lock (entry_at entries x).locks t ≡ true
+      → contains_item (items_locked_by by_transaction t).items x ≡ true

@@ -7,7 +7,7 @@ ghost use Rattle.std.specs.Prelude.{◌≡◌, ℕ, ◌<◌, ◌≤◌, ◌==◌
 ghost use Rattle.esr_base.specs.declared.limits.TheConstants.{MAX_READS};
 ghost use Rattle.esr_history.specs.Ascending.{IsAscendingBy, IsSmallest};
 ghost use Rattle.esr_locks.specs.Modes.{conflicts};
-ghost use Rattle.esr_locks.specs.Rows.{query_and_count, with_lock, has_lock_in_mode, RowOf};
+ghost use Rattle.esr_locks.specs.LockEntries.{query_and_count, with_lock, has_lock_in_mode, LockEntryModel};
 ghost use Rattle.esr_locks.specs.Tables.{no_locks, is_writer, is_reader, has_update_lock, has_query_lock, blocks, with_reader, with_writer, with_query_read, released};
 ghost use Rattle.std.specs.List.{AllByRecursion};
 ghost use Rattle.std.specs.Option.{option_map};
@@ -24,14 +24,14 @@ use std::marker::Model;
 /// The locks on one item. Updates that have read it and queries that have read it are in the
 /// order of their numbers.
 #[derive(Drop)]
-pub struct Row {
+pub struct LockEntry {
     writer: Option<TxnId>,
     readers: Readers,
     queries: Queries,
 }
 
-impl Model for Row {
-    ghost Value = { RowOf };
+impl Model for LockEntry {
+    ghost Value = { LockEntryModel };
 
     ghost view = { λ r. record {
       locks = record {
@@ -78,12 +78,12 @@ fn smaller_of(a: Option<TxnId>, b: Option<TxnId>) -> Option<TxnId>
     }
 }
 
-impl Row {
+impl LockEntry {
     /// Creates a row without locks.
-    pub fn new(alloc: Global) -> Row
+    pub fn new(alloc: Global) -> LockEntry
         ensures { result.locks ≡ no_locks }
     {
-        Row {
+        LockEntry {
             writer: None,
             readers: Readers::new(alloc),
             queries: Queries::new(alloc),

@@ -11,17 +11,17 @@ use Rattle.esr_history.specs.declared.event.Event.{Event}
 use Rattle.esr_history.specs.declared.event.Event.TheVariants.{BeginUpdate, BeginQuery, Read, Write, Commit, Abort}
 use Rattle.esr_history.specs.declared.event.Reply.{Reply}
 use Rattle.esr_history.specs.declared.event.Entry.{Entry}
-use Rattle.esr_history.specs.Events.{Beginning, beginnings, is_query, is_update, is_refusal, reads_any, total_read_count, last_value}
-use Rattle.esr_history.specs.Machine.{Distance, Schedule, IsLegal, accepted_in, distance_in}
+use Rattle.esr_history.specs.Events.{BeginRecord, begin_records, is_query, is_update, is_refusal, reads_any, total_read_count, last_value}
+use Rattle.esr_history.specs.Machine.{DistanceFunction, Schedule, IsLegal, accepted_in, value_distance}
 use Rattle.esr_history.specs.Operations.{Operation, operations, operation_by, operation_of, answer, commit_order}
 use Rattle.esr_history.specs.Ranges.{IsWithinRanges}
 use Rattle.esr_history.specs.Serial.{is_before, state, values_by}
 use Rattle.esr_history.specs.Queries.{updates_of, reads_by}
 use Rattle.esr_history.proofs.Membership.{In, each_in, each_at, In-of_filter, Contains-In, any-from_In}
 use Rattle.esr_history.proofs.Versions.{wrote_by}
-use Rattle.esr_history.proofs.Words.{values_trace}
+use Rattle.esr_history.proofs.TraceAgreement.{values_trace}
 use Rattle.esr_order.specs.Chains.{nth}
-use Rattle.esr_order.specs.Orders.{ConflictOrder, IsOrderAmong}
+use Rattle.esr_order.specs.Orders.{ConflictOrder, IsConflictOrderOn}
 use Rattle.esr_order.specs.Relevant.{AreRelevant, has_written}
 use Rattle.esr_order.proofs.RelevantLaws.{relevant_updates}
 use Rattle.esr_base.specs.declared.limits.TheConstants.{MAX_ITEMS, MAX_TRANSACTIONS}
@@ -104,18 +104,18 @@ module _ (h : Schedule) (range : IsWithinRanges h) (opening_values_in_range : Al
   -- the number of an update
   number_in_range : (u : ℕ) → is_update (accepted_in h) u ≡ true → (0 < u) × (u ≤ 65535)
   number_in_range zero is = absurd (true≢false (sym is))
-  number_in_range (suc k) is = let l = below (beginnings (accepted_in h)) k (some (slice_get (beginnings (accepted_in h)) k) is) in let r = range.begins in (omega arith, omega arith)
+  number_in_range (suc k) is = let l = below (begin_records (accepted_in h)) k (some (slice_get (begin_records (accepted_in h)) k) is) in let r = range.begins in (omega arith, omega arith)
     where
-      some : (b : Option Beginning) → unwrap_or (option_map (λ c. not c.query) b) false ≡ true → is_some b ≡ true
+      some : (b : Option BeginRecord) → unwrap_or (option_map (λ c. not c.query) b) false ≡ true → is_some b ≡ true
       some None e = e
       some (Some b) e = refl
 
-      below : (bs : List Beginning) (k : ℕ) → is_some (slice_get bs k) ≡ true → k < length bs
+      below : (bs : List BeginRecord) (k : ℕ) → is_some (slice_get bs k) ≡ true → k < length bs
       below [] k e = absurd (true≢false (sym e))
       below (b ∷ bs) zero e = omega arith
       below (b ∷ bs) (suc k) e = let l = below bs k e in omega arith
 
-module _ (d : Distance) (h : Schedule) (q : ℕ) (range : IsWithinRanges h) (opening_values_in_range : All IsValue h.opening)
+module _ (d : DistanceFunction) (h : Schedule) (q : ℕ) (range : IsWithinRanges h) (opening_values_in_range : All IsValue h.opening)
     (bounded : (w : List ℕ) (x : ℕ) (a b : ℤ) → IsValue a → IsValue b → d w x a b ≤ 2 * 10 ^ 15) where
   -- one read costs at most this
   abbrev B : ℕ
@@ -131,17 +131,17 @@ module _ (d : Distance) (h : Schedule) (q : ℕ) (range : IsWithinRanges h) (ope
       v : ℤ
       v = state h (take j (writers_of h q x)) x
 
-      one : (o : Operation) → IsValue o.value → cond (eqb o.item x) (distance_in d h x o.value v) 0 ≤ cond (eqb o.item x) B 0
+      one : (o : Operation) → IsValue o.value → cond (eqb o.item x) (value_distance d h x o.value v) 0 ≤ cond (eqb o.item x) B 0
       one o is = pick (eqb o.item x)
         where
-          pick : (b : Bool) → cond b (distance_in d h x o.value v) 0 ≤ cond b B 0
+          pick : (b : Bool) → cond b (value_distance d h x o.value v) 0 ≤ cond b B 0
           pick true = bounded h.weights x o.value v is (state_in_range h range opening_values_in_range (take j (writers_of h q x)) x)
           pick false = omega arith
 
       go : (os : List Operation) → AllByRecursion (λ (o : Operation). IsValue o.value × (o.item < length h.opening)) os
-          → sum_by (λ (o : Operation). cond (eqb o.item x) (distance_in d h x o.value v) 0) os ≤ sum_by (λ (o : Operation). cond (eqb o.item x) B 0) os
+          → sum_by (λ (o : Operation). cond (eqb o.item x) (value_distance d h x o.value v) 0) os ≤ sum_by (λ (o : Operation). cond (eqb o.item x) B 0) os
       go [] all = omega arith
-      go (o ∷ os) all = omega (arith, one o (all.0).0, go os all.1, sum_by-cons (λ (o : Operation). cond (eqb o.item x) (distance_in d h x o.value v) 0) o os, sum_by-cons (λ (o : Operation). cond (eqb o.item x) B 0) o os)
+      go (o ∷ os) all = omega (arith, one o (all.0).0, go os all.1, sum_by-cons (λ (o : Operation). cond (eqb o.item x) (value_distance d h x o.value v) 0) o os, sum_by-cons (λ (o : Operation). cond (eqb o.item x) B 0) o os)
 
   inside : AllByRecursion (λ (o : Operation). (list_any (λ (p : Operation). eqb p.item o.item) (reads_by h q) ≡ true) × (o.item < length h.opening)) (reads_by h q)
   inside = each_in (λ (o : Operation). (list_any (λ (p : Operation). eqb p.item o.item) (reads_by h q) ≡ true) × (o.item < length h.opening)) (reads_by h q) (λ o i.
@@ -158,7 +158,7 @@ module _ (d : Distance) (h : Schedule) (q : ℕ) (range : IsWithinRanges h) (ope
       let all : sum_by (λ (o : Operation). B) (reads_by h q) ≤ length (reads_by h q) * B = sum_by-le (λ (o : Operation). B) B (reads_by h q) (All-from_recursion (λ (o : Operation). B ≤ B) (reads_by h q) (each_in (λ (o : Operation). B ≤ B) (reads_by h q) (λ o i. omega arith))) in
       omega arith
 
-  module _ (legal : IsLegal d h) (us : List ℕ) (relevant : AreRelevant h q us) (o : ConflictOrder) (good : IsOrderAmong h q us o) (within_max : length h.opening ≤ 4096) (query : IsTrue (is_query (accepted_in h) q)) where
+  module _ (legal : IsLegal d h) (us : List ℕ) (relevant : AreRelevant h q us) (o : ConflictOrder) (is_order : IsConflictOrderOn h q us o) (within_max : length h.opening ≤ 4096) (query : IsTrue (is_query (accepted_in h) q)) where
     abbrev p : Problem
     p = problem_of_order d h q o
 
@@ -167,17 +167,17 @@ module _ (d : Distance) (h : Schedule) (q : ℕ) (range : IsWithinRanges h) (ope
 
     numbers : list_all (λ t. nat_lt 0 t && nat_le t MAX_TRANSACTIONS) p.updates ≡ true
     numbers = all_from (λ t. nat_lt 0 t && nat_le t MAX_TRANSACTIONS) p.updates (λ t c.
-        let i : In t (updates_of h q) = Contains-In (updates_of h q) t (relevant_updates d h q legal us relevant t (subst (λ vs. Contains vs t) good.commits c)) in
+        let i : In t (updates_of h q) = Contains-In (updates_of h q) t (relevant_updates d h q legal us relevant t (subst (λ vs. Contains vs t) is_order.commits c)) in
         let r = number_in_range h range opening_values_in_range t (In-of_filter (is_update (accepted_in h)) (before_first (λ t. eqb t q) (commit_order (accepted_in h))) t i).1 in
         and_from (nat_lt 0 t) (nat_le t MAX_TRANSACTIONS) (lt-ltb 0 t r.0) (le-leb t MAX_TRANSACTIONS r.1))
 
     before : list_all (λ (e : ℕ × ℕ). nat_lt e.0 (size p) && nat_lt e.1 (size p)) o.before ≡ true
     before = all_from (λ (e : ℕ × ℕ). nat_lt e.0 (size p) && nat_lt e.1 (size p)) o.before (λ e c.
-        let r = All-contains (λ (p : ℕ × ℕ). (p.0 < p.1) × (p.1 < length o.commits) × IsTrue (is_before h (nth us p.0) (nth us p.1))) o.before e good.pairs c in
+        let r = All-contains (λ (p : ℕ × ℕ). (p.0 < p.1) × (p.1 < length o.commits) × IsTrue (is_before h (nth us p.0) (nth us p.1))) o.before e is_order.pairs c in
         and_from (nat_lt e.0 (size p)) (nat_lt e.1 (size p)) (lt-ltb e.0 (size p) (omega (arith, r.0, r.1, sized))) (lt-ltb e.1 (size p) (omega (arith, r.1, sized))))
 
     must_within : list_all (λ u. nat_lt u (size p)) o.must ≡ true
-    must_within = all_from (λ u. nat_lt u (size p)) o.must (λ u c. lt-ltb u (size p) (omega (arith, All-contains (λ i. i < length o.commits) o.must u good.within c, sized)))
+    must_within = all_from (λ u. nat_lt u (size p)) o.must (λ u c. lt-ltb u (size p) (omega (arith, All-contains (λ i. i < length o.commits) o.must u is_order.within c, sized)))
 
     chain_within : (x : ℕ) → In x (items_read h q) → chain_is_in_range (size p) (chain_for d h q us x) ≡ true
     chain_within x i =
@@ -186,7 +186,7 @@ module _ (d : Distance) (h : Schedule) (q : ℕ) (range : IsWithinRanges h) (ope
         (lt-ltb x MAX_ITEMS (omega arith))
         (all_from (λ w. nat_lt w (size p)) (places us (has_written h x)) (λ w c.
         let k = below (passes_at us (has_written h x)) 0 (length us) w (Contains-In (places us (has_written h x)) w c) in
-        lt-ltb w (size p) (omega (arith, k, ap length good.commits))))
+        lt-ltb w (size p) (omega (arith, k, ap length is_order.commits))))
       where
         in_row : (a n x : ℕ) → In x (range_with_len a n) → x < a + n
         in_row a zero x i = absurd i
@@ -202,14 +202,14 @@ module _ (d : Distance) (h : Schedule) (q : ℕ) (range : IsWithinRanges h) (ope
 
     costs : nat_le (sum_by (λ (c : Chain). greatest c.costs) p.chains) MAX_COST ≡ true
     costs =
-        let same : sum_by (λ (c : Chain). greatest c.costs) p.chains ≡ sum_by (λ (c : Chain). greatest c.costs) (map (chain_for d h q us) (items_read h q)) = ap (sum_by (λ (c : Chain). greatest c.costs)) (shape.chains_of d h q legal us relevant o good) in
+        let same : sum_by (λ (c : Chain). greatest c.costs) p.chains ≡ sum_by (λ (c : Chain). greatest c.costs) (map (chain_for d h q us) (items_read h q)) = ap (sum_by (λ (c : Chain). greatest c.costs)) (shape.chains_of d h q legal us relevant o is_order) in
         let sum = sum_of_greatest us in
         let many : length (reads_by h q) ≤ 1000 = subst (λ n. n ≤ 1000) (sym (reads_counted h q)) (range.reads q query) in
         le-leb (sum_by (λ (c : Chain). greatest c.costs) p.chains) MAX_COST (omega arith)
 
     pub within : is_in_range p ≡ true
     within =
-        and_from _ _ (and_from _ _ (and_from _ _ (and_from _ _ numbers (ap (list_all (chain_is_in_range (size p))) (shape.chains_of d h q legal us relevant o good) ∙ chains_within (items_read h q) (λ x i. i))) before) must_within) costs
+        and_from _ _ (and_from _ _ (and_from _ _ (and_from _ _ numbers (ap (list_all (chain_is_in_range (size p))) (shape.chains_of d h q legal us relevant o is_order) ∙ chains_within (items_read h q) (λ x i. i))) before) must_within) costs
 
-    pub sound : is_well_formed p ≡ true
-    sound = and_from _ _ (shape.shaped d h q legal us relevant o good) within
+    pub gathered_problem_is_well_formed : is_well_formed p ≡ true
+    gathered_problem_is_well_formed = and_from _ _ (shape.shaped d h q legal us relevant o is_order) within
