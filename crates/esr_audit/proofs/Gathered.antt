@@ -7,9 +7,7 @@ use Rattle.std.proofs.lemmas.List.{take_more, map-append, map-set, get_or-map, l
 use Rattle.esr_history.proofs.Charges.{range-push}
 use Rattle.esr_items.specs.Values.{IsValue}
 use Rattle.esr_audit.specs.Reads.{values_of, list_at, ItemRead}
-
-pub value_fits : (v : ℤ) → IsValue v → FitsSigned w64 v
-value_fits v h = omega (arith, ints)
+pub use Rattle.esr_order.proofs.ValueLists.{value_fits, list_push, list_is}
 
 -- one version more
 pub cost_step : (D : ℤ → ℕ) (o : ℤ) (vs : List ℤ) (costs new : List ℕ) (r i : ℕ) → new ≡ costs ++ r ∷ [] → costs ≡ map D (o ∷ take i vs) → i < length vs → r ≡ D (get_or vs i (pos 0)) → new ≡ map D (o ∷ take (i + 1) vs)
@@ -51,18 +49,6 @@ chain_skip view G P n chains so_far fails =
     so_far ∙ sym (ap (map G) (items_more P n ∙ ap (λ b. filter P (range_with_len 0 n) ++ (cond b (n ∷ []) [])) fails ∙ append-nil (filter P (range_with_len 0 n))))
 
 -- ---- lists of values, one for each item
-
-pub list_push : (lists : List (Vec ℤ Global)) (v : Vec ℤ Global) → v.items ≡ [] → ((x : ℕ) → list_at lists x ≡ []) → (x : ℕ) → list_at (lists ++ v ∷ []) x ≡ []
-list_push [] v e none zero = e
-list_push [] v e none (suc x) = refl
-list_push (w ∷ lists) v e none zero = none 0
-list_push (w ∷ lists) v e none (suc x) = list_push lists v e (λ y. none (suc y)) x
-
--- the list at a place
-pub list_is : (lists : List (Vec ℤ Global)) (x : ℕ) (v : Vec ℤ Global) → x < length lists → v ≡ get_or lists x v → v.items ≡ list_at lists x
-list_is lists x v inside is =
-    let items : Vec ℤ Global → List ℤ = λ w. w.items in
-    ap items is ∙ sym (get_or-map items lists x v [] inside)
 
 -- a value was put to those of its item
 module _ (lists : List (Vec ℤ Global)) (read : ItemRead) (was now : Vec ℤ Global) (inside : read.item < length lists) (is : was ≡ get_or lists read.item was) (grown : now.items ≡ was.items ++ read.value ∷ []) where

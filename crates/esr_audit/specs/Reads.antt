@@ -9,6 +9,7 @@ use Rattle.esr_order.specs.Chains.{writers_in}
 use Rattle.esr_order.specs.Chains as orders
 use Rattle.esr_order.specs.Orders.{ConflictOrder, chain_at}
 use Rattle.esr_cert.specs.Problem.{Chain}
+pub use Rattle.esr_order.specs.ReadValues.{list_at, distance_sum}
 pub use Rattle.esr_audit.specs.declared.reads.ItemRead.{ItemRead}
 
 -- the item and value of a read
@@ -22,14 +23,6 @@ item_read_in a = record { item = a.item.0; value = a.value }
 -- the values read of item x
 abbrev pub values_of : List ItemRead → ℕ → List ℤ
 values_of reads x = map (λ r. r.value) (filter (λ r. r.item == x) reads)
-
--- the list at an index of a list of lists, empty past its end
-abbrev pub list_at : List (Vec ℤ Global) → ℕ → List ℤ
-list_at lists x = slice_index_or (map (λ v. v.items) lists) x []
-
--- the distance of values of item x from a version, summed
-abbrev pub distance_sum : (ℕ → ℤ → ℤ → ℕ) → ℕ → List ℤ → ℤ → ℕ
-distance_sum d x values version = sum_by (λ v. d x v version) values
 
 abbrev pub version_values : Option orders.Chain → List ℤ
 version_values None = []

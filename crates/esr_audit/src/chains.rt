@@ -16,22 +16,10 @@ use crate::reads::ItemRead;
 use esr_cert::Chain;
 use esr_history::History;
 use esr_items::{ItemId, Metric};
-use esr_order::{Links, Order};
+use esr_order::{Links, Order, distance_to, empty_lists};
 use std::alloc::{AllocError, Global};
 
-/// Returns `count` empty lists.
-fn no_values(alloc: Global, count: u32) -> Result<Vec<Vec<i64>>, AllocError>
-    ensures count { IfOk result (λ lists. length lists.items ≡ count) }
-    ensures none { IfOk result (λ lists. (x : ℕ) → list_at lists.items x ≡ []) }
-{
-    let mut lists = Vec::with_capacity(alloc, count as usize)?;
-    for _i in 0..count {
-        lists.push(Vec::new(alloc))?;
-    }
-    Ok(lists)
-}
-
-/// Puts a value that was read to those of its item, if there is a list of that.
+/// Appends a value that was read to the list of its item, if there is one.
 fn put_value(lists: &mut Vec<Vec<i64>>, read: ItemRead) -> Result<(), AllocError>
     ensures count { OnOk result (length lists.new.items ≡ length lists.old.items) }
     ensures values { OnOk result ((x : ℕ) → x < length lists.old.items
@@ -54,25 +42,11 @@ fn values_by_item(
     ensures count { IfOk result (λ lists. length lists.items ≡ items) }
     ensures values { IfOk result (λ lists. (x : ℕ) → x < items → list_at lists.items x ≡ values_of reads.now x) }
 {
-    let mut lists = no_values(alloc, items)?;
+    let mut lists = empty_lists(alloc, items)?;
     for read in reads {
         put_value(&mut lists, *read)?;
     }
     Ok(lists)
-}
-
-/// Returns the sum of the distances of the values from a version of the item.
-fn distance_to<M: Metric>(metric: &M, x: ItemId, values: &[i64], version: i64) -> u64
-    requires within_max { length values.now ≤ MAX_READS }
-    requires values { All IsValue values.now }
-    requires version { IsValue version }
-    ensures { result ≡ distance_sum (M.distance_by (M.weights metric.now)) x.0 values.now version }
-{
-    let mut sum = 0u64;
-    for value in values {
-        sum += metric.distance(x, *value, version);
-    }
-    sum
 }
 
 /// Returns the cost of each version: of the opening value, and of the value that each writer left.

@@ -2,6 +2,7 @@
 -- suffice. `ConflictOrder` and `RelevantLaws` are used by audits; the other modules carry the walk back over the log.
 
 pub mod Lists
+pub mod ValueLists
 pub mod Writers
 pub mod Placed
 pub mod ConflictOrder

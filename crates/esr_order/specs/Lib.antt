@@ -5,6 +5,7 @@ pub mod Placements
 pub mod Least
 pub mod Statements
 pub mod Scans
+pub mod ReadValues
 pub mod AccessRows
 pub mod Index
 pub mod UpdateOperations

@@ -14,6 +14,7 @@ mod laws;
 mod links;
 mod operations;
 mod order;
+mod read_values;
 mod rows;
 mod scan;
 mod search;
@@ -26,4 +27,5 @@ pub use laws::{
 };
 pub use links::Links;
 pub use order::{Order, OrderError};
+pub use read_values::{distance_to, empty_lists};
 pub use scan::{committed, count_must, is_committed_query, updates_before};

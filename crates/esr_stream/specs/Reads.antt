@@ -1,22 +1,15 @@
 -- The values that a query read, by item, and the cost of a version of an item.
-use Rattle.std.specs.Prelude.{◌≤◌, ◌+◌, ◌==◌, ◌&&◌, ℕ, ℤ, not, List, [], Vec, All, filter, length, map, slice_index_or, sum_by}
+use Rattle.std.specs.Prelude.{◌≤◌, ◌+◌, ◌==◌, ◌&&◌, ℕ, ℤ, not, List, [], Vec, All, filter, length, map}
 use Rattle.std.specs.declared.alloc.Global.{Global}
 use Rattle.esr_base.specs.declared.limits.TheConstants.{MAX_READS}
 use Rattle.esr_items.specs.Values.{IsValue}
 use Rattle.esr_order.specs.declared.accesses.Access.{Access}
+pub use Rattle.esr_order.specs.ReadValues.{list_at, distance_sum}
 use Rattle.esr_stream.specs.declared.reads.TheConstants.{OFFSET}
 
 -- the values that these accesses read of item x
 abbrev pub values_of : List Access → ℕ → List ℤ
 values_of row x = map (λ a. a.value) (filter (λ a. not a.writes && (a.item.0 == x)) row)
-
--- the list of item x, empty past the end
-abbrev pub list_at : List (Vec ℤ Global) → ℕ → List ℤ
-list_at lists x = slice_index_or (map (λ v. v.items) lists) x []
-
--- the sum of the distances of values of item x from a version
-abbrev pub distance_sum : (ℕ → ℤ → ℤ → ℕ) → ℕ → List ℤ → ℤ → ℕ
-distance_sum D x values version = sum_by (λ v. D x v version) values
 
 -- the cost of version v of item x if these are the values read, plus the offset
 abbrev pub raised : (ℕ → ℤ → ℤ → ℕ) → List (Vec ℤ Global) → ℕ → ℤ → ℕ
@@ -24,5 +17,5 @@ raised D lists x v = distance_sum D x (list_at lists x) v + OFFSET
 
 -- lists of values that one query can have read
 pub record AreRead (lists : List (Vec ℤ Global)) : Type 0 where
-  pub few : (x : ℕ) → length (list_at lists x) ≤ MAX_READS
+  pub within_max : (x : ℕ) → length (list_at lists x) ≤ MAX_READS
   pub values : (x : ℕ) → All IsValue (list_at lists x)

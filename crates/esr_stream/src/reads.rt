@@ -1,27 +1,14 @@
 //! The values that a query read, by item, and the costs of versions.
-ghost use Rattle.std.specs.Prelude.{◌≡◌, ◌<◌, ◌≤◌, ◌++◌, ◌∷◌, [], ℕ, All, IfOk, OnOk, length};
-ghost use Rattle.esr_base.specs.declared.limits.TheConstants.{MAX_READS};
+ghost use Rattle.std.specs.Prelude.{◌≡◌, ◌<◌, ◌++◌, ◌∷◌, [], ℕ, IfOk, OnOk, length};
 ghost use Rattle.esr_items.specs.Values.{IsValue};
-ghost use Rattle.esr_stream.specs.Reads.{AreRead, distance_sum, list_at, raised, values_of};
+ghost use Rattle.esr_stream.specs.Reads.{AreRead, list_at, raised, values_of};
 
 use esr_items::{ItemId, Metric};
-use esr_order::Access;
+use esr_order::{Access, distance_to, empty_lists};
 use std::alloc::{AllocError, Global};
 
 /// The number that is added to each cost, so that amounts below zero can be written as unsigned integers.
 pub const OFFSET: u64 = 1 << 44;
-
-/// Returns `count` empty lists.
-fn no_values(alloc: Global, count: u32) -> Result<Vec<Vec<i64>>, AllocError>
-    ensures count { IfOk result (λ lists. length lists.items ≡ count) }
-    ensures none { IfOk result (λ lists. (x : ℕ) → list_at lists.items x ≡ []) }
-{
-    let mut lists = Vec::with_capacity(alloc, count as usize)?;
-    for _i in 0..count {
-        lists.push(Vec::new(alloc))?;
-    }
-    Ok(lists)
-}
 
 /// Appends the value of a read to the list of its item, if there is one.
 fn put_value(lists: &mut Vec<Vec<i64>>, read: Access) -> Result<(), AllocError>
@@ -52,25 +39,11 @@ pub fn values_by_item(
     ensures count { IfOk result (λ lists. length lists.items ≡ items) }
     ensures values { IfOk result (λ lists. (x : ℕ) → x < items → list_at lists.items x ≡ values_of accesses.now x) }
 {
-    let mut lists = no_values(alloc, items)?;
+    let mut lists = empty_lists(alloc, items)?;
     for access in accesses {
         put_value(&mut lists, *access)?;
     }
     Ok(lists)
-}
-
-/// Returns the sum of the distances of the values from a version of the item.
-fn distance_to<M: Metric>(metric: &M, x: ItemId, values: &[i64], version: i64) -> u64
-    requires few { length values.now ≤ MAX_READS }
-    requires values { All IsValue values.now }
-    requires version { IsValue version }
-    ensures { result ≡ distance_sum (M.distance_by (M.weights metric.now)) x.0 values.now version }
-{
-    let mut sum = 0u64;
-    for value in values {
-        sum += metric.distance(x, *value, version);
-    }
-    sum
 }
 
 /// Returns the cost of a version of an item, plus the offset.

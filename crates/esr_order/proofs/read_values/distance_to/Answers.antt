@@ -1,9 +1,9 @@
 use Rattle.std.proofs.Common.{◌≡◌, ℕ, ℤ, pos, ◌+◌, ◌≤◌, take, get_or, arith, ap, ◌∙◌, sym, sum_by, w64, to_z, of_z, take_all}
 use Rattle.std.proofs.lemmas.Int.{to_z-of_z}
 use Rattle.std.proofs.lemmas.List.Sums.{sum_by_more}
-use Rattle.esr_audit.proofs.Gathered.{value_fits}
-use Rattle.esr_audit.proofs.chains.distance_to.Given.{Over}
-use Rattle.esr_audit.proofs.chains.distance_to.Goals as goal
+use Rattle.esr_order.proofs.ValueLists.{value_fits}
+use Rattle.esr_order.proofs.read_values.distance_to.Given.{Over}
+use Rattle.esr_order.proofs.read_values.distance_to.Goals as goal
 
 described : (g : Over) (c : goal.After-distance-sum g) → c.distance-sum.result ≡ g.M.Metric.distance_by (g.M.Metric.weights c.args.metric.now) c.args.x.0 (get_or c.args.values.now c.loop-value.value-index (pos 0)) c.args.version
 described g c =

@@ -1,6 +1,6 @@
 use Rattle.std.proofs.Common.{◌≡◌, ℕ, [], length}
-use Rattle.esr_stream.specs.Reads.{list_at}
-use Rattle.esr_stream.proofs.reads.no_values.Given as goal
+use Rattle.esr_order.specs.ReadValues.{list_at}
+use Rattle.esr_order.proofs.read_values.empty_lists.Given as goal
 
 abbrev pub invariant-loop-i : goal.invariant-loop-i
 invariant-loop-i l = record {

@@ -1,8 +1,8 @@
 use Rattle.std.proofs.Common.{◌+◌, ◌∙◌, ap, length}
 use Rattle.std.proofs.lemmas.List.{length_push}
-use Rattle.esr_audit.specs.Reads.{list_at}
-use Rattle.esr_audit.proofs.Gathered.{list_push}
-use Rattle.esr_audit.proofs.chains.no_values.Goals as goal
+use Rattle.esr_order.specs.ReadValues.{list_at}
+use Rattle.esr_order.proofs.ValueLists.{list_push}
+use Rattle.esr_order.proofs.read_values.empty_lists.Goals as goal
 
 pub loop-i-preserved : goal.loop-i-preserved
 loop-i-preserved c = record {

@@ -1,6 +1,6 @@
 use Rattle.std.proofs.Common.{◌≡◌, ◌≤◌, ◌*◌, take}
-use Rattle.esr_audit.specs.Reads.{distance_sum}
-use Rattle.esr_audit.proofs.chains.distance_to.Given as goal
+use Rattle.esr_order.specs.ReadValues.{distance_sum}
+use Rattle.esr_order.proofs.read_values.distance_to.Given as goal
 
 abbrev pub invariant-loop-value : goal.invariant-loop-value
 invariant-loop-value g l =
