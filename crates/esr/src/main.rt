@@ -210,18 +210,7 @@ fn do_task<
             execute_command(rt, console, job, source, input, &work)
         }
         Task::Explain { name, prose: true } => {
-            let script_view = &Prose { name };
-            execute_command(
-                rt,
-                console,
-                job,
-                source,
-                input,
-                &RenderScript {
-                    script_view,
-                    notes: None,
-                },
-            )
+            show_script(rt, console, job, source, input, &Prose { name })
         }
         Task::Explain { name, prose: false } => match data_of(job.format) {
             Some(data) => {
@@ -240,20 +229,7 @@ fn do_task<
             let script_view = &Timeline { name, notes };
             show_noted_script(rt, console, job, source, input, script_view, notes)
         }
-        Task::Trace => {
-            let script_view = &TraceEvents;
-            execute_command(
-                rt,
-                console,
-                job,
-                source,
-                input,
-                &RenderScript {
-                    script_view,
-                    notes: None,
-                },
-            )
-        }
+        Task::Trace => show_script(rt, console, job, source, input, &TraceEvents),
         Task::Shrink { name, at_least } => {
             let progress = &SearchMeter(Meter::new(rt, console));
             let at_least = at_least.unwrap_or(1);
@@ -262,17 +238,7 @@ fn do_task<
                 at_least,
                 progress,
             };
-            execute_command(
-                rt,
-                console,
-                job,
-                source,
-                input,
-                &RenderScript {
-                    script_view,
-                    notes: None,
-                },
-            )
+            show_script(rt, console, job, source, input, script_view)
         }
         Task::Page { worst } => show_page(rt, console, job, source, input, worst),
         Task::Audit { workers } => match data_of(job.format) {
@@ -286,32 +252,9 @@ fn do_task<
             let script_view = &Ledger {
                 format: table_format(job.format),
             };
-            execute_command(
-                rt,
-                console,
-                job,
-                source,
-                input,
-                &RenderScript {
-                    script_view,
-                    notes: None,
-                },
-            )
+            show_script(rt, console, job, source, input, script_view)
         }
-        Task::Why { name } => {
-            let script_view = &Why { name };
-            execute_command(
-                rt,
-                console,
-                job,
-                source,
-                input,
-                &RenderScript {
-                    script_view,
-                    notes: None,
-                },
-            )
-        }
+        Task::Why { name } => show_script(rt, console, job, source, input, &Why { name }),
         Task::Check {
             script,
             query,
@@ -436,6 +379,22 @@ fn show_noted_query<'a, R: Print + Eprint + AllocGlobal + Clock, I: Read + Drop,
         name,
         query_view,
         notes,
+    };
+    execute_command(rt, console, job, source, input, &work)
+}
+
+/// Prints a text about a script.
+fn show_script<'a, R: Print + Eprint + AllocGlobal + Clock, I: Read + Drop, S: ScriptView>(
+    rt: &R,
+    console: Console,
+    job: Job<'_>,
+    source: Source<'_>,
+    input: I,
+    script_view: &'a S,
+) -> u8 {
+    let work = RenderScript {
+        script_view,
+        notes: None,
     };
     execute_command(rt, console, job, source, input, &work)
 }
