@@ -1,6 +1,6 @@
 //! Keeps the line that it was shown last.
 
-use crate::observer::{Observer, TxnSummary};
+use crate::observer::{LineOutcome, Observer, TxnSummary};
 use std::alloc::Global;
 
 /// Keeps the line that it was shown last, for a caller that shows a single line.
@@ -23,7 +23,7 @@ impl KeptLine {
 }
 
 impl Observer for KeptLine {
-    fn see_line(&mut self, _number: u64, line: &[u8], _answer: &[u8]) {
+    fn see_line(&mut self, _number: u64, line: &[u8], _outcome: LineOutcome) {
         self.line.clear();
         let _ = self.line.extend_from_slice(line);
     }

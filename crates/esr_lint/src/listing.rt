@@ -1,7 +1,7 @@
 //! Lists all that is wrong in a script, a line for each: `FILE:LINE:COLUMN: REASON`.
 
 use crate::answer::mistake_of;
-use crate::observer::{Observer, TxnEnd, TxnSummary};
+use crate::observer::{LineOutcome, Observer, TxnEnd, TxnSummary};
 use crate::place::Source;
 use std::alloc::Global;
 use std::fmt::{Display, Write as _};
@@ -115,12 +115,12 @@ impl<'a, W: Write> Listing<'a, W> {
 }
 
 impl<W: Write> Observer for Listing<'_, W> {
-    fn see_line(&mut self, number: u64, line: &[u8], answer: &[u8]) {
+    fn see_line(&mut self, number: u64, line: &[u8], outcome: LineOutcome) {
         self.lines = number;
         if self.failed.is_some() {
             return;
         }
-        let Some(fault) = mistake_of(line, answer) else {
+        let Some(fault) = mistake_of(line, outcome) else {
             return;
         };
         let place = self.source.line(number);
