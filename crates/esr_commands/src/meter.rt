@@ -86,6 +86,7 @@ impl<R: Clock + Eprint> Gate for Meter<'_, R> {
 pub struct LineObserver<'a, 'm, 'r, R, E> {
     reporter: ErrorReporter<'a, E>,
     meter: &'m Meter<'r, R>,
+    hash_seed: u64,
     lines: u64,
 }
 
@@ -93,10 +94,12 @@ impl<'a, 'm, 'r, R: Clock + Eprint, E: Eprint> LineObserver<'a, 'm, 'r, R, E> {
     pub fn new(
         reporter: ErrorReporter<'a, E>,
         meter: &'m Meter<'r, R>,
+        hash_seed: u64,
     ) -> LineObserver<'a, 'm, 'r, R, E> {
         LineObserver {
             reporter,
             meter,
+            hash_seed,
             lines: 0,
         }
     }
@@ -138,6 +141,10 @@ impl<'a, 'm, 'r, R: Clock + Eprint, E: Eprint> LineObserver<'a, 'm, 'r, R, E> {
 }
 
 impl<R: Clock + Eprint, E: Eprint> Observer for LineObserver<'_, '_, '_, R, E> {
+    fn hash_seed(&self) -> u64 {
+        self.hash_seed
+    }
+
     #[inline(always)]
     fn see_line(&mut self, number: u64, line: &[u8], outcome: LineOutcome) {
         self.lines = number;

@@ -78,7 +78,7 @@ fn text_in<R: Threads + Wait + Sync, G: Gate + Sync, V: Observer>(
     ensures text { IfOk result (λ out. IsDriveText form bytes.now out.items) }
     ensures faults { IfErr result (IsTextFault bytes.now) }
 {
-    let drive_plan = match drive_plan_of(alloc, bytes) {
+    let drive_plan = match drive_plan_of(alloc, bytes, observer.hash_seed()) {
         Ok(drive_plan) => drive_plan,
         Err(fault) => {
             show_line(bytes, fault, observer);

@@ -7,12 +7,14 @@ use std::alloc::Global;
 #[derive(Drop)]
 pub struct KeptLine {
     line: Vec<u8>,
+    hash_seed: u64,
 }
 
 impl KeptLine {
-    pub fn new(alloc: Global) -> KeptLine {
+    pub fn new(alloc: Global, hash_seed: u64) -> KeptLine {
         KeptLine {
             line: Vec::new(alloc),
+            hash_seed,
         }
     }
 
@@ -23,6 +25,10 @@ impl KeptLine {
 }
 
 impl Observer for KeptLine {
+    fn hash_seed(&self) -> u64 {
+        self.hash_seed
+    }
+
     fn see_line(&mut self, _number: u64, line: &[u8], _outcome: LineOutcome) {
         self.line.clear();
         let _ = self.line.extend_from_slice(line);

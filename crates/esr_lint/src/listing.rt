@@ -15,6 +15,7 @@ const ROOM: usize = 32768;
 pub struct Listing<'a, W> {
     writer: W,
     source: Source<'a>,
+    hash_seed: u64,
     text: String,
     /// The length of the text's complete lines in bytes: the text is longer only if an allocation failed within a
     /// line.
@@ -35,10 +36,11 @@ pub enum Unlisted {
 }
 
 impl<'a, W: Write> Listing<'a, W> {
-    pub fn new(alloc: Global, writer: W, source: Source<'a>) -> Listing<'a, W> {
+    pub fn new(alloc: Global, writer: W, source: Source<'a>, hash_seed: u64) -> Listing<'a, W> {
         Listing {
             writer,
             source,
+            hash_seed,
             text: String::new(alloc),
             whole: 0,
             lines: 0,
@@ -115,6 +117,10 @@ impl<'a, W: Write> Listing<'a, W> {
 }
 
 impl<W: Write> Observer for Listing<'_, W> {
+    fn hash_seed(&self) -> u64 {
+        self.hash_seed
+    }
+
     fn see_line(&mut self, number: u64, line: &[u8], outcome: LineOutcome) {
         self.lines = number;
         if self.failed.is_some() {

@@ -54,6 +54,12 @@ pub struct TxnSummary {
 
 /// Observes the lines of a script while they are executed. Its only promise is to return.
 pub trait Observer {
+    /// Returns the seed of the hashes of the script's names, which the author of the script does not know; 0 if no one
+    /// chose the names to have equal hashes.
+    fn hash_seed(&self) -> u64 {
+        0
+    }
+
     /// Receives a line with its number, from 1, without its line feed, and its outcome.
     fn see_line(&mut self, number: u64, line: &[u8], outcome: LineOutcome);
 

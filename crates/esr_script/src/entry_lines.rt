@@ -33,6 +33,10 @@ impl<'a, O> EntryLines<'a, O> {
 }
 
 impl<O: Observer> Observer for EntryLines<'_, O> {
+    fn hash_seed(&self) -> u64 {
+        self.observer.hash_seed()
+    }
+
     fn see_line(&mut self, number: u64, line: &[u8], outcome: LineOutcome) {
         if outcome.is_entry() {
             let number = u32::try_from(number).unwrap_or(u32::MAX);

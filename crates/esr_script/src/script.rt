@@ -68,13 +68,14 @@ impl Model for Script {
 }
 
 impl Script {
-    pub fn new(alloc: Global) -> Script
+    /// Creates the state before the first line. Names are hashed from the seed.
+    pub fn new(alloc: Global, hash_seed: u64) -> Script
         ensures { result ≡ start }
     {
         Script {
             alloc,
-            items: Names::new(alloc),
-            transactions: Names::new(alloc),
+            items: Names::with_seed(alloc, hash_seed),
+            transactions: Names::with_seed(alloc, hash_seed),
             stage: Stage::Open(Declarations::new(alloc)),
         }
     }
