@@ -193,7 +193,7 @@ fn a_page_names_its_origin_and_the_lines_with_errors(rt: HostRuntime) {
 }
 
 /// What the timeline of the bank has, of each kind of sign one.
-static BANK_TIMELINE: [&str; 10] = [
+static BANK_TIMELINE: [&str; 11] = [
     "<title id='all-timeline-title'>What happened, step by step</title>\n",
     ">report</text>\n",
     ">limit 200</text>\n",
@@ -202,6 +202,7 @@ static BANK_TIMELINE: [&str; 10] = [
     "<title>step 4, line 6: transfer wrote checking: 400</title><rect class='mw' ",
     "<title>step 4, line 6: transfer charged report 100 for checking</title></path>\n",
     ">+100</text>\n",
+    "<title>step 7, line 9: report read savings: 1,600, which is 1,500 in the nearest state</title><circle class='mo' ",
     "<title>step 8, line 10: report committed</title>",
     ">off by 100</text>\n",
 ];
