@@ -7,16 +7,16 @@ use Rattle.esr_why.specs.declared.shortfall.Shortfall.{Shortfall}
 use Rattle.esr_why.specs.Shortfalls.{import_lack, export_lack, listed}
 use Rattle.esr_why.proofs.Amounts.{read_some}
 use Rattle.esr_why.proofs.Amounts.{value_fits}
-use Rattle.esr_why.proofs.replay.Replay.read_shortfalls.Goals as goal
+use Rattle.esr_why.proofs.shortfall.read_shortfalls.Goals as goal
 
 pub returns : goal.returns
 returns c =
-    let h = c.args.self.now in let x = c.args.x.0 in let u = c.in-Some.u.0 in let current = c.current-current.result in let committed = c.committed-committed.result in
-    let found : writer (accepted_in h) x ≡ Some u = sym (c.in-Some.ensures ∙ ap (λ (s : Schedule). writer (accepted_in s) x) c.self.view_is) in
+    let h = c.args.machine.now in let x = c.args.x.0 in let u = c.in-Some.u.0 in let current = c.current-current.result in let committed = c.committed-committed.result in
+    let found : writer (accepted_in h) x ≡ Some u = sym c.in-Some.ensures in
     let first : to_z w64 (of_z w64 current) ≡ current_value h.opening (accepted_in h) x = to_z-of_z w64 current (value_fits current c.current-current.ensures.range) ∙ c.current-current.ensures.value in
     let second : to_z w64 (of_z w64 committed) ≡ committed_value h.opening (accepted_in h) x =
-    to_z-of_z w64 committed (value_fits committed c.committed-committed.ensures.range) ∙ (c.committed-committed.ensures.value ∙ ap (λ (s : Schedule). committed_value s.opening (accepted_in s) x) c.self.view_is) in
-    let weights : c.metric.result.now.0.now ≡ h.weights = c.metric.ensures ∙ ap (λ (s : Schedule). s.weights) (c.history.ensures.schedule ∙ c.self.view_is) in
+    to_z-of_z w64 committed (value_fits committed c.committed-committed.ensures.range) ∙ c.committed-committed.ensures.value in
+    let weights : c.metric.result.now.0.now ≡ h.weights = c.metric.ensures ∙ ap (λ (s : Schedule). s.weights) c.history.ensures.schedule in
     let due : c.distance-due.result ≡ weighted h.weights x (current_value h.opening (accepted_in h) x) (committed_value h.opening (accepted_in h) x) =
     c.distance-due.ensures ∙ (ap (λ (w : List ℕ). weighted w x (to_z w64 (of_z w64 current)) (to_z w64 (of_z w64 committed))) weights ∙ ap₂ (weighted h.weights x) first second) in
     let imports = c.import_lack.ensures ∙ ap (import_lack weighted h c.args.q.0) due in

@@ -10,11 +10,11 @@ use Rattle.esr_why.specs.declared.shortfall.Shortfall.{Shortfall}
 use Rattle.esr_why.specs.Shortfalls.{import_lack, export_lack, listed}
 use Rattle.esr_why.proofs.Amounts.{each, no_elements, some_elements, write_none, write_some}
 use Rattle.esr_why.proofs.Amounts.{value_fits}
-use Rattle.esr_why.proofs.replay.Replay.write_shortfalls.Goals as goal
+use Rattle.esr_why.proofs.shortfall.write_shortfalls.Goals as goal
 
 pub returns-then-is_empty : goal.returns-then-is_empty
 returns-then-is_empty c =
-    let h = c.args.self.now in
+    let h = c.args.machine.now in
     let none : (item_locks (accepted_in h) c.args.x.0).queries ≡ [] =
     sym c.query_reads-reads.ensures.reads ∙ ap (map query_and_count) (no_elements c.query_reads-reads.result.now (sym c.is_empty.ensures ∙ c.if-is_empty.true)) in
     c.new-found.ensures.items ∙ write_none weighted h c.args.u c.args.x c.args.value c.requires.update none
@@ -35,9 +35,9 @@ total-requires-clause-amount c =
 
 pub returns : goal.returns
 returns c =
-    let h = c.args.self.now in let x = c.args.x.0 in let before = c.current-before.result in let a = c.distance-amount.result in
+    let h = c.args.machine.now in let x = c.args.x.0 in let before = c.current-before.result in let a = c.distance-amount.result in
     let rs : List (ℕ × ℕ) = map query_and_count c.query_reads-reads.result.now in
-    let weights : c.metric.result.now.0.now ≡ h.weights = c.metric.ensures ∙ ap (λ (s : Schedule). s.weights) (c.history.ensures.schedule ∙ c.self.view_is) in
+    let weights : c.metric.result.now.0.now ≡ h.weights = c.metric.ensures ∙ ap (λ (s : Schedule). s.weights) c.history.ensures.schedule in
     let amount : a ≡ each weighted h c.args.x c.args.value =
     c.distance-amount.ensures
     ∙ (ap (λ (w : List ℕ). weighted w x (to_z w64 (of_z w64 c.args.value)) (to_z w64 (of_z w64 before))) weights
