@@ -18,9 +18,11 @@ class Script:
     def read(self, txn, item):
         self.lines.append(f"read {txn} {item}")
 
-    def update(self, name, writes, between=()):
-        """Adds an update with its writes; each write is followed by the reads of `between` at its index."""
+    def update(self, name, writes, between=(), reads=()):
+        """Adds an update with its reads and writes; each write is followed by the reads of `between` at its index."""
         self.lines.append(f"begin {name} update {LIMIT}")
+        for item in reads:
+            self.read(name, item)
         for place, (item, value) in enumerate(writes):
             self.lines.append(f"write {name} {item} {value}")
             for txn, read in between[place] if place < len(between) else ():
@@ -65,7 +67,8 @@ def random_script(seed):
     for i in range(pick.choice([0, 1, 2, 3, 5, 8, 13, 30, 31, 40])):
         writes = [(pick.choice(names), value()) for _ in range(pick.randint(1, 4))]
         between = [[(query, pick.choice(names))] if pick.random() < 0.3 else [] for _ in writes]
-        script.update(stem("u", i), writes, between)
+        reads = [name for name in names if pick.random() < 0.1] if seed % 3 == 0 else []
+        script.update(stem("u", i), writes, between, reads)
     for name in names:
         if pick.random() < 0.4:
             script.read(query, name)
@@ -106,6 +109,34 @@ def strict():
     return script.text(), "q"
 
 
+def unwritten(count, written):
+    """Returns a report that reads `count` items, of which two updates write some."""
+    script = Script([(f"x{i}", 100) for i in range(count)])
+    script.query("q")
+    for i in range(count // 2):
+        script.read("q", f"x{i}")
+    script.update("first", [(f"x{i}", 200) for i in range(written)])
+    script.update("second", [(f"x{i}", 300) for i in range(written)], reads=["x0"])
+    for i in range(count // 2, count):
+        script.read("q", f"x{i}")
+    script.read("q", "x0")
+    script.lines.append("commit q")
+    return script.text(), "q"
+
+
+def hidden(count, reads):
+    """Returns a report that reads a few values of each of some items in the middle of `count` updates of all of them."""
+    names = [f"account_{i:08}" for i in range(9)]
+    script = Script([(name, 10 ** 12) for name in names])
+    script.query("the_whole_report")
+    for i in range(count):
+        writes = [(name, 10 ** 12 - i * (place + 1)) for place, name in enumerate(names)]
+        between = [[("the_whole_report", names[i % 9])] if i % reads == 0 else []]
+        script.update(f"transfer_{i:07}", writes, between)
+    script.lines.append("commit the_whole_report")
+    return script.text(), "the_whole_report"
+
+
 def errors(count):
     """A report in a script with `count` lines with errors, which contain letters that markup reserves."""
     text, query = rounds(6, 3, 0, False)
@@ -123,6 +154,11 @@ def edges():
     yield ("twice_longest",) + rounds(6, 3, 16, True, True)
     yield ("items_400",) + rounds(20, 40, 0, False)
     yield ("items_many",) + rounds(900, 300, 0, False)
+    yield ("unwritten_all",) + unwritten(4, 0)
+    yield ("unwritten_one",) + unwritten(4, 3)
+    yield ("unwritten_many",) + unwritten(15, 3)
+    yield ("hidden",) + hidden(180, 20)
+    yield ("hidden_often",) + hidden(90, 2)
     yield ("strict",) + strict()
     yield ("error",) + errors(1)
     yield ("errors",) + errors(9)

@@ -63,7 +63,7 @@ fn main(rt: HostRuntime) -> ExitCode {
     }
     match command(alloc, words.as_slice()) {
         Ok(job) => {
-            let console = Console::new(job.progress, &rt.stderr(), &rt.stdin());
+            let console = Console::new(&rt, job.progress, &rt.stderr(), &rt.stdin());
             let status = match (job.task, job.file) {
                 (Task::Lint, Some(_)) => lint_each(&rt, console, owned.as_slice()),
                 _ => do_job(&rt, console, job),
@@ -275,7 +275,12 @@ fn do_task<
             workers,
             script: false,
         } => drive_file(rt, console, source, input, DriveOutput::Text { workers }),
-        Task::Explore { seeds, all, worst } => match search_of(seeds, all, worst) {
+        Task::Explore { seeds, all, worst } => match search_of(
+            seeds,
+            all,
+            worst,
+            console.hash_seed,
+        ) {
             Ok(search) => explore_file(rt, console, source, input, search),
             Err(mistake) => fail(rt, &mistake, 2),
         },
@@ -516,7 +521,12 @@ fn table_format(format: Option<Format>) -> esr_tables::Format {
 const SEEDS: u64 = 1_000;
 
 /// Returns the search over interleavings, or the error of its options.
-fn search_of(seeds: Option<u64>, all: bool, worst: Option<&str>) -> Result<Search, &'static str> {
+fn search_of(
+    seeds: Option<u64>,
+    all: bool,
+    worst: Option<&str>,
+    hash_seed: u64,
+) -> Result<Search, &'static str> {
     if all && seeds.is_some() {
         return Err("--seeds and --all are mutually exclusive");
     }
@@ -525,13 +535,18 @@ fn search_of(seeds: Option<u64>, all: bool, worst: Option<&str>) -> Result<Searc
     } else {
         Some(seeds.unwrap_or(SEEDS))
     };
-    let Some(name) = worst else {
-        return Ok(Search { seeds, worst: None });
+    let worst = match worst {
+        None => None,
+        Some(name) => match Measure::of_name(name) {
+            None => return Err("--worst must be import, distance or blocked"),
+            measure => measure,
+        },
     };
-    match Measure::of_name(name) {
-        None => Err("--worst must be import, distance or blocked"),
-        worst => Ok(Search { seeds, worst }),
-    }
+    Ok(Search {
+        seeds,
+        worst,
+        hash_seed,
+    })
 }
 
 /// Runs the blocks of a drive file in many interleavings.
@@ -578,7 +593,7 @@ fn drive_file<R: Print + Eprint + AllocGlobal + Threads + Wait + Sync, I: Read +
     // The copy contains the line that is too long.
     let mut reader = Watched::new(TeeReader::new(alloc, input));
     let mut writer = Watched::new(Output::new(alloc, io::writer(rt), false));
-    let mut kept = KeptLine::new(alloc);
+    let mut kept = KeptLine::new(alloc, console.hash_seed);
     match drive(
         rt,
         alloc,

@@ -155,7 +155,7 @@ pub fn execute_command<R: Print + Eprint + AllocGlobal + Clock, I: Read + Drop, 
     let sought = sought_by(job.task);
     let reporter = ErrorReporter::new(rt, alloc, source, reports, sought, command.notes());
     let meter = Meter::new(rt, console);
-    let mut observer = LineObserver::new(reporter, &meter);
+    let mut observer = LineObserver::new(reporter, &meter, console.hash_seed);
     let ended = command.execute(alloc, &mut reader, &mut writer, &mut observer);
     finish(rt, console, job, source, ended, &observer, writer.inner())
 }
@@ -178,7 +178,7 @@ pub fn audit_script<'a, R: Print + Eprint + AllocGlobal + Clock + Threads + Sync
     let reports = reports_of(console, job.task);
     let reporter = ErrorReporter::new(rt, alloc, source, reports, Sought::Nothing, None);
     let meter = Meter::new(rt, console);
-    let mut observer = LineObserver::new(reporter, &meter);
+    let mut observer = LineObserver::new(reporter, &meter, console.hash_seed);
     let ended = audit(
         rt,
         alloc,
@@ -221,7 +221,7 @@ pub fn audit_script_as<
     let reports = reports_of(console, job.task);
     let reporter = ErrorReporter::new(rt, alloc, source, reports, Sought::Nothing, None);
     let meter = Meter::new(rt, console);
-    let mut observer = LineObserver::new(reporter, &meter);
+    let mut observer = LineObserver::new(reporter, &meter, console.hash_seed);
     let audited = audit_silently(rt, alloc, &mut reader, workers, &meter, &mut observer);
     meter.clear();
     let ended = match audited {

@@ -150,7 +150,7 @@ fn check_with_script<'a, R: Print + Eprint + Files + AllocGlobal + Clock, I: Rea
     let sought = Sought::CommittedQuery(query);
     let reporter = ErrorReporter::new(rt, alloc, script, reports, sought, None);
     let meter = Meter::new(rt, console);
-    let mut observer = LineObserver::new(reporter, &meter);
+    let mut observer = LineObserver::new(reporter, &meter, console.hash_seed);
     match ask(alloc, &mut reader, query, &mut observer) {
         Ok(asked) => {
             let verdict = check_claim(rt, console, source, input, &asked, query, verbose);

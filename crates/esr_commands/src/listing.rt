@@ -22,7 +22,7 @@ pub fn list_faults<I: Read + Drop>(
     let alloc = rt.alloc();
     let mut reader = Watched::new(input);
     let output = Output::new(alloc, io::writer(rt), false);
-    let mut listing = Listing::new(alloc, output, source);
+    let mut listing = Listing::new(alloc, output, source, console.hash_seed);
     if let Err(fault) = lint(alloc, &mut reader, &mut listing) {
         list_last_line(&mut listing, fault);
         let finished = listing.finish();

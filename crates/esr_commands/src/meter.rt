@@ -6,7 +6,7 @@
 //! thread alone. No clause specifies the text, and a failure to write it is not an error of the run.
 
 use crate::console::Console;
-use esr_lint::{ErrorReporter, NotFound, Observer, TxnSummary, is_error};
+use esr_lint::{ErrorReporter, LineOutcome, NotFound, Observer, TxnSummary};
 use esr_script::Gate;
 use std::fmt::Display;
 use std::sync::atomic::{AtomicU64, Ordering};
@@ -86,6 +86,7 @@ impl<R: Clock + Eprint> Gate for Meter<'_, R> {
 pub struct LineObserver<'a, 'm, 'r, R, E> {
     reporter: ErrorReporter<'a, E>,
     meter: &'m Meter<'r, R>,
+    hash_seed: u64,
     lines: u64,
 }
 
@@ -93,10 +94,12 @@ impl<'a, 'm, 'r, R: Clock + Eprint, E: Eprint> LineObserver<'a, 'm, 'r, R, E> {
     pub fn new(
         reporter: ErrorReporter<'a, E>,
         meter: &'m Meter<'r, R>,
+        hash_seed: u64,
     ) -> LineObserver<'a, 'm, 'r, R, E> {
         LineObserver {
             reporter,
             meter,
+            hash_seed,
             lines: 0,
         }
     }
@@ -120,18 +123,36 @@ impl<'a, 'm, 'r, R: Clock + Eprint, E: Eprint> LineObserver<'a, 'm, 'r, R, E> {
     pub fn release(&self) {
         self.reporter.release();
     }
+
+    /// Reports a line with an error.
+    #[cold]
+    #[inline(never)]
+    fn report(&mut self, number: u64, line: &[u8], outcome: LineOutcome) {
+        self.meter.clear();
+        self.reporter.see_line(number, line, outcome);
+    }
+
+    /// Shows the number of lines read.
+    #[cold]
+    #[inline(never)]
+    fn show_progress(&self, number: u64) {
+        self.meter.show(&format_args!("line {number}"));
+    }
 }
 
 impl<R: Clock + Eprint, E: Eprint> Observer for LineObserver<'_, '_, '_, R, E> {
-    fn see_line(&mut self, number: u64, line: &[u8], answer: &[u8]) {
+    fn hash_seed(&self) -> u64 {
+        self.hash_seed
+    }
+
+    #[inline(always)]
+    fn see_line(&mut self, number: u64, line: &[u8], outcome: LineOutcome) {
         self.lines = number;
-        // The reporter gets only lines with faults, so that each reply is inspected once.
-        if is_error(answer) {
-            self.meter.clear();
-            self.reporter.see_line(number, line, answer);
+        if let LineOutcome::Error(_) = outcome {
+            self.report(number, line, outcome);
         }
         if number % LINES == 0 {
-            self.meter.show(&format_args!("line {number}"));
+            self.show_progress(number);
         }
     }
 

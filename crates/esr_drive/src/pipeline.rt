@@ -24,7 +24,7 @@ use esr_board::Gate;
 use esr_dump::named_script;
 use esr_history::Watched;
 use esr_items::Store;
-use esr_lint::Observer;
+use esr_lint::{LineOutcome, Observer};
 use esr_plan::{
     DriveFault, DrivePlan, begun_names, drive_plan_of, metric_of, push_items, read_all,
 };
@@ -78,7 +78,7 @@ fn text_in<R: Threads + Wait + Sync, G: Gate + Sync, V: Observer>(
     ensures text { IfOk result (λ out. IsDriveText form bytes.now out.items) }
     ensures faults { IfErr result (IsTextFault bytes.now) }
 {
-    let drive_plan = match drive_plan_of(alloc, bytes) {
+    let drive_plan = match drive_plan_of(alloc, bytes, observer.hash_seed()) {
         Ok(drive_plan) => drive_plan,
         Err(fault) => {
             show_line(bytes, fault, observer);
@@ -104,7 +104,7 @@ fn show_line<V: Observer>(bytes: &[u8], fault: DriveFault, observer: &mut V) {
     for line in bytes.split(|b| *b == b'\n') {
         count = count.saturating_add(1);
         if count == number {
-            return observer.see_line(number, line, b"error");
+            return observer.see_line(number, line, LineOutcome::Rejected);
         }
     }
 }

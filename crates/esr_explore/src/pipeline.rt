@@ -32,13 +32,15 @@ use esr_plan::{DriveFault, DrivePlan, begun_names, drive_plan_of, read_all};
 use std::alloc::{AllocError, Global};
 use std::io::{Read, Write};
 
-/// A search: its orders, and the run that is written.
+/// A search: its orders, the run that is written, and how names are hashed.
 #[derive(Clone, Copy)]
 pub struct Search {
     /// The number of orders to draw, or `None` to run all orders.
     pub seeds: Option<u64>,
     /// The measure of the worst run, which is written as a script; `None` to write the summary.
     pub worst: Option<Measure>,
+    /// The seed of the hashes of names.
+    pub hash_seed: u64,
 }
 
 /// Reads a drive file to its end, runs its blocks on one thread in many orders, and writes the outcomes.
@@ -55,7 +57,7 @@ pub fn explore<I: Read, O: Write>(
         Ok(bytes) => bytes,
         Err(fault) => return Err(ExploreFault::Drive(fault)),
     };
-    let drive_plan = match drive_plan_of(alloc, &bytes) {
+    let drive_plan = match drive_plan_of(alloc, &bytes, search.hash_seed) {
         Ok(drive_plan) => drive_plan,
         Err(fault) => return Err(ExploreFault::Drive(fault)),
     };

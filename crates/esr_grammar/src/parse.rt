@@ -239,6 +239,7 @@ fn command(line: &[u8]) -> Option<Line<'_>>
 }
 
 /// Parses a line. Allocates nothing.
+#[inline(always)]
 pub fn parse_line(line: &[u8]) -> Parsed<'_>
     // Skipped exactly for a skipped line, a command exactly if the line is its text.
     ensures skipped { (result ≡ Parsed.Skipped) ↔ IsTrue (is_skipped line.now) }

@@ -142,6 +142,7 @@ pub fn name(word: &[u8]) -> Option<&str>
 
 /// Returns the value of up to 19 digits.
 #[tactic(auto, using(crate::proofs::Laws::no_digit))]
+#[inline(always)]
 fn digits_value(digits: &[u8]) -> Option<u64>
     requires { length digits.now ≤ 19 }
     ensures found { IfSome result (λ n. (n ≡ value_from 0 digits.now) × (n < 10 ^ 19)
@@ -160,6 +161,7 @@ fn digits_value(digits: &[u8]) -> Option<u64>
 
 /// Returns the limit with this decimal form: digits without leading zeros.
 #[tactic(auto, using(crate::proofs::Laws::too_long, crate::proofs::Laws::empty_word, crate::proofs::Laws::zero_alone, crate::proofs::Laws::zero_in_front))]
+#[inline(always)]
 pub fn limit(word: &[u8]) -> Option<u64>
     ensures { result ≡ limit_in word.now }
 {
@@ -174,6 +176,7 @@ pub fn limit(word: &[u8]) -> Option<u64>
 }
 
 /// Returns the number of up to 18 digits with this decimal form.
+#[inline(always)]
 fn magnitude(word: &[u8]) -> Option<u64>
     ensures { result ≡ number_below INT_END word.now }
 {
@@ -182,6 +185,7 @@ fn magnitude(word: &[u8]) -> Option<u64>
 }
 
 /// Returns the integer with this decimal form.
+#[inline(always)]
 pub fn int(word: &[u8]) -> Option<i64>
     ensures { result ≡ int_of word.now }
 {

@@ -1,18 +1,20 @@
 //! Keeps the line that it was shown last.
 
-use crate::observer::{Observer, TxnSummary};
+use crate::observer::{LineOutcome, Observer, TxnSummary};
 use std::alloc::Global;
 
 /// Keeps the line that it was shown last, for a caller that shows a single line.
 #[derive(Drop)]
 pub struct KeptLine {
     line: Vec<u8>,
+    hash_seed: u64,
 }
 
 impl KeptLine {
-    pub fn new(alloc: Global) -> KeptLine {
+    pub fn new(alloc: Global, hash_seed: u64) -> KeptLine {
         KeptLine {
             line: Vec::new(alloc),
+            hash_seed,
         }
     }
 
@@ -23,7 +25,11 @@ impl KeptLine {
 }
 
 impl Observer for KeptLine {
-    fn see_line(&mut self, _number: u64, line: &[u8], _answer: &[u8]) {
+    fn hash_seed(&self) -> u64 {
+        self.hash_seed
+    }
+
+    fn see_line(&mut self, _number: u64, line: &[u8], _outcome: LineOutcome) {
         self.line.clear();
         let _ = self.line.extend_from_slice(line);
     }

@@ -1,7 +1,7 @@
 //! Lists all that is wrong in a script, a line for each: `FILE:LINE:COLUMN: REASON`.
 
 use crate::answer::mistake_of;
-use crate::observer::{Observer, TxnEnd, TxnSummary};
+use crate::observer::{LineOutcome, Observer, TxnEnd, TxnSummary};
 use crate::place::Source;
 use std::alloc::Global;
 use std::fmt::{Display, Write as _};
@@ -15,6 +15,7 @@ const ROOM: usize = 32768;
 pub struct Listing<'a, W> {
     writer: W,
     source: Source<'a>,
+    hash_seed: u64,
     text: String,
     /// The length of the text's complete lines in bytes: the text is longer only if an allocation failed within a
     /// line.
@@ -35,10 +36,11 @@ pub enum Unlisted {
 }
 
 impl<'a, W: Write> Listing<'a, W> {
-    pub fn new(alloc: Global, writer: W, source: Source<'a>) -> Listing<'a, W> {
+    pub fn new(alloc: Global, writer: W, source: Source<'a>, hash_seed: u64) -> Listing<'a, W> {
         Listing {
             writer,
             source,
+            hash_seed,
             text: String::new(alloc),
             whole: 0,
             lines: 0,
@@ -115,12 +117,16 @@ impl<'a, W: Write> Listing<'a, W> {
 }
 
 impl<W: Write> Observer for Listing<'_, W> {
-    fn see_line(&mut self, number: u64, line: &[u8], answer: &[u8]) {
+    fn hash_seed(&self) -> u64 {
+        self.hash_seed
+    }
+
+    fn see_line(&mut self, number: u64, line: &[u8], outcome: LineOutcome) {
         self.lines = number;
         if self.failed.is_some() {
             return;
         }
-        let Some(fault) = mistake_of(line, answer) else {
+        let Some(fault) = mistake_of(line, outcome) else {
             return;
         };
         let place = self.source.line(number);

@@ -1,4 +1,41 @@
-//! Observers of the lines of a script and their replies.
+//! Observers of the lines of a script and their outcomes.
+//!
+//! An observer receives the outcome of a line as data. Rejected: passing it the text of the reply, which it would have to
+//! parse again for each line.
+
+use esr_history::{Refusal, Reply};
+use esr_report::LineError;
+
+/// The outcome of a line of a script.
+#[derive(Clone, Copy)]
+pub enum LineOutcome {
+    /// The line submits no event and has no error.
+    NoEvent,
+    /// The machine accepted the event.
+    Accepted,
+    /// The machine refused the event.
+    Refused(Refusal),
+    /// The line has an error.
+    Error(LineError),
+    /// The line is the reason why a drive file is not executed.
+    Rejected,
+}
+
+impl LineOutcome {
+    /// Returns the outcome of a line whose event has this reply.
+    #[inline(always)]
+    pub fn of_reply(reply: Reply) -> LineOutcome {
+        match reply {
+            Reply::Refused(why) => LineOutcome::Refused(why),
+            _ => LineOutcome::Accepted,
+        }
+    }
+
+    /// Returns whether the line added an entry to the history.
+    pub fn is_entry(self) -> bool {
+        matches!(self, LineOutcome::Accepted | LineOutcome::Refused(_))
+    }
+}
 
 /// Whether and how a transaction ended.
 #[derive(Clone, Copy, PartialEq, Eq)]
@@ -17,9 +54,14 @@ pub struct TxnSummary {
 
 /// Observes the lines of a script while they are executed. Its only promise is to return.
 pub trait Observer {
-    /// Receives a line with its number, from 1, without its line feed, and the reply: empty for a line that is
-    /// skipped.
-    fn see_line(&mut self, number: u64, line: &[u8], answer: &[u8]);
+    /// Returns the seed of the hashes of the script's names, which the author of the script does not know; 0 if no one
+    /// chose the names to have equal hashes.
+    fn hash_seed(&self) -> u64 {
+        0
+    }
+
+    /// Receives a line with its number, from 1, without its line feed, and its outcome.
+    fn see_line(&mut self, number: u64, line: &[u8], outcome: LineOutcome);
 
     /// Receives a transaction after the last line, in the order of the begins. Transactions are shown before a text
     /// of the whole script is made, if the requested query is not a committed one, and at the end of a listing.
@@ -34,7 +76,7 @@ pub trait Observer {
 pub struct Unobserved;
 
 impl Observer for Unobserved {
-    fn see_line(&mut self, _number: u64, _line: &[u8], _answer: &[u8]) {}
+    fn see_line(&mut self, _number: u64, _line: &[u8], _outcome: LineOutcome) {}
 
     fn see_transaction(&mut self, _name: &str, _status: TxnSummary) {}
 

@@ -5,9 +5,9 @@
 //! Rejected: holding them at a terminal too, because an error would then appear only after a long run. Nothing is
 //! allocated before a line has an error or a name is not found. A failure to report is not an error of the run.
 
-use crate::answer::{fault_of, is_error};
+use crate::answer::fault_of;
 use crate::notes::Notes;
-use crate::observer::{Observer, TxnEnd, TxnSummary};
+use crate::observer::{LineOutcome, Observer, TxnEnd, TxnSummary};
 use crate::place::Source;
 use std::alloc::{AllocError, Global};
 use std::fmt;
@@ -64,20 +64,25 @@ impl<'a> Sought<'a> {
     }
 }
 
-/// A line that is reported later, with its reply.
+/// A line that is reported later, with its outcome.
 #[derive(Drop)]
 struct Kept {
     number: u64,
     line: Vec<u8>,
-    answer: Vec<u8>,
+    outcome: LineOutcome,
 }
 
 impl Kept {
-    fn new(alloc: Global, number: u64, line: &[u8], answer: &[u8]) -> Result<Kept, AllocError> {
+    fn new(
+        alloc: Global,
+        number: u64,
+        line: &[u8],
+        outcome: LineOutcome,
+    ) -> Result<Kept, AllocError> {
         Ok(Kept {
             number,
             line: line.to_vec(alloc)?,
-            answer: answer.to_vec(alloc)?,
+            outcome,
         })
     }
 }
@@ -154,26 +159,26 @@ impl<'a, E: Eprint> ErrorReporter<'a, E> {
     }
 
     /// Reports a line now.
-    fn report(&self, number: u64, line: &[u8], answer: &[u8]) {
+    fn report(&self, number: u64, line: &[u8], outcome: LineOutcome) {
         let place = self.source.line(number);
-        if let Some(fault) = fault_of(line, answer) {
+        if let Some(fault) = fault_of(line, outcome) {
             let _ = eprintln!(self.to; "esr: {place}: {fault}");
         }
     }
 
     /// Notes a line for a page or a picture.
-    fn note(&self, number: u64, line: &[u8], answer: &[u8]) {
+    fn note(&self, number: u64, line: &[u8], outcome: LineOutcome) {
         let place = self.source.line(number);
         if let Some(notes) = self.notes
-            && let Some(fault) = fault_of(line, answer)
+            && let Some(fault) = fault_of(line, outcome)
         {
             notes.add(&format_args!("{place}: {fault}"));
         }
     }
 
     /// Keeps a line to report it later.
-    fn keep(&mut self, number: u64, line: &[u8], answer: &[u8]) {
-        if let Ok(kept) = Kept::new(self.alloc, number, line, answer) {
+    fn keep(&mut self, number: u64, line: &[u8], outcome: LineOutcome) {
+        if let Ok(kept) = Kept::new(self.alloc, number, line, outcome) {
             let _ = self.kept.push(kept);
         }
     }
@@ -184,7 +189,7 @@ impl<'a, E: Eprint> ErrorReporter<'a, E> {
             return;
         }
         for kept in &self.kept {
-            self.report(kept.number, &kept.line, &kept.answer);
+            self.report(kept.number, &kept.line, kept.outcome);
         }
         let source = self.source;
         let count = Count {
@@ -208,19 +213,19 @@ impl<'a, E: Eprint> ErrorReporter<'a, E> {
 }
 
 impl<E: Eprint> Observer for ErrorReporter<'_, E> {
-    fn see_line(&mut self, number: u64, line: &[u8], answer: &[u8]) {
-        if !is_error(answer) {
+    fn see_line(&mut self, number: u64, line: &[u8], outcome: LineOutcome) {
+        if !matches!(outcome, LineOutcome::Error(_)) {
             return;
         }
         self.faults = self.faults.saturating_add(1);
-        self.note(number, line, answer);
+        self.note(number, line, outcome);
         if self.faults > self.limit() {
             return;
         }
         if self.reports.held || self.reports.first_only {
-            self.keep(number, line, answer);
+            self.keep(number, line, outcome);
         } else {
-            self.report(number, line, answer);
+            self.report(number, line, outcome);
         }
     }
 

@@ -12,16 +12,18 @@ use esr_cert::Certificate;
 use esr_history::{History, TxnId};
 use esr_items::Weighted;
 use esr_text::first;
+use esr_trace::sum_error;
 use std::alloc::{AllocError, Global};
 
 /// So many updates the problems that are kept have together at most.
 const MAX_UPDATES: usize = 250_000;
 
-/// How far a committed query was off.
+/// How far a committed query was off, and by how much the sum of its reads was.
 #[derive(Clone, Copy)]
 pub struct AuditedDistance {
     pub query: TxnId,
     pub distance: u64,
+    pub sum_error: u64,
 }
 
 /// The committed updates, and what audits find of the committed queries, in the order of their commits.
@@ -105,10 +107,17 @@ impl Audits {
     }
 
     /// Notes how far a query was off.
-    fn note(&mut self, finding: &Finding) -> Result<(), AllocError> {
+    fn note(
+        &mut self,
+        alloc: Global,
+        history: &History<Weighted>,
+        finding: &Finding,
+    ) -> Result<(), AllocError> {
+        let sum_error = sum_error(alloc, history, finding)?;
         self.found.push(AuditedDistance {
             query: finding.query,
             distance: finding.distance,
+            sum_error,
         })?;
         Ok(())
     }
@@ -125,7 +134,7 @@ impl Audits {
         requires { map (λ t. t.0) committed.now ≡ commit_order (accepted_in history.now.schedule) }
     {
         let finding = finding_in(alloc, history, committed, query)?;
-        self.note(&finding)?;
+        self.note(alloc, history, &finding)?;
         let place = self.place_of(&finding);
         if place < count {
             self.insert(alloc, place, finding, count)

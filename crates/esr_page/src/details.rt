@@ -7,7 +7,7 @@ use esr_audit::{AuditError, Finding, audit_query};
 use esr_history::TxnId;
 use esr_report::name_of_transaction;
 use esr_text::{first, push_number};
-use esr_trace::{Audited, Part, trace_of};
+use esr_trace::{Audited, Part, sum_error, trace_of};
 use esr_views::Recording;
 use std::alloc::{AllocError, Global};
 
@@ -51,13 +51,20 @@ pub fn describe_farthest(
 }
 
 /// Appends the heading of a query, and the start of its pictures.
-fn push_heading(out: &mut String, name: &str, distance: u64) -> Result<(), AllocError> {
+fn push_heading(
+    out: &mut String,
+    name: &str,
+    distance: u64,
+    sum_error: u64,
+) -> Result<(), AllocError> {
     write!(out, "<section id='q-{name}'><h3>{name}: ")?;
     if distance == 0 {
         out.push_str("exact")?;
     } else {
         out.push_str("off by ")?;
         push_number(out, distance)?;
+        out.push_str(", its sum by ")?;
+        push_number(out, sum_error)?;
     }
     out.push_str("</h3>\n<div class='seen'>\n")
 }
@@ -105,7 +112,8 @@ impl<T: Part, P: Part, W: Part> Page<'_, T, P, W> {
             finding,
         };
         let name = name_of_transaction(&recording.transactions, finding.query);
-        push_heading(out, name, finding.distance)?;
+        let sum_error = sum_error(alloc, &recording.history, finding)?;
+        push_heading(out, name, finding.distance, sum_error)?;
         self.push(alloc, out, &audited, recording.lines)?;
         write!(
             out,

@@ -15,5 +15,6 @@ mod page;
 mod rows;
 mod style;
 mod table;
+mod updates;
 
 pub use page::{Origin, Page};

@@ -10,6 +10,7 @@ use crate::histogram::push_histogram;
 use crate::rows::{QueryRow, QueryRows, rows_of};
 use crate::style::{head, script};
 use crate::table::push_table;
+use crate::updates::push_updates;
 use esr_history::TxnId;
 use esr_lint::Notes;
 use esr_report::{Names, name_of_transaction};
@@ -84,14 +85,32 @@ struct PageTotals<'a> {
     distance: u64,
     charged: u64,
     farthest: Option<Farthest<'a>>,
+    /// The query whose sum has the greatest error.
+    sum: Option<Farthest<'a>>,
 }
 
-/// The query with the greatest distance.
+/// The query with the greatest amount of a kind.
 #[derive(Clone, Copy)]
 struct Farthest<'a> {
     name: &'a str,
-    distance: u64,
+    amount: u64,
     has_explanation: bool,
+}
+
+/// Returns the query with the greatest amount of two, the first of them if they are equal. An amount of 0 does not count.
+fn farther<'a>(
+    farthest: Option<Farthest<'a>>,
+    row: &QueryRow<'a>,
+    amount: u64,
+) -> Option<Farthest<'a>> {
+    if amount <= farthest.map_or(0, |farthest| farthest.amount) {
+        return farthest;
+    }
+    Some(Farthest {
+        name: row.name,
+        amount,
+        has_explanation: row.has_explanation,
+    })
 }
 
 /// The sums over the queries that committed.
@@ -102,6 +121,7 @@ fn totals_of<'a>(rows: &[QueryRow<'a>]) -> PageTotals<'a> {
         distance: 0,
         charged: 0,
         farthest: None,
+        sum: None,
     };
     for row in rows {
         let Some(distance) = row.distance() else {
@@ -111,17 +131,8 @@ fn totals_of<'a>(rows: &[QueryRow<'a>]) -> PageTotals<'a> {
         totals.exact = totals.exact.saturating_add(u64::from(distance == 0));
         totals.distance = totals.distance.saturating_add(distance);
         totals.charged = totals.charged.saturating_add(row.charged);
-        if distance > 0
-            && totals
-                .farthest
-                .is_none_or(|upper_bound| distance > upper_bound.distance)
-        {
-            totals.farthest = Some(Farthest {
-                name: row.name,
-                distance,
-                has_explanation: row.has_explanation,
-            });
-        }
+        totals.farthest = farther(totals.farthest, row, distance);
+        totals.sum = farther(totals.sum, row, row.sum_error().unwrap_or(0));
     }
     totals
 }
@@ -147,20 +158,23 @@ fn push_sums(out: &mut String, totals: PageTotals<'_>, updates: u64) -> Result<(
     push_number(out, totals.charged)?;
     out.push_str("</dd></div>\n")?;
     if let Some(farthest) = totals.farthest {
-        push_farthest(out, farthest)?;
+        push_farthest(out, "Largest distance", farthest)?;
+    }
+    if let Some(farthest) = totals.sum {
+        push_farthest(out, "Largest error of a sum", farthest)?;
     }
     out.push_str("</dl>\n")
 }
 
-/// Appends the greatest distance, with a link to its query.
-fn push_farthest(out: &mut String, farthest: Farthest<'_>) -> Result<(), AllocError> {
+/// Appends the greatest amount of a kind, with a link to its query.
+fn push_farthest(out: &mut String, kind: &str, farthest: Farthest<'_>) -> Result<(), AllocError> {
     let name = farthest.name;
     let target = if farthest.has_explanation { "q" } else { "r" };
     write!(
         out,
-        "<div><dt>Largest distance</dt><dd><a href='#{target}-{name}'>{name}</a>, "
+        "<div><dt>{kind}</dt><dd><a href='#{target}-{name}'>{name}</a>, "
     )?;
-    push_number(out, farthest.distance)?;
+    push_number(out, farthest.amount)?;
     out.push_str("</dd></div>\n")
 }
 
@@ -194,17 +208,19 @@ fn push_summary(
     push_sums(out, totals_of(&all.rows), audits.order.len() as u64)
 }
 
-/// Appends the part about all queries: the histogram, the charts and the table.
+/// Appends the part about all queries: the histogram, the charts, the table of the queries and that of the updates.
 fn push_overview(
     alloc: Global,
     out: &mut String,
+    recording: &Recording<'_>,
     all: &mut QueryRows<'_>,
     audits: &Audits,
 ) -> Result<(), AllocError> {
     push_histogram(alloc, out, &audits.found)?;
     push_charts(alloc, out, all, &audits.found)?;
     let rows = in_order(alloc, &all.rows)?;
-    push_table(out, &rows)
+    push_table(out, &rows)?;
+    push_updates(alloc, out, recording)
 }
 
 /// Returns the queries in the order of the table: the committed ones with the greatest distance first, then the others.
@@ -255,7 +271,7 @@ impl<T: Part, P: Part, W: Part> Page<'_, T, P, W> {
         let others = explained.get(1..).unwrap_or(&[]);
         out.push_str(heading_of(&all.rows, worst))?;
         self.push_details(alloc, out, recording, audits, worst)?;
-        push_overview(alloc, out, all, audits)?;
+        push_overview(alloc, out, recording, all, audits)?;
         out.push_str(next_heading_of(others))?;
         self.push_details(alloc, out, recording, audits, others)?;
         push_order(out, &recording.transactions, &audits.order)?;

@@ -11,8 +11,8 @@ use std::alloc::{AllocError, Global};
 /// How a query ended.
 #[derive(Clone, Copy)]
 pub enum QueryEnd {
-    /// It committed, and this far its audit finds it from a serial placement.
-    Committed { distance: u64 },
+    /// It committed, and its audit finds this distance to the nearest serial placement, and this error of its sum.
+    Committed { distance: u64, sum_error: u64 },
     Aborted,
     Active,
 }
@@ -35,7 +35,15 @@ impl QueryRow<'_> {
     /// The distance, if it has one.
     pub fn distance(&self) -> Option<u64> {
         match self.end {
-            QueryEnd::Committed { distance } => Some(distance),
+            QueryEnd::Committed { distance, .. } => Some(distance),
+            QueryEnd::Aborted | QueryEnd::Active => None,
+        }
+    }
+
+    /// Returns the error of the sum of its reads, if it has one.
+    pub fn sum_error(&self) -> Option<u64> {
+        match self.end {
+            QueryEnd::Committed { sum_error, .. } => Some(sum_error),
             QueryEnd::Aborted | QueryEnd::Active => None,
         }
     }
@@ -47,7 +55,10 @@ fn end_of(history: &History<Weighted>, end: Option<u64>) -> QueryEnd {
         return QueryEnd::Active;
     };
     match entry.event {
-        Event::Commit { .. } => QueryEnd::Committed { distance: 0 },
+        Event::Commit { .. } => QueryEnd::Committed {
+            distance: 0,
+            sum_error: 0,
+        },
         _ => QueryEnd::Aborted,
     }
 }
@@ -148,6 +159,7 @@ pub fn rows_of<'a>(
         if let Some(row) = all.of(found.query) {
             row.end = QueryEnd::Committed {
                 distance: found.distance,
+                sum_error: found.sum_error,
             };
         }
     }

@@ -65,6 +65,7 @@ table{border-collapse:collapse;font-size:.9em}
 th,td{padding:4px 10px;border-bottom:1px solid var(--rule);text-align:left;white-space:nowrap}
 .num{text-align:right;font-variant-numeric:tabular-nums}
 thead th{position:sticky;top:0;background:var(--paper)}
+@media (max-width:560px){table{font-size:.75em}th,td{padding:4px}tbody th{white-space:normal;overflow-wrap:anywhere;min-width:4.5em}}
 th button{font:inherit;color:var(--link);background:none;border:0;padding:0;cursor:pointer;text-decoration:underline}
 tr:target,section:target h3{outline:2px solid var(--link)}
 .order{color:var(--dim);max-width:none}
@@ -81,7 +82,8 @@ tr:target,section:target h3{outline:2px solid var(--link)}
 // The script lets a press on a heading of the table sort by its column.
 static SCRIPT: &str = "</main>
 <script>
-for(const [at,head] of document.querySelectorAll('thead th').entries()){
+for(const head of document.querySelectorAll('thead th')){
+const at=head.cellIndex;
 const button=document.createElement('button');
 button.textContent=head.textContent;
 head.replaceChildren(button);

@@ -1,21 +1,22 @@
-//! The table of all queries. It is complete without scripts; if a browser runs the script of the page, a press on the head
+//! The table of all queries. Name, distance and charges come first, so that a narrow screen shows them without scrolling.
+//! It is complete without scripts; if a browser runs the script of the page, a press on the head
 //! of a column sorts by it, and only the first 50 rows are shown until all are requested.
 
 use crate::rows::{QueryEnd, QueryRow};
 use esr_text::{first, push_number};
 use std::alloc::AllocError;
 
-/// So many rows there are at most.
-const MAX_ROWS: usize = 2000;
+/// The maximum number of rows.
+pub const MAX_ROWS: usize = 2000;
 
 /// The largest limit, which is no limit in practice.
-const NO_LIMIT: u64 = 1_000_000_000_000_000_000;
+pub const NO_LIMIT: u64 = 1_000_000_000_000_000_000;
 
 const HEADINGS: &str =
-    "<h2 id='all'>All queries</h2>\n<div class='wide' tabindex='0' role='group' aria-label='Table'><table>\n<thead><tr><th scope='col'>Name</th><th scope='col' class='num'>Off by</th><th scope='col' class='num'>Charged</th><th scope='col' class='num'>Limit</th><th scope='col' class='num'>Left</th><th scope='col' class='num'>Reads</th><th scope='col'>Kind</th><th scope='col'>Ended</th><th scope='col' class='num'>Number</th></tr></thead>\n<tbody>\n";
+    "<h2 id='all'>All queries</h2>\n<div class='wide' tabindex='0' role='group' aria-label='Table'><table>\n<thead><tr><th scope='col'>Name</th><th scope='col' class='num'>Off by</th><th scope='col' class='num'>Charged</th><th scope='col' class='num'>Sum off by</th><th scope='col' class='num'>Limit</th><th scope='col' class='num'>Left</th><th scope='col' class='num'>Reads</th><th scope='col'>Kind</th><th scope='col'>Ended</th><th scope='col' class='num'>Number</th></tr></thead>\n<tbody>\n";
 
-/// A cell with a number.
-fn push_cell(out: &mut String, number: u64) -> Result<(), AllocError> {
+/// Appends a cell with a number.
+pub fn push_cell(out: &mut String, number: u64) -> Result<(), AllocError> {
     out.push_str("<td class='num'>")?;
     push_number(out, number)?;
     out.push_str("</td>")
@@ -31,11 +32,11 @@ fn push_name(out: &mut String, row: &QueryRow<'_>) -> Result<(), AllocError> {
     }
 }
 
-/// Appends the distance of a query, if it has committed.
-fn push_distance(out: &mut String, end: QueryEnd) -> Result<(), AllocError> {
-    match end {
-        QueryEnd::Committed { distance } => push_cell(out, distance),
-        QueryEnd::Aborted | QueryEnd::Active => out.push_str("<td class='num'>-</td>"),
+/// Appends a cell with a number, if there is one.
+fn push_known(out: &mut String, number: Option<u64>) -> Result<(), AllocError> {
+    match number {
+        Some(number) => push_cell(out, number),
+        None => out.push_str("<td class='num'>-</td>"),
     }
 }
 
@@ -62,8 +63,9 @@ fn push_row(out: &mut String, row: &QueryRow<'_>) -> Result<(), AllocError> {
     let name = row.name;
     write!(out, "<tr id='r-{name}'>")?;
     push_name(out, row)?;
-    push_distance(out, row.end)?;
+    push_known(out, row.distance())?;
     push_cell(out, row.charged)?;
+    push_known(out, row.sum_error())?;
     push_limit(out, row.limit, row.charged)?;
     push_cell(out, row.reads)?;
     out.push_str(if row.is_strict {
@@ -86,12 +88,17 @@ pub fn push_table(out: &mut String, rows: &[QueryRow<'_>]) -> Result<(), AllocEr
         push_row(out, row)?;
     }
     out.push_str("</tbody></table></div>\n")?;
-    if rows.len() > MAX_ROWS {
-        out.push_str("<p>These are the first ")?;
-        push_number(out, MAX_ROWS as u64)?;
-        out.push_str(" of ")?;
-        push_number(out, rows.len() as u64)?;
-        out.push_str(".</p>\n")?;
+    push_count_of_rows(out, rows.len())
+}
+
+/// Appends how many rows there are, if some of them are left out.
+pub fn push_count_of_rows(out: &mut String, count: usize) -> Result<(), AllocError> {
+    if count <= MAX_ROWS {
+        return Ok(());
     }
-    Ok(())
+    out.push_str("<p>These are the first ")?;
+    push_number(out, MAX_ROWS as u64)?;
+    out.push_str(" of ")?;
+    push_number(out, count as u64)?;
+    out.push_str(".</p>\n")
 }

@@ -27,8 +27,10 @@ pub struct Crossing {
 pub struct Choice {
     /// Where the line crosses each lane, drawn or not.
     pub crossings: Vec<Crossing>,
-    /// The lanes that are drawn, by their positions among the chains, ascending.
+    /// The lanes that are drawn, by their positions among the chains, those that are off most first.
     pub lanes: Vec<usize>,
+    /// The number of items that were never written and have no lane.
+    pub unwritten: usize,
     /// The updates before the line that are drawn, by their positions, ascending.
     pub before: Vec<u32>,
     /// Those after the line.
@@ -162,11 +164,12 @@ struct Candidates {
     needed: usize,
 }
 
-/// The lanes that may be drawn.
+/// Returns the lanes that may be drawn.
 fn candidates_of(
     alloc: Global,
     problem: &Problem,
     crossings: &[Crossing],
+    unwritten: &[bool],
     places: &Places,
 ) -> Result<Candidates, AllocError> {
     let chains = problem.chains();
@@ -175,7 +178,7 @@ fn candidates_of(
     let mut lanes = off_lanes(alloc, &mut costs, chains, crossings, places, &ranking)?;
     push_speaking_against(&mut lanes, &mut costs, chains, crossings, places)?;
     let needed = lanes.len();
-    push_others(&mut lanes, &ranking)?;
+    push_others(&mut lanes, &ranking, unwritten)?;
     Ok(Candidates { lanes, needed })
 }
 
@@ -223,10 +226,18 @@ fn push_speaking_against(
     Ok(())
 }
 
-/// Adds the first of the other lanes, as many as may be drawn.
-fn push_others(lanes: &mut Vec<usize>, ranking: &[usize]) -> Result<(), AllocError> {
-    for lane in first(ranking, MAX_LANES * 3) {
-        if !lanes.contains(lane) {
+/// Adds the first of the other lanes, as many as may be drawn, without those of items that were never written.
+fn push_others(
+    lanes: &mut Vec<usize>,
+    ranking: &[usize],
+    unwritten: &[bool],
+) -> Result<(), AllocError> {
+    for lane in ranking {
+        if lanes.len() >= MAX_LANES * 3 {
+            return Ok(());
+        }
+        let is_unwritten = unwritten.get(*lane) == Some(&true);
+        if !is_unwritten && !lanes.contains(lane) {
             lanes.push(*lane)?;
         }
     }
@@ -343,18 +354,34 @@ fn bounded_updates(
     }
 }
 
-/// The lanes and the updates that are drawn, ascending.
+/// Returns these lanes, those that are off most first.
+fn sorted_lanes(
+    alloc: Global,
+    crossings: &[Crossing],
+    lanes: &[usize],
+) -> Result<Vec<usize>, AllocError> {
+    let mut sorted = Vec::new(alloc);
+    for lane in &ranking(alloc, crossings)? {
+        if lanes.contains(lane) {
+            sorted.push(*lane)?;
+        }
+    }
+    Ok(sorted)
+}
+
+/// Returns the lanes that are drawn, and the updates, ascending.
 fn draw(
     alloc: Global,
     problem: &Problem,
     crossings: &[Crossing],
+    unwritten: &[bool],
     places: &Places,
     upper_bound: usize,
 ) -> Result<(Vec<usize>, Vec<u32>), AllocError> {
-    let candidates = candidates_of(alloc, problem, crossings, places)?;
+    let candidates = candidates_of(alloc, problem, crossings, unwritten, places)?;
     let mut updates = bounded_updates(alloc, problem.updates().len(), upper_bound)?;
     let chains = problem.chains();
-    let mut lanes = draw_lanes(
+    let lanes = draw_lanes(
         alloc,
         chains,
         crossings,
@@ -362,41 +389,43 @@ fn draw(
         &mut updates,
         upper_bound,
     )?;
-    lanes.sort_unstable();
     updates.sort_unstable();
-    Ok((lanes, updates))
+    Ok((sorted_lanes(alloc, crossings, &lanes)?, updates))
 }
 
-/// What to draw of a problem, where the line crosses its lanes so.
+/// Returns what to draw of a problem with these crossings of the line.
 fn choose_at(
     alloc: Global,
     problem: &Problem,
     inside: &[bool],
     crossings: Vec<Crossing>,
+    unwritten: &[bool],
     upper_bound: usize,
 ) -> Result<Choice, AllocError> {
     let places = Places::new(alloc, inside, problem.must())?;
-    let (lanes, updates) = draw(alloc, problem, &crossings, &places, upper_bound)?;
+    let (lanes, updates) = draw(alloc, problem, &crossings, unwritten, &places, upper_bound)?;
     let is_cheaper_elsewhere = is_cheaper_elsewhere(alloc, problem, &lanes, &places)?;
     let (before, after) = sides_of(alloc, &updates, inside)?;
     Ok(Choice {
         crossings,
         lanes,
+        unwritten: unwritten.iter().filter(|is| **is).count(),
         before,
         after,
         is_cheaper_elsewhere,
     })
 }
 
-/// The lanes and the updates to draw of a problem with such a set: of few updates all, and else at most so many, those
-/// that bound what is seen of the lanes.
+/// Returns the lanes and the updates to draw of a problem with this set: of few updates all, else at most `upper_bound`,
+/// those that bound the versions that are drawn. Items that were never written have no lane if `unwritten` says so.
 pub fn choose(
     alloc: Global,
     problem: &Problem,
     set: &[u32],
+    unwritten: &[bool],
     upper_bound: usize,
 ) -> Result<Choice, AllocError> {
     let inside = marks_of(alloc, problem.updates().len(), set)?;
     let crossings = crossings(alloc, problem.chains(), &inside)?;
-    choose_at(alloc, problem, &inside, crossings, upper_bound)
+    choose_at(alloc, problem, &inside, crossings, unwritten, upper_bound)
 }

@@ -11,9 +11,11 @@
 mod choice;
 mod costs;
 mod drawing;
+mod lanes;
 mod observed_reads;
 mod order;
 mod scene;
-mod values;
+mod titles;
+mod versions;
 
 pub use drawing::{Drawing, NotedDrawing, element, picture};

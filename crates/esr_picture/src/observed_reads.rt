@@ -2,42 +2,40 @@
 //! came later, or wrote over them. A lane may have the value of one all the same, of another update: its piece is green
 //! then, since audits compare values and nothing else, and the writer of the value is kept as well.
 
+use crate::versions::Positions;
+use esr_cert::Chain;
 use esr_items::ItemId;
 use esr_report::name_of_transaction;
-use esr_svg::{LaneReads, Stray, Strays};
+use esr_svg::{Stray, Strays};
 use esr_trace::{Audited, ObservedRead, QueryTrace, WriterEnd};
 use std::alloc::{AllocError, Global};
 
-/// Adds a value that is not there yet.
-fn push_value(values: &mut Vec<i64>, value: i64) -> Result<(), AllocError> {
-    if !values.contains(&value) {
-        values.push(value)?;
-    }
-    Ok(())
-}
-
-/// What was read of an item.
-pub fn reads_of(alloc: Global, trace: &QueryTrace, item: ItemId) -> Result<LaneReads, AllocError> {
-    let mut values = Vec::new(alloc);
-    let mut count = 0u64;
+/// Returns the values that were read of an item, without repetitions, with the number of reads of each.
+pub fn counts_of(
+    alloc: Global,
+    trace: &QueryTrace,
+    item: ItemId,
+) -> Result<Vec<(i64, u64)>, AllocError> {
+    let mut counts: Vec<(i64, u64)> = Vec::new(alloc);
     for observed in &trace.observed_reads {
         if observed.item == item {
-            count = count.saturating_add(observed.count);
-            push_value(&mut values, observed.value)?;
+            add_count(&mut counts, observed.value, observed.count)?;
         }
     }
-    Ok(LaneReads { values, count })
+    Ok(counts)
 }
 
-/// How often a value was read of an item.
-pub fn count_of(trace: &QueryTrace, item: ItemId, value: i64) -> u64 {
-    let mut count = 0u64;
-    for observed in &trace.observed_reads {
-        if observed.item == item && observed.value == value {
-            count = count.saturating_add(observed.count);
-        }
+/// Adds a number of reads of a value.
+fn add_count(counts: &mut Vec<(i64, u64)>, value: i64, count: u64) -> Result<(), AllocError> {
+    let place = counts.iter().position(|other| other.0 == value);
+    if let Some(place) = place
+        && let Some(other) = counts.get_mut(place)
+    {
+        other.1 = other.1.saturating_add(count);
+        return Ok(());
     }
-    count
+    counts.push((value, count))?;
+    Ok(())
 }
 
 /// Whether a value that was read is a version of its item.
@@ -48,23 +46,34 @@ fn is_kept(trace: &QueryTrace, observed: &ObservedRead) -> bool {
     }
 }
 
-/// How often an item was read with what each transaction left, by the number of the transaction, of which there are so
-/// many; and at place 0 how often as it was at the start.
-pub fn seen_by_writer(
+/// Returns for each version of a chain whether the query read it, and not only a value equal to it.
+pub fn seen_versions(
     alloc: Global,
     trace: &QueryTrace,
-    item: ItemId,
-    begun: usize,
-) -> Result<Vec<u64>, AllocError> {
-    let mut seen = vec![in alloc; 0u64; begun.saturating_add(1)]?;
+    chain: &Chain,
+    positions: &Positions,
+) -> Result<Vec<bool>, AllocError> {
+    let mut seen = vec![in alloc; false; chain.writers.len().saturating_add(1)]?;
     for observed in &trace.observed_reads {
-        let number = observed.writer.map_or(0, |writer| writer.0 as usize);
-        let is_seen = observed.item == item && is_kept(trace, observed);
-        if let (Some(count), true) = (seen.get_mut(number), is_seen) {
-            *count = count.saturating_add(observed.count);
+        if observed.item == chain.item
+            && is_kept(trace, observed)
+            && let Some(version) = version_read(chain, positions, observed)
+            && let Some(is_seen) = seen.get_mut(version)
+        {
+            *is_seen = true;
         }
     }
     Ok(seen)
+}
+
+/// Returns the version of a chain that was read, if it is one.
+fn version_read(chain: &Chain, positions: &Positions, observed: &ObservedRead) -> Option<usize> {
+    let Some(writer) = observed.writer else {
+        return Some(0);
+    };
+    let position = positions.of(writer)?;
+    let index = chain.writers.binary_search(&position).ok()?;
+    Some(index.saturating_add(1))
 }
 
 /// What became of a value that was read, if it did not stay.

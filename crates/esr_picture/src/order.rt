@@ -4,7 +4,6 @@
 
 use crate::choice::Choice;
 use esr_cert::Problem;
-use esr_svg::Arrow;
 use std::alloc::{AllocError, Global};
 
 /// Where each update is drawn, by its position: 0 where it is not.
@@ -75,9 +74,16 @@ fn above_those(drawn: &[(u8, u64)], those: u64) -> u64 {
     all
 }
 
-/// The arrows to the update of a slot: from those above it that are above no other one that is above it.
+/// An arrow from one slot to another.
+#[derive(Clone, Copy)]
+pub struct SlotPair {
+    pub from: u8,
+    pub to: u8,
+}
+
+/// Adds the arrows to the update of a slot: from those above it that are above no other one that is above it.
 fn arrows_to(
-    arrows: &mut Vec<Arrow>,
+    arrows: &mut Vec<SlotPair>,
     drawn: &[(u8, u64)],
     to: u8,
     above: u64,
@@ -85,19 +91,19 @@ fn arrows_to(
     let implied = above_those(drawn, above);
     for (from, _) in drawn {
         if above & !implied & bit(*from) != 0 {
-            arrows.push(Arrow { from: *from, to })?;
+            arrows.push(SlotPair { from: *from, to })?;
         }
     }
     Ok(())
 }
 
-/// The arrows between the updates that are drawn, without those that others imply.
+/// Returns the arrows between the updates that are drawn, without those that others imply.
 pub fn arrows(
     alloc: Global,
     problem: &Problem,
     drawn: &[u32],
     slots: &Slots,
-) -> Result<Vec<Arrow>, AllocError> {
+) -> Result<Vec<SlotPair>, AllocError> {
     let above = ancestors(alloc, problem, slots)?;
     let mut known = Vec::new(alloc);
     for update in drawn {

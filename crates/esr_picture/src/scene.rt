@@ -1,25 +1,52 @@
 //! What is drawn of the audit of a query.
 //!
-//! Which lanes and updates are drawn depends on how much room there is, and how much they need on what they are. So a
-//! scene is made with as many updates as there may be, and where that is too wide once more with as many as fit.
+//! The lanes and updates that are drawn depend on the space, and the space that they need on their names and values. So a
+//! scene is made with as many updates as there may be, and if it is too wide once more with fewer.
 
 use crate::choice::{Choice, choose};
-use crate::observed_reads::{count_of, reads_of, seen_by_writer, strays_of};
+use crate::lanes::{LaneVersions, reads_in, reads_of_values, values_of};
+use crate::observed_reads::{counts_of, seen_versions, strays_of};
 use crate::order::{Slots, arrows};
-use crate::values::{Written, written_by};
-use esr_cert::Chain;
-use esr_items::{ItemId, Metric};
+use crate::titles::{arrow_title, update_title};
+use crate::versions::{Positions, unwritten, versions_of};
+use esr_cert::{Chain, Problem};
+use esr_history::TxnId;
+use esr_items::Metric;
 use esr_report::name_of_transaction;
-use esr_svg::{
-    Arrow, Lane, LaneSegment, MAX_LANES, MAX_UPDATES, Scene, Strays, Update, fitting_updates,
-};
+use esr_svg::{Arrow, Lane, MAX_UPDATES, Scene, Update, fitting_updates};
 use esr_trace::{Audited, QueryTrace, sentences_of};
 use std::alloc::{AllocError, Global};
 
-/// How often a scene that is too wide is made with fewer updates.
-const MAX_TRIES: u32 = 6;
+/// How often a scene that is too wide is made with less: from then on without updates, and then without values that were
+/// read within stretches of several.
+const MAX_TRIES: u32 = 7;
 
-/// How many lanes that are not drawn are off, and by how much together.
+/// How much a scene shows at most.
+#[derive(Clone, Copy)]
+struct Extent {
+    updates: usize,
+    /// The values that were read within each stretch of several.
+    reads: usize,
+}
+
+impl Extent {
+    /// Returns the extent of the next try, of a scene in which `fitting` updates would fit.
+    fn reduced(self, fitting: usize, tries: u32) -> Extent {
+        if self.updates == 0 {
+            return Extent {
+                updates: 0,
+                reads: self.reads.saturating_sub(1),
+            };
+        }
+        let updates = fitting.min(self.updates.saturating_sub(1));
+        Extent {
+            updates: if tries < MAX_TRIES { updates } else { 0 },
+            reads: self.reads,
+        }
+    }
+}
+
+/// Returns how many lanes that are not drawn are off, and by how much together.
 fn others_off(choice: &Choice) -> (usize, u64) {
     let mut count = 0usize;
     let mut sum = 0u64;
@@ -32,256 +59,232 @@ fn others_off(choice: &Choice) -> (usize, u64) {
     (count, sum)
 }
 
-/// The updates that are drawn, those before the line first.
+/// Returns the updates that are drawn, those before the line first.
 fn drawn_in_order(alloc: Global, choice: &Choice) -> Result<Vec<u32>, AllocError> {
     let mut drawn = choice.before.to_vec(alloc)?;
     drawn.extend_from_slice(&choice.after)?;
     Ok(drawn)
 }
 
-/// The values of the pieces of a lane.
-fn values_of(alloc: Global, stretches: &[LaneSegment]) -> Result<Vec<i64>, AllocError> {
-    let mut values = Vec::new(alloc);
-    for stretch in stretches {
-        if stretch.versions == 1 {
-            values.push(stretch.value)?;
-        }
-    }
-    Ok(values)
+/// What all scenes of a query are made from.
+#[derive(Drop)]
+struct Source<'a> {
+    audited: &'a Audited<'a>,
+    trace: &'a QueryTrace,
+    positions: Positions,
+    /// For each chain whether its item was never written and has no lane.
+    unwritten: Vec<bool>,
 }
 
-/// The slots of the updates, with the line in that one, and what the updates that are drawn left in the lanes.
-fn lay_out(
-    alloc: Global,
-    audited_query: &Audited<'_>,
-    choice: &Choice,
-    drawn: &[u32],
-    line: u8,
-) -> Result<(Slots, Written), AllocError> {
-    let slots = Slots::new(
-        alloc,
-        audited_query.finding.problem.updates().len(),
-        choice,
-        line,
-    )?;
-    let written = written_by(alloc, audited_query, choice, drawn, &slots)?;
-    Ok((slots, written))
+impl<'a> Source<'a> {
+    fn new(
+        alloc: Global,
+        audited: &'a Audited<'a>,
+        trace: &'a QueryTrace,
+    ) -> Result<Source<'a>, AllocError> {
+        let problem = &audited.finding.problem;
+        let begun = audited.history.begun_count();
+        Ok(Source {
+            audited,
+            trace,
+            positions: Positions::new(alloc, problem.updates(), begun)?,
+            unwritten: unwritten(alloc, audited.history, problem.chains())?,
+        })
+    }
+
+    fn problem(&self) -> &'a Problem {
+        &self.audited.finding.problem
+    }
+
+    /// Returns the update at a position.
+    fn update(&self, position: u32) -> Option<TxnId> {
+        self.problem().updates().get(position as usize).copied()
+    }
+
+    /// Returns the versions of a chain, with the one at the line.
+    fn versions<'b>(
+        &self,
+        alloc: Global,
+        chain: &'b Chain,
+        at_line: usize,
+        reads_drawn: usize,
+    ) -> Result<LaneVersions<'b>, AllocError> {
+        let values = versions_of(alloc, self.audited.history, chain, &self.positions)?;
+        let counts = counts_of(alloc, self.trace, chain.item)?;
+        let reads = reads_of_values(alloc, &values, &counts)?;
+        Ok(LaneVersions {
+            chain,
+            values,
+            reads,
+            seen: seen_versions(alloc, self.trace, chain, &self.positions)?,
+            at_line,
+            reads_drawn,
+        })
+    }
 }
 
 /// What a scene is made from.
 #[derive(Drop)]
-struct SceneParts<'a> {
-    audited_query: &'a Audited<'a>,
-    trace: &'a QueryTrace,
+struct SceneParts<'a, 'b> {
+    source: &'b Source<'a>,
     choice: Choice,
     /// The updates that are drawn, by their positions, in the order of their slots.
     drawn: Vec<u32>,
     /// The slot of the line.
     line: u8,
     slots: Slots,
-    written: Written,
+    /// The values that were read within each stretch of several.
+    reads: usize,
 }
 
-impl<'a> SceneParts<'a> {
+impl<'a, 'b> SceneParts<'a, 'b> {
     fn new(
         alloc: Global,
-        audited_query: &'a Audited<'a>,
-        trace: &'a QueryTrace,
-        upper_bound: usize,
-    ) -> Result<SceneParts<'a>, AllocError> {
-        let finding = audited_query.finding;
+        source: &'b Source<'a>,
+        extent: Extent,
+    ) -> Result<SceneParts<'a, 'b>, AllocError> {
+        let finding = source.audited.finding;
         let choice = choose(
             alloc,
             &finding.problem,
             &finding.certificate.set,
-            upper_bound,
+            &source.unwritten,
+            extent.updates,
         )?;
         let drawn = drawn_in_order(alloc, &choice)?;
         let line = choice.before.len().min(MAX_UPDATES) as u8 + 1;
-        let (slots, written) = lay_out(alloc, audited_query, &choice, &drawn, line)?;
+        let slots = Slots::new(alloc, finding.problem.updates().len(), &choice, line)?;
         Ok(SceneParts {
-            audited_query,
-            trace,
+            source,
             choice,
             drawn,
             line,
             slots,
-            written,
+            reads: extent.reads,
         })
     }
 
-    /// The value with which an item opened.
-    fn opening(&self, item: ItemId) -> i64 {
-        if item.0 < self.audited_query.history.items() {
-            self.audited_query.history.opening(item)
-        } else {
-            0
-        }
-    }
-
-    /// A stretch of one version.
-    fn version(&self, item: ItemId, from: u8, value: i64, seen: u64) -> LaneSegment {
-        LaneSegment {
-            from,
-            value,
-            versions: 1,
-            reads: count_of(self.trace, item, value),
-            seen,
-        }
-    }
-
-    /// How often the version of an update was read, by its position.
-    fn read_count(&self, by_writer: &[u64], writer: u32) -> u64 {
-        let txn = self
-            .audited_query
-            .finding
-            .problem
-            .updates()
-            .get(writer as usize);
-        let number = txn.map_or(usize::MAX, |txn| txn.0 as usize);
-        by_writer.get(number).copied().unwrap_or(0)
-    }
-
-    /// The stretches of a lane.
-    fn stretches(
-        &self,
-        alloc: Global,
-        chain: &Chain,
-        lane: usize,
-    ) -> Result<Vec<LaneSegment>, AllocError> {
-        let begun = self.audited_query.history.begun_count();
-        let by_writer = seen_by_writer(alloc, self.trace, chain.item, begun)?;
-        let at_start = by_writer.first().copied().unwrap_or(0);
-        let mut stretches = Vec::new(alloc);
-        let mut last = self.version(chain.item, 0, self.opening(chain.item), at_start);
-        for writer in &chain.writers {
-            let slot = self.slots.of(*writer);
-            let seen = self.read_count(&by_writer, *writer);
-            match self.written.value(lane, slot) {
-                Some(value) if slot != 0 => {
-                    stretches.push(last)?;
-                    last = self.version(chain.item, slot, value, seen);
-                }
-                _ => {
-                    last.versions = last.versions.saturating_add(1);
-                    last.reads = 0;
-                    last.seen = last.seen.saturating_add(seen);
-                }
-            }
-        }
-        stretches.push(last)?;
-        Ok(stretches)
-    }
-
-    /// A lane, where there is one of that number.
+    /// Returns a lane of a chain, whose version at the line is off by `off`.
     fn lane(
         &self,
         alloc: Global,
-        lane: usize,
         chain: &Chain,
+        at_line: usize,
         off: u64,
     ) -> Result<Lane<'a>, AllocError> {
-        let read = reads_of(alloc, self.trace, chain.item)?;
-        let stretches = self.stretches(alloc, chain, lane)?;
-        let strays = self.strays(alloc, chain.item, &stretches)?;
+        let audited = self.source.audited;
+        let versions = self.source.versions(alloc, chain, at_line, self.reads)?;
+        let segments = versions.segments(alloc, &self.slots)?;
+        let counts = counts_of(alloc, self.source.trace, chain.item)?;
+        let values = values_of(alloc, &segments)?;
         Ok(Lane {
-            name: self.audited_query.items.name_of(chain.item.0).unwrap_or(""),
-            weight: self
-                .audited_query
-                .history
-                .metric()
-                .distance(chain.item, 0, 1),
-            read,
+            name: audited.items.name_of(chain.item.0).unwrap_or(""),
+            weight: audited.history.metric().distance(chain.item, 0, 1),
+            read: reads_in(alloc, &counts)?,
             off,
-            stretches,
-            strays,
+            segments,
+            strays: strays_of(audited, self.source.trace, chain.item, &values),
         })
     }
 
-    /// The values that were read of an item and did not stay, beside the pieces of its lane.
-    fn strays(
-        &self,
-        alloc: Global,
-        item: ItemId,
-        stretches: &[LaneSegment],
-    ) -> Result<Strays<'a>, AllocError> {
-        let values = values_of(alloc, stretches)?;
-        Ok(strays_of(self.audited_query, self.trace, item, &values))
-    }
-
-    /// Adds the lane of that number, which is of the chain at a position.
+    /// Adds the lane of the chain at a position.
     fn push_lane(
         &self,
         alloc: Global,
         lanes: &mut Vec<Lane<'a>>,
-        lane: usize,
         at: usize,
     ) -> Result<(), AllocError> {
-        let chain = self.audited_query.finding.problem.chains().get(at);
+        let chain = self.source.problem().chains().get(at);
         let (Some(chain), Some(crossing)) = (chain, self.choice.crossings.get(at)) else {
             return Ok(());
         };
-        lanes.push(self.lane(alloc, lane, chain, crossing.off)?)?;
+        lanes.push(self.lane(alloc, chain, crossing.version, crossing.off)?)?;
         Ok(())
     }
 
-    /// The lanes that are drawn.
+    /// Returns the lanes that are drawn.
     fn lanes(&self, alloc: Global) -> Result<Vec<Lane<'a>>, AllocError> {
         let mut lanes = Vec::new(alloc);
-        let mut lane = 0usize;
         for at in &self.choice.lanes {
-            self.push_lane(alloc, &mut lanes, lane, *at)?;
-            lane = lane.saturating_add(1);
+            self.push_lane(alloc, &mut lanes, *at)?;
         }
         Ok(lanes)
     }
 
-    /// How many lanes there are down to the last one in which the update of a slot wrote.
-    fn reach(&self, slot: u8) -> u8 {
-        let mut reach = 0;
-        for lane in 0..MAX_LANES as u8 {
-            if self.written.value(lane as usize, slot).is_some() {
-                reach = lane + 1;
+    /// Returns the number of lanes down to the last one that an update wrote.
+    fn reach(&self, update: u32) -> u8 {
+        let chains = self.source.problem().chains();
+        let mut reach = 0u8;
+        let mut count = 0u8;
+        for at in &self.choice.lanes {
+            count = count.saturating_add(1);
+            if let Some(chain) = chains.get(*at)
+                && chain.writers.binary_search(&update).is_ok()
+            {
+                reach = count;
             }
         }
         reach
     }
 
-    /// The updates that are drawn, in the order of their slots.
+    /// Returns the update at a position.
+    fn update(&self, alloc: Global, position: u32, txn: TxnId) -> Result<Update<'a>, AllocError> {
+        let audited = self.source.audited;
+        let slot = self.slots.of(position);
+        Ok(Update {
+            name: name_of_transaction(audited.transactions, txn),
+            slot,
+            reach: self.reach(position),
+            must: self.source.problem().must().contains(&position),
+            title: update_title(alloc, audited, txn, slot < self.line)?,
+        })
+    }
+
+    /// Returns the updates that are drawn, in the order of their slots.
     fn updates(&self, alloc: Global) -> Result<Vec<Update<'a>>, AllocError> {
-        let problem = &self.audited_query.finding.problem;
         let mut updates = Vec::new(alloc);
-        for update in &self.drawn {
-            if let Some(txn) = problem.updates().get(*update as usize) {
-                let slot = self.slots.of(*update);
-                updates.push(Update {
-                    name: name_of_transaction(self.audited_query.transactions, *txn),
-                    slot,
-                    reach: self.reach(slot),
-                    must: problem.must().contains(update),
-                })?;
+        for position in &self.drawn {
+            if let Some(txn) = self.source.update(*position) {
+                updates.push(self.update(alloc, *position, txn)?)?;
             }
         }
         Ok(updates)
     }
 
-    /// The arrows, and what is said above the lanes.
-    fn arrows_and_words(&self, alloc: Global) -> Result<(Vec<Arrow>, Vec<String>), AllocError> {
-        let problem = &self.audited_query.finding.problem;
-        let arrows = arrows(alloc, problem, &self.drawn, &self.slots)?;
-        let sentences = sentences_of(alloc, self.audited_query, self.trace)?;
-        Ok((arrows, sentences))
+    /// Returns the update at a slot.
+    fn update_at(&self, slot: u8) -> Option<TxnId> {
+        let position = self
+            .drawn
+            .iter()
+            .find(|position| self.slots.of(**position) == slot)?;
+        self.source.update(*position)
     }
 
-    /// What is drawn.
+    /// Returns the arrows.
+    fn arrows(&self, alloc: Global) -> Result<Vec<Arrow>, AllocError> {
+        let mut shown = Vec::new(alloc);
+        for pair in &arrows(alloc, self.source.problem(), &self.drawn, &self.slots)? {
+            if let (Some(from), Some(to)) = (self.update_at(pair.from), self.update_at(pair.to)) {
+                shown.push(Arrow {
+                    from: pair.from,
+                    to: pair.to,
+                    title: arrow_title(alloc, self.source.audited, from, to)?,
+                })?;
+            }
+        }
+        Ok(shown)
+    }
+
+    /// Returns what is drawn.
     fn scene(&self, alloc: Global) -> Result<Scene<'a>, AllocError> {
-        let (arrows, sentences) = self.arrows_and_words(alloc)?;
+        let sentences = sentences_of(alloc, self.source.audited, self.source.trace)?;
+        let arrows = self.arrows(alloc)?;
         let updates = self.updates(alloc)?;
         let lanes = self.lanes(alloc)?;
         Ok(self.scene_of(sentences, updates, arrows, lanes))
     }
 
-    /// What is drawn, of these updates and lanes.
+    /// Returns what is drawn, of these updates and lanes.
     fn scene_of(
         &self,
         sentences: Vec<String>,
@@ -289,17 +292,21 @@ impl<'a> SceneParts<'a> {
         arrows: Vec<Arrow>,
         lanes: Vec<Lane<'a>>,
     ) -> Scene<'a> {
-        let finding = self.audited_query.finding;
+        let audited = self.source.audited;
+        let finding = audited.finding;
         let (others_off, others_sum) = others_off(&self.choice);
+        let without_lane = self.choice.crossings.len().saturating_sub(lanes.len());
+        let committed = self.source.trace.committed;
         Scene {
             errors: Vec::new(*sentences.allocator()),
-            query: name_of_transaction(self.audited_query.transactions, finding.query),
+            query: name_of_transaction(audited.transactions, finding.query),
             distance: finding.distance,
             import: finding.import,
             sentences,
             arrows,
-            other_updates: self.trace.committed.saturating_sub(updates.len() as u64),
-            other_items: self.choice.crossings.len().saturating_sub(lanes.len()),
+            unwritten_items: self.choice.unwritten,
+            other_updates: committed.saturating_sub(updates.len() as u64),
+            other_items: without_lane.saturating_sub(self.choice.unwritten),
             others_off,
             others_sum,
             others_decide: self.choice.is_cheaper_elsewhere,
@@ -310,31 +317,33 @@ impl<'a> SceneParts<'a> {
     }
 }
 
-/// The scene with at most so many updates.
+/// Returns the scene of this extent.
 fn scene_with<'a>(
     alloc: Global,
-    audited_query: &'a Audited<'a>,
-    trace: &'a QueryTrace,
-    upper_bound: usize,
+    source: &Source<'a>,
+    extent: Extent,
 ) -> Result<Scene<'a>, AllocError> {
-    SceneParts::new(alloc, audited_query, trace, upper_bound)?.scene(alloc)
+    SceneParts::new(alloc, source, extent)?.scene(alloc)
 }
 
-/// What is drawn of what a script tells of a query.
+/// Returns what is drawn of the audit of a query.
 pub fn scene_of<'a>(
     alloc: Global,
-    audited_query: &'a Audited<'a>,
+    audited: &'a Audited<'a>,
     trace: &'a QueryTrace,
 ) -> Result<Scene<'a>, AllocError> {
-    let mut upper_bound = MAX_UPDATES;
-    let mut scene = scene_with(alloc, audited_query, trace, upper_bound)?;
-    for _ in 0..MAX_TRIES {
-        let fitting = fitting_updates(&scene);
-        if scene.updates.len() <= fitting {
+    let source = Source::new(alloc, audited, trace)?;
+    let mut extent = Extent {
+        updates: MAX_UPDATES,
+        reads: 2,
+    };
+    let mut scene = scene_with(alloc, &source, extent)?;
+    for tries in 1..MAX_TRIES + 3 {
+        let Some(fitting) = fitting_updates(alloc, &scene)? else {
             break;
-        }
-        upper_bound = fitting.min(upper_bound.saturating_sub(1));
-        scene = scene_with(alloc, audited_query, trace, upper_bound)?;
+        };
+        extent = extent.reduced(fitting, tries);
+        scene = scene_with(alloc, &source, extent)?;
     }
     Ok(scene)
 }

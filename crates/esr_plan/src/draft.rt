@@ -69,17 +69,18 @@ fn weight_of(given: Option<u64>) -> Result<Option<u32>, PlanError>
 }
 
 impl<'a> Draft<'a> {
-    pub fn new(alloc: Global) -> Draft<'a>
+    /// Creates the plan of no lines. Names are hashed from the seed.
+    pub fn new(alloc: Global, hash_seed: u64) -> Draft<'a>
         ensures plan { plan_in result ≡ nothing }
         ensures sound { IsSound result }
     {
         Draft {
-            names: Names::new(alloc),
+            names: Names::with_seed(alloc, hash_seed),
             values: Vec::new(alloc),
             weights: Vec::new(alloc),
             done: Vec::new(alloc),
             current: None,
-            begun: Names::new(alloc),
+            begun: Names::with_seed(alloc, hash_seed),
             places: Vec::new(alloc),
             earlier: 0,
         }
@@ -326,13 +327,13 @@ impl<'a> Draft<'a> {
 }
 
 /// Returns the plan of the lines.
-pub fn draft_of<'a>(alloc: Global, bytes: &'a [u8]) -> Result<Draft<'a>, DriveFault>
+pub fn draft_of<'a>(alloc: Global, bytes: &'a [u8], hash_seed: u64) -> Result<Draft<'a>, DriveFault>
     requires { length (lines bytes.now) ≤ MAX_LINES }
     ensures ok { IfOk result (λ d. IsSound d × (plan_from 1 nothing (lines bytes.entry.now) ≡ Ok (plan_in d))) }
     ensures err { IfErr result (λ e. (e ≡ DriveFault.NoMemory)
         ⊎ (plan_from 1 nothing (lines bytes.entry.now) ≡ Err e)) }
 {
-    let mut draft = Draft::new(alloc);
+    let mut draft = Draft::new(alloc, hash_seed);
     let mut unread = bytes;
     let mut number: u64 = 1;
     while let Some((line, rest)) = first_line(unread) {

@@ -51,13 +51,17 @@ fn finish<'a>(draft: Draft<'a>) -> Result<DrivePlan<'a>, AllocError>
     })
 }
 
-/// Parses the lines of the file into a plan, or returns the first line with a fault.
-pub fn drive_plan_of<'a>(alloc: Global, bytes: &'a [u8]) -> Result<DrivePlan<'a>, DriveFault>
+/// Parses the lines of the file into a plan, or returns the first line with a fault. Names are hashed from the seed.
+pub fn drive_plan_of<'a>(
+    alloc: Global,
+    bytes: &'a [u8],
+    hash_seed: u64,
+) -> Result<DrivePlan<'a>, DriveFault>
     requires { cut_fault 0 (lines bytes.now) ≡ None }
     ensures plan { IfOk result (λ s. plan_of bytes.entry.now ≡ Ok (plan_in s)) }
     ensures sound { IfOk result IsSound }
     ensures err { IfErr result (λ e. (e ≡ DriveFault.NoMemory) ⊎ (plan_of bytes.entry.now ≡ Err e)) }
 {
-    let drive_plan = finish(draft_of(alloc, bytes)?)?;
+    let drive_plan = finish(draft_of(alloc, bytes, hash_seed)?)?;
     Ok(drive_plan)
 }

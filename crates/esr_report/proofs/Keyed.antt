@@ -1,6 +1,7 @@
 -- The place of a name in its table, given its key.
-use Rattle.std.proofs.Common.{◌≡◌, ℕ, suc, ◌+◌, ◌<◌, ◌≤◌, List, [], ◌∷◌, ◌++◌, inl, inr, Bool, true, false, ◌&&◌, not, cond, nat_lt, map, length, All, refl, sym, ◌∙◌, ap, arith, rules, Some, None, nat_eq, bytes_eq, eqb-true, eq-eqb}
-use Rattle.std.specs.List.{position, position_or_len, list_any}
+use Rattle.std.proofs.Common.{◌≡◌, ℕ, suc, ◌+◌, ◌<◌, List, [], ◌∷◌, ◌++◌, inl, inr, Bool, true, false, ◌&&◌, not, cond, nat_lt, map, length, All, refl, sym, ◌∙◌, ap, subst, get_or, arith, Some, None, nat_eq, bytes_eq, eqb-true, eq-eqb}
+use Rattle.std.specs.List.{position, position_or_len, list_any, slice_get}
+use Rattle.std.specs.Option.{option_map}
 use Rattle.std.proofs.lemmas.Bool.{cases_Bool, and_parts}
 use Rattle.std.proofs.lemmas.Slice.Eq.{bytes_eq-Decides}
 use Rattle.std.proofs.lemmas.List.Elements.{All-append, All-nil, All-cons}
@@ -8,8 +9,9 @@ use Rattle.esr_report.specs.declared.key.Key.{Key}
 use Rattle.esr_report.specs.Keys.{low_of, high_of}
 use Rattle.esr_report.specs.Keyed.{IsKeyOf}
 use Rattle.esr_report.proofs.Keys.{same_name}
-use Rattle.esr_report.specs.Names.{position_of}
-use Rattle.esr_report.proofs.Positions.{longer, both_false}
+use Rattle.esr_report.specs.Names.{position_of, all_distinct}
+use Rattle.esr_report.proofs.Positions.{longer, both_false, position_at}
+use Rattle.std.proofs.lemmas.Option.{slice_get-map, slice_get_within, get_or_from_slice_get}
 use Rattle.indexmap.specs.IndexMap.{insert_entry}
 use Rattle.arrayvec.specs.declared.array_string.ArrayString.{ArrayString}
 
@@ -62,6 +64,16 @@ key_place k name is entries h =
     let at = position_or_len (bytes_eq name) (map (λ (e : Entry). e.1.bytes) entries) in
     ap (λ n. cond (nat_lt n (length (map (λ (e : Entry). e.0) entries))) (Some n) None) (place_of k name is entries h)
     ∙ ap (λ m. cond (nat_lt at m) (Some at) None) (as_many entries)
+
+-- the position of the entry with a key is that of its name
+pub latest_is : (k : Key) (name : List ℕ) → IsKeyOf k name → (entries : List Entry) → AreKeyed entries → all_distinct (map (λ (e : Entry). e.1.bytes) entries) ≡ true
+    → (p : ℕ) (e : Entry) → slice_get entries p ≡ Some e → same_key e.0 k ≡ true → position_of (map (λ (x : Entry). x.1.bytes) entries) name ≡ Some p
+latest_is k name is entries h apart p e at same =
+    let here : get_or entries p e ≡ e = get_or_from_slice_get entries p e e at in
+    let keyed : IsKeyOf e.0 e.1.bytes = subst (λ (x : Entry). IsKeyOf x.0 x.1.bytes) here (h p e (slice_get_within entries p e at)) in
+    let named : slice_get (map (λ (x : Entry). x.1.bytes) entries) p ≡ Some name =
+    slice_get-map (λ (x : Entry). x.1.bytes) entries p ∙ ap (option_map (λ (x : Entry). x.1.bytes)) at ∙ ap (λ t. Some t) (one_key e.0 k e.1.bytes name keyed is same) in
+    position_at (map (λ (x : Entry). x.1.bytes) entries) p name apart named
 
 -- a name of more than 16 bytes is not one of them
 pub no_longer : (entries : List Entry) (name : List ℕ) → AreKeyed entries → 16 < length name → position_of (map (λ (e : Entry). e.1.bytes) entries) name ≡ None

@@ -1,5 +1,5 @@
 -- The two numbers and the length of a name distinguish it from all others.
-use Rattle.std.proofs.Common.{◌≡◌, ℕ, zero, suc, ◌+◌, ◌-◌, ◌*◌, ◌<◌, ◌≤◌, List, [], ◌∷◌, ◌++◌, inl, inr, true, false, length, take, drop, get_or, refl, sym, ◌∙◌, ap, arith, nat_le, length-take, length-drop, leb-true, rules}
+use Rattle.std.proofs.Common.{◌≡◌, ℕ, zero, suc, ◌+◌, ◌-◌, ◌*◌, ◌<◌, ◌≤◌, List, [], ◌∷◌, ◌++◌, inl, inr, length, take, drop, get_or, refl, sym, ◌∙◌, ap, arith, nat_le, length-take, length-drop, leb-true}
 use Rattle.std.specs.Int.{from_le_bytes, w32, w64}
 use Rattle.std.proofs.lemmas.Nat.{le_bytes_4, le_bytes_8}
 use Rattle.std.proofs.lemmas.List.{take-append-drop, get_or-drop, drop-drop}

@@ -1,6 +1,6 @@
 -- Positions of names, given their keys, and one more name.
-use Rattle.std.proofs.Common.{◌≡◌, ℕ, suc, ◌+◌, ◌<◌, ◌≤◌, List, [], ◌∷◌, ◌++◌, ◌⊎◌, inl, inr, Bool, true, false, ◌||◌, ◌&&◌, not, cond, nat_lt, map, length, All, refl, sym, ◌∙◌, ap, arith, rules, Some, None, ltb-false, le-ltb, bytes_eq}
-use Rattle.std.specs.List.{position, position_or_len, list_any}
+use Rattle.std.proofs.Common.{◌≡◌, ℕ, zero, suc, ◌+◌, ◌<◌, ◌≤◌, List, [], ◌∷◌, ◌++◌, ◌⊎◌, inl, inr, Bool, true, false, ◌||◌, ◌&&◌, not, cond, nat_lt, map, length, All, refl, sym, ◌∙◌, ap, arith, rules, Some, None, ltb-false, le-ltb, lt-ltb, bytes_eq}
+use Rattle.std.specs.List.{position, position_or_len, list_any, slice_get}
 use Rattle.std.proofs.lemmas.List.Elements.{All-append}
 use Rattle.std.proofs.lemmas.List.Folds.{list_any-append}
 use Rattle.std.proofs.lemmas.Slice.Eq.{bytes_eq-Decides}
@@ -88,6 +88,29 @@ both_true false b e = cc
 not_true : (b : Bool) → not b ≡ true → b ≡ false
 not_true true e = cc
 not_true false e = refl
+
+unlisted : (p : List ℕ → Bool) (names : List (List ℕ)) (k : ℕ) (name : List ℕ) → list_any p names ≡ false → slice_get names k ≡ Some name → p name ≡ false
+unlisted p [] k name none at = cc
+unlisted p (x ∷ xs) zero name none at = let here : x ≡ name = grind arith in ap p (sym here) ∙ (both_false _ _ none).0
+unlisted p (x ∷ xs) (suc k) name none at = unlisted p xs k name (both_false _ _ none).1 at
+
+first_at : (names : List (List ℕ)) (k : ℕ) (name : List ℕ) → all_distinct names ≡ true → slice_get names k ≡ Some name
+    → (position_or_len (bytes_eq name) names ≡ k) × (k < length names)
+first_at [] k name h at = cc
+first_at (x ∷ xs) zero name h at =
+    let here : name ≡ x = grind arith in
+    (rw ((bytes_eq-Decides name x).1 here) refl, omega arith)
+first_at (x ∷ xs) (suc k) name h at =
+    let parts = both_true _ _ h in
+    let later = first_at xs k name parts.1 at in
+    let apart : bytes_eq name x ≡ false = differs x name (unlisted (bytes_eq x) xs k name (not_true (list_any (bytes_eq x) xs) parts.0) at) in
+    (rw apart (omega (arith, later.0)), omega (arith, later.1))
+
+-- the position of the name at a position, if no name is bound twice
+pub position_at : (names : List (List ℕ)) (k : ℕ) (name : List ℕ) → all_distinct names ≡ true → slice_get names k ≡ Some name → position_of names name ≡ Some k
+position_at names k name h at =
+    let first = first_at names k name h at in
+    rw (first.0, lt-ltb k (length names) first.1) refl
 
 -- a name that is not one of the names may be added
 pub all_distinct-push : (names : List (List ℕ)) (name : List ℕ) → all_distinct names ≡ true → list_any (bytes_eq name) names ≡ false → all_distinct (names ++ name ∷ []) ≡ true

@@ -1,6 +1,6 @@
 -- A name as two numbers: its first and its last eight bytes, or four, which may overlap. With its length they
 -- distinguish it from every other name of at most 16 bytes.
-use Rattle.std.specs.Prelude.{◌≡◌, ℕ, ◌+◌, ◌-◌, ◌*◌, ◌<◌, ◌≤◌, List, length, take, drop, cond, nat_le, slice_index_or}
+use Rattle.std.specs.Prelude.{ℕ, ◌+◌, ◌-◌, ◌*◌, ◌<◌, List, length, take, drop, cond, nat_le, slice_index_or}
 use Rattle.std.specs.Int.{from_le_bytes, w32, w64}
 
 abbrev pub low_of : List ℕ → ℕ

@@ -107,11 +107,14 @@ abbrev pub order_line : (names : List (List ℕ)) (txns : List ℕ) → List ℕ
 order_line names txns = names_line (codes "order") names txns
 
 -- the error of a line that makes no event
+abbrev pub error_text : LineError → List ℕ
+error_text error.NotACommand = codes "error 1 not a command"
+error_text error.ItemsAreClosed = codes "error 2 items are closed"
+error_text error.NameInUse = codes "error 3 name in use"
+error_text error.ValueOutOfRange = codes "error 4 value out of range"
+error_text error.TooManyItems = codes "error 5 too many items"
+error_text error.NotACommittedQuery = codes "error 6 not a committed query"
+error_text error.WeightOutOfRange = codes "error 7 weight out of range"
+
 abbrev pub error_line : LineError → List ℕ
-error_line error.NotACommand = line (codes "error 1 not a command" ∷ [])
-error_line error.ItemsAreClosed = line (codes "error 2 items are closed" ∷ [])
-error_line error.NameInUse = line (codes "error 3 name in use" ∷ [])
-error_line error.ValueOutOfRange = line (codes "error 4 value out of range" ∷ [])
-error_line error.TooManyItems = line (codes "error 5 too many items" ∷ [])
-error_line error.NotACommittedQuery = line (codes "error 6 not a committed query" ∷ [])
-error_line error.WeightOutOfRange = line (codes "error 7 weight out of range" ∷ [])
+error_line e = line (error_text e ∷ [])

@@ -1,15 +1,68 @@
 //! A name as two numbers and its length, by which it is looked up: these are hashed and compared in a few steps,
 //! whereas its bytes would be copied and compared in pieces, depending on their number.
+//!
+//! The length is not hashed: at most nine names have the same two numbers.
 
-ghost use Rattle.std.specs.Prelude.{◌≡◌, ◌<◌, length, slice_index_or};
+ghost use Rattle.std.specs.Prelude.{◌≡◌, ◌<◌, ◌++◌, length, slice_index_or};
+ghost use Rattle.std.specs.Hash as fed;
+ghost use Rattle.std.specs.Cmp.Rules.{hashing};
+ghost use Rattle.std.proofs.Common.{rules};
 ghost use Rattle.esr_report.specs.Keys.{low_of, high_of};
 
+use std::hash::{BuildHasher, FoldHasher, Hash, Hasher};
+
 /// The key of a name of at most 16 bytes.
-#[derive(Clone, Copy, PartialEq, Eq, Hash)]
+#[derive(Clone, Copy, PartialEq, Eq)]
 pub struct Key {
     low: u64,
     high: u64,
     length: usize,
+}
+
+impl Hash for Key {
+    ghost hash_input = { λ k. fed.u64 k.low ++ fed.u64 k.high };
+
+    ghost respects_eq = { Prim.search (hashing, rules) };
+
+    #[inline(always)]
+    fn hash<H: Hasher>(&self, state: &mut H) {
+        state.write_u64(self.low);
+        state.write_u64(self.high);
+    }
+}
+
+/// Hashes keys from a seed. Without knowing the seed, no one can choose names whose hashes are equal.
+#[derive(Clone, Copy)]
+pub struct SeededHash {
+    first: FoldHasher,
+}
+
+impl SeededHash {
+    pub fn new(seed: u64) -> SeededHash {
+        let mut first = FoldHasher::default();
+        first.write_u64(seed);
+        SeededHash { first }
+    }
+}
+
+impl BuildHasher for SeededHash {
+    type Hasher = FoldHasher;
+
+    ghost build_hasher = { λ s. s.first };
+
+    #[inline(always)]
+    fn build_hasher(&self) -> FoldHasher {
+        self.first
+    }
+}
+
+impl Key {
+    /// Returns the class of the key, one of 4,096.
+    #[inline(always)]
+    pub fn class(self) -> usize {
+        let mixed = self.low ^ self.high.rotate_left(32);
+        (mixed.wrapping_mul(0x9e37_79b9_7f4a_7c15) >> 52) as usize
+    }
 }
 
 /// Returns the byte at a place, or 0 after the end.

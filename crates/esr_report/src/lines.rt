@@ -4,7 +4,7 @@
 ghost use Rattle.std.specs.Prelude.{◌≡◌, ◌≤◌, [], ◌++◌, ◌∷◌, OnOk, OnErr, IsOk, map, take, length};
 ghost use Rattle.std.specs.List.{join_with_byte};
 ghost use Rattle.esr_base.specs.Watch.{BeginsWith};
-ghost use Rattle.esr_report.specs.Lines.{refused, blocked, line, item_line, weighted_item_line, session_line, begun_line, value_line, wrote_line, refusal_line, reply_line, totals_line, listed, audit_line, names_line, order_line, error_line};
+ghost use Rattle.esr_report.specs.Lines.{refused, blocked, line, item_line, weighted_item_line, session_line, begun_line, value_line, wrote_line, refusal_line, reply_line, totals_line, listed, audit_line, names_line, order_line, error_text, error_line};
 ghost use Rattle.esr_report.specs.Subjects.{named_by};
 ghost use Rattle.esr_report.specs.Names.{name_of_transaction};
 
@@ -22,6 +22,23 @@ pub enum LineError {
     TooManyItems,
     NotACommittedQuery,
     WeightOutOfRange,
+}
+
+impl LineError {
+    /// Returns the error's number and message, which are its line.
+    pub fn text(self) -> &'static str
+        ensures { result.now ≡ error_text self }
+    {
+        match self {
+            LineError::NotACommand => "error 1 not a command",
+            LineError::ItemsAreClosed => "error 2 items are closed",
+            LineError::NameInUse => "error 3 name in use",
+            LineError::ValueOutOfRange => "error 4 value out of range",
+            LineError::TooManyItems => "error 5 too many items",
+            LineError::NotACommittedQuery => "error 6 not a committed query",
+            LineError::WeightOutOfRange => "error 7 weight out of range",
+        }
+    }
 }
 
 /// The names in an event, for the line of its reply: a transaction, an item and a value to write, if it has them.
@@ -344,13 +361,5 @@ pub fn error_line(out: &mut Vec<u8>, error: LineError) -> Result<(), AllocError>
     ensures ok { OnOk result (out.new.items ≡ out.old.items ++ error_line error) }
     ensures err { OnErr result (out.new.items ≡ out.old.items) }
 {
-    match error {
-        LineError::NotACommand => push_line(out, "error 1 not a command", &[]),
-        LineError::ItemsAreClosed => push_line(out, "error 2 items are closed", &[]),
-        LineError::NameInUse => push_line(out, "error 3 name in use", &[]),
-        LineError::ValueOutOfRange => push_line(out, "error 4 value out of range", &[]),
-        LineError::TooManyItems => push_line(out, "error 5 too many items", &[]),
-        LineError::NotACommittedQuery => push_line(out, "error 6 not a committed query", &[]),
-        LineError::WeightOutOfRange => push_line(out, "error 7 weight out of range", &[]),
-    }
+    push_line(out, error.text(), &[])
 }

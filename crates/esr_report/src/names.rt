@@ -3,12 +3,18 @@
 //! A name is looked up by three numbers (`key`), so that none is copied or compared byte by byte to be found; its
 //! text, of at most 16 bytes, is next to them, 48 bytes in all. A longer name, which no line can contain, does not
 //! fit, and fails like an allocation.
+//!
+//! Most look-ups need no hash: keys have classes, and a table keeps for each class the position of the name that was bound
+//! last. A look-up compares the key of that name first. No clause depends on these positions.
+//!
+//! The hash of a table has a seed: otherwise a script could have 60,000 names whose hashes are equal, and each look-up
+//! would try them all.
 
-ghost use Rattle.std.specs.Prelude.{◌≡◌, ℕ, ◌+◌, ◌<◌, ◌≤◌, ◌^◌, List, [], ◌∷◌, ◌++◌, map, length, All, IfOk, OnOk, OnErr, slice_get, option_map, Option, None, true};
+ghost use Rattle.std.specs.Prelude.{◌≡◌, ℕ, ◌+◌, ◌<◌, ◌≤◌, ◌^◌, List, [], ◌∷◌, ◌++◌, map, length, All, IfOk, IfSome, OnOk, OnErr, slice_get, option_map, Option, None, Some, true};
 ghost use Rattle.esr_report.specs.Names.{position_of, all_distinct};
 ghost use Rattle.esr_report.specs.Keyed.{IsKeyOf};
 
-use crate::key::{Key, key_of};
+use crate::key::{Key, SeededHash, key_of};
 use arrayvec::ArrayString;
 use indexmap::IndexMap;
 use std::alloc::{AllocError, Global};
@@ -24,13 +30,29 @@ pub trait TransactionNames {
         ensures { option_map (λ name. name.now) result ≡ slice_get (names self.now) position };
 }
 
+/// The number of classes of keys.
+const CLASSES: usize = 4096;
+
 /// A name, which is stored in the table itself: it has at most 16 bytes.
 type Name = ArrayString<16>;
 
 /// A table of names, in the order in which they were bound. No name is bound twice.
 #[derive(Drop)]
 pub struct Names {
-    names: IndexMap<Key, Name>,
+    names: IndexMap<Key, Name, SeededHash>,
+    /// For each class of keys, the position of the name that was bound last: empty before the first, or if an
+    /// allocation failed.
+    latest: Vec<u32>,
+}
+
+/// Keeps the position of a name that was bound.
+fn keep(latest: &mut Vec<u32>, class: usize, position: u32) {
+    if latest.is_empty() {
+        let _ = latest.resize(CLASSES, 0);
+    }
+    if class < latest.len() {
+        latest[class] = position;
+    }
 }
 
 impl Model for Names {
@@ -44,11 +66,20 @@ impl Model for Names {
 }
 
 impl Names {
+    /// Returns an empty table for names that no one chose to have equal hashes.
     pub fn new(alloc: Global) -> Names
         ensures { result ≡ [] }
     {
+        Names::with_seed(alloc, 0)
+    }
+
+    /// Returns an empty table for names of a file, whose author does not know the seed.
+    pub fn with_seed(alloc: Global, seed: u64) -> Names
+        ensures { result ≡ [] }
+    {
         Names {
-            names: IndexMap::new(alloc),
+            names: IndexMap::with_hasher(alloc, SeededHash::new(seed)),
+            latest: Vec::new(alloc),
         }
     }
 
@@ -61,18 +92,40 @@ impl Names {
         self.names.len()
     }
 
+    /// Returns the position of the name with this key, if it is the last one of its class.
+    #[inline(always)]
+    fn latest_of(&self, key: Key) -> Option<u32>
+        ensures { (name : List ℕ) → IsKeyOf key name → IfSome result (λ p. position_of self.now name ≡ Some p) }
+    {
+        let position = *self.latest.get(key.class())?;
+        let (found, _) = self.names.get_index(position as usize)?;
+        if *found == key { Some(position) } else { None }
+    }
+
+    /// Returns the position of the name with this key, if it is bound.
+    #[inline(never)]
+    fn search(&self, key: Key) -> Option<u32>
+        ensures { (name : List ℕ) → IsKeyOf key name → result ≡ position_of self.now name }
+    {
+        match self.names.get_index_of(&key) {
+            Some(position) => Some(position as u32),
+            None => None,
+        }
+    }
+
     /// Returns the position of the name, if it is bound.
+    #[inline(always)]
     pub fn number_of(&self, name: &str) -> Option<u32>
         ensures { result ≡ position_of self.now name.now }
     {
-        let names = &self.names;
+        let _names = &self.names; // brings the invariant into the proof
         if name.len() > 16 {
             return None;
         }
         let key = key_of(name);
-        match names.get_index_of(&key) {
-            Some(position) => Some(position as u32),
-            None => None,
+        match self.latest_of(key) {
+            Some(position) => Some(position),
+            None => self.search(key),
         }
     }
 
@@ -102,7 +155,9 @@ impl Names {
         let Ok(text) = Name::from(name) else {
             return Err(AllocError);
         };
-        self.names.insert(key_of(name), text)?;
+        let key = key_of(name);
+        self.names.insert(key, text)?;
+        keep(&mut self.latest, key.class(), position as u32);
         Ok(position as u32)
     }
 }

@@ -9,7 +9,7 @@ use Rattle.esr_grammar.specs.declared.limits.TheConstants.{MAX_LINES, MAX_LINE_B
 use Rattle.esr_script.specs.Text.{ScriptState, Executes, EndsIn, answer, outcome, RunFault}
 use Rattle.esr_script.specs.Run.{IsRunBy}
 use Rattle.esr_grammar.specs.Lines.{line_len, IsNext}
-use Rattle.esr_script.specs.Parts.{InputProgress, IsAnswer, IsHeldRun, IsUnread, is_read_fault, is_write_fault}
+use Rattle.esr_script.specs.Parts.{InputProgress, IsAnswer, IsHeldRun, IsUnread, is_read_fault, is_write_fault, without_outcome}
 use Rattle.esr_grammar.proofs.Prefix.{line_len-le}
 use Rattle.esr_script.proofs.Steps.{advance, all_read, text_begins, at_memory, at_long, at_too_many, at_fault_line, at_last, at_fault_last, at_read}
 use Rattle.std.proofs.lemmas.Grind.{common_steps}
@@ -49,14 +49,14 @@ pub held_same : (taken : Option (List ℕ)) (input : List ℕ) (left : Option (L
 held_same taken input left out r sent held = ([], nothing_gone taken, subst (λ w. IsHeldRun input left out r w) (sym (append-nil sent)) held)
 
 -- a line whose reply is complete
-pub answered_in_full : (taken : Option (List ℕ)) (due : Result (ScriptState × List ℕ) RunFault) (new : ScriptState) (out grown : List ℕ) (r : Result (Unit {0}) RunFault)
-    → Executes due new out grown r → IsAnswer taken due new out grown r
+pub answered_in_full : {T : Type 0} (taken : Option (List ℕ)) (due : Result (ScriptState × List ℕ) RunFault) (new : ScriptState) (out grown : List ℕ) (r : Result T RunFault)
+    → Executes due new out grown r → IsAnswer taken due new out grown (without_outcome r)
 answered_in_full taken due new out grown (Ok done) h = record { ok = (h.ok.0, [], h.ok.1, sym h.ok.2, nothing_gone taken); err = tt; faults = tt }
 answered_in_full taken due new out grown (Err e) h = record { ok = tt; err = ([], sym h.err, nothing_gone taken); faults = h.faults }
 
 -- one of which all text is gone
-pub answered_unread : (taken : Option (List ℕ)) (due : Result (ScriptState × List ℕ) RunFault) (new : ScriptState) (out rest : List ℕ) (r : Result (Unit {0}) RunFault)
-    → taken ≡ None → EndsIn due new r → rest ≡ [] → IsAnswer taken due new out rest r
+pub answered_unread : {T : Type 0} (taken : Option (List ℕ)) (due : Result (ScriptState × List ℕ) RunFault) (new : ScriptState) (out rest : List ℕ) (r : Result T RunFault)
+    → taken ≡ None → EndsIn due new r → rest ≡ [] → IsAnswer taken due new out rest (without_outcome r)
 answered_unread taken due new out rest (Ok done) none h empty = record {
   ok = (h.ok.0, out ++ h.ok.0, h.ok.1, rw empty (sym (append-nil (out ++ h.ok.0))), any_gone taken (out ++ h.ok.0) none);
   err = tt;

@@ -1,6 +1,7 @@
 -- The loop over lines, with its buffer, its stages and its ends, writes the defined text. Only the bodies of this
 -- crate use these lemmas.
 
+pub mod Echoes
 pub mod Handed
 pub mod Steps
 mod Unread

@@ -7,13 +7,13 @@ use Rattle.esr_script.specs.Text.{ScriptState, RunFault, Executes, EndsIn, close
 
 module _ (s new : ScriptState) (line : List ℕ) (skipped : is_skipped line ≡ false) where
   -- an audit that was not made
-  pub passed : (name : List ℕ) → reading line ≡ Some (command.audit name) → (r : Result (Unit {0}) RunFault) → OnOk r (new ≡ closed s)
+  pub passed : {T : Type 0} (name : List ℕ) → reading line ≡ Some (command.audit name) → (r : Result T RunFault) → OnOk r (new ≡ closed s)
       → IfErr r (λ e. e ≡ fault.NoMemory) → EndsIn (answer s line) new r
   passed name is (Ok done) ok err = record { ok = (audit_text s name, rw (skipped, is) (ap (λ (z : ScriptState). Ok (z, audit_text s name)) (sym ok))); faults = tt }
   passed name is (Err e) ok err = record { ok = tt; faults = inl err }
 
   -- any other command
-  pub executed : (c : Command) → reading line ≡ Some c → (r : Result (Unit {0}) RunFault) (out grown : List ℕ) → Executes (execute s c) new out grown r
+  pub executed : {T : Type 0} (c : Command) → reading line ≡ Some c → (r : Result T RunFault) (out grown : List ℕ) → Executes (execute s c) new out grown r
       → EndsIn (answer s line) new r
   executed c is (Ok done) out grown h = record { ok = (h.ok.0, rw (skipped, is) h.ok.1); faults = tt }
   executed c is (Err e) out grown h = record { ok = tt; faults = rw (skipped, is) h.faults }

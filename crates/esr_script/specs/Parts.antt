@@ -16,6 +16,11 @@ abbrev pub is_write_fault : {T : Type 0} → Result T RunFault → Bool
 is_write_fault (Err fault.Write) = true
 is_write_fault _ = false
 
+-- the end of the run at a line, whatever its outcome is
+abbrev pub without_outcome : {T : Type 0} → Result T RunFault → Result (Unit {0}) RunFault
+without_outcome (Ok x) = Ok tt
+without_outcome (Err e) = Err e
+
 -- A run over the input that has executed or skipped `count` lines, wrote this text, and has these bytes before it.
 pub record Progress (input unread : List ℕ) (count : ℕ) (state : ScriptState) (written : List ℕ) : Type 0 where
   pub used : List ℕ

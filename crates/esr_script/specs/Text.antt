@@ -126,14 +126,14 @@ answer s line =
 
 -- A line was executed as due: the state is the due state, and the due text follows the output. An error leaves the
 -- output unchanged, and is out of memory, or the due full history.
-pub record Executes (due : Result (ScriptState × List ℕ) RunFault) (new : ScriptState) (out_old out_new : List ℕ)
-    (result : Result (Unit {0}) RunFault) : Type 0 where
+pub record Executes {T : Type 0} (due : Result (ScriptState × List ℕ) RunFault) (new : ScriptState) (out_old out_new : List ℕ)
+    (result : Result T RunFault) : Type 0 where
   pub ok : OnOk result ((text : List ℕ) × (due ≡ Ok (new, text)) × (out_new ≡ out_old ++ text))
   pub err : OnErr result (out_new ≡ out_old)
   pub faults : IfErr result (λ e. (e ≡ fault.NoMemory) ⊎ ((e ≡ fault.HistoryFull) × (due ≡ Err fault.HistoryFull)))
 
 -- like `Executes`, if the text is dropped
-pub record EndsIn (due : Result (ScriptState × List ℕ) RunFault) (new : ScriptState) (result : Result (Unit {0}) RunFault)
+pub record EndsIn {T : Type 0} (due : Result (ScriptState × List ℕ) RunFault) (new : ScriptState) (result : Result T RunFault)
     : Type 0 where
   pub ok : OnOk result ((text : List ℕ) × (due ≡ Ok (new, text)))
   pub faults : IfErr result (λ e. (e ≡ fault.NoMemory) ⊎ ((e ≡ fault.HistoryFull) × (due ≡ Err fault.HistoryFull)))

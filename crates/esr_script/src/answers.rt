@@ -1,5 +1,5 @@
 //! Executes the lines of the buffered bytes. A line is read in the input buffer and not copied. The observer sees
-//! each line with its reply, and changes nothing. If the text is to be dropped, it is dropped line by line, so text
+//! each line with its outcome, and changes nothing. If the text is to be dropped, it is dropped line by line, so text
 //! that was not produced makes no difference.
 
 ghost use Rattle.esr_grammar.specs.declared.limits.TheConstants.{MAX_LINES, MAX_LINE_BYTES};
@@ -8,14 +8,14 @@ ghost use Rattle.std.specs.Io.KnownBytes.{IsAtEnd};
 ghost use Rattle.esr_script.specs.Replays.{IsReplay};
 ghost use Rattle.esr_grammar.specs.Lines.{line_len, IsNext};
 ghost use Rattle.esr_script.specs.Text.{answer};
-ghost use Rattle.esr_script.specs.Parts.{InputProgress, IsAnswer, IsHeldRun, IsUnread, is_read_fault, is_write_fault};
+ghost use Rattle.esr_script.specs.Parts.{InputProgress, IsAnswer, IsHeldRun, IsUnread, is_read_fault, is_write_fault, without_outcome};
 
 use crate::fault::RunFault;
 use crate::input::InputBuffer;
 use crate::script::Script;
 use crate::sink::{Audience, Sink};
 use esr_grammar::{MAX_LINES, Next};
-use esr_lint::Observer;
+use esr_lint::{LineOutcome, Observer};
 
 /// Returns the number of bytes of the next line, if it can be executed.
 fn next_length(next: Next, count: u64) -> Result<usize, RunFault>
@@ -35,7 +35,26 @@ fn next_length(next: Next, count: u64) -> Result<usize, RunFault>
     }
 }
 
-/// Executes the line after `count` lines, and passes it and its reply to the observer.
+/// Passes a line and its outcome to the observer.
+#[inline(always)]
+fn show<O: Observer>(
+    observer: &mut O,
+    number: u64,
+    line: &[u8],
+    answered: Result<LineOutcome, RunFault>,
+) -> Result<(), RunFault>
+    ensures { result ≡ without_outcome answered }
+{
+    match answered {
+        Ok(outcome) => {
+            observer.see_line(number, line, outcome);
+            Ok(())
+        }
+        Err(fault) => Err(fault),
+    }
+}
+
+/// Executes the line after `count` lines, and passes it and its outcome to the observer.
 #[inline(always)]
 fn answer<S: Sink, O: Observer>(
     line: &[u8],
@@ -48,12 +67,9 @@ fn answer<S: Sink, O: Observer>(
     requires { count ≤ MAX_LINES }
     ensures { IsAnswer (S.contents sink.now) (answer script.old line.now) script.new out.old.items out.new.items result }
 {
-    let before = out.len();
     let audience = sink.audience();
-    let ended = script.answer(line, audience, out);
-    if ended.is_ok() {
-        observer.see_line(count + 1, line, out.get(before..).unwrap_or(&[]));
-    }
+    let answered = script.answer(line, audience, out);
+    let ended = show(observer, count + 1, line, answered);
     if let Audience::NoReader = audience {
         out.clear();
     }

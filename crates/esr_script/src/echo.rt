@@ -1,6 +1,7 @@
-//! Replies that repeat the words of their line: these are copied from it in one piece, and no number is formatted.
+//! Replies that repeat the words of their line: these are copied from it in one piece, and no number is formatted. The
+//! reply to a write is its line, in which `write` becomes `wrote`.
 
-ghost use Rattle.std.specs.Prelude.{◌≡◌, ◌≤◌, ◌∷◌, ◌++◌, [], OnOk, OnErr, codes, length, take};
+ghost use Rattle.std.specs.Prelude.{◌≡◌, ◌≤◌, ◌<◌, ◌∷◌, ◌++◌, [], OnOk, OnErr, length, take, slice_set};
 ghost use Rattle.esr_base.specs.Watch.{BeginsWith};
 ghost use Rattle.esr_report.specs.Lines.{reply_line};
 ghost use Rattle.esr_report.specs.Subjects.{named_by};
@@ -16,18 +17,21 @@ pub enum Echo<'a> {
     Nothing,
     /// The names of a read.
     Read(&'a [u8]),
-    /// The names and the value of a write.
+    /// The line of a write.
     Write(&'a [u8]),
 }
 
-/// Appends the reply to a write, given the words of its line.
+/// Appends the reply to a write, given its line.
+#[tactic(auto, using(crate::proofs::Echoes::echoed))]
 #[inline(always)]
-fn append_wrote(out: &mut Vec<u8>, words: &[u8]) -> Result<(), AllocError>
-    ensures ok { OnOk result (out.new.items ≡ out.old.items ++ (codes "wrote " ++ (words.now ++ 10 ∷ []))) }
+fn append_wrote(out: &mut Vec<u8>, line: &[u8]) -> Result<(), AllocError>
+    requires { 2 < length line.now }
+    ensures ok { OnOk result (out.new.items ≡ out.old.items ++ (slice_set line.now 2 111 ++ 10 ∷ [])) }
     ensures kept { BeginsWith out.new.items out.old.items }
 {
-    out.extend_from_slice(b"wrote ")?;
-    out.extend_from_slice(words)?;
+    let place = out.len() + 2;
+    out.extend_from_slice(line)?;
+    out[place] = b'o';
     out.push(b'\n')?;
     Ok(())
 }
@@ -59,7 +63,8 @@ fn whole(out: &mut Vec<u8>, mark: usize, appended: Result<(), AllocError>) -> Re
     appended
 }
 
-/// Appends the line of the machine's reply to an event that names the subject, given the words of its line.
+/// Appends the line of the machine's reply to an event that names the subject, given its line or the words of it.
+#[tactic(auto, using(crate::proofs::Echoes::wrote, crate::proofs::Echoes::is_long))]
 #[inline(always)]
 pub fn push_reply(
     out: &mut Vec<u8>,
@@ -73,9 +78,9 @@ pub fn push_reply(
     ensures err { OnErr result (out.new.items ≡ out.old.items) }
 {
     match (reply, echo) {
-        (Reply::Wrote, Echo::Write(words)) => {
+        (Reply::Wrote, Echo::Write(line)) => {
             let mark = out.len();
-            let appended = append_wrote(out, words);
+            let appended = append_wrote(out, line);
             whole(out, mark, appended)
         }
         (Reply::Value(value), Echo::Read(words)) => {

@@ -48,7 +48,7 @@ impl IndexedMachine {
         }
     }
 
-    /// Gives the machine an event.
+    /// Gives the machine an event. Reads and writes, the most frequent events, have calls of their own.
     #[inline(always)]
     pub fn step(&mut self, event: Event) -> Result<Reply, StepError>
         ensures reply { IfOk result (λ reply. reply ≡ reply_to weighted self.old event) }
@@ -58,7 +58,11 @@ impl IndexedMachine {
         ensures fits { IfOk result (λ reply. ¬ (length self.old.entries ≡ MAX_ENTRIES)) }
         ensures open { ¬ IsErrOf result StepError.EngineClosed }
     {
-        self.machine.step(event)
+        match event {
+            Event::Read { txn, item } => self.machine.read(txn, item),
+            Event::Write { txn, item, value } => self.machine.write(txn, item, value),
+            _ => self.machine.step(event),
+        }
     }
 
     /// Returns the imports and exports together, and the number of entries.

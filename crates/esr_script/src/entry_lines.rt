@@ -2,18 +2,8 @@
 //! entry. Rejected: a copy of the script, of some twenty bytes a line, which must be cut into lines again. No clause
 //! specifies these lines, as none covers what an observer sees.
 
-use esr_lint::{Observer, TxnSummary, is_error};
+use esr_lint::{LineOutcome, Observer, TxnSummary};
 use std::alloc::Global;
-
-/// Returns whether a line made an entry: it sent the machine an event, and its reply is not an error.
-fn makes_entry(line: &[u8], answer: &[u8]) -> bool {
-    let has_event = line.starts_with(b"read ")
-        || line.starts_with(b"write ")
-        || line.starts_with(b"begin ")
-        || line.starts_with(b"commit ")
-        || line.starts_with(b"abort ");
-    has_event && !is_error(answer)
-}
 
 /// Records the line of each entry, and passes each call on to another observer.
 #[derive(Drop)]
@@ -43,14 +33,18 @@ impl<'a, O> EntryLines<'a, O> {
 }
 
 impl<O: Observer> Observer for EntryLines<'_, O> {
-    fn see_line(&mut self, number: u64, line: &[u8], answer: &[u8]) {
-        if makes_entry(line, answer) {
+    fn hash_seed(&self) -> u64 {
+        self.observer.hash_seed()
+    }
+
+    fn see_line(&mut self, number: u64, line: &[u8], outcome: LineOutcome) {
+        if outcome.is_entry() {
             let number = u32::try_from(number).unwrap_or(u32::MAX);
             if self.lines.push(number).is_err() {
                 self.is_whole = false;
             }
         }
-        self.observer.see_line(number, line, answer);
+        self.observer.see_line(number, line, outcome);
     }
 
     fn see_transaction(&mut self, name: &str, status: TxnSummary) {

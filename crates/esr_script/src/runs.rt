@@ -41,7 +41,7 @@ pub fn run<R: Read, W: Write, O: Observer>(
     let Ok(mut out) = Vec::with_capacity(alloc, OUTPUT_ROOM) else {
         return Err(RunFault::NoMemory);
     };
-    let mut script = Script::new(alloc);
+    let mut script = Script::new(alloc, observer.hash_seed());
     let ended = answer_lines(
         reader,
         writer,

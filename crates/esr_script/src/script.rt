@@ -4,8 +4,9 @@
 //! there is one order of refusals, and the refusal is an entry like any other.
 
 ghost use Rattle.esr_board.specs.declared.board.TheConstants.{MAX_SEATS};
-ghost use Rattle.std.specs.Prelude.{◌≡◌, ◌≢◌, ℕ, List, ◌+◌, ◌<◌, ◌≤◌, ◌⊎◌, [], ◌∷◌, ◌++◌, Ok, Err, None, OnErr, OnOk, IfOk, IfErr, IsErrOf, IsOk, true, false, ◌↔◌, length, pos};
+ghost use Rattle.std.specs.Prelude.{◌≡◌, ◌≢◌, ℕ, List, ◌+◌, ◌<◌, ◌≤◌, ◌⊎◌, [], ◌∷◌, ◌++◌, Ok, Err, None, OnErr, OnOk, IfOk, IfErr, IsErrOf, IsOk, true, false, ◌↔◌, length, pos, codes};
 ghost use Rattle.esr_report.specs.Names.{position_of};
+ghost use Rattle.esr_report.specs.Lines.{error_line};
 ghost use Rattle.esr_report.specs.Subjects.{named_by};
 ghost use Rattle.esr_script.specs.Text.{Executes, EndsIn, start, closed, transaction_called, item_called, item_error, with_item, begin, ask, execute, answer, ScriptState};
 ghost use Rattle.esr_script.specs.Stages.{IsBegin, is_running, history_of};
@@ -31,7 +32,7 @@ use esr_board::Gate;
 use esr_grammar::{Line, Parsed, parse_line};
 use esr_history::{Event, Reply, TxnId};
 use esr_items::{ItemId, MAX_ITEMS, MAX_VALUE, MAX_WEIGHT};
-use esr_lint::{Observer, TxnEnd, TxnSummary};
+use esr_lint::{LineOutcome, Observer, TxnEnd, TxnSummary};
 use esr_report::{
     LineError, Names, ReplyNames, audit_line, error_line, item_line, totals_line,
     weighted_item_line,
@@ -67,13 +68,14 @@ impl Model for Script {
 }
 
 impl Script {
-    pub fn new(alloc: Global) -> Script
+    /// Creates the state before the first line. Names are hashed from the seed.
+    pub fn new(alloc: Global, hash_seed: u64) -> Script
         ensures { result ≡ start }
     {
         Script {
             alloc,
-            items: Names::new(alloc),
-            transactions: Names::new(alloc),
+            items: Names::with_seed(alloc, hash_seed),
+            transactions: Names::with_seed(alloc, hash_seed),
             stage: Stage::Open(Declarations::new(alloc)),
         }
     }
@@ -136,14 +138,19 @@ impl Script {
     }
 
     /// Declares an item of weight 1.
-    fn declare(&mut self, name: &str, value: i64, out: &mut Vec<u8>) -> Result<(), RunFault>
+    fn declare(
+        &mut self,
+        name: &str,
+        value: i64,
+        out: &mut Vec<u8>,
+    ) -> Result<LineOutcome, RunFault>
         ensures { Executes (execute self.old (command.item name.now value)) self.new out.old.items out.new.items result }
     {
         if let Some(error) = self.item_error(name, value, 1) {
-            return line_or_fault(error_line(out, error));
+            return reply_error(out, error);
         }
         self.add_item(name, value, 1)?;
-        line_or_fault(item_line(out, name, value))
+        outcome_or_fault(item_line(out, name, value), LineOutcome::NoEvent)
     }
 
     /// Declares an item with a weight.
@@ -153,15 +160,16 @@ impl Script {
         value: i64,
         weight: u64,
         out: &mut Vec<u8>,
-    ) -> Result<(), RunFault>
+    ) -> Result<LineOutcome, RunFault>
         ensures { Executes (execute self.old (command.weighted_item name.now value weight))
             self.new out.old.items out.new.items result }
     {
         if let Some(error) = self.item_error(name, value, weight) {
-            return line_or_fault(error_line(out, error));
+            return reply_error(out, error);
         }
         self.add_item(name, value, weight)?;
-        line_or_fault(weighted_item_line(out, name, value, weight))
+        let appended = weighted_item_line(out, name, value, weight);
+        outcome_or_fault(appended, LineOutcome::NoEvent)
     }
 
     /// Executes an event on the machine, and appends its reply. The names in the reply are copied from the line.
@@ -172,7 +180,7 @@ impl Script {
         echo: Echo<'_>,
         event: Event,
         out: &mut Vec<u8>,
-    ) -> Result<(), RunFault>
+    ) -> Result<LineOutcome, RunFault>
         requires begin { IsBegin event → position_of self.old.transactions subject.txn.now ≡ None }
         requires echo { IsEcho echo (named_by subject) }
         ensures { Executes (ask self.old (named_by subject.entry) event) self.new out.old.items out.new.items result }
@@ -184,27 +192,34 @@ impl Script {
                 return Err(RunFault::NoMemory);
             }
         }
-        line_or_fault(push_reply(out, &self.transactions, subject, echo, reply))
+        let appended = push_reply(out, &self.transactions, subject, echo, reply);
+        outcome_or_fault(appended, LineOutcome::of_reply(reply))
     }
 
     /// Begins a transaction, whose name must not be bound already.
-    fn begin(&mut self, name: &str, event: Event, out: &mut Vec<u8>) -> Result<(), RunFault>
+    fn begin(
+        &mut self,
+        name: &str,
+        event: Event,
+        out: &mut Vec<u8>,
+    ) -> Result<LineOutcome, RunFault>
         ensures { Executes (begin self.old name.now event) self.new out.old.items out.new.items result }
     {
         if self.transactions.number_of(name).is_some() {
-            return line_or_fault(error_line(out, LineError::NameInUse));
+            return reply_error(out, LineError::NameInUse);
         }
         self.ask(alone(name), Echo::Nothing, event, out)
     }
 
     /// Reads an item.
+    #[inline(always)]
     fn read(
         &mut self,
         words: &[u8],
         txn: &str,
         item: &str,
         out: &mut Vec<u8>,
-    ) -> Result<(), RunFault>
+    ) -> Result<LineOutcome, RunFault>
         requires { words.now ≡ join_with_byte 32 (txn.now ∷ item.now ∷ []) }
         ensures { Executes (execute self.old (command.read txn.now item.now)) self.new out.old.items out.new.items result }
     {
@@ -221,15 +236,16 @@ impl Script {
     }
 
     /// Writes an item.
+    #[inline(always)]
     fn write(
         &mut self,
-        words: &[u8],
+        line: &[u8],
         txn: &str,
         item: &str,
         value: i64,
         out: &mut Vec<u8>,
-    ) -> Result<(), RunFault>
-        requires { words.now ≡ join_with_byte 32 (txn.now ∷ item.now ∷ signed_decimal value ∷ []) }
+    ) -> Result<LineOutcome, RunFault>
+        requires { line.now ≡ codes "write " ++ join_with_byte 32 (txn.now ∷ item.now ∷ signed_decimal value ∷ []) }
         ensures { Executes (execute self.old (command.write txn.now item.now value))
             self.new out.old.items out.new.items result }
     {
@@ -239,11 +255,11 @@ impl Script {
             value,
         };
         let subject = ReplyNames { txn, item, value };
-        self.ask(subject, Echo::Write(words), event, out)
+        self.ask(subject, Echo::Write(line), event, out)
     }
 
     /// Commits a transaction.
-    fn commit(&mut self, txn: &str, out: &mut Vec<u8>) -> Result<(), RunFault>
+    fn commit(&mut self, txn: &str, out: &mut Vec<u8>) -> Result<LineOutcome, RunFault>
         ensures { Executes (execute self.old (command.commit txn.now)) self.new out.old.items out.new.items result }
     {
         let event = Event::Commit {
@@ -253,7 +269,7 @@ impl Script {
     }
 
     /// Aborts a transaction.
-    fn abort(&mut self, txn: &str, out: &mut Vec<u8>) -> Result<(), RunFault>
+    fn abort(&mut self, txn: &str, out: &mut Vec<u8>) -> Result<LineOutcome, RunFault>
         ensures { Executes (execute self.old (command.abort txn.now)) self.new out.old.items out.new.items result }
     {
         let event = Event::Abort {
@@ -263,12 +279,13 @@ impl Script {
     }
 
     /// Sums the charges so far.
-    fn totals(&mut self, out: &mut Vec<u8>) -> Result<(), RunFault>
+    fn totals(&mut self, out: &mut Vec<u8>) -> Result<LineOutcome, RunFault>
         ensures { Executes (execute self.old command.totals) self.new out.old.items out.new.items result }
     {
         self.stage.ensure_started(self.alloc)?;
         let totals = self.stage.totals();
-        line_or_fault(totals_line(out, totals.import, totals.export, totals.entries))
+        let appended = totals_line(out, totals.import, totals.export, totals.entries);
+        outcome_or_fault(appended, LineOutcome::NoEvent)
     }
 
     /// Returns the finding of the audit of the transaction of that name. Creates the machine if necessary.
@@ -311,23 +328,38 @@ impl Script {
         ))
     }
 
-    /// Accepts the line without an audit, and reports only whether the query exists: an audit changes nothing, except
-    /// that no more items may be declared. The message is not specified.
-    fn pass_audit(&mut self, txn: &str, out: &mut Vec<u8>) -> Result<(), RunFault>
-        ensures ok { OnOk result (self.new ≡ closed self.old) }
-        ensures faults { IfErr result (λ e. e ≡ RunFault.NoMemory) }
-    {
-        let q = self.transaction(txn);
-        self.stage.ensure_started(self.alloc)?;
-        match self.stage.status_of(q) {
+    /// Returns the outcome of an `audit` line.
+    fn audit_outcome(&self, txn: &str) -> LineOutcome {
+        match self.stage.status_of(self.transaction(txn)) {
             Some(
                 TxnSummary {
                     is_query: true,
                     end: TxnEnd::Committed,
                 },
-            ) => Ok(()),
-            _ => line_or_fault(error_line(out, LineError::NotACommittedQuery)),
+            ) => LineOutcome::NoEvent,
+            _ => LineOutcome::Error(LineError::NotACommittedQuery),
         }
+    }
+
+    /// Executes an `audit` line.
+    fn reply_audit(&mut self, txn: &str, out: &mut Vec<u8>) -> Result<LineOutcome, RunFault>
+        ensures { Executes (execute self.old (command.audit txn.now)) self.new out.old.items out.new.items result }
+    {
+        let outcome = self.audit_outcome(txn);
+        match self.audit(txn, out) {
+            Ok(()) => Ok(outcome),
+            Err(fault) => Err(fault),
+        }
+    }
+
+    /// Accepts an `audit` line without an audit: an audit changes nothing, except that no more items may be declared.
+    fn pass_audit(&mut self, txn: &str) -> Result<LineOutcome, RunFault>
+        ensures ok { OnOk result (self.new ≡ closed self.old) }
+        ensures faults { IfErr result (λ e. e ≡ RunFault.NoMemory) }
+    {
+        let passed = self.audit_outcome(txn);
+        self.stage.ensure_started(self.alloc)?;
+        Ok(passed)
     }
 
     /// Ends the run, and returns the audited query of that name.
@@ -457,7 +489,13 @@ impl Script {
     }
 
     /// Executes the command of a line.
-    fn execute(&mut self, text: &[u8], line: Line<'_>, out: &mut Vec<u8>) -> Result<(), RunFault>
+    #[inline(always)]
+    fn execute(
+        &mut self,
+        text: &[u8],
+        line: Line<'_>,
+        out: &mut Vec<u8>,
+    ) -> Result<LineOutcome, RunFault>
         requires { IsSyntaxOf text.now (view line) }
         ensures { Executes (execute self.old (view line.entry)) self.new out.old.items out.new.items result }
     {
@@ -488,32 +526,32 @@ impl Script {
                 self.begin(name, event, out)
             }
             Line::Read { txn, item } => self.read(&text[5..], txn, item, out),
-            Line::Write { txn, item, value } => self.write(&text[6..], txn, item, value, out),
+            Line::Write { txn, item, value } => self.write(text, txn, item, value, out),
             Line::Commit { txn } => self.commit(txn, out),
             Line::Abort { txn } => self.abort(txn, out),
-            Line::Audit { txn } => self.audit(txn, out),
+            Line::Audit { txn } => self.reply_audit(txn, out),
             Line::Totals => self.totals(out),
         }
     }
 
-    /// Executes a line, and appends its text to the output. An error leaves the output as it was. If the text is to
-    /// be dropped, no query is audited, and the text appended is not specified.
+    /// Executes a line, appends its text to the output, and returns its outcome. An error leaves the output as it was.
+    /// If the text is to be dropped, no query is audited, and the text appended is not specified.
     #[tactic(auto, using(crate::proofs::Unread::executed))]
     pub fn answer(
         &mut self,
         line: &[u8],
         audience: Audience,
         out: &mut Vec<u8>,
-    ) -> Result<(), RunFault>
+    ) -> Result<LineOutcome, RunFault>
         ensures state { EndsIn (answer self.old line.now) self.new result }
         ensures text { audience ≡ Audience.Somebody
             → Executes (answer self.old line.now) self.new out.old.items out.new.items result }
     {
         match parse_line(line) {
-            Parsed::Skipped => Ok(()),
-            Parsed::NotACommand => line_or_fault(error_line(out, LineError::NotACommand)),
+            Parsed::Skipped => Ok(LineOutcome::NoEvent),
+            Parsed::NotACommand => reply_error(out, LineError::NotACommand),
             Parsed::Command(Line::Audit { txn }) if audience == Audience::NoReader => {
-                self.pass_audit(txn, out)
+                self.pass_audit(txn)
             }
             Parsed::Command(command) => self.execute(line, command, out),
         }
@@ -553,4 +591,28 @@ fn line_or_fault(appended: Result<(), AllocError>) -> Result<(), RunFault>
         Ok(()) => Ok(()),
         Err(_) => Err(RunFault::NoMemory),
     }
+}
+
+/// Returns the outcome of a line whose text was appended, or the fault of the run.
+#[inline(always)]
+fn outcome_or_fault(
+    appended: Result<(), AllocError>,
+    outcome: LineOutcome,
+) -> Result<LineOutcome, RunFault>
+    ensures ok { IsOk result ↔ IsOk appended }
+    ensures faults { IfErr result (λ e. e ≡ RunFault.NoMemory) }
+{
+    match appended {
+        Ok(()) => Ok(outcome),
+        Err(_) => Err(RunFault::NoMemory),
+    }
+}
+
+/// Appends the line of an error, and returns the error as the outcome.
+fn reply_error(out: &mut Vec<u8>, error: LineError) -> Result<LineOutcome, RunFault>
+    ensures ok { OnOk result (out.new.items ≡ out.old.items ++ error_line error) }
+    ensures err { OnErr result (out.new.items ≡ out.old.items) }
+    ensures faults { IfErr result (λ e. e ≡ RunFault.NoMemory) }
+{
+    outcome_or_fault(error_line(out, error), LineOutcome::Error(error))
 }

@@ -33,7 +33,7 @@ pub fn replay<R: Read, O: Observer>(
     let Ok(mut pending) = InputBuffer::new(alloc) else {
         return Err(RunFault::NoMemory);
     };
-    let mut script = Script::new(alloc);
+    let mut script = Script::new(alloc, observer.hash_seed());
     let mut out = Vec::new(alloc);
     let ended = answer_lines(
         reader,

@@ -1,13 +1,13 @@
 //! The updates of a picture, and the arrows between them.
 
-use crate::elements::{close_text, open_centred, push_straight, push_vertical};
+use crate::elements::{close_text, open_centred, push_vertical};
 use crate::frame::{Frame, arch, is_straight};
 use crate::scene::{Arrow, Scene, Update};
 use std::alloc::AllocError;
 
-/// The dotted lines below the updates.
+/// Appends the dotted lines below the updates.
 fn push_drops(out: &mut String, updates: &[Update<'_>], frame: &Frame) -> Result<(), AllocError> {
-    let top = frame.boxes() + 28;
+    let top = frame.boxes().saturating_add(28);
     for update in updates {
         if update.reach > 0 {
             let bottom = frame.y(update.reach.saturating_sub(1));
@@ -18,13 +18,13 @@ fn push_drops(out: &mut String, updates: &[Update<'_>], frame: &Frame) -> Result
     Ok(())
 }
 
-/// A box of such a class, with its left edge and its upper one.
+/// Appends a box of a class, with its left edge and its upper one.
 fn push_rect(
     out: &mut String,
     class: &str,
     left: u32,
     top: u32,
-    width: u16,
+    width: u32,
 ) -> Result<(), AllocError> {
     write!(
         out,
@@ -32,10 +32,10 @@ fn push_rect(
     )
 }
 
-/// An update's box.
+/// Appends the box of an update.
 fn push_box(
     out: &mut String,
-    update: Update<'_>,
+    update: &Update<'_>,
     line: u8,
     frame: &Frame,
 ) -> Result<(), AllocError> {
@@ -44,28 +44,29 @@ fn push_box(
         (false, true) => "b",
         (false, false) => "a",
     };
-    let width = frame.box_width;
     let x = frame.x(update.slot);
     let top = frame.boxes();
-    let left = x.saturating_sub(u32::from(width / 2));
-    push_rect(out, class, left, top, width)?;
-    open_centred(out, "m", x, top + 19)?;
+    out.push_str("<g><title>")?;
+    out.push_str(&update.title)?;
+    out.push_str("</title>")?;
+    let left = x.saturating_sub(frame.box_width / 2);
+    push_rect(out, class, left, top, frame.box_width)?;
+    open_centred(out, "m", x, top.saturating_add(19))?;
     close_text(out, update.name)?;
-    out.push_str("\n")
+    out.push_str("</g>\n")
 }
 
-/// The boxes of the updates.
+/// Appends the boxes of the updates.
 fn push_boxes(out: &mut String, scene: &Scene<'_>, frame: &Frame) -> Result<(), AllocError> {
     for update in &scene.updates {
-        push_box(out, *update, scene.line, frame)?;
+        push_box(out, update, scene.line, frame)?;
     }
     Ok(())
 }
 
-/// An arrow over boxes, whose upper edges are at `top`: it arches so high.
+/// Appends the way of an arrow over boxes, whose upper edges are at `top`: it arches up to `high`.
 fn push_arch(
     out: &mut String,
-    query: &str,
     start: u32,
     end: u32,
     top: u32,
@@ -74,50 +75,44 @@ fn push_arch(
     let low = top.saturating_sub(3);
     write!(
         out,
-        "<path class='w' marker-end='url(#{query}-tip)' d='M{start} {top}C{start} {high}"
-    )?;
-    write!(out, " {end} {high} {end} {low}'/>\n")
+        "M{start} {top}C{start} {high} {end} {high} {end} {low}"
+    )
 }
 
-/// An arrow from one box to another.
-fn push_arrow(
-    out: &mut String,
-    query: &str,
-    arrow: Arrow,
-    line: u8,
-    frame: &Frame,
-) -> Result<(), AllocError> {
+/// Appends the way of an arrow from one box to another.
+fn push_way(out: &mut String, arrow: &Arrow, line: u8, frame: &Frame) -> Result<(), AllocError> {
     let top = frame.boxes();
     let from = frame.x(arrow.from);
     let to = frame.x(arrow.to);
     if is_straight(arrow.from, arrow.to, line) {
-        let half = u32::from(frame.box_width / 2);
-        let end = to.saturating_sub(half + 3);
-        push_straight(out, query, top + 14, from + half, end)?;
-        return out.push_str("\n");
+        let half = frame.box_width / 2;
+        let start = from.saturating_add(half);
+        let end = to.saturating_sub(half.saturating_add(3));
+        let y = top.saturating_add(14);
+        return write!(out, "M{start} {y}H{end}");
     }
-    let high = top.saturating_sub(u32::from(arch(arrow.from, arrow.to)) + 4);
+    let height = arch(arrow.from, arrow.to).saturating_add(4);
+    let start = from.saturating_add(12);
     let end = to.saturating_sub(12);
-    push_arch(out, query, from + 12, end, top, high)
+    push_arch(out, start, end, top, top.saturating_sub(height))
 }
 
-/// The arrows.
-fn push_arrows(
-    out: &mut String,
-    query: &str,
-    arrows: &[Arrow],
-    line: u8,
-    frame: &Frame,
-) -> Result<(), AllocError> {
-    for arrow in arrows {
-        push_arrow(out, query, *arrow, line, frame)?;
+/// Appends the arrows.
+fn push_arrows(out: &mut String, scene: &Scene<'_>, frame: &Frame) -> Result<(), AllocError> {
+    let query = scene.query;
+    for arrow in &scene.arrows {
+        write!(out, "<path class='w' marker-end='url(#{query}-tip)' d='")?;
+        push_way(out, arrow, scene.line, frame)?;
+        out.push_str("'><title>")?;
+        out.push_str(&arrow.title)?;
+        out.push_str("</title></path>\n")?;
     }
     Ok(())
 }
 
-/// The updates with their arrows, and what leads from them to the lanes.
+/// Appends the updates with their arrows, and the lines from them to the lanes.
 pub fn push_updates(out: &mut String, scene: &Scene<'_>, frame: &Frame) -> Result<(), AllocError> {
     push_drops(out, &scene.updates, frame)?;
-    push_arrows(out, scene.query, &scene.arrows, scene.line, frame)?;
+    push_arrows(out, scene, frame)?;
     push_boxes(out, scene, frame)
 }

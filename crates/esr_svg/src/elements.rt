@@ -2,12 +2,12 @@
 
 use std::alloc::AllocError;
 
-/// The start of a text: its words and its end follow.
+/// Appends the start of a text: its content and its end follow.
 pub fn open_text(out: &mut String, class: &str, x: u32, y: u32) -> Result<(), AllocError> {
     write!(out, "<text class='{class}' x='{x}' y='{y}'>")
 }
 
-/// The start of a text with its middle at x.
+/// Appends the start of a text with its middle at x.
 pub fn open_centred(out: &mut String, class: &str, x: u32, y: u32) -> Result<(), AllocError> {
     write!(
         out,
@@ -15,13 +15,13 @@ pub fn open_centred(out: &mut String, class: &str, x: u32, y: u32) -> Result<(),
     )
 }
 
-/// The words of a text, and its end.
+/// Appends the content of a text, and its end.
 pub fn close_text(out: &mut String, words: &str) -> Result<(), AllocError> {
     out.push_str(words)?;
     out.push_str("</text>")
 }
 
-/// The start of a text that ends at x.
+/// Appends the start of a text that ends at x.
 pub fn open_before(out: &mut String, class: &str, x: u32, y: u32) -> Result<(), AllocError> {
     write!(
         out,
@@ -29,7 +29,7 @@ pub fn open_before(out: &mut String, class: &str, x: u32, y: u32) -> Result<(), 
     )
 }
 
-/// A text.
+/// Appends a text.
 pub fn push_text(
     out: &mut String,
     class: &str,
@@ -41,7 +41,7 @@ pub fn push_text(
     close_text(out, words)
 }
 
-/// A line from the left to the right.
+/// Appends a line from the left to the right.
 pub fn push_horizontal(
     out: &mut String,
     class: &str,
@@ -52,7 +52,18 @@ pub fn push_horizontal(
     write!(out, "<path class='{class}' d='M{left} {y}H{right}'/>")
 }
 
-/// A line from the top to the bottom.
+/// Appends the start of a line from the left to the right: the text of its title and both ends follow.
+pub fn push_horizontal_titled(
+    out: &mut String,
+    class: &str,
+    y: u32,
+    left: u32,
+    right: u32,
+) -> Result<(), AllocError> {
+    write!(out, "<path class='{class}' d='M{left} {y}H{right}'><title>")
+}
+
+/// Appends a line from the top to the bottom.
 pub fn push_vertical(
     out: &mut String,
     class: &str,
@@ -63,7 +74,7 @@ pub fn push_vertical(
     write!(out, "<path class='{class}' d='M{x} {top}V{bottom}'/>")
 }
 
-/// An arrow from the left to the right.
+/// Appends an arrow from the left to the right.
 pub fn push_straight(
     out: &mut String,
     query: &str,

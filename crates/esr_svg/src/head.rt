@@ -2,9 +2,10 @@
 //! `prefers-color-scheme`, and the picture brings its own background, so that it can be read wherever it is put. What
 //! is green is also thick, and what is off has a circle and words, for those who do not see colours.
 
-use crate::elements::{open_text, push_text};
-use crate::frame::{ERROR_LINE, Frame, MAX_ERRORS};
+use crate::elements::push_text;
+use crate::frame::{EDGE, ERROR_LINE, Frame, SENTENCE_LINE};
 use crate::scene::{Lane, Scene, Update};
+use crate::texts::ErrorLine;
 use esr_text::{first, push_number, push_plain, push_value};
 use std::alloc::AllocError;
 
@@ -26,7 +27,8 @@ text{font:12px sans-serif;fill:#1f2328}\n\
 .t{stroke:#57606a;stroke-width:2}\n\
 .v{stroke:#b4bcc4;stroke-width:4}\n\
 .s{stroke-dasharray:4 4}\n\
-.f{stroke:#2da565;stroke-width:6}\n\
+.j{fill:#e4e8ec}\n\
+.i{fill:#e0827e}\n\
 .u{stroke:#2da565;stroke-width:11}\n\
 .l{stroke:#1f2328;stroke-width:2}\n\
 .y{stroke-width:14}\n\
@@ -37,7 +39,7 @@ text{font:12px sans-serif;fill:#1f2328}\n\
 @media (prefers-color-scheme:dark){\n\
 text{fill:#e6edf3}.q{fill:#9aa4af}.g{fill:#4cc47c}.r{fill:#ff7b72}.o{stroke:#0d1117}.p{fill:#0d1117}\n\
 .b{fill:#1d3a57;stroke:#6ea8dc}.a{fill:#22272e;stroke:#68737f}.w{stroke:#9aa4af}.k{fill:#9aa4af}\n\
-.d{stroke:#57606a}.t{stroke:#9aa4af}.v{stroke:#56606b}.f{stroke:#2f9e5f}.u{stroke:#2f9e5f}.l{stroke:#e6edf3}\n\
+.d{stroke:#57606a}.t{stroke:#9aa4af}.v{stroke:#56606b}.j{fill:#2b323a}.i{fill:#a3433e}.u{stroke:#2f9e5f}.l{stroke:#e6edf3}\n\
 .c{fill:#0d1117;stroke:#ff7b72}.x{stroke:#ff7b72}}\n\
 </style>\n";
 
@@ -48,10 +50,10 @@ pub fn push_attributes(
     frame: &Frame,
 ) -> Result<(), AllocError> {
     let query = scene.query;
-    let width = frame.width(scene.line);
+    let width = frame.width;
     let height = frame.height();
     let above = frame.above();
-    let whole = height + above;
+    let whole = height.saturating_add(above);
     out.push_str(" xmlns='http://www.w3.org/2000/svg' viewBox='0 ")?;
     push_upward(out, above)?;
     write!(out, " {width} {whole}'")?;
@@ -164,7 +166,7 @@ fn push_tip(out: &mut String, query: &str) -> Result<(), AllocError> {
 
 /// The title and the description, the style and the paper.
 pub fn push_head(out: &mut String, scene: &Scene<'_>, frame: &Frame) -> Result<(), AllocError> {
-    let width = frame.width(scene.line);
+    let width = frame.width;
     let height = frame.height();
     out.push('\n')?;
     push_description(out, scene)?;
@@ -177,18 +179,30 @@ pub fn push_head(out: &mut String, scene: &Scene<'_>, frame: &Frame) -> Result<(
             "<rect class='p' width='{width}' height='{height}' rx='8'/>\n"
         );
     }
-    let whole = height + above;
+    let whole = height.saturating_add(above);
     write!(
         out,
         "<rect class='p' y='-{above}' width='{width}' height='{whole}' rx='8'/>\n"
     )?;
-    push_errors(out, &scene.errors, width, above)
+    push_errors(out, &frame.texts.errors, width, above)
+}
+
+/// Appends a line in the box of errors, at this height above the picture. A continued line is indented.
+fn push_error(out: &mut String, line: &ErrorLine, up: u32) -> Result<(), AllocError> {
+    let x = if line.is_continued {
+        EDGE.saturating_add(16)
+    } else {
+        EDGE
+    };
+    write!(out, "<text class='r' x='{x}' y='-{up}'>")?;
+    push_plain(out, &line.text)?;
+    out.push_str("</text>\n")
 }
 
 /// Appends the box with the lines with errors, above the picture.
 fn push_errors(
     out: &mut String,
-    errors: &[String],
+    errors: &[ErrorLine],
     width: u32,
     above: u32,
 ) -> Result<(), AllocError> {
@@ -200,34 +214,32 @@ fn push_errors(
         "<rect class='x' x='10' y='-{top}' width='{inner}' height='{box_height}' rx='6'/>\n"
     )?;
     let mut up = above.saturating_sub(24);
-    for error in first(errors, MAX_ERRORS) {
-        write!(out, "<text class='r' x='20' y='-{up}'>")?;
-        push_plain(out, error)?;
-        out.push_str("</text>\n")?;
+    for error in errors {
+        push_error(out, error, up)?;
         up = up.saturating_sub(ERROR_LINE);
     }
     Ok(())
 }
 
-/// The sentences about what was found.
-fn push_sentences(out: &mut String, sentences: &[String]) -> Result<(), AllocError> {
-    let mut y = 50u32;
-    for sentence in first(sentences, 9) {
-        push_text(out, "q", 20, y, sentence)?;
+/// Appends some lines of a class, the first of them at this height.
+fn push_lines(
+    out: &mut String,
+    class: &str,
+    lines: &[String],
+    start: u32,
+) -> Result<(), AllocError> {
+    let mut y = start;
+    for line in lines {
+        push_text(out, class, EDGE, y, line)?;
         out.push_str("\n")?;
-        y = y.saturating_add(20);
+        y = y.saturating_add(SENTENCE_LINE);
     }
     Ok(())
 }
 
-/// What was found, above all, and the sentences about it.
-pub fn push_heading(out: &mut String, scene: &Scene<'_>) -> Result<(), AllocError> {
-    open_text(out, "h", 20, 28)?;
-    out.push_str(scene.query)?;
-    out.push_str(": distance ")?;
-    push_number(out, scene.distance)?;
-    out.push_str(", import ")?;
-    push_number(out, scene.import)?;
-    out.push_str("</text>\n")?;
-    push_sentences(out, &scene.sentences)
+/// Appends the heading, and the sentences below it.
+pub fn push_heading(out: &mut String, frame: &Frame) -> Result<(), AllocError> {
+    push_lines(out, "h", &frame.texts.heading, 28)?;
+    let start = frame.heading().saturating_add(30);
+    push_lines(out, "q", &frame.texts.sentences, start)
 }

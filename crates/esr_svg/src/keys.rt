@@ -1,9 +1,9 @@
-//! The legend: what each colour and line means, of those that occur in the picture, three above one another.
-
-ghost use Rattle.std.specs.Prelude.{◌≤◌};
+//! The legend: what each colour and line means, of those that occur in the picture, in rows as wide as it is.
 
 use crate::elements::{push_horizontal, push_straight, push_text, push_vertical};
-use crate::scene::{Lane, LaneSegment, Scene, have_stray};
+use crate::frame::{EDGE, Frame, KEY_ROW};
+use crate::lanes::push_bar;
+use crate::scene::{Lane, LanePart, Scene, have_stray};
 use std::alloc::AllocError;
 
 /// What a picture may have to explain.
@@ -12,13 +12,13 @@ enum Key {
     Read,
     Other,
     Several,
-    SeveralRead,
     Stray,
     Before,
     After,
     Must,
     First,
     Nearest,
+    Share,
 }
 
 fn keys() -> &'static [Key] {
@@ -29,55 +29,59 @@ fn keys() -> &'static [Key] {
 static KEYS: [Key; 10] = [
     Key::Read,
     Key::Other,
+    Key::Several,
     Key::Nearest,
+    Key::Share,
     Key::Before,
     Key::After,
     Key::First,
-    Key::Several,
-    Key::SeveralRead,
     Key::Stray,
     Key::Must,
 ];
 
-/// The width of a key with its words, and of the picture's edge.
+/// The width of a key with its text.
 const KEY_WIDTH: u32 = 216;
 
-/// What a key means.
+/// Returns the meaning of a key.
 fn words_of(key: Key) -> &'static str {
     match key {
         Key::Read => "value that it read",
         Key::Other => "other value",
         Key::Several => "several values",
-        Key::SeveralRead => "several, some of them read",
-        Key::Stray => "read, and did not stay",
+        Key::Stray => "read, but did not last",
         Key::Before => "update before the line",
-        Key::After => "update after it",
-        Key::Must => "it had to be behind this",
-        Key::First => "comes first in any order",
-        Key::Nearest => "the nearest moment",
+        Key::After => "update after the line",
+        Key::Must => "must precede the report",
+        Key::First => "precedes in any order",
+        Key::Nearest => "the nearest state",
+        Key::Share => "share of the distance",
     }
 }
 
-/// What a stretch shows: one version or several, of which some were read, or none.
-fn key_of(stretch: &LaneSegment) -> Key {
-    match (stretch.versions, stretch.reads, stretch.seen) {
-        (1, 0, _) => Key::Other,
-        (1, _, _) => Key::Read,
-        (_, _, 0) => Key::Several,
-        _ => Key::SeveralRead,
+/// Returns the key of a part of a lane.
+fn key_of(part: LanePart) -> Key {
+    match part {
+        LanePart::Version { reads: 0, .. } => Key::Other,
+        LanePart::Version { .. } => Key::Read,
+        LanePart::Several { .. } => Key::Several,
     }
 }
 
-/// Whether a lane has a stretch that shows this.
-fn has_stretch(lane: &Lane<'_>, key: Key) -> bool {
-    lane.stretches.iter().any(|stretch| key_of(stretch) == key)
+/// Returns whether a lane has a part of this key.
+fn has_part(lane: &Lane<'_>, key: Key) -> bool {
+    for segment in &lane.segments {
+        if segment.parts.iter().any(|part| key_of(*part) == key) {
+            return true;
+        }
+    }
+    false
 }
 
-/// Whether the picture has what a key means.
+/// Returns whether the picture has what a key means.
 fn occurs(scene: &Scene<'_>, key: Key) -> bool {
     match key {
-        Key::Read | Key::Other | Key::Several | Key::SeveralRead => {
-            scene.lanes.iter().any(|lane| has_stretch(lane, key))
+        Key::Read | Key::Other | Key::Several => {
+            scene.lanes.iter().any(|lane| has_part(lane, key))
         }
         Key::Stray => have_stray(&scene.lanes),
         Key::Before => scene.updates.iter().any(|update| update.slot < scene.line),
@@ -85,28 +89,35 @@ fn occurs(scene: &Scene<'_>, key: Key) -> bool {
         Key::Must => scene.updates.iter().any(|update| update.must),
         Key::First => !scene.arrows.is_empty(),
         Key::Nearest => !scene.lanes.is_empty(),
+        Key::Share => scene.lanes.iter().any(|lane| lane.off > 0),
     }
 }
 
-/// How many keys occur.
-fn count_keys(scene: &Scene<'_>) -> u32 {
+/// Returns how many keys are in a row of a picture of this width.
+fn row_length(width: u32) -> u32 {
+    width
+        .saturating_sub(EDGE)
+        .checked_div(KEY_WIDTH)
+        .unwrap_or(1)
+        .max(1)
+}
+
+/// Returns how many rows the legend has in a picture of this width.
+pub fn count_rows(scene: &Scene<'_>, width: u32) -> u32 {
     let mut count = 0u32;
     for key in keys() {
         if occurs(scene, *key) {
             count = count.saturating_add(1);
         }
     }
+    let length = row_length(width);
     count
+        .saturating_add(length.saturating_sub(1))
+        .checked_div(length)
+        .unwrap_or(count)
 }
 
-/// How wide the legend is.
-pub fn keys_width(scene: &Scene<'_>) -> u32
-    ensures { result ≤ 1000 }
-{
-    KEY_WIDTH * count_keys(scene).min(10).div_ceil(3)
-}
-
-/// A small box.
+/// Appends a small box.
 fn push_box(out: &mut String, class: &str, x: u32, y: u32) -> Result<(), AllocError> {
     let top = y.saturating_sub(10);
     write!(
@@ -115,36 +126,47 @@ fn push_box(out: &mut String, class: &str, x: u32, y: u32) -> Result<(), AllocEr
     )
 }
 
-/// The sign of a key.
-fn push_sign(out: &mut String, query: &str, key: Key, x: u32, y: u32) -> Result<(), AllocError>
-    requires { (x ≤ 2000) × (y ≤ 300000) }
-{
+/// Appends a bar that is half full.
+fn push_share(out: &mut String, x: u32, y: u32) -> Result<(), AllocError> {
+    push_bar(out, "j", x, y, 26)?;
+    out.push_str("</rect>")?;
+    push_bar(out, "i", x, y, 13)?;
+    out.push_str("</rect>")
+}
+
+/// Appends the sign of a key.
+fn push_sign(out: &mut String, query: &str, key: Key, x: u32, y: u32) -> Result<(), AllocError> {
     let middle = y.saturating_sub(4);
+    let right = x.saturating_add(26);
     match key {
-        Key::Read => push_horizontal(out, "u", middle, x, x + 26),
-        Key::Other => push_horizontal(out, "v", middle, x, x + 26),
-        Key::Several => push_horizontal(out, "v s", middle, x, x + 26),
-        Key::SeveralRead => push_horizontal(out, "f s", middle, x, x + 26),
-        Key::Stray => push_horizontal(out, "u s", middle, x, x + 26),
+        Key::Read => push_horizontal(out, "u", middle, x, right),
+        Key::Other => push_horizontal(out, "v", middle, x, right),
+        Key::Several => push_horizontal(out, "v s", middle, x, right),
+        Key::Stray => push_horizontal(out, "u s", middle, x, right),
         Key::Before => push_box(out, "b", x, y),
         Key::After => push_box(out, "a", x, y),
         Key::Must => push_box(out, "b e", x, y),
-        Key::First => push_straight(out, query, middle, x, x + 24),
-        Key::Nearest => push_vertical(out, "l", x + 13, y.saturating_sub(12), y + 2),
+        Key::First => push_straight(out, query, middle, x, x.saturating_add(24)),
+        Key::Nearest => {
+            let top = y.saturating_sub(12);
+            push_vertical(out, "l", x.saturating_add(13), top, y.saturating_add(2))
+        }
+        Key::Share => push_share(out, x, y.saturating_sub(8)),
     }
 }
 
-/// The keys that occur.
-pub fn push_keys(out: &mut String, scene: &Scene<'_>, y: u32) -> Result<(), AllocError>
-    requires { y ≤ 200000 }
-{
+/// Appends the keys that occur.
+pub fn push_keys(out: &mut String, scene: &Scene<'_>, frame: &Frame) -> Result<(), AllocError> {
+    let length = row_length(frame.width);
     let mut place = 0u32;
     for key in keys() {
         if occurs(scene, *key) {
-            let x = 20 + KEY_WIDTH * (place / 3).min(3);
-            let low = y + 22 * (place % 3);
-            push_sign(out, scene.query, *key, x, low)?;
-            push_text(out, "q", x + 34, low, words_of(*key))?;
+            let column = place.checked_rem(length).unwrap_or(0);
+            let row = place.checked_div(length).unwrap_or(0);
+            let x = EDGE.saturating_add(KEY_WIDTH.saturating_mul(column));
+            let y = frame.keys().saturating_add(KEY_ROW.saturating_mul(row));
+            push_sign(out, scene.query, *key, x, y)?;
+            push_text(out, "q", x.saturating_add(34), y, words_of(*key))?;
             place = place.saturating_add(1);
         }
     }

@@ -1,18 +1,18 @@
 //! The lanes of a picture, and the line across them.
 
-ghost use Rattle.std.specs.Prelude.{◌≤◌};
-
 use crate::elements::{
     close_text, open_before, open_centred, open_text, push_horizontal, push_straight, push_text,
     push_vertical,
 };
-use crate::frame::Frame;
-use crate::scene::{Lane, LaneReads, LaneSegment, Scene, Strays};
-use esr_text::{push_count, push_number, push_value};
-use std::alloc::AllocError;
+use crate::frame::{BEFORE_STRAY, EDGE, Frame, StrayLines};
+use crate::parts::push_segment;
+use crate::scene::{Lane, LaneReads, Scene, Stray, Strays};
+use crate::slots::slot_after;
+use esr_text::{push_number, push_value};
+use std::alloc::{AllocError, Global};
 
-/// What else was read of an item, without the start of the text: how often the value was read, or the second value, or
-/// how many more there are.
+/// Appends the rest of the reads of an item, without the start of the text: how often the value was read, or the second
+/// value, or how many more values there are.
 fn push_rest(
     out: &mut String,
     count: u64,
@@ -33,160 +33,154 @@ fn push_rest(
     out.push_str("</text>")
 }
 
-/// What else was read of an item, where it was read more than once.
+/// Appends the rest of the reads of an item, if it was read more than once.
 fn push_more(out: &mut String, read: &LaneReads, y: u32) -> Result<(), AllocError> {
     let more = read.values.len().saturating_sub(1);
     if more == 0 && read.count < 2 {
         return Ok(());
     }
-    open_text(out, "m g", 20, y)?;
+    open_text(out, "m g", EDGE, y)?;
     push_rest(out, read.count, more, read.values.get(1).copied())
 }
 
-/// The first value that was read of an item.
+/// Appends the first value that was read of an item.
 fn push_first(out: &mut String, value: i64, y: u32) -> Result<(), AllocError> {
-    open_text(out, "m g", 20, y)?;
+    open_text(out, "m g", EDGE, y)?;
     out.push_str("read ")?;
     push_value(out, value)?;
     out.push_str("</text>")
 }
 
-/// How much a difference of an item counts, above its name, where that is not once.
+/// Appends the weight of an item above its name, unless it is 1.
 fn push_weight(out: &mut String, lane: &Lane<'_>, y: u32) -> Result<(), AllocError> {
     if lane.weight == 1 {
         return Ok(());
     }
-    open_text(out, "m q", 20, y)?;
+    open_text(out, "m q", EDGE, y)?;
     out.push_str("each x ")?;
     push_number(out, lane.weight)?;
     out.push_str("</text>")
 }
 
-/// What was read of an item, before its lane.
-fn push_label(out: &mut String, lane: &Lane<'_>, y: u32) -> Result<(), AllocError>
-    requires { y ≤ 110000 }
-{
-    push_text(out, "m n", 20, y.saturating_sub(6), lane.name)?;
-    push_weight(out, lane, y.saturating_sub(23))?;
-    if let Some(value) = lane.read.values.first() {
-        push_first(out, *value, y + 12)?;
-    }
-    push_more(out, &lane.read, y + 28)
+/// Returns the part of a whole, in hundredths.
+fn percent(part: u64, whole: u64) -> u64 {
+    let share = u128::from(part.min(whole))
+        .saturating_mul(100)
+        .checked_div(u128::from(whole))
+        .unwrap_or(0);
+    share.min(100) as u64
 }
 
-/// Appends the value of a stretch and how often it was read, or for several versions their number and that of their
-/// reads, if there is more than one.
-fn push_piece(out: &mut String, stretch: LaneSegment, x: u32, y: u32) -> Result<(), AllocError> {
-    let versions = stretch.versions;
-    if versions > 1 {
-        open_text(out, "m q", x, y)?;
-        write!(out, "{versions} values")?;
-        if stretch.seen > 1 {
-            out.push_str(", ")?;
-            push_number(out, stretch.seen)?;
-            out.push_str(" reads")?;
-        }
-        return out.push_str("</text>\n");
-    }
-    open_text(out, "m o", x, y)?;
-    push_value(out, stretch.value)?;
-    if stretch.reads > 1 {
-        out.push_str(" x ")?;
-        push_number(out, stretch.reads)?;
-    }
-    out.push_str("</text>\n")
+/// Returns the width of a bar, of at least 2.
+fn bar_width(part: u64, whole: u64, width: u32) -> u32 {
+    let share = u128::from(part.min(whole))
+        .saturating_mul(u128::from(width))
+        .checked_div(u128::from(whole))
+        .unwrap_or(0);
+    (share.min(u128::from(width)) as u32).max(2)
 }
 
-/// How a stretch is drawn.
-fn class_of(stretch: LaneSegment) -> &'static str {
-    if stretch.reads > 9 {
-        "u z"
-    } else if stretch.reads > 1 {
-        "u y"
-    } else if stretch.reads == 1 {
-        "u"
-    } else if stretch.versions > 1 && stretch.seen > 0 {
-        "f s"
-    } else if stretch.versions > 1 {
-        "v s"
-    } else {
-        "v"
-    }
-}
-
-/// A stretch of a lane, from its slot to that of the next one.
-fn push_stretch(
+/// Appends a bar.
+pub fn push_bar(
     out: &mut String,
-    stretch: LaneSegment,
-    end: u32,
+    class: &str,
+    x: u32,
+    y: u32,
+    width: u32,
+) -> Result<(), AllocError> {
+    write!(
+        out,
+        "<rect class='{class}' x='{x}' y='{y}' width='{width}' height='6'>"
+    )
+}
+
+/// Appends the share of a lane in the distance as a bar, unless it is 0.
+fn push_share(
+    out: &mut String,
+    lane: &Lane<'_>,
+    distance: u64,
     y: u32,
     frame: &Frame,
-) -> Result<(), AllocError>
-    requires { (y ≤ 110000) × (end ≤ 20000000) }
-{
-    let start = frame.x(stretch.from);
-    if stretch.from > 0 {
-        push_vertical(out, "t", start, y.saturating_sub(9), y + 9)?;
+) -> Result<(), AllocError> {
+    if lane.off == 0 {
+        return Ok(());
     }
-    let right = end.saturating_sub(4);
-    push_horizontal(out, class_of(stretch), y, start + 4, right)?;
-    push_piece(out, stretch, start + 10, y.saturating_sub(13))
+    push_bar(out, "j", EDGE, y, frame.label_width)?;
+    out.push_str("</rect>")?;
+    let width = bar_width(lane.off, distance, frame.label_width);
+    push_bar(out, "i", EDGE, y, width)?;
+    let (name, percent) = (lane.name, percent(lane.off, distance));
+    write!(
+        out,
+        "<title>{name} has {percent} % of the distance</title></rect>"
+    )
 }
 
-/// Where the stretch at a place ends.
-fn end_of(stretches: &[LaneSegment], place: usize, frame: &Frame) -> u32
-    ensures { result ≤ 20000000 }
-{
-    match stretches.get(place.saturating_add(1)) {
-        Some(next) => frame.x(next.from),
-        None => frame.end(),
+/// Appends the text in front of a lane.
+fn push_label(
+    out: &mut String,
+    lane: &Lane<'_>,
+    distance: u64,
+    y: u32,
+    frame: &Frame,
+) -> Result<(), AllocError> {
+    push_text(out, "m n", EDGE, y.saturating_sub(6), lane.name)?;
+    push_weight(out, lane, y.saturating_sub(23))?;
+    if let Some(value) = lane.read.values.first() {
+        push_first(out, *value, y.saturating_add(12))?;
     }
+    push_more(out, &lane.read, y.saturating_add(28))?;
+    push_share(out, lane, distance, y.saturating_add(35), frame)
 }
 
-/// A lane, without the line.
-fn push_lane(out: &mut String, lane: &Lane<'_>, y: u32, frame: &Frame) -> Result<(), AllocError>
-    requires { y ≤ 110000 }
-{
-    push_label(out, lane, y)?;
-    let mut place = 0usize;
-    for stretch in &lane.stretches {
-        let end = end_of(&lane.stretches, place, frame);
-        push_stretch(out, *stretch, end, y, frame)?;
-        place = place.saturating_add(1);
+/// Appends a lane without the line.
+fn push_lane(
+    alloc: Global,
+    out: &mut String,
+    scene: &Scene<'_>,
+    lane: &Lane<'_>,
+    y: u32,
+    frame: &Frame,
+) -> Result<(), AllocError> {
+    push_label(out, lane, scene.distance, y, frame)?;
+    let mut index = 0usize;
+    for segment in &lane.segments {
+        let from = segment.from;
+        if from > 0 {
+            let x = frame.x(from);
+            push_vertical(out, "t", x, y.saturating_sub(9), y.saturating_add(9))?;
+        }
+        let to = slot_after(&lane.segments, index, scene.last_slot());
+        push_segment(
+            alloc,
+            out,
+            lane.name,
+            segment,
+            (from, scene.line, to),
+            y,
+            frame,
+        )?;
+        index = index.saturating_add(1);
     }
     Ok(())
 }
 
-/// The lanes, without the line.
-fn push_lanes(out: &mut String, lanes: &[Lane<'_>], frame: &Frame) -> Result<(), AllocError> {
+/// Appends the lanes without the line.
+fn push_lanes(
+    alloc: Global,
+    out: &mut String,
+    scene: &Scene<'_>,
+    frame: &Frame,
+) -> Result<(), AllocError> {
     let mut number = 0u8;
-    for lane in lanes {
-        push_lane(out, lane, frame.y(number), frame)?;
+    for lane in &scene.lanes {
+        push_lane(alloc, out, scene, lane, frame.y(number), frame)?;
         number = number.saturating_add(1);
     }
     Ok(())
 }
 
-/// A value that was read and did not stay, and whose it was.
-fn push_strays(out: &mut String, strays: &Strays<'_>, left: u32, y: u32) -> Result<(), AllocError>
-    requires { left ≤ 20000000 }
-{
-    let Some(stray) = strays.first else {
-        return Ok(());
-    };
-    push_horizontal(out, "u s", y.saturating_sub(4), left + 4, left + 30)?;
-    open_text(out, "m q o", left + 38, y)?;
-    out.push_str("read ")?;
-    push_value(out, stray.value)?;
-    out.push_str(" of ")?;
-    out.push_str(stray.writer)?;
-    out.push_str(", which ")?;
-    out.push_str(stray.fate)?;
-    push_ending(out, stray.has_piece, strays.more)?;
-    out.push_str("</text>\n")
-}
-
-/// The end of the words on a value that did not stay: at most 22 letters.
+/// Appends the end of the text on a value that is not a version: at most 22 letters.
 fn push_ending(out: &mut String, has_piece: bool, more: usize) -> Result<(), AllocError> {
     if has_piece {
         return out.push_str("; it is above as well");
@@ -197,17 +191,68 @@ fn push_ending(out: &mut String, has_piece: bool, more: usize) -> Result<(), All
     Ok(())
 }
 
-/// The values that did not stay, lane by lane.
+/// Appends the text on a value that is not a version.
+fn push_stray_text(
+    out: &mut String,
+    stray: Stray<'_>,
+    more: usize,
+    x: u32,
+    y: u32,
+    is_folded: bool,
+) -> Result<(), AllocError> {
+    open_text(out, "m q o", x, y)?;
+    out.push_str("read ")?;
+    push_value(out, stray.value)?;
+    out.push_str(" of ")?;
+    out.push_str(stray.writer)?;
+    out.push(',')?;
+    if is_folded {
+        out.push_str("</text>")?;
+        open_text(out, "m q o", x, y.saturating_add(16))?;
+    } else {
+        out.push(' ')?;
+    }
+    out.push_str("which ")?;
+    out.push_str(stray.fate)?;
+    push_ending(out, stray.has_piece, more)?;
+    out.push_str("</text>\n")
+}
+
+/// Appends the values of a lane that were read and are not versions.
+fn push_strays(
+    out: &mut String,
+    strays: &Strays<'_>,
+    y: u32,
+    frame: &Frame,
+) -> Result<(), AllocError> {
+    let Some(stray) = strays.first else {
+        return Ok(());
+    };
+    let left = frame.x(0);
+    let top = y.saturating_sub(4);
+    push_horizontal(
+        out,
+        "u s",
+        top,
+        left.saturating_add(4),
+        left.saturating_add(30),
+    )?;
+    let x = left.saturating_add(BEFORE_STRAY);
+    let is_folded = frame.strays == StrayLines::Two;
+    push_stray_text(out, stray, strays.more, x, y, is_folded)
+}
+
+/// Appends the values that were read and are not versions, lane by lane.
 fn push_all_strays(out: &mut String, lanes: &[Lane<'_>], frame: &Frame) -> Result<(), AllocError> {
     let mut number = 0u8;
     for lane in lanes {
-        push_strays(out, &lane.strays, frame.x(0), frame.strays(number))?;
+        push_strays(out, &lane.strays, frame.y(number).saturating_add(44), frame)?;
         number = number.saturating_add(1);
     }
     Ok(())
 }
 
-/// By how much a lane is off: the difference, where it counts more than once with its weight, if that is to be told.
+/// Appends the distance of a lane, and its difference and weight if they are to be shown.
 fn push_off(
     out: &mut String,
     off: u64,
@@ -225,33 +270,30 @@ fn push_off(
     out.push_str("</text>\n")
 }
 
-/// The start of the words of a lane at the line, on the side where there is room.
+/// Appends the start of the text of a lane at the line, on the side where there is space.
 fn open_at_line(
     out: &mut String,
     class: &str,
     x: u32,
     y: u32,
     is_left: bool,
-) -> Result<(), AllocError>
-    requires { (x ≤ 20000000) × (y ≤ 110000) }
-{
+) -> Result<(), AllocError> {
+    let y = y.saturating_add(24);
     if is_left {
-        open_before(out, class, x.saturating_sub(10), y + 24)
+        open_before(out, class, x.saturating_sub(10), y)
     } else {
-        open_text(out, class, x + 10, y + 24)
+        open_text(out, class, x.saturating_add(10), y)
     }
 }
 
-/// What a lane is off where the line crosses it.
+/// Appends the distance of a lane where the line crosses it.
 fn push_crossing(
     out: &mut String,
     lane: &Lane<'_>,
     line: u8,
     y: u32,
     frame: &Frame,
-) -> Result<(), AllocError>
-    requires { y ≤ 110000 }
-{
+) -> Result<(), AllocError> {
     let x = frame.x(line);
     let is_left = frame.is_left(line);
     if lane.off == 0 {
@@ -260,15 +302,11 @@ fn push_crossing(
     }
     write!(out, "<circle class='c' cx='{x}' cy='{y}' r='5'/>")?;
     open_at_line(out, "m r o", x, y, is_left)?;
-    push_off(
-        out,
-        lane.off,
-        lane.weight,
-        frame.has_space_for_weights(line),
-    )
+    let has_weight_note = frame.has_space_for_weights(line);
+    push_off(out, lane.off, lane.weight, has_weight_note)
 }
 
-/// What each lane is off where the line crosses it.
+/// Appends the distance of each lane where the line crosses it.
 fn push_crossings(out: &mut String, scene: &Scene<'_>, frame: &Frame) -> Result<(), AllocError> {
     let mut number = 0u8;
     for lane in &scene.lanes {
@@ -278,86 +316,51 @@ fn push_crossings(out: &mut String, scene: &Scene<'_>, frame: &Frame) -> Result<
     Ok(())
 }
 
-/// The line, and the name of the query below it.
-fn push_line(out: &mut String, query: &str, line: u8, frame: &Frame) -> Result<(), AllocError> {
-    let x = frame.x(line);
+/// Appends the line, and the name of the query below it.
+fn push_line(out: &mut String, scene: &Scene<'_>, frame: &Frame) -> Result<(), AllocError> {
+    let x = frame.x(scene.line);
     let top = frame.boxes().saturating_sub(6);
     let floor = frame.floor();
-    push_vertical(out, "l", x, top, floor)?;
-    out.push_str("\n")?;
-    open_centred(out, "m n", x, floor + 16)?;
+    let query = scene.query;
+    write!(
+        out,
+        "<path class='l' d='M{x} {top}V{floor}'><title>the nearest placement of {query}</title></path>\n"
+    )?;
+    open_centred(out, "m n", x, floor.saturating_add(16))?;
     close_text(out, query)?;
     out.push_str("\n")
 }
 
-/// The axis: the updates one after another, from before all of them to behind the last.
+/// Appends the axis: the updates one after another, from before all of them to after the last.
 fn push_axis(out: &mut String, scene: &Scene<'_>, frame: &Frame) -> Result<(), AllocError> {
-    let y = frame.floor() + 32;
+    let y = frame.floor().saturating_add(32);
+    let (start, end) = (frame.x(0), frame.end());
     let has_updates = !scene.updates.is_empty() || scene.other_updates > 0;
-    let start = if has_updates {
+    let first = if has_updates {
         "before all updates"
     } else {
         "the start"
     };
-    push_straight(out, scene.query, y, frame.x(0), frame.end())?;
-    push_text(out, "q", 20, y + 4, "serial order")?;
-    push_text(out, "q", frame.x(0), y + 18, start)?;
-    if has_updates && frame.end() > frame.x(0) + 280 {
-        open_before(out, "q", frame.end(), y + 18)?;
+    push_straight(out, scene.query, y, start, end)?;
+    push_text(out, "q", EDGE, y.saturating_add(4), "serial order")?;
+    push_text(out, "q", start, y.saturating_add(18), first)?;
+    if has_updates && end > start.saturating_add(280) {
+        open_before(out, "q", end, y.saturating_add(18))?;
         close_text(out, "after all of them")?;
     }
     out.push_str("\n")
 }
 
-/// The lanes and the line.
-pub fn push_audit(out: &mut String, scene: &Scene<'_>, frame: &Frame) -> Result<(), AllocError> {
-    push_lanes(out, &scene.lanes, frame)?;
+/// Appends the lanes and the line.
+pub fn push_audit(
+    alloc: Global,
+    out: &mut String,
+    scene: &Scene<'_>,
+    frame: &Frame,
+) -> Result<(), AllocError> {
+    push_lanes(alloc, out, scene, frame)?;
     push_axis(out, scene, frame)?;
-    push_line(out, scene.query, scene.line, frame)?;
+    push_line(out, scene, frame)?;
     push_all_strays(out, &scene.lanes, frame)?;
     push_crossings(out, scene, frame)
-}
-
-/// The sentence for items that are not drawn and decide the position of the line.
-const OTHERS_DECIDE: &str = "They keep the line from other positions.";
-
-/// How many items are not drawn, and how many of them are off, and by how much.
-fn push_other_items(out: &mut String, items: u64, off: u64, sum: u64) -> Result<(), AllocError> {
-    push_count(out, items, " more item", " more items")?;
-    if off == 0 {
-        return out.push_str(", as read");
-    }
-    out.push_str(", ")?;
-    if items > 1 {
-        push_number(out, off)?;
-        out.push_str(" of them ")?;
-    }
-    out.push_str("off by ")?;
-    push_number(out, sum)
-}
-
-/// Appends how many updates and items are not drawn, unless all are. The sentence on what they decide is a line of its
-/// own, so that it fits into a narrow picture.
-pub fn push_others(out: &mut String, scene: &Scene<'_>, y: u32) -> Result<(), AllocError> {
-    let items = scene.other_items as u64;
-    if scene.other_updates == 0 && items == 0 {
-        return Ok(());
-    }
-    open_text(out, "q", 20, y)?;
-    out.push_str("Not drawn: ")?;
-    if scene.other_updates > 0 {
-        push_count(out, scene.other_updates, " more update", " more updates")?;
-    }
-    if scene.other_updates > 0 && items > 0 {
-        out.push_str("; ")?;
-    }
-    if items > 0 {
-        push_other_items(out, items, scene.others_off as u64, scene.others_sum)?;
-    }
-    out.push_str(".</text>\n")?;
-    if scene.others_decide {
-        push_text(out, "q", 20, y.saturating_add(15), OTHERS_DECIDE)?;
-        out.push_str("\n")?;
-    }
-    Ok(())
 }

@@ -11,11 +11,17 @@ mod frame;
 mod head;
 mod keys;
 mod lanes;
+mod parts;
 mod scene;
+mod slots;
 mod svg;
+mod texts;
+mod widths;
 
-pub use frame::{MAX_ERROR_LETTERS, fitting_updates};
+pub use frame::fitting_updates;
 pub use scene::{
-    Arrow, Lane, LaneReads, LaneSegment, MAX_LANES, MAX_UPDATES, Scene, Stray, Strays, Update,
+    Arrow, Lane, LanePart, LaneReads, LaneSegment, MAX_LANES, MAX_UPDATES, Scene, Stray, Strays,
+    Update,
 };
 pub use svg::{Parts, parts_of};
+pub use texts::MAX_ERROR_LETTERS;

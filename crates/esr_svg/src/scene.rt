@@ -1,37 +1,39 @@
 //! What is drawn, as plain data: slots for the updates and the line, from the left to the right, and a lane for each item.
 
-/// So many updates are drawn at most.
+/// The maximum number of updates that are drawn.
 pub const MAX_UPDATES: usize = 30;
 
-/// So many lanes are drawn at most.
+/// The maximum number of lanes that are drawn.
 pub const MAX_LANES: usize = 24;
 
 /// An arrow from one slot to another.
-#[derive(Clone, Copy)]
+#[derive(Drop)]
 pub struct Arrow {
     pub from: u8,
     pub to: u8,
+    /// The conflict because of which one update precedes the other.
+    pub title: String,
 }
 
-/// What was read of an item: the values without repetitions, and how many reads there were.
+/// The reads of an item: the values without repetitions, and the number of reads.
 #[derive(Drop)]
 pub struct LaneReads {
     pub values: Vec<i64>,
     pub count: u64,
 }
 
-/// A value that was read and did not stay.
+/// A value that was read and is not a version of its item.
 #[derive(Clone, Copy)]
 pub struct Stray<'a> {
     pub value: i64,
     pub writer: &'a str,
-    /// What became of it, in words that follow the writer's name.
+    /// The reason, as text that follows the writer's name.
     pub fate: &'static str,
-    /// Whether a piece of the lane has that value, of another update.
+    /// Whether a part of the lane has that value, of another update.
     pub has_piece: bool,
 }
 
-/// The strays of a lane: the first, of those without a piece if there is one, and how many more there are.
+/// The strays of a lane: the first, of those without a part if there is one, and the number of the others.
 #[derive(Clone, Copy)]
 pub struct Strays<'a> {
     pub first: Option<Stray<'a>>,
@@ -53,42 +55,48 @@ impl<'a> Strays<'a> {
     }
 }
 
-/// A stretch of a lane, from a slot to the next stretch: one version of the item, or several where updates between
-/// are not drawn.
-#[derive(Clone, Copy)]
+/// A part of a stretch.
+#[derive(Clone, Copy, PartialEq, Eq)]
+pub enum LanePart {
+    /// One version, and the number of reads of its value.
+    Version { value: i64, reads: u64 },
+    /// Several versions one after another, and the number of those whose value was read.
+    Several { versions: usize, fitting: usize },
+}
+
+/// A stretch of a lane, from a slot to that of the next stretch.
+#[derive(Drop)]
 pub struct LaneSegment {
     pub from: u8,
-    /// The first version's value.
-    pub value: i64,
-    pub versions: usize,
-    /// How often the value was read, where it is one version.
-    pub reads: u64,
-    /// How often its versions were read.
-    pub seen: u64,
+    pub parts: Vec<LanePart>,
+    /// The index of the part at the line, if the line crosses the stretch. That part is one version.
+    pub at_line: Option<usize>,
 }
 
 /// A lane: an item that was read.
 #[derive(Drop)]
 pub struct Lane<'a> {
     pub name: &'a str,
-    /// How much a difference of the item counts.
+    /// The factor of differences of the item.
     pub weight: u64,
     pub read: LaneReads,
-    /// What the reads are off from the version at the line.
+    /// The distance of the reads from the version at the line.
     pub off: u64,
-    pub stretches: Vec<LaneSegment>,
+    pub segments: Vec<LaneSegment>,
     pub strays: Strays<'a>,
 }
 
 /// An update that is drawn.
-#[derive(Clone, Copy)]
+#[derive(Drop)]
 pub struct Update<'a> {
     pub name: &'a str,
     pub slot: u8,
-    /// How many lanes there are down to the last one that it wrote.
+    /// The number of lanes down to the last one that it wrote.
     pub reach: u8,
-    /// Whether the query had to be behind it.
+    /// Whether the query must be placed after it.
     pub must: bool,
+    /// The values that it wrote.
+    pub title: String,
 }
 
 /// What is drawn of the audit of a query.
@@ -99,24 +107,33 @@ pub struct Scene<'a> {
     pub import: u64,
     /// The lines with errors of the script, in a box at the top.
     pub errors: Vec<String>,
-    /// What is said above the lanes.
+    /// The sentences above the lanes.
     pub sentences: Vec<String>,
     pub updates: Vec<Update<'a>>,
     pub arrows: Vec<Arrow>,
     pub lanes: Vec<Lane<'a>>,
     /// The slot of the line.
     pub line: u8,
-    /// How many updates before the query's commit are not drawn, and how many items that it read.
+    /// The number of items that were never written, of which the query read the opening value, and that have no lane.
+    pub unwritten_items: usize,
+    /// The numbers of updates before the query's commit that are not drawn, and of other items without a lane.
     pub other_updates: u64,
     pub other_items: usize,
-    /// How many of those items are off, and by how much together.
+    /// The number of those items that are off, and by how much together.
     pub others_off: usize,
     pub others_sum: u64,
     /// Whether items that are not drawn are why the line is where it is.
     pub others_decide: bool,
 }
 
-/// Whether some lane tells of a value that did not stay.
+impl Scene<'_> {
+    /// Returns the slot at which the lanes end.
+    pub fn last_slot(&self) -> u8 {
+        (self.updates.len().min(MAX_UPDATES) as u8).saturating_add(2)
+    }
+}
+
+/// Returns whether some lane has a value that is not a version.
 pub fn have_stray(lanes: &[Lane<'_>]) -> bool {
     for lane in lanes {
         if lane.strays.first.is_some() {

@@ -30,6 +30,7 @@ text{font:12px sans-serif;fill:#1f2328}\n\
 .bq{fill:#d8f0e2;stroke:#1a7f4b}\n\
 .op{stroke-dasharray:4 3;fill-opacity:.45}\n\
 .mr{fill:#fff;stroke:#1f2328;stroke-width:2}\n\
+.mo{fill:#fff;stroke:#c4302b;stroke-width:3}\n\
 .mw{fill:#1f2328}\n\
 .mx{fill:none;stroke:#c4302b;stroke-width:2.5}\n\
 .ar{fill:none;stroke:#c4302b;stroke-width:1.5}\n\
@@ -39,7 +40,7 @@ text{font:12px sans-serif;fill:#1f2328}\n\
 .lu{fill:#e0827e}\n\
 @media (prefers-color-scheme:dark){\n\
 text{fill:#e6edf3}.ha{stroke:#0d1117}.gy{fill:#9aa4af}.rd{fill:#ff7b72}.gn{fill:#4cc47c}.pp{fill:#0d1117}\n\
-.bu{fill:#1d3a57;stroke:#6ea8dc}.bq{fill:#163d29;stroke:#4cc47c}.mr{fill:#0d1117;stroke:#e6edf3}.mw{fill:#e6edf3}\n\
+.bu{fill:#1d3a57;stroke:#6ea8dc}.bq{fill:#163d29;stroke:#4cc47c}.mr{fill:#0d1117;stroke:#e6edf3}.mo{fill:#0d1117;stroke:#ff7b72}.mw{fill:#e6edf3}\n\
 .mx{stroke:#ff7b72}.ar{stroke:#ff7b72}.tp{fill:#ff7b72}.gd{stroke:#1f262d}.lf{stroke:#68737f}.lu{fill:#a3433e}}\n\
 </style>\n";
 
@@ -429,7 +430,9 @@ fn push_amounts(
 /// Appends the sign of a mark.
 fn push_sign(out: &mut String, action: Action, x: u32, y: u32) -> Result<(), AllocError> {
     match action {
-        Action::Read { .. } => push_circle(out, x, y),
+        Action::Read { nearest, .. } => {
+            push_circle(out, if nearest.is_some() { "mo" } else { "mr" }, x, y)
+        }
         Action::Write { .. } => push_square(out, x, y),
         Action::Blocked { .. } => push_cross(out, x, y),
         Action::Begin | Action::Commit | Action::Abort => {
@@ -444,6 +447,15 @@ fn push_sign(out: &mut String, action: Action, x: u32, y: u32) -> Result<(), All
 fn push_mark_value(out: &mut String, value: i64, x: u32, y: u32) -> Result<(), AllocError> {
     open_centred(out, "lb ha", x, y)?;
     push_value(out, value)?;
+    close_text(out)
+}
+
+/// Appends the value of a read that is off, and the value in the nearest placement.
+fn push_values(out: &mut String, value: i64, there: i64, x: u32, y: u32) -> Result<(), AllocError> {
+    open_centred(out, "lb rd ha", x, y)?;
+    push_value(out, value)?;
+    out.push_str(" not ")?;
+    push_value(out, there)?;
     close_text(out)
 }
 
@@ -468,7 +480,14 @@ fn push_blocker(
 fn push_value_label(out: &mut String, column: &Column<'_>, top: u32) -> Result<(), AllocError> {
     let y = top.saturating_add(43);
     match column.mark.action {
-        Action::Read { value } => push_mark_value(out, value, column.x, y),
+        Action::Read {
+            value,
+            nearest: None,
+        } => push_mark_value(out, value, column.x, y),
+        Action::Read {
+            value,
+            nearest: Some(there),
+        } => push_values(out, value, there, column.x, y),
         Action::Write { value } => push_mark_value(out, value, column.x, y),
         Action::Blocked { times, .. } => push_blocker(out, column, times, y),
         Action::Begin | Action::Commit | Action::Abort => Ok(()),

@@ -74,9 +74,9 @@ pub fn push_rect(
     out.push_str("/>\n")
 }
 
-/// Appends a circle: a read.
-pub fn push_circle(out: &mut String, x: u32, y: u32) -> Result<(), AllocError> {
-    write!(out, "<circle class='mr' cx='{x}' cy='{y}' r='5'/>")
+/// Appends a circle of a class: a read.
+pub fn push_circle(out: &mut String, class: &str, x: u32, y: u32) -> Result<(), AllocError> {
+    write!(out, "<circle class='{class}' cx='{x}' cy='{y}' r='5'/>")
 }
 
 /// Appends a square: a write.

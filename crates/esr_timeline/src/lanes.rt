@@ -9,7 +9,7 @@ use esr_items::Weighted;
 use esr_order::Index;
 use esr_report::name_of_transaction;
 use esr_text::first;
-use esr_trace::QueryTrace;
+use esr_trace::{QueryTrace, nearest_values};
 use std::alloc::{AllocError, Global};
 
 /// The maximum number of lanes.
@@ -188,6 +188,33 @@ pub fn farthest(alloc: Global, history: &History<Weighted>) -> Result<Option<Txn
         }
     }
     Ok(best)
+}
+
+/// Returns the values of the items in the nearest placement of a query that is off, or nothing for other lanes.
+fn nearest_of(alloc: Global, source: Source<'_>, lane: &Lane<'_>) -> Result<Vec<i64>, AllocError> {
+    let is_off =
+        matches!(lane.end, LaneEnd::Committed { distance: Some(distance) } if distance > 0);
+    if !is_off {
+        return Ok(Vec::new(alloc));
+    }
+    match audit_query(alloc, source.history, lane.txn) {
+        Ok(finding) => nearest_values(alloc, source.history, &finding),
+        Err(AuditError::NoMemory) => Err(AllocError),
+        Err(_) => Ok(Vec::new(alloc)),
+    }
+}
+
+/// Returns for each lane the values of the items in the nearest placement of its query, if that is off.
+pub fn all_nearest(
+    alloc: Global,
+    source: Source<'_>,
+    lanes: &[Lane<'_>],
+) -> Result<Vec<Vec<i64>>, AllocError> {
+    let mut all = Vec::new(alloc);
+    for lane in lanes {
+        all.push(nearest_of(alloc, source, lane)?)?;
+    }
+    Ok(all)
 }
 
 /// Returns how a transaction ended.

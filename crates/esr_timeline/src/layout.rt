@@ -65,7 +65,10 @@ fn half_of(letters: usize) -> u32 {
 /// Returns the letters below a mark.
 fn value_letters(mark: &Mark<'_>) -> usize {
     match mark.action {
-        Action::Read { value } => letters_of(value),
+        Action::Read { value, nearest } => {
+            let there = nearest.map_or(0, |there| letters_of(there).saturating_add(5));
+            letters_of(value).saturating_add(there)
+        }
         Action::Write { value } => letters_of(value),
         Action::Blocked { times, .. } => {
             let count = if times > 1 {

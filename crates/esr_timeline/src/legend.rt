@@ -10,6 +10,7 @@ use std::alloc::AllocError;
 #[derive(Clone, Copy, PartialEq, Eq)]
 enum Key {
     Read,
+    Off,
     Write,
     Blocked,
     Charge,
@@ -17,8 +18,9 @@ enum Key {
     Open,
 }
 
-static KEYS: [Key; 6] = [
+static KEYS: [Key; 7] = [
     Key::Read,
+    Key::Off,
     Key::Write,
     Key::Blocked,
     Key::Charge,
@@ -40,6 +42,7 @@ const ROW: u32 = 20;
 fn words_of(key: Key) -> &'static str {
     match key {
         Key::Read => "read",
+        Key::Off => "read that is off",
         Key::Write => "write",
         Key::Blocked => "blocked",
         Key::Charge => "charge, with its amount",
@@ -53,7 +56,14 @@ fn has_action(layout: &Layout<'_>, key: Key) -> bool {
     layout.columns.iter().any(|column| {
         matches!(
             (key, column.mark.action),
-            (Key::Read, Action::Read { .. })
+            (Key::Read, Action::Read { nearest: None, .. })
+                | (
+                    Key::Off,
+                    Action::Read {
+                        nearest: Some(_),
+                        ..
+                    }
+                )
                 | (Key::Write, Action::Write { .. })
                 | (Key::Blocked, Action::Blocked { .. })
         )
@@ -68,7 +78,7 @@ fn is_filled(lane: &Lane<'_>) -> bool {
 /// Returns whether a key occurs.
 fn occurs(scene: &Scene<'_>, layout: &Layout<'_>, key: Key) -> bool {
     match key {
-        Key::Read | Key::Write | Key::Blocked => has_action(layout, key),
+        Key::Read | Key::Off | Key::Write | Key::Blocked => has_action(layout, key),
         Key::Charge => !scene.arrows.is_empty(),
         Key::Limit => scene.lanes.iter().any(is_filled),
         Key::Open => scene.lanes.iter().any(|lane| matches!(
@@ -115,7 +125,8 @@ fn push_sign(out: &mut String, key: Key, x: u32, y: u32, tip: &str) -> Result<()
     let height = y.saturating_sub(4);
     let top = y.saturating_sub(9);
     match key {
-        Key::Read => push_circle(out, middle, height),
+        Key::Read => push_circle(out, "mr", middle, height),
+        Key::Off => push_circle(out, "mo", middle, height),
         Key::Write => push_square(out, middle, height),
         Key::Blocked => push_cross(out, middle, height),
         Key::Charge => {

@@ -1,6 +1,6 @@
 //! The marks on lanes: one pass over the log. An event that was blocked and tried again at once has one mark.
 
-use crate::lanes::{blocker_of, lane_at, txn_of};
+use crate::lanes::{all_nearest, blocker_of, lane_at, txn_of};
 use crate::model::{Action, Arrow, Cause, Lane, Mark, Source};
 use esr_history::{Entry, Event, Refusal, Reply, TxnId};
 use esr_items::ItemId;
@@ -33,7 +33,10 @@ fn action_of(entry: Entry) -> Option<Action> {
     }
     match (entry.event, entry.reply) {
         (_, Reply::Begun(_)) => Some(Action::Begin),
-        (_, Reply::Value(value)) => Some(Action::Read { value }),
+        (_, Reply::Value(value)) => Some(Action::Read {
+            value,
+            nearest: None,
+        }),
         (Event::Write { value, .. }, Reply::Wrote) => Some(Action::Write { value }),
         (_, Reply::Committed) => Some(Action::Commit),
         (_, Reply::Aborted) => Some(Action::Abort),
@@ -73,15 +76,30 @@ fn blocker_name<'a>(source: Source<'a>, reply: Reply) -> &'a str {
     }
 }
 
+/// Returns the action with the value in the nearest placement, if it is a read that is off.
+fn compared(action: Action, nearest: &[Vec<i64>], lane: usize, event: Event) -> Action {
+    let Action::Read { value, .. } = action else {
+        return action;
+    };
+    let there = item_of(event)
+        .and_then(|item| nearest.get(lane)?.get(item.0 as usize).copied())
+        .filter(|there| *there != value);
+    Action::Read {
+        value,
+        nearest: there,
+    }
+}
+
 /// Returns the mark of an entry, if its transaction has a lane.
 fn mark_of<'a>(
     source: Source<'a>,
     lanes: &[Lane<'a>],
+    nearest: &[Vec<i64>],
     place: usize,
     entry: Entry,
 ) -> Option<Mark<'a>> {
     let lane = lane_at(lanes, txn_in(entry)?)?;
-    let action = action_of(entry)?;
+    let action = compared(action_of(entry)?, nearest, lane, entry.event);
     Some(Mark {
         lane,
         place,
@@ -158,6 +176,7 @@ pub fn marks_of<'a>(
     source: Source<'a>,
     lanes: &[Lane<'a>],
 ) -> Result<Vec<Mark<'a>>, AllocError> {
+    let nearest = all_nearest(alloc, source, lanes)?;
     let mut all = Marks {
         marks: Vec::new(alloc),
         last: vec![in alloc; None; lanes.len()]?,
@@ -165,7 +184,7 @@ pub fn marks_of<'a>(
     let log = source.history.log();
     for place in 0..log.len() {
         if let Some(entry) = log.get(place)
-            && let Some(mark) = mark_of(source, lanes, place, entry)
+            && let Some(mark) = mark_of(source, lanes, &nearest, place, entry)
         {
             all.push(mark)?;
         }
@@ -235,11 +254,16 @@ fn is_blocked(action: Action) -> bool {
     matches!(action, Action::Blocked { .. })
 }
 
-/// Marks blocked events as such that matter, if they are to be drawn.
+/// Returns whether an event is a read that is off.
+pub fn is_off(action: Action) -> bool {
+    matches!(action, Action::Read { nearest, .. } if nearest.is_some())
+}
+
+/// Marks reads that are off as such that matter, and blocked events, if they are to be drawn.
 fn mark_blocked(marks: &mut [Mark<'_>], has_blocked: bool) {
     for index in 0..marks.len() {
         if let Some(mark) = marks.get_mut(index) {
-            mark.is_key = has_blocked && is_blocked(mark.action);
+            mark.is_key = has_blocked && (is_blocked(mark.action) || is_off(mark.action));
         }
     }
 }

@@ -41,8 +41,10 @@ pub struct Lane<'a> {
 #[derive(Clone, Copy, PartialEq, Eq)]
 pub enum Action {
     Begin,
+    /// A read, and if it is off, the value in the nearest placement of the query.
     Read {
         value: i64,
+        nearest: Option<i64>,
     },
     Write {
         value: i64,

@@ -48,6 +48,18 @@ fn kind_of(lane: &Lane<'_>) -> &'static str {
     if lane.is_query { "query" } else { "update" }
 }
 
+/// Appends the value of the item in the nearest placement, if a read is off.
+fn push_nearest(out: &mut String, nearest: Option<i64>) -> Result<(), AllocError> {
+    match nearest {
+        Some(there) => {
+            out.push_str(", which is ")?;
+            push_value(out, there)?;
+            out.push_str(" in the nearest state")
+        }
+        None => Ok(()),
+    }
+}
+
 /// Appends what happened at a mark.
 fn push_action(out: &mut String, lane: &Lane<'_>, mark: &Mark<'_>) -> Result<(), AllocError> {
     let name = lane.name;
@@ -58,9 +70,10 @@ fn push_action(out: &mut String, lane: &Lane<'_>, mark: &Mark<'_>) -> Result<(),
             write!(out, "{name} began as {kind} with limit ")?;
             push_number(out, lane.limit)
         }
-        Action::Read { value } => {
+        Action::Read { value, nearest } => {
             write!(out, "{name} read {item}: ")?;
-            push_value(out, value)
+            push_value(out, value)?;
+            push_nearest(out, nearest)
         }
         Action::Write { value } => {
             write!(out, "{name} wrote {item}: ")?;

@@ -8,11 +8,13 @@
 mod part;
 mod sentences;
 mod subject;
+mod sums;
 mod text;
 mod trace;
 
 pub use part::Part;
 pub use sentences::{push_nearest_moment, push_strict, push_verdict, sentences_of};
 pub use subject::Audited;
+pub use sums::{nearest_values, sum_error};
 pub use text::{MAX_NAMES, push_names, push_rest};
 pub use trace::{Cause, ChargeGroup, ObservedRead, QueryTrace, Sum, WriterEnd, trace_of};

@@ -6,11 +6,11 @@ use crate::text::{MAX_NAMES, push_names, push_rest};
 use crate::trace::{QueryTrace, Sum};
 use esr_history::TxnId;
 use esr_report::name_of_transaction;
-use esr_text::{first, push_number, wrap};
+use esr_text::{first, push_number};
 use std::alloc::{AllocError, Global};
 
-/// So many letters are on a line of a picture at most.
-const LINE: usize = 120;
+/// The largest limit, which is no limit in practice.
+const NO_LIMIT: u64 = 1_000_000_000_000_000_000;
 
 /// The name of a transaction.
 fn name<'a>(audited: &Audited<'a>, txn: TxnId) -> &'a str {
@@ -123,8 +123,12 @@ fn push_charge_sentence(
     };
     out.push_str("Charged ")?;
     push_number(out, audited.finding.import)?;
-    out.push_str(" of its limit of ")?;
-    push_number(out, limit)?;
+    if limit < NO_LIMIT {
+        out.push_str(" of its limit of ")?;
+        push_number(out, limit)?;
+    } else {
+        out.push_str(", without a limit")?;
+    }
     push_charged(alloc, out, audited, trace)?;
     out.push('.')
 }
@@ -203,32 +207,31 @@ fn push_sentence(
     }
 }
 
-/// Adds the lines of a sentence, if it is said.
-fn push_lines(
+/// Adds a sentence, unless it is empty.
+fn add_sentence(
     alloc: Global,
-    lines: &mut Vec<String>,
+    sentences: &mut Vec<String>,
     sentence: Sentence,
     audited: &Audited<'_>,
     trace: &QueryTrace,
 ) -> Result<(), AllocError> {
     let mut words = String::new(alloc);
     push_sentence(alloc, &mut words, sentence, audited, trace)?;
-    if words.is_empty() {
-        Ok(())
-    } else {
-        wrap(alloc, lines, LINE, &words)
+    if !words.is_empty() {
+        sentences.push(words)?;
     }
+    Ok(())
 }
 
-/// The sentences above the lanes.
+/// Returns the sentences above the lanes.
 pub fn sentences_of(
     alloc: Global,
     audited: &Audited<'_>,
     trace: &QueryTrace,
 ) -> Result<Vec<String>, AllocError> {
-    let mut lines = Vec::new(alloc);
+    let mut sentences = Vec::new(alloc);
     for sentence in all_sentences() {
-        push_lines(alloc, &mut lines, *sentence, audited, trace)?;
+        add_sentence(alloc, &mut sentences, *sentence, audited, trace)?;
     }
-    Ok(lines)
+    Ok(sentences)
 }

@@ -2,6 +2,5 @@
 
 pub mod Locks
 pub mod Notes
-pub mod Replays
 pub mod Shortfalls
 pub mod Waits

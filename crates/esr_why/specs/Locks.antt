@@ -3,8 +3,8 @@ use Rattle.std.specs.Prelude.{ℕ, Option, None, Some, ◌==◌, if◌then◌els
 use Rattle.esr_history.specs.declared.event.Event.{Event}
 use Rattle.esr_history.specs.declared.event.Event.TheVariants.{Read, Write}
 use Rattle.esr_history.specs.Machine.{Schedule, accepted_in, writer}
-use Rattle.esr_why.specs.declared.replay.Lock.{Lock}
-use Rattle.esr_why.specs.declared.replay.Lock.TheVariants as lock
+use Rattle.esr_why.specs.declared.locks.Lock.{Lock}
+use Rattle.esr_why.specs.declared.locks.Lock.TheVariants as lock
 
 -- the write lock, if `holder` is the item's writer
 abbrev pub lock_by : Option ℕ → ℕ → Lock

@@ -1,19 +1,19 @@
 //! Reports the lines of a script that were blocked, and the cycles of transactions that wait for one another, entry
 //! by entry. A cycle is reported after the line that closes it; when that line is retried, the cycle existed before.
 
-ghost use Rattle.std.specs.Prelude.{◌≡◌, ◌<◌, ◌+◌, [], length, take, OnOk};
+ghost use Rattle.std.specs.Prelude.{◌≡◌, Some, length, slice_get, IfSome, OnOk};
 ghost use Rattle.esr_items.specs.Weights.{weighted};
-ghost use Rattle.esr_history.specs.Machine.{empty_schedule, extended, reply_to};
-ghost use Rattle.esr_why.specs.Notes.{IsInRange};
-ghost use Rattle.esr_why.specs.Locks.{lock_in_way};
-ghost use Rattle.esr_why.specs.Replays.{until};
-ghost use Rattle.esr_why.specs.Waits.{AreLastEntries};
+ghost use Rattle.esr_history.specs.Machine.{reply_to};
+ghost use Rattle.esr_replay.specs.Replays.{so_far};
+ghost use Rattle.esr_why.specs.Waits.{AreLastEntries, IsWaiting};
 
-use crate::replay::{Lock, Replay};
+use crate::locks::lock_of;
 use crate::sentences::NumberedScript;
-use crate::waits::{LastEntries, Wait, transaction_of};
-use esr_history::{Entry, Event, History, NoMemory, Refusal, Reply, TxnId};
+use crate::shortfall::shortfalls;
+use crate::waits::{LastEntries, Wait};
+use esr_history::{Entry, NoMemory, Refusal, Reply, TxnId};
 use esr_items::Weighted;
+use esr_replay::{Replay, transaction_of};
 use esr_views::{Recording, ScriptView};
 use std::alloc::{AllocError, Global};
 
@@ -46,29 +46,13 @@ impl Sought {
     }
 }
 
-/// Returns the lock by which an update blocks the next event.
-fn lock_of(replay: &Replay<'_>, event: Event, holder: TxnId) -> Lock
-    requires { IsInRange event (length replay.now.opening) }
-    ensures { result ≡ lock_in_way replay.now event holder.0 }
-{
-    match event {
-        Event::Read { txn: _, item }
-        | Event::Write {
-            txn: _,
-            item,
-            value: _,
-        } => replay.lock_of(item, holder),
-        _ => Lock::Read,
-    }
-}
-
 /// The state of a report over the entries.
 #[derive(Drop)]
 struct Reporter<'a> {
     alloc: Global,
     script: NumberedScript<'a>,
     sought: Sought,
-    replay: Replay<'a>,
+    replay: Replay<'a, Weighted>,
     last_entries: LastEntries,
     out: String,
 }
@@ -76,7 +60,7 @@ struct Reporter<'a> {
 impl Reporter<'_> {
     /// Reports why the next entry, of a transaction, was blocked.
     fn report_entry(&mut self, place: usize, entry: Entry, txn: TxnId) -> Result<(), AllocError>
-        requires { entry.reply ≡ reply_to weighted self.old.replay entry.event }
+        requires { entry.reply ≡ reply_to weighted (so_far self.old.replay) entry.event }
         ensures replay { self.new.replay ≡ self.old.replay }
         ensures last_entries { self.new.last_entries ≡ self.old.last_entries }
     {
@@ -85,12 +69,12 @@ impl Reporter<'_> {
         }
         match entry.reply {
             Reply::Refused(Refusal::BlockedByLock(holder)) => {
-                let lock = lock_of(&self.replay, entry.event, holder);
+                let lock = lock_of(self.replay.machine(), entry.event, holder);
                 self.script
                     .push_lock_line(&mut self.out, place, entry.event, lock, holder)
             }
             Reply::Refused(Refusal::BlockedByImport(_) | Refusal::BlockedByExport(_)) => {
-                let shortfalls = self.replay.shortfalls(self.alloc, entry.event)?;
+                let shortfalls = shortfalls(self.alloc, self.replay.machine(), entry.event)?;
                 self.script
                     .push_limits_line(&mut self.out, place, entry.event, &shortfalls)
             }
@@ -98,22 +82,29 @@ impl Reporter<'_> {
         }
     }
 
+    /// Returns the wait of a transaction, if its last event was blocked by a lock.
+    fn wait(&self, txn: TxnId) -> Option<Wait>
+        ensures wait { AreLastEntries (so_far self.now.replay).entries self.now.last_entries.places.items
+            → IfSome result (IsWaiting (so_far self.now.replay).entries) }
+        ensures txn { IfSome result (λ w. w.txn ≡ txn) }
+    {
+        self.last_entries.wait(self.replay.machine().log(), txn)
+    }
+
     /// Reports the cycle that a transaction closes, if it closes one: it did not wait for the same holder before.
     fn report_cycle(&mut self, txn: TxnId, before: Option<Wait>) -> Result<(), AllocError>
-        requires { AreLastEntries self.old.replay.entries self.old.last_entries.places.items }
+        requires { AreLastEntries (so_far self.old.replay).entries self.old.last_entries.places.items }
         ensures replay { self.new.replay ≡ self.old.replay }
         ensures last_entries { self.new.last_entries.places ≡ self.old.last_entries.places }
     {
-        let Some(wait) = self.last_entries.wait(self.replay.log(), txn) else {
+        let Some(wait) = self.wait(txn) else {
             return Ok(());
         };
         if before.is_some_and(|b| b.holder == wait.holder) {
             return Ok(());
         }
-        if let Some(cycle) = self
-            .last_entries
-            .cycle(self.alloc, self.replay.log(), wait)?
-        {
+        let log = self.replay.machine().log();
+        if let Some(cycle) = self.last_entries.cycle(self.alloc, log, wait)? {
             if self.sought.has_any(&cycle) {
                 self.script.push_cycle(&mut self.out, &cycle)?;
             }
@@ -121,61 +112,57 @@ impl Reporter<'_> {
         Ok(())
     }
 
-    /// Reports the entry at a place, of the transaction, and continues after it.
+    /// Executes the next entry, and notes it as the last of its transaction.
+    fn step(&mut self, place: usize, entry: Entry) -> Result<(), NoMemory>
+        requires entry { slice_get self.old.replay.history.entries self.old.replay.count ≡ Some entry }
+        requires place { place ≡ length (so_far self.old.replay).entries }
+        requires last_entries { AreLastEntries (so_far self.old.replay).entries self.old.last_entries.places.items }
+        ensures { OnOk result
+            (AreLastEntries (so_far self.new.replay).entries self.new.last_entries.places.items) }
+    {
+        self.replay.step()?;
+        self.last_entries.note(entry, place);
+        Ok(())
+    }
+
+    /// Reports the next entry, of a transaction, and executes it.
     fn report_of(&mut self, place: usize, entry: Entry, txn: TxnId) -> Result<(), NoMemory>
-        requires reply { entry.reply ≡ reply_to weighted self.old.replay entry.event }
-        requires place { place ≡ length self.old.replay.entries }
-        requires last_entries { AreLastEntries self.old.replay.entries self.old.last_entries.places.items }
-        ensures replay { OnOk result (self.new.replay ≡ extended self.old.replay entry.event entry.reply) }
-        ensures last_entries { OnOk result (AreLastEntries self.new.replay.entries self.new.last_entries.places.items) }
+        requires entry { slice_get self.old.replay.history.entries self.old.replay.count ≡ Some entry }
+        requires reply { entry.reply ≡ reply_to weighted (so_far self.old.replay) entry.event }
+        requires place { place ≡ length (so_far self.old.replay).entries }
+        requires last_entries { AreLastEntries (so_far self.old.replay).entries self.old.last_entries.places.items }
+        ensures { OnOk result
+            (AreLastEntries (so_far self.new.replay).entries self.new.last_entries.places.items) }
     {
         self.report_entry(place, entry, txn)?;
-        let before = self.last_entries.wait(self.replay.log(), txn);
-        self.replay.step(entry)?;
-        self.last_entries.note(entry, place);
+        let before = self.wait(txn);
+        self.step(place, entry)?;
         self.report_cycle(txn, before)?;
         Ok(())
     }
 
-    /// Reports the entry at a place, and continues after it.
-    fn report(&mut self, place: usize, entry: Entry) -> Result<(), NoMemory>
-        requires reply { entry.reply ≡ reply_to weighted self.old.replay entry.event }
-        requires place { place ≡ length self.old.replay.entries }
-        requires last_entries { AreLastEntries self.old.replay.entries self.old.last_entries.places.items }
-        ensures replay { OnOk result (self.new.replay ≡ extended self.old.replay entry.event entry.reply) }
-        ensures last_entries { OnOk result (AreLastEntries self.new.replay.entries self.new.last_entries.places.items) }
+    /// Reports the next entry, if there is one, and executes it.
+    fn report_next(&mut self) -> Result<(), NoMemory>
+        requires { AreLastEntries (so_far self.old.replay).entries self.old.last_entries.places.items }
+        ensures { OnOk result
+            (AreLastEntries (so_far self.new.replay).entries self.new.last_entries.places.items) }
     {
-        if let Some(txn) = transaction_of(entry) {
-            return self.report_of(place, entry, txn);
-        }
-        self.replay.step(entry)?;
-        self.last_entries.note(entry, place);
-        Ok(())
-    }
-
-    /// Reports the entry of a history at a place, and continues after it.
-    fn report_at(&mut self, history: &History<Weighted>, place: usize) -> Result<(), NoMemory>
-        requires place { place < length history.now.schedule.entries }
-        requires replay { self.old.replay ≡ until place history.now.schedule }
-        requires last_entries { AreLastEntries (take place history.now.schedule.entries) self.old.last_entries.places.items }
-        ensures replay { OnOk result (self.new.replay ≡ until (place + 1) history.now.schedule) }
-        ensures last_entries { OnOk result
-            (AreLastEntries (take (place + 1) history.now.schedule.entries) self.new.last_entries.places.items) }
-    {
-        let Some(entry) = history.log().get(place) else {
-            unreachable!()
+        let Some(entry) = self.replay.next() else {
+            return Ok(());
         };
-        self.report(place, entry)?;
-        Ok(())
+        let place = self.replay.machine().log().len();
+        match transaction_of(entry) {
+            Some(txn) => self.report_of(place, entry, txn),
+            None => self.step(place, entry),
+        }
     }
 
-    /// Tells of all entries of a history.
-    fn report_all(&mut self, history: &History<Weighted>) -> Result<(), NoMemory>
-        requires replay { self.old.replay ≡ empty_schedule history.now.schedule }
-        requires last_entries { AreLastEntries [] self.old.last_entries.places.items }
+    /// Reports this number of entries.
+    fn report_all(&mut self, count: usize) -> Result<(), NoMemory>
+        requires { AreLastEntries (so_far self.old.replay).entries self.old.last_entries.places.items }
     {
-        for place in 0..history.log().len() {
-            self.report_at(history, place)?;
+        for _ in 0..count {
+            self.report_next()?;
         }
         Ok(())
     }
@@ -196,7 +183,7 @@ fn text_about(
         last_entries: LastEntries::new(alloc, history.begun_count())?,
         out: String::new(alloc),
     };
-    reporter.report_all(history)?;
+    reporter.report_all(history.log().len())?;
     Ok(reporter.out)
 }
 

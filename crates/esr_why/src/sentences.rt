@@ -1,6 +1,6 @@
 //! The text of a line: the event, what blocked it, and when the blocker ended.
 
-use crate::replay::Lock;
+use crate::locks::Lock;
 use crate::shortfall::{Shortfall, Side};
 use crate::waits::Wait;
 use esr_history::{Event, History, MAX_LIMIT, TxnId};

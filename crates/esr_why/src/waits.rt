@@ -5,12 +5,13 @@
 //! met before, and a walk that returns to its start is a cycle. The walk is a draft: its result is tested before it
 //! is reported.
 
-ghost use Rattle.std.specs.Prelude.{◌≡◌, ◌++◌, ◌∷◌, [], List, Some, All, IsTrue, IfOk, IfSome, length, map, option_map};
+ghost use Rattle.std.specs.Prelude.{◌≡◌, ◌++◌, ◌∷◌, [], List, Some, All, IsTrue, IfOk, IfSome, length, map};
 ghost use Rattle.esr_history.specs.BackLinks.{last_place, txn_in};
 ghost use Rattle.esr_history.specs.declared.event.Entry.{Entry};
 ghost use Rattle.esr_why.specs.Waits.{AreLastEntries, BeginsWith, IsCycle, IsWaiting, turned};
 
-use esr_history::{Entry, Event, Log, Refusal, Reply, TxnId};
+use esr_history::{Entry, Log, Refusal, Reply, TxnId};
+use esr_replay::transaction_of;
 use std::alloc::{AllocError, Global};
 
 /// A transaction whose last event was blocked by a lock of another.
@@ -21,29 +22,6 @@ pub struct Wait {
     pub holder: TxnId,
     /// The place of the event in the log.
     pub place: usize,
-}
-
-/// Returns the transaction of an entry: for an accepted begin, the one that begins; for a refused begin, none.
-pub fn transaction_of(entry: Entry) -> Option<TxnId>
-    ensures { option_map (λ t. t.0) result ≡ txn_in entry }
-{
-    match entry.event {
-        Event::BeginUpdate { limit: _ }
-        | Event::BeginQuery {
-            limit: _,
-            strict: _,
-        } => match entry.reply {
-            Reply::Begun(txn) => Some(txn),
-            _ => None,
-        },
-        Event::Read { txn, item: _ }
-        | Event::Write {
-            txn,
-            item: _,
-            value: _,
-        } => Some(txn),
-        Event::Commit { txn } | Event::Abort { txn } => Some(txn),
-    }
 }
 
 /// Returns whether each waits for the next, and the last for the first.

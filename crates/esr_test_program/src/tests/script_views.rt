@@ -158,9 +158,10 @@ fn a_page_has_each_part(rt: HostRuntime) {
         "<dd><a href='#q-report'>report</a>, 100</dd>",
         "<li><span class='bin'>off by 100 to 999</span><span class='bar'><i class='dis' style='width:80%'></i><b>1</b></span></li>",
         "<li><a href='#q-report' title='report: limit 200, charged 100, off by 100'>",
-        "<tr id='r-report'><th scope='row'><a href='#q-report'>report</a></th><td class='num'>100</td><td class='num'>100</td><td class='num'>200</td><td class='num'>100</td><td class='num'>2</td><td>query</td><td>committed</td><td class='num'>1</td></tr>",
+        "<tr id='r-report'><th scope='row'><a href='#q-report'>report</a></th><td class='num'>100</td><td class='num'>100</td><td class='num'>100</td><td class='num'>200</td><td class='num'>100</td><td class='num'>2</td><td>query</td><td>committed</td><td class='num'>1</td></tr>",
+        "<tr><th scope='row'>transfer</th><td class='num'>100</td><td class='num'>1</td><td class='num'>200</td><td>committed</td></tr>",
         "aria-label='Timeline of report'",
-        "<section id='q-report'><h3>report: off by 100</h3>",
+        "<section id='q-report'><h3>report: off by 100, its sum by 100</h3>",
         "<svg xmlns=",
         "<li>savings 1,600, in line 9, as transfer had left it</li>",
         "<p class='order'>transfer</p>",
@@ -169,7 +170,7 @@ fn a_page_has_each_part(rt: HostRuntime) {
     let notes = Notes::new(alloc);
     has(&rt, alloc, BANK, &page(10, &notes), &texts);
     let texts = [
-        "<td class='num'>-</td><td class='num'>6</td><td class='num'>900</td><td class='num'>894</td><td class='num'>1</td><td>query</td><td>aborted</td>",
+        "<td class='num'>-</td><td class='num'>6</td><td class='num'>-</td><td class='num'>900</td><td class='num'>894</td><td class='num'>1</td><td>query</td><td>aborted</td>",
         "<td>still active</td>",
         "<h2 id='all'>All queries</h2>",
     ];
@@ -192,7 +193,7 @@ fn a_page_names_its_origin_and_the_lines_with_errors(rt: HostRuntime) {
 }
 
 /// What the timeline of the bank has, of each kind of sign one.
-static BANK_TIMELINE: [&str; 10] = [
+static BANK_TIMELINE: [&str; 11] = [
     "<title id='all-timeline-title'>What happened, step by step</title>\n",
     ">report</text>\n",
     ">limit 200</text>\n",
@@ -201,6 +202,7 @@ static BANK_TIMELINE: [&str; 10] = [
     "<title>step 4, line 6: transfer wrote checking: 400</title><rect class='mw' ",
     "<title>step 4, line 6: transfer charged report 100 for checking</title></path>\n",
     ">+100</text>\n",
+    "<title>step 7, line 9: report read savings: 1,600, which is 1,500 in the nearest state</title><circle class='mo' ",
     "<title>step 8, line 10: report committed</title>",
     ">off by 100</text>\n",
 ];

@@ -1,7 +1,7 @@
-use Rattle.std.proofs.Common.{◌≡◌, sym, ◌∙◌, ap, None, arith}
+use Rattle.std.proofs.Common.{sym, ◌∙◌, ap, arith}
 use Rattle.esr_report.specs.Names.{position_of}
 use Rattle.esr_report.specs.Keyed.{IsKeyOf}
-use Rattle.esr_report.proofs.Keyed.{key_place, no_longer}
+use Rattle.esr_report.proofs.Keyed.{no_longer}
 use Rattle.esr_report.proofs.names.Names.number_of.Goals as goal
 
 pub returns-then-name-gt16 : goal.returns-then-name-gt16
@@ -12,13 +12,9 @@ returns-then-name-gt16 c =
 pub returns-in-Some : goal.returns-in-Some
 returns-in-Some c =
     let key : IsKeyOf c.key_of-key.result c.args.name.now = record { short = c.if-name-gt16.false; bytes = λ i. omega (arith, c.type_inv.name i); low = c.key_of-key.ensures.low; high = c.key_of-key.ensures.high; length = c.key_of-key.ensures.length } in
-    c.in-Some.ensures.index
-    ∙ key_place c.key_of-key.result c.args.name.now key c.self.inside.names.entries c.self.invariant.2
-    ∙ ap (λ names. position_of names c.args.name.now) c.self.view_is
+    sym (c.in-Some.ensures c.args.name.now key)
 
 pub returns-in-None : goal.returns-in-None
 returns-in-None c =
     let key : IsKeyOf c.key_of-key.result c.args.name.now = record { short = c.if-name-gt16.false; bytes = λ i. omega (arith, c.type_inv.name i); low = c.key_of-key.ensures.low; high = c.key_of-key.ensures.high; length = c.key_of-key.ensures.length } in
-    c.in-None.ensures.index
-    ∙ key_place c.key_of-key.result c.args.name.now key c.self.inside.names.entries c.self.invariant.2
-    ∙ ap (λ names. position_of names c.args.name.now) c.self.view_is
+    c.search.ensures c.args.name.now key

@@ -1,0 +1,3 @@
+-- The steps of a replay, from prefix to prefix of its history.
+
+pub mod Replaying

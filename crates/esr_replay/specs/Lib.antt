@@ -1,0 +1,3 @@
+-- The prefixes of a history, and the progress of a replay.
+
+pub mod Replays

@@ -1,0 +1,16 @@
+//! Replays a history on a machine, entry by entry.
+//!
+//! A history stores what each query imported in total, but not the charges of an entry, and neither exports, locks nor
+//! uncommitted values. `Replay` executes the entries again. It returns what each query imported by the last one, and
+//! lends its machine for look-ups, so the rule of charges has one implementation, that of the machine. Explanations,
+//! tables, timelines and traces are folds over a replay. Storing the charges in the history was rejected: every step
+//! would pay for them, and few programs read them.
+#![tactic(auto)]
+
+mod metric_ref;
+mod replay;
+mod transaction;
+
+pub use metric_ref::MetricRef;
+pub use replay::{Replay, empty_machine, imported};
+pub use transaction::transaction_of;

@@ -1,0 +1,15 @@
+-- A line that begins with `write `, and the same line with `wrote `.
+use Rattle.std.proofs.Common.{◌≡◌, ℕ, ◌+◌, ◌-◌, ◌<◌, List, ◌++◌, length, set, codes, refl, ap, ◌∙◌, arith, length-append}
+use Rattle.std.proofs.lemmas.List.{set-append_right}
+
+-- the byte at place 2 of a line that was appended
+pub echoed : (out line : List ℕ) (byte : ℕ) → set (out ++ line) (length out + 2) byte ≡ out ++ set line 2 byte
+echoed out line byte =
+    let place : length out + 2 - length out ≡ 2 = omega arith in
+    set-append_right out line (length out) (length out + 2) byte refl (omega arith) ∙ ap (λ k. out ++ set line k byte) place
+
+pub wrote : (line words : List ℕ) → line ≡ codes "write " ++ words → set line 2 111 ≡ codes "wrote " ++ words
+wrote line words e = ap (λ l. set l 2 111) e
+
+pub is_long : (line words : List ℕ) → line ≡ codes "write " ++ words → 2 < length line
+is_long line words e = let n : length line ≡ 6 + length words = ap length e in omega (arith, n)

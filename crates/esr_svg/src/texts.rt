@@ -1,0 +1,257 @@
+//! The sentences of a picture, in lines as wide as it is.
+
+use crate::frame::EDGE;
+use crate::scene::Scene;
+use esr_text::{first, push_count, push_number, wrap};
+use std::alloc::{AllocError, Global};
+
+/// The width of a letter of a sentence, and of the heading.
+const LETTER: u32 = 8;
+
+const HEADING_LETTER: u32 = 10;
+
+/// The maximum number of sentences above the lanes.
+const MAX_SENTENCES: usize = 9;
+
+/// The maximum number of lines with errors, and of letters of one.
+const MAX_ERRORS: usize = 7;
+
+pub const MAX_ERROR_LETTERS: usize = 240;
+
+/// The sentence for items that are not drawn and decide the position of the line.
+const OTHERS_DECIDE: &str = "They keep the line from other positions.";
+
+/// A line in the box of errors.
+#[derive(Drop)]
+pub struct ErrorLine {
+    pub text: String,
+    /// Whether it continues the line above it.
+    pub is_continued: bool,
+}
+
+/// The sentences of a picture.
+#[derive(Drop)]
+pub struct Texts {
+    pub heading: Vec<String>,
+    pub sentences: Vec<String>,
+    /// The sentences on what is not drawn.
+    pub others: Vec<String>,
+    pub errors: Vec<ErrorLine>,
+}
+
+/// Returns how many letters there are in a line.
+fn letters_in(width: u32, letter: u32) -> usize {
+    width
+        .saturating_sub(EDGE.saturating_mul(2))
+        .checked_div(letter)
+        .unwrap_or(0) as usize
+}
+
+/// Returns the lines of the heading.
+fn heading_of(alloc: Global, scene: &Scene<'_>, width: u32) -> Result<Vec<String>, AllocError> {
+    let mut words = String::from_str(alloc, scene.query)?;
+    words.push_str(": distance ")?;
+    push_number(&mut words, scene.distance)?;
+    words.push_str(", import ")?;
+    push_number(&mut words, scene.import)?;
+    let mut lines = Vec::new(alloc);
+    wrap(alloc, &mut lines, letters_in(width, HEADING_LETTER), &words)?;
+    Ok(lines)
+}
+
+/// Returns the lines of some sentences.
+fn lines_of(
+    alloc: Global,
+    sentences: &[String],
+    upper_bound: usize,
+    width: u32,
+) -> Result<Vec<String>, AllocError> {
+    let mut lines = Vec::new(alloc);
+    for sentence in first(sentences, upper_bound) {
+        wrap(alloc, &mut lines, letters_in(width, LETTER), sentence)?;
+    }
+    Ok(lines)
+}
+
+/// Appends how many items are not drawn, and how many of them are off, and by how much.
+fn push_other_items(out: &mut String, items: u64, off: u64, sum: u64) -> Result<(), AllocError> {
+    push_count(out, items, " more item", " more items")?;
+    if off == 0 {
+        return out.push_str(", as read");
+    }
+    out.push_str(", ")?;
+    if items > 1 {
+        push_number(out, off)?;
+        out.push_str(" of them ")?;
+    }
+    out.push_str("off by ")?;
+    push_number(out, sum)
+}
+
+/// Appends how many updates and items are not drawn.
+fn push_others(out: &mut String, scene: &Scene<'_>) -> Result<(), AllocError> {
+    let items = scene.other_items as u64;
+    out.push_str("Not drawn: ")?;
+    if scene.other_updates > 0 {
+        push_count(out, scene.other_updates, " more update", " more updates")?;
+    }
+    if scene.other_updates > 0 && items > 0 {
+        out.push_str("; ")?;
+    }
+    if items > 0 {
+        push_other_items(out, items, scene.others_off as u64, scene.others_sum)?;
+    }
+    out.push('.')
+}
+
+/// Adds the sentence on the items that were never written, if there are any without a lane.
+fn push_unwritten(
+    alloc: Global,
+    sentences: &mut Vec<String>,
+    scene: &Scene<'_>,
+) -> Result<(), AllocError> {
+    if scene.unwritten_items == 0 {
+        return Ok(());
+    }
+    let mut words = String::new(alloc);
+    push_count(
+        &mut words,
+        scene.unwritten_items as u64,
+        " more item, as read and never written.",
+        " more items, as read and never written.",
+    )?;
+    sentences.push(words)?;
+    Ok(())
+}
+
+/// Adds the sentences on the updates and the other items that are not drawn, if there are any.
+fn push_rest(
+    alloc: Global,
+    sentences: &mut Vec<String>,
+    scene: &Scene<'_>,
+) -> Result<(), AllocError> {
+    if scene.other_updates == 0 && scene.other_items == 0 {
+        return Ok(());
+    }
+    let mut words = String::new(alloc);
+    push_others(&mut words, scene)?;
+    sentences.push(words)?;
+    if scene.others_decide {
+        sentences.push(String::from_str(alloc, OTHERS_DECIDE)?)?;
+    }
+    Ok(())
+}
+
+/// Returns the lines on what is not drawn.
+fn others_of(alloc: Global, scene: &Scene<'_>, width: u32) -> Result<Vec<String>, AllocError> {
+    let mut sentences = Vec::new(alloc);
+    push_unwritten(alloc, &mut sentences, scene)?;
+    push_rest(alloc, &mut sentences, scene)?;
+    lines_of(alloc, &sentences, MAX_SENTENCES, width)
+}
+
+/// Returns the width of a letter of a line with an error: two of a letter that is wide, or replaced by a wide one.
+fn letters_of_char(letter: char) -> usize {
+    match letter {
+        '<' | '&' => 2,
+        '\0'..='\x7f' => 1,
+        _ => 2,
+    }
+}
+
+/// Lines with errors, and the line that is being filled.
+#[derive(Drop)]
+struct Folded {
+    lines: Vec<ErrorLine>,
+    text: String,
+    length: usize,
+    is_continued: bool,
+    /// The maximum number of letters in a line.
+    letters: usize,
+}
+
+impl Folded {
+    /// Ends the line.
+    fn end_line(&mut self, alloc: Global, is_continued: bool) -> Result<(), AllocError> {
+        let text = String::from_str(alloc, self.text.as_str())?;
+        self.lines.push(ErrorLine {
+            text,
+            is_continued: self.is_continued,
+        })?;
+        self.text.clear();
+        self.length = 0;
+        self.is_continued = is_continued;
+        Ok(())
+    }
+
+    /// Adds the letters of a word, on further lines if it is longer than one.
+    fn push_word(&mut self, alloc: Global, word: &str) -> Result<(), AllocError> {
+        for letter in word.chars() {
+            let more = letters_of_char(letter);
+            if self.length.saturating_add(more) > self.letters {
+                self.end_line(alloc, true)?;
+            }
+            self.text.push(letter)?;
+            self.length = self.length.saturating_add(more);
+        }
+        Ok(())
+    }
+
+    /// Adds a word after a blank, or on the next line if there is no space for it.
+    fn add_word(&mut self, alloc: Global, word: &str) -> Result<(), AllocError> {
+        let length = self.length.saturating_add(letters_of_word(word));
+        if self.length > 0 && length >= self.letters {
+            self.end_line(alloc, true)?;
+        }
+        if self.length > 0 {
+            self.text.push(' ')?;
+            self.length = self.length.saturating_add(1);
+        }
+        self.push_word(alloc, word)
+    }
+
+    /// Adds a line with an error, on as many lines as it needs.
+    fn add_error(&mut self, alloc: Global, error: &str) -> Result<(), AllocError> {
+        for word in error.split(' ') {
+            self.add_word(alloc, word)?;
+        }
+        self.end_line(alloc, false)
+    }
+}
+
+/// Returns the width of a word of a line with an error, in letters.
+fn letters_of_word(word: &str) -> usize {
+    let mut letters = 0usize;
+    for letter in word.chars() {
+        letters = letters.saturating_add(letters_of_char(letter));
+    }
+    letters
+}
+
+/// Returns the lines of the box of errors. A continued line is indented by two letters.
+fn errors_of(alloc: Global, errors: &[String], width: u32) -> Result<Vec<ErrorLine>, AllocError> {
+    let mut folded = Folded {
+        lines: Vec::new(alloc),
+        text: String::new(alloc),
+        length: 0,
+        is_continued: false,
+        letters: letters_in(width, LETTER).saturating_sub(2),
+    };
+    for error in first(errors, MAX_ERRORS) {
+        folded.add_error(alloc, error)?;
+    }
+    let Folded { lines, .. } = folded;
+    Ok(lines)
+}
+
+impl Texts {
+    /// Returns the sentences of a scene, in a picture of this width.
+    pub fn of(alloc: Global, scene: &Scene<'_>, width: u32) -> Result<Texts, AllocError> {
+        Ok(Texts {
+            heading: heading_of(alloc, scene, width)?,
+            sentences: lines_of(alloc, &scene.sentences, MAX_SENTENCES, width)?,
+            others: others_of(alloc, scene, width)?,
+            errors: errors_of(alloc, &scene.errors, width)?,
+        })
+    }
+}

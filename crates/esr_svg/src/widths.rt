@@ -1,0 +1,155 @@
+//! The width of each text, which is known without measuring: names and numbers are in a font of one width, none wider
+//! than 0.61 of its height, and sentences in one whose letters are on average not wider than 0.64 of it.
+
+use crate::scene::{Lane, LanePart, LaneReads, LaneSegment, Strays, Update};
+use esr_text::{letters_of, number_letters};
+
+/// The maximum number of letters after the words on a value that is not a version.
+const MAX_ENDING: usize = 22;
+
+/// Returns the width of letters of a name, a value or a sentence.
+pub fn width_of(letters: usize) -> u32 {
+    (letters.min(4000) as u32).saturating_mul(8)
+}
+
+/// Returns the letters of the longest of some values.
+fn widest_value(values: &[i64]) -> usize {
+    let mut widest = 0usize;
+    for value in values {
+        widest = widest.max(letters_of(*value));
+    }
+    widest
+}
+
+/// Returns the letters of the second line on the reads of an item.
+fn more_letters(read: &LaneReads) -> usize {
+    number_letters(read.count).saturating_add(9)
+}
+
+/// Returns the width of the text in front of a lane.
+pub fn label_width(lane: &Lane<'_>) -> u32 {
+    let read = widest_value(&lane.read.values).saturating_add(5);
+    let weight = if lane.weight > 1 {
+        number_letters(lane.weight).saturating_add(7)
+    } else {
+        0
+    };
+    let letters = lane.name.len().max(read).max(weight);
+    width_of(letters.max(more_letters(&lane.read)).max(12))
+}
+
+/// Returns the letters of ` x ` and the number of reads, if there is more than one.
+fn times_letters(reads: u64) -> usize {
+    if reads > 1 {
+        number_letters(reads).saturating_add(3)
+    } else {
+        0
+    }
+}
+
+/// Returns the letters of a part of a stretch.
+fn part_letters(part: LanePart) -> usize {
+    match part {
+        LanePart::Version { value, reads } => {
+            letters_of(value).saturating_add(times_letters(reads))
+        }
+        LanePart::Several { versions, fitting } => {
+            let count = number_letters(versions as u64).saturating_add(7);
+            if fitting > 0 {
+                count
+                    .saturating_add(number_letters(fitting as u64))
+                    .saturating_add(10)
+            } else {
+                count
+            }
+        }
+    }
+}
+
+/// Returns the width that a part of a stretch needs.
+pub fn part_width(part: LanePart) -> u32 {
+    width_of(part_letters(part)).saturating_add(24)
+}
+
+/// Returns the width that some parts need.
+fn parts_width(parts: &[LanePart]) -> u32 {
+    let mut width = 0u32;
+    for part in parts {
+        width = width.saturating_add(part_width(*part));
+    }
+    width
+}
+
+/// From the line to the start of the part that it crosses.
+pub const BEFORE_LINE: u32 = 12;
+
+/// Returns the width that a stretch needs from its start to the line and from the line to its end, or to its end alone.
+///
+/// The text of the first part is in front of the line, that of another part after it.
+pub fn segment_widths(segment: &LaneSegment) -> (u32, Option<u32>) {
+    let Some(index) = segment.at_line else {
+        return (parts_width(&segment.parts), None);
+    };
+    let split = index.max(1).min(segment.parts.len());
+    let before = parts_width(segment.parts.get(..split).unwrap_or(&[]));
+    let after = parts_width(segment.parts.get(split..).unwrap_or(&[]));
+    (
+        before.saturating_add(BEFORE_LINE),
+        Some(after.saturating_add(BEFORE_LINE)),
+    )
+}
+
+/// Returns the width of the boxes: of the longest name of an update.
+pub fn box_width(updates: &[Update<'_>]) -> u32 {
+    let mut letters = 0usize;
+    for update in updates {
+        letters = letters.max(update.name.len());
+    }
+    width_of(letters).saturating_add(20)
+}
+
+/// Returns the width of `off by` and the sum at the line.
+pub fn off_width(lane: &Lane<'_>) -> u32 {
+    width_of(number_letters(lane.off).saturating_add(7))
+}
+
+/// Returns the width of the same with the difference and the weight.
+pub fn factors_width(lane: &Lane<'_>) -> u32 {
+    let Some(difference) = lane.off.checked_div(lane.weight) else {
+        return 0;
+    };
+    if lane.weight < 2 {
+        return 0;
+    }
+    let factors = number_letters(difference)
+        .saturating_add(number_letters(lane.weight))
+        .saturating_add(6);
+    off_width(lane).saturating_add(width_of(factors))
+}
+
+/// The widths of the two parts of the text on a value that is not a version.
+#[derive(Clone, Copy)]
+pub struct StrayWidths {
+    pub value: u32,
+    pub fate: u32,
+}
+
+/// Returns the widths of the text on the values of a lane that are not versions.
+pub fn stray_widths(strays: &Strays<'_>) -> StrayWidths {
+    let Some(stray) = strays.first else {
+        return StrayWidths { value: 0, fate: 0 };
+    };
+    let ending = if stray.has_piece || strays.more > 0 {
+        MAX_ENDING
+    } else {
+        0
+    };
+    let value = letters_of(stray.value)
+        .saturating_add(stray.writer.len())
+        .saturating_add(10);
+    let fate = stray.fate.len().saturating_add(ending).saturating_add(7);
+    StrayWidths {
+        value: width_of(value),
+        fate: width_of(fate),
+    }
+}
