@@ -154,22 +154,19 @@ fn push_course(
     out.push('.')
 }
 
-/// What the charges and the distance have to do with one another.
-fn push_moral(out: &mut String, finding: &Finding) -> Result<(), AllocError> {
-    out.push_str("Charges are made before the outcome is known: of the ")?;
+/// Appends what the query was charged and by how much it is off.
+fn push_outcome(out: &mut String, finding: &Finding) -> Result<(), AllocError> {
+    out.push_str("Charges are upper bounds, made before the outcome is known: it was charged ")?;
     push_number(out, finding.import)?;
-    out.push_str(" that it was charged, ")?;
     if finding.distance == 0 {
-        return out.push_str("none was necessary.");
+        return out.push_str(" and is exact.");
     }
-    if finding.distance == finding.import {
-        return out.push_str("all were necessary.");
-    }
+    out.push_str(" and is off by ")?;
     push_number(out, finding.distance)?;
-    out.push_str(" was necessary.")
+    out.push('.')
 }
 
-/// What only the audit of a query can tell.
+/// Appends the paragraphs that need the audit of the query.
 fn push_findings(
     alloc: Global,
     blocks: &mut Vec<Block>,
@@ -181,7 +178,7 @@ fn push_findings(
     if finding.import == 0 {
         return Ok(());
     }
-    push_moral(add_paragraph(alloc, blocks)?, finding)
+    push_outcome(add_paragraph(alloc, blocks)?, finding)
 }
 
 /// All blocks, one after another.

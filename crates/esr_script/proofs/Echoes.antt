@@ -1,5 +1,5 @@
 -- A line that begins with `write `, and the same line with `wrote `.
-use Rattle.std.proofs.Common.{◌≡◌, ℕ, ◌+◌, ◌-◌, ◌<◌, List, ◌++◌, length, set, codes, refl, ap, ◌∙◌, arith, length-append}
+use Rattle.std.proofs.Common.{◌≡◌, ℕ, ◌+◌, ◌-◌, ◌<◌, List, ◌++◌, length, set, codes, refl, sym, subst, ap, ◌∙◌, arith}
 use Rattle.std.proofs.lemmas.List.{set-append_right}
 
 -- the byte at place 2 of a line that was appended
@@ -12,4 +12,4 @@ pub wrote : (line words : List ℕ) → line ≡ codes "write " ++ words → set
 wrote line words e = ap (λ l. set l 2 111) e
 
 pub is_long : (line words : List ℕ) → line ≡ codes "write " ++ words → 2 < length line
-is_long line words e = let n : length line ≡ 6 + length words = ap length e in omega (arith, n)
+is_long line words e = subst (λ l. 2 < length l) (sym e) (omega arith)

@@ -14,5 +14,5 @@ pub executed_as : {T U : Type 0} {due : Result (ScriptState × List ℕ) RunFaul
 executed_as other h = record { ok = h.ok; err = tt; faults = tt }
 
 pub failed_as : {T U : Type 0} {due : Result (ScriptState × List ℕ) RunFault} {after : ScriptState} {out grown : List ℕ} (e : RunFault)
-    → Executes {T} due after out grown (Err e) → Executes {U} due after out grown (Err e)
+    → Executes {T = T} due after out grown (Err e) → Executes {T = U} due after out grown (Err e)
 failed_as e h = record { ok = tt; err = h.err; faults = h.faults }

@@ -48,7 +48,7 @@ impl IndexedMachine {
         }
     }
 
-    /// Gives the machine an event. Reads and writes, the most frequent events, have calls of their own.
+    /// Gives the machine an event. Reads and writes, the most frequent events, have separate calls.
     #[inline(always)]
     pub fn step(&mut self, event: Event) -> Result<Reply, StepError>
         ensures reply { IfOk result (λ reply. reply ≡ reply_to weighted self.old event) }

@@ -38,8 +38,8 @@ In the nearest state, the values were:
 
 In total they were 2,000 there: the sum of the values read is off by 100.
 
-Charges are made before the outcome is known: of the 100 that it was charged,
-all were necessary.
+Charges are upper bounds, made before the outcome is known: it was charged 100
+and is off by 100.
 ";
 
 /// Lines that make no entry, a value that was undone, an item with a weight, a strict query, one that aborted and one
