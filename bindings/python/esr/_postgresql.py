@@ -83,7 +83,8 @@ class PostgreSQLStore:
         with self._guard.cursor() as cursor:
             while True:
                 cursor.execute("select pg_try_advisory_lock(hashtext('esr_bank'), hashtext(%s))", (self.table,))
-                if cursor.fetchone()[0]:
+                row = cursor.fetchone()
+                if row and row[0]:
                     return
                 if time.monotonic() >= until:
                     raise StoreInUse(f"{self.table} is open in another bank")
@@ -121,7 +122,8 @@ class PostgreSQLStore:
         connection.autocommit = True  # BEGIN and COMMIT are sent here
         with connection.cursor() as cursor:
             cursor.execute("select current_setting('synchronous_commit')")
-            if cursor.fetchone()[0] == "off":
+            row = cursor.fetchone()
+            if row and row[0] == "off":
                 cursor.execute("set synchronous_commit = on")  # a commit has to survive a crash of the server
             cursor.execute(f"set lock_timeout = '{int(min(self.patience, 10**6) * 1000)}ms'")
             cursor.execute(BACKEND)
