@@ -8,7 +8,7 @@
 
 ghost use Rattle.std.specs.Prelude.{◌≡◌, ◌≤◌, false};
 ghost use Rattle.esr_base.specs.Watch.{failed};
-ghost use Rattle.esr_cli.specs.Job.{requested_task, HasWorkers as HasItsWorkers};
+ghost use Rattle.esr_cli.specs.Job.{requested_command, HasWorkers as HasItsWorkers};
 ghost use Rattle.esr_drive.specs.Drive.{HasWorkers};
 
 use either::{Left, Right};
@@ -127,7 +127,7 @@ fn swapped<'a, R: Files>(rt: &R, task: Task<'a>, file: Option<&'a str>) -> Optio
 
 /// Returns a task with this name.
 fn with_name<'a>(task: Task<'a>, name: &'a str) -> Task<'a>
-    ensures { HasItsWorkers (requested_task task.entry) → HasItsWorkers (requested_task result) }
+    ensures { HasItsWorkers (requested_command task.entry) → HasItsWorkers (requested_command result) }
 {
     match task {
         Task::Why { .. } => Task::Why { name: Some(name) },
@@ -138,7 +138,7 @@ fn with_name<'a>(task: Task<'a>, name: &'a str) -> Task<'a>
 
 /// Accepts the operands of `why` and `timeline` in both orders.
 fn in_order<'a, R: Files>(rt: &R, job: Job<'a>) -> Job<'a>
-    ensures { HasItsWorkers (requested_task job.entry.task) → HasItsWorkers (requested_task result.task) }
+    ensures { HasItsWorkers (requested_command job.entry.task) → HasItsWorkers (requested_command result.task) }
 {
     match swapped(rt, job.task, job.file) {
         Some(Operands { name, file }) => Job {
@@ -170,7 +170,7 @@ fn do_job<'a, R: Input + Print + Eprint + Files + AllocGlobal + Clock + Threads 
     console: Console,
     job: Job<'a>,
 ) -> u8
-    requires { HasItsWorkers (requested_task job.task) }
+    requires { HasItsWorkers (requested_command job.task) }
 {
     if job.format.is_none() {
         return fail(rt, &"--format must be text, csv or json", 2);
@@ -201,7 +201,7 @@ fn do_task<
     R: Print + Eprint + Files + AllocGlobal + Clock + Threads + Wait + Sync,
     I: Read + Drop,
 >(rt: &'a R, console: Console, job: Job<'a>, source: Source<'a>, input: I) -> u8
-    requires { HasItsWorkers (requested_task job.task) }
+    requires { HasItsWorkers (requested_command job.task) }
 {
     match job.task {
         Task::Run => execute_command(rt, console, job, source, input, &RunScript),

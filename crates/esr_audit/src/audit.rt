@@ -80,7 +80,7 @@ fn find<M: Metric>(
     ensures query { IfOk result (λ f. f.query ≡ q) }
     ensures finding { IfOk result (IsFindingOf M.distance_by history.now.schedule q.0) }
 {
-    let _legal = history.log(); // brings the invariant into the proof
+    let _invariant = history.log(); // brings the invariant into the proof
     let import = history.import(q);
     let problem = problem_of(alloc, history, order, q)?;
     let certificate = certify(alloc, &problem)?;
@@ -117,7 +117,7 @@ pub fn audit_query<M: Metric>(
         → IsAnswer M.distance_by (along history.now.schedule rest) q.0 f.distance f.import
         (map (λ t. t.0) f.before.items)) }
 {
-    let _legal = history.log(); // brings the invariant into the proof
+    let _invariant = history.log(); // brings the invariant into the proof
     let order = Order::relevant(alloc, history, q)?;
     Ok(find(alloc, history, order, q)?)
 }
@@ -228,7 +228,7 @@ fn book_of<M: Metric>(alloc: Global, history: &History<M>) -> Result<Book, Audit
 pub fn history_is_sound<M: Metric>(history: &History<M>)
     ensures { IsSound M.distance_by history.now.schedule }
 {
-    let _legal = history.log(); // brings the invariant into the proof
+    let _invariant = history.log(); // brings the invariant into the proof
 }
 
 /// Audits a history: returns a serial order of its committed updates, and the finding of each committed query.

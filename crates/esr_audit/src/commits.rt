@@ -62,7 +62,7 @@ pub fn commit_lists<M: Metric>(alloc: Global, history: &History<M>) -> Result<Co
         (is_committed_query history.now.schedule t.0)) lists.queries.items) }
     ensures within_max { IfOk result (λ lists. vec_len lists.queries ≤ MAX_TRANSACTIONS) }
 {
-    let _legal = history.log(); // brings the invariant into the proof
+    let _invariant = history.log(); // brings the invariant into the proof
     let txns = committed(alloc, history)?;
     let lists = lists_among(alloc, history, txns)?;
     Ok(lists)

@@ -28,7 +28,7 @@ pub fn problem_of<M: Metric>(
     ensures is_problem { IfOk result (λ p. IsProblemOf M.distance_by history.now.schedule q.0 p) }
     ensures relevant { IfOk result (λ p. AreRelevant history.now.schedule q.0 p.updates) }
 {
-    let _legal = history.log(); // brings the invariant into the proof
+    let _invariant = history.log(); // brings the invariant into the proof
     let reads = item_reads(alloc, history, q)?;
     let chains = chains_of(alloc, history, &mut order, &reads)?;
     let (updates, before, must) = order.into_parts();

@@ -45,7 +45,7 @@ fn put<T: Drop>(slots: &mut Vec<Option<T>>, job: usize, kept: T)
 }
 
 /// Stores the results of a share at the indices of their jobs.
-fn put_in_order<M: Metric, T: From<Finding> + Drop>(
+fn place_findings<M: Metric, T: From<Finding> + Drop>(
     history: &History<M>,
     jobs: &[TxnId],
     slots: &mut Vec<Option<T>>,
@@ -140,7 +140,7 @@ fn gather<M: Metric, T: From<Finding> + Drop>(
             Ok(share) => share,
             Err(failed) => return Err(failed),
         };
-        put_in_order(history, jobs, &mut slots, share);
+        place_findings(history, jobs, &mut slots, share);
         if seats.push(seat).is_err() {
             return Err(AuditError::NoMemory);
         }

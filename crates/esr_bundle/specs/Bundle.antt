@@ -10,7 +10,7 @@ use Rattle.esr_cert.specs.Certificate.{Certificate}
 use Rattle.esr_cert.specs.Faults.{problem_fault}
 use Rattle.esr_cert.specs.declared.problem.BundleFault.{BundleFault}
 use Rattle.esr_cert.specs.declared.problem.BundleFault.TheVariants.{Shape, Range}
-use Rattle.esr_bundle.specs.Fields.{as_natural, as_naturals, pairs_of, rows_of, list_of, has_key_count, key_presence, field, optional_numbers, optional_number}
+use Rattle.esr_bundle.specs.Fields.{as_natural, as_naturals, pairs_of, rows_of, list_of, has_n_keys, present_count, field, optional_numbers, optional_number}
 
 -- ---- the tree that is written
 
@@ -85,14 +85,14 @@ abbrev pub ◌>>=◌ : {A B : Type 0} → Option A → (A → Option B) → Opti
 o >>= f = option_and_then f o
 
 abbrev pub chain_of : Data → Option Chain
-chain_of d = if has_key_count 3 d then (do
+chain_of d = if has_n_keys 3 d then (do
   costs ← field as_naturals (codes "costs") d
   item ← field as_natural (codes "item") d
   writers ← field as_naturals (codes "writers") d
   Some (record { item = item; writers = writers; costs = costs })) else None
 
 abbrev pub problem_of : Data → Option Problem
-problem_of d = if has_key_count (3 + key_presence (get (codes "must") d)) d then (do
+problem_of d = if has_n_keys (3 + present_count (get (codes "must") d)) d then (do
   before ← field pairs_of (codes "before") d
   chains ← field (list_of chain_of) (codes "chains") d
   must ← optional_numbers (get (codes "must") d)
@@ -101,7 +101,7 @@ problem_of d = if has_key_count (3 + key_presence (get (codes "must") d)) d then
 
 abbrev pub certificate_of : Data → Option Certificate
 certificate_of d =
-    if has_key_count (4 + key_presence (get (codes "augmentations") d) + key_presence (get (codes "must_flow") d)) d then (do
+    if has_n_keys (4 + present_count (get (codes "augmentations") d) + present_count (get (codes "must_flow") d)) d then (do
       augmentations ← optional_number (get (codes "augmentations") d)
       back_flow ← field as_naturals (codes "back_flow") d
       chain_flow ← field rows_of (codes "chain_flow") d
@@ -119,7 +119,7 @@ certificate_of d =
 
 -- the numbers of a bundle that has all its keys, no others, and values of the right kinds
 abbrev pub parts_of : Data → Option (Problem × Certificate)
-parts_of d = if has_key_count 2 d then (do
+parts_of d = if has_n_keys 2 d then (do
   c ← field certificate_of (codes "certificate") d
   p ← field problem_of (codes "problem") d
   Some (p, c)) else None

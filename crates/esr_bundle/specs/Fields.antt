@@ -37,12 +37,12 @@ rows_of = list_of as_naturals
 -- ---- objects, which have each key once
 
 -- an object with n keys
-abbrev pub has_key_count : ℕ → Data → Bool
-has_key_count n d = option_map_or (λ ms. members_len ms == n) (as_object d) false
+abbrev pub has_n_keys : ℕ → Data → Bool
+has_n_keys n d = option_map_or (λ ms. members_len ms == n) (as_object d) false
 
-abbrev pub key_presence : Option Data → ℕ
-key_presence None = 0
-key_presence (Some d) = 1
+abbrev pub present_count : Option Data → ℕ
+present_count None = 0
+present_count (Some d) = 1
 
 -- the value at a key, read by f
 abbrev pub field : {A : Type 0} → (Data → Option A) → List ℕ → Data → Option A

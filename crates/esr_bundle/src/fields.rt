@@ -6,7 +6,7 @@ ghost use Rattle.std.specs.Prelude.{◌≡◌, ◌≢◌, ◌≤◌, ℕ, List, 
 ghost use Rattle.serde_json.specs.Data.{Data};
 ghost use Rattle.serde_json.specs.Find.{get};
 ghost use Rattle.serde_json.specs.View.{view};
-ghost use Rattle.esr_bundle.specs.Fields.{as_natural, as_naturals, pair_of, pairs_of, list_of, has_key_count, key_presence, field, optional_numbers, optional_number};
+ghost use Rattle.esr_bundle.specs.Fields.{as_natural, as_naturals, pair_of, pairs_of, list_of, has_n_keys, present_count, field, optional_numbers, optional_number};
 
 use esr_cert::BundleFault;
 use serde_json::Value;
@@ -26,7 +26,7 @@ pub trait FromJson: Drop + Sized {
             × (decoded (view value.now) ≡ None)) };
 }
 
-fn pair(value: &Value) -> Option<(u64, u64)>
+fn decode_pair(value: &Value) -> Option<(u64, u64)>
     ensures { result ≡ pair_of (view value.now) }
 {
     let items = value.as_array()?;
@@ -56,7 +56,7 @@ impl FromJson for (u64, u64) {
     ghost decoded = { pair_of };
 
     fn decode(_alloc: Global, value: &Value) -> Result<(u64, u64), BundleFault> {
-        pair(value).ok_or(BundleFault::Shape)
+        decode_pair(value).ok_or(BundleFault::Shape)
     }
 }
 
@@ -68,12 +68,12 @@ impl FromJson for Vec<u64> {
     ghost decoded = { as_naturals };
 
     fn decode(alloc: Global, value: &Value) -> Result<Vec<u64>, BundleFault> {
-        numbers(alloc, value)
+        decode_numbers(alloc, value)
     }
 }
 
 /// Decodes a list.
-pub fn list<T: FromJson>(alloc: Global, value: &Value) -> Result<Vec<T>, BundleFault>
+pub fn decode_list<T: FromJson>(alloc: Global, value: &Value) -> Result<Vec<T>, BundleFault>
     ensures ok { IfOk result (λ v. list_of T.decoded (view value.now) ≡ Some (map T.model_of v.items)) }
     ensures err { IfErr result (λ e. e ≢ BundleFault.NoMemory → (e ≡ BundleFault.Shape)
         × (list_of T.decoded (view value.now) ≡ None)) }
@@ -92,26 +92,26 @@ pub fn list<T: FromJson>(alloc: Global, value: &Value) -> Result<Vec<T>, BundleF
 }
 
 /// Decodes a list of numbers.
-pub fn numbers(alloc: Global, value: &Value) -> Result<Vec<u64>, BundleFault>
+pub fn decode_numbers(alloc: Global, value: &Value) -> Result<Vec<u64>, BundleFault>
     ensures ok { IfOk result (λ v. as_naturals (view value.now) ≡ Some v.items) }
     ensures err { IfErr result (λ e. e ≢ BundleFault.NoMemory → (e ≡ BundleFault.Shape)
         × (as_naturals (view value.now) ≡ None)) }
 {
-    list(alloc, value)
+    decode_list(alloc, value)
 }
 
 /// Decodes a list of pairs of numbers.
-pub fn pairs(alloc: Global, value: &Value) -> Result<Vec<(u64, u64)>, BundleFault>
+pub fn decode_pairs(alloc: Global, value: &Value) -> Result<Vec<(u64, u64)>, BundleFault>
     ensures ok { IfOk result (λ v. pairs_of (view value.now) ≡ Some v.items) }
     ensures err { IfErr result (λ e. e ≢ BundleFault.NoMemory → (e ≡ BundleFault.Shape)
         × (pairs_of (view value.now) ≡ None)) }
 {
-    list(alloc, value)
+    decode_list(alloc, value)
 }
 
 /// Returns whether the value is an object with exactly `count` keys.
-pub fn has_key_count(value: &Value, count: usize) -> bool
-    ensures { result ≡ has_key_count count (view value.now) }
+pub fn has_n_keys(value: &Value, count: usize) -> bool
+    ensures { result ≡ has_n_keys count (view value.now) }
 {
     match value.as_object() {
         Some(members) => members.len() == count,
@@ -120,8 +120,8 @@ pub fn has_key_count(value: &Value, count: usize) -> bool
 }
 
 /// Returns 1 if the object has the key, and 0 otherwise.
-pub fn key_presence(value: &Value, key: &str) -> usize
-    ensures value { result ≡ key_presence (get key.now (view value.now)) }
+pub fn present_count(value: &Value, key: &str) -> usize
+    ensures value { result ≡ present_count (get key.now (view value.now)) }
     ensures at_most_one { result ≤ 1 }
 {
     match value.get(key) {
@@ -161,7 +161,7 @@ pub fn optional_numbers(alloc: Global, value: &Value, key: &str) -> Result<Vec<u
         × (optional_numbers (get key.now (view value.now)) ≡ None)) }
 {
     match value.get(key) {
-        Some(found) => numbers(alloc, found),
+        Some(found) => decode_numbers(alloc, found),
         None => Ok(Vec::new(alloc)),
     }
 }

@@ -11,8 +11,8 @@ ghost use Rattle.esr_bundle.specs.Reading.{IsTree, HasNoTree, IsReadingOf};
 
 use crate::draft::CertificateDraft;
 use crate::fields::{
-    FromJson, decode_member, has_key_count, key_presence, list, member, optional_number,
-    optional_numbers, pairs,
+    FromJson, decode_list, decode_member, decode_pairs, has_n_keys, member, optional_number,
+    optional_numbers, present_count,
 };
 use crate::sound::finish;
 use esr_cert::{BundleFault, Certificate, ChainDraft, Problem, ProblemDraft};
@@ -27,7 +27,7 @@ impl FromJson for ChainDraft {
     ghost decoded = { chain_of };
 
     fn decode(alloc: Global, value: &Value) -> Result<ChainDraft, BundleFault> {
-        if !has_key_count(value, 3) {
+        if !has_n_keys(value, 3) {
             return Err(BundleFault::Shape);
         }
         let costs = decode_member(alloc, value, "costs")?;
@@ -49,11 +49,11 @@ impl FromJson for ProblemDraft {
     ghost decoded = { problem_of };
 
     fn decode(alloc: Global, value: &Value) -> Result<ProblemDraft, BundleFault> {
-        if !has_key_count(value, 3 + key_presence(value, "must")) {
+        if !has_n_keys(value, 3 + present_count(value, "must")) {
             return Err(BundleFault::Shape);
         }
-        let before = pairs(alloc, member(value, "before")?)?;
-        let chains = list(alloc, member(value, "chains")?)?;
+        let before = decode_pairs(alloc, member(value, "before")?)?;
+        let chains = decode_list(alloc, member(value, "chains")?)?;
         let must = optional_numbers(alloc, value, "must")?;
         let updates = decode_member(alloc, value, "updates")?;
         Ok(ProblemDraft {
@@ -73,15 +73,15 @@ impl FromJson for CertificateDraft {
     ghost decoded = { certificate_of };
 
     fn decode(alloc: Global, value: &Value) -> Result<CertificateDraft, BundleFault> {
-        if !has_key_count(
+        if !has_n_keys(
             value,
-            4 + key_presence(value, "augmentations") + key_presence(value, "must_flow"),
+            4 + present_count(value, "augmentations") + present_count(value, "must_flow"),
         ) {
             return Err(BundleFault::Shape);
         }
         let augmentations = optional_number(value, "augmentations")?;
         let back_flow = decode_member(alloc, value, "back_flow")?;
-        let chain_flow = list(alloc, member(value, "chain_flow")?)?;
+        let chain_flow = decode_list(alloc, member(value, "chain_flow")?)?;
         let must_flow = optional_numbers(alloc, value, "must_flow")?;
         let set = decode_member(alloc, value, "set")?;
         let worth = decode_member(alloc, value, "worth")?;
@@ -102,7 +102,7 @@ fn parts(alloc: Global, value: &Value) -> Result<(ProblemDraft, CertificateDraft
     ensures err { IfErr result (λ e. e ≢ BundleFault.NoMemory → (e ≡ BundleFault.Shape)
         × (parts_of (view value.now) ≡ None)) }
 {
-    if !has_key_count(value, 2) {
+    if !has_n_keys(value, 2) {
         return Err(BundleFault::Shape);
     }
     let certificate = decode_member(alloc, value, "certificate")?;

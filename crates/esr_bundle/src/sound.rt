@@ -18,7 +18,7 @@ use std::alloc::Global;
 const MAX_NUMBER: u64 = 4_294_967_295;
 
 /// Converts a number to 32 bits, if it fits.
-fn position(number: u64) -> Result<u32, BundleFault>
+fn fit_position(number: u64) -> Result<u32, BundleFault>
     ensures ok { IfOk result (λ n. n ≡ number) }
     ensures fits { IsOk result → is_position number ≡ true }
     ensures err { IfErr result (λ e. (e ≡ BundleFault.Range) × (is_position number ≡ false)) }
@@ -60,7 +60,7 @@ impl Fitted for u32 {
     ghost is_fit = { is_position };
 
     fn of(_alloc: Global, draft: &u64) -> Result<u32, BundleFault> {
-        position(*draft)
+        fit_position(*draft)
     }
 }
 
@@ -76,7 +76,7 @@ impl Fitted for TxnId {
     ghost is_fit = { is_position };
 
     fn of(_alloc: Global, draft: &u64) -> Result<TxnId, BundleFault> {
-        Ok(TxnId(position(*draft)?))
+        Ok(TxnId(fit_position(*draft)?))
     }
 }
 
@@ -92,7 +92,7 @@ impl Fitted for (u32, u32) {
     ghost is_fit = { is_pair_of_positions };
 
     fn of(_alloc: Global, draft: &(u64, u64)) -> Result<(u32, u32), BundleFault> {
-        Ok((position(draft.0)?, position(draft.1)?))
+        Ok((fit_position(draft.0)?, fit_position(draft.1)?))
     }
 }
 
@@ -108,8 +108,8 @@ impl Fitted for Chain {
     ghost is_fit = { is_chain_of_positions };
 
     fn of(alloc: Global, draft: &ChainDraft) -> Result<Chain, BundleFault> {
-        let item = position(draft.item)?;
-        let writers = positions(alloc, &draft.writers)?;
+        let item = fit_position(draft.item)?;
+        let writers = fit_positions(alloc, &draft.writers)?;
         let costs = draft.costs.to_vec(alloc)?;
         Ok(Chain {
             item: ItemId(item),
@@ -120,7 +120,7 @@ impl Fitted for Chain {
 }
 
 /// Converts a list of drafts.
-fn list<T: Fitted>(alloc: Global, drafts: &[T::Draft]) -> Result<Vec<T>, BundleFault>
+fn fit_list<T: Fitted>(alloc: Global, drafts: &[T::Draft]) -> Result<Vec<T>, BundleFault>
     ensures ok { IfOk result (λ v. map T.model_of v.items ≡ map T.drafted drafts.now) }
     ensures fits { IsOk result → list_all T.is_fit (map T.drafted drafts.now) ≡ true }
     ensures err { IfErr result (λ e. e ≢ BundleFault.NoMemory → (e ≡ BundleFault.Range)
@@ -136,13 +136,13 @@ fn list<T: Fitted>(alloc: Global, drafts: &[T::Draft]) -> Result<Vec<T>, BundleF
     Ok(found)
 }
 
-fn positions(alloc: Global, numbers: &[u64]) -> Result<Vec<u32>, BundleFault>
+fn fit_positions(alloc: Global, numbers: &[u64]) -> Result<Vec<u32>, BundleFault>
     ensures ok { IfOk result (λ v. v.items ≡ numbers.now) }
     ensures fits { IsOk result → list_all is_position numbers.now ≡ true }
     ensures err { IfErr result (λ e. e ≢ BundleFault.NoMemory → (e ≡ BundleFault.Range)
         × (list_all is_position numbers.now ≡ false)) }
 {
-    list(alloc, numbers)
+    fit_list(alloc, numbers)
 }
 
 /// Converts the draft of a problem, which satisfies the rules of shape, to parts. A number that does not fit its type
@@ -152,10 +152,10 @@ fn parts_of(alloc: Global, draft: &ProblemDraft) -> Result<ProblemParts, BundleF
     ensures ok { IfOk result (λ parts. views.problem_by parts ≡ drafted_problem draft.now) }
     ensures err { IfErr result (λ e. e ≢ BundleFault.NoMemory → problem_fault (drafted_problem draft.now) ≡ Some e) }
 {
-    let updates = list(alloc, &draft.updates)?;
-    let before = list(alloc, &draft.before)?;
-    let chains = list(alloc, &draft.chains)?;
-    let must = positions(alloc, &draft.must)?;
+    let updates = fit_list(alloc, &draft.updates)?;
+    let before = fit_list(alloc, &draft.before)?;
+    let chains = fit_list(alloc, &draft.chains)?;
+    let must = fit_positions(alloc, &draft.must)?;
     Ok(ProblemParts {
         updates,
         before,
@@ -189,7 +189,7 @@ pub fn finish(
         → judged (drafted_problem draft, drafted_certificate certificate) ≡ Err e) }
 {
     let problem = problem(alloc, &draft)?;
-    let set = positions(alloc, &certificate.set)?;
+    let set = fit_positions(alloc, &certificate.set)?;
     let certificate = Certificate {
         set,
         chain_flow: certificate.chain_flow,

@@ -58,7 +58,7 @@ impl Written for Vec<u64> {
     ghost model_of = { λ row. numbers_data row.items };
 
     fn tree(&self, alloc: Global) -> Result<Value, AllocError> {
-        list(alloc, self)
+        list_tree(alloc, self)
     }
 }
 
@@ -66,14 +66,14 @@ impl Written for Chain {
     ghost model_of = { λ chain. chain_data (views.chain_of chain) };
 
     fn tree(&self, alloc: Global) -> Result<Value, AllocError> {
-        let costs = list(alloc, &self.costs)?;
-        let writers = list(alloc, &self.writers)?;
+        let costs = list_tree(alloc, &self.costs)?;
+        let writers = list_tree(alloc, &self.writers)?;
         json!(in alloc; {"costs": costs, "item": self.item.0, "writers": writers})
     }
 }
 
 /// Returns the JSON value of a list.
-fn list<T: Written>(alloc: Global, list: &[T]) -> Result<Value, AllocError>
+fn list_tree<T: Written>(alloc: Global, list: &[T]) -> Result<Value, AllocError>
     ensures { IfOk result (λ v. view v ≡ array (items_of (map T.model_of list.now))) }
 {
     let mut items = Vec::with_capacity(alloc, list.len())?;
@@ -96,7 +96,7 @@ fn put_list<T: Written>(
     if these.is_empty() {
         return Ok(());
     }
-    put(members, alloc, key, list(alloc, these)?)
+    put(members, alloc, key, list_tree(alloc, these)?)
 }
 
 /// Inserts the number at the key, if there is one.
@@ -123,20 +123,20 @@ fn problem(alloc: Global, problem: &Problem) -> Result<Value, AllocError>
         &mut members,
         alloc,
         "before",
-        list(alloc, problem.before())?,
+        list_tree(alloc, problem.before())?,
     )?;
     put(
         &mut members,
         alloc,
         "chains",
-        list(alloc, problem.chains())?,
+        list_tree(alloc, problem.chains())?,
     )?;
     put_list(&mut members, alloc, "must", problem.must())?;
     put(
         &mut members,
         alloc,
         "updates",
-        list(alloc, problem.updates())?,
+        list_tree(alloc, problem.updates())?,
     )?;
     Ok(Value::Object(members))
 }
@@ -155,16 +155,21 @@ fn certificate(alloc: Global, certificate: &Certificate) -> Result<Value, AllocE
         &mut members,
         alloc,
         "back_flow",
-        list(alloc, &certificate.back_flow)?,
+        list_tree(alloc, &certificate.back_flow)?,
     )?;
     put(
         &mut members,
         alloc,
         "chain_flow",
-        list(alloc, &certificate.chain_flow)?,
+        list_tree(alloc, &certificate.chain_flow)?,
     )?;
     put_list(&mut members, alloc, "must_flow", &certificate.must_flow)?;
-    put(&mut members, alloc, "set", list(alloc, &certificate.set)?)?;
+    put(
+        &mut members,
+        alloc,
+        "set",
+        list_tree(alloc, &certificate.set)?,
+    )?;
     put(&mut members, alloc, "worth", Value::from(certificate.worth))?;
     Ok(Value::Object(members))
 }

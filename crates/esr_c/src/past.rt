@@ -33,7 +33,7 @@ pub(crate) fn transactions(alloc: Global, engine: &EmbeddedEngine) -> Result<Nam
     ensures ok { IfOk result (λ transactions. transactions ≡ transaction_names (transaction_count engine.now)) }
     ensures err { IfErr result (λ e. e ≡ Status.NoMemory) }
 {
-    let _legal = engine.history(); // brings the invariant into the proof
+    let _invariant = engine.history(); // brings the invariant into the proof
     let transaction_count = engine.counts().transactions as u32;
     match transaction_names(alloc, transaction_count) {
         Ok(names) => Ok(names),

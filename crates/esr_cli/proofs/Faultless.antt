@@ -15,7 +15,7 @@ use Rattle.clap.specs.Faults.{check_fault, defaults_fault, entered_fault, fault_
 use Rattle.clap.proofs.OnLiterals.{clap_on_literals}
 use Rattle.esr_cli.specs.Job as asked
 use Rattle.esr_cli.specs.ArgumentRules.{as_script_rule, bail_rule, file_rule, format_rule, name_rule, no_progress_rule, program, progress_rule, with_name, workers_rule, worst_rule}
-use Rattle.esr_cli.specs.Job.{HasWorkers, Request, RequestedTask, flag_in, number_in, request_in, request_of, requested, count_in, task_in, requested_task}
+use Rattle.esr_cli.specs.Job.{HasWorkers, Request, RequestedCommand, flag_in, parsed_number, request_in, request_of, requested, number_option, task_in, requested_command}
 use Rattle.esr_cli.specs.declared.Job.{Job}
 use Rattle.esr_cli.proofs.Entered.{audit_shape, certify_shape, drive_shape, explain_shape, page_shape, shrink_shape}
 use Rattle.esr_cli.proofs.Rows.{HasFirst, IsFit, default_there, first_passes, given_there, has_text, level_good}
@@ -112,7 +112,7 @@ worst_fit = record {
 
 -- a request has workers, if its task has any
 abbrev pub HasItsWorkers : Request → Type 0
-HasItsWorkers r = HasWorkers r.work
+HasItsWorkers r = HasWorkers r.command
 
 -- if the arguments of the subcommand have no fault, they form a request
 abbrev IsServed : Shape → Type 0
@@ -140,11 +140,11 @@ name_is_given : (name : Text) (rows : List Row) → check_fault (named_shape nam
 name_is_given name rows none = must_be_given (is_given (codes "NAME") rows) none
 
 -- a name that is found, of which work is made
-one_named : (ask : Text → RequestedTask) (rows : List Row) (name : Text) → ((t : Text) → HasWorkers (ask t)) → first_of (codes "NAME") rows ≡ Some name
+one_named : (ask : Text → RequestedCommand) (rows : List Row) (name : Text) → ((t : Text) → HasWorkers (ask t)) → first_of (codes "NAME") rows ≡ Some name
     → IsSomeAnd (option_map (requested rows) (option_map ask (first_of (codes "NAME") rows))) HasItsWorkers
 one_named ask rows name within found = rw found (within name)
 
-named_served : (name : Text) → (ask : Text → RequestedTask) → ((t : Text) → HasWorkers (ask t))
+named_served : (name : Text) → (ask : Text → RequestedCommand) → ((t : Text) → HasWorkers (ask t))
     → ((rows : List Row) → task_in name rows ≡ option_map ask (first_of (codes "NAME") rows)) → IsServed (named_shape name)
 named_served name ask within asks words none =
     let s = named_shape name in
@@ -181,21 +181,21 @@ shrink_served words none =
     (level_good (codes "NAME") (λ _. true) shrink_shape words
     (query_fit, (other_fit _ _ _ refl, (other_fit _ _ _ refl, (other_fit _ _ _ refl, (other_fit _ _ _ refl, (other_fit _ _ _ refl, (other_fit _ _ _ refl, tt))))))) none)
     (given_there (codes "NAME") rows (must_be_given (is_given (codes "NAME") rows) (check_none shrink_shape words none))) in
-    one_named (λ name. asked.shrink name (count_in (codes "at-least") rows)) rows given.text (λ t. tt) given.first
+    one_named (λ name. asked.shrink name (number_option (codes "at-least") rows)) rows given.text (λ t. tt) given.first
 
 -- a number that is read as it stands
 pub number : (text : Text) → is_unsigned_in 1 64 text ≡ true
-    → (number_in text ≡ Some (digits_value 10 (without_leading_plus text))) × (1 ≤ digits_value 10 (without_leading_plus text)) × (digits_value 10 (without_leading_plus text) ≤ 64)
+    → (parsed_number text ≡ Some (digits_value 10 (without_leading_plus text))) × (1 ≤ digits_value 10 (without_leading_plus text)) × (digits_value 10 (without_leading_plus text) ≤ 64)
 number text passes =
     let fits = accepts-Accepts false (Unsigned 1 64) text passes in
     let wide : is_unsigned_in 0 18446744073709551615 text ≡ true = Accepts-accepts false (Unsigned 0 18446744073709551615) text (fits.0, fits.1, omega arith, omega arith) in
     (rw wide refl, fits.2, fits.3)
 
-count_served : (option : Text) (ask : ℕ → RequestedTask) (rows : List Row) (text : Text) → ((n : ℕ) → 1 ≤ n → n ≤ 64 → HasWorkers (ask n)) → one_of option rows ≡ Some text → is_unsigned_in 1 64 text ≡ true
-    → IsSomeAnd (option_map (requested rows) (option_map ask (count_in option rows))) HasItsWorkers
+count_served : (option : Text) (ask : ℕ → RequestedCommand) (rows : List Row) (text : Text) → ((n : ℕ) → 1 ≤ n → n ≤ 64 → HasWorkers (ask n)) → one_of option rows ≡ Some text → is_unsigned_in 1 64 text ≡ true
+    → IsSomeAnd (option_map (requested rows) (option_map ask (number_option option rows))) HasItsWorkers
 count_served option ask rows text within one passes =
     let read = number text passes in
-    let counted : count_in option rows ≡ Some (digits_value 10 (without_leading_plus text)) = rw one read.0 in
+    let counted : number_option option rows ≡ Some (digits_value 10 (without_leading_plus text)) = rw one read.0 in
     rw counted (within _ read.1 read.2)
 
 -- the rows with the defaults of what each command that reads a script takes first
@@ -322,10 +322,10 @@ found_by_program app words m is has = (has (ap is_simple is ∙ known)).1 ∙ ap
 
 -- so a job is found in them, and it has workers
 pub job_found : (o : Option Job) (words : List Text) (m : ArgMatches) → option_map request_of o ≡ request_in (subcommand_rows_of m) → subcommand_rows_of m ≡ subcommand_of program words
-    → fault_of program words ≡ [] → IsSomeAnd o (λ job. (request_in (subcommand_of program words) ≡ Some (request_of job)) × HasWorkers (requested_task job.task))
+    → fault_of program words ≡ [] → IsSomeAnd o (λ job. (request_in (subcommand_of program words) ≡ Some (request_of job)) × HasWorkers (requested_command job.task))
 job_found o words m is found none = go o (is ∙ ap request_in found) (faultless_requests words none)
   where
     go : (o : Option Job) → option_map request_of o ≡ request_in (subcommand_of program words) → IsSomeAnd (request_in (subcommand_of program words)) HasItsWorkers
-        → IsSomeAnd o (λ job. (request_in (subcommand_of program words) ≡ Some (request_of job)) × HasWorkers (requested_task job.task))
+        → IsSomeAnd o (λ job. (request_in (subcommand_of program words) ≡ Some (request_of job)) × HasWorkers (requested_command job.task))
     go None same some = absurd (subst (λ r. IsSomeAnd r HasItsWorkers) (sym same) some)
     go (Some job) same some = (sym same, subst (λ r. IsSomeAnd r HasItsWorkers) (sym same) some)

@@ -17,7 +17,7 @@ use Rattle.clap.specs.declared.error.Error.{Error}
 use Rattle.clap.specs.declared.error.kind.ErrorKind.TheVariants as kind
 use Rattle.esr_cli.specs.Job as asked
 use Rattle.esr_cli.specs.ArgumentRules.{program}
-use Rattle.esr_cli.specs.Job.{IsSyntaxOfTask, IsCall, IsCount, IsFile, IsPlainWord, Request, IsSyntaxOf, RequestedTask, file_words, flag_words, number_in, request_in, request_of}
+use Rattle.esr_cli.specs.Job.{IsSyntaxOfTask, IsArgv, IsNumberOption, IsFile, IsPlainWord, Request, IsSyntaxOf, RequestedCommand, file_words, flag_words, parsed_number, request_in, request_of}
 use Rattle.esr_cli.specs.declared.Job.{Job}
 use Rattle.esr_cli.specs.declared.Format.TheVariants.{Text as Plain}
 use Rattle.esr_cli.specs.declared.Progress.TheVariants.{AtATerminal}
@@ -26,9 +26,9 @@ use Rattle.esr_cli.proofs.WalksTo.{IsOperand, WalksTo, at_end, after_operand, fa
 use Rattle.esr_cli.proofs.Faultless.{number}
 
 -- the request without the other options
-abbrev plainly : RequestedTask → Option Text → Bool → Request
-plainly work file bail =
-    record { work = work; file = file; bail = bail; progress = AtATerminal; format = Some Plain }
+abbrev plainly : RequestedCommand → Option Text → Bool → Request
+plainly command file bail =
+    record { command = command; file = file; bail = bail; progress = AtATerminal; format = Some Plain }
 
 -- the arguments have no fault, and form this request
 abbrev IsTaken : List Text → Request → Type 0
@@ -37,7 +37,7 @@ IsTaken words wanted = (fault_of program words ≡ []) × (request_in (subcomman
 abbrev AreTaken : List Text → Request → Type 0
 AreTaken rest wanted = (name : Text) → IsTaken (name ∷ rest) wanted
 
-called : (words rest : List Text) (wanted : Request) → IsCall words rest → AreTaken rest wanted → IsTaken words wanted
+called : (words rest : List Text) (wanted : Request) → IsArgv words rest → AreTaken rest wanted → IsTaken words wanted
 called words rest wanted (name, is) taken = subst (λ w. IsTaken w wanted) (sym is) (taken name)
 
 not_dashes : (word : Text) → strip_byte 45 word ≡ None → bytes_eq word (45 ∷ 45 ∷ []) ≡ false
@@ -65,8 +65,8 @@ remainder word s is rest to wanted leads none asks name = (
 )
 
 -- a task with a number that is read unchanged
-counted : (ask : ℕ → RequestedTask) (text : Text) (file : Option Text) (bail : Bool) → is_unsigned_in 1 64 text ≡ true
-    → option_map {U = Request} (λ work. plainly work file bail) (option_map ask (number_in text))
+counted : (ask : ℕ → RequestedCommand) (text : Text) (file : Option Text) (bail : Bool) → is_unsigned_in 1 64 text ≡ true
+    → option_map {U = Request} (λ command. plainly command file bail) (option_map ask (parsed_number text))
     ≡ Some (plainly (ask (digits_value 10 (without_leading_plus text))) file bail)
 counted ask text file bail passes = rw (number text passes).0 refl
 
@@ -288,7 +288,7 @@ drive true (Some file) plain =
 
 -- work of a number of workers, written as a script or not
 counted_drive : (script : Bool) (text : Text) (file : Option Text) → is_unsigned_in 1 64 text ≡ true
-    → option_map {U = Request} (λ work. plainly work file false) (option_map (λ n. asked.drive n script) (number_in text))
+    → option_map {U = Request} (λ command. plainly command file false) (option_map (λ n. asked.drive n script) (parsed_number text))
     ≡ Some (plainly (asked.drive (digits_value 10 (without_leading_plus text)) script) file false)
 counted_drive script text file passes = rw (number text passes).0 refl
 
@@ -337,13 +337,13 @@ plain_number (x ∷ xs) passes = go (x == 45) refl
     go false is = refl
 
 -- the arguments that follow the subcommand, with this count
-with_count : (option : Text) (usual n : ℕ) (own : List Text) (Taken : List Text → ℕ → Type 0) → IsCount option usual n own → Taken [] usual
+with_count : (option : Text) (default_value n : ℕ) (own : List Text) (Taken : List Text → ℕ → Type 0) → IsNumberOption option default_value n own → Taken [] default_value
     → ((text : Text) → is_unsigned_in 1 64 text ≡ true → Taken (option ∷ text ∷ []) (digits_value 10 (without_leading_plus text))) → Taken own n
-with_count option usual n own Taken (inl (is, none)) plain counted = rw (is, none) plain
-with_count option usual n own Taken (inr (text, passes, is, words)) plain counted = rw (is, words) (counted text passes)
+with_count option default_value n own Taken (inl (is, none)) plain counted = rw (is, none) plain
+with_count option default_value n own Taken (inr (text, passes, is, words)) plain counted = rw (is, words) (counted text passes)
 
-taken : (words : List Text) (work : RequestedTask) (file : Option Text) (bail : Bool) → IsSyntaxOfTask work (plainly work file bail) words
-    → IsTaken words (plainly work file bail)
+taken : (words : List Text) (command : RequestedCommand) (file : Option Text) (bail : Bool) → IsSyntaxOfTask command (plainly command file bail) words
+    → IsTaken words (plainly command file bail)
 taken words asked.run file bail (named, call) = called words _ _ call (run bail file named)
 taken words (asked.certify query false) file bail (plain, (named, call)) =
     called words _ _ call (certify query bail file (plain_operand query plain) named)
@@ -384,14 +384,14 @@ taken words asked.lint file bail (named, none, call) = rw none (called words _ _
 
 taken_as : (words : List Text) (wanted : Request) → IsSyntaxOf words wanted → IsTaken words wanted
 taken_as words wanted (progress, format, is) =
-    let same : plainly wanted.work wanted.file wanted.bail ≡ wanted = λ i. record {
-      work = wanted.work;
+    let same : plainly wanted.command wanted.file wanted.bail ≡ wanted = λ i. record {
+      command = wanted.command;
       file = wanted.file;
       bail = wanted.bail;
       progress = sym progress i;
       format = sym format i;
     } in
-    subst (IsTaken words) same (taken words wanted.work wanted.file wanted.bail (subst (λ r. IsSyntaxOfTask wanted.work r words) (sym same) is))
+    subst (IsTaken words) same (taken words wanted.command wanted.file wanted.bail (subst (λ r. IsSyntaxOfTask wanted.command r words) (sym same) is))
 
 -- parsing arguments that form a job fails only if an allocation fails
 pub parsed : (r : Result Job Error) (words : List Text) (wanted : Request) → IsSyntaxOf words wanted → FailsBy (fault_of program words) r

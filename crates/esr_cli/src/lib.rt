@@ -12,7 +12,7 @@ ghost use Rattle.clap.specs.Words.{subcommand_of, subcommand_rows_of, FailsBy};
 ghost use Rattle.clap.specs.Walk.{texts};
 ghost use Rattle.clap.specs.declared.error.kind.ErrorKind.TheVariants.{OutOfMemory};
 ghost use Rattle.esr_cli.specs.ArgumentRules.{program};
-ghost use Rattle.esr_cli.specs.Job.{certify_in, check_in, count_in, drive_in, explain_in, explore_in, flag_in, format_in, format_of_name, progress_in, request_in, request_in_one, request_of, requested, shrink_in, task_in, requested_task, HasWorkers, IsSyntaxOf};
+ghost use Rattle.esr_cli.specs.Job.{certify_in, check_in, number_option, drive_in, explain_in, explore_in, flag_in, format_in, format_of_name, progress_in, request_in, request_of_command, request_of, requested, shrink_in, task_in, requested_command, HasWorkers, IsSyntaxOf};
 
 mod commands;
 mod help;
@@ -148,7 +148,7 @@ fn flag(given: &ArgMatches<'_>, id: &str) -> bool
 
 /// Returns the number passed to an option.
 fn count(given: &ArgMatches<'_>, id: &str) -> Option<u64>
-    ensures { result ≡ count_in id.now (rows_of (found_of given.now)) }
+    ensures { result ≡ number_option id.now (rows_of (found_of given.now)) }
 {
     given.get_one::<u64>(id)
 }
@@ -190,7 +190,7 @@ fn asked_progress(given: &ArgMatches<'_>) -> Progress
 }
 
 fn certify_task<'a>(given: &ArgMatches<'a>) -> Option<Task<'a>>
-    ensures { option_map requested_task result ≡ certify_in (rows_of (found_of given.now)) }
+    ensures { option_map requested_command result ≡ certify_in (rows_of (found_of given.now)) }
 {
     let name = text(given, "NAME")?;
     Some(Task::Certify {
@@ -200,7 +200,7 @@ fn certify_task<'a>(given: &ArgMatches<'a>) -> Option<Task<'a>>
 }
 
 fn explain_task<'a>(given: &ArgMatches<'a>) -> Option<Task<'a>>
-    ensures { option_map requested_task result ≡ explain_in (rows_of (found_of given.now)) }
+    ensures { option_map requested_command result ≡ explain_in (rows_of (found_of given.now)) }
 {
     let name = text(given, "NAME")?;
     Some(Task::Explain {
@@ -210,7 +210,7 @@ fn explain_task<'a>(given: &ArgMatches<'a>) -> Option<Task<'a>>
 }
 
 fn check_task<'a>(given: &ArgMatches<'a>) -> Task<'a>
-    ensures { requested_task result ≡ check_in (rows_of (found_of given.now)) }
+    ensures { requested_command result ≡ check_in (rows_of (found_of given.now)) }
 {
     Task::Check {
         script: text(given, "script"),
@@ -220,7 +220,7 @@ fn check_task<'a>(given: &ArgMatches<'a>) -> Task<'a>
 }
 
 fn drive_task<'a>(given: &ArgMatches<'a>) -> Option<Task<'a>>
-    ensures { option_map requested_task result ≡ drive_in (rows_of (found_of given.now)) }
+    ensures { option_map requested_command result ≡ drive_in (rows_of (found_of given.now)) }
 {
     let workers = count(given, "workers")?;
     Some(Task::Drive {
@@ -230,7 +230,7 @@ fn drive_task<'a>(given: &ArgMatches<'a>) -> Option<Task<'a>>
 }
 
 fn explore_task<'a>(given: &ArgMatches<'a>) -> Task<'a>
-    ensures { requested_task result ≡ explore_in (rows_of (found_of given.now)) }
+    ensures { requested_command result ≡ explore_in (rows_of (found_of given.now)) }
 {
     Task::Explore {
         seeds: count(given, "seeds"),
@@ -240,7 +240,7 @@ fn explore_task<'a>(given: &ArgMatches<'a>) -> Task<'a>
 }
 
 fn shrink_task<'a>(given: &ArgMatches<'a>) -> Option<Task<'a>>
-    ensures { option_map requested_task result ≡ shrink_in (rows_of (found_of given.now)) }
+    ensures { option_map requested_command result ≡ shrink_in (rows_of (found_of given.now)) }
 {
     let name = text(given, "NAME")?;
     Some(Task::Shrink {
@@ -250,7 +250,7 @@ fn shrink_task<'a>(given: &ArgMatches<'a>) -> Option<Task<'a>>
 }
 
 fn task_of<'a>(name: &str, given: &ArgMatches<'a>) -> Option<Task<'a>>
-    ensures { option_map requested_task result ≡ task_in name.now (rows_of (found_of given.now)) }
+    ensures { option_map requested_command result ≡ task_in name.now (rows_of (found_of given.now)) }
 {
     match name {
         "run" => Some(Task::Run),
@@ -284,7 +284,7 @@ fn task_of<'a>(name: &str, given: &ArgMatches<'a>) -> Option<Task<'a>>
 
 /// Returns the job of a task, with the options that all tasks share.
 fn with_options<'a>(task: Task<'a>, given: &ArgMatches<'a>) -> Job<'a>
-    ensures { request_of result ≡ requested (rows_of (found_of given.now)) (requested_task task.entry) }
+    ensures { request_of result ≡ requested (rows_of (found_of given.now)) (requested_command task.entry) }
 {
     Job {
         task,
@@ -297,7 +297,7 @@ fn with_options<'a>(task: Task<'a>, given: &ArgMatches<'a>) -> Job<'a>
 
 /// Returns the job of a subcommand and its matches.
 fn job_in<'a>(name: &str, given: &ArgMatches<'a>) -> Option<Job<'a>>
-    ensures { option_map request_of result ≡ request_in_one name.now (rows_of (found_of given.now)) }
+    ensures { option_map request_of result ≡ request_of_command name.now (rows_of (found_of given.now)) }
 {
     let task = task_of(name, given)?;
     Some(with_options(task, given))
@@ -318,7 +318,7 @@ fn job_of<'a>(matches: &ArgMatches<'a>) -> Option<Job<'a>>
 pub fn command<'a>(alloc: Global, words: &'a [&'a str]) -> Result<Job<'a>, Error>
     ensures job { IfOk result (λ job.
         request_in (subcommand_of program (texts words.entry.now)) ≡ Some (request_of job)) }
-    ensures workers { IfOk result (λ job. HasWorkers (requested_task job.task)) }
+    ensures workers { IfOk result (λ job. HasWorkers (requested_command job.task)) }
     ensures errors { FailsBy (fault_of program (texts words.entry.now)) result }
     ensures asked { (request : _) → IsSyntaxOf (texts words.entry.now) request
         → MatchResult result (λ job. request_of job ≡ request) (λ e. kind_of e ≡ OutOfMemory) }

@@ -71,7 +71,7 @@ pub fn claim_of(
 {
     match from_json(alloc, bytes) {
         Ok((problem, certificate)) => {
-            let _legal = asked.history.log(); // brings the history's legality into the proof
+            let _invariant = asked.history.log(); // brings the history's legality into the proof
             let _sound = asked.finding.problem.updates(); // and that the problem is sound
             Ok(claim_on(&asked.finding.problem, &problem, &certificate))
         }

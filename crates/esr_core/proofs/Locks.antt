@@ -14,7 +14,7 @@ use Rattle.esr_history.specs.Machine.{writer}
 use Rattle.esr_history.specs.ItemLocks.{ItemLocks, query_reads, item_locks, locks_of}
 use Rattle.esr_history.specs.WellFormed.{IsWellFormed}
 use Rattle.esr_history.specs.Ascending.{upserted, IsSmallest}
-use Rattle.esr_history.proofs.Lists.{any_push, any_push_no, find_least, filter_map_push_none, find_some, or_false}
+use Rattle.esr_history.proofs.Lists.{any_push, any_push_no, find_least, filter_map_push_none, found_satisfies, or_false}
 use Rattle.esr_history.proofs.Charges.{range-push}
 use Rattle.esr_history.proofs.WellFormed.{active_parts, update_begun}
 use Rattle.esr_history.proofs.LegalWellFormed.{begun_in_range}
@@ -27,8 +27,8 @@ use Rattle.esr_core.proofs.Held.{is_active-unchanged, held-begin, IsBegin, txn_n
 use Rattle.std.proofs.lemmas.Grind.{common_steps}
 
 -- whether update u is active and has written (read) item x, and so holds its lock
-abbrev update_holds_write : List Event → ℕ → ℕ → Bool
-update_holds_write events x u = is_update events u && holds_write events u x
+abbrev is_update_writer : List Event → ℕ → ℕ → Bool
+is_update_writer events x u = is_update events u && holds_write events u x
 
 abbrev update_holds_read : List Event → ℕ → ℕ → Bool
 update_holds_read events x u = is_update events u && holds_read events u x
@@ -49,31 +49,31 @@ filter_map_agree f g same (u ∷ us) = rw (same u, filter_map_agree f g same us)
 
 module _ (events : List Event) (o : IsWellFormed events) where
   -- at most one update holds the write lock on an item
-  pub one_writer : (x u v : ℕ) → update_holds_write events x u ≡ true → update_holds_write events x v ≡ true → u ≡ v
+  pub one_writer : (x u v : ℕ) → is_update_writer events x u ≡ true → is_update_writer events x v ≡ true → u ≡ v
   one_writer x u v is_u is_v =
       same_Some u v (sym (o.exclusive u x (and_parts (is_update events u) (holds_write events u x) is_u).1) ∙ o.exclusive v x (and_parts (is_update events v) (holds_write events v x) is_v).1)
 
-  writer_in_range : (x u : ℕ) → update_holds_write events x u ≡ true → (1 ≤ u) × (u < 1 + length (begin_records events))
+  writer_in_range : (x u : ℕ) → is_update_writer events x u ≡ true → (1 ≤ u) × (u < 1 + length (begin_records events))
   writer_in_range x u is = holder_in_range events u (list_any (writes u x) events) (and_parts (is_update events u) (holds_write events u x) is).1
 
   -- the holder of the write lock is found
-  pub writer_found : (x u : ℕ) → update_holds_write events x u ≡ true → writer events x ≡ Some u
+  pub writer_found : (x u : ℕ) → is_update_writer events x u ≡ true → writer events x ≡ Some u
   writer_found x u is =
-      find_least (update_holds_write events x) (length (begin_records events)) (Some u)
-      (is, λ v l. false_from_ne_true (update_holds_write events x v) (λ is_v. let e : v ≡ u = one_writer x v u is_v is in omega arith))
+      find_least (is_update_writer events x) (length (begin_records events)) (Some u)
+      (is, λ v l. false_from_ne_true (is_update_writer events x v) (λ is_v. let e : v ≡ u = one_writer x v u is_v is in omega arith))
       (writer_in_range x)
 
   -- the field `writer` of the locks of an item is the update that holds the write lock
-  pub writer_is : (x u : ℕ) → is_writer (item_locks events x) u ≡ update_holds_write events x u
+  pub writer_is : (x u : ℕ) → is_writer (item_locks events x) u ≡ is_update_writer events x u
   writer_is x u =
-      elim (cases_Bool (update_holds_write events x u)) [
+      elim (cases_Bool (is_update_writer events x u)) [
         | inl is ↦ rw (writer_found x u is) (eq-eqb u u refl ∙ sym is)
         | inr isnt ↦ false_from_ne_true (is_writer (item_locks events x) u) (λ it. false≢true (sym isnt ∙ found (writer events x) refl it)) ∙ sym isnt
       ]
     where
-      found : (w : Option ℕ) → writer events x ≡ w → unwrap_or (option_map (λ v. v == u) w) false ≡ true → update_holds_write events x u ≡ true
+      found : (w : Option ℕ) → writer events x ≡ w → unwrap_or (option_map (λ v. v == u) w) false ≡ true → is_update_writer events x u ≡ true
       found None is it = absurd (false≢true it)
-      found (Some v) is it = ap (update_holds_write events x) (sym (eqb-true v u it)) ∙ find_some (update_holds_write events x) (txn_numbers events) v is
+      found (Some v) is it = ap (is_update_writer events x) (sym (eqb-true v u it)) ∙ found_satisfies (is_update_writer events x) (txn_numbers events) v is
 
   pub reader_is : (x u : ℕ) → is_reader (item_locks events x) u ≡ update_holds_read events x u
   reader_is x u =
@@ -85,13 +85,13 @@ module _ (events : List Event) (o : IsWellFormed events) where
       ]
 
   -- the search over all transactions finds the update that blocks a read
-  pub find_read_blocker : (t x : ℕ) (r : Option ℕ) → IsSmallest (blocks_read (item_locks events x) t) r → find (λ u. not (u == t) && update_holds_write events x u) (txn_numbers events) ≡ r
+  pub find_read_blocker : (t x : ℕ) (r : Option ℕ) → IsSmallest (blocks_read (item_locks events x) t) r → find (λ u. not (u == t) && is_update_writer events x u) (txn_numbers events) ≡ r
   find_read_blocker t x r least =
-      find_least (λ u. not (u == t) && update_holds_write events x u) (length (begin_records events)) r
-      (IsSmallest-extensional (blocks_read (item_locks events x) t) (λ u. not (u == t) && update_holds_write events x u) r (λ u. ap (λ b. not (u == t) && b) (writer_is x u)) least)
-      (λ u is. writer_in_range x u (and_parts (not (u == t)) (update_holds_write events x u) is).1)
+      find_least (λ u. not (u == t) && is_update_writer events x u) (length (begin_records events)) r
+      (IsSmallest-extensional (blocks_read (item_locks events x) t) (λ u. not (u == t) && is_update_writer events x u) r (λ u. ap (λ b. not (u == t) && b) (writer_is x u)) least)
+      (λ u is. writer_in_range x u (and_parts (not (u == t)) (is_update_writer events x u) is).1)
 
-  holds_either_lock : (u x : ℕ) → (update_holds_read events x u || update_holds_write events x u) ≡ (is_update events u && (holds_read events u x || holds_write events u x))
+  holds_either_lock : (u x : ℕ) → (update_holds_read events x u || is_update_writer events x u) ≡ (is_update events u && (holds_read events u x || holds_write events u x))
   holds_either_lock u x = grind (arith, common_steps)
 
   pub find_write_blocker : (t x : ℕ) (r : Option ℕ) → IsSmallest (blocks_write (item_locks events x) t) r → find (λ u. not (u == t) && (is_update events u && (holds_read events u x || holds_write events u x))) (txn_numbers events) ≡ r
@@ -108,10 +108,10 @@ locks_congruent : (w v : Option ℕ) (r s : List ℕ) (q p : List (ℕ × ℕ)) 
 locks_congruent w v r s q p e f g = grind (arith, common_steps)
 
 -- lists of events with the same transactions and the same lock holders have the same locks on an item
-locks_extensional : (old new : List Event) (x : ℕ) → txn_numbers new ≡ txn_numbers old → ((u : ℕ) → update_holds_write new x u ≡ update_holds_write old x u) → ((u : ℕ) → update_holds_read new x u ≡ update_holds_read old x u) → ((u : ℕ) → query_reads new x u ≡ query_reads old x u)
+locks_extensional : (old new : List Event) (x : ℕ) → txn_numbers new ≡ txn_numbers old → ((u : ℕ) → is_update_writer new x u ≡ is_update_writer old x u) → ((u : ℕ) → update_holds_read new x u ≡ update_holds_read old x u) → ((u : ℕ) → query_reads new x u ≡ query_reads old x u)
     → item_locks new x ≡ item_locks old x
 locks_extensional old new x n w r q =
-    let writers : writer new x ≡ writer old x = ap (find (update_holds_write new x)) n ∙ find_same (update_holds_write new x) (update_holds_write old x) w (txn_numbers old) in
+    let writers : writer new x ≡ writer old x = ap (find (is_update_writer new x)) n ∙ find_same (is_update_writer new x) (is_update_writer old x) w (txn_numbers old) in
     let readers : filter (update_holds_read new x) (txn_numbers new) ≡ filter (update_holds_read old x) (txn_numbers old) = ap (filter (update_holds_read new x)) n ∙ filter_agree (update_holds_read new x) (update_holds_read old x) r (txn_numbers old) in
     let queries : filter_map (query_reads new x) (txn_numbers new) ≡ filter_map (query_reads old x) (txn_numbers old) = ap (filter_map (query_reads new x)) n ∙ filter_map_agree (query_reads new x) (query_reads old x) q (txn_numbers old) in
     locks_congruent (writer new x) (writer old x) (filter (update_holds_read new x) (txn_numbers new)) (filter (update_holds_read old x) (txn_numbers old)) (filter_map (query_reads new x) (txn_numbers new)) (filter_map (query_reads old x) (txn_numbers old)) writers readers queries
@@ -125,8 +125,8 @@ query_reads_keyed_by_query events x u y is = at (is_query events u && holds_read
 
 -- An event other than a begin, a commit or an abort.
 module _ (events : List Event) (e : Event) (none : begin_record_of e ≡ None) (c : (t : ℕ) → commits t e ≡ false) (a : (t : ℕ) → aborts t e ≡ false) (x : ℕ) where
-  update_holds_write-step : (u : ℕ) → update_holds_write (events ++ e ∷ []) x u ≡ (is_update events u && (is_active events u && (list_any (writes u x) events || writes u x e)))
-  update_holds_write-step u = rw (is_update-unchanged events e none u, is_active-unchanged events e none c a u, any_push (writes u x) events e) refl
+  is_update_writer-step : (u : ℕ) → is_update_writer (events ++ e ∷ []) x u ≡ (is_update events u && (is_active events u && (list_any (writes u x) events || writes u x e)))
+  is_update_writer-step u = rw (is_update-unchanged events e none u, is_active-unchanged events e none c a u, any_push (writes u x) events e) refl
 
   update_holds_read-step : (u : ℕ) → update_holds_read (events ++ e ∷ []) x u ≡ (is_update events u && (is_active events u && (list_any (reads u x) events || reads u x e)))
   update_holds_read-step u = rw (is_update-unchanged events e none u, is_active-unchanged events e none c a u, any_push (reads u x) events e) refl
@@ -137,8 +137,8 @@ module _ (events : List Event) (e : Event) (none : begin_record_of e ≡ None) (
   query_reads-step : (u : ℕ) → query_reads (events ++ e ∷ []) x u ≡ (if is_query events u && (is_active events u && (list_any (reads u x) events || reads u x e)) then Some (u, read_count events u x + (if reads u x e then 1 else 0)) else None)
   query_reads-step u = rw (is_query-unchanged events e none u, is_active-unchanged events e none c a u, any_push (reads u x) events e, read_count-extended u) refl
 
-  update_holds_write-unchanged : (u : ℕ) → writes u x e ≡ false → update_holds_write (events ++ e ∷ []) x u ≡ update_holds_write events x u
-  update_holds_write-unchanged u fails = update_holds_write-step u ∙ ap (λ b. is_update events u && (is_active events u && b)) (ap (λ b. list_any (writes u x) events || b) fails ∙ or_false (list_any (writes u x) events))
+  is_update_writer-unchanged : (u : ℕ) → writes u x e ≡ false → is_update_writer (events ++ e ∷ []) x u ≡ is_update_writer events x u
+  is_update_writer-unchanged u fails = is_update_writer-step u ∙ ap (λ b. is_update events u && (is_active events u && b)) (ap (λ b. list_any (writes u x) events || b) fails ∙ or_false (list_any (writes u x) events))
 
   update_holds_read-unchanged : (u : ℕ) → reads u x e ≡ false → update_holds_read (events ++ e ∷ []) x u ≡ update_holds_read events x u
   update_holds_read-unchanged u fails = update_holds_read-step u ∙ ap (λ b. is_update events u && (is_active events u && b)) (ap (λ b. list_any (reads u x) events || b) fails ∙ or_false (list_any (reads u x) events))
@@ -148,7 +148,7 @@ module _ (events : List Event) (e : Event) (none : begin_record_of e ≡ None) (
 
   -- an event that neither reads nor writes the item leaves its locks unchanged
   locks-unaffected : ((u : ℕ) → writes u x e ≡ false) → ((u : ℕ) → reads u x e ≡ false) → item_locks (events ++ e ∷ []) x ≡ item_locks events x
-  locks-unaffected w r = locks_extensional events (events ++ e ∷ []) x (txn_numbers-unchanged events e none) (λ u. update_holds_write-unchanged u (w u)) (λ u. update_holds_read-unchanged u (r u)) (λ u. query_reads-unchanged u (r u))
+  locks-unaffected w r = locks_extensional events (events ++ e ∷ []) x (txn_numbers-unchanged events e none) (λ u. is_update_writer-unchanged u (w u)) (λ u. update_holds_read-unchanged u (r u)) (λ u. query_reads-unchanged u (r u))
 
 -- a read by an update
 module _ (events : List Event) (t : TxnId) (x : ItemId) where
@@ -159,7 +159,7 @@ module _ (events : List Event) (t : TxnId) (x : ItemId) where
   no_other_reads u ne = and_left (t.0 == u) (x.0 == x.0) (ne_eqb t.0 u (λ (f : t.0 ≡ u). ne (sym f)))
 
   writer_unchanged_by_read : writer (events ++ Read t x ∷ []) x.0 ≡ writer events x.0
-  writer_unchanged_by_read = ap (find (update_holds_write (events ++ Read t x ∷ []) x.0)) (txn_numbers-unchanged events (Read t x) refl) ∙ find_same (update_holds_write (events ++ Read t x ∷ []) x.0) (update_holds_write events x.0) (λ u. update_holds_write-unchanged events (Read t x) refl (λ v. refl) (λ v. refl) x.0 u refl) (txn_numbers events)
+  writer_unchanged_by_read = ap (find (is_update_writer (events ++ Read t x ∷ []) x.0)) (txn_numbers-unchanged events (Read t x) refl) ∙ find_same (is_update_writer (events ++ Read t x ∷ []) x.0) (is_update_writer events x.0) (λ u. is_update_writer-unchanged events (Read t x) refl (λ v. refl) (λ v. refl) x.0 u refl) (txn_numbers events)
 
   locks-read : is_update events t.0 ≡ true → is_active events t.0 ≡ true → item_locks (events ++ Read t x ∷ []) x.0 ≡ with_reader t.0 (item_locks events x.0)
   locks-read update act =
@@ -238,9 +238,9 @@ module _ (events : List Event) (t : TxnId) (x : ItemId) (v : ℤ) where
       locks_congruent (writer (events ++ Write t x v ∷ []) x.0) (Some t.0) (filter (update_holds_read (events ++ Write t x v ∷ []) x.0) (txn_numbers (events ++ Write t x v ∷ []))) (filter (update_holds_read events x.0) (txn_numbers events))
       (filter_map (query_reads (events ++ Write t x v ∷ []) x.0) (txn_numbers (events ++ Write t x v ∷ []))) (filter_map (query_reads events x.0) (txn_numbers events)) w r q
     where
-      writes_now : update_holds_write (events ++ Write t x v ∷ []) x.0 t.0 ≡ true
+      writes_now : is_update_writer (events ++ Write t x v ∷ []) x.0 t.0 ≡ true
       writes_now =
-          update_holds_write-step events (Write t x v) refl (λ w. refl) (λ w. refl) x.0 t.0
+          is_update_writer-step events (Write t x v) refl (λ w. refl) (λ w. refl) x.0 t.0
           ∙ (ap (λ b. b && (is_active events t.0 && (list_any (writes t.0 x.0) events || writes t.0 x.0 (Write t x v)))) update
           ∙ (ap (λ b. b && (list_any (writes t.0 x.0) events || writes t.0 x.0 (Write t x v))) act
           ∙ or_right (list_any (writes t.0 x.0) events) (writes t.0 x.0 (Write t x v)) (and_from (t.0 == t.0) (x.0 == x.0) (eq-eqb t.0 t.0 refl) (eq-eqb x.0 x.0 refl))))
@@ -255,8 +255,8 @@ module _ (events : List Event) (o : IsWellFormed events) (e : Event) (none : beg
   and_not_swap true false e' c = refl
   and_not_swap false b e' c = refl
 
-  update_holds_write-end : (u : ℕ) → update_holds_write (events ++ e ∷ []) x u ≡ (update_holds_write events x u && not (t == u))
-  update_holds_write-end u = rw (is_update-unchanged events e none u, ends u, any_push_no (writes u x) events e (no_writes u x)) (and_not_swap (is_update events u) (is_active events u) (t == u) (list_any (writes u x) events))
+  is_update_writer-end : (u : ℕ) → is_update_writer (events ++ e ∷ []) x u ≡ (is_update_writer events x u && not (t == u))
+  is_update_writer-end u = rw (is_update-unchanged events e none u, ends u, any_push_no (writes u x) events e (no_writes u x)) (and_not_swap (is_update events u) (is_active events u) (t == u) (list_any (writes u x) events))
 
   update_holds_read-end : (u : ℕ) → update_holds_read (events ++ e ∷ []) x u ≡ (update_holds_read events x u && not (t == u))
   update_holds_read-end u = rw (is_update-unchanged events e none u, ends u, any_push_no (reads u x) events e (no_reads u x)) (and_not_swap (is_update events u) (is_active events u) (t == u) (list_any (reads u x) events))
@@ -291,31 +291,31 @@ module _ (events : List Event) (o : IsWellFormed events) (e : Event) (none : beg
       (query_reads-end t ∙ ap (λ b. if b then Some (t, read_count events t x) else None) (and_not_self (is_query events t && holds_read events t x))) (txn_numbers events) in
       locks_congruent (writer (events ++ e ∷ []) x) (if is_writer (item_locks events x) t then None else writer events x) (filter (update_holds_read (events ++ e ∷ []) x) (txn_numbers (events ++ e ∷ []))) (filter (λ u. not (u == t)) (filter (update_holds_read events x) (txn_numbers events)))
       (filter_map (query_reads (events ++ e ∷ []) x) (txn_numbers (events ++ e ∷ []))) (filter (λ (p : ℕ × ℕ). not (p.0 == t)) (filter_map (query_reads events x) (txn_numbers events)))
-      (ap (find (update_holds_write (events ++ e ∷ []) x)) (txn_numbers-unchanged events e none) ∙ writers (update_holds_write events x t) refl) r q
+      (ap (find (is_update_writer (events ++ e ∷ []) x)) (txn_numbers-unchanged events e none) ∙ writers (is_update_writer events x t) refl) r q
     where
-      writers : (b : Bool) → update_holds_write events x t ≡ b → find (update_holds_write (events ++ e ∷ []) x) (txn_numbers events) ≡ (if is_writer (item_locks events x) t then None else writer events x)
+      writers : (b : Bool) → is_update_writer events x t ≡ b → find (is_update_writer (events ++ e ∷ []) x) (txn_numbers events) ≡ (if is_writer (item_locks events x) t then None else writer events x)
       writers true is =
           no_one (txn_numbers events) ∙ ap (λ b. if b then None else writer events x) (sym (writer_is events o x t ∙ is))
         where
-          fails : (u : ℕ) → update_holds_write (events ++ e ∷ []) x u ≡ false
+          fails : (u : ℕ) → is_update_writer (events ++ e ∷ []) x u ≡ false
           fails u =
               elim (cases_eq u t) [
-                | inl same ↦ ap (update_holds_write (events ++ e ∷ []) x) same ∙ (update_holds_write-end t ∙ and_not_self (update_holds_write events x t))
-                | inr ne ↦ update_holds_write-end u ∙ (and_not_other (update_holds_write events x u) u ne ∙ false_from_ne_true (update_holds_write events x u) (λ it. ne (one_writer events o x u t it is)))
+                | inl same ↦ ap (is_update_writer (events ++ e ∷ []) x) same ∙ (is_update_writer-end t ∙ and_not_self (is_update_writer events x t))
+                | inr ne ↦ is_update_writer-end u ∙ (and_not_other (is_update_writer events x u) u ne ∙ false_from_ne_true (is_update_writer events x u) (λ it. ne (one_writer events o x u t it is)))
               ]
 
-          no_one : (us : List ℕ) → find (update_holds_write (events ++ e ∷ []) x) us ≡ None
+          no_one : (us : List ℕ) → find (is_update_writer (events ++ e ∷ []) x) us ≡ None
           no_one [] = refl
           no_one (u ∷ us) = rw (fails u) (no_one us)
       writers false isnt =
-          find_same (update_holds_write (events ++ e ∷ []) x) (update_holds_write events x) same (txn_numbers events)
+          find_same (is_update_writer (events ++ e ∷ []) x) (is_update_writer events x) same (txn_numbers events)
           ∙ ap (λ b. if b then None else writer events x) (sym (writer_is events o x t ∙ isnt))
         where
-          same : (u : ℕ) → update_holds_write (events ++ e ∷ []) x u ≡ update_holds_write events x u
+          same : (u : ℕ) → is_update_writer (events ++ e ∷ []) x u ≡ is_update_writer events x u
           same u =
               elim (cases_eq u t) [
-                | inl is ↦ ap (update_holds_write (events ++ e ∷ []) x) is ∙ (update_holds_write-end t ∙ (and_not_self (update_holds_write events x t) ∙ (sym isnt ∙ ap (update_holds_write events x) (sym is))))
-                | inr ne ↦ update_holds_write-end u ∙ and_not_other (update_holds_write events x u) u ne
+                | inl is ↦ ap (is_update_writer (events ++ e ∷ []) x) is ∙ (is_update_writer-end t ∙ (and_not_self (is_update_writer events x t) ∙ (sym isnt ∙ ap (is_update_writer events x) (sym is))))
+                | inr ne ↦ is_update_writer-end u ∙ and_not_other (is_update_writer events x u) u ne
               ]
 
 -- a begin
@@ -326,7 +326,7 @@ find_range_push p a n fails = ap (find p) (range-push a n) ∙ at (range_with_le
     at [] = rw fails refl
     at (u ∷ us) =
         elim (cases_Bool (p u)) [
-          | inl find_some ↦ rw find_some refl
+          | inl found_satisfies ↦ rw found_satisfies refl
           | inr isnt ↦ rw isnt (at us)
         ]
 
@@ -348,8 +348,8 @@ module _ (events : List Event) (o : IsWellFormed events) (e : Event) (b : BeginR
   begun_holder : (u : ℕ) (p : Bool) → (is_active events u && p) ≡ true → is_begun events u ≡ true
   begun_holder u p held = (active_parts events u (and_parts (is_active events u) p held).0).0
 
-  update_holds_write-begin : (u : ℕ) → update_holds_write (events ++ e ∷ []) x u ≡ update_holds_write events x u
-  update_holds_write-begin u = ap (λ p. is_update (events ++ e ∷ []) u && p) (holds_write-begin u) ∙ kind-unchanged (λ w. unwrap_or (option_map (λ c. not c.query) w) false) u (holds_write events u x) (begun_holder u (list_any (writes u x) events))
+  is_update_writer-begin : (u : ℕ) → is_update_writer (events ++ e ∷ []) x u ≡ is_update_writer events x u
+  is_update_writer-begin u = ap (λ p. is_update (events ++ e ∷ []) u && p) (holds_write-begin u) ∙ kind-unchanged (λ w. unwrap_or (option_map (λ c. not c.query) w) false) u (holds_write events u x) (begun_holder u (list_any (writes u x) events))
 
   update_holds_read-begin : (u : ℕ) → update_holds_read (events ++ e ∷ []) x u ≡ update_holds_read events x u
   update_holds_read-begin u = ap (λ p. is_update (events ++ e ∷ []) u && p) (holds_read-begin u) ∙ kind-unchanged (λ w. unwrap_or (option_map (λ c. not c.query) w) false) u (holds_read events u x) (begun_holder u (list_any (reads u x) events))
@@ -366,9 +366,9 @@ module _ (events : List Event) (o : IsWellFormed events) (e : Event) (b : BeginR
       let no_write : holds_write events (1 + n) x ≡ false = ap (λ k. holds_write events k x) number ∙ and_right (is_active events (suc n)) (list_any (writes (suc n) x) events) (next_number_is_unused events o (writes (suc n) x) (write_names_writer (suc n) x)) in
       let no_read : holds_read events (1 + n) x ≡ false = ap (λ k. holds_read events k x) number ∙ and_right (is_active events (suc n)) (list_any (reads (suc n) x) events) (next_number_is_unused events o (reads (suc n) x) (read_names_reader (suc n) x)) in
       let w : writer (events ++ e ∷ []) x ≡ writer events x =
-      ap (find (update_holds_write (events ++ e ∷ []) x)) longer
-      ∙ (find_same (update_holds_write (events ++ e ∷ []) x) (update_holds_write events x) update_holds_write-begin (range_with_len 1 (n + 1))
-      ∙ find_range_push (update_holds_write events x) 1 n (and_right (is_update events (1 + n)) (holds_write events (1 + n) x) no_write)) in
+      ap (find (is_update_writer (events ++ e ∷ []) x)) longer
+      ∙ (find_same (is_update_writer (events ++ e ∷ []) x) (is_update_writer events x) is_update_writer-begin (range_with_len 1 (n + 1))
+      ∙ find_range_push (is_update_writer events x) 1 n (and_right (is_update events (1 + n)) (holds_write events (1 + n) x) no_write)) in
       let r : filter (update_holds_read (events ++ e ∷ []) x) (txn_numbers (events ++ e ∷ [])) ≡ filter (update_holds_read events x) (txn_numbers events) =
       ap (filter (update_holds_read (events ++ e ∷ []) x)) longer
       ∙ (filter_agree (update_holds_read (events ++ e ∷ []) x) (update_holds_read events x) update_holds_read-begin (range_with_len 1 (n + 1))

@@ -10,7 +10,7 @@ use Rattle.esr_history.specs.Events.{is_query_kind, txn_numbers, is_query, is_up
 use Rattle.esr_history.specs.Machine.{DistanceFunction, Schedule, Charge, accepted_in, due_in, writer, charge_of_read, first_reason, not_begun, ended, no_item, many_reads, query_writes, out_of_range, read_blocked, write_blocked, blocked_by, import_full, export_full, refusal, when, other_writer, other_holder}
 use Rattle.esr_history.specs.ItemLocks.{ItemLocks, item_locks}
 use Rattle.esr_history.proofs.KindLaws.{query_kind}
-use Rattle.esr_history.proofs.Lists.{find_some}
+use Rattle.esr_history.proofs.Lists.{found_satisfies}
 use Rattle.esr_ledgers.specs.declared.account.Account.{Account}
 use Rattle.esr_ledgers.specs.Books.{quote_of, AreCharges, is_open_query}
 use Rattle.esr_history.specs.Ascending.{IsSmallest}
@@ -37,7 +37,7 @@ alone None = refl
 alone (Some w) = refl
 
 pub writer_update : (events : List Event) (x u : ℕ) → writer events x ≡ Some u → is_update events u ≡ true
-writer_update events x u found = (and_parts (is_update events u) (holds_write events u x) (find_some (λ v. is_update events v && holds_write events v x) (txn_numbers events) u found)).0
+writer_update events x u found = (and_parts (is_update events u) (holds_write events u x) (found_satisfies (λ v. is_update events v && holds_write events v x) (txn_numbers events) u found)).0
 
 module _ (d : DistanceFunction) (h : Schedule) (items : List Versions) (table : List Transaction) (locks : List ItemLocks) (accounts : List Account) (rep : Represents (d h.weights) h.opening (accepted_in h) items table locks accounts) where
   pub locks_count : length locks ≡ length items

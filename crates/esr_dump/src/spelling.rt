@@ -214,7 +214,7 @@ pub fn script(
     ensures again { AreNames items.now transactions.now history.now.schedule
         → IfOk result (λ text. RoundTrips items.now transactions.now history.now.schedule text.items) }
 {
-    let _legal = history.log(); // this and the next line bring invariants into the proof
+    let _invariant = history.log(); // this and the next line bring invariants into the proof
     let _distinct = (items.len(), transactions.len());
     whole(alloc, items, transactions, history)
 }

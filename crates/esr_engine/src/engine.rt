@@ -132,7 +132,7 @@ impl EmbeddedEngine {
         if self.is_full(event) {
             return Err(Unanswered::Full);
         }
-        let _legal = self.machine.log(); // brings the invariant into the proof
+        let _invariant = self.machine.log(); // brings the invariant into the proof
         match self.machine.step(event) {
             Ok(reply) => {
                 self.active = active_after(self.active, reply);
@@ -156,7 +156,7 @@ impl EmbeddedEngine {
         if self.is_full(Event::Read { txn: t, item: x }) {
             return Err(Unanswered::Full);
         }
-        let _legal = self.machine.log(); // brings the invariant into the proof
+        let _invariant = self.machine.log(); // brings the invariant into the proof
         match self.machine.read(t, x) {
             Ok(reply) => {
                 self.active = active_after(self.active, reply);
@@ -185,7 +185,7 @@ impl EmbeddedEngine {
         if self.is_full(event) {
             return Err(Unanswered::Full);
         }
-        let _legal = self.machine.log(); // brings the invariant into the proof
+        let _invariant = self.machine.log(); // brings the invariant into the proof
         match self.machine.write(t, x, v) {
             Ok(reply) => {
                 self.active = active_after(self.active, reply);

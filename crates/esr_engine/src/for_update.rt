@@ -59,7 +59,7 @@ impl EmbeddedEngine {
         if self.demand() + 2 > MAX_ENTRIES {
             return Err(Unanswered::Full);
         }
-        let _legal = self.machine.log(); // brings the invariant into the proof
+        let _invariant = self.machine.log(); // brings the invariant into the proof
         if self.has_lock(t, x) {
             return self.step(Event::Read { txn: t, item: x });
         }

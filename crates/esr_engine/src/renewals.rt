@@ -76,7 +76,7 @@ impl EmbeddedEngine {
             → AreSerializableAsOne self.old (along self.new later)) }
         ensures err { OnErr result (self.new ≡ self.old) }
     {
-        let _legal = self.machine.log(); // brings the invariant into the proof
+        let _invariant = self.machine.log(); // brings the invariant into the proof
         *self = self.successor(alloc)?;
         Ok(())
     }

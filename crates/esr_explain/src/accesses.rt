@@ -34,7 +34,7 @@ pub fn values_after(
         → value_at v.items x ≡ state history.now.schedule (map (λ t. t.0) updates.now) x) }
     ensures range { IfOk result (λ v. (x : ℕ) → IsValue (value_at v.items x)) }
 {
-    let _legal = history.log(); // brings the invariant into the proof
+    let _invariant = history.log(); // brings the invariant into the proof
     let mut values = history.opening_values().to_vec(alloc)?;
     for u in updates {
         let accesses = accesses_of(alloc, history, *u)?;

@@ -99,7 +99,7 @@ pub fn push_reads(
     ensures { OnOk result (out.new.items ≡ out.old.items
         ++ read_lines weighted history.now.schedule items.now q.0 (map (λ t. t.0) before.now)) }
 {
-    let _legal = history.log(); // brings the invariant into the proof
+    let _invariant = history.log(); // brings the invariant into the proof
     let values = values_after(alloc, history, before)?;
     let accesses = accesses_of(alloc, history, q)?;
     push_lines(out, items, history.metric(), &accesses, &values)

@@ -38,8 +38,8 @@ fn is_within(arc: Arc, amount: u64) -> bool
 /// Adds the amount of an arc to the inflow of its head and to the outflow of its tail. Returns false if the amount is
 /// above the arc's capacity or a sum overflows.
 fn add_arc(arc: Arc, amount: u64, inflows: &mut [u64], outflows: &mut [u64]) -> bool
-    requires to { arc.to < length inflows.old }
-    requires outflows { arc.from < length outflows.old }
+    requires heads { arc.to < length inflows.old }
+    requires tails { arc.from < length outflows.old }
     ensures capacity { result ≡ true → within amount arc.capacity ≡ true }
     ensures inflows { result ≡ true → inflows.new ≡ set inflows.old arc.to (get_or inflows.old arc.to 0 + amount) }
     ensures outflows { result ≡ true → outflows.new ≡ set outflows.old arc.from (get_or outflows.old arc.from 0 + amount) }
@@ -95,7 +95,11 @@ fn is_conserved(graph: &Graph, inflows: &[u64], outflows: &[u64]) -> bool
 }
 
 /// Returns the value of a flow. Returns `None` if the amounts are not a flow, or if one of them is above that value.
-pub fn value_if_flow(alloc: Global, graph: &Graph, flow: &[u64]) -> Result<Option<u64>, AllocError>
+pub fn checked_flow_value(
+    alloc: Global,
+    graph: &Graph,
+    flow: &[u64],
+) -> Result<Option<u64>, AllocError>
     requires flow { length flow.now ≡ length (arcs_of graph.now) }
     ensures flow { IfOk result (λ r. IfSome r (λ value. IsFlow (network_of graph.now) flow.now)) }
     ensures worth { IfOk result (λ r. IfSome r (λ value. value ≡ worth (network_of graph.now) flow.now)) }

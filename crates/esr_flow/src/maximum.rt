@@ -16,7 +16,7 @@ ghost use Rattle.esr_flow.specs.Search.{IsShortestPath, Guides, IsGuided, Reache
 ghost use Rattle.esr_flow.specs.Maximum.{InArcs, HasLimit, IsStart};
 
 use crate::entry::ShortEntry;
-use crate::flow_check::value_if_flow;
+use crate::flow_check::checked_flow_value;
 use crate::graph::{Graph, residual_capacity_of};
 use crate::paths::{next_path, put_back};
 use crate::reach::reach;
@@ -277,7 +277,7 @@ pub fn find_swiftly(alloc: Global, graph: &Graph) -> Result<(MaximumFlow, DraftO
         × (length m.0.marks.items ≡ graph.now.nodes)) }
 {
     let flow = draft(alloc, graph)?;
-    let Some(worth) = value_if_flow(alloc, graph, &flow)? else {
+    let Some(worth) = checked_flow_value(alloc, graph, &flow)? else {
         let maximum = find_maximum(alloc, graph)?;
         return Ok((maximum, DraftOutcome::NoFlow));
     };

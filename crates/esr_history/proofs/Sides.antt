@@ -7,7 +7,7 @@ use Rattle.std.proofs.lemmas.Option.{same_Some}
 use Rattle.esr_history.specs.Events.{BeginRecord, begin_record, txn_numbers, is_query, is_update, read_count, holds_read, current_value, Event, Read, Write}
 use Rattle.esr_history.specs.Machine.{Charge, due, charges, charges_after, charge_of_write, import_in, export_in}
 use Rattle.esr_history.proofs.WellFormed.{begin_record-push, is_update-push}
-use Rattle.esr_history.proofs.Lists.{find_some, Each-filter_map}
+use Rattle.esr_history.proofs.Lists.{found_satisfies, Each-filter_map}
 use Rattle.esr_history.proofs.Membership.{Each-append}
 
 -- a charge is of an update to a query
@@ -30,7 +30,7 @@ all_along before [] cs all = subst (λ (es : List Event). AllByRecursion (IsOfKi
 all_along before (e ∷ later) cs all = subst (λ (es : List Event). AllByRecursion (IsOfKinds es) cs) (append_assoc before (e ∷ []) later) (all_along (before ++ e ∷ []) later cs (all_later before e cs all))
 
 pub due_kinds : (d : ℕ → ℤ → ℤ → ℕ) (opening : List ℤ) (events : List Event) (e : Event) → AllByRecursion (IsOfKinds events) (due d opening events e)
-due_kinds d opening events (Read q x) = grind (arith, find_some, and_parts)
+due_kinds d opening events (Read q x) = grind (arith, found_satisfies, and_parts)
 due_kinds d opening events (Write u x v) = write (is_update events u.0) refl
   where
     yields : is_update events u.0 ≡ true → (q : ℕ) (c : Charge) → charge_of_write d opening events u.0 x.0 v q ≡ Some c → IsOfKinds events c

@@ -15,7 +15,7 @@ use Rattle.esr_history.specs.declared.event.Reply.{Reply}
 use Rattle.esr_history.specs.Events.{total_read_count, begin_records, is_active, is_begun, is_query, is_update, holds_read, holds_write, txn_numbers, reads, writes}
 use Rattle.esr_history.specs.Machine.{DistanceFunction, Schedule, Charge, accepted_in, acceptance, answered, blocked_by, charge_of_read, charge_of_write, value_distance, due_in, export_full, first_reason, import_full, read_blocked, reasons, when, write_blocked, writer}
 use Rattle.esr_history.specs.Refusals.{refusal_blocker}
-use Rattle.esr_history.proofs.Lists.{Each-filter_map, find_some}
+use Rattle.esr_history.proofs.Lists.{Each-filter_map, found_satisfies}
 use Rattle.esr_base.specs.declared.limits.TheConstants.{MAX_LIMIT, MAX_TRANSACTIONS}
 use Rattle.esr_liveness.specs.Liveness.{LawOfBlockers, blocker_in, has_locked, has_written}
 use Rattle.esr_liveness.proofs.Reasons.{Names, blocked_by_reason, find_each, names_none, none_names}
@@ -73,7 +73,7 @@ module _ (d : DistanceFunction) (h : Schedule) where
   due_of_read : (t : TxnId) (x : ItemId) → Active t.0 → AllByRecursion AreOpen (due_in d h (Read t x))
   due_of_read t x active =
       elim (cases_Bool (is_query (accepted_in h) t.0)) [
-        | inl passes ↦ rw passes (read_charges t.0 x.0 active (writer (accepted_in h) x.0) (λ u found. held_write u x.0 (find_some (λ w. is_update (accepted_in h) w && holds_write (accepted_in h) w x.0) (txn_numbers (accepted_in h)) u found)))
+        | inl passes ↦ rw passes (read_charges t.0 x.0 active (writer (accepted_in h) x.0) (λ u found. held_write u x.0 (found_satisfies (λ w. is_update (accepted_in h) w && holds_write (accepted_in h) w x.0) (txn_numbers (accepted_in h)) u found)))
         | inr fails ↦ rw fails tt
       ]
 
@@ -97,7 +97,7 @@ module _ (d : DistanceFunction) (h : Schedule) where
   names_holder : (p : ℕ → Bool) → ((u : ℕ) → p u ≡ true → Active u) → Names IsOpen (blocked_by (find p (txn_numbers (accepted_in h))))
   names_holder p has =
       names_found IsOpen (λ (u : ℕ). BlockedByLock (record { 0 = u })) (λ u. record { 0 = u }) (λ u. refl) (find p (txn_numbers (accepted_in h)))
-      (λ u found. has u (find_some p (txn_numbers (accepted_in h)) u found))
+      (λ u found. has u (found_satisfies p (txn_numbers (accepted_in h)) u found))
 
   names_reader : (t x : ℕ) → Names IsOpen (read_blocked h t x)
   names_reader t x =

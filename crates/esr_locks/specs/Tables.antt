@@ -8,13 +8,13 @@ use Rattle.esr_locks.specs.Modes.{Mode, Read, Write, conflicts}
 
 -- a lock table as contracts see it: the locks on each item, the capacity left for locks on each item, and the
 -- capacity left in each transaction's list of items
-pub record Table : Type 0 where
+pub record LockTableModel : Type 0 where
   pub locks : List ItemLocks
   pub spare_by_item : List ℕ
   pub spare_by_transaction : List ℕ
 
 -- the capacity left for locks of transaction t on item x
-abbrev pub spare_lock_capacity : Table → ℕ → ℕ → ℕ
+abbrev pub spare_lock_capacity : LockTableModel → ℕ → ℕ → ℕ
 spare_lock_capacity table t x = min (slice_index table.spare_by_item x) (slice_index table.spare_by_transaction t)
 
 -- an item that no transaction has locked

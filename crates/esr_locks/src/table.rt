@@ -12,7 +12,7 @@ ghost use Rattle.std.specs.List.{range_with_len};
 ghost use Rattle.esr_base.specs.declared.limits.TheConstants.{MAX_READS};
 ghost use Rattle.esr_history.specs.Ascending.{IsAscendingBy, IsSmallest};
 ghost use Rattle.esr_locks.specs.LockEntries.{query_and_count, entry_at, items_locked_by, with_lock, has_lock_in_mode, IsLockTable};
-ghost use Rattle.esr_locks.specs.Tables.{no_locks, locks_at, spare_lock_capacity, has_lock, has_update_lock, has_query_lock, contains_item, blocks_read, blocks_write, with_reader, with_writer, with_query_read, released, Table};
+ghost use Rattle.esr_locks.specs.Tables.{no_locks, locks_at, spare_lock_capacity, has_lock, has_update_lock, has_query_lock, contains_item, blocks_read, blocks_write, with_reader, with_writer, with_query_read, released, LockTableModel};
 
 use crate::entry::LockEntry;
 use crate::lists::QueryReads;
@@ -37,7 +37,7 @@ pub struct LockTable {
 }
 
 impl Model for LockTable {
-    ghost Value = { Table };
+    ghost Value = { LockTableModel };
 
     ghost view = { λ t. record {
       locks = map (λ r. r.locks) t.entries.items;

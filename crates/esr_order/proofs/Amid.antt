@@ -9,13 +9,13 @@ use Rattle.esr_history.specs.Serial.{is_before}
 use Rattle.esr_history.specs.Queries.{must}
 use Rattle.esr_history.proofs.Membership.{Pairs-from_all}
 use Rattle.esr_order.specs.UpdateOperations.{UpdateOperation}
-use Rattle.esr_order.specs.Turns.{turns}
+use Rattle.esr_order.specs.Batches.{batches}
 use Rattle.esr_order.specs.Placements.{is_among}
 use Rattle.esr_order.specs.ConflictPairs.{IsLexLess}
 use Rattle.esr_order.specs.Conflicts.{on_item, AreConflicts, AreNextPaired}
 use Rattle.esr_order.specs.Chains.{Chain, chain_from, last_by_update, nth}
 use Rattle.esr_order.specs.Orders.{IsConflictOrderOn}
-use Rattle.esr_order.proofs.Turns as turns_of
+use Rattle.esr_order.proofs.Batches as batches_of
 use Rattle.esr_order.proofs.Complete.{order_found}
 
 module _ (d : DistanceFunction) (h : Schedule) (legal : IsLegal d h) (commits : List TxnId) (once : AllPairs (λ u v. u ≢ v) (map (λ t. t.0) commits)) (keeps : AllPairs (λ u v. is_before h v u ≡ false) (map (λ t. t.0) commits)) (within_max : length commits ≤ 65535) where
@@ -23,13 +23,13 @@ module _ (d : DistanceFunction) (h : Schedule) (legal : IsLegal d h) (commits : 
   us = map (λ (t : TxnId). t.0) commits
 
   abbrev steps : List UpdateOperation
-  steps = turns (operations h) 0 us
+  steps = batches (operations h) 0 us
 
   len : length (map (λ (t : TxnId). t.0) commits) ≡ length commits
   len = length-map commits (λ (t : TxnId). t.0)
 
   pub bounded_pairs : (before : List (ℕ × ℕ)) → AreConflicts steps before → length before ≤ 2 * length (filter (λ o. is_among (map (λ t. t.0) commits) o.txn) (operations h))
-  bounded_pairs before conflicting = omega (arith, conflicting.within_max, turns_of.counted (operations h) 0 us (Pairs-from_all (λ u v. u ≢ v) us once))
+  bounded_pairs before conflicting = omega (arith, conflicting.within_max, batches_of.counted (operations h) 0 us (Pairs-from_all (λ u v. u ≢ v) us once))
 
   pub made : (before : List (ℕ × ℕ)) → AllPairs IsLexLess before → AreConflicts steps before × ((x : ℕ) → AreNextPaired before (filter (λ s. s.writes) (on_item x steps)))
       → (chains : List Chain) → chains ≡ map (λ x. chain_from (last_by_update steps x) (length commits)) (range_with_len 0 (length h.opening))

@@ -24,7 +24,7 @@ use Rattle.esr_order.proofs.Complete.{range_below}
 use Rattle.esr_order.proofs.RelevantLaws.{relevant_back}
 use Rattle.esr_order.proofs.RelevantFound.{there, low_must}
 use Rattle.esr_order.proofs.Gathering.{no_txn, drop_next}
-use Rattle.esr_order.proofs.Turns.{up, ahead, conflict_parts}
+use Rattle.esr_order.proofs.Batches.{up, ahead, conflict_parts}
 use Rattle.esr_order.proofs.Lists.{in_map, of_map, at_place}
 
 -- ---- the rest of a list from an index on
@@ -91,17 +91,17 @@ pub record AreSeen (h : Schedule) (q : ℕ) (us : List ℕ) (s : Seen) : Type 0 
 
 pub seen_more : (h : Schedule) (q u : ℕ) (us : List ℕ) (s t : Seen) → AreSeen h q us s → ((x : ℕ) → marked t.read x ≡ (marked s.read x || did h false x u)) → ((x : ℕ) → marked t.written x ≡ (marked s.written x || did h true x u)) → AreSeen h q (u ∷ us) t
 seen_more h q u us s t a read written = record {
-  read = λ x. read x ∙ (ap (λ b. b || did h false x u) (a.read x) ∙ turned (list_any (did h false x) us) (did h false x q) (did h false x u));
+  read = λ x. read x ∙ (ap (λ b. b || did h false x u) (a.read x) ∙ reversed_chain (list_any (did h false x) us) (did h false x q) (did h false x u));
   written = λ x. written x ∙ (ap (λ b. b || did h true x u) (a.written x) ∙ swapped (list_any (did h true x) us) (did h true x u));
 }
   where
-    turned : (a b c : Bool) → ((a || b) || c) ≡ ((c || a) || b)
-    turned true b true = refl
-    turned true b false = refl
-    turned false true true = refl
-    turned false true false = refl
-    turned false false true = refl
-    turned false false false = refl
+    reversed_chain : (a b c : Bool) → ((a || b) || c) ≡ ((c || a) || b)
+    reversed_chain true b true = refl
+    reversed_chain true b false = refl
+    reversed_chain false true true = refl
+    reversed_chain false true false = refl
+    reversed_chain false false true = refl
+    reversed_chain false false false = refl
 
     swapped : (a c : Bool) → (a || c) ≡ (c || a)
     swapped true true = refl

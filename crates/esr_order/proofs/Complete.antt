@@ -13,7 +13,7 @@ use Rattle.esr_history.proofs.Versions.{wrote_by, wrote_parts}
 use Rattle.esr_history.proofs.TraceAgreement.{values_trace}
 use Rattle.esr_history.proofs.WithinRanges.{legal_items}
 use Rattle.esr_order.specs.UpdateOperations.{UpdateOperation}
-use Rattle.esr_order.specs.Turns.{turns}
+use Rattle.esr_order.specs.Batches.{batches}
 use Rattle.esr_order.specs.ConflictPairs.{is_conflict_pair, IsLexLess}
 use Rattle.esr_order.specs.Conflicts.{AreConflicts, AreNextPaired}
 use Rattle.esr_order.specs.Chains.{Chain, chain_from, if_written, some_chain, last_of, last_in, last_by_update, last_among, nth, chain_among}
@@ -22,7 +22,7 @@ use Rattle.esr_order.proofs.Kept.{on, writes_in}
 use Rattle.esr_order.proofs.Fewer.{writes_on, between, wrote_last, last_wrote, next_in}
 use Rattle.esr_order.proofs.Placing.{chain_agree}
 use Rattle.esr_order.proofs.Lists.{in_map, of_map, same_default}
-use Rattle.esr_order.proofs.Turns.{placed, rises, up, pair_inside, pair_before, last_written_by}
+use Rattle.esr_order.proofs.Batches.{placed, rises, up, pair_inside, pair_before, last_written_by}
 
 -- numbers in a row
 range_above : (a n b : ℕ) → b ≤ a → AllByRecursion (λ i. b ≤ i) (range_with_len a n)
@@ -53,7 +53,7 @@ get_past C f a (suc n) (suc x) l = get_past C f (a + 1) n x (omega arith)
 
 module _ (d : DistanceFunction) (h : Schedule) (q : ℕ) (legal : IsLegal d h) (us : List ℕ) (once : AllPairs (λ u v. u ≢ v) us) (keeps : AllPairs (λ u v. is_before h v u ≡ false) us) where
   abbrev steps : List UpdateOperation
-  steps = turns (operations h) 0 us
+  steps = batches (operations h) 0 us
 
   same_pairs : (i j : ℕ) → i < length us → j < length us → is_conflict_pair steps i j ≡ is_before h (nth us i) (nth us j)
   same_pairs i j li lj = pair_before h us once keeps i j li lj
@@ -61,11 +61,11 @@ module _ (d : DistanceFunction) (h : Schedule) (q : ℕ) (legal : IsLegal d h) (
   last_same : (x i : ℕ) → i < length us → last_by_update steps x i ≡ last_among h us x i
   last_same x i l = last_written_by (operations h) us x i l ∙ sym (ap last_of (values_trace h x (nth us i)))
 
-  all_placed : All (λ s. s.position < length us) steps
+  all_placed : All (λ s. s.update_index < length us) steps
   all_placed = placed (operations h) us
 
-  rising : (x : ℕ) → Pairs (λ (a b : UpdateOperation). a.position ≤ b.position) (writes_in (on x steps))
-  rising x = Pairs-filter (λ (a b : UpdateOperation). a.position ≤ b.position) (λ (s : UpdateOperation). s.writes) (on x steps) (Pairs-filter (λ (a b : UpdateOperation). a.position ≤ b.position) (λ (s : UpdateOperation). eqb s.item x) steps (rises (operations h) 0 us))
+  rising : (x : ℕ) → Pairs (λ (a b : UpdateOperation). a.update_index ≤ b.update_index) (writes_in (on x steps))
+  rising x = Pairs-filter (λ (a b : UpdateOperation). a.update_index ≤ b.update_index) (λ (s : UpdateOperation). s.writes) (on x steps) (Pairs-filter (λ (a b : UpdateOperation). a.update_index ≤ b.update_index) (λ (s : UpdateOperation). eqb s.item x) steps (rises (operations h) 0 us))
 
   module _ (before : List (ℕ × ℕ)) (ascends : AllPairs IsLexLess before) (conflicting : AreConflicts steps before) (next : (x : ℕ) → AreNextPaired before (writes_in (on x steps))) (n : ℕ) (part : n ≤ length us) (musts : map (nth us) (range_with_len 0 n) ≡ must h q) (within_max : length us ≤ 65535) (commits : List TxnId) where
     abbrev found : ConflictOrder
@@ -156,19 +156,19 @@ module _ (d : DistanceFunction) (h : Schedule) (q : ℕ) (legal : IsLegal d h) (
         let b = writer_there (slice_index_or ws (i + 1) 0) (wrote (i + 1) 0 l) in
         between (writes_in (on x steps)) before (next x) (rising x)
         (slice_index_or ws i 0) (slice_index_or ws (i + 1) 0) (ascending i (i + 1) 0 (omega arith) l) a.0 a.1 a.2 b.0 b.1 b.2
-        (λ s j above. next_in ws ascending i l s.position (writer_listed s j) above))
+        (λ s j above. next_in ws ascending i l s.update_index (writer_listed s j) above))
       where
         last_here : (w : ℕ) → w < length us → last_in (writes_in (on x steps)) w ≡ last_among h us x w
         last_here w l = ap (λ ss. last_in ss w) (writes_on x steps) ∙ last_same x w l
 
-        writer_there : (w : ℕ) → (w < length us) × (is_some (last_among h us x w) ≡ true) → (s : UpdateOperation) × In s (writes_in (on x steps)) × (s.position ≡ w)
+        writer_there : (w : ℕ) → (w < length us) × (is_some (last_among h us x w) ≡ true) → (s : UpdateOperation) × In s (writes_in (on x steps)) × (s.update_index ≡ w)
         writer_there w p = last_wrote (writes_in (on x steps)) w (ap is_some (last_here w p.0) ∙ p.1)
 
-        writer_listed : (s : UpdateOperation) → In s (writes_in (on x steps)) → In s.position (filter (λ i. is_some (last_among h us x i)) (range_with_len 0 (length us)))
+        writer_listed : (s : UpdateOperation) → In s (writes_in (on x steps)) → In s.update_index (filter (λ i. is_some (last_among h us x i)) (range_with_len 0 (length us)))
         writer_listed s j =
-            let at : s.position < length us = All-contains (λ (s : UpdateOperation). s.position < length us) steps s all_placed (In-Contains steps s (In-of_filter (λ (s : UpdateOperation). eqb s.item x) steps s (In-of_filter (λ (s : UpdateOperation). s.writes) (on x steps) s j).0).0) in
-            In-filter (λ i. is_some (last_among h us x i)) (range_with_len 0 (length us)) s.position (in_range 0 (length us) s.position (omega arith) (omega arith))
-            (sym (ap is_some (last_here s.position at)) ∙ wrote_last (writes_in (on x steps)) s j)
+            let at : s.update_index < length us = All-contains (λ (s : UpdateOperation). s.update_index < length us) steps s all_placed (In-Contains steps s (In-of_filter (λ (s : UpdateOperation). eqb s.item x) steps s (In-of_filter (λ (s : UpdateOperation). s.writes) (on x steps) s j).0).0) in
+            In-filter (λ i. is_some (last_among h us x i)) (range_with_len 0 (length us)) s.update_index (in_range 0 (length us) s.update_index (omega arith) (omega arith))
+            (sym (ap is_some (last_here s.update_index at)) ∙ wrote_last (writes_in (on x steps)) s j)
 
     pub order_found : map (λ t. t.0) commits ≡ us → IsConflictOrderOn h q us found
     order_found same =

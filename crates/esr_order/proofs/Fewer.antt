@@ -26,31 +26,31 @@ writes_on x (s ∷ ss) = at (eqb s.item x) s.writes (writes_on x ss)
         none false = refl
 
 -- of two positions that wrote with none between, the pair is there
-pub between : (ws : List UpdateOperation) (ps : List (ℕ × ℕ)) → AreNextPaired ps ws → Pairs (λ a b. a.position ≤ b.position) ws → (v w : ℕ) → v < w → (a : UpdateOperation) → In a ws → a.position ≡ v → (b : UpdateOperation) → In b ws → b.position ≡ w
-    → ((s : UpdateOperation) → In s ws → v < s.position → w ≤ s.position) → Contains ps (v, w)
+pub between : (ws : List UpdateOperation) (ps : List (ℕ × ℕ)) → AreNextPaired ps ws → Pairs (λ a b. a.update_index ≤ b.update_index) ws → (v w : ℕ) → v < w → (a : UpdateOperation) → In a ws → a.update_index ≡ v → (b : UpdateOperation) → In b ws → b.update_index ≡ w
+    → ((s : UpdateOperation) → In s ws → v < s.update_index → w ≤ s.update_index) → Contains ps (v, w)
 between [] ps n r v w lt a ia av b ib bw none = absurd ia
 between (c ∷ []) ps n r v w lt a ia av b ib bw none =
-    ⊎_elim (λ ea. ⊎_elim (λ eb. let same : v ≡ w = sym av ∙ (ap (λ s. s.position) (sym ea) ∙ (ap (λ s. s.position) eb ∙ bw)) in absurd (omega arith)) (λ z. absurd z) ib) (λ z. absurd z) ia
+    ⊎_elim (λ ea. ⊎_elim (λ eb. let same : v ≡ w = sym av ∙ (ap (λ s. s.update_index) (sym ea) ∙ (ap (λ s. s.update_index) eb ∙ bw)) in absurd (omega arith)) (λ z. absurd z) ib) (λ z. absurd z) ia
 between (c ∷ d ∷ ws) ps n r v w lt a ia av b ib bw none =
-    let more : (a : UpdateOperation) → In a (d ∷ ws) → a.position ≡ v → In b (d ∷ ws) → Contains ps (v, w) =
+    let more : (a : UpdateOperation) → In a (d ∷ ws) → a.update_index ≡ v → In b (d ∷ ws) → Contains ps (v, w) =
     λ a ja av jb. between (d ∷ ws) ps n.1 r.1 v w lt a ja av b jb bw (λ s i. none s (inr i)) in
     ⊎_elim
     (λ ea.
-    let cv : c.position ≡ v = ap (λ s. s.position) ea ∙ av in
+    let cv : c.update_index ≡ v = ap (λ s. s.update_index) ea ∙ av in
     ⊎_elim
-    (λ eb. let same : v ≡ w = sym cv ∙ (ap (λ s. s.position) eb ∙ bw) in absurd (omega arith))
+    (λ eb. let same : v ≡ w = sym cv ∙ (ap (λ s. s.update_index) eb ∙ bw) in absurd (omega arith))
     (λ jb. ⊎_elim
     (λ dv. more d (inl refl) dv jb)
     (λ dne.
-    let low : c.position ≤ d.position = r.0.0 in
-    let up : w ≤ d.position = none d (inr (inl refl)) (above v d.position (subst (λ z. z ≤ d.position) cv low) dne) in
-    let down : d.position ≤ w = ⊎_elim (λ e. let same : d.position ≡ w = ap (λ s. s.position) e ∙ bw in omega (arith, same)) (λ k. subst (λ z. d.position ≤ z) bw (each_at (λ (t : UpdateOperation). d.position ≤ t.position) ws b r.1.0 k)) jb in
-    let dw : d.position ≡ w = omega (arith, up, down) in
-    subst (λ z. Contains ps (z, w)) cv (subst (λ z. Contains ps (c.position, z)) dw (n.0 (λ e. dne (sym e ∙ cv)))))
-    (cases_eq d.position v))
+    let low : c.update_index ≤ d.update_index = r.0.0 in
+    let up : w ≤ d.update_index = none d (inr (inl refl)) (above v d.update_index (subst (λ z. z ≤ d.update_index) cv low) dne) in
+    let down : d.update_index ≤ w = ⊎_elim (λ e. let same : d.update_index ≡ w = ap (λ s. s.update_index) e ∙ bw in omega (arith, same)) (λ k. subst (λ z. d.update_index ≤ z) bw (each_at (λ (t : UpdateOperation). d.update_index ≤ t.update_index) ws b r.1.0 k)) jb in
+    let dw : d.update_index ≡ w = omega (arith, up, down) in
+    subst (λ z. Contains ps (z, w)) cv (subst (λ z. Contains ps (c.update_index, z)) dw (n.0 (λ e. dne (sym e ∙ cv)))))
+    (cases_eq d.update_index v))
     ib)
     (λ ja. ⊎_elim
-    (λ eb. let l : c.position ≤ a.position = each_at (λ (t : UpdateOperation). c.position ≤ t.position) (d ∷ ws) a r.0 ja in let cw : c.position ≡ w = ap (λ s. s.position) eb ∙ bw in absurd (omega (arith, l, av, cw, lt)))
+    (λ eb. let l : c.update_index ≤ a.update_index = each_at (λ (t : UpdateOperation). c.update_index ≤ t.update_index) (d ∷ ws) a r.0 ja in let cw : c.update_index ≡ w = ap (λ s. s.update_index) eb ∙ bw in absurd (omega (arith, l, av, cw, lt)))
     (λ jb. more a ja av jb)
     ib)
     ia
@@ -67,17 +67,17 @@ some_last : (xs : List ℤ) → (xs ≡ [] → ⊥) → is_some (last_of xs) ≡
 some_last [] ne = absurd (ne refl)
 some_last (x ∷ xs) ne = last_or_some x xs
 
-pub wrote_last : (ws : List UpdateOperation) (s : UpdateOperation) → In s ws → is_some (last_in ws s.position) ≡ true
-wrote_last ws s i = some_last (map (λ (s : UpdateOperation). s.value) (filter (λ (t : UpdateOperation). t.position == s.position) ws)) (there (filter (λ (t : UpdateOperation). t.position == s.position) ws) (In-filter (λ (t : UpdateOperation). t.position == s.position) ws s i (eq-eqb s.position s.position refl)))
+pub wrote_last : (ws : List UpdateOperation) (s : UpdateOperation) → In s ws → is_some (last_in ws s.update_index) ≡ true
+wrote_last ws s i = some_last (map (λ (s : UpdateOperation). s.value) (filter (λ (t : UpdateOperation). t.update_index == s.update_index) ws)) (there (filter (λ (t : UpdateOperation). t.update_index == s.update_index) ws) (In-filter (λ (t : UpdateOperation). t.update_index == s.update_index) ws s i (eq-eqb s.update_index s.update_index refl)))
   where
     there : (l : List UpdateOperation) → In s l → map (λ (s : UpdateOperation). s.value) l ≡ [] → ⊥
     there [] i e = i
     there (t ∷ l) i e = cc
 
-pub last_wrote : (ws : List UpdateOperation) (i : ℕ) → is_some (last_in ws i) ≡ true → (s : UpdateOperation) × In s ws × (s.position ≡ i)
+pub last_wrote : (ws : List UpdateOperation) (i : ℕ) → is_some (last_in ws i) ≡ true → (s : UpdateOperation) × In s ws × (s.update_index ≡ i)
 last_wrote ws i some =
-    let r = filter-some (λ (s : UpdateOperation). s.position == i) ws (λ e. true≢false (sym some ∙ ap (λ l. is_some (last_of (map (λ (s : UpdateOperation). s.value) l))) e)) in
-    (r.0, r.1, eqb-true r.0.position i r.2)
+    let r = filter-some (λ (s : UpdateOperation). s.update_index == i) ws (λ e. true≢false (sym some ∙ ap (λ l. is_some (last_of (map (λ (s : UpdateOperation). s.value) l))) e)) in
+    (r.0, r.1, eqb-true r.0.update_index i r.2)
 
 -- the element after one in a rising list is at most each that is above that one
 pub next_in : (xs : List ℕ) → AllPairs (λ i j. i < j) xs → (k : ℕ) → k + 1 < length xs → (y : ℕ) → In y xs → get_or xs k 0 < y → get_or xs (k + 1) 0 ≤ y

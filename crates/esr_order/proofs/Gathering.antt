@@ -11,13 +11,13 @@ use Rattle.esr_history.proofs.Membership.{In, In-Contains, Contains-In, In-appen
 use Rattle.esr_order.specs.UpdateOperations.{UpdateOperation}
 use Rattle.esr_order.specs.Scans.{access_of, accesses_in, Access}
 use Rattle.esr_order.specs.ConflictPairs.{IsLexLess}
-use Rattle.esr_order.specs.Turns.{placed_operation, operation_at, turn, turns}
+use Rattle.esr_order.specs.Batches.{placed_operation, operation_at, batch, batches}
 use Rattle.esr_order.specs.Conflicts.{pair_of, pairs_from, AreConflicts, AreNextPaired, on_item}
-use Rattle.esr_order.specs.Chains.{Chain, chain_from, last_by_update, turned}
-use Rattle.esr_order.specs.Later.{no_one, chain_back, readers_of, with_operation, readers_with, conflicts_of, turn_conflicts, AreLater}
-use Rattle.esr_order.proofs.Kept.{Pair, Kept, kept_same, kept_turn, open_reads, turn_count, pairs_bounded, in_pairs_from, of_pairs_from, next_paired, writes_in, on, conflicting_all}
-use Rattle.esr_order.proofs.Chained.{chain_turned}
-use Rattle.esr_order.proofs.Turns as turns_of
+use Rattle.esr_order.specs.Chains.{Chain, chain_from, last_by_update, reversed_chain}
+use Rattle.esr_order.specs.Later.{no_one, chain_back, readers_of, with_operation, readers_with, conflicts_of, batch_conflicts, SummarizeLater}
+use Rattle.esr_order.proofs.Kept.{Pair, Kept, kept_same, kept_batch, open_reads, batch_count, pairs_bounded, in_pairs_from, of_pairs_from, next_paired, writes_in, on, conflicting_all}
+use Rattle.esr_order.proofs.Chained.{chain_reversed}
+use Rattle.esr_order.proofs.Batches as batches_of
 
 -- the rest of a list from a position on, with the position's successor
 pub drop_next : {X : Type 0} (xs : List X) (i : ℕ) (d : X) → i < length xs → drop i xs ≡ get_or xs i d ∷ drop (suc i) xs
@@ -50,9 +50,9 @@ no_access = record { item = record { 0 = 0 }; writes = false; value = pos 0 }
 abbrev pub no_txn : TxnId
 no_txn = record { 0 = 0 }
 
-pub later_operation : (links : List Chain) (rows : List (List ℕ)) (steps : List UpdateOperation) (s : UpdateOperation) → AreLater links rows steps → s.item < length links → s.item < length rows
+pub later_operation : (links : List Chain) (rows : List (List ℕ)) (steps : List UpdateOperation) (s : UpdateOperation) → SummarizeLater links rows steps → s.item < length links → s.item < length rows
     → (link : Chain) → link ≡ with_operation (get_or links s.item no_one) s → (row : List ℕ) → row ≡ readers_with (get_or rows s.item []) s
-    → AreLater (slice_set links s.item link) (slice_set rows s.item row) (s ∷ steps)
+    → SummarizeLater (slice_set links s.item link) (slice_set rows s.item row) (s ∷ steps)
 later_operation links rows steps s are linked read link put row added = record {
   chains = λ x l. ⊎_elim
       (λ e.
@@ -91,7 +91,7 @@ module _ {V W : Type 0} (see : V → Chain) (read : W → List ℕ) (chains : Li
   taken : operation_at position access ∷ done ≡ map (operation_at position) (drop i accesses)
   taken = sym (ap (map (operation_at position)) (drop_next accesses i no_access inside) ∙ ap (λ n. operation_at position access ∷ map (operation_at position) (drop n accesses)) (sym is))
 
-  module _ (linked : access.item.0 < length chains) (in_rows : access.item.0 < length readers) (steps : List UpdateOperation) (are : AreLater (map see chains) (map read readers) (done ++ steps)) (d : V) (e : W) where
+  module _ (linked : access.item.0 < length chains) (in_rows : access.item.0 < length readers) (steps : List UpdateOperation) (are : SummarizeLater (map see chains) (map read readers) (done ++ steps)) (d : V) (e : W) where
     abbrev link : Chain
     link = see (get_or chains access.item.0 d)
 
@@ -110,50 +110,50 @@ module _ {V W : Type 0} (see : V → Chain) (read : W → List ℕ) (chains : Li
     present : access.item.0 < length (map read readers)
     present = omega (arith, in_rows, length-map readers read)
 
-    pub turn_later : (v : V) → see v ≡ with_operation link (operation_at position access) → (w : W) → read w ≡ readers_with row (operation_at position access)
-        → AreLater (map see (slice_set chains access.item.0 v)) (map read (slice_set readers access.item.0 w)) (map (operation_at position) (drop i accesses) ++ steps)
-    turn_later v put w added =
-        subst (λ l. AreLater (map see (slice_set chains access.item.0 v)) (map read (slice_set readers access.item.0 w)) (l ++ steps)) taken
-        (subst (λ cs. AreLater cs (map read (slice_set readers access.item.0 w)) (operation_at position access ∷ (done ++ steps))) (sym (map-set see chains access.item.0 v))
-        (subst (λ rs. AreLater (slice_set (map see chains) access.item.0 (see v)) rs (operation_at position access ∷ (done ++ steps))) (sym (map-set read readers access.item.0 w))
+    pub batch_later : (v : V) → see v ≡ with_operation link (operation_at position access) → (w : W) → read w ≡ readers_with row (operation_at position access)
+        → SummarizeLater (map see (slice_set chains access.item.0 v)) (map read (slice_set readers access.item.0 w)) (map (operation_at position) (drop i accesses) ++ steps)
+    batch_later v put w added =
+        subst (λ l. SummarizeLater (map see (slice_set chains access.item.0 v)) (map read (slice_set readers access.item.0 w)) (l ++ steps)) taken
+        (subst (λ cs. SummarizeLater cs (map read (slice_set readers access.item.0 w)) (operation_at position access ∷ (done ++ steps))) (sym (map-set see chains access.item.0 v))
+        (subst (λ rs. SummarizeLater (slice_set (map see chains) access.item.0 (see v)) rs (operation_at position access ∷ (done ++ steps))) (sym (map-set read readers access.item.0 w))
         (later_operation (map see chains) (map read readers) (done ++ steps) (operation_at position access) are there present
         (see v) (put ∙ ap (λ c. with_operation c (operation_at position access)) (sym link_is)) (read w) (added ∙ ap (λ r. readers_with r (operation_at position access)) (sym row_is)))))
 
-    pub turn_conflicting : (first conflicts : List ℕ) → conflicts ≡ first ++ turn_conflicts done steps → (more : List ℕ) → more ≡ conflicts ++ conflicts_of link row (operation_at position access) → more ≡ first ++ turn_conflicts (map (operation_at position) (drop i accesses)) steps
-    turn_conflicting first conflicts so_far more added =
+    pub batch_conflicting : (first conflicts : List ℕ) → conflicts ≡ first ++ batch_conflicts done steps → (more : List ℕ) → more ≡ conflicts ++ conflicts_of link row (operation_at position access) → more ≡ first ++ batch_conflicts (map (operation_at position) (drop i accesses)) steps
+    batch_conflicting first conflicts so_far more added =
         added
         ∙ (ap (λ l. l ++ conflicts_of link row (operation_at position access)) so_far
-        ∙ (append_assoc first (turn_conflicts done steps) (conflicts_of link row (operation_at position access))
-        ∙ (ap (λ c. first ++ (turn_conflicts done steps ++ conflicts_of c row (operation_at position access))) (sym link_is ∙ are.chains access.item.0 there)
-        ∙ (ap (λ r. first ++ (turn_conflicts done steps ++ conflicts_of (chain_back access.item.0 (done ++ steps)) r (operation_at position access))) (sym row_is ∙ are.readers access.item.0 present)
-        ∙ ap (λ l. first ++ turn_conflicts l steps) taken))))
+        ∙ (append_assoc first (batch_conflicts done steps) (conflicts_of link row (operation_at position access))
+        ∙ (ap (λ c. first ++ (batch_conflicts done steps ++ conflicts_of c row (operation_at position access))) (sym link_is ∙ are.chains access.item.0 there)
+        ∙ (ap (λ r. first ++ (batch_conflicts done steps ++ conflicts_of (chain_back access.item.0 (done ++ steps)) r (operation_at position access))) (sym row_is ∙ are.readers access.item.0 present)
+        ∙ ap (λ l. first ++ batch_conflicts l steps) taken))))
 
 -- ---- update by update
 
-pub turn_is : (h : Schedule) (i t : ℕ) → map (operation_at i) (accesses_in h.entries t) ≡ turn (operations h) i t
-turn_is h i t = twice (filter (λ (o : Operation). eqb o.txn t) (operations h))
+pub batch_is : (h : Schedule) (i t : ℕ) → map (operation_at i) (accesses_in h.entries t) ≡ batch (operations h) i t
+batch_is h i t = twice (filter (λ (o : Operation). eqb o.txn t) (operations h))
   where
     twice : (os : List Operation) → map (operation_at i) (map access_of os) ≡ map (placed_operation i) os
     twice [] = refl
     twice (o ∷ os) = ap (λ l. placed_operation i o ∷ l) (twice os)
 
-placed_at : (i : ℕ) (accesses : List Access) (s : UpdateOperation) → In s (map (operation_at i) accesses) → s.position ≡ i
+placed_at : (i : ℕ) (accesses : List Access) (s : UpdateOperation) → In s (map (operation_at i) accesses) → s.update_index ≡ i
 placed_at i [] s j = absurd j
-placed_at i (a ∷ accesses) s j = ⊎_elim (λ e. sym (ap (λ (s : UpdateOperation). s.position) e)) (λ k. placed_at i accesses s k) j
+placed_at i (a ∷ accesses) s j = ⊎_elim (λ e. sym (ap (λ (s : UpdateOperation). s.update_index) e)) (λ k. placed_at i accesses s k) j
 
 -- the steps of the updates from a position on
 abbrev pub rest : Schedule → List TxnId → ℕ → List UpdateOperation
-rest h updates i = turns (operations h) i (map (λ t. t.0) (drop i updates))
+rest h updates i = batches (operations h) i (map (λ t. t.0) (drop i updates))
 
 pub rest_more : (h : Schedule) (updates : List TxnId) (i : ℕ) → i < length updates → (d : TxnId) → rest h updates i ≡ map (operation_at i) (accesses_in h.entries (get_or updates i d).0) ++ rest h updates (suc i)
 rest_more h updates i inside d =
     let e : i + 1 ≡ suc i = omega arith in
-    ap (λ l. turns (operations h) i (map (λ (t : TxnId). t.0) l)) (drop_next updates i d inside)
-    ∙ (ap (λ n. turn (operations h) i (get_or updates i d).0 ++ turns (operations h) n (map (λ (t : TxnId). t.0) (drop (suc i) updates))) e
-    ∙ ap (λ l. l ++ rest h updates (suc i)) (sym (turn_is h i (get_or updates i d).0)))
+    ap (λ l. batches (operations h) i (map (λ (t : TxnId). t.0) l)) (drop_next updates i d inside)
+    ∙ (ap (λ n. batch (operations h) i (get_or updates i d).0 ++ batches (operations h) n (map (λ (t : TxnId). t.0) (drop (suc i) updates))) e
+    ∙ ap (λ l. l ++ rest h updates (suc i)) (sym (batch_is h i (get_or updates i d).0)))
 
 pub record IsGathered (h : Schedule) (updates : List TxnId) (i : ℕ) (links : List Chain) (rows : List (List ℕ)) (pairs : List Pair) : Type 0 where
-  pub later : AreLater links rows (rest h updates i)
+  pub later : SummarizeLater links rows (rest h updates i)
   pub kept : Kept (rest h updates i) pairs
   pub within_max : length pairs + length (open_reads (rest h updates i)) ≤ 2 * length (rest h updates i)
   pub falling : Pairs (λ p r. IsLexLess r p) pairs
@@ -179,20 +179,20 @@ below_from i (j ∷ js) p = Pairs-append IsLexLess (pair_of i j) (pairs_from i j
 -- with one update more
 pub gathered_more : (h : Schedule) (updates : List TxnId) (i next : ℕ) → next ≡ suc i → i < length updates → (d : TxnId) (links : List Chain) (rows : List (List ℕ)) (pairs : List Pair) → IsGathered h updates next links rows pairs
     → (accesses : List Access) → accesses ≡ accesses_in h.entries (get_or updates i d).0
-    → (more_links : List Chain) (more_rows : List (List ℕ)) → AreLater more_links more_rows (map (operation_at i) accesses ++ rest h updates next)
-    → (conflicts others : List ℕ) → conflicts ≡ turn_conflicts (map (operation_at i) accesses) (rest h updates next)
+    → (more_links : List Chain) (more_rows : List (List ℕ)) → SummarizeLater more_links more_rows (map (operation_at i) accesses ++ rest h updates next)
+    → (conflicts others : List ℕ) → conflicts ≡ batch_conflicts (map (operation_at i) accesses) (rest h updates next)
     → AllPairs (λ j k. j < k) others → ((j : ℕ) → Contains conflicts j → Contains others j) → ((j : ℕ) → Contains others j → Contains conflicts j) → length others ≤ length conflicts
     → (more : List Pair) → more ≡ pairs ++ reverse (pairs_from i others) → IsGathered h updates i more_links more_rows more
 gathered_more h updates i next is inside d links rows pairs g accesses made more_links more_rows are conflicts others conflicting ascends keeps adds within_max more grown =
     subst (IsGathered h updates i more_links more_rows) (sym grown) (record {
-      later = subst (AreLater more_links more_rows) whole are;
+      later = subst (SummarizeLater more_links more_rows) whole are;
       kept = subst (λ ss. Kept ss (pairs ++ reverse own)) whole
-          (kept_same (own_operations ++ later) (pairs_from i (turn_conflicts own_operations later) ++ pairs) (pairs ++ reverse own)
-          (λ p j. ⊎_elim (λ a. In-append_right pairs (reverse own) p (In-reverse own p (from_conflicts p a))) (λ a. In-append_left pairs (reverse own) p a) (In-append_cases (pairs_from i (turn_conflicts own_operations later)) pairs p j))
-          (λ p j. ⊎_elim (λ a. In-append_right (pairs_from i (turn_conflicts own_operations later)) pairs p a) (λ a. In-append_left (pairs_from i (turn_conflicts own_operations later)) pairs p (to_conflicts p (In-of_reverse own p a))) (In-append_cases pairs (reverse own) p j))
-          (kept_turn i own_operations later pairs (placed_at i accesses) g.kept));
+          (kept_same (own_operations ++ later) (pairs_from i (batch_conflicts own_operations later) ++ pairs) (pairs ++ reverse own)
+          (λ p j. ⊎_elim (λ a. In-append_right pairs (reverse own) p (In-reverse own p (from_conflicts p a))) (λ a. In-append_left pairs (reverse own) p a) (In-append_cases (pairs_from i (batch_conflicts own_operations later)) pairs p j))
+          (λ p j. ⊎_elim (λ a. In-append_right (pairs_from i (batch_conflicts own_operations later)) pairs p a) (λ a. In-append_left (pairs_from i (batch_conflicts own_operations later)) pairs p (to_conflicts p (In-of_reverse own p a))) (In-append_cases pairs (reverse own) p j))
+          (kept_batch i own_operations later pairs (placed_at i accesses) g.kept));
       within_max = subst (λ ss. length (pairs ++ reverse own) + length (open_reads ss) ≤ 2 * length ss) whole
-          (omega (arith, g.within_max, within_max, ap length conflicting, turn_count own_operations later, length-append pairs (reverse own), length-reverse own, pairs_bounded others i, length-append own_operations later));
+          (omega (arith, g.within_max, within_max, ap length conflicting, batch_count own_operations later, length-append pairs (reverse own), length-reverse own, pairs_bounded others i, length-append own_operations later));
       falling = Pairs-append (λ p r. IsLexLess r p) pairs (reverse own) g.falling (Pairs-reverse IsLexLess own (below_from i others (Pairs-from_all (λ j k. j < k) others ascends)))
           (λ p r j k.
           let high : next ≤ p.0 = g.above p j in
@@ -216,17 +216,17 @@ gathered_more h updates i next is inside d links rows pairs g accesses made more
     move : (js ks : List ℕ) → ((j : ℕ) → In j js → In j ks) → (p : Pair) → In p (pairs_from i js) → In p (pairs_from i ks)
     move js ks f p a = let q = of_pairs_from js i p a in subst (λ n. In (n, p.1) (pairs_from i ks)) (sym q.0) (in_pairs_from ks i p.1 (f p.1 q.1) q.2)
 
-    from_conflicts : (p : Pair) → In p (pairs_from i (turn_conflicts own_operations later)) → In p own
-    from_conflicts p a = move (turn_conflicts own_operations later) others (λ j k. Contains-In others j (keeps j (In-Contains conflicts j (subst (In j) (sym conflicting) k)))) p a
+    from_conflicts : (p : Pair) → In p (pairs_from i (batch_conflicts own_operations later)) → In p own
+    from_conflicts p a = move (batch_conflicts own_operations later) others (λ j k. Contains-In others j (keeps j (In-Contains conflicts j (subst (In j) (sym conflicting) k)))) p a
 
-    to_conflicts : (p : Pair) → In p own → In p (pairs_from i (turn_conflicts own_operations later))
-    to_conflicts p a = move others (turn_conflicts own_operations later) (λ j k. subst (In j) conflicting (Contains-In conflicts j (adds j (In-Contains others j k)))) p a
+    to_conflicts : (p : Pair) → In p own → In p (pairs_from i (batch_conflicts own_operations later))
+    to_conflicts p a = move others (batch_conflicts own_operations later) (λ j k. subst (In j) conflicting (Contains-In conflicts j (adds j (In-Contains others j k)))) p a
 
 -- ---- all updates
 
 module _ (h : Schedule) (updates : List TxnId) (i : ℕ) (is : i ≡ 0) (links : List Chain) (rows : List (List ℕ)) (pairs : List Pair) (g : IsGathered h updates i links rows pairs) where
   abbrev steps : List UpdateOperation
-  steps = turns (operations h) 0 (map (λ (t : TxnId). t.0) updates)
+  steps = batches (operations h) 0 (map (λ (t : TxnId). t.0) updates)
 
   all : rest h updates i ≡ steps
   all = ap (rest h updates) is
@@ -243,20 +243,20 @@ module _ (h : Schedule) (updates : List TxnId) (i : ℕ) (is : i ≡ 0) (links :
   pub gathered_next : (x : ℕ) → AreNextPaired (reverse pairs) (filter (λ s. s.writes) (on_item x steps))
   gathered_next x = next_paired (writes_in (on x steps)) (reverse pairs) (kept.next x)
 
-  pub gathered_chains : map turned links ≡ map (λ x. chain_from (last_by_update steps x) (length updates)) (range_with_len 0 (length links))
+  pub gathered_chains : map reversed_chain links ≡ map (λ x. chain_from (last_by_update steps x) (length updates)) (range_with_len 0 (length links))
   gathered_chains = each links 0 (λ x l. let z : x ≡ 0 + x = omega arith in g.later.chains x l ∙ ap (λ y. chain_back y (rest h updates i)) z)
     where
-      below : (s : UpdateOperation) → In s steps → s.position < length updates
-      below s j = let l : s.position < length (map (λ (t : TxnId). t.0) updates) = All-contains (λ (s : UpdateOperation). s.position < length (map (λ (t : TxnId). t.0) updates)) steps s (turns_of.placed (operations h) (map (λ (t : TxnId). t.0) updates)) (In-Contains steps s j) in omega (arith, l, length-map updates (λ (t : TxnId). t.0))
+      below : (s : UpdateOperation) → In s steps → s.update_index < length updates
+      below s j = let l : s.update_index < length (map (λ (t : TxnId). t.0) updates) = All-contains (λ (s : UpdateOperation). s.update_index < length (map (λ (t : TxnId). t.0) updates)) steps s (batches_of.placed (operations h) (map (λ (t : TxnId). t.0) updates)) (In-Contains steps s j) in omega (arith, l, length-map updates (λ (t : TxnId). t.0))
 
-      turned_is : (x : ℕ) → turned (chain_back x (rest h updates i)) ≡ chain_from (last_by_update steps x) (length updates)
-      turned_is x = ap (λ ss. turned (chain_back x ss)) all ∙ chain_turned x (length updates) steps (turns_of.rises (operations h) 0 (map (λ (t : TxnId). t.0) updates)) below
+      reversed_is : (x : ℕ) → reversed_chain (chain_back x (rest h updates i)) ≡ chain_from (last_by_update steps x) (length updates)
+      reversed_is x = ap (λ ss. reversed_chain (chain_back x ss)) all ∙ chain_reversed x (length updates) steps (batches_of.rises (operations h) 0 (map (λ (t : TxnId). t.0) updates)) below
 
-      each : (cs : List Chain) (a : ℕ) → ((x : ℕ) → x < length cs → get_or cs x no_one ≡ chain_back (a + x) (rest h updates i)) → map turned cs ≡ map (λ x. chain_from (last_by_update steps x) (length updates)) (range_with_len a (length cs))
+      each : (cs : List Chain) (a : ℕ) → ((x : ℕ) → x < length cs → get_or cs x no_one ≡ chain_back (a + x) (rest h updates i)) → map reversed_chain cs ≡ map (λ x. chain_from (last_by_update steps x) (length updates)) (range_with_len a (length cs))
       each [] a are = refl
       each (c ∷ cs) a are =
           let z : a + 0 ≡ a = omega arith in
-          ap (λ c. turned c ∷ map turned cs) (are 0 (omega arith))
-          ∙ (ap (λ y. turned (chain_back y (rest h updates i)) ∷ map turned cs) z
-          ∙ (ap (λ c. c ∷ map turned cs) (turned_is a)
+          ap (λ c. reversed_chain c ∷ map reversed_chain cs) (are 0 (omega arith))
+          ∙ (ap (λ y. reversed_chain (chain_back y (rest h updates i)) ∷ map reversed_chain cs) z
+          ∙ (ap (λ c. c ∷ map reversed_chain cs) (reversed_is a)
           ∙ ap (λ l. chain_from (last_by_update steps a) (length updates) ∷ l) (each cs (a + 1) (λ x l. let e : a + suc x ≡ a + 1 + x = omega arith in are (suc x) (omega (arith, l)) ∙ ap (λ y. chain_back y (rest h updates i)) e))))

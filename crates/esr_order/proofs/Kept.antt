@@ -12,7 +12,7 @@ use Rattle.esr_order.specs.UpdateOperations.{UpdateOperation}
 use Rattle.esr_order.specs.ConflictPairs.{operations_conflict, is_conflict_pair}
 use Rattle.esr_order.specs.Conflicts.{pair_of, pairs_from, AreConflicts, AreNextPaired}
 use Rattle.esr_order.specs.Chains.{Chain, latest_writer, is_latest, with_write}
-use Rattle.esr_order.specs.Later.{chain_back, readers_of, writer_in, later_conflicts, turn_conflicts}
+use Rattle.esr_order.specs.Later.{chain_back, readers_of, writer_in, later_conflicts, batch_conflicts}
 
 abbrev pub Pair : Type 0
 Pair = ℕ × ℕ
@@ -22,21 +22,21 @@ abbrev pub Holds : (ℕ → Bool) → List Pair → Type 0
 Holds S pairs = (p : Pair) → In p pairs → S p.1 ≡ true → S p.0 ≡ true
 
 abbrev test : ℕ → ℕ → UpdateOperation → UpdateOperation → Bool
-test i j a b = eqb a.position i && (eqb b.position j && operations_conflict a b)
+test i j a b = eqb a.update_index i && (eqb b.update_index j && operations_conflict a b)
 
 -- the parts of a conflict
-pub clash_parts : (a b : UpdateOperation) → operations_conflict a b ≡ true → (a.position ≡ b.position → ⊥) × ((a.writes || b.writes) ≡ true)
+pub clash_parts : (a b : UpdateOperation) → operations_conflict a b ≡ true → (a.update_index ≡ b.update_index → ⊥) × ((a.writes || b.writes) ≡ true)
 clash_parts a b h =
-    let p = and_parts (not (eqb a.position b.position)) (eqb a.item b.item && (a.writes || b.writes)) h in
+    let p = and_parts (not (eqb a.update_index b.update_index)) (eqb a.item b.item && (a.writes || b.writes)) h in
     let q = and_parts (eqb a.item b.item) (a.writes || b.writes) p.1 in
-    ((λ e. eqb-false a.position b.position (Rattle.std.proofs.lemmas.Bool.not-true (eqb a.position b.position) p.0) e), q.1)
+    ((λ e. eqb-false a.update_index b.update_index (Rattle.std.proofs.lemmas.Bool.not-true (eqb a.update_index b.update_index) p.0) e), q.1)
 
 clash_item : (a b : UpdateOperation) → operations_conflict a b ≡ true → a.item ≡ b.item
-clash_item a b h = eqb-true a.item b.item (and_parts (eqb a.item b.item) (a.writes || b.writes) (and_parts (not (eqb a.position b.position)) (eqb a.item b.item && (a.writes || b.writes)) h).1).0
+clash_item a b h = eqb-true a.item b.item (and_parts (eqb a.item b.item) (a.writes || b.writes) (and_parts (not (eqb a.update_index b.update_index)) (eqb a.item b.item && (a.writes || b.writes)) h).1).0
 
-pub clash_from : (a b : UpdateOperation) → (a.position ≡ b.position → ⊥) → a.item ≡ b.item → (a.writes || b.writes) ≡ true → operations_conflict a b ≡ true
+pub clash_from : (a b : UpdateOperation) → (a.update_index ≡ b.update_index → ⊥) → a.item ≡ b.item → (a.writes || b.writes) ≡ true → operations_conflict a b ≡ true
 clash_from a b ne same w =
-    and_from (not (eqb a.position b.position)) (eqb a.item b.item && (a.writes || b.writes)) (not_from_false (eqb a.position b.position) (ne_eqb a.position b.position ne))
+    and_from (not (eqb a.update_index b.update_index)) (eqb a.item b.item && (a.writes || b.writes)) (not_from_false (eqb a.update_index b.update_index) (ne_eqb a.update_index b.update_index ne))
     (and_from (eqb a.item b.item) (a.writes || b.writes) (eq-eqb a.item b.item same) w)
 
 -- in and of the pairs that a step adds
@@ -74,17 +74,17 @@ pairs_bounded (j ∷ js) i = omega (arith, length-append (pair_of i j) (pairs_fr
 abbrev pub Next : List UpdateOperation → List Pair → Type 0
 Next [] ps = ⊤
 Next (a ∷ []) ps = ⊤
-Next (a ∷ b ∷ ss) ps = ((a.position ≡ b.position → ⊥) → In (a.position, b.position) ps) × Next (b ∷ ss) ps
+Next (a ∷ b ∷ ss) ps = ((a.update_index ≡ b.update_index → ⊥) → In (a.update_index, b.update_index) ps) × Next (b ∷ ss) ps
 
 pub next_more : (ss : List UpdateOperation) (ps qs : List Pair) → ((p : Pair) → In p ps → In p qs) → Next ss ps → Next ss qs
 next_more [] ps qs f n = tt
 next_more (a ∷ []) ps qs f n = tt
-next_more (a ∷ b ∷ ss) ps qs f n = ((λ ne. f (a.position, b.position) (n.0 ne)), next_more (b ∷ ss) ps qs f n.1)
+next_more (a ∷ b ∷ ss) ps qs f n = ((λ ne. f (a.update_index, b.update_index) (n.0 ne)), next_more (b ∷ ss) ps qs f n.1)
 
 pub next_paired : (ss : List UpdateOperation) (ps : List Pair) → Next ss ps → AreNextPaired ps ss
 next_paired [] ps n = tt
 next_paired (a ∷ []) ps n = tt
-next_paired (a ∷ b ∷ ss) ps n = ((λ ne. In-Contains ps (a.position, b.position) (n.0 ne)), next_paired (b ∷ ss) ps n.1)
+next_paired (a ∷ b ∷ ss) ps n = ((λ ne. In-Contains ps (a.update_index, b.update_index) (n.0 ne)), next_paired (b ∷ ss) ps n.1)
 
 abbrev pub writes_in : List UpdateOperation → List UpdateOperation
 writes_in ss = filter (λ (s : UpdateOperation). s.writes) ss
@@ -113,44 +113,44 @@ last_put c i v = at (latest_writer c) refl
         both false other = last_pushed c.writers i
 
 -- the next writer wrote the item
-writer_from : (x : ℕ) (ss : List UpdateOperation) (w : ℕ) → latest_writer (chain_back x ss) ≡ Some w → (b : UpdateOperation) × In b ss × (b.item ≡ x) × (b.writes ≡ true) × (b.position ≡ w)
+writer_from : (x : ℕ) (ss : List UpdateOperation) (w : ℕ) → latest_writer (chain_back x ss) ≡ Some w → (b : UpdateOperation) × In b ss × (b.item ≡ x) × (b.writes ≡ true) × (b.update_index ≡ w)
 writer_from x [] w is = absurd (cc)
 writer_from x (z ∷ zs) w is = at (eqb z.item x) refl z.writes refl (writer_from x zs w) is
   where
     Found : List UpdateOperation → Type 0
-    Found ss = (b : UpdateOperation) × In b ss × (b.item ≡ x) × (b.writes ≡ true) × (b.position ≡ w)
+    Found ss = (b : UpdateOperation) × In b ss × (b.item ≡ x) × (b.writes ≡ true) × (b.update_index ≡ w)
 
     later : Found zs → Found (z ∷ zs)
     later f = (f.0, inr f.1, f.2, f.3, f.4)
 
-    at : (here : Bool) → eqb z.item x ≡ here → (writes : Bool) → z.writes ≡ writes → (latest_writer (chain_back x zs) ≡ Some w → Found zs) → latest_writer (cond here (cond writes (with_write (chain_back x zs) z.position z.value) (chain_back x zs)) (chain_back x zs)) ≡ Some w → Found (z ∷ zs)
-    at true e true wr rest h = let same : Some z.position ≡ Some w = sym (last_put (chain_back x zs) z.position z.value) ∙ h in (z, inl refl, eqb-true z.item x e, wr, some_same same)
+    at : (here : Bool) → eqb z.item x ≡ here → (writes : Bool) → z.writes ≡ writes → (latest_writer (chain_back x zs) ≡ Some w → Found zs) → latest_writer (cond here (cond writes (with_write (chain_back x zs) z.update_index z.value) (chain_back x zs)) (chain_back x zs)) ≡ Some w → Found (z ∷ zs)
+    at true e true wr rest h = let same : Some z.update_index ≡ Some w = sym (last_put (chain_back x zs) z.update_index z.value) ∙ h in (z, inl refl, eqb-true z.item x e, wr, some_same same)
       where
         some_same : {a b : ℕ} → Some a ≡ Some b → a ≡ b
         some_same e = cc
     at true e false wr rest h = later (rest h)
     at false e writes wr rest h = later (rest h)
 
-readers_from : (x : ℕ) (ss : List UpdateOperation) (r : ℕ) → In r (readers_of x ss) → (b : UpdateOperation) × In b ss × (b.item ≡ x) × (b.position ≡ r)
+readers_from : (x : ℕ) (ss : List UpdateOperation) (r : ℕ) → In r (readers_of x ss) → (b : UpdateOperation) × In b ss × (b.item ≡ x) × (b.update_index ≡ r)
 readers_from x [] r i = absurd i
 readers_from x (z ∷ zs) r i = at (eqb z.item x) refl z.writes (readers_from x zs r) i
   where
     Found : List UpdateOperation → Type 0
-    Found ss = (b : UpdateOperation) × In b ss × (b.item ≡ x) × (b.position ≡ r)
+    Found ss = (b : UpdateOperation) × In b ss × (b.item ≡ x) × (b.update_index ≡ r)
 
     later : Found zs → Found (z ∷ zs)
     later f = (f.0, inr f.1, f.2, f.3)
 
-    at : (here : Bool) → eqb z.item x ≡ here → (writes : Bool) → (In r (readers_of x zs) → Found zs) → In r (cond here (cond writes [] (readers_of x zs ++ z.position ∷ [])) (readers_of x zs)) → Found (z ∷ zs)
+    at : (here : Bool) → eqb z.item x ≡ here → (writes : Bool) → (In r (readers_of x zs) → Found zs) → In r (cond here (cond writes [] (readers_of x zs ++ z.update_index ∷ [])) (readers_of x zs)) → Found (z ∷ zs)
     at true e true rest h = absurd h
-    at true e false rest h = ⊎_elim (λ j. later (rest j)) (λ j. ⊎_elim (λ p. (z, inl refl, eqb-true z.item x e, p)) (λ b. absurd b) j) (In-append_cases (readers_of x zs) (z.position ∷ []) r h)
+    at true e false rest h = ⊎_elim (λ j. later (rest j)) (λ j. ⊎_elim (λ p. (z, inl refl, eqb-true z.item x e, p)) (λ b. absurd b) j) (In-append_cases (readers_of x zs) (z.update_index ∷ []) r h)
     at false e writes rest h = later (rest h)
 
-pair_front : (s : UpdateOperation) (ss : List UpdateOperation) (b : UpdateOperation) → In b ss → operations_conflict s b ≡ true → is_conflict_pair (s ∷ ss) s.position b.position ≡ true
+pair_front : (s : UpdateOperation) (ss : List UpdateOperation) (b : UpdateOperation) → In b ss → operations_conflict s b ≡ true → is_conflict_pair (s ∷ ss) s.update_index b.update_index ≡ true
 pair_front s ss b i c =
-    or_left (list_any (test s.position b.position s) ss) (any_ordered_pair (test s.position b.position) ss)
-    (any-from_In (test s.position b.position s) ss b i
-    (and_from (eqb s.position s.position) (eqb b.position b.position && operations_conflict s b) (eq-eqb s.position s.position refl) (and_from (eqb b.position b.position) (operations_conflict s b) (eq-eqb b.position b.position refl) c)))
+    or_left (list_any (test s.update_index b.update_index s) ss) (any_ordered_pair (test s.update_index b.update_index) ss)
+    (any-from_In (test s.update_index b.update_index s) ss b i
+    (and_from (eqb s.update_index s.update_index) (eqb b.update_index b.update_index && operations_conflict s b) (eq-eqb s.update_index s.update_index refl) (and_from (eqb b.update_index b.update_index) (operations_conflict s b) (eq-eqb b.update_index b.update_index refl) c)))
 
 pair_later : (s : UpdateOperation) (ss : List UpdateOperation) (i j : ℕ) → is_conflict_pair ss i j ≡ true → is_conflict_pair (s ∷ ss) i j ≡ true
 pair_later s ss i j h = or_right (list_any (test i j s) ss) (any_ordered_pair (test i j) ss) h
@@ -160,40 +160,40 @@ abbrev Reached : List UpdateOperation → ℕ → Option ℕ → Type 0
 Reached ss position o = (w : ℕ) × (o ≡ Some w) × ((w ≡ position) ⊎ (is_conflict_pair ss w position ≡ true))
 
 -- a step is a read until the next write, or that write is before it
-reach : (x : ℕ) (ss : List UpdateOperation) (b : UpdateOperation) → In b ss → b.item ≡ x → (In b.position (readers_of x ss) × (b.writes ≡ false)) ⊎ Reached ss b.position (latest_writer (chain_back x ss))
+reach : (x : ℕ) (ss : List UpdateOperation) (b : UpdateOperation) → In b ss → b.item ≡ x → (In b.update_index (readers_of x ss) × (b.writes ≡ false)) ⊎ Reached ss b.update_index (latest_writer (chain_back x ss))
 reach x [] b i own = absurd i
 reach x (z ∷ zs) b i own = at (eqb z.item x) refl z.writes refl (λ k. reach x zs b k own) i
   where
     Chained : Bool → Bool → Chain
-    Chained here writes = cond here (cond writes (with_write (chain_back x zs) z.position z.value) (chain_back x zs)) (chain_back x zs)
+    Chained here writes = cond here (cond writes (with_write (chain_back x zs) z.update_index z.value) (chain_back x zs)) (chain_back x zs)
 
     Outcome : List UpdateOperation → List ℕ → Chain → Type 0
-    Outcome ss readers c = (In b.position readers × (b.writes ≡ false)) ⊎ Reached ss b.position (latest_writer c)
+    Outcome ss readers c = (In b.update_index readers × (b.writes ≡ false)) ⊎ Reached ss b.update_index (latest_writer c)
 
     Readers : Bool → Bool → List ℕ
-    Readers here writes = cond here (cond writes [] (readers_of x zs ++ z.position ∷ [])) (readers_of x zs)
+    Readers here writes = cond here (cond writes [] (readers_of x zs ++ z.update_index ∷ [])) (readers_of x zs)
 
-    further : (o : Option ℕ) → Reached zs b.position o → Reached (z ∷ zs) b.position o
-    further o r = (r.0, r.1, ⊎_elim (λ e. inl e) (λ h. inr (pair_later z zs r.0 b.position h)) r.2)
+    further : (o : Option ℕ) → Reached zs b.update_index o → Reached (z ∷ zs) b.update_index o
+    further o r = (r.0, r.1, ⊎_elim (λ e. inl e) (λ h. inr (pair_later z zs r.0 b.update_index h)) r.2)
 
     at : (here : Bool) → eqb z.item x ≡ here → (writes : Bool) → z.writes ≡ writes → (In b zs → Outcome zs (readers_of x zs) (chain_back x zs)) → In b (z ∷ zs) → Outcome (z ∷ zs) (Readers here writes) (Chained here writes)
     at true e true wr rest j =
         inr (
-          z.position,
-          last_put (chain_back x zs) z.position z.value,
-          ⊎_elim (λ same. inl (ap (λ s. s.position) same))
-              (λ k. ⊎_elim (λ p. inl p) (λ ne. inr (pair_front z zs b k (clash_from z b ne (eqb-true z.item x e ∙ sym own) (or_left z.writes b.writes wr)))) (cases_eq z.position b.position)) j,
+          z.update_index,
+          last_put (chain_back x zs) z.update_index z.value,
+          ⊎_elim (λ same. inl (ap (λ s. s.update_index) same))
+              (λ k. ⊎_elim (λ p. inl p) (λ ne. inr (pair_front z zs b k (clash_from z b ne (eqb-true z.item x e ∙ sym own) (or_left z.writes b.writes wr)))) (cases_eq z.update_index b.update_index)) j,
         )
     at true e false wr rest j =
-        ⊎_elim (λ same. inl (In-append_right (readers_of x zs) (z.position ∷ []) b.position (inl (ap (λ s. s.position) same)), sym (ap (λ s. s.writes) same) ∙ wr))
-        (λ k. ⊎_elim (λ r. inl (In-append_left (readers_of x zs) (z.position ∷ []) b.position r.0, r.1)) (λ r. inr (further (latest_writer (chain_back x zs)) r)) (rest k)) j
+        ⊎_elim (λ same. inl (In-append_right (readers_of x zs) (z.update_index ∷ []) b.update_index (inl (ap (λ s. s.update_index) same)), sym (ap (λ s. s.writes) same) ∙ wr))
+        (λ k. ⊎_elim (λ r. inl (In-append_left (readers_of x zs) (z.update_index ∷ []) b.update_index r.0, r.1)) (λ r. inr (further (latest_writer (chain_back x zs)) r)) (rest k)) j
     at false e writes wr rest j =
         ⊎_elim (λ same. absurd (eqb-false z.item x e (ap (λ s. s.item) same ∙ own)))
         (λ k. ⊎_elim (λ r. inl r) (λ r. inr (further (latest_writer (chain_back x zs)) r)) (rest k)) j
 
 abbrev first_place : List UpdateOperation → Option ℕ
 first_place [] = None
-first_place (s ∷ ss) = Some s.position
+first_place (s ∷ ss) = Some s.update_index
 
 -- the next writer is that of the first write
 first_write : (x : ℕ) (ss : List UpdateOperation) → latest_writer (chain_back x ss) ≡ first_place (writes_in (on x ss))
@@ -201,11 +201,11 @@ first_write x [] = refl
 first_write x (z ∷ zs) = at (eqb z.item x) z.writes (first_write x zs)
   where
     at : (here writes : Bool) → latest_writer (chain_back x zs) ≡ first_place (writes_in (on x zs))
-        → latest_writer (cond here (cond z.writes (with_write (chain_back x zs) z.position z.value) (chain_back x zs)) (chain_back x zs)) ≡ first_place (writes_in (cond here (z ∷ on x zs) (on x zs)))
+        → latest_writer (cond here (cond z.writes (with_write (chain_back x zs) z.update_index z.value) (chain_back x zs)) (chain_back x zs)) ≡ first_place (writes_in (cond here (z ∷ on x zs) (on x zs)))
     at true writes rest = both z.writes
       where
-        both : (w : Bool) → latest_writer (cond w (with_write (chain_back x zs) z.position z.value) (chain_back x zs)) ≡ first_place (cond w (z ∷ writes_in (on x zs)) (writes_in (on x zs)))
-        both true = last_put (chain_back x zs) z.position z.value
+        both : (w : Bool) → latest_writer (cond w (with_write (chain_back x zs) z.update_index z.value) (chain_back x zs)) ≡ first_place (cond w (z ∷ writes_in (on x zs)) (writes_in (on x zs)))
+        both true = last_put (chain_back x zs) z.update_index z.value
         both false = rest
     at false writes rest = rest
 
@@ -230,7 +230,7 @@ module _ (s : UpdateOperation) (ss : List UpdateOperation) (pairs : List Pair) (
   conflicts = later_conflicts s ss
 
   abbrev own : List Pair
-  own = pairs_from s.position (later_conflicts s ss)
+  own = pairs_from s.update_index (later_conflicts s ss)
 
   abbrev writer : Option ℕ
   writer = latest_writer (chain_back s.item ss)
@@ -246,45 +246,45 @@ module _ (s : UpdateOperation) (ss : List UpdateOperation) (pairs : List Pair) (
   of_writer (Some v) w i = ⊎_elim (λ e. ap Some e) (λ b. absurd b) i
 
   -- if S contains an operation that conflicts with this one, it contains this one
-  holds : (S : ℕ → Bool) → Holds S (own ++ pairs) → (j : ℕ) → In j conflicts → S j ≡ true → S s.position ≡ true
-  holds S h j i sj = ⊎_elim (λ e. ap S e ∙ sj) (λ ne. h (s.position, j) (In-append_left own pairs (s.position, j) (in_pairs_from conflicts s.position j i ne)) sj) (cases_eq s.position j)
+  holds : (S : ℕ → Bool) → Holds S (own ++ pairs) → (j : ℕ) → In j conflicts → S j ≡ true → S s.update_index ≡ true
+  holds S h j i sj = ⊎_elim (λ e. ap S e ∙ sj) (λ ne. h (s.update_index, j) (In-append_left own pairs (s.update_index, j) (in_pairs_from conflicts s.update_index j i ne)) sj) (cases_eq s.update_index j)
 
   later_holds : (S : ℕ → Bool) → Holds S (own ++ pairs) → Holds S pairs
   later_holds S h p i = h p (In-append_right own pairs p i)
 
-  sound_conflict : (j : ℕ) → (s.position ≡ j → ⊥) → In j conflicts → is_conflict_pair (s ∷ ss) s.position j ≡ true
+  sound_conflict : (j : ℕ) → (s.update_index ≡ j → ⊥) → In j conflicts → is_conflict_pair (s ∷ ss) s.update_index j ≡ true
   sound_conflict j ne i =
       ⊎_elim
       (λ a. let b = writer_from s.item ss j (of_writer writer j a) in
-      subst (λ z. is_conflict_pair (s ∷ ss) s.position z ≡ true) b.4 (pair_front s ss b.0 b.1 (clash_from s b.0 (λ e. ne (e ∙ b.4)) (sym b.2) (or_right s.writes b.0.writes b.3))))
+      subst (λ z. is_conflict_pair (s ∷ ss) s.update_index z ≡ true) b.4 (pair_front s ss b.0 b.1 (clash_from s b.0 (λ e. ne (e ∙ b.4)) (sym b.2) (or_right s.writes b.0.writes b.3))))
       (λ a. read s.writes refl a)
       (In-append_cases (writer_in writer) (cond s.writes (readers_of s.item ss) []) j i)
     where
-      read : (w : Bool) → s.writes ≡ w → In j (cond w (readers_of s.item ss) []) → is_conflict_pair (s ∷ ss) s.position j ≡ true
+      read : (w : Bool) → s.writes ≡ w → In j (cond w (readers_of s.item ss) []) → is_conflict_pair (s ∷ ss) s.update_index j ≡ true
       read true wr a =
           let b = readers_from s.item ss j a in
-          subst (λ z. is_conflict_pair (s ∷ ss) s.position z ≡ true) b.3 (pair_front s ss b.0 b.1 (clash_from s b.0 (λ e. ne (e ∙ b.3)) (sym b.2) (or_left s.writes b.0.writes wr)))
+          subst (λ z. is_conflict_pair (s ∷ ss) s.update_index z ≡ true) b.3 (pair_front s ss b.0 b.1 (clash_from s b.0 (λ e. ne (e ∙ b.3)) (sym b.2) (or_left s.writes b.0.writes wr)))
       read false wr a = absurd a
 
-  front : (S : ℕ → Bool) → Holds S (own ++ pairs) → (b : UpdateOperation) → In b ss → operations_conflict s b ≡ true → S b.position ≡ true → S s.position ≡ true
+  front : (S : ℕ → Bool) → Holds S (own ++ pairs) → (b : UpdateOperation) → In b ss → operations_conflict s b ≡ true → S b.update_index ≡ true → S s.update_index ≡ true
   front S h b i c sb =
       ⊎_elim
-      (λ r. holds S h b.position (to_reader b.position (⊎_elim (λ w. w) (λ w. absurd (true≢false (sym w ∙ r.1))) (or_cases s.writes b.writes (clash_parts s b c).1)) r.0) sb)
-      (λ r. holds S h r.0 (to_writer r.0 r.1) (⊎_elim (λ e. ap S e ∙ sb) (λ before. k.covers S (later_holds S h) r.0 b.position before sb) r.2))
+      (λ r. holds S h b.update_index (to_reader b.update_index (⊎_elim (λ w. w) (λ w. absurd (true≢false (sym w ∙ r.1))) (or_cases s.writes b.writes (clash_parts s b c).1)) r.0) sb)
+      (λ r. holds S h r.0 (to_writer r.0 r.1) (⊎_elim (λ e. ap S e ∙ sb) (λ before. k.covers S (later_holds S h) r.0 b.update_index before sb) r.2))
       (reach s.item ss b i (sym (clash_item s b c)))
 
   pub kept_operation : Kept (s ∷ ss) (own ++ pairs)
   kept_operation = record {
     sound = λ p i. ⊎_elim
-        (λ a. let q = of_pairs_from conflicts s.position p a in subst (λ z. is_conflict_pair (s ∷ ss) z p.1 ≡ true) (sym q.0) (sound_conflict p.1 q.2 q.1))
+        (λ a. let q = of_pairs_from conflicts s.update_index p a in subst (λ z. is_conflict_pair (s ∷ ss) z p.1 ≡ true) (sym q.0) (sound_conflict p.1 q.2 q.1))
         (λ b. pair_later s ss p.0 p.1 (k.sound p b))
         (In-append_cases own pairs p i);
     covers = λ S h i j c sj. ⊎_elim
         (λ e.
         let b = In-any (test i j s) ss e in
-        let p = and_parts (eqb s.position i) (eqb b.0.position j && operations_conflict s b.0) b.2 in
-        let q = and_parts (eqb b.0.position j) (operations_conflict s b.0) p.1 in
-        subst (λ z. S z ≡ true) (eqb-true s.position i p.0) (front S h b.0 b.1 q.1 (ap S (eqb-true b.0.position j q.0) ∙ sj)))
+        let p = and_parts (eqb s.update_index i) (eqb b.0.update_index j && operations_conflict s b.0) b.2 in
+        let q = and_parts (eqb b.0.update_index j) (operations_conflict s b.0) p.1 in
+        subst (λ z. S z ≡ true) (eqb-true s.update_index i p.0) (front S h b.0 b.1 q.1 (ap S (eqb-true b.0.update_index j q.0) ∙ sj)))
         (λ e. k.covers S (later_holds S h) i j e sj)
         (or_cases (list_any (test i j s) ss) (any_ordered_pair (test i j) ss) c);
     next = λ x. follows x (eqb s.item x) refl s.writes refl;
@@ -295,7 +295,7 @@ module _ (s : UpdateOperation) (ss : List UpdateOperation) (pairs : List Pair) (
 
       first : (ws : List UpdateOperation) → writer ≡ first_place ws → Next ws (own ++ pairs) → Next (s ∷ ws) (own ++ pairs)
       first [] is n = tt
-      first (b ∷ ws) is n = ((λ ne. In-append_left own pairs (s.position, b.position) (in_pairs_from conflicts s.position b.position (to_writer b.position is) ne)), n)
+      first (b ∷ ws) is n = ((λ ne. In-append_left own pairs (s.update_index, b.update_index) (in_pairs_from conflicts s.update_index b.update_index (to_writer b.update_index is) ne)), n)
 
       follows : (x : ℕ) (here : Bool) → eqb s.item x ≡ here → (writes : Bool) → s.writes ≡ writes → Next (writes_in (cond here (s ∷ on x ss) (on x ss))) (own ++ pairs)
       follows x true e writes wr = subst (λ b. Next (cond b (s ∷ writes_in (on x ss)) (writes_in (on x ss))) (own ++ pairs)) (sym wr) (both writes)
@@ -310,21 +310,21 @@ pairs_append i [] ks = refl
 pairs_append i (j ∷ js) ks = ap (λ l. pair_of i j ++ l) (pairs_append i js ks) ∙ sym (append_assoc (pair_of i j) (pairs_from i js) (pairs_from i ks))
 
 -- with the steps of one update before
-pub kept_turn : (i : ℕ) (turn ss : List UpdateOperation) (pairs : List Pair) → ((s : UpdateOperation) → In s turn → s.position ≡ i) → Kept ss pairs → Kept (turn ++ ss) (pairs_from i (turn_conflicts turn ss) ++ pairs)
-kept_turn i [] ss pairs places k = k
-kept_turn i (s ∷ turn) ss pairs places k =
-    subst (λ l. Kept (s ∷ turn ++ ss) (l ++ pairs)) (sym (pairs_append i before own))
-    (kept_same (s ∷ turn ++ ss) (pairs_from i own ++ (pairs_from i before ++ pairs)) ((pairs_from i before ++ pairs_from i own) ++ pairs)
+pub kept_batch : (i : ℕ) (batch ss : List UpdateOperation) (pairs : List Pair) → ((s : UpdateOperation) → In s batch → s.update_index ≡ i) → Kept ss pairs → Kept (batch ++ ss) (pairs_from i (batch_conflicts batch ss) ++ pairs)
+kept_batch i [] ss pairs places k = k
+kept_batch i (s ∷ batch) ss pairs places k =
+    subst (λ l. Kept (s ∷ batch ++ ss) (l ++ pairs)) (sym (pairs_append i before own))
+    (kept_same (s ∷ batch ++ ss) (pairs_from i own ++ (pairs_from i before ++ pairs)) ((pairs_from i before ++ pairs_from i own) ++ pairs)
     (λ p j. ⊎_elim (λ a. left p (In-append_right (pairs_from i before) (pairs_from i own) p a)) (λ a. ⊎_elim (λ b. left p (In-append_left (pairs_from i before) (pairs_from i own) p b)) (λ b. In-append_right (pairs_from i before ++ pairs_from i own) pairs p b) (In-append_cases (pairs_from i before) pairs p a)) (In-append_cases (pairs_from i own) (pairs_from i before ++ pairs) p j))
     (λ p j. ⊎_elim (λ a. ⊎_elim (λ b. In-append_right (pairs_from i own) (pairs_from i before ++ pairs) p (In-append_left (pairs_from i before) pairs p b)) (λ b. In-append_left (pairs_from i own) (pairs_from i before ++ pairs) p b) (In-append_cases (pairs_from i before) (pairs_from i own) p a)) (λ a. In-append_right (pairs_from i own) (pairs_from i before ++ pairs) p (In-append_right (pairs_from i before) pairs p a)) (In-append_cases (pairs_from i before ++ pairs_from i own) pairs p j))
-    (subst (λ n. Kept (s ∷ turn ++ ss) (pairs_from n own ++ (pairs_from i before ++ pairs))) (places s (inl refl))
-    (kept_operation s (turn ++ ss) (pairs_from i before ++ pairs) (kept_turn i turn ss pairs (λ z j. places z (inr j)) k))))
+    (subst (λ n. Kept (s ∷ batch ++ ss) (pairs_from n own ++ (pairs_from i before ++ pairs))) (places s (inl refl))
+    (kept_operation s (batch ++ ss) (pairs_from i before ++ pairs) (kept_batch i batch ss pairs (λ z j. places z (inr j)) k))))
   where
     before : List ℕ
-    before = turn_conflicts turn ss
+    before = batch_conflicts batch ss
 
     own : List ℕ
-    own = later_conflicts s (turn ++ ss)
+    own = later_conflicts s (batch ++ ss)
 
     left : (p : Pair) → In p (pairs_from i before ++ pairs_from i own) → In p ((pairs_from i before ++ pairs_from i own) ++ pairs)
     left p j = In-append_left (pairs_from i before ++ pairs_from i own) pairs p j
@@ -354,15 +354,15 @@ on_left x y (s ∷ ss) = ⊎_elim
     other ne true is = ap (λ b. cond b (s ∷ []) []) (ne_eqb s.item x (λ e. ne (e ∙ sym (eqb-true y x is))))
     other ne false is = refl
 
-readers_open : (x : ℕ) (ss : List UpdateOperation) → readers_of x ss ≡ map (λ (s : UpdateOperation). s.position) (on x (open_reads ss))
+readers_open : (x : ℕ) (ss : List UpdateOperation) → readers_of x ss ≡ map (λ (s : UpdateOperation). s.update_index) (on x (open_reads ss))
 readers_open x [] = refl
 readers_open x (s ∷ ss) = at s.writes (readers_open x ss)
   where
     places : List UpdateOperation → List ℕ
-    places ss = map (λ (s : UpdateOperation). s.position) ss
+    places ss = map (λ (s : UpdateOperation). s.update_index) ss
 
     at : (w : Bool) → readers_of x ss ≡ places (on x (open_reads ss))
-        → cond (eqb s.item x) (cond w [] (readers_of x ss ++ s.position ∷ [])) (readers_of x ss) ≡ places (on x (cond w (filter (λ (r : UpdateOperation). not (eqb r.item s.item)) (open_reads ss)) (open_reads ss ++ s ∷ [])))
+        → cond (eqb s.item x) (cond w [] (readers_of x ss ++ s.update_index ∷ [])) (readers_of x ss) ≡ places (on x (cond w (filter (λ (r : UpdateOperation). not (eqb r.item s.item)) (open_reads ss)) (open_reads ss ++ s ∷ [])))
     at true rest = here (eqb s.item x) ∙ ap places (sym (on_left x s.item (open_reads ss)))
       where
         here : (b : Bool) → cond b [] (readers_of x ss) ≡ places (cond b [] (on x (open_reads ss)))
@@ -370,8 +370,8 @@ readers_open x (s ∷ ss) = at s.writes (readers_open x ss)
         here false = rest
     at false rest = here (eqb s.item x) ∙ ap places (sym (filter-append (λ (s : UpdateOperation). eqb s.item x) (open_reads ss) (s ∷ [])))
       where
-        here : (b : Bool) → cond b (readers_of x ss ++ s.position ∷ []) (readers_of x ss) ≡ places (on x (open_reads ss) ++ cond b (s ∷ []) [])
-        here true = ap (λ l. l ++ s.position ∷ []) rest ∙ sym (map-append (λ (s : UpdateOperation). s.position) (on x (open_reads ss)) (s ∷ []))
+        here : (b : Bool) → cond b (readers_of x ss ++ s.update_index ∷ []) (readers_of x ss) ≡ places (on x (open_reads ss) ++ cond b (s ∷ []) [])
+        here true = ap (λ l. l ++ s.update_index ∷ []) rest ∙ sym (map-append (λ (s : UpdateOperation). s.update_index) (on x (open_reads ss)) (s ∷ []))
         here false = rest ∙ ap places (sym (append-nil (on x (open_reads ss))))
 
 split_count : (y : ℕ) (ss : List UpdateOperation) → length (on y ss) + length (filter (λ (r : UpdateOperation). not (eqb r.item y)) ss) ≡ length ss
@@ -394,12 +394,12 @@ operation_count s ss = at s.writes
     writer = latest_writer (chain_back s.item ss)
 
     at : (w : Bool) → length (writer_in writer ++ cond w (readers_of s.item ss) []) + length (cond w (filter (λ (r : UpdateOperation). not (eqb r.item s.item)) (open_reads ss)) (open_reads ss ++ s ∷ [])) ≤ 2 + length (open_reads ss)
-    at true = omega (arith, one_writer writer, length-append (writer_in writer) (readers_of s.item ss), ap length (readers_open s.item ss), length-map (on s.item (open_reads ss)) (λ (s : UpdateOperation). s.position), split_count s.item (open_reads ss))
+    at true = omega (arith, one_writer writer, length-append (writer_in writer) (readers_of s.item ss), ap length (readers_open s.item ss), length-map (on s.item (open_reads ss)) (λ (s : UpdateOperation). s.update_index), split_count s.item (open_reads ss))
     at false = omega (arith, one_writer writer, ap length (append-nil (writer_in writer)), length-append (open_reads ss) (s ∷ []))
 
-pub turn_count : (turn ss : List UpdateOperation) → length (turn_conflicts turn ss) + length (open_reads (turn ++ ss)) ≤ 2 * length turn + length (open_reads ss)
-turn_count [] ss = omega arith
-turn_count (s ∷ turn) ss = omega (arith, turn_count turn ss, operation_count s (turn ++ ss), length-append (turn_conflicts turn ss) (later_conflicts s (turn ++ ss)))
+pub batch_count : (batch ss : List UpdateOperation) → length (batch_conflicts batch ss) + length (open_reads (batch ++ ss)) ≤ 2 * length batch + length (open_reads ss)
+batch_count [] ss = omega arith
+batch_count (s ∷ batch) ss = omega (arith, batch_count batch ss, operation_count s (batch ++ ss), length-append (batch_conflicts batch ss) (later_conflicts s (batch ++ ss)))
 
 -- ---- all of them
 

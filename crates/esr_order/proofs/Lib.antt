@@ -8,7 +8,7 @@ pub mod Placed
 pub mod ConflictOrder
 pub mod Entries
 pub mod Kept
-pub mod Turns
+pub mod Batches
 pub mod Chained
 pub mod Fewer
 pub mod Linked

@@ -15,7 +15,7 @@ use Rattle.esr_order.specs.Relevant.{has_written, IsRelevant, AreRelevant}
 use Rattle.esr_order.proofs.ConflictOrder.{in_order}
 use Rattle.esr_order.proofs.Early.{must_positions}
 use Rattle.esr_order.proofs.Complete.{range_below, in_range}
-use Rattle.esr_order.proofs.Turns.{not_before_itself}
+use Rattle.esr_order.proofs.Batches.{not_before_itself}
 use Rattle.esr_order.proofs.Lists.{in_map, of_map, at_place}
 
 module _ (d : DistanceFunction) (h : Schedule) (q : ℕ) (legal : IsLegal d h) where

@@ -61,7 +61,7 @@ chain_of h q x = some_chain (chain_from (last_written h q x) (length (updates_of
 
 -- the last value that the update at position i wrote, of writes of one item
 abbrev pub last_in : List UpdateOperation → ℕ → Option ℤ
-last_in writes i = last_of (map (λ s. s.value) (filter (λ s. s.position == i) writes))
+last_in writes i = last_of (map (λ s. s.value) (filter (λ s. s.update_index == i) writes))
 
 -- the last value that the update at position i wrote to item x
 abbrev pub last_by_update : List UpdateOperation → ℕ → ℕ → Option ℤ
@@ -83,8 +83,8 @@ with_write c i v =
     if is_latest (latest_writer c) i then c else record { writers = c.writers ++ i ∷ []; values = c.values ++ v ∷ [] }
 
 -- the other way round
-abbrev pub turned : Chain → Chain
-turned c = record { writers = reverse c.writers; values = reverse c.values }
+abbrev pub reversed_chain : Chain → Chain
+reversed_chain c = record { writers = reverse c.writers; values = reverse c.values }
 
-abbrev pub seen_links : Links → Chain
-seen_links l = record { writers = l.writers.items; values = l.values.items }
+abbrev pub chain_view : Links → Chain
+chain_view l = record { writers = l.writers.items; values = l.values.items }

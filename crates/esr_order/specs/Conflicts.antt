@@ -26,7 +26,7 @@ abbrev pub AreNextPaired : List (ℕ × ℕ) → List UpdateOperation → Type 0
 AreNextPaired pairs [] = ⊤
 AreNextPaired pairs (a ∷ []) = ⊤
 AreNextPaired pairs (a ∷ b ∷ operations) =
-    (a.position ≢ b.position → Contains pairs (a.position, b.position)) × AreNextPaired pairs (b ∷ operations)
+    (a.update_index ≢ b.update_index → Contains pairs (a.update_index, b.update_index)) × AreNextPaired pairs (b ∷ operations)
 
 -- The pairs are clashes of the operations, at most two for each, and a set that is closed by them is closed by all
 -- clashes.

@@ -9,10 +9,10 @@ no_one = record { writers = []; values = [] }
 
 -- a chain, and the readers, with an operation before
 abbrev pub with_operation : Chain → UpdateOperation → Chain
-with_operation c s = if s.writes then with_write c s.position s.value else c
+with_operation c s = if s.writes then with_write c s.update_index s.value else c
 
 abbrev pub readers_with : List ℕ → UpdateOperation → List ℕ
-readers_with readers s = if s.writes then [] else readers ++ s.position ∷ []
+readers_with readers s = if s.writes then [] else readers ++ s.update_index ∷ []
 
 -- the chain of item x, back from the last writer to the first
 abbrev pub chain_back : ℕ → List UpdateOperation → Chain
@@ -39,11 +39,11 @@ abbrev pub later_conflicts : UpdateOperation → List UpdateOperation → List �
 later_conflicts s later = conflicts_of (chain_back s.item later) (readers_of s.item later) s
 
 -- those of the operations of one update
-abbrev pub turn_conflicts : List UpdateOperation → List UpdateOperation → List ℕ
-turn_conflicts [] later = []
-turn_conflicts (s ∷ turn) later = turn_conflicts turn later ++ later_conflicts s (turn ++ later)
+abbrev pub batch_conflicts : List UpdateOperation → List UpdateOperation → List ℕ
+batch_conflicts [] later = []
+batch_conflicts (s ∷ batch) later = batch_conflicts batch later ++ later_conflicts s (batch ++ later)
 
 -- the chains and the readers of the items, by number
-pub record AreLater (links : List Chain) (rows : List (List ℕ)) (operations : List UpdateOperation) : Type 0 where
+pub record SummarizeLater (links : List Chain) (rows : List (List ℕ)) (operations : List UpdateOperation) : Type 0 where
   pub chains : (x : ℕ) → x < length links → slice_index_or links x no_one ≡ chain_back x operations
   pub readers : (x : ℕ) → x < length rows → slice_index_or rows x [] ≡ readers_of x operations

@@ -11,7 +11,7 @@ pub mod Index
 pub mod UpdateOperations
 pub mod ConflictPairs
 pub mod Conflicts
-pub mod Turns
+pub mod Batches
 pub mod Later
 pub mod BackwardSearch
 pub mod Chains

@@ -3,7 +3,7 @@
 use Rattle.std.specs.Prelude.{ℕ, ℤ, Bool}
 
 pub record UpdateOperation : Type 0 where
-  pub position : ℕ
+  pub update_index : ℕ
   pub item : ℕ
   pub writes : Bool
   pub value : ℤ

@@ -16,7 +16,7 @@ fn conflict(pairs: &mut Vec<(u32, u32)>, i: u32, j: u32) -> Result<(), AllocErro
 }
 
 /// Adds the pairs of a position with others, from the last of these to the first.
-pub fn conflict_back(pairs: &mut Vec<(u32, u32)>, i: u32, others: &[u32]) -> Result<(), AllocError>
+pub fn push_conflicts(pairs: &mut Vec<(u32, u32)>, i: u32, others: &[u32]) -> Result<(), AllocError>
     ensures { OnOk result (pairs.new.items ≡ pairs.old.items ++ reverse (pairs_from i others.now)) }
 {
     for k in (0..others.len()).rev() {
@@ -26,7 +26,7 @@ pub fn conflict_back(pairs: &mut Vec<(u32, u32)>, i: u32, others: &[u32]) -> Res
 }
 
 /// Puts positions in order, each once.
-pub fn put_in_order(positions: &mut Vec<u32>)
+pub fn sort_and_dedup(positions: &mut Vec<u32>)
     ensures ascending { AllPairs (λ i j. i < j) positions.new.items }
     ensures keeps { (i : ℕ) → Contains positions.old.items i → Contains positions.new.items i }
     ensures adds_none { (i : ℕ) → Contains positions.new.items i → Contains positions.old.items i }

@@ -14,15 +14,15 @@ ghost use Rattle.std.specs.List.{range_with_len};
 ghost use Rattle.esr_base.specs.declared.limits.TheConstants.{MAX_TRANSACTIONS};
 ghost use Rattle.esr_order.specs.UpdateOperations.{UpdateOperation};
 ghost use Rattle.esr_order.specs.AccessRows.{AreRowsOf};
-ghost use Rattle.esr_order.specs.Turns.{operation_at, update_operations};
+ghost use Rattle.esr_order.specs.Batches.{operation_at, update_operations};
 ghost use Rattle.esr_order.specs.ConflictPairs.{IsLexLess};
 ghost use Rattle.esr_order.specs.Conflicts.{on_item, AreConflicts, AreNextPaired};
-ghost use Rattle.esr_order.specs.Chains.{chain_from, last_by_update, seen_links};
-ghost use Rattle.esr_order.specs.Later.{with_operation, readers_with, conflicts_of, turn_conflicts, AreLater};
+ghost use Rattle.esr_order.specs.Chains.{chain_from, last_by_update, chain_view};
+ghost use Rattle.esr_order.specs.Later.{with_operation, readers_with, conflicts_of, batch_conflicts, SummarizeLater};
 
 use crate::accesses::Access;
-use crate::chains::{latest_writer, put_write, turn_all};
-use crate::conflicts::{conflict_back, put_in_order};
+use crate::chains::{latest_writer, prepend_write, reverse_all};
+use crate::conflicts::{push_conflicts, sort_and_dedup};
 use crate::links::Links;
 use crate::rows::AccessRows;
 use esr_history::{History, TxnId};
@@ -31,25 +31,25 @@ use std::alloc::{AllocError, Global};
 
 /// Prepends an operation of the update at a position to the later ones of its item, given as the chain and the readers
 /// before the next write. Adds the positions of the updates with which it conflicts.
-fn put_operation(
+fn prepend_operation(
     links: &mut Links,
     readers: &mut Vec<u32>,
     access: Access,
     position: u32,
     conflicts: &mut Vec<u32>,
 ) -> Result<(), AllocError>
-    ensures chain { OnOk result (seen_links links.new
-        ≡ with_operation (seen_links links.old) (operation_at position access)) }
+    ensures chain { OnOk result (chain_view links.new
+        ≡ with_operation (chain_view links.old) (operation_at position access)) }
     ensures readers { OnOk result (readers.new.items ≡ readers_with readers.old.items (operation_at position access)) }
     ensures conflicts { OnOk result (conflicts.new.items
-        ≡ conflicts.old.items ++ conflicts_of (seen_links links.old) readers.old.items (operation_at position access)) }
+        ≡ conflicts.old.items ++ conflicts_of (chain_view links.old) readers.old.items (operation_at position access)) }
 {
     if let Some(writer) = latest_writer(links) {
         conflicts.push(writer)?;
     }
     if access.writes {
         conflicts.append(readers)?;
-        put_write(links, position, access.value)?;
+        prepend_write(links, position, access.value)?;
     } else {
         readers.push(position)?;
     }
@@ -58,7 +58,7 @@ fn put_operation(
 
 /// Prepends the accesses of the update at a position to the later operations, given as the chain and the readers of
 /// each item. Adds the positions of the updates with which it conflicts.
-fn put_turn(
+fn prepend_batch(
     chains: &mut [Links],
     readers: &mut [Vec<u32>],
     accesses: &[Access],
@@ -70,16 +70,16 @@ fn put_turn(
     ensures chains_len { OnOk result (length chains.new ≡ length chains.old) }
     ensures readers_len { OnOk result (length readers.new ≡ length readers.old) }
     ensures later { OnOk result ((operations : List UpdateOperation)
-        → AreLater (map seen_links chains.old) (map (λ r. r.items) readers.old) operations
-        → AreLater (map seen_links chains.new) (map (λ r. r.items) readers.new)
+        → SummarizeLater (map chain_view chains.old) (map (λ r. r.items) readers.old) operations
+        → SummarizeLater (map chain_view chains.new) (map (λ r. r.items) readers.new)
         (map (operation_at position) accesses.now ++ operations)) }
     ensures conflicts { OnOk result ((operations : List UpdateOperation)
-        → AreLater (map seen_links chains.old) (map (λ r. r.items) readers.old) operations
-        → conflicts.new.items ≡ conflicts.old.items ++ turn_conflicts (map (operation_at position) accesses.now) operations) }
+        → SummarizeLater (map chain_view chains.old) (map (λ r. r.items) readers.old) operations
+        → conflicts.new.items ≡ conflicts.old.items ++ batch_conflicts (map (operation_at position) accesses.now) operations) }
 {
     for i in (0..accesses.len()).rev() {
         let x = accesses[i].item.0 as usize;
-        put_operation(
+        prepend_operation(
             &mut chains[x],
             &mut readers[x],
             accesses[i],
@@ -91,14 +91,14 @@ fn put_turn(
 }
 
 /// Returns an empty chain for each item, with the given capacity for writers, and an empty list of readers.
-fn nothing_later(
+fn empty_scan(
     alloc: Global,
     items: u32,
     writers: &[u32],
 ) -> Result<(Vec<Links>, Vec<Vec<u32>>), AllocError>
     ensures chains_len { IfOk result (λ r. length r.0.items ≡ items) }
     ensures readers_len { IfOk result (λ r. length r.1.items ≡ items) }
-    ensures later { IfOk result (λ r. AreLater (map seen_links r.0.items) (map (λ v. v.items) r.1.items) []) }
+    ensures later { IfOk result (λ r. SummarizeLater (map chain_view r.0.items) (map (λ v. v.items) r.1.items) []) }
 {
     let mut chains = Vec::with_capacity(alloc, items as usize)?;
     let mut readers = Vec::with_capacity(alloc, items as usize)?;
@@ -142,30 +142,30 @@ fn gather_into<M: Metric>(
     requires within_max { length updates.now ≤ MAX_TRANSACTIONS }
     requires linked { length chains.old ≡ length history.now.schedule.opening }
     requires read { length readers.old ≡ length history.now.schedule.opening }
-    requires later { AreLater (map seen_links chains.old) (map (λ r. r.items) readers.old) [] }
+    requires later { SummarizeLater (map chain_view chains.old) (map (λ r. r.items) readers.old) [] }
     requires none { pairs.old.items ≡ [] }
     ensures ascending { OnOk result (AllPairs IsLexLess pairs.new.items) }
     ensures conflicting { OnOk result (AreConflicts (update_operations history.now.schedule updates.now) pairs.new.items) }
     ensures next { OnOk result ((x : ℕ) → AreNextPaired pairs.new.items
         (filter (λ s. s.writes) (on_item x (update_operations history.now.schedule updates.now)))) }
     ensures len { OnOk result (length chains.new ≡ length chains.old) }
-    ensures chains { OnOk result (map seen_links chains.new
+    ensures chains { OnOk result (map chain_view chains.new
         ≡ map (λ x. chain_from (last_by_update (update_operations history.now.schedule updates.now) x)
         (length updates.now))
         (range_with_len 0 (length history.now.schedule.opening))) }
 {
-    let _legal = history.log(); // brings the invariant into the proof
+    let _invariant = history.log(); // brings the invariant into the proof
     let mut list = Vec::new(alloc);
     let mut conflicts = Vec::new(alloc);
     for i in (0..updates.len()).rev() {
         let accesses = rows.accesses_of(history, updates[i], &mut list)?;
         conflicts.clear();
-        put_turn(chains, readers, accesses, i as u32, &mut conflicts)?;
-        put_in_order(&mut conflicts);
-        conflict_back(pairs, i as u32, &conflicts)?;
+        prepend_batch(chains, readers, accesses, i as u32, &mut conflicts)?;
+        sort_and_dedup(&mut conflicts);
+        push_conflicts(pairs, i as u32, &conflicts)?;
     }
     pairs.reverse();
-    turn_all(chains);
+    reverse_all(chains);
     Ok(())
 }
 
@@ -184,13 +184,13 @@ pub fn gather<M: Metric>(
     ensures conflicting { IfOk result (λ g. AreConflicts (update_operations history.now.schedule updates.now) g.pairs.items) }
     ensures next { IfOk result (λ g. (x : ℕ) → AreNextPaired g.pairs.items
         (filter (λ s. s.writes) (on_item x (update_operations history.now.schedule updates.now)))) }
-    ensures chains { IfOk result (λ g. map seen_links g.chains.items
+    ensures chains { IfOk result (λ g. map chain_view g.chains.items
         ≡ map (λ x. chain_from (last_by_update (update_operations history.now.schedule updates.now) x)
         (length updates.now))
         (range_with_len 0 (length history.now.schedule.opening))) }
 {
-    let _legal = history.log(); // brings the invariant into the proof
-    let (mut chains, mut readers) = nothing_later(alloc, history.items(), writers)?;
+    let _invariant = history.log(); // brings the invariant into the proof
+    let (mut chains, mut readers) = empty_scan(alloc, history.items(), writers)?;
     // a write is mostly tied to the next of its item alone
     let mut pairs = Vec::with_capacity(alloc, total_of(writers))?;
     gather_into(

@@ -10,7 +10,7 @@ ghost use Rattle.std.specs.Prelude.{◌≡◌, ◌↔◌, ◌<◌, ◌≤◌, �
 ghost use Rattle.std.specs.List.{range_with_len};
 ghost use Rattle.esr_base.specs.declared.limits.TheConstants.{MAX_TRANSACTIONS};
 ghost use Rattle.esr_history.specs.Queries.{is_committed_query, must};
-ghost use Rattle.esr_order.specs.Chains.{seen_links, nth};
+ghost use Rattle.esr_order.specs.Chains.{chain_view, nth};
 ghost use Rattle.esr_order.specs.declared.order.OrderError.TheVariants.{NoMemory};
 ghost use Rattle.esr_order.specs.Orders.{ConflictOrder, IsConflictOrder, IsConflictOrderOn, chain_at, operations_of};
 ghost use Rattle.esr_order.specs.AccessRows.{AreRowsOf};
@@ -70,7 +70,7 @@ impl Model for Order {
       commits = o.commits.items;
       before = o.before.items;
       must = o.must.items;
-      chains = map seen_links o.chains.items;
+      chains = map chain_view o.chains.items;
     } };
 }
 
@@ -103,7 +103,7 @@ fn among<M: Metric>(
     ensures sparse { IfOk result (λ o. length o.before ≤ 2 * length
         (filter (λ p. is_among (map (λ t. t.0) commits.items) p.txn) (operations history.now.schedule))) }
 {
-    let _legal = history.log(); // brings the invariant into the proof
+    let _invariant = history.log(); // brings the invariant into the proof
     let gathered = gather(alloc, history, rows, &commits, writers)?;
     let must = first_positions(alloc, first)?;
     Ok(Order {
@@ -129,7 +129,7 @@ fn relevant_with<M: Metric>(
     ensures refused { IsErrOf result OrderError.NotACommittedQuery
         ↔ (is_committed_query history.now.schedule q.0 ≡ false) }
 {
-    let _legal = history.log(); // brings the invariant into the proof
+    let _invariant = history.log(); // brings the invariant into the proof
     if !is_committed_query(history, q) {
         return Err(OrderError::NotACommittedQuery);
     }
@@ -155,7 +155,7 @@ impl Order {
         ensures refused { IsErrOf result OrderError.NotACommittedQuery
             ↔ (is_committed_query history.now.schedule q.0 ≡ false) }
     {
-        let _legal = history.log(); // brings the invariant into the proof
+        let _invariant = history.log(); // brings the invariant into the proof
         if !is_committed_query(history, q) {
             return Err(OrderError::NotACommittedQuery);
         }
@@ -256,7 +256,7 @@ impl Order {
 
     /// Returns the updates that wrote the item, if there are any.
     pub fn chain(&self, x: ItemId) -> Option<&Links>
-        ensures { option_map (λ l. seen_links l.now) result ≡ chain_at self.now x.0 }
+        ensures { option_map (λ l. chain_view l.now) result ≡ chain_at self.now x.0 }
     {
         match self.chains.get(x.0 as usize) {
             Some(links) if !links.writers.is_empty() => Some(links),
@@ -266,7 +266,7 @@ impl Order {
 
     /// Takes the updates that wrote the item, and the values that they left, out of the order, if there are any.
     pub fn take_chain(&mut self, alloc: Global, x: ItemId) -> Option<Links>
-        ensures chain { option_map seen_links result ≡ chain_at self.old x.0 }
+        ensures chain { option_map chain_view result ≡ chain_at self.old x.0 }
         ensures others { (y : ℕ) → y ≢ x.0 → chain_at self.new y ≡ chain_at self.old y }
         ensures commits { self.new.commits ≡ self.old.commits }
         ensures before { self.new.before ≡ self.old.before }

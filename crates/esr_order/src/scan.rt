@@ -63,7 +63,7 @@ fn ends_of<M: Metric>(alloc: Global, history: &History<M>) -> Result<Vec<u64>, A
     ensures rises { IfOk result (λ v. IsStrictlyIncreasing v.items) }
     ensures ends { IfOk result (λ v. AreEnds history.now.schedule v.items) }
 {
-    let _legal = history.log(); // brings the invariant into the proof
+    let _invariant = history.log(); // brings the invariant into the proof
     let mut ends = Vec::new(alloc);
     let mut t = 1;
     while let Some(facts) = history.facts(TxnId(t)) {
@@ -214,7 +214,7 @@ pub fn count_must<M: Metric>(
     requires updates { map (λ t. t.0) updates.now ≡ updates_of history.now.schedule q.0 }
     ensures { IfOk result (λ n. n ≡ length (must history.now.schedule q.0)) }
 {
-    let _legal = history.log(); // brings the invariant into the proof
+    let _invariant = history.log(); // brings the invariant into the proof
     let begin = begin_place(alloc, history, q)?;
     if begin.strict {
         Ok(count_before(history, updates, begin.place))

@@ -75,7 +75,7 @@ impl Items {
             ≡ list_any (is_access false x) (accesses_in history.now.schedule.entries q.0)) }
         ensures written { IfOk result (λ items. (x : ℕ) → marked items.written.items x ≡ false) }
     {
-        let _legal = history.log(); // brings the invariant into the proof
+        let _invariant = history.log(); // brings the invariant into the proof
         let mut read = vec![in alloc; false; history.items() as usize]?;
         let written = vec![in alloc; false; history.items() as usize]?;
         let accesses = accesses_of(alloc, history, q)?;
@@ -133,7 +133,7 @@ pub fn relevant_of<M: Metric>(
     requires first { first ≡ length (must history.now.schedule q.0) }
     ensures relevant { IfOk result (λ n. AreRelevant history.now.schedule q.0 (map (λ t. t.0) n.updates.items)) }
 {
-    let _legal = history.log(); // brings the invariant into the proof
+    let _invariant = history.log(); // brings the invariant into the proof
     let mut items = Items::is_problem(alloc, history, q)?;
     let mut writes = vec![in alloc; 0u32; history.items() as usize]?;
     let mut relevant = Vec::new(alloc);

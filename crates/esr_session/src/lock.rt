@@ -117,7 +117,7 @@ fn step_in<M: Metric, N: Naming>(
         return Err(StepError::NoMemory);
     }
     let reply = machine.step(event)?;
-    let _legal = machine.log(); // brings the history's legality into the proof
+    let _invariant = machine.log(); // brings the history's legality into the proof
     let receipt = receipt(place, event, reply);
     pocket.receipts.push_reserved(receipt);
     total.add(&mut pocket.share, 1);

@@ -18,7 +18,7 @@ use Rattle.esr_order.proofs.BackwardSearch.{did_by_operation, accessed, operatio
 use Rattle.esr_order.proofs.Turns.{ahead, conflict_parts}
 use Rattle.esr_bound.specs.Amounts.{mark_at, HasMarked}
 use Rattle.esr_bound.proofs.LowerBound.{nth_in, pairs_at}
-use Rattle.esr_stream.specs.Closing.{IsAdded, IsFlag, AreLater, has_access}
+use Rattle.esr_stream.specs.Closing.{IsAdded, IsFlag, SummarizeLater, has_access}
 use Rattle.esr_stream.specs.Passes.{StayMarked}
 use Rattle.esr_stream.proofs.PassLaws.{mark_same, mark_other, stay_more}
 
@@ -26,7 +26,7 @@ use Rattle.esr_stream.proofs.PassLaws.{mark_same, mark_other, stay_more}
 pub record IsClosedFrom (h : Schedule) (q k : ℕ) (seeds marks : List Bool) (s : Seen) : Type 0 where
   pub len : length marks ≡ length seeds
   pub stay : StayMarked seeds marks
-  pub later : AreLater h q k marks s
+  pub later : SummarizeLater h q k marks s
   pub down : (i j : ℕ) → k ≤ i → i < j → j < length (updates_of h q) → is_before h (nth (updates_of h q) i) (nth (updates_of h q) j) ≡ true → mark_at marks j ≡ true → mark_at marks i ≡ true
   pub spread : (S : ℕ → Bool) → IsClosed h q S → HasMarked h q seeds S → HasMarked h q marks S
 
@@ -86,7 +86,7 @@ module _ (d : DistanceFunction) (h : Schedule) (q : ℕ) (legal : IsLegal d h) (
     ];
   }
 
-  later_after : (b : Bool) → member ≡ b → AreLater h q i (set marks i member) t
+  later_after : (b : Bool) → member ≡ b → SummarizeLater h q i (set marks i member) t
   later_after true m = record {
     read = λ x. flag_added x false (marked s.read x) (marked t.read x) m ((added m).read x) (so_far.later.read x);
     written = λ x. flag_added x true (marked s.written x) (marked t.written x) m ((added m).written x) (so_far.later.written x);

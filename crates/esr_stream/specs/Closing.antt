@@ -28,6 +28,6 @@ pub record IsFlag (h : Schedule) (q k : ℕ) (marks : List Bool) (x : ℕ) (writ
   pub all : (j : ℕ) → k ≤ j → j < length (updates_of h q) → mark_at marks j ≡ true → has_access h writes x (nth (updates_of h q) j) ≡ true → flag ≡ true
 
 -- the flags of all items
-pub record AreLater (h : Schedule) (q k : ℕ) (marks : List Bool) (s : Seen) : Type 0 where
+pub record SummarizeLater (h : Schedule) (q k : ℕ) (marks : List Bool) (s : Seen) : Type 0 where
   pub read : (x : ℕ) → IsFlag h q k marks x false (marked s.read x)
   pub written : (x : ℕ) → IsFlag h q k marks x true (marked s.written x)

@@ -132,7 +132,7 @@ pub fn close<M: Metric>(
     ensures closed { IfOk result (λ _. AreFirst (length (must history.now.schedule q.0)) marks.old
         → IsClosed history.now.schedule q.0 (among_marked (updates_of history.now.schedule q.0) marks.new)) }
 {
-    let _legal = history.log(); // brings the invariant into the proof
+    let _invariant = history.log(); // brings the invariant into the proof
     let mut later = no_later(alloc, history.items())?;
     let mut list = Vec::new(alloc);
     let mut more = false;

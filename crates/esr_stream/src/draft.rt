@@ -466,7 +466,7 @@ pub fn draft<M: Metric>(
     requires items { length lists.now ≡ length history.now.schedule.opening }
     requires read { AreRead lists.now }
 {
-    let _legal = history.log(); // brings the invariant into the proof
+    let _invariant = history.log(); // brings the invariant into the proof
     let mut list = Vec::new(alloc);
     let mut versions = Versions::opening(alloc, history, lists, history.log().len())?;
     let mut latest = Vec::with_capacity(alloc, history.items() as usize)?;

@@ -92,7 +92,7 @@ fn round<M: Metric>(
         → AreShown (length history.now.schedule.opening) (raised (M.distance_by history.now.schedule.weights) lists.now)
         history.now.schedule q.0 (amounts_sum begin.now) marks.new) }
 {
-    let _legal = history.log(); // brings the invariant into the proof
+    let _invariant = history.log(); // brings the invariant into the proof
     let mut states = copy_of(alloc, begin)?;
     let whole = pass(
         alloc,
@@ -148,7 +148,7 @@ fn mark_least<M: Metric>(
         → AreShown (length history.now.schedule.opening) (raised (M.distance_by history.now.schedule.weights) lists.now)
         history.now.schedule q.0 (amounts_sum begin.now) marks.new) }
 {
-    let _legal = history.log(); // brings the invariant into the proof
+    let _invariant = history.log(); // brings the invariant into the proof
     for _round in 0..MAX_ROUNDS {
         let end = round(
             alloc, history, index, updates, first, lists, amounts, begin, marks, q,
@@ -251,7 +251,7 @@ fn members_of<M: Metric>(
     ensures len { IfOk result (λ m. length m.values.items ≡ length history.now.schedule.opening) }
     ensures range { IfOk result (λ m. All IsValue m.values.items) }
 {
-    let _legal = history.log(); // brings the invariant into the proof
+    let _invariant = history.log(); // brings the invariant into the proof
     let mut values = opening_copy(alloc, history)?;
     let mut txns = Vec::new(alloc);
     let mut list = Vec::new(alloc);
@@ -311,7 +311,7 @@ fn least_from<M: Metric>(
     ensures { IfOk result (λ found. IfSome found (λ l. IsLeast M.distance_by history.now.schedule q.0 l.distance
         (map (λ t. t.0) l.before.items))) }
 {
-    let _legal = history.log(); // brings the invariant into the proof
+    let _invariant = history.log(); // brings the invariant into the proof
     let members = members_of(alloc, history, index, updates, marks, q)?;
     let items = history.items();
     let Some(cost) = cost_of(history.metric(), lists, &members.values, items) else {
@@ -347,7 +347,7 @@ fn find<M: Metric>(
     ensures { IfOk result (λ found. IfSome found (λ l. IsLeast M.distance_by history.now.schedule q.0 l.distance
         (map (λ t. t.0) l.before.items))) }
 {
-    let _legal = history.log(); // brings the invariant into the proof
+    let _invariant = history.log(); // brings the invariant into the proof
     let first = count_must(alloc, history, updates, q)?;
     let amounts = draft(alloc, history, index, updates, first, lists)?;
     let Some(begin) = start(alloc, history, index, updates, first, lists, &amounts, q)? else {
@@ -392,7 +392,7 @@ pub fn least_of<M: Metric>(
     ensures { IfOk result (λ found. IfSome found (λ l. IsLeast M.distance_by history.now.schedule q.0 l.distance
         (map (λ t. t.0) l.before.items))) }
 {
-    let _legal = history.log(); // brings the invariant into the proof
+    let _invariant = history.log(); // brings the invariant into the proof
     if !is_committed_query(history, q) {
         return Ok(None);
     }

@@ -1,15 +1,17 @@
-//! The streaming audit: the least distance of a query and its smallest set, by passes over the updates in commit order.
+//! Audits by streaming: computes the least distance of a query, and the smallest set of updates that has it, in passes
+//! over the updates in commit order.
 //!
-//! No problem and no network is built. A draft gives each version of an item an amount, and nothing is promised of the
-//! draft. A pass checks the amounts: it lowers each amount to the cost of its version, and stops if an update decreases the
-//! sum. The laws of `esr_bound` then show that no closed set costs less than the sum at the start. The pass marks the
-//! updates that every set of least cost contains, and `close` adds their predecessors. A closed marked set whose cost is
-//! the bound is the answer. If the amounts are too low, the audit returns no answer, and the caller solves the problem of
-//! the query instead.
+//! The method builds neither a closure problem nor a flow network. A draft (`draft`) assigns an amount to each version of
+//! an item. No clause constrains the draft. A pass (`pass`) checks the amounts: it lowers each amount to at most the cost
+//! of its version, and it fails if an update decreases the sum of the amounts. The laws of `esr_bound` then imply that no
+//! closed set costs less than the sum before the first update. The pass also marks the updates that every set of least
+//! cost contains, and `close` adds their predecessors. If the marked set is closed and its cost equals the bound, it is
+//! the result. Otherwise the amounts were too low, the functions return `None`, and the caller solves the closure problem
+//! of the query (`esr_audit`).
 //!
-//! The proof covers the check and not the search, so the draft can change without a new theorem. Amounts below zero occur,
-//! so each cost has an offset (`OFFSET`), and amounts are unsigned. Rejected: a certificate over records of the log, which
-//! needs the arcs of the network and their conservation.
+//! The proof covers the check and not the search, so the draft can change without a new theorem. Costs below zero occur,
+//! so each cost is stored with an offset (`OFFSET`), and amounts are unsigned. A certificate over the records of the log
+//! was rejected: it needs the arcs of the network and their conservation.
 #![tactic(auto)]
 
 mod closing;

@@ -42,7 +42,7 @@ pub fn start<M: Metric>(
         → AreStates (raised (M.distance_by history.now.schedule.weights) lists.now) history.now.schedule q.0 first marks
         s.states.items)) }
 {
-    let _legal = history.log(); // brings the invariant into the proof
+    let _invariant = history.log(); // brings the invariant into the proof
     let mut states = opening_states(alloc, history, lists, amounts)?;
     let mut list = Vec::new(alloc);
     let mut place = history.items() as usize;
@@ -103,7 +103,7 @@ pub fn pass<M: Metric>(
         → IsPassed (length history.now.schedule.opening) (raised (M.distance_by history.now.schedule.weights) lists.now)
         history.now.schedule q.0 worth (length updates.now) marks.old marks.new states.new) }
 {
-    let _legal = history.log(); // brings the invariant into the proof
+    let _invariant = history.log(); // brings the invariant into the proof
     let mut list = Vec::new(alloc);
     let mut place = 0usize;
     for i in first..updates.len() {

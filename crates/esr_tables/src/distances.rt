@@ -20,7 +20,7 @@ pub fn txn_at(history: &History<Weighted>, place: usize) -> TxnId
     requires { place < begun_count history.now.schedule.entries }
     ensures { result.0 ≡ place + 1 }
 {
-    let _legal = history.log(); // brings the invariant into the proof
+    let _invariant = history.log(); // brings the invariant into the proof
     TxnId(place as u32 + 1)
 }
 

@@ -117,7 +117,7 @@ pub fn exports(alloc: Global, history: &History<Weighted>) -> Result<Vec<u64>, N
     ensures { IfOk result (λ v. v.items ≡ map (export_in (charges_in weighted history.now.schedule))
         (range_with_len 0 (begun_count history.now.schedule.entries + 1))) }
 {
-    let _legal = history.log(); // brings the invariant into the proof
+    let _invariant = history.log(); // brings the invariant into the proof
     let count = history.begun_count().saturating_add(1);
     if imports_nothing(history) {
         let exports = no_exports(alloc, count)?;

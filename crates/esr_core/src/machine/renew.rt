@@ -106,7 +106,7 @@ impl<M: Metric + Drop> Machine<M> {
         ensures range { IfOk result (λ p. All IsValue p.1.items) }
         ensures legal { IsLegal M.distance_by self.now }
     {
-        let _legal = self.history.log(); // brings the invariant into the proof
+        let _invariant = self.history.log(); // brings the invariant into the proof
         let opening = self.committed_values(alloc)?;
         let items = Store::of_valid(alloc, &opening)?;
         let mut state = State::new(alloc, items)?;

@@ -122,7 +122,7 @@ fn report_concurrent_with_writer(rt: HostRuntime) {
     check_run(&rt, rt.alloc(), 100, &REPORT_AND_WRITER, 7);
 }
 
-const ONE_WRITE_TWO_QUERIES: [(OneItemEvent, Reply); 9] = [
+const WRITE_THEN_TWO_QUERY_READS: [(OneItemEvent, Reply); 9] = [
     (BeginQuery(10), Begun(TxnId(1))),
     (BeginQuery(5), Begun(TxnId(2))),
     (BeginUpdate(14), Begun(TxnId(3))),
@@ -138,7 +138,7 @@ const ONE_WRITE_TWO_QUERIES: [(OneItemEvent, Reply); 9] = [
 /// suffices, and 14 does not.
 #[test]
 fn export_limit_covers_all_queries(rt: HostRuntime) {
-    check_run(&rt, rt.alloc(), 0, &ONE_WRITE_TWO_QUERIES, 15);
+    check_run(&rt, rt.alloc(), 0, &WRITE_THEN_TWO_QUERY_READS, 15);
 }
 
 const UPGRADE: [(OneItemEvent, Reply); 8] = [

@@ -3,18 +3,18 @@ use Rattle.std.proofs.lemmas.Bool.{not-false}
 use Rattle.std.proofs.lemmas.List.{length-map}
 use Rattle.esr_history.specs.ItemLocks.{ItemLocks}
 use Rattle.esr_locks.specs.LockEntries.{LockEntryModel, LockedItemsModel, with_lock, has_lock_in_mode}
-use Rattle.esr_locks.specs.Tables.{Table, spare_lock_capacity, locks_at, has_lock}
+use Rattle.esr_locks.specs.Tables.{LockTableModel, spare_lock_capacity, locks_at, has_lock}
 use Rattle.esr_locks.proofs.Tables.{set_entry, IsLockTable-push, IsLockTable-already_locked, has_list, read_list, lock_more, such_has}
 use Rattle.esr_locks.proofs.table.LockTable.add.Goals as goal
 use Rattle.esr_locks.proofs.table.LockTable.add.Goals.{After-add}
 
 inside : (c : After-add) → c.args.x.0 < length c.self.inside.entries.items
-inside c = rw (← length-map c.self.inside.entries.items (λ (r : LockEntryModel). r.locks)) (subst (λ (v : Table). c.args.x.0 < length v.locks) (sym c.self.view_is) c.requires.item)
+inside c = rw (← length-map c.self.inside.entries.items (λ (r : LockEntryModel). r.locks)) (subst (λ (v : LockTableModel). c.args.x.0 < length v.locks) (sym c.self.view_is) c.requires.item)
 
 in_list : (c : After-add) → c.args.t.0 < length c.self.inside.by_transaction.items
 in_list c =
     let spare_capacity : 0 < min (slice_index (map (λ (r : LockEntryModel). r.spare_capacity) c.self.inside.entries.items) c.args.x.0) (slice_index (map (λ (h : LockedItemsModel). h.spare_capacity) c.self.inside.by_transaction.items) c.args.t.0) =
-    subst (λ (v : Table). 0 < spare_lock_capacity v c.args.t.0 c.args.x.0) (sym c.self.view_is) c.requires.spare_capacity in
+    subst (λ (v : LockTableModel). 0 < spare_lock_capacity v c.args.t.0 c.args.x.0) (sym c.self.view_is) c.requires.spare_capacity in
     has_list c.self.inside.by_transaction.items c.args.t.0 (omega arith)
 
 more : (c : After-add) (u : ℕ) → has_lock c.add.new.self.locks u ≡ true → (has_lock c.index_mut.result.now.locks u ≡ true) ⊎ (c.args.t.0 ≡ u)
@@ -22,7 +22,7 @@ more c u is = lock_more c.args.mode c.args.t.0 u c.index_mut.result.now.locks (a
 
 locks : (c : After-add) → map (λ (r : LockEntryModel). r.locks) (set c.self.inside.entries.items c.args.x.0 c.add.new.self) ≡ set c.args.self.now.locks c.args.x.0 (with_lock c.args.mode c.args.t.0 (locks_at c.args.self.now.locks c.args.x.0))
 locks c =
-    subst (λ (v : Table). map (λ (r : LockEntryModel). r.locks) (set c.self.inside.entries.items c.args.x.0 c.add.new.self) ≡ set v.locks c.args.x.0 (with_lock c.args.mode c.args.t.0 (locks_at v.locks c.args.x.0))) c.self.view_is
+    subst (λ (v : LockTableModel). map (λ (r : LockEntryModel). r.locks) (set c.self.inside.entries.items c.args.x.0 c.add.new.self) ≡ set v.locks c.args.x.0 (with_lock c.args.mode c.args.t.0 (locks_at v.locks c.args.x.0))) c.self.view_is
     (set_entry c.self.inside.entries.items c.args.x.0 c.index_mut.result.now c.add.new.self (λ (l : ItemLocks). with_lock c.args.mode c.args.t.0 l) (inside c) c.index_mut.ensures.value c.add.ensures.locks)
 
 pub invariant_of-self : goal.invariant_of-self

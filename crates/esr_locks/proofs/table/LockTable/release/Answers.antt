@@ -1,6 +1,6 @@
 use Rattle.std.proofs.Common.{◌≡◌, ℕ, ◌<◌, subst, map, length, if◌then◌else◌, arith}
 use Rattle.esr_locks.specs.LockEntries.{LockEntryModel, entry_at, items_locked_by}
-use Rattle.esr_locks.specs.Tables.{Table, released, contains_item}
+use Rattle.esr_locks.specs.Tables.{LockTableModel, released, contains_item}
 use Rattle.esr_locks.proofs.Tables.{released_all, IsLockTable-released}
 use Rattle.esr_locks.proofs.table.LockTable.release.Goals as goal
 use Rattle.esr_locks.proofs.table.LockTable.release.Goals.{After-release_each}
@@ -17,6 +17,6 @@ invariant_of-self c =
 
 pub returns : goal.returns
 returns c =
-    subst (λ (v : Table). map (λ (r : LockEntryModel). r.locks) c.release_each.new.entries.items ≡ map (released c.args.t.0) v.locks) c.self.view_is
+    subst (λ (v : LockTableModel). map (λ (r : LockEntryModel). r.locks) c.release_each.new.entries.items ≡ map (released c.args.t.0) v.locks) c.self.view_is
     (released_all c.self.inside.entries.items c.self.inside.by_transaction.items c.self.invariant c.args.t.0 c.release_each.new.entries.items c.clear_list.new.by_transaction.items
     c.release_each.ensures.len (each (goal.at.returns c).After-release_each) c.clear_list.ensures)

@@ -1,5 +1,0 @@
-use Rattle.std.proofs.Common.{rules, map-id}
-use Rattle.esr_bundle.proofs.sound.positions.Goals as goal
-
-pub returns : goal.returns
-returns c = search (rules, map-id)
