@@ -13,7 +13,7 @@ use Rattle.esr_order.specs.declared.accesses.Access.{Access}
 use Rattle.esr_order.specs.Scans.{access_of, accesses_in}
 use Rattle.esr_order.proofs.Accessed.{reads_are}
 use Rattle.esr_audit.specs.Reads.{item_read_in, item_read_of, ItemRead}
-use Rattle.esr_audit.proofs.ProblemRanges.{reads_counted, reads_in_range}
+use Rattle.esr_order.proofs.QueryReads.{reads_counted, reads_in_range}
 
 -- the reads among the accesses of q are its reads
 pub item_reads_are : (h : Schedule) (q : ℕ) → map item_read_in (filter (λ (a : Access). not a.writes) (accesses_in h.entries q)) ≡ map item_read_of (reads_by h q)
@@ -28,7 +28,7 @@ module _ (h : Schedule) (q : ℕ) (range : IsWithinRanges h) (opening_values_in_
   item_reads_at_most_max query = let r = range.reads q query in omega (arith, length-map (reads_by h q) item_read_of, reads_counted h q, r)
 
   pub item_reads_in_range : All (λ (r : ItemRead). IsValue r.value) (map item_read_of (reads_by h q))
-  item_reads_in_range = All-from_recursion (λ (r : ItemRead). IsValue r.value) (map item_read_of (reads_by h q)) (go (reads_by h q) (reads_in_range h range opening_values_in_range q))
+  item_reads_in_range = All-from_recursion (λ (r : ItemRead). IsValue r.value) (map item_read_of (reads_by h q)) (go (reads_by h q) (reads_in_range h range q))
     where
       go : (os : List Operation) → AllByRecursion (λ (o : Operation). IsValue o.value × (o.item < length h.opening)) os → AllByRecursion (λ (r : ItemRead). IsValue r.value) (map item_read_of os)
       go [] all = tt

@@ -24,6 +24,7 @@ use Rattle.esr_order.specs.Chains.{nth}
 use Rattle.esr_order.specs.Orders.{ConflictOrder, IsConflictOrderOn}
 use Rattle.esr_order.specs.Relevant.{AreRelevant, has_written}
 use Rattle.esr_order.proofs.RelevantLaws.{relevant_updates}
+use Rattle.esr_order.proofs.QueryReads.{reads_counted, reads_in_range}
 use Rattle.esr_base.specs.declared.limits.TheConstants.{MAX_ITEMS, MAX_TRANSACTIONS}
 use Rattle.esr_cert.specs.declared.range.TheConstants.{MAX_COST}
 use Rattle.esr_cert.specs.Problem.{Chain, Problem, size, greatest, chain_is_in_range, is_in_range, is_well_formed}
@@ -32,29 +33,6 @@ use Rattle.esr_audit.specs.Problems.{passes_at, places, items_read, writers_of, 
 use Rattle.esr_audit.proofs.Costs.{by_item, sum_mapped}
 use Rattle.esr_audit.proofs.ProblemOfOrder.{problem_of_order}
 use Rattle.esr_audit.proofs.Shape as shape
-
--- a query's accepted reads are as many as its reads
-pub reads_counted : (h : Schedule) (q : ℕ) → length (reads_by h q) ≡ total_read_count (accepted_in h) q
-reads_counted h q = go (filter (λ (e : Entry). not (is_refusal e.reply)) h.entries)
-  where
-    at : (t : ℕ) (ev : Event) (r : Reply) (os : List Operation) → length (filter (λ o. not o.writes && (eqb o.txn t)) (cons_option (operation_by ev r) os)) ≡ cond (reads_any t ev) 1 0 + length (filter (λ o. not o.writes && (eqb o.txn t)) os)
-    at t (BeginUpdate l) r os = omega arith
-    at t (BeginQuery l s) r os = omega arith
-    at t (Read u y) r os = pick (eqb u.0 t)
-      where
-        pick : (b : Bool) → length (cond b (record { txn = u.0; item = y.0; writes = false; value = answer r } ∷ filter (λ o. not o.writes && (eqb o.txn t)) os) (filter (λ o. not o.writes && (eqb o.txn t)) os)) ≡ cond b 1 0 + length (filter (λ o. not o.writes && (eqb o.txn t)) os)
-        pick true = omega arith
-        pick false = omega arith
-    at t (Write u y v) r os = omega arith
-    at t (Commit u) r os = omega arith
-    at t (Abort u) r os = omega arith
-
-    go : (es : List Entry) → length (filter (λ o. not o.writes && (eqb o.txn q)) (filter_map operation_of es)) ≡ count_by (reads_any q) (map (λ e. e.event) es)
-    go [] = refl
-    go (e ∷ es) =
-        at q e.event e.reply (filter_map operation_of es)
-        ∙ ap (λ n. cond (reads_any q e.event) 1 0 + n) (go es)
-        ∙ sym (sum_by-cons (λ f. cond (reads_any q f) 1 0) e.event (map (λ e. e.event) es))
 
 last_in_range : (v : ℤ) (vs : List ℤ) → IsValue v → AllByRecursion IsValue vs → IsValue (last_value v vs)
 last_in_range v [] first all = first
@@ -93,14 +71,6 @@ module _ (h : Schedule) (range : IsWithinRanges h) (opening_values_in_range : Al
           (subst (AllByRecursion IsValue) (sym (values_trace h x u)) (given (filter (wrote_by x u) (operations h)) (λ o i. each_at (λ (o : Operation). IsValue o.value) (operations h) o (recursion_from_All (λ (o : Operation). IsValue o.value) (operations h) range.values) (In-of_filter (wrote_by x u) (operations h) o i).0)))
           (all us)
 
-  -- the reads of a query are values in range of existing items
-  pub reads_in_range : (q : ℕ) → AllByRecursion (λ (o : Operation). IsValue o.value × (o.item < length h.opening)) (reads_by h q)
-  reads_in_range q = each_in (λ (o : Operation). IsValue o.value × (o.item < length h.opening)) (reads_by h q) (λ o i.
-      let j = (In-of_filter (λ (o : Operation). not o.writes && eqb o.txn q) (operations h) o i).0 in (
-        each_at (λ (o : Operation). IsValue o.value) (operations h) o (recursion_from_All (λ (o : Operation). IsValue o.value) (operations h) range.values) j,
-        each_at (λ (o : Operation). o.item < length h.opening) (operations h) o (recursion_from_All (λ (o : Operation). o.item < length h.opening) (operations h) range.items) j,
-      ))
-
   -- the number of an update
   number_in_range : (u : ℕ) → is_update (accepted_in h) u ≡ true → (0 < u) × (u ≤ 65535)
   number_in_range zero is = absurd (true≢false (sym is))
@@ -126,7 +96,7 @@ module _ (d : DistanceFunction) (h : Schedule) (q : ℕ) (range : IsWithinRanges
   at_most x = sum_by (λ (o : Operation). cond (eqb o.item x) B 0) (reads_by h q)
 
   version_within : (x j : ℕ) → version_cost d h q x j ≤ at_most x
-  version_within x j = go (reads_by h q) (reads_in_range h range opening_values_in_range q)
+  version_within x j = go (reads_by h q) (reads_in_range h range q)
     where
       v : ℤ
       v = state h (take j (writers_of h q x)) x
@@ -145,7 +115,7 @@ module _ (d : DistanceFunction) (h : Schedule) (q : ℕ) (range : IsWithinRanges
 
   inside : AllByRecursion (λ (o : Operation). (list_any (λ (p : Operation). eqb p.item o.item) (reads_by h q) ≡ true) × (o.item < length h.opening)) (reads_by h q)
   inside = each_in (λ (o : Operation). (list_any (λ (p : Operation). eqb p.item o.item) (reads_by h q) ≡ true) × (o.item < length h.opening)) (reads_by h q) (λ o i.
-      (any-from_In (λ (p : Operation). eqb p.item o.item) (reads_by h q) o i (eq-eqb o.item o.item refl), (each_at (λ (o : Operation). IsValue o.value × (o.item < length h.opening)) (reads_by h q) o (reads_in_range h range opening_values_in_range q) i).1))
+      (any-from_In (λ (p : Operation). eqb p.item o.item) (reads_by h q) o i (eq-eqb o.item o.item refl), (each_at (λ (o : Operation). IsValue o.value × (o.item < length h.opening)) (reads_by h q) o (reads_in_range h range q) i).1))
 
   greatest_cost : (x : ℕ) → greatest (map (version_cost d h q x) (range_with_len 0 (suc (length (writers_of h q x))))) ≤ at_most x
   greatest_cost x = greatest_within (at_most x) (map (version_cost d h q x) (range_with_len 0 (suc (length (writers_of h q x))))) (each_mapped (λ n. n ≤ at_most x) (version_cost d h q x) (range_with_len 0 (suc (length (writers_of h q x)))) (version_within x))

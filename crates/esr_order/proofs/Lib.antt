@@ -31,3 +31,4 @@ pub mod Complete
 pub mod Gathered
 pub mod Meets
 pub mod Least
+pub mod QueryReads

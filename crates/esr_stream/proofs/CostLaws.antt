@@ -22,6 +22,7 @@ use Rattle.esr_history.proofs.WithinRanges.{legal_within_ranges}
 use Rattle.esr_order.specs.declared.accesses.Access.{Access}
 use Rattle.esr_order.specs.Scans.{access_of, accesses_in}
 use Rattle.esr_order.proofs.Accessed.{reads_are}
+use Rattle.esr_order.proofs.QueryReads.{reads_counted, reads_in_range}
 use Rattle.esr_bound.specs.Amounts.{total, cost_by}
 use Rattle.esr_bound.proofs.LowerBound.{range_in}
 use Rattle.esr_stream.specs.Reads.{values_of, list_at, distance_sum, raised, AreRead}
@@ -115,38 +116,6 @@ by_item g n (o ∷ os) a =
     ∙ (let first : sum_by (λ x. cond (eqb o.item x) (g x o) 0) (range_with_len 0 n) ≡ g o.item o = once (λ x. g x o) o.item 0 n (omega arith) (omega (arith, a.0)) in
     let rest = by_item g n os a.1 in
     omega (arith, first, rest, sum_by-cons (λ (o : Operation). g o.item o) o os))
-
--- ---- the reads of a query: their number and range
-
--- a query's accepted reads are as many as its reads
-reads_counted : (h : Schedule) (q : ℕ) → length (reads_by h q) ≡ total_read_count (accepted_in h) q
-reads_counted h q = go (filter (λ (e : Entry). not (is_refusal e.reply)) h.entries)
-  where
-    at : (t : ℕ) (ev : Event) (r : Reply) (os : List Operation) → length (filter (λ o. not o.writes && (eqb o.txn t)) (cons_option (operation_by ev r) os)) ≡ cond (reads_any t ev) 1 0 + length (filter (λ o. not o.writes && (eqb o.txn t)) os)
-    at t (BeginUpdate l) r os = omega arith
-    at t (BeginQuery l s) r os = omega arith
-    at t (Read u y) r os = pick (eqb u.0 t)
-      where
-        pick : (b : Bool) → length (cond b (record { txn = u.0; item = y.0; writes = false; value = answer r } ∷ filter (λ o. not o.writes && (eqb o.txn t)) os) (filter (λ o. not o.writes && (eqb o.txn t)) os)) ≡ cond b 1 0 + length (filter (λ o. not o.writes && (eqb o.txn t)) os)
-        pick true = omega arith
-        pick false = omega arith
-    at t (Write u y v) r os = omega arith
-    at t (Commit u) r os = omega arith
-    at t (Abort u) r os = omega arith
-
-    go : (es : List Entry) → length (filter (λ o. not o.writes && (eqb o.txn q)) (filter_map operation_of es)) ≡ count_by (reads_any q) (map (λ e. e.event) es)
-    go [] = refl
-    go (e ∷ es) =
-        at q e.event e.reply (filter_map operation_of es)
-        ∙ ap (λ n. cond (reads_any q e.event) 1 0 + n) (go es)
-        ∙ sym (sum_by-cons (λ f. cond (reads_any q f) 1 0) e.event (map (λ e. e.event) es))
-
-reads_in_range : (h : Schedule) → IsWithinRanges h → (q : ℕ) → AllByRecursion (λ (o : Operation). IsValue o.value × (o.item < length h.opening)) (reads_by h q)
-reads_in_range h range q = each_in (λ (o : Operation). IsValue o.value × (o.item < length h.opening)) (reads_by h q) (λ o i.
-    let j = (In-of_filter (λ (o : Operation). not o.writes && eqb o.txn q) (operations h) o i).0 in (
-      each_at (λ (o : Operation). IsValue o.value) (operations h) o (recursion_from_All (λ (o : Operation). IsValue o.value) (operations h) range.values) j,
-      each_at (λ (o : Operation). o.item < length h.opening) (operations h) o (recursion_from_All (λ (o : Operation). o.item < length h.opening) (operations h) range.items) j,
-    ))
 
 -- ---- the lists of values
 
