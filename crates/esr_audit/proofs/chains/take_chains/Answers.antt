@@ -3,27 +3,27 @@ use Rattle.std.specs.List.{list_any}
 use Rattle.std.proofs.lemmas.Bool.{eqb-true}
 use Rattle.std.proofs.lemmas.List.Elements.{All-from_recursion, recursion_from_All}
 use Rattle.esr_items.specs.Values.{IsValue}
-use Rattle.esr_order.specs.Chains.{seen_links}
+use Rattle.esr_order.specs.Chains.{chain_view as links_view}
 use Rattle.esr_order.specs.Orders.{ConflictOrder, chain_at}
 use Rattle.esr_cert.specs.Problem as spec
 use Rattle.esr_cert.specs.Views.{chain_of as chain_view}
 use Rattle.esr_audit.specs.Reads.{values_of, chain_of_item, audit_chain_by, audit_chain_from, ItemRead}
 use Rattle.esr_audit.proofs.Gathered.{list_is, values_bounded, values_in_range, none_read, some_read, chain_step, chain_skip}
-use Rattle.esr_audit.proofs.chains.chains_of.Goals as goal
-use Rattle.esr_audit.proofs.chains.chains_of.Goals.{then-not-is_empty+in_ok-chain_of+in_ok-push, else-not-is_empty}
+use Rattle.esr_audit.proofs.chains.take_chains.Goals as goal
+use Rattle.esr_audit.proofs.chains.take_chains.Goals.{then-not-is_empty+in_ok-chain_of+in_ok-push, else-not-is_empty}
 
 pub chain_of-requires-clause-within_max : goal.chain_of-requires-clause-within_max
 chain_of-requires-clause-within_max g c =
     let x : ℕ = c.loop-x.x in
-    let inside : x < length c.in_ok-lists.lists.items = omega (arith, c.loop-x-test.true, c.items.ensures.items, c.items-x-end.ensures.items, c.in_ok-lists.ensures.count) in
-    let values = c.deref.ensures.value ∙ list_is c.in_ok-lists.lists.items x c.index-values.result.now inside c.index-values.ensures ∙ c.in_ok-lists.ensures.values x (omega (arith, inside, c.in_ok-lists.ensures.count)) in
+    let inside : x < length c.in_ok-lists.lists.items = omega (arith, c.loop-x-test.true, c.items.ensures.items, c.items-x-end.ensures.items, c.in_ok-lists.ensures.list_count) in
+    let values = c.deref.ensures.value ∙ list_is c.in_ok-lists.lists.items x c.index-values.result.now inside c.index-values.ensures ∙ c.in_ok-lists.ensures.values x (omega (arith, inside, c.in_ok-lists.ensures.list_count)) in
     omega (arith, values_bounded c.args.reads.now x, ap (λ (xs : List ℤ). length xs) values, c.requires.within_max)
 
 pub chain_of-requires-clause-values : goal.chain_of-requires-clause-values
 chain_of-requires-clause-values g c =
     let x : ℕ = c.loop-x.x in
-    let inside : x < length c.in_ok-lists.lists.items = omega (arith, c.loop-x-test.true, c.items.ensures.items, c.items-x-end.ensures.items, c.in_ok-lists.ensures.count) in
-    let values = c.deref.ensures.value ∙ list_is c.in_ok-lists.lists.items x c.index-values.result.now inside c.index-values.ensures ∙ c.in_ok-lists.ensures.values x (omega (arith, inside, c.in_ok-lists.ensures.count)) in
+    let inside : x < length c.in_ok-lists.lists.items = omega (arith, c.loop-x-test.true, c.items.ensures.items, c.items-x-end.ensures.items, c.in_ok-lists.ensures.list_count) in
+    let values = c.deref.ensures.value ∙ list_is c.in_ok-lists.lists.items x c.index-values.result.now inside c.index-values.ensures ∙ c.in_ok-lists.ensures.values x (omega (arith, inside, c.in_ok-lists.ensures.list_count)) in
     subst (All IsValue) (sym values)
     (All-from_recursion IsValue (values_of c.args.reads.now x) (values_in_range c.args.reads.now x (recursion_from_All (λ (r : ItemRead). IsValue r.value) c.args.reads.now c.requires.reads)))
 
@@ -36,8 +36,8 @@ loop-x-preserved g c =
     let G : ℕ → spec.Chain = chain_of_item d h.opening c.args.order.now reads in
     let P : ℕ → Bool = λ y. list_any (λ (r : ItemRead). eqb r.item y) reads in
     let list = c.index-values.result.now in
-    let inside : x < length c.in_ok-lists.lists.items = omega (arith, c.loop-x-test.true, c.items.ensures.items, c.items-x-end.ensures.items, c.in_ok-lists.ensures.count) in
-    let values : list.items ≡ values_of reads x = list_is c.in_ok-lists.lists.items x list inside c.index-values.ensures ∙ c.in_ok-lists.ensures.values x (omega (arith, inside, c.in_ok-lists.ensures.count)) in
+    let inside : x < length c.in_ok-lists.lists.items = omega (arith, c.loop-x-test.true, c.items.ensures.items, c.items-x-end.ensures.items, c.in_ok-lists.ensures.list_count) in
+    let values : list.items ≡ values_of reads x = list_is c.in_ok-lists.lists.items x list inside c.index-values.ensures ∙ c.in_ok-lists.ensures.values x (omega (arith, inside, c.in_ok-lists.ensures.list_count)) in
     let size : vec_len list ≡ length (values_of reads x) = omega (arith, list.ok.0, ap (λ (xs : List ℤ). length xs) values) in
     elim c.if-not-is_empty.branch [
       | then-not-is_empty+in_ok-chain_of+in_ok-push w ↦
@@ -45,7 +45,7 @@ loop-x-preserved g c =
           let some : P x ≡ true = some_read reads x (λ none. true≢false (sym (eq-eqb (vec_len list) 0 (size ∙ none)) ∙ (sym c.is_empty.ensures ∙ w.if-not-is_empty.true))) in
           let is : chain_view w.in_ok-chain_of.field-0 ≡ G x =
           w.in_ok-chain_of.ensures
-          ∙ ap (λ vs. audit_chain_by d h.opening (option_map seen_links w.take_chain-links.result) vs x) (w.deref.ensures.value ∙ values)
+          ∙ ap (λ vs. audit_chain_by d h.opening (option_map links_view w.take_chain-links.result) vs x) (w.deref.ensures.value ∙ values)
           ∙ ap (λ o. audit_chain_from d h.opening o reads x) (taken.chain ∙ c.loop-x.invariant.left x (omega arith)) in record {
             chains = ap (λ v. map chain_view v.items) w.chains-is ∙ chain_step chain_view G P x c.loop-x.chains.items w.push.new.self.items w.in_ok-chain_of.field-0 c.loop-x.invariant.chains some w.in_ok-push.ensures.items is;
             left = λ y later. ap (λ o. chain_at o y) w.order-is ∙ taken.others y (λ e. omega arith) ∙ c.loop-x.invariant.left y (omega arith);
