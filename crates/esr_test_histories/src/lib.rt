@@ -1,4 +1,4 @@
-//! Worked histories that the machine plays, the conflict order of their queries, and their audits, compared with plain
+//! Worked histories that the machine executes, the conflict order of their queries, and their audits, compared with naive
 //! programs that share nothing with the fast implementations: an enumeration of all placements, scans of the log, all
 //! pairs of conflicting updates.
 #![tactic(auto)]

@@ -3,8 +3,8 @@
 //! with a count by hand.
 
 mod audits;
+mod naive;
 mod placements;
-mod plain;
 
 use Asked::{Commit, Query, Read, Strict, Update, Write};
 use audits::{machine_after, play_machine};

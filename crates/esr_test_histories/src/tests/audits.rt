@@ -1,8 +1,8 @@
 //! Audits of the worked histories.
 
 use super::Asked::{Commit, Query, Read, Update, Write};
+use super::naive::agrees;
 use super::placements::least_or_abort;
-use super::plain::agrees;
 use super::{
     Asked, BEHIND_AN_UPDATE, OVER_A_REPORT, STRICTLY_BEHIND_AN_UPDATE, THROUGH_A_THIRD_ITEM,
     answer, play,

@@ -1,4 +1,4 @@
-//! A plain program to compare with the audit: it lists all placements of small histories.
+//! A reference program to compare with the audit: it lists all placements of small histories.
 ghost use Rattle.std.specs.Prelude.{◌<◌};
 
 use super::Asked::{Commit, Query, Read, Strict, Update, Write};
@@ -223,7 +223,7 @@ static ORDERS: [[usize; 3]; 6] = [
     [2, 1, 0],
 ];
 
-/// The input of the plain program: the opening values and the accepted operations of a history, a query, the updates
+/// The input of the reference program: the opening values and the accepted operations of a history, a query, the updates
 /// that committed before it, and those that it must have seen.
 #[derive(Drop)]
 struct Small {
@@ -380,13 +380,13 @@ fn audit_result(alloc: Global, m: &Machine<Plain>, q: u32) -> Option<(u64, usize
     Some((found.distance, found.before.len()))
 }
 
-/// Returns the results of the audit and of the plain program for the query of a history.
+/// Returns the results of the audit and of the reference program for the query of a history.
 fn small_row(alloc: Global, seed: u64) -> Option<((u64, usize), Option<(u64, usize)>)> {
     let m = small_history(alloc, seed)?;
     compare(alloc, &m, 1)
 }
 
-/// Returns the results of the audit and of the plain program for a query.
+/// Returns the results of the audit and of the reference program for a query.
 fn compare(
     alloc: Global,
     m: &Machine<Plain>,
@@ -396,7 +396,7 @@ fn compare(
     Some((found, least_or_abort(alloc, m, q)))
 }
 
-/// A wrong definition of a placement would be proved: a plain program that lists them all must find the same.
+/// A wrong definition of a placement would be proved: a reference program that lists them all must find the same.
 #[test]
 fn least_of_all_placements(rt: HostRuntime) {
     let mut far = [0u32; 4];
@@ -421,7 +421,7 @@ fn least_if_free(alloc: Global, m: &Machine<Plain>, q: u32) -> Option<u64> {
     Some(distance)
 }
 
-/// Returns the results of the audit and of the plain program for the strict query of a history, and the least
+/// Returns the results of the audit and of the reference program for the strict query of a history, and the least
 /// distance if it were not strict.
 fn strict_row(alloc: Global, seed: u64) -> Option<((u64, usize), Option<(u64, usize)>, u64)> {
     let m = strict_history(alloc, seed)?;

@@ -1,5 +1,5 @@
-//! Plain forms to compare with the fast ones: scans of the log, a plain list of locks, and all pairs of conflicting
-//! updates.
+//! Naive computations to compare with the indexed ones of the engine: scans of the log, a list of locks, and all pairs of
+//! conflicting updates.
 
 use super::Asked::{Commit, Query, Read, Strict, Update, Write};
 use super::audits::open_machine;
@@ -424,12 +424,12 @@ fn import_of(history: &History<Plain>, facts: &[Option<Facts>], q: u32) -> u64 {
 }
 
 fn import_agrees(history: &History<Plain>, facts: &[Option<Facts>], t: u32) -> bool {
-    let plain = if is_query(facts, t) {
+    let naive = if is_query(facts, t) {
         import_of(history, facts, t)
     } else {
         0
     };
-    history.import(TxnId(t)) == plain
+    history.import(TxnId(t)) == naive
 }
 
 fn imports_agree(history: &History<Plain>, facts: &[Option<Facts>]) -> bool {
@@ -441,7 +441,7 @@ fn imports_agree(history: &History<Plain>, facts: &[Option<Facts>]) -> bool {
     true
 }
 
-/// Returns whether locks and imports are those of the plain lists.
+/// Returns whether locks and imports are those of the naive lists.
 fn lists_agree(alloc: Global, history: &History<Plain>) -> bool {
     match facts_in(alloc, history.log()) {
         Ok(facts) => locks_agree(history.log(), &facts) && imports_agree(history, &facts),
@@ -740,28 +740,28 @@ fn order_agrees(alloc: Global, m: &Machine<Plain>, q: u32) -> Option<bool> {
 }
 
 /// Returns whether the orders agree, of every `each`-th transaction.
-fn orders_agree(alloc: Global, m: &Machine<Plain>, each: u32) -> Option<bool> {
+fn orders_agree(alloc: Global, m: &Machine<Plain>, stride: u32) -> Option<bool> {
     for q in 0..count_begun(m.log()).saturating_add(2) {
-        if q.checked_rem(each) == Some(0) && !order_agrees(alloc, m, q)? {
+        if q.checked_rem(stride) == Some(0) && !order_agrees(alloc, m, q)? {
             return Some(false);
         }
     }
     Some(true)
 }
 
-/// Returns whether the fast forms of a history agree with the plain ones; the orders for every `each`-th transaction.
-fn is_same(alloc: Global, m: &Machine<Plain>, each: u32) -> bool {
+/// Returns whether the indexed forms of a history agree with the naive ones; the orders for every `stride`-th transaction.
+fn is_same(alloc: Global, m: &Machine<Plain>, stride: u32) -> bool {
     let history = m.history();
     entries_agree(history)
         && items_agree(history)
         && txns_agree(history)
         && lists_agree(alloc, history)
-        && orders_agree(alloc, m, each) == Some(true)
+        && orders_agree(alloc, m, stride) == Some(true)
 }
 
 /// Returns whether the forms agree, like [`is_same`], and retries once if an allocation fails.
-pub(super) fn agrees(alloc: Global, m: &Machine<Plain>, each: u32) -> bool {
-    is_same(alloc, m, each) || is_same(alloc, m, each)
+pub(super) fn agrees(alloc: Global, m: &Machine<Plain>, stride: u32) -> bool {
+    is_same(alloc, m, stride) || is_same(alloc, m, stride)
 }
 
 /// Draws an event of one of the last eight transactions, or of one that has not begun.
@@ -848,7 +848,7 @@ fn counts(log: &Log) -> (u32, u32, u32) {
 
 /// Fast forms are proved against definitions that may be wrong: scans that share no code with them must agree.
 #[test]
-fn fast_forms_are_the_plain_ones(rt: HostRuntime) {
+fn indexed_forms_agree_with_naive_ones(rt: HostRuntime) {
     let Some(m) = draw_history(rt.alloc(), 11) else {
         panic!(rt; "a history")
     };
