@@ -739,7 +739,7 @@ fn order_agrees(alloc: Global, m: &Machine<Plain>, q: u32) -> Option<bool> {
     Some(chains_agree(alloc, m.history(), &whole)? && both_agree(alloc, m, q, &whole, &relevant)?)
 }
 
-/// Returns whether the orders agree, of every `each`-th transaction.
+/// Returns whether the orders agree, of every `stride`-th transaction.
 fn orders_agree(alloc: Global, m: &Machine<Plain>, stride: u32) -> Option<bool> {
     for q in 0..count_begun(m.log()).saturating_add(2) {
         if q.checked_rem(stride) == Some(0) && !order_agrees(alloc, m, q)? {
