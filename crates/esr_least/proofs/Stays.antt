@@ -37,7 +37,7 @@ part_within (v ∷ us) p u i j =
     (In-append_cases (map (λ part. v ∷ part) (parts us)) (parts us) p i)
 
 -- the parts of least cost, by the cost of a set
-cheapest : ((ℕ → Bool) → ℕ) → List (List ℕ) → List (List ℕ)
+abbrev cheapest : ((ℕ → Bool) → ℕ) → List (List ℕ) → List (List ℕ)
 cheapest c ps = filter (λ part. list_all (λ other. nat_le (c (is_among part)) (c (is_among other))) ps) ps
 
 module _ (d : DistanceFunction) (h longer : Schedule) (q : ℕ) (alike : HasSameAudit d h longer q) where
