@@ -4,7 +4,7 @@ ghost use Rattle.esr_history.specs.Queries.{is_committed_query};
 ghost use Rattle.esr_order.specs.Index.{IsWholeIndexOf};
 ghost use Rattle.esr_audit.specs.Findings.{IsFindingOf, summary_of};
 ghost use Rattle.esr_stream.specs.Passes.{IsLeast};
-ghost use Rattle.esr_least.specs.Audits.{audited};
+ghost use Rattle.esr_least.specs.Audits.{audited, IsAuditFrom};
 
 use esr_audit::{AuditError, Finding, audit_query_by_index};
 use esr_history::{History, TxnId};
@@ -60,7 +60,7 @@ fn of_finding<M: Metric>(history: &History<M>, q: TxnId, finding: Finding) -> Qu
     }
 }
 
-/// Returns the audit of a query. The index has read the whole history.
+/// Returns the audit of a query, which no later event changes. The index has read the whole history.
 ///
 /// # Errors
 ///
@@ -78,6 +78,7 @@ pub fn summarize_by_index<M: Metric>(
     ensures refused { IsErrOf result AuditError.NotACommittedQuery
         ↔ (is_committed_query history.now.schedule q.0 ≡ false) }
     ensures workers { ¬ IsErrOf result AuditError.WorkersOutOfRange }
+    ensures stays { IfOk result (IsAuditFrom M.distance_by history.now.schedule) }
 {
     if !is_committed_query(history, q) {
         return Err(AuditError::NotACommittedQuery);

@@ -8,8 +8,11 @@ use Rattle.esr_cert.specs.Views.{certificate_of}
 use Rattle.esr_order.specs.Least.{least_set, least_cost}
 use Rattle.esr_order.specs.Relevant.{AreRelevant}
 use Rattle.esr_audit.specs.Findings.{IsShown, summary, summary_of}
+use Rattle.esr_least.specs.declared.query.QueryAudit.{QueryAudit}
+use Rattle.esr_least.specs.Audits.{audited, IsAuditFrom}
 use Rattle.esr_audit.specs.declared.finding.Finding.{Finding}
 use Rattle.esr_views.specs.QueryAnswers.{IsFound, IsFoundOf}
+use Rattle.esr_script.specs.QueryAnswers.{IsAuditOf}
 use Rattle.esr_script.specs.Text.{ScriptState, transaction_called}
 use Rattle.std.proofs.lemmas.Grind.{common_steps}
 
@@ -36,4 +39,11 @@ module _ (s : ScriptState) (items names : List (List ℕ)) (was_closed : Bool) (
     reported = both (λ k n. summary f ≡ summary_of weighted k n) (four (ap (λ (t : TxnId). t.0) query) distance import before);
     found = both (λ k n. IsFound k n f.problem (certificate_of f.certificate))
         (record { is_problem = shown.is_problem; relevant = relevant; certified = shown.certified; set_is = sym shown.set_is ∙ before; smallest = shown.smallest; without_count = shown.without_count });
+  }
+
+  pub audit_of : (a : QueryAudit) → is_committed_query h q.0 ≡ true → audited a ≡ summary_of weighted h q.0 → IsAuditFrom weighted h a → IsAuditOf s name a
+  audit_of a committed is stays = record {
+    committed = both (λ k n. is_committed_query k n ≡ true) committed;
+    summary = both (λ k n. audited a ≡ summary_of weighted k n) is;
+    stays = both (λ k n. IsAuditFrom weighted k a) stays;
   }

@@ -14,3 +14,4 @@ pub mod Answering
 pub mod Audited
 pub mod Buffers
 pub mod Opens
+pub mod Kept

@@ -13,6 +13,7 @@ ghost use Rattle.esr_script.specs.Stages.{IsBegin, is_running, history_of};
 ghost use Rattle.esr_views.specs.QueryAnswers.{IsAnswered, IsFoundOf, IsRecorded};
 ghost use Rattle.esr_script.specs.Audit.{IsAuditedScript, audit_output};
 ghost use Rattle.esr_history.specs.Queries.{is_committed_query};
+ghost use Rattle.esr_script.specs.QueryAnswers.{IsAuditOf};
 ghost use Rattle.esr_grammar.specs.Command.{view, IsSyntaxOf};
 ghost use Rattle.std.specs.List.{join_with_byte};
 ghost use Rattle.std.specs.Fmt.{signed_decimal};
@@ -32,6 +33,7 @@ use esr_board::Gate;
 use esr_grammar::{Line, Parsed, parse_line};
 use esr_history::{Event, Reply, TxnId};
 use esr_items::{ItemId, MAX_ITEMS, MAX_VALUE, MAX_WEIGHT};
+use esr_least::QueryAudit;
 use esr_lint::{LineOutcome, Observer, TxnEnd, TxnSummary};
 use esr_report::{
     LineError, Names, ReplyNames, audit_line, error_line, item_line, totals_line,
@@ -304,28 +306,43 @@ impl Script {
         }
     }
 
+    /// Returns the audit of the transaction of that name. Creates the machine if necessary.
+    fn summarize(&mut self, name: &str) -> Result<QueryAudit, RunFault>
+        ensures ok { OnOk result (self.new ≡ closed self.old) }
+        ensures audit { IfOk result (IsAuditOf self.old name.now) }
+        ensures refused { IsErrOf result RunFault.NotACommittedQuery → (self.new ≡ closed self.old)
+            × (is_committed_query self.old.history (transaction_called self.old name.now).0 ≡ false) }
+        ensures faults { IfErr result (λ e. (e ≡ RunFault.NoMemory) ⊎ (e ≡ RunFault.NotACommittedQuery)) }
+    {
+        let q = self.transaction(name);
+        self.stage.ensure_started(self.alloc)?;
+        match self.stage.summarize(self.alloc, q) {
+            Ok(audit) => Ok(audit),
+            Err(error) => Err(fault_of(error)),
+        }
+    }
+
     /// Audits a query.
     fn audit(&mut self, txn: &str, out: &mut Vec<u8>) -> Result<(), RunFault>
         ensures { Executes (execute self.old (command.audit txn.now)) self.new out.old.items out.new.items result }
     {
-        let found = match self.find(txn) {
-            Ok(found) => found,
+        let audit = match self.summarize(txn) {
+            Ok(audit) => audit,
             Err(RunFault::NotACommittedQuery) => {
                 return line_or_fault(error_line(out, LineError::NotACommittedQuery));
             }
             Err(fault) => return Err(fault),
         };
-        // dropped before the line is made, which may be long
-        drop(found.problem);
-        drop(found.certificate);
-        line_or_fault(audit_line(
+        let appended = audit_line(
             out,
             &self.transactions,
             txn,
-            found.distance,
-            found.import,
-            &found.before,
-        ))
+            audit.distance,
+            audit.import,
+            &audit.before,
+        );
+        self.stage.keep(audit);
+        line_or_fault(appended)
     }
 
     /// Returns the outcome of an `audit` line.

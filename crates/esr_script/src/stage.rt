@@ -9,7 +9,8 @@ ghost use Rattle.esr_history.specs.Totals.{all_imports, all_exports};
 ghost use Rattle.esr_history.specs.Queries.{is_committed_query};
 ghost use Rattle.esr_cert.specs.Views.{certificate_of};
 ghost use Rattle.esr_order.specs.Least.{least_set, least_cost};
-ghost use Rattle.esr_audit.specs.Findings.{IsShown, AreSummaries};
+ghost use Rattle.esr_audit.specs.Findings.{IsShown, AreSummaries, summary_of};
+ghost use Rattle.esr_least.specs.Audits.{audited, IsAuditFrom};
 ghost use Rattle.esr_order.specs.Relevant.{AreRelevant};
 ghost use Rattle.esr_items.specs.Weights.{weighted};
 
@@ -21,6 +22,7 @@ use esr_board::{Gate, summarize_parallel};
 use esr_core::{Machine, StepError, Totals};
 use esr_history::{Event, History, Reply, TxnId};
 use esr_items::Weighted;
+use esr_least::QueryAudit;
 use esr_lint::{TxnEnd, TxnSummary};
 use std::alloc::Global;
 use std::thread::Threads;
@@ -152,7 +154,7 @@ impl Stage {
         }
     }
 
-    /// Audits a transaction.
+    /// Audits a transaction, with a certificate.
     #[tactic(auto, using(crate::proofs::Audits::distance_is, crate::proofs::Audits::import_is, crate::proofs::Audits::before_is, crate::proofs::Audits::shown_is, crate::proofs::Audits::relevant_is))]
     pub fn audit(&mut self, alloc: Global, q: TxnId) -> Result<Finding, AuditError>
         requires { is_running self.old ≡ true }
@@ -173,6 +175,37 @@ impl Stage {
     {
         match self {
             Stage::Running(engine) => engine.audit(alloc, q),
+            Stage::Open(_) => unreachable!(),
+        }
+    }
+
+    /// Audits a transaction, or returns the kept audit if that is of this transaction.
+    pub fn summarize(&mut self, alloc: Global, q: TxnId) -> Result<QueryAudit, AuditError>
+        requires { is_running self.old ≡ true }
+        ensures running { is_running self.new ≡ true }
+        ensures same { history_of self.new ≡ history_of self.old }
+        ensures summary { IfOk result (λ a. audited a ≡ summary_of weighted (history_of self.old) q.0) }
+        ensures stays { IfOk result (IsAuditFrom weighted (history_of self.old)) }
+        ensures committed { IfOk result (λ a. is_committed_query (history_of self.old) q.0 ≡ true) }
+        ensures refused { IsErrOf result AuditError.NotACommittedQuery
+            → is_committed_query (history_of self.old) q.0 ≡ false }
+        ensures workers { ¬ IsErrOf result AuditError.WorkersOutOfRange }
+    {
+        match self {
+            Stage::Running(engine) => engine.summarize(alloc, q),
+            Stage::Open(_) => unreachable!(),
+        }
+    }
+
+    /// Keeps an audit for the next [`summarize`](Stage::summarize).
+    pub fn keep(&mut self, audit: QueryAudit)
+        requires running { is_running self.old ≡ true }
+        requires stays { IsAuditFrom weighted (history_of self.old) audit }
+        ensures running { is_running self.new ≡ true }
+        ensures same { history_of self.new ≡ history_of self.old }
+    {
+        match self {
+            Stage::Running(engine) => engine.keep(audit),
             Stage::Open(_) => unreachable!(),
         }
     }
