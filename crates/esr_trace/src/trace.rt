@@ -1,9 +1,9 @@
 //! The trace of a query: each value that it read and the writer of that value, and its charges with the updates that
 //! were charged.
 //!
-//! A trace notes the entries of a replay (`traces`), which knows the charges, the writers and the values: it has no charge
-//! rule, so it is right for every metric. The trace of a query that is active or has aborted is as complete as that of a
-//! committed query.
+//! A trace notes the entries of a replay (`traces`), which knows the charges, the writers and the values: it has no
+//! charge rule, so it is right for every metric. The trace of a query that is active or has aborted is as complete as
+//! that of a committed query.
 
 use crate::traces::{ItemState, Step};
 use esr_history::{Event, History, Reply, TxnId};

@@ -1,5 +1,5 @@
-//! The charges of each entry, with the update and the item, from a replay of the history. The replay returns them by the
-//! numbers of the queries; they are shown in the order in which the queries have read the item.
+//! The charges of each entry, with the update and the item, from a replay of the history. The replay returns them by
+//! the numbers of the queries; they are shown in the order in which the queries have read the item.
 
 use esr_core::Machine;
 use esr_history::{Event, History, Reply, TxnId};
