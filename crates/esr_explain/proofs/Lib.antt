@@ -1,7 +1,5 @@
--- A machine that replays the history finds the accesses and charges that are shown. Every crate that replays a
--- history uses `Replaying`.
+-- The accesses are those that are shown.
 
 pub mod Accessed
 pub mod Amongst
-pub mod Replaying
 pub mod Sent

@@ -1,6 +1,6 @@
 -- The explanation of a committed query of a history.
-use Rattle.std.specs.Prelude.{ℕ, ℤ, ◌+◌, ◌-◌, ◌==◌, List, [], ◌∷◌, ◌++◌, not, Option, Some, None, codes, decimal, length, take, filter, nat_lt, slice_get, slice_index_or, if◌then◌else◌, option_map}
-use Rattle.std.specs.List.{flat_map, range_with_len}
+use Rattle.std.specs.Prelude.{ℕ, ℤ, ◌+◌, ◌-◌, ◌==◌, List, [], ◌∷◌, ◌++◌, not, Option, Some, None, codes, decimal, length, filter, nat_lt, slice_get, slice_index_or, if◌then◌else◌, option_map}
+use Rattle.std.specs.List.{filter_map, flat_map, range_with_len}
 use Rattle.std.specs.Fmt.{signed_decimal}
 use Rattle.esr_history.specs.declared.event.Event.{Event}
 use Rattle.esr_history.specs.declared.event.Event.TheVariants.{Read, Write}
@@ -11,6 +11,7 @@ use Rattle.esr_history.specs.Serial.{state}
 use Rattle.esr_history.specs.Queries.{updates_of, reads_by}
 use Rattle.esr_order.specs.Least.{least_set, least_cost}
 use Rattle.esr_order.specs.Placements.{is_among}
+use Rattle.esr_replay.specs.Replays.{until}
 use Rattle.esr_report.specs.Names.{name_of_transaction}
 use Rattle.esr_report.specs.Lines.{line, names_line}
 use Rattle.esr_explain.specs.declared.charges.Operation.{Operation}
@@ -46,10 +47,6 @@ others h q us = filter (λ u. not (is_among us u)) (updates_of h q)
 
 -- ---- charges
 
--- the history as it was before its entry at place i
-abbrev pub until : ℕ → Schedule → Schedule
-until i h = record h { entries = take i h.entries }
-
 -- the import of q by then, and the export of u
 abbrev pub imported : DistanceFunction → Schedule → ℕ → ℕ → ℕ
 imported d h q i = import_in (charges_in d (until i h)) q
@@ -81,6 +78,17 @@ charge_of d h q i m = record {
   export_limit = limit_of (accepted_in h) m.update.0;
 }
 
+-- the charge of the entry at place i, if q imported something by it
+abbrev pub charge_at : DistanceFunction → Schedule → ℕ → ℕ → Option Entry → Option Charge
+charge_at d h q i None = None
+charge_at d h q i (Some e) =
+    if imported d h q (i + 1) == imported d h q i then None
+    else option_map (charge_of d h q i) (meeting (until i h) e.event)
+
+-- the charges to q, in order
+abbrev pub charges : DistanceFunction → Schedule → ℕ → List Charge
+charges d h q = filter_map (λ i. charge_at d h q i (slice_get h.entries i)) (range_with_len 0 (length h.entries))
+
 -- the first words of the line of a charge
 abbrev pub verb : Operation → List ℕ
 verb operation.Read = codes "charge read"
@@ -99,22 +107,6 @@ charge_line items transactions c =
     named_charge_line (verb c.meeting.operation) (name_of_transaction transactions c.meeting.update.0)
     (name_of_item items c.meeting.item.0) c
 
--- the line of a meeting by which q is charged
-abbrev pub met_line : DistanceFunction → Schedule → (items transactions : List (List ℕ)) → ℕ → ℕ → Option Meeting → List ℕ
-met_line d h items transactions q i None = []
-met_line d h items transactions q i (Some m) = charge_line items transactions (charge_of d h q i m)
-
--- the line of the charge of the entry at place i, if q imported something by it
-abbrev pub charge_at : DistanceFunction → Schedule → (items transactions : List (List ℕ)) → ℕ → ℕ → Option Entry → List ℕ
-charge_at d h items transactions q i None = []
-charge_at d h items transactions q i (Some e) =
-    if imported d h q (i + 1) == imported d h q i then []
-    else met_line d h items transactions q i (meeting (until i h) e.event)
-
-abbrev pub charge_lines : DistanceFunction → Schedule → (items transactions : List (List ℕ)) → ℕ → List ℕ
-charge_lines d h items transactions q =
-    flat_map (λ i. charge_at d h items transactions q i (slice_get h.entries i)) (range_with_len 0 (length h.entries))
-
 -- ---- the whole
 
 -- the distance and the import, in the format of the audit
@@ -126,7 +118,7 @@ sums_line distance import = line (codes "distance" ∷ decimal distance ∷ code
 abbrev pub explanation : DistanceFunction → Schedule → (items transactions : List (List ℕ)) → ℕ → List ℕ
 explanation d h items transactions q =
     read_lines d h items q (least_set d h q)
-    ++ charge_lines d h items transactions q
+    ++ flat_map (charge_line items transactions) (charges d h q)
     ++ names_line (codes "before") transactions (least_set d h q)
     ++ names_line (codes "after") transactions (others h q (least_set d h q))
     ++ sums_line (least_cost d h q) (import_in (charges_in d h) q)

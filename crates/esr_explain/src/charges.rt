@@ -1,19 +1,19 @@
-//! The charges to a query: a machine replays the history, entry by entry.
+//! The charges to a query, from a replay of the history (`esr_replay`).
 //!
-//! A history stores for each query only the sum of its imports. So each entry is executed by a fresh machine, which
-//! has the query's import before and after it, the writer of the item and the update's export. This takes the time
-//! and memory of a second run, and its definition is short: the import of a prefix less that of the prefix before. A
-//! charge of 0 has no line, since it does not contribute to the sums. A charge is named by its entry and not by its
-//! line: the history has no lines.
-ghost use Rattle.std.specs.Prelude.{◌≡◌, ◌<◌, ◌+◌, ◌++◌, Some, IfOk, OnOk, slice_get, length};
+//! A history stores for each query only the sum of its imports. The replay returns what the query imported by each
+//! entry; its machine knows the writer of the item and the update's export. A charge of 0 has no line, since it does
+//! not contribute to the sums. A charge is named by its entry and not by its line: the history has no lines.
+ghost use Rattle.std.specs.Prelude.{◌≡◌, [], ◌<◌, ◌+◌, ◌++◌, IfOk, OnOk, flat_map, slice_get, length};
+ghost use Rattle.std.specs.List.{cons_option};
 ghost use Rattle.esr_history.specs.Events.{limit_of};
-ghost use Rattle.esr_history.specs.Machine.{empty_schedule, accepted_in};
+ghost use Rattle.esr_history.specs.Machine.{accepted_in};
 ghost use Rattle.esr_items.specs.Weights.{weighted};
-ghost use Rattle.esr_explain.specs.Explain.{charge_at, charge_line, charge_lines, meeting, name_of_item, named_charge_line, until, verb};
+ghost use Rattle.esr_explain.specs.Explain.{charge_at, charge_line, charges, meeting, name_of_item, named_charge_line, verb};
 
 use esr_core::Machine;
 use esr_history::{Event, History, NoMemory, TxnId};
-use esr_items::{ItemId, Metric, Store, Weighted, WeightedRef};
+use esr_items::{ItemId, Weighted};
+use esr_replay::{MetricRef, Replay, imported};
 use esr_report::{Names, name_of_transaction, push_line};
 use std::alloc::{AllocError, Global};
 
@@ -127,7 +127,7 @@ fn charge_line(
 }
 
 /// Returns the update that an event meets, if a machine is about to execute it.
-fn met_by(machine: &Machine<WeightedRef<'_>>, event: Event) -> Option<Meeting>
+fn met_by(machine: &Machine<MetricRef<'_, Weighted>>, event: Event) -> Option<Meeting>
     ensures { result ≡ meeting machine.now event }
 {
     match event {
@@ -157,94 +157,84 @@ fn met_by(machine: &Machine<WeightedRef<'_>>, event: Event) -> Option<Meeting>
     }
 }
 
-/// Creates a machine to replay a history.
-fn replayer<'a>(
-    alloc: Global,
-    history: &'a History<Weighted>,
-) -> Result<Machine<WeightedRef<'a>>, NoMemory>
-    ensures { IfOk result (λ m. m ≡ empty_schedule history.entry.now.schedule) }
-{
-    let store = Store::of_valid(alloc, history.opening_values())?;
-    Machine::new(alloc, store, WeightedRef(history.metric()))
-}
-
-/// Appends the line of the charge of an entry, if the query was charged by it.
-fn push_charge(
-    out: &mut Vec<u8>,
-    items: &Names,
-    transactions: &Names,
+/// Executes the next entry of a history. Returns the charge to a query, if it was charged by that.
+fn next_charge(
     history: &History<Weighted>,
-    machine: &mut Machine<WeightedRef<'_>>,
-    i: usize,
+    replay: &mut Replay<'_, Weighted>,
     q: TxnId,
-) -> Result<(), AllocError>
-    requires place { i < length history.now.schedule.entries }
-    requires machine { machine.old ≡ until i history.now.schedule }
-    ensures machine { OnOk result (machine.new ≡ until (i + 1) history.now.schedule) }
-    ensures out { OnOk result (out.new.items ≡ out.old.items
-        ++ charge_at weighted history.now.schedule items.now transactions.now q.0 i
-        (slice_get history.now.schedule.entries i)) }
+) -> Result<Option<Charge>, NoMemory>
+    requires within { replay.old.count < length replay.old.history.entries }
+    requires history { replay.old.history ≡ history.now.schedule }
+    ensures history { replay.new.history ≡ replay.old.history }
+    ensures count { OnOk result (replay.new.count ≡ replay.old.count + 1) }
+    ensures charge { IfOk result (λ c. c ≡ charge_at weighted replay.old.history q.0 replay.old.count
+        (slice_get replay.old.history.entries replay.old.count)) }
 {
-    let Some(entry) = history.log().get(i) else {
+    let Some(entry) = replay.next() else {
         unreachable!()
     };
-    let met = met_by(machine, entry.event);
-    let before = machine.history().import(q);
-    if machine.step(entry.event).is_err() {
-        return Err(AllocError);
-    }
-    let import = machine.history().import(q);
+    let met = met_by(replay.machine(), entry.event);
+    replay.step()?;
+    let amount = imported(replay.imports(), q);
     let Some(meeting) = met else {
-        return Ok(());
+        return Ok(None);
     };
-    if import == before {
-        return Ok(());
+    if amount == 0 {
+        return Ok(None);
     }
+    let machine = replay.machine();
     let import_limit = limit(history, q);
     let export_limit = limit(history, meeting.update);
-    let charge = Charge {
-        amount: import.saturating_sub(before),
-        step: i as u64 + 1,
+    Ok(Some(Charge {
+        amount,
+        step: machine.log().len() as u64,
         meeting,
-        import_left: import_limit.saturating_sub(import),
+        import_left: import_limit.saturating_sub(machine.history().import(q)),
         import_limit,
         export_left: export_limit.saturating_sub(machine.export(meeting.update)),
         export_limit,
-    };
-    charge_line(out, items, transactions, charge)
+    }))
 }
 
-/// Appends the lines of all charges to a query, by a machine that replays the history.
-fn push_all(
-    out: &mut Vec<u8>,
-    items: &Names,
-    transactions: &Names,
-    history: &History<Weighted>,
-    machine: &mut Machine<WeightedRef<'_>>,
-    q: TxnId,
-) -> Result<(), NoMemory>
-    requires { machine.old ≡ empty_schedule history.now.schedule }
-    ensures { OnOk result (out.new.items ≡ out.old.items
-        ++ charge_lines weighted history.now.schedule items.now transactions.now q.0) }
+/// Appends a charge, if there is one.
+fn push_if(charges: &mut Vec<Charge>, charge: Option<Charge>) -> Result<(), AllocError>
+    ensures { OnOk result (charges.new.items ≡ charges.old.items ++ cons_option charge []) }
 {
-    for i in 0..history.log().len() {
-        push_charge(out, items, transactions, history, machine, i, q)?;
+    if let Some(charge) = charge {
+        charges.push(charge)?;
     }
     Ok(())
 }
 
-/// Appends the lines of all charges to a query.
-pub fn push_charges(
+/// Returns all charges to a query, in the order of their entries.
+pub fn charges_of(
     alloc: Global,
+    history: &History<Weighted>,
+    q: TxnId,
+) -> Result<Vec<Charge>, NoMemory>
+    ensures { IfOk result (λ v. v.items ≡ charges weighted history.now.schedule q.0) }
+{
+    let mut charges = Vec::new(alloc);
+    let mut replay = Replay::new(alloc, history)?;
+    for _ in 0..history.log().len() {
+        let charge = next_charge(history, &mut replay, q)?;
+        push_if(&mut charges, charge)?;
+    }
+    Ok(charges)
+}
+
+/// Appends the lines of some charges.
+pub fn push_charges(
     out: &mut Vec<u8>,
     items: &Names,
     transactions: &Names,
-    history: &History<Weighted>,
-    q: TxnId,
-) -> Result<(), NoMemory>
+    charges: &[Charge],
+) -> Result<(), AllocError>
     ensures { OnOk result (out.new.items ≡ out.old.items
-        ++ charge_lines weighted history.now.schedule items.now transactions.now q.0) }
+        ++ flat_map (charge_line items.now transactions.now) charges.now) }
 {
-    let mut machine = replayer(alloc, history)?;
-    push_all(out, items, transactions, history, &mut machine, q)
+    for charge in charges {
+        charge_line(out, items, transactions, *charge)?;
+    }
+    Ok(())
 }

@@ -4,7 +4,7 @@ ghost use Rattle.esr_items.specs.Weights.{weighted};
 ghost use Rattle.esr_audit.specs.Findings.{summary, summary_of};
 ghost use Rattle.esr_explain.specs.Explain.{explanation, sums_line};
 
-use crate::charges::push_charges;
+use crate::charges::{charges_of, push_charges};
 use crate::others::others;
 use crate::reads::push_reads;
 use esr_audit::Finding;
@@ -48,7 +48,8 @@ pub fn explanation(
         finding.query,
         &finding.before,
     )?;
-    push_charges(alloc, &mut out, items, transactions, history, finding.query)?;
+    let charges = charges_of(alloc, history, finding.query)?;
+    push_charges(&mut out, items, transactions, &charges)?;
     names_line(&mut out, "before", transactions, &finding.before)?;
     let after = others(alloc, history, finding.query, &finding.before)?;
     names_line(&mut out, "after", transactions, &after)?;

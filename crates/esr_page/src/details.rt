@@ -7,7 +7,7 @@ use esr_audit::{AuditError, Finding, audit_query};
 use esr_history::TxnId;
 use esr_report::name_of_transaction;
 use esr_text::{first, push_number};
-use esr_trace::{Audited, Part, sum_error, trace_of};
+use esr_trace::{Audited, Part, QueryTrace, sum_error};
 use esr_views::Recording;
 use std::alloc::{AllocError, Global};
 
@@ -85,16 +85,16 @@ impl<T: Part, P: Part, W: Part> Page<'_, T, P, W> {
         out: &mut String,
         audited: &Audited<'_>,
         lines: &[u32],
+        trace: &QueryTrace,
     ) -> Result<(), AllocError> {
-        let trace = trace_of(alloc, audited.history, audited.finding.query)?;
         let name = name_of_transaction(audited.transactions, audited.finding.query);
         open_part(out, "Timeline", name)?;
-        self.timeline.push(alloc, out, audited, lines, &trace)?;
+        self.timeline.push(alloc, out, audited, lines, trace)?;
         out.push_str("</div>\n")?;
         open_part(out, "Picture", name)?;
-        self.picture.push(alloc, out, audited, lines, &trace)?;
+        self.picture.push(alloc, out, audited, lines, trace)?;
         out.push_str("</div>\n</div>\n")?;
-        self.words.push(alloc, out, audited, lines, &trace)
+        self.words.push(alloc, out, audited, lines, trace)
     }
 
     /// A query with picture and words.
@@ -104,6 +104,7 @@ impl<T: Part, P: Part, W: Part> Page<'_, T, P, W> {
         out: &mut String,
         recording: &Recording<'_>,
         finding: &Finding,
+        trace: &QueryTrace,
     ) -> Result<(), AllocError> {
         let audited = Audited {
             items: &recording.items,
@@ -114,7 +115,7 @@ impl<T: Part, P: Part, W: Part> Page<'_, T, P, W> {
         let name = name_of_transaction(&recording.transactions, finding.query);
         let sum_error = sum_error(alloc, &recording.history, finding)?;
         push_heading(out, name, finding.distance, sum_error)?;
-        self.push(alloc, out, &audited, recording.lines)?;
+        self.push(alloc, out, &audited, recording.lines, trace)?;
         write!(
             out,
             "<p><a href='#r-{name}'>{name} in the table</a></p></section>\n"
@@ -129,18 +130,19 @@ impl<T: Part, P: Part, W: Part> Page<'_, T, P, W> {
         recording: &Recording<'_>,
         audits: &Audits,
         query: TxnId,
+        trace: &QueryTrace,
     ) -> Result<(), AllocError> {
         if let Some(finding) = audits.finding_of(query) {
-            return self.push_explained(alloc, out, recording, finding);
+            return self.push_explained(alloc, out, recording, finding, trace);
         }
         match audit_query(alloc, &recording.history, query) {
-            Ok(finding) => self.push_explained(alloc, out, recording, &finding),
+            Ok(finding) => self.push_explained(alloc, out, recording, &finding, trace),
             Err(AuditError::NoMemory) => Err(AllocError),
             Err(_) => Ok(()),
         }
     }
 
-    /// Picture and words of these queries.
+    /// Appends pictures and sentences of these queries, which have these traces.
     pub fn push_details(
         &self,
         alloc: Global,
@@ -148,9 +150,10 @@ impl<T: Part, P: Part, W: Part> Page<'_, T, P, W> {
         recording: &Recording<'_>,
         audits: &Audits,
         explained: &[TxnId],
+        traces: &[QueryTrace],
     ) -> Result<(), AllocError> {
-        for query in explained {
-            self.push_query(alloc, out, recording, audits, *query)?;
+        for (query, trace) in explained.iter().zip(traces) {
+            self.push_query(alloc, out, recording, audits, *query, trace)?;
         }
         Ok(())
     }

@@ -15,7 +15,7 @@ use esr_history::TxnId;
 use esr_lint::Notes;
 use esr_report::{Names, name_of_transaction};
 use esr_text::{first, markup_or_nothing, push_count, push_number, push_plain};
-use esr_trace::Part;
+use esr_trace::{Part, traces_of};
 use esr_views::{Recording, ScriptView};
 use std::alloc::{AllocError, Global};
 
@@ -266,14 +266,16 @@ impl<T: Part, P: Part, W: Part> Page<'_, T, P, W> {
         all: &mut QueryRows<'_>,
         explained: &[TxnId],
     ) -> Result<(), AllocError> {
+        let traces = traces_of(alloc, &recording.history, explained)?;
         push_summary(alloc, out, self.origin, all, audits)?;
         let worst = first(explained, 1);
         let others = explained.get(1..).unwrap_or(&[]);
         out.push_str(heading_of(&all.rows, worst))?;
-        self.push_details(alloc, out, recording, audits, worst)?;
+        self.push_details(alloc, out, recording, audits, worst, &traces)?;
         push_overview(alloc, out, recording, all, audits)?;
         out.push_str(next_heading_of(others))?;
-        self.push_details(alloc, out, recording, audits, others)?;
+        let next = traces.get(1..).unwrap_or(&[]);
+        self.push_details(alloc, out, recording, audits, others, next)?;
         push_order(out, &recording.transactions, &audits.order)?;
         out.push_str(script())
     }

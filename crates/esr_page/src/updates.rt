@@ -6,7 +6,7 @@ use esr_history::{Event, History, TxnId};
 use esr_items::Weighted;
 use esr_report::name_of_transaction;
 use esr_text::{first, push_count, push_number};
-use esr_trace_events::{Charge, Replay};
+use esr_trace_events::{Charge, Charges};
 use esr_views::Recording;
 use std::alloc::{AllocError, Global};
 
@@ -60,12 +60,9 @@ fn exports_of(alloc: Global, history: &History<Weighted>) -> Result<Exports, All
         amounts: vec![in alloc; 0u64; count]?,
         pairs: Vec::new(alloc),
     };
-    let mut replay = Replay::new(alloc, history)?;
-    for place in 0..history.log().len() {
-        if let Some(entry) = history.log().get(place) {
-            replay.step(alloc, entry)?;
-            exports.note_all(&replay.charges)?;
-        }
+    let mut charges = Charges::new(alloc, history)?;
+    for _ in 0..history.log().len() {
+        exports.note_all(&charges.step(alloc)?)?;
     }
     Ok(exports)
 }

@@ -202,8 +202,7 @@ pub fn push_charges(
     subject: &Subject<'_>,
     trace: &QueryTrace,
 ) -> Result<(), AllocError> {
-    let agrees = trace.charge_sum() == subject.history.import(subject.query);
-    let has_charges = agrees && !trace.charges.is_empty();
+    let has_charges = !trace.charges.is_empty();
     push_intro(add_paragraph(alloc, blocks)?, subject, has_charges)?;
     if has_charges {
         push_each(alloc, blocks, subject, trace)

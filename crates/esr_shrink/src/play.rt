@@ -4,7 +4,8 @@ use crate::case::Operation;
 use esr_audit::{AuditError, audit_query};
 use esr_core::Machine;
 use esr_history::{Event, History, Reply, TxnId};
-use esr_items::{Metric, Store, Weighted, WeightedRef};
+use esr_items::{Metric, Weighted};
+use esr_replay::{MetricRef, empty_machine};
 use std::alloc::{AllocError, Global};
 
 /// The new number of each transaction, by its number before; 0 if it has not begun.
@@ -48,20 +49,6 @@ impl Numbers {
     }
 }
 
-/// Returns a machine with the items of a history.
-fn machine_of<'a>(
-    alloc: Global,
-    history: &'a History<Weighted>,
-) -> Result<Machine<WeightedRef<'a>>, AllocError> {
-    let Ok(store) = Store::of_valid(alloc, history.opening_values()) else {
-        return Err(AllocError);
-    };
-    match Machine::new(alloc, store, WeightedRef(history.metric())) {
-        Ok(machine) => Ok(machine),
-        Err(_) => Err(AllocError),
-    }
-}
-
 /// Plays one operation. Returns whether it was accepted.
 pub fn play_one<M: Metric>(
     machine: &mut Machine<M>,
@@ -77,7 +64,7 @@ pub fn play_one<M: Metric>(
 
 /// Plays operations until one is refused. Returns whether all were accepted.
 fn play(
-    machine: &mut Machine<WeightedRef<'_>>,
+    machine: &mut Machine<MetricRef<'_, Weighted>>,
     numbers: &mut Numbers,
     case: &[Operation],
 ) -> Result<bool, AllocError> {
@@ -96,7 +83,9 @@ pub fn distance_after(
     case: &[Operation],
     query: TxnId,
 ) -> Result<Option<u64>, AllocError> {
-    let mut machine = machine_of(alloc, history)?;
+    let Ok(mut machine) = empty_machine(alloc, history) else {
+        return Err(AllocError);
+    };
     let mut numbers = Numbers::new(alloc, history.begun_count().saturating_add(1))?;
     if !play(&mut machine, &mut numbers, case)? {
         return Ok(None);

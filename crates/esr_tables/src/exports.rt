@@ -1,70 +1,26 @@
 //! What each update exported. A history stores what queries imported, and no exports: so a machine, which knows its
-//! accounts, replays it entry by entry. That takes the time and memory of a second run; the machine is dropped before
-//! rows are made. If no query imported anything, no update exported anything either, as there are no other charges,
-//! and nothing is replayed.
+//! accounts, replays it. That takes the time and memory of a second run; the machine is dropped before rows are made.
+//! If no query imported anything, no update exported anything either, as there are no other charges, and nothing is
+//! replayed.
 
-ghost use Rattle.std.specs.Prelude.{◌≡◌, ◌<◌, ◌≤◌, ◌+◌, true, map, replicate, IfOk, OnOk, length};
+ghost use Rattle.std.specs.Prelude.{◌≡◌, ◌≤◌, ◌+◌, true, map, replicate, IfOk};
 ghost use Rattle.std.specs.List.{range_with_len};
 ghost use Rattle.esr_history.specs.BackLinks.{begun_count};
-ghost use Rattle.esr_history.specs.Machine.{empty_schedule, charges_in, export_in};
+ghost use Rattle.esr_history.specs.Machine.{charges_in, export_in};
 ghost use Rattle.esr_history.specs.Totals.{all_imports};
 ghost use Rattle.esr_items.specs.Weights.{weighted};
-ghost use Rattle.esr_explain.specs.Explain.{until};
 
 use crate::distances::txn_at;
 use esr_core::Machine;
 use esr_history::{History, NoMemory, TxnId};
-use esr_items::{Store, Weighted, WeightedRef};
+use esr_items::Weighted;
+use esr_replay::{MetricRef, Replay};
 use std::alloc::{AllocError, Global};
-
-/// Creates a machine to replay a history.
-fn replayer<'a>(
-    alloc: Global,
-    history: &'a History<Weighted>,
-) -> Result<Machine<WeightedRef<'a>>, NoMemory>
-    ensures { IfOk result (λ m. m ≡ empty_schedule history.entry.now.schedule) }
-{
-    let store = Store::of_valid(alloc, history.opening_values())?;
-    Machine::new(alloc, store, WeightedRef(history.metric()))
-}
-
-/// Makes one entry again.
-fn replay_one(
-    history: &History<Weighted>,
-    machine: &mut Machine<WeightedRef<'_>>,
-    i: usize,
-) -> Result<(), NoMemory>
-    requires place { i < length history.now.schedule.entries }
-    requires machine { machine.old ≡ until i history.now.schedule }
-    ensures { OnOk result (machine.new ≡ until (i + 1) history.now.schedule) }
-{
-    let Some(entry) = history.log().get(i) else {
-        unreachable!()
-    };
-    if machine.step(entry.event).is_err() {
-        return Err(NoMemory);
-    }
-    Ok(())
-}
-
-/// Makes all entries again.
-fn replay(
-    history: &History<Weighted>,
-    machine: &mut Machine<WeightedRef<'_>>,
-) -> Result<(), NoMemory>
-    requires { machine.old ≡ empty_schedule history.now.schedule }
-    ensures { OnOk result (machine.new ≡ history.now.schedule) }
-{
-    for i in 0..history.log().len() {
-        replay_one(history, machine, i)?;
-    }
-    Ok(())
-}
 
 /// Returns what the transactions of a machine exported, starting with the nonexistent transaction 0.
 fn exports_in(
     alloc: Global,
-    machine: &Machine<WeightedRef<'_>>,
+    machine: &Machine<MetricRef<'_, Weighted>>,
     count: usize,
 ) -> Result<Vec<u64>, AllocError>
     requires { count ≤ 65536 }
@@ -99,9 +55,9 @@ fn replayed_exports(
     ensures { IfOk result (λ v. v.items ≡ map (export_in (charges_in weighted history.now.schedule))
         (range_with_len 0 count)) }
 {
-    let mut machine = replayer(alloc, history)?;
-    replay(history, &mut machine)?;
-    let exports = exports_in(alloc, &machine, count)?;
+    let mut replay = Replay::new(alloc, history)?;
+    replay.finish()?;
+    let exports = exports_in(alloc, replay.machine(), count)?;
     Ok(exports)
 }
 

@@ -13,4 +13,5 @@ mod parallel;
 mod reasons;
 mod sessions;
 mod solver;
+mod traces;
 mod words;

@@ -4,7 +4,7 @@ use crate::lanes::lane_at;
 use crate::marks::line_at;
 use crate::model::{Arrow, Lane, Source};
 use esr_history::TxnId;
-use esr_trace_events::{Charge, Replay};
+use esr_trace_events::{Charge, Charges};
 use std::alloc::{AllocError, Global};
 
 /// The queries whose charges are drawn.
@@ -82,12 +82,10 @@ pub fn charges_to<'a>(
     payers: Payers,
 ) -> Result<Vec<Arrow<'a>>, AllocError> {
     let mut arrows = Vec::new(alloc);
-    let mut replay = Replay::new(alloc, source.history)?;
+    let mut charges = Charges::new(alloc, source.history)?;
     for place in 0..count_entries(source, payers) {
-        if let Some(entry) = source.history.log().get(place) {
-            replay.step(alloc, entry)?;
-            push_charges(&mut arrows, source, lanes, payers, place, &replay.charges)?;
-        }
+        let charges = charges.step(alloc)?;
+        push_charges(&mut arrows, source, lanes, payers, place, &charges)?;
     }
     Ok(arrows)
 }

@@ -11,10 +11,12 @@ mod subject;
 mod sums;
 mod text;
 mod trace;
+mod traces;
 
 pub use part::Part;
 pub use sentences::{push_nearest_moment, push_strict, push_verdict, sentences_of};
 pub use subject::Audited;
 pub use sums::{nearest_values, sum_error};
 pub use text::{MAX_NAMES, push_names, push_rest};
-pub use trace::{Cause, ChargeGroup, ObservedRead, QueryTrace, Sum, WriterEnd, trace_of};
+pub use trace::{Cause, ChargeGroup, ObservedRead, QueryTrace, Sum, WriterEnd};
+pub use traces::{trace_of, traces_of};

@@ -96,21 +96,7 @@ fn push_charges(
     push_rest(out, charges.len())
 }
 
-/// The updates that were charged, most first, where their sums are what the query imported.
-fn push_charged(
-    alloc: Global,
-    out: &mut String,
-    audited: &Audited<'_>,
-    trace: &QueryTrace,
-) -> Result<(), AllocError> {
-    if trace.charge_sum() != audited.finding.import {
-        return Ok(());
-    }
-    let charges = trace.sums_by_update(alloc)?;
-    push_charges(out, audited, &charges)
-}
-
-/// What the query was charged of its limit, and by whom. Nobody is named where the sums do not agree.
+/// Appends the charges of the query, its limit, and the updates that were charged, the greatest sums first.
 fn push_charge_sentence(
     alloc: Global,
     out: &mut String,
@@ -129,7 +115,7 @@ fn push_charge_sentence(
     } else {
         out.push_str(", without a limit")?;
     }
-    push_charged(alloc, out, audited, trace)?;
+    push_charges(out, audited, &trace.sums_by_update(alloc)?)?;
     out.push('.')
 }
 

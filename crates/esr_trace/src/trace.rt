@@ -1,16 +1,15 @@
-//! What the history tells of a query: each value that it read and whose that was, and what it was charged, by whom.
+//! The trace of a query: each value that it read and the writer of that value, and its charges with the updates that
+//! were charged.
 //!
-//! One pass over the log. An item's writer is looked at again when the item is touched next: where it has ended by
-//! then, its value has been kept or put back. So an end costs nothing, whatever the update wrote. A history keeps of a
-//! query only what it imported all together; each charge is taken here by the definition of one, and not told where
-//! their sum is not the import. Of a query that is active or has aborted it tells as much, as far as it came.
+//! A trace notes the entries of a replay (`traces`), which knows the charges, the writers and the values: it has no
+//! charge rule, so it is right for every metric. The trace of a query that is active or has aborted is as complete as
+//! that of a committed query.
 
-use esr_history::{Entry, Event, History, MAX_TRANSACTIONS, Reply, TxnId};
-use esr_items::{ItemId, Metric, Weighted};
+use crate::traces::{ItemState, Step};
+use esr_history::{Event, History, Reply, TxnId};
+use esr_items::{ItemId, Metric};
+use esr_replay::imported;
 use std::alloc::{AllocError, Global};
-
-/// The numbers of transactions are below this.
-const MAX_NUMBERS: usize = MAX_TRANSACTIONS + 1;
 
 /// So many charges are kept one by one. Those of the same reads, one after another, are kept as one.
 const MAX_CHARGES: usize = 12;
@@ -92,46 +91,6 @@ pub struct Sum {
     pub amount: u64,
 }
 
-/// An item as the pass has come by it.
-#[derive(Clone, Copy)]
-struct ItemState {
-    current: i64,
-    committed: i64,
-    /// The update that has written it, and had not ended when the item was touched last.
-    writer: Option<TxnId>,
-    /// The update that left the committed value, unless it is the opening value.
-    keeper: Option<TxnId>,
-    /// How often the query has read it.
-    reads: u64,
-}
-
-impl ItemState {
-    /// Keeps or puts back what the writer wrote, where it has ended.
-    fn settle(&mut self, ends: &[WriterEnd]) {
-        let Some(writer) = self.writer else {
-            return;
-        };
-        match end_in(ends, writer) {
-            WriterEnd::Committed => {
-                self.committed = self.current;
-                self.keeper = self.writer;
-                self.writer = None;
-            }
-            WriterEnd::Aborted => {
-                self.current = self.committed;
-                self.writer = None;
-            }
-            WriterEnd::Later => {}
-        }
-    }
-}
-
-/// The distance of two values of an item. A metric asks for values in range, which those of a history are, but no type
-/// here says so; its weight is the distance of 0 and 1.
-fn gap(metric: &Weighted, item: ItemId, a: i64, b: i64) -> u64 {
-    metric.distance(item, 0, 1).saturating_mul(a.abs_diff(b))
-}
-
 /// How a transaction ended.
 fn end_in(ends: &[WriterEnd], txn: TxnId) -> WriterEnd {
     ends.get(txn.0 as usize)
@@ -169,7 +128,8 @@ fn ranking(alloc: Global, sums: &[u64]) -> Result<Vec<Sum>, AllocError> {
 #[derive(Drop)]
 pub struct QueryTrace {
     query: TxnId,
-    items: Vec<ItemState>,
+    /// How often the query has read each item.
+    reads: Vec<u64>,
     ends: Vec<WriterEnd>,
     /// What the query was charged, by the number of the update and by that of the item.
     by_update: Vec<u64>,
@@ -189,34 +149,21 @@ pub struct QueryTrace {
     has_ended: bool,
 }
 
-/// The items before the first entry.
-fn openings(alloc: Global, history: &History<Weighted>) -> Result<Vec<ItemState>, AllocError> {
-    let mut items = Vec::new(alloc);
-    for number in 0..history.items() {
-        let value = history.opening(ItemId(number));
-        items.push(ItemState {
-            current: value,
-            committed: value,
-            writer: None,
-            keeper: None,
-            reads: 0,
-        })?;
-    }
-    Ok(items)
-}
-
 impl QueryTrace {
-    fn new(
+    /// Returns the trace of a query before the first entry.
+    pub fn new<M: Metric>(
         alloc: Global,
-        history: &History<Weighted>,
+        history: &History<M>,
         query: TxnId,
     ) -> Result<QueryTrace, AllocError> {
+        let numbers = history.begun_count().saturating_add(1);
+        let items = history.items() as usize;
         Ok(QueryTrace {
             query,
-            items: openings(alloc, history)?,
-            ends: vec![in alloc; WriterEnd::Later; MAX_NUMBERS]?,
-            by_update: vec![in alloc; 0u64; MAX_NUMBERS]?,
-            by_item: vec![in alloc; 0u64; history.items() as usize]?,
+            reads: vec![in alloc; 0u64; items]?,
+            ends: vec![in alloc; WriterEnd::Later; numbers]?,
+            by_update: vec![in alloc; 0u64; numbers]?,
+            by_item: vec![in alloc; 0u64; items]?,
             observed_reads: Vec::new(alloc),
             charges: Vec::new(alloc),
             charge_count: 0,
@@ -287,77 +234,61 @@ impl QueryTrace {
         }
     }
 
-    /// Notes an accepted read of the query.
+    /// Notes an accepted read of the query, which was charged this amount.
     fn note_read(
         &mut self,
-        metric: &Weighted,
         place: usize,
         item: ItemId,
-        value: i64,
+        before: ItemState,
+        amount: u64,
     ) -> Result<(), AllocError> {
-        let Some(state) = self.items.get_mut(item.0 as usize) else {
-            return Ok(());
-        };
-        state.settle(&self.ends);
-        state.reads = state.reads.saturating_add(1);
-        let now = *state;
-        if let Some(update) = now.writer {
+        add_to(&mut self.reads, item.0, 1);
+        if let Some(update) = before.writer {
             self.charge(ChargeGroup {
                 update,
                 item,
-                amount: gap(metric, item, now.current, now.committed),
+                amount,
                 count: 1,
                 cause: Cause::Read,
-                old: now.committed,
-                new: now.current,
+                old: before.committed,
+                new: before.current,
                 place,
             })?;
         }
         self.see(ObservedRead {
             item,
-            value,
-            writer: now.writer.or(now.keeper),
-            is_dirty: now.writer.is_some(),
+            value: before.current,
+            writer: before.writer.or(before.keeper),
+            is_dirty: before.writer.is_some(),
             count: 1,
             overwritten: false,
             place,
         })
     }
 
-    /// Notes an accepted write.
+    /// Notes an accepted write, by which the query was charged this amount.
     fn note_write(
         &mut self,
-        metric: &Weighted,
         place: usize,
         update: TxnId,
         item: ItemId,
         value: i64,
+        before: ItemState,
+        amount: u64,
     ) -> Result<(), AllocError> {
-        let Some(state) = self.items.get_mut(item.0 as usize) else {
-            return Ok(());
-        };
-        state.settle(&self.ends);
-        let before = *state;
-        state.writer = Some(update);
-        state.current = value;
-        if before.reads == 0 {
+        let reads = self.reads.get(item.0 as usize).copied().unwrap_or(0);
+        if reads == 0 {
             return Ok(());
         }
         if before.writer == Some(update) {
             self.overwrite(item, update, value);
         }
-        if self.has_ended {
-            return Ok(());
-        }
-        let each = gap(metric, item, value, before.current);
         self.charge(ChargeGroup {
             update,
             item,
-            amount: each.saturating_mul(before.reads),
+            amount,
             count: 1,
-            cause: Cause::Write {
-                reads: before.reads,
-            },
+            cause: Cause::Write { reads },
             old: before.current,
             new: value,
             place,
@@ -397,24 +328,27 @@ impl QueryTrace {
         }
     }
 
-    fn note(
+    /// Notes an accepted entry, by which each query imported this.
+    pub fn note<M: Metric>(
         &mut self,
-        history: &History<Weighted>,
-        place: usize,
-        entry: Entry,
+        history: &History<M>,
+        step: Step,
+        imports: &[(TxnId, u64)],
     ) -> Result<(), AllocError> {
-        if entry.is_refused() {
-            return Ok(());
-        }
-        match (entry.event, entry.reply) {
-            (Event::BeginQuery { strict, .. }, Reply::Begun(txn)) => {
-                self.note_begin(place, txn, strict);
+        let place = step.place;
+        match (step.entry.event, step.before) {
+            (Event::Write { txn, item, value }, Some(before)) => {
+                let amount = imported(imports, self.query);
+                self.note_write(place, txn, item, value, before, amount)?;
             }
-            (Event::Write { txn, item, value }, _) => {
-                self.note_write(history.metric(), place, txn, item, value)?;
+            (Event::Read { txn, item }, Some(before)) if txn == self.query => {
+                let amount = imported(imports, self.query);
+                self.note_read(place, item, before, amount)?;
             }
-            (Event::Read { txn, item }, Reply::Value(value)) if txn == self.query => {
-                self.note_read(history.metric(), place, item, value)?;
+            (Event::BeginQuery { strict, .. }, _) => {
+                if let Reply::Begun(txn) = step.entry.reply {
+                    self.note_begin(place, txn, strict);
+                }
             }
             (Event::Commit { txn }, _) => {
                 let is_query = history.facts(txn).is_some_and(|facts| facts.query);
@@ -444,19 +378,4 @@ impl QueryTrace {
         }
         sum
     }
-}
-
-/// What the history tells of a query.
-pub fn trace_of(
-    alloc: Global,
-    history: &History<Weighted>,
-    query: TxnId,
-) -> Result<QueryTrace, AllocError> {
-    let mut trace = QueryTrace::new(alloc, history, query)?;
-    for place in 0..history.log().len() {
-        if let Some(entry) = history.log().get(place) {
-            trace.note(history, place, entry)?;
-        }
-    }
-    Ok(trace)
 }

@@ -1,9 +1,10 @@
-//! The charges of each entry: a machine replays the history, and the import of a query after an entry is compared with
-//! that before it. Only the queries that have read the item are looked at, and those that have ended are forgotten.
+//! The charges of each entry, with the update and the item, from a replay of the history. The replay returns them by
+//! the numbers of the queries; they are shown in the order in which the queries have read the item.
 
 use esr_core::Machine;
-use esr_history::{Entry, Event, History, Reply, TxnId};
-use esr_items::{ItemId, Store, Weighted, WeightedRef};
+use esr_history::{Event, History, Reply, TxnId};
+use esr_items::{ItemId, Weighted};
+use esr_replay::{MetricRef, Replay};
 use std::alloc::{AllocError, Global};
 
 /// A charge of an entry.
@@ -15,29 +16,14 @@ pub struct Charge {
     pub amount: u64,
 }
 
-/// A replay of a history, with the charges of the last entry.
+/// A replay that returns the charges of each entry.
 #[derive(Drop)]
-pub struct Replay<'a> {
-    machine: Machine<WeightedRef<'a>>,
-    /// The queries that have read each item.
+pub struct Charges<'a> {
+    replay: Replay<'a, Weighted>,
+    /// The reads of each item by queries that were active at its last write.
     readers: Vec<Vec<TxnId>>,
-    /// The import of each query, by its number.
-    imports: Vec<u64>,
-    pub charges: Vec<Charge>,
-}
-
-/// Returns a machine that is to replay a history.
-fn replayer<'a>(
-    alloc: Global,
-    history: &'a History<Weighted>,
-) -> Result<Machine<WeightedRef<'a>>, AllocError> {
-    let Ok(store) = Store::of_valid(alloc, history.opening_values()) else {
-        return Err(AllocError);
-    };
-    match Machine::new(alloc, store, WeightedRef(history.metric())) {
-        Ok(machine) => Ok(machine),
-        Err(_) => Err(AllocError),
-    }
+    /// What each query imported by the last entry and is not returned yet, by its number.
+    amounts: Vec<u64>,
 }
 
 /// Returns no readers of any item.
@@ -49,114 +35,118 @@ fn no_readers(alloc: Global, items: u32) -> Result<Vec<Vec<TxnId>>, AllocError> 
     Ok(readers)
 }
 
-/// Returns whether a transaction is an active query.
-fn is_active(machine: &Machine<WeightedRef<'_>>, txn: TxnId) -> bool {
-    machine
-        .history()
-        .facts(txn)
-        .is_some_and(|facts| facts.query && facts.end.is_none())
-}
-
-/// Returns the queries among these that are active.
+/// Returns the transactions among these that are active queries.
 fn active(
     alloc: Global,
-    machine: &Machine<WeightedRef<'_>>,
-    queries: &[TxnId],
+    machine: &Machine<MetricRef<'_, Weighted>>,
+    readers: &[TxnId],
 ) -> Result<Vec<TxnId>, AllocError> {
     let mut kept = Vec::new(alloc);
-    for query in queries {
-        if is_active(machine, *query) {
-            kept.push(*query)?;
+    for txn in readers {
+        let facts = machine.history().facts(*txn);
+        if facts.is_some_and(|facts| facts.query && facts.end.is_none()) {
+            kept.push(*txn)?;
         }
     }
     Ok(kept)
 }
 
-/// Returns the update that has written an item and has not ended.
-fn writer_of(machine: &Machine<WeightedRef<'_>>, item: ItemId) -> Option<TxnId> {
-    if item.0 < machine.history().items() {
-        machine.writer(item)
-    } else {
-        None
-    }
-}
-
-impl<'a> Replay<'a> {
-    /// Returns a replay before the first entry.
-    pub fn new(alloc: Global, history: &'a History<Weighted>) -> Result<Replay<'a>, AllocError> {
-        Ok(Replay {
-            machine: replayer(alloc, history)?,
+impl<'a> Charges<'a> {
+    /// Creates a replay before the first entry.
+    pub fn new(alloc: Global, history: &'a History<Weighted>) -> Result<Charges<'a>, AllocError> {
+        let Ok(replay) = Replay::new(alloc, history) else {
+            return Err(AllocError);
+        };
+        Ok(Charges {
+            replay,
             readers: no_readers(alloc, history.items())?,
-            imports: vec![in alloc; 0u64; history.begun_count().saturating_add(1)]?,
-            charges: Vec::new(alloc),
+            amounts: vec![in alloc; 0u64; history.begun_count().saturating_add(1)]?,
         })
     }
 
-    /// Notes a charge of a query, if its import has grown.
-    fn note(&mut self, query: TxnId, update: TxnId, item: ItemId) -> Result<(), AllocError> {
-        let import = self.machine.history().import(query);
-        let Some(before) = self.imports.get_mut(query.0 as usize) else {
-            return Ok(());
-        };
-        let amount = import.saturating_sub(*before);
-        *before = import;
-        if amount > 0 {
-            self.charges.push(Charge {
-                update,
-                query,
-                item,
-                amount,
-            })?;
+    /// Notes what the queries imported by the last entry.
+    fn note_imports(&mut self) {
+        for (query, amount) in self.replay.imports() {
+            if let Some(place) = self.amounts.get_mut(query.0 as usize) {
+                *place = *amount;
+            }
         }
-        Ok(())
     }
 
-    /// Notes the charge of a read, by the update that had written the item.
+    /// Returns the charges of the last entry to these queries, each once.
+    fn charges_to(
+        &mut self,
+        alloc: Global,
+        queries: &[TxnId],
+        update: TxnId,
+        item: ItemId,
+    ) -> Result<Vec<Charge>, AllocError> {
+        let mut charges = Vec::new(alloc);
+        for query in queries {
+            let Some(place) = self.amounts.get_mut(query.0 as usize) else {
+                continue;
+            };
+            let amount = *place;
+            *place = 0;
+            if amount > 0 {
+                charges.push(Charge {
+                    update,
+                    query: *query,
+                    item,
+                    amount,
+                })?;
+            }
+        }
+        Ok(charges)
+    }
+
+    /// Notes a read. Returns its charge, by the update that has written the item.
     fn note_read(
         &mut self,
-        query: TxnId,
-        writer: Option<TxnId>,
+        alloc: Global,
+        txn: TxnId,
         item: ItemId,
-    ) -> Result<(), AllocError> {
-        if !is_active(&self.machine, query) {
-            return Ok(());
-        }
+    ) -> Result<Vec<Charge>, AllocError> {
         if let Some(readers) = self.readers.get_mut(item.0 as usize) {
-            readers.push(query)?;
+            readers.push(txn)?;
         }
-        match writer {
-            Some(update) => self.note(query, update, item),
-            None => Ok(()),
+        if item.0 >= self.replay.machine().history().items() {
+            return Ok(Vec::new(alloc));
+        }
+        match self.replay.machine().writer(item) {
+            Some(update) => self.charges_to(alloc, &[txn], update, item),
+            None => Ok(Vec::new(alloc)),
         }
     }
 
-    /// Notes the charges of a write.
-    fn note_write(&mut self, alloc: Global, update: TxnId, item: ItemId) -> Result<(), AllocError> {
+    /// Notes a write. Returns its charges.
+    fn note_write(
+        &mut self,
+        alloc: Global,
+        update: TxnId,
+        item: ItemId,
+    ) -> Result<Vec<Charge>, AllocError> {
         let Some(readers) = self.readers.get_mut(item.0 as usize) else {
-            return Ok(());
+            return Ok(Vec::new(alloc));
         };
-        let queries = active(alloc, &self.machine, readers)?;
+        let queries = active(alloc, self.replay.machine(), readers)?;
         *readers = queries.to_vec(alloc)?;
-        for query in &queries {
-            self.note(*query, update, item)?;
-        }
-        Ok(())
+        self.charges_to(alloc, &queries, update, item)
     }
 
-    /// Replays one more entry, and finds its charges.
-    pub fn step(&mut self, alloc: Global, entry: Entry) -> Result<(), AllocError> {
-        self.charges.clear();
-        let writer = match entry.event {
-            Event::Read { item, .. } => writer_of(&self.machine, item),
-            _ => None,
-        };
-        if self.machine.step(entry.event).is_err() {
+    /// Executes the next entry. Returns its charges.
+    pub fn step(&mut self, alloc: Global) -> Result<Vec<Charge>, AllocError> {
+        let entry = self.replay.next();
+        if self.replay.step().is_err() {
             return Err(AllocError);
         }
-        match (entry.event, entry.reply) {
-            (Event::Read { txn, item }, Reply::Value(_)) => self.note_read(txn, writer, item),
-            (Event::Write { txn, item, .. }, Reply::Wrote) => self.note_write(alloc, txn, item),
-            _ => Ok(()),
+        self.note_imports();
+        match entry.map(|entry| (entry.event, entry.reply)) {
+            Some((Event::Read { txn, item }, Reply::Value(_))) => self.note_read(alloc, txn, item),
+            Some((Event::Write { txn, item, .. }, Reply::Wrote)) => {
+                self.note_write(alloc, txn, item)
+            }
+            _ => Ok(Vec::new(alloc)),
         }
     }
 }

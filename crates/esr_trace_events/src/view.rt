@@ -1,6 +1,6 @@
 //! The trace events of a whole script.
 
-use crate::charges::Replay;
+use crate::charges::{Charge, Charges};
 use crate::events::{push_entry, push_flow};
 use esr_history::Entry;
 use esr_views::{Recording, ScriptView};
@@ -16,16 +16,21 @@ pub struct TraceEvents;
 /// What is written so far.
 #[derive(Drop)]
 struct Writer<'a> {
-    replay: Replay<'a>,
+    charges: Charges<'a>,
     out: String,
     /// The number of flows so far.
     flows: u64,
 }
 
 impl Writer<'_> {
-    /// Appends the flows of the charges of the last entry.
-    fn push_flows(&mut self, recording: &Recording<'_>, place: usize) -> Result<(), AllocError> {
-        for charge in &self.replay.charges {
+    /// Appends the flows of the charges of an entry.
+    fn push_flows(
+        &mut self,
+        recording: &Recording<'_>,
+        place: usize,
+        charges: &[Charge],
+    ) -> Result<(), AllocError> {
+        for charge in charges {
             self.flows = self.flows.saturating_add(1);
             push_flow(&mut self.out, recording, place, self.flows, charge)?;
         }
@@ -41,15 +46,15 @@ impl Writer<'_> {
         entry: Entry,
     ) -> Result<(), AllocError> {
         push_entry(&mut self.out, recording, place, entry)?;
-        self.replay.step(alloc, entry)?;
-        self.push_flows(recording, place)
+        let charges = self.charges.step(alloc)?;
+        self.push_flows(recording, place, &charges)
     }
 }
 
 /// Returns the text of the trace events.
 fn text_about(alloc: Global, recording: &Recording<'_>) -> Result<String, AllocError> {
     let mut writer = Writer {
-        replay: Replay::new(alloc, &recording.history)?,
+        charges: Charges::new(alloc, &recording.history)?,
         out: String::from_str(alloc, HEAD)?,
         flows: 0,
     };

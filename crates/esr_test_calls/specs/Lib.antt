@@ -1,0 +1,3 @@
+-- A metric that counts changes.
+
+pub mod Changes
