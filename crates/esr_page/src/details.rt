@@ -23,7 +23,7 @@ fn farthest(alloc: Global, rows: &[QueryRow<'_>]) -> Result<Vec<(u64, u64, u32)>
     Ok(ranks)
 }
 
-/// Marks the queries of these ranks, and gives them.
+/// Marks the queries of these ranks, and returns them.
 fn mark(
     alloc: Global,
     all: &mut QueryRows<'_>,
@@ -40,7 +40,7 @@ fn mark(
     Ok(explained)
 }
 
-/// Marks so many queries that were farthest off, and gives them, the farthest first.
+/// Marks the `count` queries with the greatest distances, and returns them in descending order.
 pub fn describe_farthest(
     alloc: Global,
     all: &mut QueryRows<'_>,
@@ -159,7 +159,8 @@ impl<T: Part, P: Part, W: Part> Page<'_, T, P, W> {
     }
 }
 
-/// What queries are told in full, if any are: those that were farthest off, or where none was off, those that were charged most.
+/// Returns the heading of the queries described in detail: those with the greatest distances, or if all were exact,
+/// those with the largest charges.
 pub fn heading_of(rows: &[QueryRow<'_>], explained: &[TxnId]) -> &'static str {
     if explained.is_empty() {
         ""

@@ -1,7 +1,6 @@
-//! What each update exported. A history stores what queries imported, and no exports: so a machine, which knows its
-//! accounts, replays it. That takes the time and memory of a second run; the machine is dropped before rows are made.
-//! If no query imported anything, no update exported anything either, as there are no other charges, and nothing is
-//! replayed.
+//! The export of each update. A history stores imports and no exports, so a machine replays it. This takes the time and
+//! memory of a second run; the machine is dropped before the rows are built. If no query imported anything, no update
+//! exported anything, and nothing is replayed.
 
 ghost use Rattle.std.specs.Prelude.{◌≡◌, ◌≤◌, ◌+◌, true, map, replicate, IfOk};
 ghost use Rattle.std.specs.List.{range_with_len};
