@@ -6,10 +6,9 @@
 ghost use Rattle.std.specs.Prelude.{◌≡◌, ◌<◌, ◌≤◌, [], ◌∷◌, ◌++◌, ℕ, length, map, All, IfOk, OnOk, option_map};
 ghost use Rattle.esr_items.specs.Values.{IsValue};
 ghost use Rattle.esr_base.specs.declared.limits.TheConstants.{MAX_READS};
-ghost use Rattle.esr_order.specs.Chains as orders;
 ghost use Rattle.esr_order.specs.Orders.{chain_at};
 ghost use Rattle.esr_cert.specs.Views.{chain_of as chain_view};
-ghost use Rattle.esr_order.specs.Chains.{seen_links, writers_in};
+ghost use Rattle.esr_order.specs.Chains.{chain_view as links_view, writers_in};
 ghost use Rattle.esr_audit.specs.Reads.{values_of, list_at, distance_sum, version_values, chain_of_item, audit_chain_by, items_in};
 
 use crate::reads::ItemRead;
@@ -21,7 +20,7 @@ use std::alloc::{AllocError, Global};
 
 /// Appends a value that was read to the list of its item, if there is one.
 fn put_value(lists: &mut Vec<Vec<i64>>, read: ItemRead) -> Result<(), AllocError>
-    ensures count { OnOk result (length lists.new.items ≡ length lists.old.items) }
+    ensures list_count { OnOk result (length lists.new.items ≡ length lists.old.items) }
     ensures values { OnOk result ((x : ℕ) → x < length lists.old.items
         → list_at lists.new.items x ≡ list_at lists.old.items x ++ values_of (read ∷ []) x) }
 {
@@ -39,7 +38,7 @@ fn values_by_item(
     reads: &[ItemRead],
     items: u32,
 ) -> Result<Vec<Vec<i64>>, AllocError>
-    ensures count { IfOk result (λ lists. length lists.items ≡ items) }
+    ensures list_count { IfOk result (λ lists. length lists.items ≡ items) }
     ensures values { IfOk result (λ lists. (x : ℕ) → x < items → list_at lists.items x ≡ values_of reads.now x) }
 {
     let mut lists = empty_lists(alloc, items)?;
@@ -75,8 +74,8 @@ fn costs_of<M: Metric>(
 
 /// Returns the writers and the values of a chain, or empty lists if there is none.
 fn writers_and_values(alloc: Global, links: Option<Links>) -> (Vec<u32>, Vec<i64>)
-    ensures writers { result.0.items ≡ writers_in (option_map seen_links links) }
-    ensures values { result.1.items ≡ version_values (option_map seen_links links) }
+    ensures writers { result.0.items ≡ writers_in (option_map links_view links) }
+    ensures values { result.1.items ≡ version_values (option_map links_view links) }
 {
     match links {
         None => (Vec::new(alloc), Vec::new(alloc)),
@@ -101,9 +100,9 @@ fn chain_of<M: Metric>(
     requires item { x.0 < length history.now.schedule.opening }
     requires within_max { length values.now ≤ MAX_READS }
     requires values { All IsValue values.now }
-    requires versions { All IsValue (version_values (option_map seen_links links)) }
+    requires versions { All IsValue (version_values (option_map links_view links)) }
     ensures { IfOk result (λ c. chain_view c ≡ audit_chain_by (M.distance_by history.now.schedule.weights)
-        history.now.schedule.opening (option_map seen_links links) values.now x.0) }
+        history.now.schedule.opening (option_map links_view links) values.now x.0) }
 {
     let (writers, versions) = writers_and_values(alloc, links);
     let costs = costs_of(
@@ -121,8 +120,8 @@ fn chain_of<M: Metric>(
     })
 }
 
-/// Returns the chains of the items that were read, ascending. Takes them out of the order one by one.
-pub fn chains_of<M: Metric>(
+/// Takes the chains of the items that were read out of the order, ascending by item.
+pub fn take_chains<M: Metric>(
     alloc: Global,
     history: &History<M>,
     order: &mut Order,

@@ -7,7 +7,7 @@ ghost use Rattle.esr_order.specs.Orders.{IsConflictOrderOn};
 ghost use Rattle.esr_order.specs.Relevant.{AreRelevant};
 ghost use Rattle.esr_audit.specs.Problems.{IsProblemOf};
 
-use crate::chains::chains_of;
+use crate::chains::take_chains;
 use crate::reads::item_reads;
 use esr_cert::{Problem, ProblemParts};
 use esr_history::{History, NoMemory, TxnId};
@@ -30,7 +30,7 @@ pub fn problem_of<M: Metric>(
 {
     let _invariant = history.log(); // brings the invariant into the proof
     let reads = item_reads(alloc, history, q)?;
-    let chains = chains_of(alloc, history, &mut order, &reads)?;
+    let chains = take_chains(alloc, history, &mut order, &reads)?;
     let (updates, before, must) = order.into_parts();
     let parts = ProblemParts {
         updates,

@@ -5,7 +5,7 @@ use Rattle.std.proofs.lemmas.Bool.{cases_lt}
 use Rattle.std.proofs.lemmas.List.Sums.{sum_by-cons}
 use Rattle.esr_cert.specs.declared.problem.Chain as code
 use Rattle.esr_cert.specs.Problem.{Chain, Problem, size, is_well_formed}
-use Rattle.esr_cert.specs.Network.{arc_at, links, chain_links, back_arc, must_arc, back_arcs, must_arcs, network, Arc}
+use Rattle.esr_cert.specs.Network.{arc_at, path_arcs, arcs_of_chain, precedence_arc, must_arc, precedence_arcs, must_arcs, network, Arc}
 use Rattle.esr_cert.specs.Starts.{starts_from, joined, AreStarts}
 use Rattle.esr_base.specs.declared.numbers.TxnId.{TxnId}
 use Rattle.esr_cert.specs.Views.{chain_of, problem_of}
@@ -21,11 +21,11 @@ costs_count (one ∷ chains) =
 
 -- ---- an arc by its number
 
-joined_links : (n : ℕ) (chains : List Chain) → joined (map (chain_links n) chains) ≡ flat_map (chain_links n) chains
+joined_links : (n : ℕ) (chains : List Chain) → joined (map (arcs_of_chain n) chains) ≡ flat_map (arcs_of_chain n) chains
 joined_links n [] = refl
-joined_links n (chain ∷ chains) = ap (λ arcs. chain_links n chain ++ arcs) (joined_links n chains)
+joined_links n (chain ∷ chains) = ap (λ arcs. arcs_of_chain n chain ++ arcs) (joined_links n chains)
 
-links_start : (n m : ℕ) (chains : List Chain) → AreWhole chains → (k : ℕ) → k ≤ length chains → get_or (starts_from m chains) k 0 ≡ m + length (joined (take k (map (chain_links n) chains)))
+links_start : (n m : ℕ) (chains : List Chain) → AreWhole chains → (k : ℕ) → k ≤ length chains → get_or (starts_from m chains) k 0 ≡ m + length (joined (take k (map (arcs_of_chain n) chains)))
 links_start n m [] whole zero l = omega arith
 links_start n m [] whole (suc k) l = absurd (omega arith)
 links_start n m (chain ∷ chains) whole zero l = omega arith
@@ -34,18 +34,18 @@ links_start n m (chain ∷ chains) whole (suc k) l =
       arith,
       links_length n (n + 1) chain.writers chain.costs (whole chain (here chain chains)),
       links_start n (m + length chain.costs) chains (λ d at. whole d (there chain d chains at)) k (omega arith),
-      length-append (chain_links n chain) (joined (take k (map (chain_links n) chains))),
+      length-append (arcs_of_chain n chain) (joined (take k (map (arcs_of_chain n) chains))),
     )
 
-pub links_starts : (p : Problem) → IsProblem p → AreStarts (starts_from 0 p.chains) (map (chain_links (size p)) p.chains)
+pub links_starts : (p : Problem) → IsProblem p → AreStarts (starts_from 0 p.chains) (map (arcs_of_chain (size p)) p.chains)
 links_starts p ok = record {
-  count = omega (arith, starts_long 0 p.chains, length-map p.chains (chain_links (size p)));
-  at = λ k l. omega (arith, links_start (size p) 0 p.chains (λ chain at. (ok.chains chain at).one_more) k (omega (arith, length-map p.chains (chain_links (size p)))));
+  count = omega (arith, starts_long 0 p.chains, length-map p.chains (arcs_of_chain (size p)));
+  at = λ k l. omega (arith, links_start (size p) 0 p.chains (λ chain at. (ok.chains chain at).one_more) k (omega (arith, length-map p.chains (arcs_of_chain (size p)))));
   filled = λ k l.
-      let inside : k < length p.chains = omega (arith, length-map p.chains (chain_links (size p))) in
+      let inside : k < length p.chains = omega (arith, length-map p.chains (arcs_of_chain (size p))) in
       let chain : Chain = get_or p.chains k (record { item = 0; writers = []; costs = [] }) in
       let whole : length chain.costs ≡ length chain.writers + 1 = (ok.chains chain (k, inside, get_or_default p.chains k chain (record { item = 0; writers = []; costs = [] }) inside)).one_more in
-      omega (arith, ap length (get_or-map (chain_links (size p)) p.chains k (record { item = 0; writers = []; costs = [] }) [] inside), links_length (size p) (size p + 1) chain.writers chain.costs whole);
+      omega (arith, ap length (get_or-map (arcs_of_chain (size p)) p.chains k (record { item = 0; writers = []; costs = [] }) [] inside), links_length (size p) (size p + 1) chain.writers chain.costs whole);
 }
 
 abbrev none : Arc
@@ -53,51 +53,51 @@ none = record { from = 0; to = 0; capacity = Some 0 }
 
 module _ (p : Problem) (ok : IsProblem p) where
   abbrev rows : List (List Arc)
-  rows = map (chain_links (size p)) p.chains
+  rows = map (arcs_of_chain (size p)) p.chains
 
   abbrev starts : List ℕ
   starts = starts_from 0 p.chains
 
-  whole_list : (network p).arcs ≡ joined rows ++ back_arcs p ++ must_arcs p
-  whole_list = ap (λ arcs. arcs ++ back_arcs p ++ must_arcs p) (sym (joined_links (size p) p.chains))
+  whole_list : (network p).arcs ≡ joined rows ++ precedence_arcs p ++ must_arcs p
+  whole_list = ap (λ arcs. arcs ++ precedence_arcs p ++ must_arcs p) (sym (joined_links (size p) p.chains))
 
   rows_long : length rows ≡ length p.chains
-  rows_long = length-map p.chains (chain_links (size p))
+  rows_long = length-map p.chains (arcs_of_chain (size p))
 
   same_end : get_or starts (length rows) 0 ≡ get_or starts (length p.chains) 0
   same_end = ap (λ k. get_or starts k 0) rows_long
 
   pub arcs_long : length (network p).arcs ≡ get_or starts (length p.chains) 0 + length p.before + length p.must
   arcs_long =
-      omega (arith, ap length whole_list, length-append (joined rows ++ back_arcs p) (must_arcs p), length-append (joined rows) (back_arcs p), same_end, rows_end starts rows (links_starts p ok), length-map {B = Arc} p.before back_arc, length-map {B = Arc} p.must (must_arc (size p)))
+      omega (arith, ap length whole_list, length-append (joined rows ++ precedence_arcs p) (must_arcs p), length-append (joined rows) (precedence_arcs p), same_end, rows_end starts rows (links_starts p ok), length-map {B = Arc} p.before precedence_arc, length-map {B = Arc} p.must (must_arc (size p)))
 
-  pub arc_in_chain : (k number : ℕ) (d : Chain) → k < length p.chains → get_or starts k 0 ≤ number → number < get_or starts (suc k) 0 → arc_at (network p).arcs number ≡ arc_at (chain_links (size p) (get_or p.chains k d)) (number - get_or starts k 0)
+  pub arc_in_chain : (k number : ℕ) (d : Chain) → k < length p.chains → get_or starts k 0 ≤ number → number < get_or starts (suc k) 0 → arc_at (network p).arcs number ≡ arc_at (arcs_of_chain (size p) (get_or p.chains k d)) (number - get_or starts k 0)
   arc_in_chain k number d l begun before =
       ap (λ arcs. arc_at arcs number) whole_list
-      ∙ in_row starts rows (links_starts p ok) none (back_arcs p) (must_arcs p) k number (omega (arith, rows_long)) begun before
-      ∙ ap (λ row. arc_at row (number - get_or starts k 0)) (get_or-map (chain_links (size p)) p.chains k d [] l)
+      ∙ in_row starts rows (links_starts p ok) none (precedence_arcs p) (must_arcs p) k number (omega (arith, rows_long)) begun before
+      ∙ ap (λ row. arc_at row (number - get_or starts k 0)) (get_or-map (arcs_of_chain (size p)) p.chains k d [] l)
 
-  pub arc_of_pair : (number : ℕ) (d : ℕ × ℕ) → get_or starts (length p.chains) 0 ≤ number → number - get_or starts (length p.chains) 0 < length p.before → arc_at (network p).arcs number ≡ back_arc (get_or p.before (number - get_or starts (length p.chains) 0) d)
+  pub arc_of_pair : (number : ℕ) (d : ℕ × ℕ) → get_or starts (length p.chains) 0 ≤ number → number - get_or starts (length p.chains) 0 < length p.before → arc_at (network p).arcs number ≡ precedence_arc (get_or p.before (number - get_or starts (length p.chains) 0) d)
   arc_of_pair number d not_before inside =
       ap (λ arcs. arc_at arcs number) whole_list
-      ∙ in_backs starts rows (links_starts p ok) none (back_arcs p) (must_arcs p) number (omega (arith, same_end)) (omega (arith, same_end, length-map {B = Arc} p.before back_arc))
-      ∙ ap (λ n. arc_at (back_arcs p) (number - n)) same_end
-      ∙ get_or-map back_arc p.before (number - get_or starts (length p.chains) 0) d none inside
+      ∙ in_backs starts rows (links_starts p ok) none (precedence_arcs p) (must_arcs p) number (omega (arith, same_end)) (omega (arith, same_end, length-map {B = Arc} p.before precedence_arc))
+      ∙ ap (λ n. arc_at (precedence_arcs p) (number - n)) same_end
+      ∙ get_or-map precedence_arc p.before (number - get_or starts (length p.chains) 0) d none inside
 
   pub arc_of_must : (number d : ℕ) → number < length (network p).arcs → get_or starts (length p.chains) 0 ≤ number → length p.before ≤ number - get_or starts (length p.chains) 0
       → (number - get_or starts (length p.chains) 0 - length p.before < length p.must) × (arc_at (network p).arcs number ≡ must_arc (size p) (get_or p.must (number - get_or starts (length p.chains) 0 - length p.before) d))
   arc_of_must number d inside not_before after =
-      let backs : length (back_arcs p) ≡ length p.before = length-map {B = Arc} p.before back_arc in
+      let backs : length (precedence_arcs p) ≡ length p.before = length-map {B = Arc} p.before precedence_arc in
       let short : number - get_or starts (length p.chains) 0 - length p.before < length p.must = omega (arith, arcs_long) in (
         short,
         ap (λ arcs. arc_at arcs number) whole_list
-            ∙ in_musts starts rows (links_starts p ok) none (back_arcs p) (must_arcs p) number (omega (arith, same_end)) (omega (arith, same_end, backs))
-            ∙ ap (λ n. arc_at (must_arcs p) (number - n - length (back_arcs p))) same_end ∙ ap (λ n. arc_at (must_arcs p) (number - get_or starts (length p.chains) 0 - n)) backs
+            ∙ in_musts starts rows (links_starts p ok) none (precedence_arcs p) (must_arcs p) number (omega (arith, same_end)) (omega (arith, same_end, backs))
+            ∙ ap (λ n. arc_at (must_arcs p) (number - n - length (precedence_arcs p))) same_end ∙ ap (λ n. arc_at (must_arcs p) (number - get_or starts (length p.chains) 0 - n)) backs
             ∙ get_or-map (must_arc (size p)) p.must (number - get_or starts (length p.chains) 0 - length p.before) d none short,
       )
 
 -- an arc of a chain, by its place there
-pub link_is : (from sink : ℕ) (writers costs : List ℕ) (j : ℕ) → length costs ≡ length writers + 1 → j < length costs → arc_at (links from sink writers costs) j ≡ record { from = get_or (from ∷ writers) j 0; to = get_or (writers ++ sink ∷ []) j 0; capacity = Some (get_or costs j 0) }
+pub link_is : (from sink : ℕ) (writers costs : List ℕ) (j : ℕ) → length costs ≡ length writers + 1 → j < length costs → arc_at (path_arcs from sink writers costs) j ≡ record { from = get_or (from ∷ writers) j 0; to = get_or (writers ++ sink ∷ []) j 0; capacity = Some (get_or costs j 0) }
 link_is from sink writers [] j e l = absurd (omega arith)
 link_is from sink [] (c ∷ costs) zero e l = refl
 link_is from sink [] (c ∷ costs) (suc j) e l = absurd (omega arith)
@@ -122,11 +122,11 @@ module _ (updates : List TxnId) (before : List (ℕ × ℕ)) (chains : List code
   pub chains_bounded : length chains ≤ 4096
   chains_bounded = omega (arith, (are_bounded parts sound).chains, length-map chains chain_of)
 
-  pub starts_are : AreStarts starts (map (chain_links (size parts)) parts.chains)
-  starts_are = subst (λ list. AreStarts list (map (chain_links (size parts)) parts.chains)) (sym are) (links_starts parts ok)
+  pub starts_are : AreStarts starts (map (arcs_of_chain (size parts)) parts.chains)
+  starts_are = subst (λ list. AreStarts list (map (arcs_of_chain (size parts)) parts.chains)) (sym are) (links_starts parts ok)
 
   pub count_is : length starts ≡ length chains + 1
-  count_is = omega (arith, starts_are.count, length-map parts.chains (chain_links (size parts)), length-map chains chain_of)
+  count_is = omega (arith, starts_are.count, length-map parts.chains (arcs_of_chain (size parts)), length-map chains chain_of)
 
   abbrev links_end : ℕ
   links_end = get_or starts (length chains) 0
@@ -163,23 +163,23 @@ module _ (updates : List TxnId) (before : List (ℕ × ℕ)) (chains : List code
 
       pub place_in_chain : number - get_or starts k 0 < length chain.costs.items
       place_in_chain =
-          let row : get_or (map (chain_links (size parts)) parts.chains) k [] ≡ chain_links (size parts) (chain_of chain) =
-          get_or-map (chain_links (size parts)) parts.chains k (chain_of chain) [] (omega (arith, length-map chains chain_of, row_in_chains)) ∙ ap (chain_links (size parts)) (sym chain_is) in
-          let long : get_or starts (suc k) 0 ≡ get_or starts k 0 + length (get_or (map (chain_links (size parts)) parts.chains) k []) =
-          row_ends starts (map (chain_links (size parts)) parts.chains) starts_are k (omega (arith, row_in_chains, length-map parts.chains (chain_links (size parts)), length-map chains chain_of)) in
+          let row : get_or (map (arcs_of_chain (size parts)) parts.chains) k [] ≡ arcs_of_chain (size parts) (chain_of chain) =
+          get_or-map (arcs_of_chain (size parts)) parts.chains k (chain_of chain) [] (omega (arith, length-map chains chain_of, row_in_chains)) ∙ ap (arcs_of_chain (size parts)) (sym chain_is) in
+          let long : get_or starts (suc k) 0 ≡ get_or starts k 0 + length (get_or (map (arcs_of_chain (size parts)) parts.chains) k []) =
+          row_ends starts (map (arcs_of_chain (size parts)) parts.chains) starts_are k (omega (arith, row_in_chains, length-map parts.chains (arcs_of_chain (size parts)), length-map chains chain_of)) in
           omega (arith, long, ap length row, links_length (size parts) (size parts + 1) chain.writers.items chain.costs.items chain_whole, begun, next)
 
-      pub link_of : arc_at (chain_links (length updates) (chain_of chain)) (number - get_or starts k 0) ≡ arc_at (network parts).arcs number
+      pub link_of : arc_at (arcs_of_chain (length updates) (chain_of chain)) (number - get_or starts k 0) ≡ arc_at (network parts).arcs number
       link_of =
-          ap (λ n. arc_at (chain_links n (chain_of chain)) (number - get_or starts k 0)) (sym size_is)
-          ∙ ap (λ d. arc_at (chain_links (size parts) d) (number - get_or starts k 0)) chain_is
-          ∙ ap (λ list. arc_at (chain_links (size parts) (get_or parts.chains k (chain_of chain))) (number - get_or list k 0)) are
+          ap (λ n. arc_at (arcs_of_chain n (chain_of chain)) (number - get_or starts k 0)) (sym size_is)
+          ∙ ap (λ d. arc_at (arcs_of_chain (size parts) d) (number - get_or starts k 0)) chain_is
+          ∙ ap (λ list. arc_at (arcs_of_chain (size parts) (get_or parts.chains k (chain_of chain))) (number - get_or list k 0)) are
           ∙ sym (arc_in_chain parts ok k number (chain_of chain) (omega (arith, row_in_chains, length-map chains chain_of)) (subst (λ list. get_or list k 0 ≤ number) are begun) (subst (λ list. number < get_or list (suc k) 0) are next))
 
   module _ (number : ℕ) (late : links_end ≤ number) where
-    pub pair_is : number - links_end < length before → back_arc (get_or before (number - links_end) (0, 0)) ≡ arc_at (network parts).arcs number
+    pub pair_is : number - links_end < length before → precedence_arc (get_or before (number - links_end) (0, 0)) ≡ arc_at (network parts).arcs number
     pair_is inside =
-        ap (λ n. back_arc (get_or before (number - n) (0, 0))) end_is ∙ sym (arc_of_pair parts ok number (0, 0) (omega (arith, end_is, late)) (omega (arith, end_is)))
+        ap (λ n. precedence_arc (get_or before (number - n) (0, 0))) end_is ∙ sym (arc_of_pair parts ok number (0, 0) (omega (arith, end_is, late)) (omega (arith, end_is)))
 
     must_parts : number < length (network parts).arcs → length before ≤ number - links_end → (number - links_end - length before < length must) × (arc_at (network parts).arcs number ≡ must_arc (size parts) (get_or must (number - links_end - length before) 0))
     must_parts inside after =

@@ -23,7 +23,7 @@ carried_none p (a ∷ arcs) (x ∷ flow) h =
     omega (arith, ap (λ b. pick b x) (h 0 (omega arith)), carried_none p arcs flow (λ i l. h (suc i) (omega arith)))
 
 pub nothing_into_source : (net : Network) → IsNetwork net → (flow : List ℕ) → inflow net.arcs flow net.source ≡ 0
-nothing_into_source net ok flow = carried_none (λ arc. eqb arc.to net.source) net.arcs flow (λ i l. ne_eqb _ _ (ok.no_way_back i l))
+nothing_into_source net ok flow = carried_none (λ arc. eqb arc.to net.source) net.arcs flow (λ i l. ne_eqb _ _ (ok.none_into_source i l))
 
 abbrev pub node_sum : (ℕ → Bool) → (ℕ → ℕ) → ℕ → ℕ
 node_sum has g zero = 0

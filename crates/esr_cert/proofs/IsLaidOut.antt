@@ -4,8 +4,8 @@ use Rattle.std.specs.List.Sorted.{IsNonDecreasingBy, IsPartitionPoint}
 use Rattle.std.proofs.lemmas.Bool.{cases_lt, ltb-true, ltb-false}
 use Rattle.std.proofs.lemmas.List.{get_or_default}
 use Rattle.esr_cert.specs.declared.rows.TheConstants.{MAX_ARCS}
-use Rattle.esr_cert.specs.Network.{arc_at, HaveEnds, Arc}
-use Rattle.esr_cert.specs.Steps.{arc_of, order_of, start, step_at, AreOnce, ResidualArc, Forward, Backward}
+use Rattle.esr_cert.specs.Network.{arc_at, EndsAreNodes, Arc}
+use Rattle.esr_cert.specs.Steps.{arc_of, rank_of, start, step_at, AreOnce, ResidualArc, Forward, Backward}
 use Rattle.esr_cert.specs.Rows.{span_at, row_in, first_steps, steps_from, row_of, AreRows, AreSteps, Filled, IsLaidOut, lengthen, Span}
 use Rattle.esr_cert.proofs.StepsLaws.{first_next, has_steps}
 use Rattle.esr_cert.proofs.RowsLaws.{row_length, at_row, filled_more, place_within, capacity_along, capacity_against, filled_all, step_with}
@@ -14,7 +14,7 @@ pub laid_long : {arcs : List Arc} {nodes i : ℕ} {spans : List Span} {steps : L
 laid_long h = h.filled.total ∙ h.are.both
 
 -- the two steps of an arc are put into the rows of its ends
-module _ {arcs : List Arc} {nodes i : ℕ} {spans : List Span} {steps : List ResidualArc} (l : i < length arcs) (ends : HaveEnds arcs nodes) (h : IsLaidOut arcs nodes i spans steps) where
+module _ {arcs : List Arc} {nodes i : ℕ} {spans : List Span} {steps : List ResidualArc} (l : i < length arcs) (ends : EndsAreNodes arcs nodes) (h : IsLaidOut arcs nodes i spans steps) where
   abbrev from : ℕ
   from = (arc_at arcs i).from
 
@@ -85,27 +85,27 @@ laid_steps {arcs} {nodes} {i} {spans} {steps} within_max e laid_out = record { w
         (has_steps arcs v).once a b in_row (omega (arith, ap (λ w. length (row_of arcs w)) node)) (sym is_j ∙ same ∙ is_k ∙ ap (λ w. step_at (row_of arcs w) b) (sym node)) in
         omega (arith, at_j, at_k, place, ap (λ w. sum (take w h.degrees)) node)
 
-same_order : (s t : ResidualArc) → order_of s ≡ order_of t → s ≡ t
-same_order (Forward i) (Forward j) e = ap (λ n. Forward n) (omega arith)
-same_order (Forward i) (Backward j) e = absurd (omega arith)
-same_order (Backward i) (Forward j) e = absurd (omega arith)
-same_order (Backward i) (Backward j) e = ap (λ n. Backward n) (omega arith)
+same_rank : (s t : ResidualArc) → rank_of s ≡ rank_of t → s ≡ t
+same_rank (Forward i) (Forward j) e = ap (λ n. Forward n) (omega arith)
+same_rank (Forward i) (Backward j) e = absurd (omega arith)
+same_rank (Backward i) (Forward j) e = absurd (omega arith)
+same_rank (Backward i) (Backward j) e = ap (λ n. Backward n) (omega arith)
 
 -- the step is at the index after the steps before it
-found_at : (row : List ResidualArc) (step : ResidualArc) (k : ℕ) → IsNonDecreasingBy order_of row → Contains row step → IsPartitionPoint (λ t. ltb (order_of t) (order_of step) ≡ true) (λ t. ltb (order_of t) (order_of step) ≡ false) row k → (k < length row) × (step_at row k ≡ step)
+found_at : (row : List ResidualArc) (step : ResidualArc) (k : ℕ) → IsNonDecreasingBy rank_of row → Contains row step → IsPartitionPoint (λ t. ltb (rank_of t) (rank_of step) ≡ true) (λ t. ltb (rank_of t) (rank_of step) ≡ false) row k → (k < length row) × (step_at row k ≡ step)
 found_at row step k rise (j, l, at) (before, after) =
-    let is : order_of (step_at row j) ≡ order_of step = ap order_of (get_or_default row j (Forward 0) step l ∙ at) in
+    let is : rank_of (step_at row j) ≡ rank_of step = ap rank_of (get_or_default row j (Forward 0) step l ∙ at) in
     let low : k ≤ j = elim (cases_lt j k) [
-      | inl m ↦ absurd (omega (arith, is, ltb-true (order_of (step_at row j)) (order_of step) (before j (Forward 0) (omega arith) m)))
+      | inl m ↦ absurd (omega (arith, is, ltb-true (rank_of (step_at row j)) (rank_of step) (before j (Forward 0) (omega arith) m)))
       | inr m ↦ m
     ] in
-    let at_most : order_of (step_at row k) ≤ order_of (step_at row j) = rise k j (Forward 0) low l in
-    let at_least : order_of step ≤ order_of (step_at row k) = ltb-false (order_of (step_at row k)) (order_of step) (after k (Forward 0) (omega arith) (omega arith)) in
-    (omega arith, same_order (step_at row k) step (omega arith))
+    let at_most : rank_of (step_at row k) ≤ rank_of (step_at row j) = rise k j (Forward 0) low l in
+    let at_least : rank_of step ≤ rank_of (step_at row k) = ltb-false (rank_of (step_at row k)) (rank_of step) (after k (Forward 0) (omega arith) (omega arith)) in
+    (omega arith, same_rank (step_at row k) step (omega arith))
 
 -- the result of the search for a step in the row of its node
-pub found_place : (steps row : List ResidualArc) (span : Span) (step : ResidualArc) (k : ℕ) → row ≡ row_in steps span → span.end ≤ length steps → IsNonDecreasingBy order_of (row_in steps span) → Contains (row_in steps span) step → IsPartitionPoint (λ t. ltb (order_of t) (order_of step) ≡ true) (λ t. ltb (order_of t) (order_of step) ≡ false) row k → (span.begin + k < length steps) × (step_at steps (span.begin + k) ≡ step)
+pub found_place : (steps row : List ResidualArc) (span : Span) (step : ResidualArc) (k : ℕ) → row ≡ row_in steps span → span.end ≤ length steps → IsNonDecreasingBy rank_of (row_in steps span) → Contains (row_in steps span) step → IsPartitionPoint (λ t. ltb (rank_of t) (rank_of step) ≡ true) (λ t. ltb (rank_of t) (rank_of step) ≡ false) row k → (span.begin + k < length steps) × (step_at steps (span.begin + k) ≡ step)
 found_place steps row span step k e inside rise has point =
-    let (l, at) = found_at (row_in steps span) step k rise has (subst (λ list. IsPartitionPoint (λ t. ltb (order_of t) (order_of step) ≡ true) (λ t. ltb (order_of t) (order_of step) ≡ false) list k) e point) in
+    let (l, at) = found_at (row_in steps span) step k rise has (subst (λ list. IsPartitionPoint (λ t. ltb (rank_of t) (rank_of step) ≡ true) (λ t. ltb (rank_of t) (rank_of step) ≡ false) list k) e point) in
     let short : k < span.end - span.begin = omega (arith, row_length steps span inside) in
     (omega arith, sym (at_row steps span k (Forward 0) short) ∙ at)

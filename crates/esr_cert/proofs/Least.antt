@@ -5,7 +5,7 @@ use Rattle.std.specs.List.{list_any}
 use Rattle.std.proofs.lemmas.Bool.{cases_Bool, and_left, or_left, or_from, cond-true, cond-false}
 use Rattle.std.proofs.lemmas.List.Sums.{sum_by-cons}
 use Rattle.esr_cert.specs.Problem.{Chain, Problem, size, is_closed, version, chain_cost, cost}
-use Rattle.esr_cert.specs.Network.{Arc, arc_at, IsNetwork, links, chain_links, back_arc, must_arc, chain_arcs, back_arcs, must_arcs, network}
+use Rattle.esr_cert.specs.Network.{Arc, arc_at, IsNetwork, path_arcs, arcs_of_chain, precedence_arc, must_arc, arcs_of_chains, precedence_arcs, must_arcs, network}
 use Rattle.esr_cert.specs.Flow.{IsFlow, worth}
 use Rattle.esr_cert.specs.Cut.{crosses, across, IsLimited, AreLimited, with_source}
 use Rattle.esr_cert.proofs.Cut.{pick, weak}
@@ -61,11 +61,11 @@ version_some : (test : ℕ → Bool) (w : ℕ) (writers : List ℕ) → test w �
 version_some test w writers t = cond-true _ _ _ (or_left (test w) (list_any test writers) t)
 
 -- from a node that is not in the set, nothing crosses, and the set has none of the writers
-links_out : (test : ℕ → Bool) (sink : ℕ) (from : ℕ) (writers costs : List ℕ) → test from ≡ false → test sink ≡ false → Backed test from writers → (across test (links from sink writers costs) ≡ 0) × (version test writers ≡ 0)
+links_out : (test : ℕ → Bool) (sink : ℕ) (from : ℕ) (writers costs : List ℕ) → test from ≡ false → test sink ≡ false → Backed test from writers → (across test (path_arcs from sink writers costs) ≡ 0) × (version test writers ≡ 0)
 links_out test sink from [] [] f s b = (refl, refl)
 links_out test sink from (w ∷ writers) [] f s b =
     let not_w : test w ≡ false = backed_out (test w) (test from) b.0 f in
-    let rest : (across test (links w sink writers []) ≡ 0) × (version test writers ≡ 0) = links_out test sink w writers [] not_w s b.1 in
+    let rest : (across test (path_arcs w sink writers []) ≡ 0) × (version test writers ≡ 0) = links_out test sink w writers [] not_w s b.1 in
     (refl, version_none test w writers not_w rest.1)
   where
     backed_out : (x y : Bool) → (x ≡ true → y ≡ true) → y ≡ false → x ≡ false
@@ -74,7 +74,7 @@ links_out test sink from (w ∷ writers) [] f s b =
 links_out test sink from [] (c ∷ costs) f s b = (omega (arith, ap (λ x. pick x c) (crosses_not test (record { from = from; to = sink; capacity = Some c }) f)), refl)
 links_out test sink from (w ∷ writers) (c ∷ costs) f s b =
     let not_w : test w ≡ false = backed_out (test w) (test from) b.0 f in
-    let rest : (across test (links w sink writers costs) ≡ 0) × (version test writers ≡ 0) = links_out test sink w writers costs not_w s b.1 in
+    let rest : (across test (path_arcs w sink writers costs) ≡ 0) × (version test writers ≡ 0) = links_out test sink w writers costs not_w s b.1 in
     (omega (arith, ap (λ x. pick x c) (crosses_not test (record { from = from; to = w; capacity = Some c }) f)), version_none test w writers not_w rest.1)
   where
     backed_out : (x y : Bool) → (x ≡ true → y ≡ true) → y ≡ false → x ≡ false
@@ -87,13 +87,13 @@ crossing true true p q = cc
 crossing false y p q = cc
 
 -- from a member, the one arc that crosses is that of the version
-links_in : (test : ℕ → Bool) (sink : ℕ) (from : ℕ) (writers costs : List ℕ) → test from ≡ true → test sink ≡ false → Backed test from writers → length costs ≡ length writers + 1 → across test (links from sink writers costs) ≡ get_or costs (version test writers) 0
+links_in : (test : ℕ → Bool) (sink : ℕ) (from : ℕ) (writers costs : List ℕ) → test from ≡ true → test sink ≡ false → Backed test from writers → length costs ≡ length writers + 1 → across test (path_arcs from sink writers costs) ≡ get_or costs (version test writers) 0
 links_in test sink from writers [] f s b e = absurd (omega arith)
 links_in test sink from [] (c ∷ costs) f s b e =
     let all : crosses test (record { from = from; to = sink; capacity = Some c }) ≡ true = crossing (test from) (test sink) f s in
     omega (arith, ap (λ x. pick x c) all)
 links_in test sink from (w ∷ writers) (c ∷ costs) f s b e =
-    let inside : test w ≡ true → across test (links w sink writers costs) ≡ get_or costs (version test writers) 0 = λ t. links_in test sink w writers costs t s b.1 (omega arith) in
+    let inside : test w ≡ true → across test (path_arcs w sink writers costs) ≡ get_or costs (version test writers) 0 = λ t. links_in test sink w writers costs t s b.1 (omega arith) in
     elim (cases_Bool (test w)) [
       | inl t ↦
           let v : version test (w ∷ writers) ≡ suc (version test writers) = version_some test w writers t in
@@ -101,7 +101,7 @@ links_in test sink from (w ∷ writers) (c ∷ costs) f s b e =
           let at : get_or (c ∷ costs) (version test (w ∷ writers)) 0 ≡ get_or costs (version test writers) 0 = ap (λ n. get_or (c ∷ costs) n 0) v in
           omega (arith, ap (λ x. pick x c) none, inside t)
       | inr t ↦
-          let rest : (across test (links w sink writers costs) ≡ 0) × (version test writers ≡ 0) = links_out test sink w writers costs t s b.1 in
+          let rest : (across test (path_arcs w sink writers costs) ≡ 0) × (version test writers ≡ 0) = links_out test sink w writers costs t s b.1 in
           let v : version test (w ∷ writers) ≡ 0 = version_none test w writers t rest.1 in
           let all : crosses test (record { from = from; to = w; capacity = Some c }) ≡ true = crossing (test from) (test w) f t in
           let at : get_or (c ∷ costs) (version test (w ∷ writers)) 0 ≡ c = ap (λ n. get_or (c ∷ costs) n 0) v in
@@ -133,7 +133,7 @@ module _ (p : Problem) (ok : IsProblem p) where
   abbrev Good : Arc → Type 0
   Good arc = (arc.from < count + 2) × (arc.to < count + 2) × (arc.to ≢ count)
 
-  good_links : (from : ℕ) (writers costs : List ℕ) → from < count + 2 → ((u : ℕ) → Contains writers u → u < count) → Each Good (links from (count + 1) writers costs)
+  good_links : (from : ℕ) (writers costs : List ℕ) → from < count + 2 → ((u : ℕ) → Contains writers u → u < count) → Each Good (path_arcs from (count + 1) writers costs)
   good_links from [] [] l h = tt
   good_links from (w ∷ writers) [] l h = tt
   good_links from [] (c ∷ costs) l h = ((l, omega arith, λ (e : count + 1 ≡ count). omega arith), tt)
@@ -141,14 +141,14 @@ module _ (p : Problem) (ok : IsProblem p) where
       let m : w < count = h w (here w writers) in
       ((l, omega arith, λ (e : w ≡ count). omega arith), good_links w writers costs (omega arith) (λ u k. h u (there w u writers k)))
 
-  good_chains : (chains : List Chain) → ((chain : Chain) → Contains chains chain → IsChain p chain) → Each Good (flat_map (chain_links count) chains)
+  good_chains : (chains : List Chain) → ((chain : Chain) → Contains chains chain → IsChain p chain) → Each Good (flat_map (arcs_of_chain count) chains)
   good_chains [] h = tt
   good_chains (c ∷ chains) h =
-      each_append Good (links count (count + 1) c.writers c.costs) (flat_map (chain_links count) chains)
+      each_append Good (path_arcs count (count + 1) c.writers c.costs) (flat_map (arcs_of_chain count) chains)
       (good_links count c.writers c.costs (omega arith) (h c (here c chains)).writers)
       (good_chains chains (λ d k. h d (there c d chains k)))
 
-  good_backs : (pairs : List (ℕ × ℕ)) → ((u v : ℕ) → Contains pairs (u, v) → (u < count) × (v < count)) → Each Good (map back_arc pairs)
+  good_backs : (pairs : List (ℕ × ℕ)) → ((u v : ℕ) → Contains pairs (u, v) → (u < count) × (v < count)) → Each Good (map precedence_arc pairs)
   good_backs [] h = tt
   good_backs (q ∷ pairs) h =
       let m : (q.0 < count) × (q.1 < count) = h q.0 q.1 (here q pairs) in
@@ -162,11 +162,11 @@ module _ (p : Problem) (ok : IsProblem p) where
 
   pub is_network : IsNetwork (network p)
   is_network =
-      let each : Each Good (network p).arcs = each_append Good (chain_arcs p ++ back_arcs p) (must_arcs p) (each_append Good (chain_arcs p) (back_arcs p) (good_chains p.chains ok.chains) (good_backs p.before ok.pairs)) (good_musts p.must ok.musts) in
+      let each : Each Good (network p).arcs = each_append Good (arcs_of_chains p ++ precedence_arcs p) (must_arcs p) (each_append Good (arcs_of_chains p) (precedence_arcs p) (good_chains p.chains ok.chains) (good_backs p.before ok.pairs)) (good_musts p.must ok.musts) in
       record {
         ends = λ i l. let g : Good (arc_at (network p).arcs i) = each_at Good (network p).arcs each i l in (g.0, g.1);
-        no_way_back = λ i l. let g : Good (arc_at (network p).arcs i) = each_at Good (network p).arcs each i l in g.2;
-        two_ends = λ (e : count ≡ count + 1). omega arith;
+        none_into_source = λ i l. let g : Good (arc_at (network p).arcs i) = each_at Good (network p).arcs each i l in g.2;
+        source_is_not_sink = λ (e : count ≡ count + 1). omega arith;
         source_is_node = omega arith;
       }
 
@@ -187,17 +187,17 @@ module _ (p : Problem) (ok : IsProblem p) where
     backed_chain (w ∷ writers) c h n =
         ((λ t. with_the_source count has), backed_from w writers c (h w (here w writers)) (λ x k. h x (there w x writers k)) n)
 
-    across_chain : (chain : Chain) → IsClosed p has → IsChain p chain → across nodes (links count (count + 1) chain.writers chain.costs) ≡ chain_cost has chain
+    across_chain : (chain : Chain) → IsClosed p has → IsChain p chain → across nodes (path_arcs count (count + 1) chain.writers chain.costs) ≡ chain_cost has chain
     across_chain chain c good =
         links_in nodes (count + 1) count chain.writers chain.costs (with_the_source count has) (without_sink count has) (backed_chain chain.writers c good.writers good.neighbours) good.one_more
         ∙ ap (λ n. get_or chain.costs n 0) (version_same nodes has chain.writers (λ u k. with_update count has u (good.writers u k)))
 
-    across_chains : (chains : List Chain) → IsClosed p has → ((chain : Chain) → Contains chains chain → IsChain p chain) → across nodes (flat_map (chain_links count) chains) ≡ sum_by (chain_cost has) chains
+    across_chains : (chains : List Chain) → IsClosed p has → ((chain : Chain) → Contains chains chain → IsChain p chain) → across nodes (flat_map (arcs_of_chain count) chains) ≡ sum_by (chain_cost has) chains
     across_chains [] c h = refl
     across_chains (d ∷ chains) c h =
         omega (
           arith,
-          across_append nodes (links count (count + 1) d.writers d.costs) (flat_map (chain_links count) chains),
+          across_append nodes (path_arcs count (count + 1) d.writers d.costs) (flat_map (arcs_of_chain count) chains),
           across_chain d c (h d (here d chains)),
           across_chains chains c (λ e k. h e (there d e chains k)),
           sum_by-cons (chain_cost has) d chains,
@@ -212,7 +212,7 @@ module _ (p : Problem) (ok : IsProblem p) where
     not_both true false k = absurd (true≢false (sym (k refl)))
     not_both false y k = refl
 
-    back_stays : (q : ℕ × ℕ) → IsClosed p has → Contains p.before q → crosses nodes (back_arc q) ≡ false
+    back_stays : (q : ℕ × ℕ) → IsClosed p has → Contains p.before q → crosses nodes (precedence_arc q) ≡ false
     back_stays q c k =
         let ends : (q.0 < count) × (q.1 < count) = ok.pairs q.0 q.1 k in
         not_both (nodes q.1) (nodes q.0) (λ t. with_update count has q.0 ends.0 ∙ c.before q.0 q.1 k (sym (with_update count has q.1 ends.1) ∙ t))
@@ -220,7 +220,7 @@ module _ (p : Problem) (ok : IsProblem p) where
     must_stays : (u : ℕ) → IsClosed p has → Contains p.must u → crosses nodes (must_arc count u) ≡ false
     must_stays u c k = not_both (nodes count) (nodes u) (λ t. with_update count has u (ok.musts u k) ∙ c.must u k)
 
-    across_backs : (pairs : List (ℕ × ℕ)) → IsClosed p has → ((q : ℕ × ℕ) → Contains pairs q → Contains p.before q) → across nodes (map back_arc pairs) ≡ 0
+    across_backs : (pairs : List (ℕ × ℕ)) → IsClosed p has → ((q : ℕ × ℕ) → Contains pairs q → Contains p.before q) → across nodes (map precedence_arc pairs) ≡ 0
     across_backs [] c h = refl
     across_backs (q ∷ pairs) c h =
         omega (arith, ap (λ b. pick b 0) (back_stays q c (h q (here q pairs))), across_backs pairs c (λ r k. h r (there q r pairs k)))
@@ -230,17 +230,17 @@ module _ (p : Problem) (ok : IsProblem p) where
     across_musts (u ∷ us) c h =
         omega (arith, ap (λ b. pick b 0) (must_stays u c (h u (here u us))), across_musts us c (λ w k. h w (there u w us k)))
 
-    still_links : (from sink : ℕ) (writers costs : List ℕ) → Each Still (links from sink writers costs)
+    still_links : (from sink : ℕ) (writers costs : List ℕ) → Each Still (path_arcs from sink writers costs)
     still_links from sink [] [] = tt
     still_links from sink (w ∷ writers) [] = tt
     still_links from sink [] (c ∷ costs) = ((λ t. tt), tt)
     still_links from sink (w ∷ writers) (c ∷ costs) = ((λ t. tt), still_links w sink writers costs)
 
-    still_chains : (chains : List Chain) → Each Still (flat_map (chain_links count) chains)
+    still_chains : (chains : List Chain) → Each Still (flat_map (arcs_of_chain count) chains)
     still_chains [] = tt
-    still_chains (d ∷ chains) = each_append Still (links count (count + 1) d.writers d.costs) (flat_map (chain_links count) chains) (still_links count (count + 1) d.writers d.costs) (still_chains chains)
+    still_chains (d ∷ chains) = each_append Still (path_arcs count (count + 1) d.writers d.costs) (flat_map (arcs_of_chain count) chains) (still_links count (count + 1) d.writers d.costs) (still_chains chains)
 
-    still_backs : (pairs : List (ℕ × ℕ)) → IsClosed p has → ((q : ℕ × ℕ) → Contains pairs q → Contains p.before q) → Each Still (map back_arc pairs)
+    still_backs : (pairs : List (ℕ × ℕ)) → IsClosed p has → ((q : ℕ × ℕ) → Contains pairs q → Contains p.before q) → Each Still (map precedence_arc pairs)
     still_backs [] c h = tt
     still_backs (q ∷ pairs) c h =
         ((λ t. absurd (true≢false (sym t ∙ back_stays q c (h q (here q pairs))))), still_backs pairs c (λ r k. h r (there q r pairs k)))
@@ -253,16 +253,16 @@ module _ (p : Problem) (ok : IsProblem p) where
     pub limited : IsClosed p has → AreLimited nodes (network p).arcs
     limited c =
         each_at Still (network p).arcs
-        (each_append Still (chain_arcs p ++ back_arcs p) (must_arcs p)
-        (each_append Still (chain_arcs p) (back_arcs p) (still_chains p.chains) (still_backs p.before c (λ q k. k)))
+        (each_append Still (arcs_of_chains p ++ precedence_arcs p) (must_arcs p)
+        (each_append Still (arcs_of_chains p) (precedence_arcs p) (still_chains p.chains) (still_backs p.before c (λ q k. k)))
         (still_musts p.must c (λ u k. k)))
 
     pub cost_across : IsClosed p has → across nodes (network p).arcs ≡ cost p has
     cost_across c =
         omega (
           arith,
-          across_append nodes (chain_arcs p ++ back_arcs p) (must_arcs p),
-          across_append nodes (chain_arcs p) (back_arcs p),
+          across_append nodes (arcs_of_chains p ++ precedence_arcs p) (must_arcs p),
+          across_append nodes (arcs_of_chains p) (precedence_arcs p),
           across_chains p.chains c ok.chains,
           across_backs p.before c (λ q k. k),
           across_musts p.must c (λ u k. k),

@@ -3,7 +3,7 @@ use Rattle.std.proofs.Common.{◌≡◌, ℕ, zero, suc, Some, ◌+◌, ◌-◌,
 use Rattle.std.proofs.lemmas.List.{length-map, get_or-map}
 use Rattle.esr_cert.specs.declared.problem.Chain as code
 use Rattle.esr_cert.specs.Problem.{Chain, Problem, size, is_well_formed}
-use Rattle.esr_cert.specs.Network.{arc_at, chain_links, network, Arc}
+use Rattle.esr_cert.specs.Network.{arc_at, arcs_of_chain, network, Arc}
 use Rattle.esr_cert.specs.Starts.{starts_from}
 use Rattle.esr_cert.specs.Links.{HasLinks, HaveLinks}
 use Rattle.esr_cert.specs.Views.{chain_of}
@@ -74,12 +74,12 @@ module _ (p : Problem) (sound : is_well_formed p ≡ true) where
       pub inside_all : begin + length chain.costs.items ≤ get_or starts (length p.chains) 0
       inside_all = omega (arith, next_begin, starts_below 0 p.chains (k + 1) (omega (arith, within_all)))
 
-      arc_is : (j : ℕ) → j < length chain.costs.items → arc_at (network p).arcs (begin + j) ≡ arc_at (chain_links (size p) (chain_of chain)) j
+      arc_is : (j : ℕ) → j < length chain.costs.items → arc_at (network p).arcs (begin + j) ≡ arc_at (arcs_of_chain (size p) (chain_of chain)) j
       arc_is j m =
           let next : k + 1 ≡ suc k = omega arith in
           let place : begin + j - get_or starts k 0 ≡ j = omega (arith, at) in
           arc_in_chain p ok k (begin + j) (chain_of chain) within_all (omega (arith, at)) (omega (arith, next_begin, ap (λ n. get_or starts n 0) next, m))
-          ∙ (ap (λ c. arc_at (chain_links (size p) c) (begin + j - get_or starts k 0)) chain_is ∙ ap (arc_at (chain_links (size p) (chain_of chain))) place)
+          ∙ (ap (λ c. arc_at (arcs_of_chain (size p) c) (begin + j - get_or starts k 0)) chain_is ∙ ap (arc_at (arcs_of_chain (size p) (chain_of chain))) place)
 
       link : (j : ℕ) → j < length chain.costs.items → arc_at (network p).arcs (begin + j) ≡ record { from = get_or (size p ∷ chain.writers.items) j 0; to = get_or (chain.writers.items ++ (size p + 1) ∷ []) j 0; capacity = Some (get_or chain.costs.items j 0) }
       link j m = arc_is j m ∙ link_is (size p) (size p + 1) chain.writers.items chain.costs.items j whole m

@@ -4,7 +4,7 @@ use Rattle.std.specs.List.{flat_map, concat}
 use Rattle.std.proofs.lemmas.Bool.{and_parts, eqb-true}
 use Rattle.std.proofs.lemmas.List.{length-append, length-map}
 use Rattle.esr_cert.specs.Problem.{Chain, Problem, size}
-use Rattle.esr_cert.specs.Network.{Arc, links, chain_links, back_arc, must_arc, chain_arcs, back_arcs, must_arcs, network}
+use Rattle.esr_cert.specs.Network.{Arc, path_arcs, arcs_of_chain, precedence_arc, must_arc, arcs_of_chains, precedence_arcs, must_arcs, network}
 use Rattle.esr_cert.specs.Flow.{carried}
 use Rattle.esr_cert.specs.Certificate.{Certificate, amounts, are_rows_matched}
 use Rattle.esr_cert.proofs.Flows.{carried_append}
@@ -15,7 +15,7 @@ pub record IsMatched (p : Problem) (c : Certificate) : Type 0 where
   pub backs : length c.back_flow ≡ length p.before
   pub musts : length c.must_flow ≡ length p.must
 
-pub links_length : (from sink : ℕ) (writers costs : List ℕ) → length costs ≡ length writers + 1 → length (links from sink writers costs) ≡ length costs
+pub links_length : (from sink : ℕ) (writers costs : List ℕ) → length costs ≡ length writers + 1 → length (path_arcs from sink writers costs) ≡ length costs
 links_length from sink writers [] e = refl
 links_length from sink [] (c ∷ []) e = refl
 links_length from sink [] (c ∷ d ∷ costs) e = absurd (omega arith)
@@ -28,7 +28,7 @@ AreWhole chains = (chain : Chain) → Contains chains chain → length chain.cos
 pub record MatchesFirst (n : ℕ) (chain : Chain) (chains : List Chain) (row : List ℕ) (rows : List (List ℕ)) : Type 0 where
   pub whole : length chain.costs ≡ length chain.writers + 1
   pub costs : length row ≡ length chain.costs
-  pub links : length row ≡ length (chain_links n chain)
+  pub links : length row ≡ length (arcs_of_chain n chain)
   pub others_whole : AreWhole chains
   pub others : are_rows_matched chains rows ≡ true
 
@@ -45,34 +45,34 @@ first_matched n chain chains row rows whole m =
       others = both.1;
     }
 
-rows_length : (n : ℕ) (chains : List Chain) (rows : List (List ℕ)) → AreWhole chains → are_rows_matched chains rows ≡ true → length (concat rows) ≡ length (flat_map (chain_links n) chains)
+rows_length : (n : ℕ) (chains : List Chain) (rows : List (List ℕ)) → AreWhole chains → are_rows_matched chains rows ≡ true → length (concat rows) ≡ length (flat_map (arcs_of_chain n) chains)
 rows_length n [] [] whole m = refl
 rows_length n [] (row ∷ rows) whole m = absurd (true≢false (sym m))
 rows_length n (chain ∷ chains) [] whole m = absurd (true≢false (sym m))
 rows_length n (chain ∷ chains) (row ∷ rows) whole m =
     let f : MatchesFirst n chain chains row rows = first_matched n chain chains row rows whole m in
-    omega (arith, length-append row (concat rows), length-append (chain_links n chain) (flat_map (chain_links n) chains), f.links, rows_length n chains rows f.others_whole f.others)
+    omega (arith, length-append row (concat rows), length-append (arcs_of_chain n chain) (flat_map (arcs_of_chain n) chains), f.links, rows_length n chains rows f.others_whole f.others)
 
 module _ (p : Problem) (ok : IsProblem p) (c : Certificate) (m : IsMatched p c) where
   pub are_whole : AreWhole p.chains
   are_whole chain k = (ok.chains chain k).one_more
 
-  pub chains_length : length (concat c.chain_flow) ≡ length (chain_arcs p)
+  pub chains_length : length (concat c.chain_flow) ≡ length (arcs_of_chains p)
   chains_length = rows_length (size p) p.chains c.chain_flow are_whole m.rows
 
-  pub first_two_length : length (concat c.chain_flow ++ c.back_flow) ≡ length (chain_arcs p ++ back_arcs p)
+  pub first_two_length : length (concat c.chain_flow ++ c.back_flow) ≡ length (arcs_of_chains p ++ precedence_arcs p)
   first_two_length =
-      omega (arith, chains_length, m.backs, length-map {B = Arc} p.before back_arc, length-append (concat c.chain_flow) c.back_flow, length-append (chain_arcs p) (back_arcs p))
+      omega (arith, chains_length, m.backs, length-map {B = Arc} p.before precedence_arc, length-append (concat c.chain_flow) c.back_flow, length-append (arcs_of_chains p) (precedence_arcs p))
 
   pub amounts_length : length (amounts c) ≡ length (network p).arcs
   amounts_length =
-      omega (arith, first_two_length, m.musts, length-map {B = Arc} p.must (must_arc (size p)), length-append (concat c.chain_flow ++ c.back_flow) c.must_flow, length-append (chain_arcs p ++ back_arcs p) (must_arcs p))
+      omega (arith, first_two_length, m.musts, length-map {B = Arc} p.must (must_arc (size p)), length-append (concat c.chain_flow ++ c.back_flow) c.must_flow, length-append (arcs_of_chains p ++ precedence_arcs p) (must_arcs p))
 
   -- a sum over all arcs, by the parts
-  pub carried_parts : (q : Arc → Bool) → carried q (network p).arcs (amounts c) ≡ carried q (chain_arcs p) (concat c.chain_flow) + carried q (back_arcs p) c.back_flow + carried q (must_arcs p) c.must_flow
+  pub carried_parts : (q : Arc → Bool) → carried q (network p).arcs (amounts c) ≡ carried q (arcs_of_chains p) (concat c.chain_flow) + carried q (precedence_arcs p) c.back_flow + carried q (must_arcs p) c.must_flow
   carried_parts q =
       omega (
         arith,
-        carried_append q (chain_arcs p ++ back_arcs p) (must_arcs p) (concat c.chain_flow ++ c.back_flow) c.must_flow first_two_length,
-        carried_append q (chain_arcs p) (back_arcs p) (concat c.chain_flow) c.back_flow chains_length,
+        carried_append q (arcs_of_chains p ++ precedence_arcs p) (must_arcs p) (concat c.chain_flow ++ c.back_flow) c.must_flow first_two_length,
+        carried_append q (arcs_of_chains p) (precedence_arcs p) (concat c.chain_flow) c.back_flow chains_length,
       )

@@ -4,7 +4,7 @@ use Rattle.std.proofs.lemmas.Bool.{cases_eq, cases_lt}
 use Rattle.std.proofs.lemmas.List.Folds.{sum_by-replicate}
 use Rattle.std.proofs.lemmas.List.{length-replicate, get_or-replicate, get_or-take, get_or-drop, take-take, ext_get_or, length_push, get_or_read}
 use Rattle.std.proofs.lemmas.List.Sums.{sum_by_more, sum_by-take-le, sum_by-cons, sum_by_more_le, sum_by-set, get_or-le-sum_by}
-use Rattle.esr_cert.specs.Network.{arc_at, HaveEnds, Arc}
+use Rattle.esr_cert.specs.Network.{arc_at, EndsAreNodes, Arc}
 use Rattle.esr_cert.specs.Steps.{start, step_at, ResidualArc, Forward, Backward}
 use Rattle.esr_cert.specs.Rows.{row_in, span_at, first_steps, steps_from, row_of, AreDegrees, AreRows, Counted, Filled, longer, Span}
 use Rattle.esr_cert.proofs.StepsLaws.{steps_here, steps_other, room_for, first_within, first_more, first_next, first_count, last_or_not, not_last, at_last}
@@ -41,7 +41,7 @@ counted_none {arcs} {nodes} counts is = record {
 }
 
 -- the steps of an arc with these ends
-module _ {arcs : List Arc} {nodes : ℕ} (i : ℕ) {counts : List ℕ} {u x : ℕ} (ends : HaveEnds arcs nodes) (l : i < length arcs) (from : u ≡ (arc_at arcs i).from) (read : x ≡ get_or counts u x) (h : Counted arcs nodes (first_steps i) counts) where
+module _ {arcs : List Arc} {nodes : ℕ} (i : ℕ) {counts : List ℕ} {u x : ℕ} (ends : EndsAreNodes arcs nodes) (l : i < length arcs) (from : u ≡ (arc_at arcs i).from) (read : x ≡ get_or counts u x) (h : Counted arcs nodes (first_steps i) counts) where
   pub along_small : x ≤ 2 * i
   along_small = omega (arith, first_count i, counted_at {u = u} (omega (arith, (ends i l).0, from)) read h)
 

@@ -7,7 +7,7 @@ use Rattle.std.proofs.lemmas.List.Kept.{IsNonDecreasingBy-filter}
 use Rattle.std.proofs.lemmas.List.Sorted.{IsNonDecreasingBy-short, IsNonDecreasingBy-push}
 use Rattle.std.proofs.lemmas.List.Elements.{filter-append, Contains-append_left, Contains-push, Contains-push_cases}
 use Rattle.esr_cert.specs.Network.{Arc}
-use Rattle.esr_cert.specs.Steps.{arc_of, order_of, start, HasSteps, AreOnce, step_at, same_step, has_step, ResidualArc, Forward, Backward}
+use Rattle.esr_cert.specs.Steps.{arc_of, rank_of, start, HasSteps, AreOnce, step_at, same_step, has_step, ResidualArc, Forward, Backward}
 use Rattle.esr_cert.specs.Rows.{first_steps, steps_from, row_of}
 
 -- one more step, at the node where it starts and at another
@@ -184,24 +184,24 @@ has_steps arcs v =
       all = λ step a e. has_from (row_of arcs v) step (row.all step (first_all (length arcs) step a) e);
     }
 
-below : (n : ℕ) (s : ResidualArc) → arc_of s < n → order_of s ≤ order_of (Forward n)
+below : (n : ℕ) (s : ResidualArc) → arc_of s < n → rank_of s ≤ rank_of (Forward n)
 below n (Forward i) l = omega arith
 below n (Backward i) l = omega arith
 
-first_ascend : (n : ℕ) → IsNonDecreasingBy order_of (first_steps n)
-first_ascend zero = IsNonDecreasingBy-short order_of [] (omega arith)
+first_ascend : (n : ℕ) → IsNonDecreasingBy rank_of (first_steps n)
+first_ascend zero = IsNonDecreasingBy-short rank_of [] (omega arith)
 first_ascend (suc n) =
-    subst (IsNonDecreasingBy order_of) (first_more n)
-    (IsNonDecreasingBy-push order_of (first_steps n ++ Forward n ∷ []) (Backward n) (IsNonDecreasingBy-push order_of (first_steps n) (Forward n) (first_ascend n) (λ d l. low d l)) (λ d l. last d l))
+    subst (IsNonDecreasingBy rank_of) (first_more n)
+    (IsNonDecreasingBy-push rank_of (first_steps n ++ Forward n ∷ []) (Backward n) (IsNonDecreasingBy-push rank_of (first_steps n) (Forward n) (first_ascend n) (λ d l. low d l)) (λ d l. last d l))
   where
-    low : (d : ResidualArc) → 0 < length (first_steps n) → order_of (get_or (first_steps n) (length (first_steps n) - 1) d) ≤ order_of (Forward n)
+    low : (d : ResidualArc) → 0 < length (first_steps n) → rank_of (get_or (first_steps n) (length (first_steps n) - 1) d) ≤ rank_of (Forward n)
     low d l =
         let s : ResidualArc = get_or (first_steps n) (length (first_steps n) - 1) d in
         below n s (first_known n s (length (first_steps n) - 1, omega arith, get_or_default (first_steps n) (length (first_steps n) - 1) s d (omega arith)))
 
-    last : (d : ResidualArc) → 0 < length (first_steps n ++ Forward n ∷ []) → order_of (get_or (first_steps n ++ Forward n ∷ []) (length (first_steps n ++ Forward n ∷ []) - 1) d) ≤ order_of (Backward n)
-    last d l = omega (arith, ap order_of (get_or_push (first_steps n) (Forward n) d (length (first_steps n ++ Forward n ∷ []) - 1) (omega (arith, length_push (first_steps n) (Forward n)))))
+    last : (d : ResidualArc) → 0 < length (first_steps n ++ Forward n ∷ []) → rank_of (get_or (first_steps n ++ Forward n ∷ []) (length (first_steps n ++ Forward n ∷ []) - 1) d) ≤ rank_of (Backward n)
+    last d l = omega (arith, ap rank_of (get_or_push (first_steps n) (Forward n) d (length (first_steps n ++ Forward n ∷ []) - 1) (omega (arith, length_push (first_steps n) (Forward n)))))
 
 -- the steps of a row ascend
-pub row_ascends : (arcs : List Arc) (v : ℕ) → IsNonDecreasingBy order_of (row_of arcs v)
-row_ascends arcs v = IsNonDecreasingBy-filter order_of (λ step. eqb (start arcs step) v) (first_steps (length arcs)) (first_ascend (length arcs))
+pub row_ascends : (arcs : List Arc) (v : ℕ) → IsNonDecreasingBy rank_of (row_of arcs v)
+row_ascends arcs v = IsNonDecreasingBy-filter rank_of (λ step. eqb (start arcs step) v) (first_steps (length arcs)) (first_ascend (length arcs))

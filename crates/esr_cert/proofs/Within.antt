@@ -3,7 +3,7 @@ use Rattle.std.proofs.Common.{◌≡◌, ℕ, suc, ◌+◌, ◌≤◌, List, [],
 use Rattle.std.specs.List.{flat_map, concat}
 use Rattle.std.proofs.lemmas.Bool.{and_parts, and_from, eqb-true}
 use Rattle.esr_cert.specs.Problem.{Chain, Problem, size}
-use Rattle.esr_cert.specs.Network.{Arc, links, chain_links, back_arc, must_arc, chain_arcs, back_arcs, must_arcs, network}
+use Rattle.esr_cert.specs.Network.{Arc, path_arcs, arcs_of_chain, precedence_arc, must_arc, arcs_of_chains, precedence_arcs, must_arcs, network}
 use Rattle.esr_cert.specs.Flow.{within, are_within}
 use Rattle.esr_cert.specs.Certificate.{Certificate, amounts, are_rows_matched, is_within}
 use Rattle.esr_cert.specs.Parts.{is_row_within, are_rows_within}
@@ -22,7 +22,7 @@ within_append (x ∷ xs) ys (a ∷ f) g h = ap (λ b. within a x.capacity && b) 
     and_assoc true y z = refl
     and_assoc false y z = refl
 
-row_is_within : (from sink : ℕ) (writers costs row : List ℕ) → length costs ≤ suc (length writers) → are_within (links from sink writers costs) row ≡ is_row_within costs row
+row_is_within : (from sink : ℕ) (writers costs row : List ℕ) → length costs ≤ suc (length writers) → are_within (path_arcs from sink writers costs) row ≡ is_row_within costs row
 row_is_within from sink writers [] [] h = refl
 row_is_within from sink writers [] (a ∷ row) h = refl
 row_is_within from sink [] (c ∷ []) [] h = refl
@@ -46,17 +46,17 @@ rows_matched (chain ∷ chains) (row ∷ rows) h =
     let both : (is_row_within chain.costs row ≡ true) × (are_rows_within chains rows ≡ true) = and_parts (is_row_within chain.costs row) (are_rows_within chains rows) h in
     and_from (eqb (length row) (length chain.costs)) (are_rows_matched chains rows) (eq-eqb (length row) (length chain.costs) (row_length chain.costs row both.0)) (rows_matched chains rows both.1)
 
-rows_are_within : (n : ℕ) (chains : List Chain) (rows : List (List ℕ)) → AreWhole chains → are_rows_matched chains rows ≡ true → are_within (flat_map (chain_links n) chains) (concat rows) ≡ are_rows_within chains rows
+rows_are_within : (n : ℕ) (chains : List Chain) (rows : List (List ℕ)) → AreWhole chains → are_rows_matched chains rows ≡ true → are_within (flat_map (arcs_of_chain n) chains) (concat rows) ≡ are_rows_within chains rows
 rows_are_within n [] [] whole m = refl
 rows_are_within n [] (row ∷ rows) whole m = absurd (true≢false (sym m))
 rows_are_within n (chain ∷ chains) [] whole m = absurd (true≢false (sym m))
 rows_are_within n (chain ∷ chains) (row ∷ rows) whole m =
     let first : MatchesFirst n chain chains row rows = first_matched n chain chains row rows whole m in
-    within_append (chain_links n chain) (flat_map (chain_links n) chains) row (concat rows) first.links
-    ∙ ap (λ b. b && are_within (flat_map (chain_links n) chains) (concat rows)) (row_is_within n (n + 1) chain.writers chain.costs row (omega (arith, first.whole)))
+    within_append (arcs_of_chain n chain) (flat_map (arcs_of_chain n) chains) row (concat rows) first.links
+    ∙ ap (λ b. b && are_within (flat_map (arcs_of_chain n) chains) (concat rows)) (row_is_within n (n + 1) chain.writers chain.costs row (omega (arith, first.whole)))
     ∙ ap (λ b. is_row_within chain.costs row && b) (rows_are_within n chains rows first.others_whole first.others)
 
-unlimited_pairs : (pairs : List (ℕ × ℕ)) (flow : List ℕ) → length flow ≡ length pairs → are_within (map back_arc pairs) flow ≡ true
+unlimited_pairs : (pairs : List (ℕ × ℕ)) (flow : List ℕ) → length flow ≡ length pairs → are_within (map precedence_arc pairs) flow ≡ true
 unlimited_pairs [] [] h = refl
 unlimited_pairs [] (a ∷ flow) h = absurd (omega arith)
 unlimited_pairs (e ∷ pairs) [] h = absurd (omega arith)
@@ -71,12 +71,12 @@ unlimited_must n (u ∷ must) (a ∷ flow) h = unlimited_must n must flow (omega
 -- if there is one amount for each arc
 arcs_within : (p : Problem) → IsProblem p → (c : Certificate) → IsMatched p c → are_within (network p).arcs (amounts c) ≡ are_rows_within p.chains c.chain_flow
 arcs_within p ok c m =
-    within_append (chain_arcs p ++ back_arcs p) (must_arcs p) (concat c.chain_flow ++ c.back_flow) c.must_flow (first_two_length p ok c m)
-    ∙ ap (λ x. are_within (chain_arcs p ++ back_arcs p) (concat c.chain_flow ++ c.back_flow) && x) (unlimited_must (size p) p.must c.must_flow m.musts)
-    ∙ and_true (are_within (chain_arcs p ++ back_arcs p) (concat c.chain_flow ++ c.back_flow))
-    ∙ within_append (chain_arcs p) (back_arcs p) (concat c.chain_flow) c.back_flow (chains_length p ok c m)
-    ∙ ap (λ x. are_within (chain_arcs p) (concat c.chain_flow) && x) (unlimited_pairs p.before c.back_flow m.backs)
-    ∙ and_true (are_within (chain_arcs p) (concat c.chain_flow))
+    within_append (arcs_of_chains p ++ precedence_arcs p) (must_arcs p) (concat c.chain_flow ++ c.back_flow) c.must_flow (first_two_length p ok c m)
+    ∙ ap (λ x. are_within (arcs_of_chains p ++ precedence_arcs p) (concat c.chain_flow ++ c.back_flow) && x) (unlimited_must (size p) p.must c.must_flow m.musts)
+    ∙ and_true (are_within (arcs_of_chains p ++ precedence_arcs p) (concat c.chain_flow ++ c.back_flow))
+    ∙ within_append (arcs_of_chains p) (precedence_arcs p) (concat c.chain_flow) c.back_flow (chains_length p ok c m)
+    ∙ ap (λ x. are_within (arcs_of_chains p) (concat c.chain_flow) && x) (unlimited_pairs p.before c.back_flow m.backs)
+    ∙ and_true (are_within (arcs_of_chains p) (concat c.chain_flow))
     ∙ rows_are_within (size p) p.chains c.chain_flow (are_whole p ok c m) m.rows
   where
     and_true : (x : Bool) → (x && true) ≡ x

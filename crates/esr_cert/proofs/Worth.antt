@@ -5,7 +5,7 @@ use Rattle.std.specs.List.{flat_map, concat}
 use Rattle.std.proofs.lemmas.List.{length-append, length-map}
 use Rattle.std.proofs.lemmas.List.Sums.{sum_by-cons}
 use Rattle.esr_cert.specs.Problem.{Chain, Problem, size}
-use Rattle.esr_cert.specs.Network.{Arc, links, chain_links, back_arc, must_arc, chain_arcs, back_arcs, must_arcs, network}
+use Rattle.esr_cert.specs.Network.{Arc, path_arcs, arcs_of_chain, precedence_arc, must_arc, arcs_of_chains, precedence_arcs, must_arcs, network}
 use Rattle.esr_cert.specs.Flow.{carried, worth}
 use Rattle.esr_cert.specs.Certificate.{Certificate, amounts, are_rows_matched}
 use Rattle.esr_cert.proofs.Cut.{pick}
@@ -16,7 +16,7 @@ use Rattle.esr_cert.proofs.Matched.{IsMatched, AreWhole, MatchesFirst, links_len
 abbrev leaves : ℕ → Arc → Bool
 leaves n arc = eqb arc.from n
 
-links_none : (n from sink : ℕ) (writers costs row : List ℕ) → from ≢ n → ((u : ℕ) → Contains writers u → u < n) → carried (leaves n) (links from sink writers costs) row ≡ 0
+links_none : (n from sink : ℕ) (writers costs row : List ℕ) → from ≢ n → ((u : ℕ) → Contains writers u → u < n) → carried (leaves n) (path_arcs from sink writers costs) row ≡ 0
 links_none n from sink [] [] row ne h = refl
 links_none n from sink (w ∷ writers) [] row ne h = refl
 links_none n from sink [] (c ∷ costs) [] ne h = refl
@@ -26,7 +26,7 @@ links_none n from sink (w ∷ writers) (c ∷ costs) (x ∷ row) ne h =
     let m : w < n = h w (here w writers) in
     omega (arith, ap (λ b. pick b x) (ne_eqb from n ne), links_none n w sink writers costs row (λ (e : w ≡ n). omega arith) (λ u k. h u (there w u writers k)))
 
-links_first : (n sink : ℕ) (writers costs row : List ℕ) → length costs ≡ length writers + 1 → length row ≡ length costs → ((u : ℕ) → Contains writers u → u < n) → carried (leaves n) (links n sink writers costs) row ≡ get_or row 0 0
+links_first : (n sink : ℕ) (writers costs row : List ℕ) → length costs ≡ length writers + 1 → length row ≡ length costs → ((u : ℕ) → Contains writers u → u < n) → carried (leaves n) (path_arcs n sink writers costs) row ≡ get_or row 0 0
 links_first n sink writers [] row e m h = absurd (omega arith)
 links_first n sink [] (c ∷ costs) [] e m h = absurd (omega arith)
 links_first n sink [] (c ∷ costs) (x ∷ row) e m h = omega (arith, ap (λ b. pick b x) (eq-eqb n n refl))
@@ -38,7 +38,7 @@ links_first n sink (w ∷ writers) (c ∷ costs) (x ∷ row) e m h =
 abbrev first_of : List ℕ → ℕ
 first_of row = get_or row 0 0
 
-chains_first : (n : ℕ) (chains : List Chain) (rows : List (List ℕ)) → AreWhole chains → ((chain : Chain) → Contains chains chain → (u : ℕ) → Contains chain.writers u → u < n) → are_rows_matched chains rows ≡ true → carried (leaves n) (flat_map (chain_links n) chains) (concat rows) ≡ sum_by first_of rows
+chains_first : (n : ℕ) (chains : List Chain) (rows : List (List ℕ)) → AreWhole chains → ((chain : Chain) → Contains chains chain → (u : ℕ) → Contains chain.writers u → u < n) → are_rows_matched chains rows ≡ true → carried (leaves n) (flat_map (arcs_of_chain n) chains) (concat rows) ≡ sum_by first_of rows
 chains_first n [] [] whole h m = refl
 chains_first n [] (row ∷ rows) whole h m = absurd (true≢false (sym m))
 chains_first n (chain ∷ chains) [] whole h m = absurd (true≢false (sym m))
@@ -46,13 +46,13 @@ chains_first n (chain ∷ chains) (row ∷ rows) whole h m =
     let first : MatchesFirst n chain chains row rows = first_matched n chain chains row rows whole m in
     omega (
       arith,
-      carried_append (leaves n) (chain_links n chain) (flat_map (chain_links n) chains) row (concat rows) first.links,
+      carried_append (leaves n) (arcs_of_chain n chain) (flat_map (arcs_of_chain n) chains) row (concat rows) first.links,
       links_first n (n + 1) chain.writers chain.costs row first.whole first.costs (h chain (here chain chains)),
       chains_first n chains rows first.others_whole (λ d k. h d (there chain d chains k)) first.others,
       sum_by-cons first_of row rows,
     )
 
-pairs_none : (n : ℕ) (pairs : List (ℕ × ℕ)) (flow : List ℕ) → ((u v : ℕ) → Contains pairs (u, v) → (u < n) × (v < n)) → carried (leaves n) (map back_arc pairs) flow ≡ 0
+pairs_none : (n : ℕ) (pairs : List (ℕ × ℕ)) (flow : List ℕ) → ((u v : ℕ) → Contains pairs (u, v) → (u < n) × (v < n)) → carried (leaves n) (map precedence_arc pairs) flow ≡ 0
 pairs_none n [] flow h = refl
 pairs_none n (q ∷ pairs) [] h = refl
 pairs_none n (q ∷ pairs) (x ∷ flow) h =
@@ -78,12 +78,12 @@ worth_firsts p ok c m =
 
 -- ---- how many arcs there are
 
-chain_count : (n : ℕ) (chains : List Chain) → AreWhole chains → length (flat_map (chain_links n) chains) ≡ sum_by (λ chain. length chain.costs) chains
+chain_count : (n : ℕ) (chains : List Chain) → AreWhole chains → length (flat_map (arcs_of_chain n) chains) ≡ sum_by (λ chain. length chain.costs) chains
 chain_count n [] h = refl
 chain_count n (chain ∷ chains) h =
     omega (
       arith,
-      length-append (chain_links n chain) (flat_map (chain_links n) chains),
+      length-append (arcs_of_chain n chain) (flat_map (arcs_of_chain n) chains),
       links_length n (n + 1) chain.writers chain.costs (h chain (here chain chains)),
       chain_count n chains (λ d k. h d (there chain d chains k)),
       sum_by-cons (λ (chain : Chain). length chain.costs) chain chains,
@@ -93,9 +93,9 @@ pub arc_count : (p : Problem) → IsProblem p → length (network p).arcs ≡ su
 arc_count p ok =
     omega (
       arith,
-      length-append (chain_arcs p ++ back_arcs p) (must_arcs p),
-      length-append (chain_arcs p) (back_arcs p),
+      length-append (arcs_of_chains p ++ precedence_arcs p) (must_arcs p),
+      length-append (arcs_of_chains p) (precedence_arcs p),
       chain_count (size p) p.chains (λ chain k. (ok.chains chain k).one_more),
-      length-map {B = Arc} p.before back_arc,
+      length-map {B = Arc} p.before precedence_arc,
       length-map {B = Arc} p.must (must_arc (size p)),
     )

@@ -14,39 +14,39 @@ abbrev pub arc_at : List Arc → ℕ → Arc
 arc_at arcs i = get_or arcs i (record { from = 0; to = 0; capacity = Some 0 })
 
 -- the ends of the arcs are nodes
-abbrev pub HaveEnds : List Arc → ℕ → Type 0
-HaveEnds arcs nodes = (i : ℕ) → i < length arcs → ((arc_at arcs i).from < nodes) × ((arc_at arcs i).to < nodes)
+abbrev pub EndsAreNodes : List Arc → ℕ → Type 0
+EndsAreNodes arcs nodes = (i : ℕ) → i < length arcs → ((arc_at arcs i).from < nodes) × ((arc_at arcs i).to < nodes)
 
 -- arcs join nodes, and none enters the source
 pub record IsNetwork (net : Network) : Type 0 where
-  pub ends : HaveEnds net.arcs net.nodes
-  pub no_way_back : (i : ℕ) → i < length net.arcs → (arc_at net.arcs i).to ≢ net.source
-  pub two_ends : net.source ≢ net.sink
+  pub ends : EndsAreNodes net.arcs net.nodes
+  pub none_into_source : (i : ℕ) → i < length net.arcs → (arc_at net.arcs i).to ≢ net.source
+  pub source_is_not_sink : net.source ≢ net.sink
   pub source_is_node : net.source < net.nodes
 
 -- from a node through the writers to the sink, with a cost as the capacity of each arc
-abbrev pub links : ℕ → ℕ → List ℕ → List ℕ → List Arc
-links from sink writers [] = []
-links from sink [] (c ∷ costs) = record { from = from; to = sink; capacity = Some c } ∷ []
-links from sink (w ∷ writers) (c ∷ costs) =
-    record { from = from; to = w; capacity = Some c } ∷ links w sink writers costs
+abbrev pub path_arcs : ℕ → ℕ → List ℕ → List ℕ → List Arc
+path_arcs from sink writers [] = []
+path_arcs from sink [] (c ∷ costs) = record { from = from; to = sink; capacity = Some c } ∷ []
+path_arcs from sink (w ∷ writers) (c ∷ costs) =
+    record { from = from; to = w; capacity = Some c } ∷ path_arcs w sink writers costs
 
 -- the arcs of a chain, in a network of n updates
-abbrev pub chain_links : ℕ → Chain → List Arc
-chain_links n chain = links n (n + 1) chain.writers chain.costs
+abbrev pub arcs_of_chain : ℕ → Chain → List Arc
+arcs_of_chain n chain = path_arcs n (n + 1) chain.writers chain.costs
 
 -- for the pair (u, v) the arc from v back to u
-abbrev pub back_arc : ℕ × ℕ → Arc
-back_arc e = record { from = e.1; to = e.0; capacity = None }
+abbrev pub precedence_arc : ℕ × ℕ → Arc
+precedence_arc e = record { from = e.1; to = e.0; capacity = None }
 
 abbrev pub must_arc : ℕ → ℕ → Arc
 must_arc source u = record { from = source; to = u; capacity = None }
 
-abbrev pub chain_arcs : Problem → List Arc
-chain_arcs p = flat_map (chain_links (size p)) p.chains
+abbrev pub arcs_of_chains : Problem → List Arc
+arcs_of_chains p = flat_map (arcs_of_chain (size p)) p.chains
 
-abbrev pub back_arcs : Problem → List Arc
-back_arcs p = map back_arc p.before
+abbrev pub precedence_arcs : Problem → List Arc
+precedence_arcs p = map precedence_arc p.before
 
 abbrev pub must_arcs : Problem → List Arc
 must_arcs p = map (must_arc (size p)) p.must
@@ -55,7 +55,7 @@ must_arcs p = map (must_arc (size p)) p.must
 abbrev pub network : Problem → Network
 network p = record {
   nodes = size p + 2;
-  arcs = chain_arcs p ++ back_arcs p ++ must_arcs p;
+  arcs = arcs_of_chains p ++ precedence_arcs p ++ must_arcs p;
   source = size p;
   sink = size p + 1;
 }

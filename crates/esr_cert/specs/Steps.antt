@@ -9,9 +9,9 @@ arc_of (Forward i) = i
 arc_of (Backward i) = i
 
 -- the position of a step among all: by its arc, forward before backward
-abbrev pub order_of : ResidualArc → ℕ
-order_of (Forward i) = 2 * i
-order_of (Backward i) = 2 * i + 1
+abbrev pub rank_of : ResidualArc → ℕ
+rank_of (Forward i) = 2 * i
+rank_of (Backward i) = 2 * i + 1
 
 -- the node at which a step starts
 abbrev pub start : List Arc → ResidualArc → ℕ

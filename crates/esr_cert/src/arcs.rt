@@ -6,7 +6,7 @@
 ghost use Rattle.std.specs.Prelude.{◌≡◌, ◌+◌, ◌^◌, ◌<◌, ◌≤◌, [], ◌∷◌, ◌++◌, length, get_or, map, sum_by, List, true};
 ghost use Rattle.esr_base.specs.declared.limits.TheConstants.{MAX_ITEMS, MAX_TRANSACTIONS};
 ghost use Rattle.esr_cert.specs.Views.{chain_of, problem_of};
-ghost use Rattle.esr_cert.specs.Network.{arc_at, chain_links, network};
+ghost use Rattle.esr_cert.specs.Network.{arc_at, arcs_of_chain, network};
 ghost use Rattle.esr_cert.specs.declared.network.Arc.{Arc};
 ghost use Rattle.esr_cert.specs.Problem.{is_well_formed};
 ghost use Rattle.esr_cert.specs.Starts.{starts_from, owners_from};
@@ -46,7 +46,7 @@ fn link_at(chain: &Chain, source: u32, j: usize) -> Arc
     requires count { length chain.now.costs.items ≡ length chain.now.writers.items + 1 }
     requires place { j < length chain.now.costs.items }
     requires source { source ≤ MAX_TRANSACTIONS }
-    ensures { result ≡ arc_at (chain_links source (chain_of chain.now)) j }
+    ensures { result ≡ arc_at (arcs_of_chain source (chain_of chain.now)) j }
 {
     Arc {
         from: arc_tail(chain, source, j),

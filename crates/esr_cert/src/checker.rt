@@ -19,7 +19,7 @@ use crate::arcs::arc_count;
 use crate::certificate::{Certificate, Fault};
 use crate::lists::{are_below, contains, is_ascending};
 use crate::problem::{Chain, Problem};
-use crate::residual::{ResidualArc, ShortArc};
+use crate::residual::{PackedResidualArc, ResidualArc};
 use crate::starts::row_at;
 
 /// Returns whether there is an update at each position of a set.
@@ -126,14 +126,14 @@ fn amount_on(certificate: &Certificate, starts: &[u32], arc: u32) -> u64
 }
 
 /// Returns whether inflow and outflow of a node are equal, by the steps that start there.
-fn is_balanced(certificate: &Certificate, starts: &[u32], steps: &[ShortArc]) -> bool
+fn is_balanced(certificate: &Certificate, starts: &[u32], steps: &[PackedResidualArc]) -> bool
     requires starts { AreStarts starts.now (rows_of certificate.now.chain_flow.items) }
     ensures { result ≡ is_balanced (amounts (certificate_of certificate.now)) steps.now }
 {
     let mut into: u128 = 0;
     let mut from: u128 = 0;
     for step in steps {
-        match step.step() {
+        match step.unpack() {
             ResidualArc::Forward(arc) => from += u128::from(amount_on(certificate, starts, arc)),
             ResidualArc::Backward(arc) => into += u128::from(amount_on(certificate, starts, arc)),
         }

@@ -29,6 +29,6 @@ pub use checker::check;
 pub use draft::{ChainDraft, ProblemDraft};
 pub use network::Arc;
 pub use problem::{BundleFault, Chain, Problem, ProblemParts};
-pub use residual::{ResidualArc, ShortArc};
+pub use residual::{PackedResidualArc, ResidualArc};
 pub use rows::{Rows, Span};
 pub use shape::has_shape;

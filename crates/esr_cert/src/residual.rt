@@ -1,9 +1,10 @@
-//! Residual arcs, the steps of paths: forward or backward over an arc, and the same in four bytes, as rows keep them.
+//! Residual arcs, the steps of paths: forward or backward over an arc, and their packed form of four bytes, which the
+//! adjacency rows of a network store.
 
 ghost use Rattle.std.specs.Prelude.{◌≡◌, ◌<◌};
 ghost use Rattle.std.proofs.Common.{ap};
 ghost use Rattle.esr_cert.specs.declared.residual.ResidualArc.{ResidualArc};
-ghost use Rattle.esr_cert.specs.Steps.{arc_of, order_of, opposite};
+ghost use Rattle.esr_cert.specs.Steps.{arc_of, rank_of, opposite};
 ghost use Rattle.esr_cert.specs.PackedArcs.{step_of, packed_arc, packed_arc-step_of};
 
 use std::marker::Model;
@@ -26,9 +27,9 @@ impl ResidualArc {
         }
     }
 
-    /// Its position among all: by its arc, forward before backward.
-    pub fn order(self) -> u64
-        ensures { result ≡ order_of self }
+    /// Returns the rank in the order of residual arcs: by arc, forward before backward.
+    pub fn rank(self) -> u64
+        ensures { result ≡ rank_of self }
     {
         match self {
             ResidualArc::Forward(i) => 2 * u64::from(i),
@@ -47,13 +48,13 @@ impl ResidualArc {
     }
 }
 
-/// A residual arc in the four bytes in which a network keeps it: the number of its arc, from 2^31 on for backward.
+/// A residual arc packed into four bytes: the number of its arc, plus 2^31 if it is backward.
 #[derive(Clone, Copy, Debug)]
-pub struct ShortArc {
+pub struct PackedResidualArc {
     number: u32,
 }
 
-impl Model for ShortArc {
+impl Model for PackedResidualArc {
     ghost Value = { ResidualArc };
 
     ghost view = { λ s. step_of s.number };
@@ -63,9 +64,9 @@ impl Model for ShortArc {
     ghost inverse_ok = { λ a h. ap (λ n. record { number = n }) (packed_arc-step_of a.number) };
 }
 
-impl ShortArc {
+impl PackedResidualArc {
     /// Packs a residual arc into four bytes.
-    pub fn of(step: ResidualArc) -> ShortArc
+    pub fn of(step: ResidualArc) -> PackedResidualArc
         requires { arc_of step < 2147483648 }
         ensures { result ≡ step }
     {
@@ -73,11 +74,11 @@ impl ShortArc {
             ResidualArc::Forward(i) => i,
             ResidualArc::Backward(i) => i + 2_147_483_648,
         };
-        ShortArc { number }
+        PackedResidualArc { number }
     }
 
     /// Unpacks the residual arc.
-    pub fn step(self) -> ResidualArc
+    pub fn unpack(self) -> ResidualArc
         ensures { result ≡ self }
     {
         if self.number < 2_147_483_648 {

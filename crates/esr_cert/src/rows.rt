@@ -8,16 +8,16 @@
 //! the other arguments of a call, which do not determine the arcs.
 ghost use Rattle.std.specs.Prelude.{◌≡◌, ◌+◌, ◌<◌, ◌≤◌, length, set, sum, Contains, IfOk};
 ghost use Rattle.std.specs.List.Sorted.{IsNonDecreasingBy};
-ghost use Rattle.esr_cert.specs.Steps.{arc_of, order_of, step_at};
+ghost use Rattle.esr_cert.specs.Steps.{arc_of, rank_of, step_at};
 ghost use Rattle.esr_cert.specs.Rows.{row_in, span_at, lengthen, first_steps, AreDegrees, AreBegun, AreRows, AreSteps, Counted, IsLaidOut};
-ghost use Rattle.esr_cert.specs.Network.{HaveEnds};
+ghost use Rattle.esr_cert.specs.Network.{EndsAreNodes};
 ghost use Rattle.esr_cert.specs.Links.{HasLinks};
 ghost use Rattle.esr_base.specs.declared.limits.TheConstants.{MAX_TRANSACTIONS};
 ghost use Rattle.esr_cert.specs.declared.rows.TheConstants.{MAX_ARCS};
 
 use crate::arcs::{Arcs, arc_head, arc_tail};
 use crate::problem::Chain;
-use crate::residual::{ResidualArc, ShortArc};
+use crate::residual::{PackedResidualArc, ResidualArc};
 use std::alloc::{AllocError, Global};
 
 /// The bounds of a node's row.
@@ -40,7 +40,7 @@ fn count_links(
     degrees: &mut Vec<u32>,
 )
     requires within_max { length _arcs.now ≤ MAX_ARCS }
-    requires ends { HaveEnds _arcs.now _nodes }
+    requires ends { EndsAreNodes _arcs.now _nodes }
     requires source { source ≤ MAX_TRANSACTIONS }
     requires links { HasLinks _arcs.now source chain.now _begin }
     requires counted { Counted _arcs.now _nodes (first_steps _begin) degrees.old.items }
@@ -57,7 +57,7 @@ fn count_links(
 /// Counts the steps of the arcs from a number on.
 fn count_others(arcs: &Arcs, _nodes: usize, first: usize, degrees: &mut Vec<u32>)
     requires within_max { length arcs.now ≤ MAX_ARCS }
-    requires ends { HaveEnds arcs.now _nodes }
+    requires ends { EndsAreNodes arcs.now _nodes }
     requires first { first ≤ length arcs.now }
     requires counted { Counted arcs.now _nodes (first_steps first) degrees.old.items }
     ensures { Counted arcs.now _nodes (first_steps (length arcs.now)) degrees.new.items }
@@ -75,7 +75,7 @@ fn count_others(arcs: &Arcs, _nodes: usize, first: usize, degrees: &mut Vec<u32>
 /// off the chain, since finding an arc by its number needs a look-up.
 fn degrees_of(alloc: Global, nodes: usize, arcs: &Arcs) -> Result<Vec<u32>, AllocError>
     requires within_max { length arcs.now ≤ MAX_ARCS }
-    requires ends { HaveEnds arcs.now nodes }
+    requires ends { EndsAreNodes arcs.now nodes }
     ensures { IfOk result (λ degrees. AreDegrees arcs.now nodes degrees.items) }
 {
     let mut degrees = vec![in alloc; 0u32; nodes]?;
@@ -107,7 +107,7 @@ fn begin_rows(alloc: Global, lengths: &[u32]) -> Result<Vec<Span>, AllocError>
 #[derive(Debug, Drop)]
 pub struct Rows {
     pub spans: Vec<Span>,
-    pub steps: Vec<ShortArc>,
+    pub steps: Vec<PackedResidualArc>,
 }
 
 impl Rows {
@@ -127,14 +127,14 @@ impl Rows {
         requires node { v < length self.now.spans.items }
         requires ordered { (span_at self.now.spans.items v).begin ≤ (span_at self.now.spans.items v).end }
         requires inside { (span_at self.now.spans.items v).end ≤ length self.now.steps.items }
-        requires ascending { IsNonDecreasingBy order_of (row_in self.now.steps.items (span_at self.now.spans.items v)) }
+        requires ascending { IsNonDecreasingBy rank_of (row_in self.now.steps.items (span_at self.now.spans.items v)) }
         requires starts { Contains (row_in self.now.steps.items (span_at self.now.spans.items v)) step }
         ensures inside { result < length self.now.steps.items }
         ensures place { step_at self.now.steps.items result ≡ step }
     {
-        let order = step.order();
+        let rank = step.rank();
         let row = self.row(&self.steps, v);
-        self.spans[v].begin as usize + row.partition_point(|short| short.step().order() < order)
+        self.spans[v].begin as usize + row.partition_point(|packed| packed.unpack().rank() < rank)
     }
 
     /// Adds a step to a node's row.
@@ -147,7 +147,7 @@ impl Rows {
         ensures steps { self.new.steps.items ≡ set self.old.steps.items (span_at self.old.spans.items node).end step }
     {
         let place = self.spans[node].end;
-        self.steps[place as usize] = ShortArc::of(step);
+        self.steps[place as usize] = PackedResidualArc::of(step);
         self.spans[node].end = place + 1;
     }
 }
@@ -155,7 +155,7 @@ impl Rows {
 /// Puts the steps of the arcs of a chain, which begin at a number, into their rows.
 fn lay_links(_arcs: &Arcs, _nodes: usize, source: u32, chain: &Chain, begin: usize, rows: &mut Rows)
     requires within_max { length _arcs.now ≤ MAX_ARCS }
-    requires ends { HaveEnds _arcs.now _nodes }
+    requires ends { EndsAreNodes _arcs.now _nodes }
     requires source { source ≤ MAX_TRANSACTIONS }
     requires links { HasLinks _arcs.now source chain.now begin }
     requires laid_out { IsLaidOut _arcs.now _nodes begin rows.old.spans.items rows.old.steps.items }
@@ -173,7 +173,7 @@ fn lay_links(_arcs: &Arcs, _nodes: usize, source: u32, chain: &Chain, begin: usi
 /// Puts the steps of the arcs from a number on into their rows.
 fn lay_others(arcs: &Arcs, _nodes: usize, first: usize, rows: &mut Rows)
     requires within_max { length arcs.now ≤ MAX_ARCS }
-    requires ends { HaveEnds arcs.now _nodes }
+    requires ends { EndsAreNodes arcs.now _nodes }
     requires first { first ≤ length arcs.now }
     requires laid_out { IsLaidOut arcs.now _nodes first rows.old.spans.items rows.old.steps.items }
     ensures { IsLaidOut arcs.now _nodes (length arcs.now) rows.new.spans.items rows.new.steps.items }
@@ -190,12 +190,12 @@ fn lay_others(arcs: &Arcs, _nodes: usize, first: usize, rows: &mut Rows)
 #[tactic(auto, using(crate::proofs::LinksLaws::starts_first))]
 pub fn rows_of(alloc: Global, nodes: usize, arcs: &Arcs) -> Result<Rows, AllocError>
     requires within_max { length arcs.now ≤ MAX_ARCS }
-    requires ends { HaveEnds arcs.now nodes }
+    requires ends { EndsAreNodes arcs.now nodes }
     ensures rows { IfOk result (λ rows. AreRows arcs.now nodes rows.spans.items rows.steps.items) }
     ensures steps { IfOk result (λ rows. AreSteps arcs.now rows.steps.items) }
 {
     let spans = begin_rows(alloc, &degrees_of(alloc, nodes, arcs)?)?;
-    let steps = vec![in alloc; ShortArc::of(ResidualArc::Forward(0)); 2 * arcs.len()]?;
+    let steps = vec![in alloc; PackedResidualArc::of(ResidualArc::Forward(0)); 2 * arcs.len()]?;
     let mut rows = Rows { spans, steps };
     let (chains, source) = arcs.chains();
     let mut begin = 0;

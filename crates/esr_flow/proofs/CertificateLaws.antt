@@ -8,7 +8,7 @@ use Rattle.std.proofs.lemmas.List.Sums.{sum_by-cons, sum_by-append}
 use Rattle.esr_flow.specs.Types.{Arc}
 use Rattle.esr_cert.specs.declared.problem.Chain as code
 use Rattle.esr_cert.specs.Problem.{Chain, Problem, size, in_set, is_ascending, cost, IsSmallestLeast}
-use Rattle.esr_cert.specs.Network.{links, chain_links, chain_arcs, back_arcs, must_arcs, back_arc, must_arc, network}
+use Rattle.esr_cert.specs.Network.{path_arcs, arcs_of_chain, arcs_of_chains, precedence_arcs, must_arcs, precedence_arc, must_arc, network}
 use Rattle.esr_cert.specs.Flow.{are_within, IsFlow, worth}
 use Rattle.esr_cert.specs.Certificate.{Certificate, amounts, are_rows_matched, is_count_in_bound, Certifies}
 use Rattle.esr_cert.specs.Views.{chain_of, rows_of}
@@ -17,21 +17,21 @@ use Rattle.esr_cert.proofs.Flows.{within_from, conserved_from}
 use Rattle.esr_cert.proofs.Certified.{certifies_from}
 use Rattle.esr_flow.specs.Augmentation.{IsReach}
 use Rattle.esr_flow.specs.Search.{is_marked}
-use Rattle.esr_flow.specs.Certificate.{positions}
+use Rattle.esr_flow.specs.Members.{members_below}
 use Rattle.esr_flow.proofs.Smallest.{smallest_least, reach_cost}
 use Rattle.esr_flow.proofs.SolveLaws.{positions_at, positions_below, positions_ascend, smallest_same, same_cost}
 
-links_length : (from sink : ℕ) (writers costs : List ℕ) → length costs ≡ length writers + 1 → length (links from sink writers costs) ≡ length costs
+links_length : (from sink : ℕ) (writers costs : List ℕ) → length costs ≡ length writers + 1 → length (path_arcs from sink writers costs) ≡ length costs
 links_length from sink writers [] e = absurd (omega arith)
 links_length from sink [] (c ∷ costs) e = omega arith
 links_length from sink (w ∷ writers) (c ∷ costs) e = omega (arith, links_length w sink writers costs (omega arith))
 
-chains_length : (p : Problem) (n : ℕ) (chains : List Chain) → ((chain : Chain) → Contains chains chain → IsChain p chain) → length (flat_map (chain_links n) chains) ≡ sum_by (λ chain. length chain.costs) chains
+chains_length : (p : Problem) (n : ℕ) (chains : List Chain) → ((chain : Chain) → Contains chains chain → IsChain p chain) → length (flat_map (arcs_of_chain n) chains) ≡ sum_by (λ chain. length chain.costs) chains
 chains_length p n [] h = refl
 chains_length p n (c ∷ chains) h =
     omega (
       arith,
-      length-append (links n (n + 1) c.writers c.costs) (flat_map (chain_links n) chains),
+      length-append (path_arcs n (n + 1) c.writers c.costs) (flat_map (arcs_of_chain n) chains),
       links_length n (n + 1) c.writers c.costs (h c (here c chains)).one_more,
       chains_length p n chains (λ d k. h d (there c d chains k)),
       sum_by-cons (λ chain. length chain.costs) c chains,
@@ -43,10 +43,10 @@ flow_length p ok flow f =
     omega (
       arith,
       f.same_length,
-      length-append (chain_arcs p ++ back_arcs p) (must_arcs p),
-      length-append (chain_arcs p) (back_arcs p),
+      length-append (arcs_of_chains p ++ precedence_arcs p) (must_arcs p),
+      length-append (arcs_of_chains p) (precedence_arcs p),
       chains_length p (size p) p.chains ok.chains,
-      length-map {B = Arc} p.before back_arc,
+      length-map {B = Arc} p.before precedence_arc,
       length-map {B = Arc} p.must (must_arc (size p)),
     )
 
@@ -102,14 +102,14 @@ pub record Parts (p : Problem) (flow xs bs ms : List ℕ) : Type 0 where
   pub musts : length ms ≡ length p.must
   pub whole : (xs ++ bs) ++ ms ≡ flow
 
-pub least_set : (p : Problem) → IsProblem p → (flow : List ℕ) → IsFlow (network p) flow → (marks : List Bool) → IsReach (network p) flow (is_marked marks) → is_marked marks (size p + 1) ≡ false → (set : List ℕ) → set ≡ positions (is_marked marks) (size p) → IsSmallestLeast p (in_set set)
+pub least_set : (p : Problem) → IsProblem p → (flow : List ℕ) → IsFlow (network p) flow → (marks : List Bool) → IsReach (network p) flow (is_marked marks) → is_marked marks (size p + 1) ≡ false → (set : List ℕ) → set ≡ members_below (is_marked marks) (size p) → IsSmallestLeast p (in_set set)
 least_set p ok flow f marks r s set e =
     smallest_same p ok (is_marked marks) (in_set set)
     (λ u l. sym (positions_at (is_marked marks) (size p) u l) ∙ ap (λ xs. in_set xs u) (sym e))
     (smallest_least p ok flow (is_marked marks) f r s)
 
 pub certified : (p : Problem) → IsProblem p → (flow : List ℕ) → IsFlow (network p) flow → (marks : List Bool) → IsReach (network p) flow (is_marked marks) → is_marked marks (size p + 1) ≡ false
-    → (c : Certificate) → c.set ≡ positions (is_marked marks) (size p) → Parts p flow (concat c.chain_flow) c.back_flow c.must_flow → are_rows_matched p.chains c.chain_flow ≡ true
+    → (c : Certificate) → c.set ≡ members_below (is_marked marks) (size p) → Parts p flow (concat c.chain_flow) c.back_flow c.must_flow → are_rows_matched p.chains c.chain_flow ≡ true
     → c.worth ≡ worth (network p) flow → is_count_in_bound p c.augmentations ≡ true → Certifies p c
 certified p ok flow f marks r s c set_is parts rows worth_is short =
     let smallest : IsSmallestLeast p (in_set c.set) = least_set p ok flow f marks r s c.set set_is in

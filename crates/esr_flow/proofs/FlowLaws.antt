@@ -128,11 +128,11 @@ path_labels net flow after a =
 pub augmented : (net : Network) → IsNetwork net → (flow after : List ℕ) → IsFlow net flow → (a : Augments net flow after) → After net flow after a.amount
 augmented net ok flow after f a =
     let p : (d : ℕ → ℕ) × (Falls net.arcs flow d) × (d net.sink ≡ 0) × (d net.source ≡ length a.path) × Levels d net.arcs (d net.source) a.path = path_labels net flow after a in
-    let r : ResidualCapacities net.arcs flow a.amount a.path = capacities_from net.arcs flow a.amount a.path a.is_least in
+    let r : ResidualCapacities net.arcs flow a.amount a.path = capacities_from net.arcs flow a.amount a.path a.is_bottleneck in
     let balance : (v : ℕ) → outflow net.arcs (raise flow a.amount a.path) v + inflow net.arcs flow v + pick (eqb net.sink v) a.amount ≡ outflow net.arcs flow v + inflow net.arcs (raise flow a.amount a.path) v + pick (eqb net.source v) a.amount =
     λ v. path_balance p.0 net.arcs flow a.amount a.path (p.0 net.source) net.source net.sink v f.same_length p.4 r (linked_from net.arcs flow a.path net.source net.sink a.is_path) in
     let here : eqb net.source net.source ≡ true = eq-eqb _ _ refl in
-    let not_there : eqb net.sink net.source ≡ false = ne_eqb _ _ (λ e. ok.two_ends (sym e)) in
+    let not_there : eqb net.sink net.source ≡ false = ne_eqb _ _ (λ e. ok.source_is_not_sink (sym e)) in
     subst (λ g. After net flow g a.amount) (sym a.is_raised) (record {
       is_flow = record {
         same_length = length-raise flow a.amount a.path ∙ f.same_length;
@@ -147,7 +147,7 @@ augmented net ok flow after f a =
             );
       };
       raised = omega (arith, balance net.source, nothing_into_source net ok flow, nothing_into_source net ok (raise flow a.amount a.path), ap (λ b. pick b a.amount) here, ap (λ b. pick b a.amount) not_there);
-      positive = amount_pos net.arcs flow a.amount a.path net.source net.sink a.is_path (bottle_from net.arcs flow a.amount a.path a.is_least);
+      positive = amount_pos net.arcs flow a.amount a.path net.source net.sink a.is_path (bottle_from net.arcs flow a.amount a.path a.is_bottleneck);
       at_most = λ i. raise_at_most p.0 net.arcs flow a.amount a.path (p.0 net.source) i p.4;
     })
 

@@ -7,7 +7,7 @@ use Rattle.esr_cert.proofs.Sound.{IsProblem}
 use Rattle.esr_cert.proofs.Least.{is_network}
 use Rattle.esr_flow.specs.IsLaidOut.{net_with, IsGraphOf}
 use Rattle.std.specs.List.Sorted.{IsNonDecreasingBy}
-use Rattle.esr_cert.specs.Steps.{order_of, HasSteps}
+use Rattle.esr_cert.specs.Steps.{rank_of, HasSteps}
 use Rattle.esr_cert.specs.Rows.{AreLaidOut}
 use Rattle.esr_cert.proofs.StepsLaws.{has_steps, row_ascends}
 
@@ -25,7 +25,7 @@ module _ (p : Problem) (nodes source sink : ℕ) (a : nodes ≡ size p + 2) (b :
         inside = laid_out.rows.inside;
         row = laid_out.rows.row;
         lists = λ v l. subst (HasSteps (network p).arcs v) (sym (laid_out.rows.row v l)) (has_steps (network p).arcs v);
-        ascend = λ v l. subst (IsNonDecreasingBy order_of) (sym (laid_out.rows.row v l)) (row_ascends (network p).arcs v);
+        ascend = λ v l. subst (IsNonDecreasingBy rank_of) (sym (laid_out.rows.row v l)) (row_ascends (network p).arcs v);
         steps = laid_out.steps;
         sink_is_node = omega (arith, a, c);
         within_max = within_max;

@@ -30,7 +30,7 @@ path_in_arcs arcs flow (s ∷ path) a b h zero d l = h.1.0
 path_in_arcs arcs flow (s ∷ path) a b h (suc k) d l = path_in_arcs arcs flow path (finish arcs s) b h.2 k d (omega arith)
 
 abbrev pub augments : (net : Network) (flow : List ℕ) (path : List ResidualArc) (x : ℕ) → IsShortestPath net flow path → bottleneck net.arcs flow path ≡ Some x → Augments net flow (raise flow x path)
-augments net flow path x p e = record { path = path; amount = x; is_path = p.is_path; is_shortest = p.is_shortest; is_least = e; is_raised = refl }
+augments net flow path x p e = record { path = path; amount = x; is_path = p.is_path; is_shortest = p.is_shortest; is_bottleneck = e; is_raised = refl }
 
 -- the amounts on the way fit
 pub raise_fits : (net : Network) → IsNetwork net → (flow : List ℕ) (path : List ResidualArc) (x : ℕ) → IsFlow net flow → ((i : ℕ) → amount_at flow i ≤ MAX_COST) → ((f : List ℕ) → IsFlow net f → worth net f ≤ MAX_COST) → IsShortestPath net flow path → bottleneck net.arcs flow path ≡ Some x → (k i : ℕ) → amount_at (raise flow x (take k path)) i + x < 2 ^ 64

@@ -50,4 +50,4 @@ begin net flow ok =
     in_list = omega (arith, ok.source_is_node, length-replicate net.nodes false)
 
 pub sink_unmarked : (net : Network) → IsNetwork net → is_marked (set (replicate net.nodes false) net.source true) net.sink ≡ false
-sink_unmarked net ok = get_or-set_other (replicate net.nodes false) net.source net.sink true false (λ e. ok.two_ends (sym e)) ∙ none_marked net.nodes net.sink
+sink_unmarked net ok = get_or-set_other (replicate net.nodes false) net.source net.sink true false (λ e. ok.source_is_not_sink (sym e)) ∙ none_marked net.nodes net.sink

@@ -25,8 +25,8 @@ pub guides_after : (net : Network) (flow after labels : List ℕ) (path : List R
 guides_after net flow after labels path g p a =
     let short : length a.path ≤ length path = a.is_shortest path p.is_shortest_path.is_path in
     let h : Levels (label_at labels) net.arcs (label_at labels net.source) a.path = levels_from net.arcs flow (label_at labels) g.falls a.path net.source net.sink a.is_path (omega (arith, short, p.steps, g.at_sink)) in
-    let r : ResidualCapacities net.arcs flow a.amount a.path = capacities_from net.arcs flow a.amount a.path a.is_least in
-    let x : 1 ≤ a.amount = amount_pos net.arcs flow a.amount a.path net.source net.sink a.is_path (bottle_from net.arcs flow a.amount a.path a.is_least) in
+    let r : ResidualCapacities net.arcs flow a.amount a.path = capacities_from net.arcs flow a.amount a.path a.is_bottleneck in
+    let x : 1 ≤ a.amount = amount_pos net.arcs flow a.amount a.path net.source net.sink a.is_path (bottle_from net.arcs flow a.amount a.path a.is_bottleneck) in
     let f : Falls net.arcs (raise flow a.amount a.path) (label_at labels) = falls_after (label_at labels) net.arcs flow a.amount a.path (label_at labels net.source) x h r g.falls in
     record { count = g.count; falls = subst (λ fl. Falls net.arcs fl (label_at labels)) (sym a.is_raised) f; at_sink = g.at_sink }
 

@@ -88,8 +88,8 @@ first_phase net first e = record {
 -- the augmentation within a phase: the path is as long as the source's label
 within_phase : (net : Network) → IsNetwork net → (n : ℕ) (flow after : List ℕ) (p : Phase net n flow) (a : Augments net flow after) → length a.path ≤ p.label net.source → Phase net (suc n) after
 within_phase net ok n flow after p a l =
-    let b : Bottle net.arcs flow a.amount a.path = bottle_from net.arcs flow a.amount a.path a.is_least in
-    let r : ResidualCapacities net.arcs flow a.amount a.path = capacities_from net.arcs flow a.amount a.path a.is_least in
+    let b : Bottle net.arcs flow a.amount a.path = bottle_from net.arcs flow a.amount a.path a.is_bottleneck in
+    let r : ResidualCapacities net.arcs flow a.amount a.path = capacities_from net.arcs flow a.amount a.path a.is_bottleneck in
     let x : 1 ≤ a.amount = amount_pos net.arcs flow a.amount a.path net.source net.sink a.is_path b in
     let h : Levels p.label net.arcs (p.label net.source) a.path = levels_from net.arcs flow p.label p.falls a.path net.source net.sink a.is_path (omega (arith, p.at_sink)) in
     let fewer : suc (count_below (tight p.label net.arcs (raise flow a.amount a.path)) (length net.arcs)) ≤ count_below (tight p.label net.arcs flow) (length net.arcs) =

@@ -265,11 +265,11 @@ module _ (net : Network) (flow : List ℕ) where
   pub all_reached : (visits : List Visit) (marks : List Bool) (head : ℕ) → Searched net flow visits marks head → length visits ≤ head → IsReach net flow (is_marked marks)
   all_reached visits marks head h l = record {
     source = sym (ap (is_marked marks) h.first_node) ∙ h.marked 0 h.some;
-    kept = λ s r t.
+    closed = λ s r t.
         let v : (j : ℕ) × (j < length visits) × ((visit_at visits j).node ≡ start net.arcs s) = h.visited (start net.arcs s) t in
         let leads : EndsVisited net.arcs visits (visit_at visits v.0).level s = h.done v.0 (omega (arith, v.1)) s r (sym v.2) in
         sym (ap (is_marked marks) leads.2) ∙ h.marked leads.0 leads.1;
-    reached = λ v t.
+    only_reachable = λ v t.
         let j : (j : ℕ) × (j < length visits) × ((visit_at visits j).node ≡ v) = h.visited v t in
         let p : (path : List ResidualArc) × IsPath net.arcs flow net.source path (visit_at visits j.0).node = path_to visits marks head h (suc j.0) j.0 (omega arith) j.1 in
         (p.0, subst (λ n. IsPath net.arcs flow net.source p.0 n) j.2 p.1);

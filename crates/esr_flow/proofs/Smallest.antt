@@ -7,7 +7,7 @@ use Rattle.std.proofs.lemmas.List.Sums.{sum_by-cons}
 use Rattle.esr_cert.specs.declared.range.TheConstants.{MAX_COST}
 use Rattle.esr_flow.specs.Types.{Arc, ResidualArc, Forward, Backward}
 use Rattle.esr_cert.specs.Problem.{Chain, Problem, size, version, chain_cost, cost, greatest, IsSmallestLeast}
-use Rattle.esr_cert.specs.Network.{arc_at, Network, back_arc, must_arc, chain_arcs, back_arcs, must_arcs, network}
+use Rattle.esr_cert.specs.Network.{arc_at, Network, precedence_arc, must_arc, arcs_of_chains, precedence_arcs, must_arcs, network}
 use Rattle.esr_cert.specs.Flow.{within, amount_at, IsFlow, worth}
 use Rattle.esr_cert.specs.Cut.{with_source}
 use Rattle.esr_cert.proofs.Sound.{IsClosed, IsProblem, closed_facts, closed_from}
@@ -21,7 +21,7 @@ use Rattle.esr_flow.proofs.Keeps.{Keeps, strong, keeps_from, keeps_path}
 follow : (net : Network) (flow : List ℕ) (has : ℕ → Bool) → IsReach net flow has → (i : ℕ) (a : Arc) → i < length net.arcs → arc_at net.arcs i ≡ a → a.capacity ≡ None → has a.from ≡ true → has a.to ≡ true
 follow net flow has r i a l e free h =
     let residual : within 1 (left_of (arc_at net.arcs i).capacity (amount_at flow i)) ≡ true = ap (λ b. within 1 (left_of b.capacity (amount_at flow i))) e ∙ ap (λ o. within 1 (left_of o (amount_at flow i))) free in
-    ap has (sym (ap (λ b. b.to) e)) ∙ r.kept (Forward i) (l, residual) (ap has (ap (λ b. b.from) e) ∙ h)
+    ap has (sym (ap (λ b. b.to) e)) ∙ r.closed (Forward i) (l, residual) (ap has (ap (λ b. b.from) e) ∙ h)
 
 module _ (p : Problem) (ok : IsProblem p) (flow : List ℕ) (has : ℕ → Bool) where
   abbrev count : ℕ
@@ -30,14 +30,14 @@ module _ (p : Problem) (ok : IsProblem p) (flow : List ℕ) (has : ℕ → Bool)
   back_place : (k : ℕ) (q : ℕ × ℕ) → k < length p.before → get_or p.before k q ≡ q → (i : ℕ) × (i < length (network p).arcs) × (arc_at (network p).arcs i ≡ record { from = q.1; to = q.0; capacity = None })
   back_place k q l e =
       let none : Arc = record { from = 0; to = 0; capacity = Some 0 } in
-      let m : length (back_arcs p) ≡ length p.before = length-map p.before back_arc in
-      let in_backs : get_or (back_arcs p) k none ≡ record { from = q.1; to = q.0; capacity = None } =
-      get_or-map back_arc p.before k q none l ∙ ap back_arc e in
-      let in_both : get_or (chain_arcs p ++ back_arcs p) (length (chain_arcs p) + k) none ≡ get_or (back_arcs p) k none = get_or-append-add (chain_arcs p) (back_arcs p) k none in
-      let size : length (chain_arcs p ++ back_arcs p) ≡ length (chain_arcs p) + length (back_arcs p) = length-append (chain_arcs p) (back_arcs p) in
-      let all : get_or (chain_arcs p ++ back_arcs p ++ must_arcs p) (length (chain_arcs p) + k) none ≡ get_or (chain_arcs p ++ back_arcs p) (length (chain_arcs p) + k) none =
-      get_or_append_left (chain_arcs p ++ back_arcs p) (must_arcs p) none (length (chain_arcs p) + k) (omega arith) in
-      (length (chain_arcs p) + k, omega (arith, length-append (chain_arcs p ++ back_arcs p) (must_arcs p)), all ∙ in_both ∙ in_backs)
+      let m : length (precedence_arcs p) ≡ length p.before = length-map p.before precedence_arc in
+      let in_backs : get_or (precedence_arcs p) k none ≡ record { from = q.1; to = q.0; capacity = None } =
+      get_or-map precedence_arc p.before k q none l ∙ ap precedence_arc e in
+      let in_both : get_or (arcs_of_chains p ++ precedence_arcs p) (length (arcs_of_chains p) + k) none ≡ get_or (precedence_arcs p) k none = get_or-append-add (arcs_of_chains p) (precedence_arcs p) k none in
+      let size : length (arcs_of_chains p ++ precedence_arcs p) ≡ length (arcs_of_chains p) + length (precedence_arcs p) = length-append (arcs_of_chains p) (precedence_arcs p) in
+      let all : get_or (arcs_of_chains p ++ precedence_arcs p ++ must_arcs p) (length (arcs_of_chains p) + k) none ≡ get_or (arcs_of_chains p ++ precedence_arcs p) (length (arcs_of_chains p) + k) none =
+      get_or_append_left (arcs_of_chains p ++ precedence_arcs p) (must_arcs p) none (length (arcs_of_chains p) + k) (omega arith) in
+      (length (arcs_of_chains p) + k, omega (arith, length-append (arcs_of_chains p ++ precedence_arcs p) (must_arcs p)), all ∙ in_both ∙ in_backs)
 
   must_place : (k u : ℕ) → k < length p.must → get_or p.must k u ≡ u → (i : ℕ) × (i < length (network p).arcs) × (arc_at (network p).arcs i ≡ record { from = count; to = u; capacity = None })
   must_place k u l e =
@@ -45,9 +45,9 @@ module _ (p : Problem) (ok : IsProblem p) (flow : List ℕ) (has : ℕ → Bool)
       let m : length (must_arcs p) ≡ length p.must = length-map p.must (must_arc count) in
       let in_musts : get_or (must_arcs p) k none ≡ record { from = count; to = u; capacity = None } =
       get_or-map (must_arc count) p.must k u none l ∙ ap (must_arc count) e in (
-        length (chain_arcs p ++ back_arcs p) + k,
-        omega (arith, length-append (chain_arcs p ++ back_arcs p) (must_arcs p)),
-        get_or-append-add (chain_arcs p ++ back_arcs p) (must_arcs p) k none ∙ in_musts,
+        length (arcs_of_chains p ++ precedence_arcs p) + k,
+        omega (arith, length-append (arcs_of_chains p ++ precedence_arcs p) (must_arcs p)),
+        get_or-append-add (arcs_of_chains p ++ precedence_arcs p) (must_arcs p) k none ∙ in_musts,
       )
 
   pub reach_closed : IsReach (network p) flow has → IsClosed p has
@@ -76,7 +76,7 @@ module _ (p : Problem) (ok : IsProblem p) (flow : List ℕ) (has : ℕ → Bool)
   keeps_nodes : IsReach (network p) flow has → has (count + 1) ≡ false → Keeps (network p) flow (with_source count has)
   keeps_nodes r s step res h =
       let ends : (start (network p).arcs step < count + 2) × (finish (network p).arcs step < count + 2) = both step res.0 in
-      same_nodes r s (finish (network p).arcs step) ends.1 ∙ r.kept step res (sym (same_nodes r s (start (network p).arcs step) ends.0) ∙ h)
+      same_nodes r s (finish (network p).arcs step) ends.1 ∙ r.closed step res (sym (same_nodes r s (start (network p).arcs step) ends.0) ∙ h)
     where
       both : (step : ResidualArc) → arc_of step < length (network p).arcs → (start (network p).arcs step < count + 2) × (finish (network p).arcs step < count + 2)
       both (Forward i) l = (is_network p ok).ends i l
@@ -93,7 +93,7 @@ module _ (p : Problem) (ok : IsProblem p) (flow : List ℕ) (has : ℕ → Bool)
       let keeps : Keeps (network p) flow (with_source count other) =
       keeps_from (network p) (is_network p ok) flow f (with_source count other) (with_the_source count other) (without_sink count other) (limited p ok other c)
       (omega (arith, cost_across p ok other c, reach_cost f r s)) in
-      let path : (path : List ResidualArc) × IsPath (network p).arcs flow count path u = r.reached u h in
+      let path : (path : List ResidualArc) × IsPath (network p).arcs flow count path u = r.only_reachable u h in
       let at : with_source count other u ≡ true = keeps_path (network p) (is_network p ok) flow f (with_source count other) keeps path.0 count u path.1 (with_the_source count other) in
       sym (ap (λ b. cond b (other u) (eqb u count)) (lt-ltb u count m)) ∙ at
 

@@ -13,7 +13,7 @@ use Rattle.esr_cert.proofs.Least.{with_the_source, without_sink, limited, versio
 use Rattle.esr_flow.specs.Residual.{left_of, finish, residual_capacity, bottleneck, smaller, IsPath}
 use Rattle.esr_cert.specs.Steps.{arc_of, start}
 use Rattle.esr_flow.specs.Maximum.{HasLimit}
-use Rattle.esr_flow.specs.Certificate.{positions}
+use Rattle.esr_flow.specs.Members.{members_below}
 
 none_parts : (a b : Option ℕ) → smaller a b ≡ None → (a ≡ None) × (b ≡ None)
 none_parts None b h = (refl, h)
@@ -88,25 +88,25 @@ in_set_append (x ∷ xs) ys v = ap (λ b. eqb x v || b) (in_set_append xs ys v) 
     or_assoc true b c = refl
     or_assoc false b c = refl
 
-positions_past : (has : ℕ → Bool) (n v : ℕ) → n ≤ v → in_set (positions has n) v ≡ false
+positions_past : (has : ℕ → Bool) (n v : ℕ) → n ≤ v → in_set (members_below has n) v ≡ false
 positions_past has zero v l = refl
 positions_past has (suc n) v l =
-    in_set_append (positions has n) (cond (has n) (n ∷ []) []) v
-    ∙ or_from (in_set (positions has n) v) (in_set (cond (has n) (n ∷ []) []) v) (positions_past has n v (omega arith)) (last (has n))
+    in_set_append (members_below has n) (cond (has n) (n ∷ []) []) v
+    ∙ or_from (in_set (members_below has n) v) (in_set (cond (has n) (n ∷ []) []) v) (positions_past has n v (omega arith)) (last (has n))
   where
     last : (b : Bool) → in_set (cond b (n ∷ []) []) v ≡ false
     last true = or_from (eqb n v) false (ne_eqb n v (λ (e : n ≡ v). omega arith)) refl
     last false = refl
 
 -- the list contains exactly the positions that pass
-pub positions_at : (has : ℕ → Bool) (n v : ℕ) → v < n → in_set (positions has n) v ≡ has v
+pub positions_at : (has : ℕ → Bool) (n v : ℕ) → v < n → in_set (members_below has n) v ≡ has v
 positions_at has zero v l = absurd (omega arith)
 positions_at has (suc n) v l =
-    let below : v < n → in_set (positions has n) v ≡ has v = λ k. positions_at has n v k in
-    in_set_append (positions has n) (cond (has n) (n ∷ []) []) v ∙
+    let below : v < n → in_set (members_below has n) v ≡ has v = λ k. positions_at has n v k in
+    in_set_append (members_below has n) (cond (has n) (n ∷ []) []) v ∙
     elim (cases_eq v n) [
       | inl e ↦ ap (λ b. b || in_set (cond (has n) (n ∷ []) []) v) (positions_past has n v (omega arith)) ∙ last_here (has n) e ∙ sym (ap has e)
-      | inr ne ↦ ap (λ b. in_set (positions has n) v || b) (last_not (has n) ne) ∙ or_false (in_set (positions has n) v) ∙ below (omega arith)
+      | inr ne ↦ ap (λ b. in_set (members_below has n) v || b) (last_not (has n) ne) ∙ or_false (in_set (members_below has n) v) ∙ below (omega arith)
     ]
   where
     last_here : (b : Bool) → v ≡ n → in_set (cond b (n ∷ []) []) v ≡ b
@@ -133,13 +133,13 @@ all_push (x ∷ xs) n m h l =
     let both : (ltb x m ≡ true) × (list_all (λ x. ltb x m) xs ≡ true) = and_parts (ltb x m) (list_all (λ x. ltb x m) xs) h in
     and_from (ltb x m) (list_all (λ x. ltb x m) (xs ++ n ∷ [])) both.0 (all_push xs n m both.1 l)
 
-pub positions_below : (has : ℕ → Bool) (n : ℕ) → list_all (λ x. ltb x n) (positions has n) ≡ true
+pub positions_below : (has : ℕ → Bool) (n : ℕ) → list_all (λ x. ltb x n) (members_below has n) ≡ true
 positions_below has zero = refl
-positions_below has (suc n) = go (has n) (all_less (positions has n) n (positions_below has n))
+positions_below has (suc n) = go (has n) (all_less (members_below has n) n (positions_below has n))
   where
-    go : (b : Bool) → list_all (λ x. ltb x (suc n)) (positions has n) ≡ true → list_all (λ x. ltb x (suc n)) (positions has n ++ cond b (n ∷ []) []) ≡ true
-    go true h = all_push (positions has n) n (suc n) h (omega arith)
-    go false h = ap (list_all (λ x. ltb x (suc n))) (append-nil (positions has n)) ∙ h
+    go : (b : Bool) → list_all (λ x. ltb x (suc n)) (members_below has n) ≡ true → list_all (λ x. ltb x (suc n)) (members_below has n ++ cond b (n ∷ []) []) ≡ true
+    go true h = all_push (members_below has n) n (suc n) h (omega arith)
+    go false h = ap (list_all (λ x. ltb x (suc n))) (append-nil (members_below has n)) ∙ h
 
 ascending_push : (xs : List ℕ) (n : ℕ) → is_ascending xs ≡ true → list_all (λ x. ltb x n) xs ≡ true → is_ascending (xs ++ n ∷ []) ≡ true
 ascending_push [] n a b = refl
@@ -149,10 +149,10 @@ ascending_push (x ∷ y ∷ rest) n a b =
     let below : (ltb x n ≡ true) × (list_all (λ x. ltb x n) (y ∷ rest) ≡ true) = and_parts (ltb x n) (list_all (λ x. ltb x n) (y ∷ rest)) b in
     and_from (ltb x y) (is_ascending ((y ∷ rest) ++ n ∷ [])) up.0 (ascending_push (y ∷ rest) n up.1 below.1)
 
-pub positions_ascend : (has : ℕ → Bool) (n : ℕ) → is_ascending (positions has n) ≡ true
+pub positions_ascend : (has : ℕ → Bool) (n : ℕ) → is_ascending (members_below has n) ≡ true
 positions_ascend has zero = refl
 positions_ascend has (suc n) = go (has n) (positions_ascend has n)
   where
-    go : (b : Bool) → is_ascending (positions has n) ≡ true → is_ascending (positions has n ++ cond b (n ∷ []) []) ≡ true
-    go true h = ascending_push (positions has n) n h (positions_below has n)
-    go false h = ap is_ascending (append-nil (positions has n)) ∙ h
+    go : (b : Bool) → is_ascending (members_below has n) ≡ true → is_ascending (members_below has n ++ cond b (n ∷ []) []) ≡ true
+    go true h = ascending_push (members_below has n) n h (positions_below has n)
+    go false h = ap is_ascending (append-nil (members_below has n)) ∙ h

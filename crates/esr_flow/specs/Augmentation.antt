@@ -13,7 +13,7 @@ pub record Augments (net : Network) (flow after : List ℕ) : Type 0 where
   pub is_path : IsPath net.arcs flow net.source path net.sink
   pub is_shortest : (other : List ResidualArc) → IsPath net.arcs flow net.source other net.sink
       → length path ≤ length other
-  pub is_least : bottleneck net.arcs flow path ≡ Some amount
+  pub is_bottleneck : bottleneck net.arcs flow path ≡ Some amount
   pub is_raised : after ≡ raise flow amount path
 
 -- n augmentations lead from the flow of zeros to this one
@@ -29,6 +29,6 @@ AugmentsFrom net first (suc n) flow = (before : List ℕ) × AugmentsFrom net fi
 -- the nodes that the source reaches in the residual network: the source, the ends of residual steps, and no others
 pub record IsReach (net : Network) (flow : List ℕ) (has : ℕ → Bool) : Type 0 where
   pub source : has net.source ≡ true
-  pub kept : (step : ResidualArc) → IsResidual net.arcs flow step → has (start net.arcs step) ≡ true
+  pub closed : (step : ResidualArc) → IsResidual net.arcs flow step → has (start net.arcs step) ≡ true
       → has (finish net.arcs step) ≡ true
-  pub reached : (v : ℕ) → has v ≡ true → (path : List ResidualArc) × IsPath net.arcs flow net.source path v
+  pub only_reachable : (v : ℕ) → has v ≡ true → (path : List ResidualArc) × IsPath net.arcs flow net.source path v

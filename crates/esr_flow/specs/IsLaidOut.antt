@@ -4,7 +4,7 @@ use Rattle.std.specs.List.Sorted.{IsNonDecreasingBy}
 use Rattle.esr_cert.specs.Problem.{Problem}
 use Rattle.esr_cert.specs.declared.rows.Rows.{Rows}
 use Rattle.esr_cert.specs.Network.{Network, IsNetwork, network}
-use Rattle.esr_cert.specs.Steps.{order_of, HasSteps}
+use Rattle.esr_cert.specs.Steps.{rank_of, HasSteps}
 use Rattle.esr_cert.specs.Rows.{span_at, row_in, row_of, AreSteps}
 
 -- the arcs of a problem, with this number of nodes
@@ -22,7 +22,7 @@ pub record IsGraphOf (p : Problem) (rows : Rows) (nodes source sink : ℕ) : Typ
   pub lists : (v : ℕ) → v < nodes
       → HasSteps (network p).arcs v (row_in rows.steps.items (span_at rows.spans.items v))
   pub ascend : (v : ℕ) → v < nodes
-      → IsNonDecreasingBy order_of (row_in rows.steps.items (span_at rows.spans.items v))
+      → IsNonDecreasingBy rank_of (row_in rows.steps.items (span_at rows.spans.items v))
   pub steps : AreSteps (network p).arcs rows.steps.items
   pub sink_is_node : sink < nodes
   pub within_max : nodes < 2 ^ 30

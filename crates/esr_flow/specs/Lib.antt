@@ -10,4 +10,4 @@ pub mod ShortEntry
 pub mod Search
 pub mod Reached
 pub mod Maximum
-pub mod Certificate
+pub mod Members

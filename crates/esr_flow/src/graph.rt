@@ -13,7 +13,7 @@ ghost use Rattle.esr_cert.specs.Rows.{span_at};
 ghost use Rattle.esr_flow.specs.IsLaidOut.{IsGraphOf};
 
 use crate::entry::{AdjacencyEntry, ShortEntry};
-use esr_cert::{Arc, Problem, ResidualArc, Rows, ShortArc};
+use esr_cert::{Arc, PackedResidualArc, Problem, ResidualArc, Rows};
 use std::alloc::{AllocError, Global};
 
 /// The network of a problem, and for each node the steps that start at it.
@@ -34,7 +34,7 @@ impl<'a> Graph<'a> {
     ghost use Rattle.esr_flow.specs.Graph.{AreEntries, arcs_of};
 
     /// Returns the steps that start at a node.
-    pub fn steps_at(&self, v: usize) -> &[ShortArc]
+    pub fn steps_at(&self, v: usize) -> &[PackedResidualArc]
         requires node { v < self.now.nodes }
         ensures { result.now ≡ row_in self.now.rows.now.steps.items (span_at self.now.rows.now.spans.items v) }
     {

@@ -14,7 +14,7 @@ ghost use Rattle.esr_flow.specs.Maximum.{InArcs};
 
 use crate::entry::ShortEntry;
 use crate::graph::{Graph, finish_of};
-use esr_cert::{ResidualArc, ShortArc};
+use esr_cert::{PackedResidualArc, ResidualArc};
 use std::alloc::{AllocError, Global};
 
 /// Returns the first index of a node's adjacency row, at or after `from`, of a step to a greater label whose opposite
@@ -24,7 +24,7 @@ fn next_back(
     flow: &[u64],
     labels: &[u32],
     at: usize,
-    _steps: &[ShortArc],
+    _steps: &[PackedResidualArc],
     row: &[ShortEntry],
     from: usize,
 ) -> usize
@@ -74,7 +74,7 @@ pub fn next_path(
         let i = next_back(graph, flow, labels, at, steps, row, next[at]);
         if i < row.len() {
             next[at] = i + 1;
-            path.push(steps[i].step().opposite())?;
+            path.push(steps[i].unpack().opposite())?;
             at = row[i].entry().to as usize;
         } else {
             next[at] = i;

@@ -7,7 +7,7 @@ ghost use Rattle.esr_flow.specs.Search.{Searched, visit_at, is_marked, ComeFromE
 
 use crate::entry::ShortEntry;
 use crate::graph::Graph;
-use esr_cert::{ResidualArc, ShortArc};
+use esr_cert::{PackedResidualArc, ResidualArc};
 use std::alloc::{AllocError, Global};
 
 /// A node that was reached, by a step from the node of an earlier visit.
@@ -23,7 +23,7 @@ pub struct Visit {
 fn scan(
     graph: &Graph,
     _flow: &[u64],
-    steps: &[ShortArc],
+    steps: &[PackedResidualArc],
     row: &[ShortEntry],
     visits: &mut Vec<Visit>,
     marks: &mut Vec<bool>,
@@ -45,7 +45,7 @@ fn scan(
                 visits.push(Visit {
                     node: entry.to,
                     level,
-                    step: steps[i].step(),
+                    step: steps[i].unpack(),
                     parent: head as u32,
                 })?;
                 marks[node] = true;

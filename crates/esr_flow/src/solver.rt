@@ -12,7 +12,7 @@ ghost use Rattle.esr_cert.specs.Certificate.{amounts, are_rows_matched, is_count
 ghost use Rattle.esr_cert.specs.Views.{chain_of, rows_of, certificate_of};
 ghost use Rattle.esr_flow.specs.Augmentation.{IsReach, AugmentsFromZero};
 ghost use Rattle.esr_flow.specs.Search.{is_marked};
-ghost use Rattle.esr_flow.specs.Certificate.{positions};
+ghost use Rattle.esr_flow.specs.Members.{positions};
 
 use crate::maximum::{DraftOutcome, MaximumFlow, find_maximum, find_swiftly};
 use crate::network::Network;

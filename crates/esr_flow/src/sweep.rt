@@ -15,7 +15,7 @@ ghost use Rattle.esr_cert.specs.Network.{network};
 ghost use Rattle.esr_flow.specs.Graph.{arcs_of};
 
 use crate::graph::Graph;
-use esr_cert::{Arc, Chain, ResidualArc, ShortArc};
+use esr_cert::{Arc, Chain, PackedResidualArc, ResidualArc};
 use std::alloc::{AllocError, Global};
 
 /// How many rows all searches look at, for each node.
@@ -139,7 +139,7 @@ fn take_at(numbers: &mut [u64], place: usize, upper_bound: u64) -> u64
 }
 
 /// Returns the steps that start at a node, or an empty row if there is no such node.
-fn row_of<'a>(field: &'a Field, node: usize) -> &'a [ShortArc] {
+fn row_of<'a>(field: &'a Field, node: usize) -> &'a [PackedResidualArc] {
     if node < field.graph.nodes {
         field.graph.steps_at(node)
     } else {
@@ -294,7 +294,7 @@ impl Searches {
     ) -> Result<Option<ResidualArc>, AllocError> {
         self.looks = self.looks.saturating_sub(1);
         for short in row_of(field, node as usize) {
-            if let Some((next, way)) = way_over(field, flow, self.sweep, short.step()) {
+            if let Some((next, way)) = way_over(field, flow, self.sweep, short.unpack()) {
                 if is_outside(field, self.sweep, update, next) {
                     return Ok(Some(way));
                 }
@@ -397,7 +397,7 @@ fn take_back(field: &Field, flow: &mut [u64], from: u32, to: u32, amount: u64) -
 {
     let mut left = amount;
     for short in row_of(field, from as usize) {
-        let number = short.step().arc();
+        let number = short.unpack().arc();
         if left == 0 || !field.is_of_chain(number) {
             return left;
         }
@@ -443,7 +443,7 @@ fn due_and_capacity(field: &Field, flow: &[u64], sweep: Sweep, node: usize) -> (
     let mut due: u64 = 0;
     let mut spare_capacity: u64 = 0;
     for short in row_of(field, node) {
-        let step = short.step();
+        let step = short.unpack();
         let Some(limit) = field.limit(step.arc()) else {
             return (due, spare_capacity);
         };
@@ -492,7 +492,7 @@ fn share(
     let ratio = ratio_of(due, spare_capacity);
     let mut left = due;
     for short in row_of(field, node) {
-        let step = short.step();
+        let step = short.unpack();
         let Some(limit) = field.limit(step.arc()) else {
             return left;
         };
@@ -512,7 +512,7 @@ fn fill(field: &Field, flow: &mut [u64], sweep: Sweep, node: usize, due: u64) ->
 {
     let mut left = due;
     for short in row_of(field, node) {
-        let step = short.step();
+        let step = short.unpack();
         let limit = field.limit(step.arc());
         if left == 0 || limit.is_none() {
             return left;
@@ -532,7 +532,7 @@ fn must_arc(field: &Field, node: usize) -> Option<u32> {
     if field.graph.problem.must().is_empty() {
         return None;
     }
-    let number = row_of(field, node).last()?.step().arc();
+    let number = row_of(field, node).last()?.unpack().arc();
     if !field.is_of_chain(number) && arc_at(field, number).from as usize == field.graph.source {
         Some(number)
     } else {
@@ -578,7 +578,7 @@ fn released(field: &Field, flow: &mut [u64], owed: &mut [u64], sweep: Sweep, nod
     take_at(owed, node as usize, left);
     let mut is_back = false;
     for short in row_of(field, node as usize) {
-        let step = short.step();
+        let step = short.unpack();
         if left == 0 {
             return is_back;
         }

@@ -15,7 +15,7 @@ use Rattle.esr_order.specs.BackwardSearch.{Seen, conflicts_with, is_access, mark
 use Rattle.esr_order.proofs.Lists.{of_map}
 use Rattle.esr_order.proofs.ConflictOrder.{in_order}
 use Rattle.esr_order.proofs.BackwardSearch.{did_by_operation, accessed, operation_did}
-use Rattle.esr_order.proofs.Turns.{ahead, conflict_parts}
+use Rattle.esr_order.proofs.Batches.{ahead, conflict_parts}
 use Rattle.esr_bound.specs.Amounts.{mark_at, HasMarked}
 use Rattle.esr_bound.proofs.LowerBound.{nth_in, pairs_at}
 use Rattle.esr_stream.specs.Closing.{IsAdded, IsFlag, SummarizeLater, has_access}

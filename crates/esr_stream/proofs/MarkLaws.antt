@@ -12,7 +12,7 @@ use Rattle.esr_order.proofs.Early.{must_positions, must_below}
 use Rattle.esr_order.proofs.Lists.{of_map, at_place, same_truth}
 use Rattle.esr_order.proofs.RelevantFound.{low_must}
 use Rattle.esr_order.proofs.ConflictOrder.{in_order}
-use Rattle.esr_order.proofs.Turns.{up}
+use Rattle.esr_order.proofs.Batches.{up}
 use Rattle.esr_bound.specs.Amounts.{mark_at, among_marked, AreForced}
 use Rattle.esr_bound.proofs.LowerBound.{in_range, range_in, pairs_at}
 use Rattle.esr_stream.specs.Passes.{AreFirst}

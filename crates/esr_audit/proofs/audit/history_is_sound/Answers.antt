@@ -3,4 +3,4 @@ use Rattle.esr_audit.proofs.audit.history_is_sound.Goals as goal
 
 pub returns : goal.returns
 returns g c =
-    legal_sound g.M.Metric.distance_by (λ w. record { same = g.met.M.Metric.same w; symmetric = g.met.M.Metric.symmetric w; triangle = g.met.M.Metric.triangle w }) c.args.history.now.schedule c.log-legal.ensures.legal
+    legal_sound g.M.Metric.distance_by (λ w. record { same = g.met.M.Metric.same w; symmetric = g.met.M.Metric.symmetric w; triangle = g.met.M.Metric.triangle w }) c.args.history.now.schedule c.log-invariant.ensures.legal

@@ -9,7 +9,7 @@ returns-in_ok-push c =
     let inside : c.args.read.item < length lists = omega (arith, c.if-x-len.true, c.len.ensures, c.args.lists.now.ok.0) in
     let same : to_z w64 (of_z w64 c.args.read.value) ≡ c.args.read.value = search (rules, to_z-of_z) in
     record {
-      count = length-set lists c.args.read.item c.push.new.self;
+      list_count = length-set lists c.args.read.item c.push.new.self;
       values = λ x l. put_at lists c.args.read c.index_mut.result.now c.push.new.self inside c.index_mut.ensures.value
           (c.in_ok-push.ensures.items ∙ ap (λ v. c.index_mut.result.now.items ++ v ∷ []) same) x;
     }

@@ -8,7 +8,7 @@ loop-read-preserved c =
     let none : ItemRead = record { item = 0; value = pos 0 } in
     let i = c.loop-read.read-index in
     record {
-      count = c.in_ok-put_value.ensures.count ∙ c.loop-read.invariant.count;
+      count = c.in_ok-put_value.ensures.list_count ∙ c.loop-read.invariant.count;
       values = λ x l.
           c.in_ok-put_value.ensures.values x (omega (arith, l, c.loop-read.invariant.count))
           ∙ ap (λ vs. vs ++ values_of (get_or c.args.reads.now i none ∷ []) x) (c.loop-read.invariant.values x l)

@@ -11,7 +11,7 @@ use Rattle.esr_audit.proofs.commits.commit_lists.Goals as goal
 pub returns : goal.returns
 returns g c =
     let d = g.M.Metric.distance_by in let h = c.args.history.now.schedule in
-    let legal = c.log-legal.ensures.legal in let txns = c.in_ok-txns.txns.items in let lists = c.in_ok-lists.lists in
+    let legal = c.log-invariant.ensures.legal in let txns = c.in_ok-txns.txns.items in let lists = c.in_ok-lists.lists in
     let numbers = map (λ (t : TxnId). t.0) in
     let are : map (λ (t : TxnId). t.0) txns ≡ commit_order (accepted_in h) = c.in_ok-txns.ensures in
     let queries : map (λ (t : TxnId). t.0) lists.queries.items ≡ committed_queries h =

@@ -1,7 +1,7 @@
 use Rattle.std.proofs.Common.{arith, ◌≡◌, ◌+◌, ◌∙◌, ap, sym, subst, length, map, sum_by}
 use Rattle.std.proofs.lemmas.List.{length-map}
 use Rattle.esr_cert.specs.Problem.{Problem}
-use Rattle.esr_cert.specs.Network.{network, HaveEnds}
+use Rattle.esr_cert.specs.Network.{network, EndsAreNodes}
 use Rattle.esr_cert.specs.Starts.{starts_from}
 use Rattle.esr_cert.specs.Views.{chain_of, problem_by}
 use Rattle.esr_cert.proofs.Sound.{facts, are_bounded}
@@ -53,5 +53,5 @@ pub rows_of-requires-clause-ends : goal.rows_of-requires-clause-ends
 rows_of-requires-clause-ends c =
     let p : Problem = problem_by c.args.parts.now in
     let nodes : c.len-2.result + 2 ≡ (network p).nodes = omega (arith, length-map c.args.parts.now.updates.items (λ t. t.0), c.len-2.ensures, c.args.parts.now.updates.ok.0) in
-    subst (λ arcs. HaveEnds arcs (c.len-2.result + 2)) (sym c.arcs_of.ensures)
-    (subst (HaveEnds (network p).arcs) (sym nodes) (is_network p (facts p c.requires.sound)).ends)
+    subst (λ arcs. EndsAreNodes arcs (c.len-2.result + 2)) (sym c.arcs_of.ensures)
+    (subst (EndsAreNodes (network p).arcs) (sym nodes) (is_network p (facts p c.requires.sound)).ends)

@@ -26,6 +26,6 @@ returns c =
     ap (λ (w : List ℕ). flat_map (access_line (weighted w) items (value_at c.deref-2.result.now)) c.deref.result.now) c.metric.ensures
     ∙ (ap (λ (l : List ℤ). flat_map (access_line D items (value_at l)) c.deref.result.now) c.deref-2.ensures.value
     ∙ (ap (flat_map (access_line D items (value_at vs))) (c.deref.ensures.value ∙ c.in_ok-accesses.ensures)
-    ∙ (lines_agree D items (value_at vs) (state h us) (length h.opening) c.in_ok-values.ensures.values (accesses_in h.entries q) (accesses_inside weighted h c.log-legal.ensures.range c.log-legal.ensures.legal q)
+    ∙ (lines_agree D items (value_at vs) (state h us) (length h.opening) c.in_ok-values.ensures.values (accesses_in h.entries q) (accesses_inside weighted h c.log-invariant.ensures.range c.log-invariant.ensures.legal q)
     ∙ reads_are_within h q (λ x v. read_line D items x v (state h us x))))) in
     subst (λ l. OnOk c.push_lines.result (c.push_lines.new.out.items ≡ c.args.out.now.items ++ l)) lines c.push_lines.ensures

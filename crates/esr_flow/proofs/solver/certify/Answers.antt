@@ -7,7 +7,7 @@ use Rattle.esr_cert.specs.Certificate.{are_rows_matched}
 use Rattle.esr_cert.specs.Views.{rows_of, certificate_of}
 use Rattle.esr_cert.proofs.Sound.{facts}
 use Rattle.esr_flow.specs.Search.{is_marked}
-use Rattle.esr_flow.specs.Certificate.{positions}
+use Rattle.esr_flow.specs.Members.{members_below}
 use Rattle.esr_flow.proofs.CertificateLaws.{flow_length, costs_mapped, whole, Parts, least_set, certified}
 use Rattle.esr_flow.proofs.solver.certify.Goals as goal
 use Rattle.esr_flow.proofs.solver.certify.Goals.{After-drop-flow-2}
@@ -62,10 +62,10 @@ parts c =
       whole = whole (concat (rows_of c.in_ok-chain_flow.chain_flow.items)) c.in_ok-back_flow.back_flow.items c.in_ok-must_flow.must_flow.items flow k n xs bs ms;
     }
 
-members_are : (c : After-drop-flow-2) → c.in_ok-set.set.items ≡ positions (is_marked c.args.maximum.marks.items) (size c.args.problem.now)
+members_are : (c : After-drop-flow-2) → c.in_ok-set.set.items ≡ members_below (is_marked c.args.maximum.marks.items) (size c.args.problem.now)
 members_are c =
     let count : length c.updates.result.now ≡ size c.args.problem.now = sym (length-map c.updates.result.now (λ t. t.0)) ∙ ap length c.updates.ensures.list in
-    c.in_ok-set.ensures ∙ ap (λ ms. positions (is_marked ms) (length c.updates.result.now)) c.deref.ensures.value ∙ ap (positions (is_marked c.args.maximum.marks.items)) count
+    c.in_ok-set.ensures ∙ ap (λ ms. members_below (is_marked ms) (length c.updates.result.now)) c.deref.ensures.value ∙ ap (members_below (is_marked c.args.maximum.marks.items)) count
 
 pub returns-clause-certifies : goal.returns-clause-certifies
 returns-clause-certifies c =

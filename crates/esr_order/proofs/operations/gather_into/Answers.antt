@@ -15,12 +15,12 @@ use Rattle.esr_order.proofs.operations.gather_into.Goals as goal
 pub prepend_batch-requires-clause-linked : goal.prepend_batch-requires-clause-linked
 prepend_batch-requires-clause-linked g c =
     subst (λ l. All (λ (a : Access). a.item.0 < length c.loop-i.chains) l) (sym c.in_ok-accesses.ensures)
-    (accesses_inside g.M.Metric.distance_by c.args.history.now.schedule c.log-legal.ensures.legal _ (length c.loop-i.chains) c.loop-i.invariant.0)
+    (accesses_inside g.M.Metric.distance_by c.args.history.now.schedule c.log-invariant.ensures.legal _ (length c.loop-i.chains) c.loop-i.invariant.0)
 
 pub prepend_batch-requires-clause-read : goal.prepend_batch-requires-clause-read
 prepend_batch-requires-clause-read g c =
     subst (λ l. All (λ (a : Access). a.item.0 < length c.loop-i.readers) l) (sym c.in_ok-accesses.ensures)
-    (accesses_inside g.M.Metric.distance_by c.args.history.now.schedule c.log-legal.ensures.legal _ (length c.loop-i.readers) c.loop-i.invariant.1)
+    (accesses_inside g.M.Metric.distance_by c.args.history.now.schedule c.log-invariant.ensures.legal _ (length c.loop-i.readers) c.loop-i.invariant.1)
 
 pub loop-i-preserved : goal.loop-i-preserved
 loop-i-preserved g c =

@@ -9,5 +9,5 @@ use Rattle.esr_order.proofs.operations.prepend_batch.Given as goal
 abbrev pub invariant-loop-i : goal.invariant-loop-i
 invariant-loop-i l = (length l.chains ≡ length l.fn.chains) × (length l.readers ≡ length l.fn.readers)
     × ((steps : List UpdateOperation) → SummarizeLater (map chain_view l.fn.chains) (map (λ r. r.items) l.fn.readers) steps
-    → SummarizeLater (map chain_view l.chains) (map (λ r. r.items) l.readers) (map (operation_at l.update_index) (drop l.i l.accesses) ++ steps)
-    × (l.conflicts.items ≡ l.fn.conflicts.items ++ batch_conflicts (map (operation_at l.update_index) (drop l.i l.accesses)) steps))
+    → SummarizeLater (map chain_view l.chains) (map (λ r. r.items) l.readers) (map (operation_at l.position) (drop l.i l.accesses) ++ steps)
+    × (l.conflicts.items ≡ l.fn.conflicts.items ++ batch_conflicts (map (operation_at l.position) (drop l.i l.accesses)) steps))

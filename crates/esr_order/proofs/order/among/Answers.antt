@@ -11,7 +11,7 @@ pub returns-clause-sparse : goal.returns-clause-sparse
 returns-clause-sparse g c =
     let h = c.args.history.now.schedule in
     let pairs = c.in_ok-gathered.gathered.pairs.items in
-    bounded_pairs g.M.Metric.distance_by h c.log-legal.ensures.legal c.args.commits.items c.requires.once c.requires.keeps c.requires.within_max pairs
+    bounded_pairs g.M.Metric.distance_by h c.log-invariant.ensures.legal c.args.commits.items c.requires.once c.requires.keeps c.requires.within_max pairs
     (subst (λ commits. AreConflicts (batches (operations h) 0 (map (λ t. t.0) commits)) pairs) c.deref.ensures.value c.in_ok-gathered.ensures.conflicting)
 
 pub returns-clause-order : goal.returns-clause-order
@@ -19,7 +19,7 @@ returns-clause-order g c = λ q musts.
     let h = c.args.history.now.schedule in
     let pairs = c.in_ok-gathered.gathered.pairs.items in
     let same = c.deref.ensures.value in
-    made g.M.Metric.distance_by h c.log-legal.ensures.legal c.args.commits.items c.requires.once c.requires.keeps c.requires.within_max pairs c.in_ok-gathered.ensures.ascending (
+    made g.M.Metric.distance_by h c.log-invariant.ensures.legal c.args.commits.items c.requires.once c.requires.keeps c.requires.within_max pairs c.in_ok-gathered.ensures.ascending (
       subst (λ commits. AreConflicts (batches (operations h) 0 (map (λ t. t.0) commits)) pairs) same c.in_ok-gathered.ensures.conflicting,
       (λ x. subst (λ commits. AreNextPaired pairs (filter (λ s. s.writes) (on_item x (batches (operations h) 0 (map (λ t. t.0) commits))))) same (c.in_ok-gathered.ensures.next x)),
     )

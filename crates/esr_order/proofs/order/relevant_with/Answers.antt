@@ -21,7 +21,7 @@ relevant_of-requires-clause-updates g c =
     ∙ updates_are c.args.history.now.schedule c.args.q.0 c.args.committed.now c.requires.list c.in_ok-updates.updates.items c.in_ok-updates.ensures
 
 run : (g : Rattle.esr_order.proofs.order.relevant_with.Given.Over) (c : After-deref-3 g) → IsRelevantRun c.args.history.now.schedule c.args.q.0 c.in_ok-first.first c.in_ok-relevant.relevant.updates.items
-run g c = relevant_run g.M.Metric.distance_by c.args.history.now.schedule c.args.q.0 c.log-legal.ensures.legal c.in_ok-relevant.relevant.updates.items c.in_ok-relevant.ensures.relevant c.in_ok-first.first c.in_ok-first.ensures
+run g c = relevant_run g.M.Metric.distance_by c.args.history.now.schedule c.args.q.0 c.log-invariant.ensures.legal c.in_ok-relevant.relevant.updates.items c.in_ok-relevant.ensures.relevant c.in_ok-first.first c.in_ok-first.ensures
 
 pub among-requires-clause-once : goal.among-requires-clause-once
 among-requires-clause-once g c = (run g c).once
@@ -41,5 +41,5 @@ returns-clause-relevant g c = subst (λ ts. AreRelevant c.args.history.now.sched
 pub returns-clause-ok : goal.returns-clause-ok
 returns-clause-ok g c =
     let r : IsRelevantRun c.args.history.now.schedule c.args.q.0 c.in_ok-first.first c.in_ok-relevant.relevant.updates.items =
-    relevant_run g.M.Metric.distance_by c.args.history.now.schedule c.args.q.0 c.log-legal.ensures.legal c.in_ok-relevant.relevant.updates.items c.in_ok-relevant.ensures.relevant c.in_ok-first.first c.in_ok-first.ensures in
+    relevant_run g.M.Metric.distance_by c.args.history.now.schedule c.args.q.0 c.log-invariant.ensures.legal c.in_ok-relevant.relevant.updates.items c.in_ok-relevant.ensures.relevant c.in_ok-first.first c.in_ok-first.ensures in
     subst (λ ts. IsConflictOrderOn c.args.history.now.schedule c.args.q.0 (map (λ (t : TxnId). t.0) ts) c.in_ok-order.order) (sym c.in_ok-order.ensures.commits) (c.in_ok-order.ensures.order c.args.q.0 r.musts)

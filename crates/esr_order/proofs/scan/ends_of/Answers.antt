@@ -19,7 +19,7 @@ pub loop-facts-preserved : goal.loop-facts-preserved
 loop-facts-preserved g c =
     let es = c.args.history.now.schedule.entries in
     let some = sym c.in-Some.is ∙ c.facts.ensures in
-    let within : (1 ≤ c.loop-facts.t) × (c.loop-facts.t ≤ 65535) = known_below g.M.Metric.distance_by c.args.history.now.schedule c.log-legal.ensures.legal c.loop-facts.t c.in-Some.facts some in
+    let within : (1 ≤ c.loop-facts.t) × (c.loop-facts.t ≤ 65535) = known_below g.M.Metric.distance_by c.args.history.now.schedule c.log-invariant.ensures.legal c.loop-facts.t c.in-Some.facts some in
     record {
       low = omega arith;
       high = omega (arith, within.1);
@@ -28,12 +28,12 @@ loop-facts-preserved g c =
 
 pub loop-facts-smaller : goal.loop-facts-smaller
 loop-facts-smaller g c =
-    let within : (1 ≤ c.loop-facts.t) × (c.loop-facts.t ≤ 65535) = known_below g.M.Metric.distance_by c.args.history.now.schedule c.log-legal.ensures.legal c.loop-facts.t c.in-Some.facts (sym c.in-Some.is ∙ c.facts.ensures) in
+    let within : (1 ≤ c.loop-facts.t) × (c.loop-facts.t ≤ 65535) = known_below g.M.Metric.distance_by c.args.history.now.schedule c.log-invariant.ensures.legal c.loop-facts.t c.in-Some.facts (sym c.in-Some.is ∙ c.facts.ensures) in
     omega (arith, within.1)
 
 pub overflow_add-t : goal.overflow_add-t
 overflow_add-t g c =
-    let within : (1 ≤ c.loop-facts.t) × (c.loop-facts.t ≤ 65535) = known_below g.M.Metric.distance_by c.args.history.now.schedule c.log-legal.ensures.legal c.loop-facts.t c.in-Some.facts (sym c.in-Some.is ∙ c.facts.ensures) in
+    let within : (1 ≤ c.loop-facts.t) × (c.loop-facts.t ≤ 65535) = known_below g.M.Metric.distance_by c.args.history.now.schedule c.log-invariant.ensures.legal c.loop-facts.t c.in-Some.facts (sym c.in-Some.is ∙ c.facts.ensures) in
     omega (arith, within.1)
 
 pub returns-clause-rises : goal.returns-clause-rises

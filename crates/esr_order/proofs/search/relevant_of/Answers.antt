@@ -13,12 +13,12 @@ use Rattle.esr_order.proofs.search.relevant_of.Goals.{then-i-first-via-then-i-fi
 pub add-requires-clause-read : goal.add-requires-clause-read
 add-requires-clause-read g c =
     subst (λ l. All (λ (a : Access). a.item.0 < length c.loop-i.items.read.items) l) (sym c.in_ok-accesses.ensures)
-    (accesses_inside g.M.Metric.distance_by c.args.history.now.schedule c.log-legal.ensures.legal _ (length c.loop-i.items.read.items) c.loop-i.invariant.read_len)
+    (accesses_inside g.M.Metric.distance_by c.args.history.now.schedule c.log-invariant.ensures.legal _ (length c.loop-i.items.read.items) c.loop-i.invariant.read_len)
 
 pub add-requires-clause-written : goal.add-requires-clause-written
 add-requires-clause-written g c =
     subst (λ l. All (λ (a : Access). a.item.0 < length c.loop-i.items.written.items) l) (sym c.in_ok-accesses.ensures)
-    (accesses_inside g.M.Metric.distance_by c.args.history.now.schedule c.log-legal.ensures.legal _ (length c.loop-i.items.written.items) c.loop-i.invariant.written_len)
+    (accesses_inside g.M.Metric.distance_by c.args.history.now.schedule c.log-invariant.ensures.legal _ (length c.loop-i.items.written.items) c.loop-i.invariant.written_len)
 
 pub loop-i-preserved-in-loop-i : goal.loop-i-preserved-in-loop-i
 loop-i-preserved-in-loop-i g c =
@@ -26,7 +26,7 @@ loop-i-preserved-in-loop-i g c =
     let d = g.M.Metric.distance_by in
     let q = c.args.q.0 in
     let updates = c.args.updates.now in
-    let legal = c.log-legal.ensures.legal in
+    let legal = c.log-invariant.ensures.legal in
     let list = c.in_ok-accesses.accesses.now in
     let i = c.loop-i.i - 1 in
     let next : c.loop-i.i ≡ suc i = omega (arith, c.loop-i-test.true) in
@@ -48,7 +48,7 @@ loop-i-preserved g c =
     let d = g.M.Metric.distance_by in
     let q = c.args.q.0 in
     let updates = c.args.updates.now in
-    let legal = c.log-legal.ensures.legal in
+    let legal = c.log-invariant.ensures.legal in
     let i = c.loop-i.i - 1 in
     let here : i < length updates = omega (arith, c.loop-i-test.true, c.loop-i.auto.i) in
     let inside : i < length (updates_of h q) = omega (arith, here, commits_length d h q legal updates c.requires.updates) in

@@ -19,19 +19,19 @@ loop-i-init g c =
       read = c.in_ok-later.ensures.read_len ∙ c.items.ensures.items;
       written = c.in_ok-later.ensures.written_len ∙ c.items.ensures.items;
       closed = closed_start h q (length c.args.updates.now) c.args.marks.now (seen_later c.in_ok-later.later)
-          (omega (arith, commits_length g.M.Metric.distance_by h q c.log-legal.ensures.legal c.args.updates.now c.requires.updates))
+          (omega (arith, commits_length g.M.Metric.distance_by h q c.log-invariant.ensures.legal c.args.updates.now c.requires.updates))
           c.in_ok-later.ensures.read c.in_ok-later.ensures.written;
     }
 
 pub add_if-requires-clause-read : goal.add_if-requires-clause-read
 add_if-requires-clause-read g c =
     subst (λ l. All (λ (a : Access). a.item.0 < length c.loop-i.later.read.items) l) (sym c.in_ok-row.ensures)
-    (accesses_inside g.M.Metric.distance_by c.args.history.now.schedule c.log-legal.ensures.legal _ (length c.loop-i.later.read.items) c.loop-i.invariant.read)
+    (accesses_inside g.M.Metric.distance_by c.args.history.now.schedule c.log-invariant.ensures.legal _ (length c.loop-i.later.read.items) c.loop-i.invariant.read)
 
 pub add_if-requires-clause-written : goal.add_if-requires-clause-written
 add_if-requires-clause-written g c =
     subst (λ l. All (λ (a : Access). a.item.0 < length c.loop-i.later.written.items) l) (sym c.in_ok-row.ensures)
-    (accesses_inside g.M.Metric.distance_by c.args.history.now.schedule c.log-legal.ensures.legal _ (length c.loop-i.later.written.items) c.loop-i.invariant.written)
+    (accesses_inside g.M.Metric.distance_by c.args.history.now.schedule c.log-invariant.ensures.legal _ (length c.loop-i.later.written.items) c.loop-i.invariant.written)
 
 pub loop-i-preserved : goal.loop-i-preserved
 loop-i-preserved g c =
@@ -39,7 +39,7 @@ loop-i-preserved g c =
     let d = g.M.Metric.distance_by in
     let q = c.args.q.0 in
     let updates = c.args.updates.now in
-    let legal = c.log-legal.ensures.legal in
+    let legal = c.log-invariant.ensures.legal in
     let i = c.loop-i.i - 1 in
     let next : c.loop-i.i ≡ suc i = omega (arith, c.loop-i-test.true) in
     let here : i < length updates = omega (arith, c.loop-i-test.true, c.loop-i.auto.i) in
@@ -59,6 +59,6 @@ returns-clause-forced g c = λ n worth C forced S closed low. c.loop-i.invariant
 pub returns-clause-closed : goal.returns-clause-closed
 returns-clause-closed g c = λ firsts.
     let z : c.loop-i.i ≡ 0 = omega (arith, c.loop-i-test.false) in
-    closed_set g.M.Metric.distance_by c.args.history.now.schedule c.args.q.0 c.log-legal.ensures.legal c.loop-i.marks (length (must c.args.history.now.schedule c.args.q.0)) refl
+    closed_set g.M.Metric.distance_by c.args.history.now.schedule c.args.q.0 c.log-invariant.ensures.legal c.loop-i.marks (length (must c.args.history.now.schedule c.args.q.0)) refl
     (λ i l. c.loop-i.invariant.closed.stay i (firsts i l))
     (λ i j l m b t. c.loop-i.invariant.closed.down i j (omega (arith, z)) l m b t)

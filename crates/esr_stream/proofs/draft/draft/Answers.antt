@@ -8,9 +8,9 @@ use Rattle.esr_stream.proofs.draft.draft.Goals as goal
 pub push_row-requires-clause-row : goal.push_row-requires-clause-row
 push_row-requires-clause-row g c =
     subst (λ l. All (λ (a : Access). a.item.0 < length c.args.lists.now) l) (sym c.in_ok-row.ensures)
-    (accesses_inside g.M.Metric.distance_by c.args.history.now.schedule c.log-legal.ensures.legal _ (length c.args.lists.now) c.requires.items)
+    (accesses_inside g.M.Metric.distance_by c.args.history.now.schedule c.log-invariant.ensures.legal _ (length c.args.lists.now) c.requires.items)
 
 pub push_row-requires-clause-values : goal.push_row-requires-clause-values
 push_row-requires-clause-values g c =
     subst (λ l. All (λ (a : Access). IsValue a.value) l) (sym c.in_ok-row.ensures)
-    (accesses_valued g.M.Metric.distance_by c.args.history.now.schedule c.log-legal.ensures.range c.log-legal.ensures.legal _)
+    (accesses_valued g.M.Metric.distance_by c.args.history.now.schedule c.log-invariant.ensures.range c.log-invariant.ensures.legal _)

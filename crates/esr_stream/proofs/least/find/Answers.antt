@@ -8,21 +8,21 @@ use Rattle.esr_stream.proofs.least.find.Goals as goal
 
 pub draft-requires-clause-read : goal.draft-requires-clause-read
 draft-requires-clause-read g c =
-    are_read g.M.Metric.distance_by c.args.history.now.schedule c.args.q.0 c.log-legal.ensures.range c.log-legal.ensures.legal c.args.lists.now c.requires.items c.requires.lists c.requires.query
+    are_read g.M.Metric.distance_by c.args.history.now.schedule c.args.q.0 c.log-invariant.ensures.range c.log-invariant.ensures.legal c.args.lists.now c.requires.items c.requires.lists c.requires.query
 
 pub start-requires-clause-read : goal.start-requires-clause-read
 start-requires-clause-read g c =
-    are_read g.M.Metric.distance_by c.args.history.now.schedule c.args.q.0 c.log-legal.ensures.range c.log-legal.ensures.legal c.args.lists.now c.requires.items c.requires.lists c.requires.query
+    are_read g.M.Metric.distance_by c.args.history.now.schedule c.args.q.0 c.log-invariant.ensures.range c.log-invariant.ensures.legal c.args.lists.now c.requires.items c.requires.lists c.requires.query
 
 pub mark_least-requires-clause-read : goal.mark_least-requires-clause-read
 mark_least-requires-clause-read g c =
-    are_read g.M.Metric.distance_by c.args.history.now.schedule c.args.q.0 c.log-legal.ensures.range c.log-legal.ensures.legal c.args.lists.now c.requires.items c.requires.lists c.requires.query
+    are_read g.M.Metric.distance_by c.args.history.now.schedule c.args.q.0 c.log-invariant.ensures.range c.log-invariant.ensures.legal c.args.lists.now c.requires.items c.requires.lists c.requires.query
 
 pub mark_least-requires-clause-musts : goal.mark_least-requires-clause-musts
 mark_least-requires-clause-musts g c = λ i l.
     let h = c.args.history.now.schedule in
     let d = g.M.Metric.distance_by in
-    let legal = c.log-legal.ensures.legal in
+    let legal = c.log-invariant.ensures.legal in
     let inside : i < length c.args.updates.now = omega (arith, l, c.in_ok-first.ensures, must_below d h c.args.q.0 legal, commits_length d h c.args.q.0 legal c.args.updates.now c.requires.updates) in
     ap (λ ms. mark_at ms i) c.deref_mut.ensures.value
     ∙ c.in_ok-marks.ensures.marks i inside

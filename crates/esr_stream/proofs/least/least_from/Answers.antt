@@ -11,7 +11,7 @@ use Rattle.esr_stream.proofs.least.least_from.Goals as goal
 
 pub cost_of-requires-clause-read : goal.cost_of-requires-clause-read
 cost_of-requires-clause-read g c =
-    are_read g.M.Metric.distance_by c.args.history.now.schedule c.args.q.0 c.log-legal.ensures.range c.log-legal.ensures.legal c.args.lists.now c.requires.items c.requires.lists c.requires.query
+    are_read g.M.Metric.distance_by c.args.history.now.schedule c.args.q.0 c.log-invariant.ensures.range c.log-invariant.ensures.legal c.args.lists.now c.requires.items c.requires.lists c.requires.query
 
 pub returns : goal.returns
 returns g c =
@@ -32,7 +32,7 @@ returns g c =
     let equal : c.in-Some.cost ≡ c.args.worth = omega (arith, c.if-cost-worth.false) in
     let is : cost_by n C h q S ≡ c.args.worth = sym (c.in-Some.ensures ∙ ap (λ m. total m by_metric) c.requires.items ∙ same) ∙ equal in
     let found = law_of_set d h q n C (n * 17592186044416) c.args.worth marks
-    (costs_are d h q c.log-legal.ensures.range c.log-legal.ensures.legal lists c.requires.items c.requires.lists)
+    (costs_are d h q c.log-invariant.ensures.range c.log-invariant.ensures.legal lists c.requires.items c.requires.lists)
     c.requires.shown.bound c.requires.shown.forced c.requires.shown.closed is in
     let listed = law_of_listed_sets d h q S found.0 in
     let scaled : c.items-items.result * 17592186044416 ≡ n * 17592186044416 = ap (λ m. m * 17592186044416) c.items-items.ensures.items in

@@ -9,11 +9,11 @@ pub loop-round-init : goal.loop-round-init
 loop-round-init g c =
     let h = c.args.history.now.schedule in
     let d = g.M.Metric.distance_by in
-    let count = commits_length d h c.args.q.0 c.log-legal.ensures.legal c.args.updates.now c.requires.updates in
+    let count = commits_length d h c.args.q.0 c.log-invariant.ensures.legal c.args.updates.now c.requires.updates in
     record {
       len = refl;
       musts = c.requires.musts;
-      forced = first_forced d h c.args.q.0 c.log-legal.ensures.legal (length h.opening) (amounts_sum c.args.begin.now) (raised (g.M.Metric.distance_by h.weights) c.args.lists.now) c.args.first c.args.marks.now c.requires.first
+      forced = first_forced d h c.args.q.0 c.log-invariant.ensures.legal (length h.opening) (amounts_sum c.args.begin.now) (raised (g.M.Metric.distance_by h.weights) c.args.lists.now) c.args.first c.args.marks.now c.requires.first
           (λ i l. c.requires.only i (omega (arith, l, count, c.requires.marks)));
     }
 

@@ -24,19 +24,19 @@ one_number false t = refl
 pub write_if-requires-clause-items : goal.write_if-requires-clause-items
 write_if-requires-clause-items g c =
     subst (λ l. All (λ (a : Access). a.item.0 < length c.deref_mut.result.now) l) (sym c.in_ok-row.ensures)
-    (accesses_inside g.M.Metric.distance_by c.args.history.now.schedule c.log-legal.ensures.legal _ (length c.deref_mut.result.now) (ap length c.deref_mut.ensures.value ∙ c.loop-i.invariant.len))
+    (accesses_inside g.M.Metric.distance_by c.args.history.now.schedule c.log-invariant.ensures.legal _ (length c.deref_mut.result.now) (ap length c.deref_mut.ensures.value ∙ c.loop-i.invariant.len))
 
 pub write_if-requires-clause-range : goal.write_if-requires-clause-range
 write_if-requires-clause-range g c =
     subst (λ l. All (λ (a : Access). IsValue a.value) l) (sym c.in_ok-row.ensures)
-    (accesses_valued g.M.Metric.distance_by c.args.history.now.schedule c.log-legal.ensures.range c.log-legal.ensures.legal _)
+    (accesses_valued g.M.Metric.distance_by c.args.history.now.schedule c.log-invariant.ensures.range c.log-invariant.ensures.legal _)
 
 pub loop-i-init : goal.loop-i-init
 loop-i-init g c = record {
   len = ap (λ (l : List ℤ). length l) c.in_ok-values.ensures;
   txns = ap (map (λ (t : TxnId). t.0)) c.new-txns.ensures.items;
   values = λ x l. ap (λ vs. value_at vs x) c.in_ok-values.ensures;
-  range = subst (All IsValue) (sym c.in_ok-values.ensures) c.log-legal.ensures.range;
+  range = subst (All IsValue) (sym c.in_ok-values.ensures) c.log-invariant.ensures.range;
 }
 
 pub loop-i-preserved : goal.loop-i-preserved
@@ -46,7 +46,7 @@ loop-i-preserved g c =
     let q = c.args.q.0 in
     let updates = c.args.updates.now in
     let marks = c.args.marks.now in
-    let legal = c.log-legal.ensures.legal in
+    let legal = c.log-invariant.ensures.legal in
     let i = c.loop-i.i in
     let here : i < length updates = c.loop-i-test.true in
     let inside : i < length (updates_of h q) = omega (arith, here, commits_length d h q legal updates c.requires.updates) in
@@ -73,11 +73,11 @@ loop-i-preserved g c =
 pub returns-clause-txns : goal.returns-clause-txns
 returns-clause-txns g c =
     let h = c.args.history.now.schedule in
-    let count = commits_length g.M.Metric.distance_by h c.args.q.0 c.log-legal.ensures.legal c.args.updates.now c.requires.updates in
+    let count = commits_length g.M.Metric.distance_by h c.args.q.0 c.log-invariant.ensures.legal c.args.updates.now c.requires.updates in
     c.loop-i.invariant.txns ∙ ap (filter (among_marked (updates_of h c.args.q.0) c.args.marks.now)) (take_all c.loop-i.i (updates_of h c.args.q.0) (omega (arith, count)))
 
 pub returns-clause-values : goal.returns-clause-values
 returns-clause-values g c = λ x l.
     let h = c.args.history.now.schedule in
-    let count = commits_length g.M.Metric.distance_by h c.args.q.0 c.log-legal.ensures.legal c.args.updates.now c.requires.updates in
-    c.loop-i.invariant.values x l ∙ at_end g.M.Metric.distance_by h c.args.q.0 c.log-legal.ensures.legal c.args.marks.now c.loop-i.i x (omega (arith, count))
+    let count = commits_length g.M.Metric.distance_by h c.args.q.0 c.log-invariant.ensures.legal c.args.updates.now c.requires.updates in
+    c.loop-i.invariant.values x l ∙ at_end g.M.Metric.distance_by h c.args.q.0 c.log-invariant.ensures.legal c.args.marks.now c.loop-i.i x (omega (arith, count))

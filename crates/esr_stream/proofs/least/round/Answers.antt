@@ -11,7 +11,7 @@ pub pass-requires-clause-first : goal.pass-requires-clause-first
 pass-requires-clause-first g c =
     let h = c.args.history.now.schedule in
     let d = g.M.Metric.distance_by in
-    omega (arith, must_below d h c.args.q.0 c.log-legal.ensures.legal, commits_length d h c.args.q.0 c.log-legal.ensures.legal c.args.updates.now c.requires.updates, c.requires.first)
+    omega (arith, must_below d h c.args.q.0 c.log-invariant.ensures.legal, commits_length d h c.args.q.0 c.log-invariant.ensures.legal c.args.updates.now c.requires.updates, c.requires.first)
 
 pub pass-requires-clause-states : goal.pass-requires-clause-states
 pass-requires-clause-states g c =
@@ -22,7 +22,7 @@ returns-clause-shown g c = λ is forced.
     let h = c.args.history.now.schedule in
     let d = g.M.Metric.distance_by in
     let q = c.args.q.0 in
-    let legal = c.log-legal.ensures.legal in
+    let legal = c.log-invariant.ensures.legal in
     let n = length h.opening in
     let C = raised (g.M.Metric.distance_by h.weights) c.args.lists.now in
     let begin : List ItemState = c.args.begin.now in

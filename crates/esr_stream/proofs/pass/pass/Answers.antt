@@ -18,12 +18,12 @@ use Rattle.esr_stream.proofs.pass.pass.Goals as goal
 pub steps-keeps-requires-clause-row : goal.steps-keeps-requires-clause-row
 steps-keeps-requires-clause-row g c =
     subst (λ l. All (λ (a : Access). a.item.0 < length c.loop-i.states) l) (sym c.in_ok-row.ensures)
-    (accesses_inside g.M.Metric.distance_by c.args.history.now.schedule c.log-legal.ensures.legal _ (length c.loop-i.states) (c.loop-i.invariant.len ∙ c.requires.items))
+    (accesses_inside g.M.Metric.distance_by c.args.history.now.schedule c.log-invariant.ensures.legal _ (length c.loop-i.states) (c.loop-i.invariant.len ∙ c.requires.items))
 
 pub steps-keeps-requires-clause-values : goal.steps-keeps-requires-clause-values
 steps-keeps-requires-clause-values g c =
     subst (λ l. All (λ (a : Access). IsValue a.value) l) (sym c.in_ok-row.ensures)
-    (accesses_valued g.M.Metric.distance_by c.args.history.now.schedule c.log-legal.ensures.range c.log-legal.ensures.legal _)
+    (accesses_valued g.M.Metric.distance_by c.args.history.now.schedule c.log-invariant.ensures.range c.log-invariant.ensures.legal _)
 
 pub loop-i-preserved : goal.loop-i-preserved
 loop-i-preserved g c =
@@ -31,7 +31,7 @@ loop-i-preserved g c =
     let d = g.M.Metric.distance_by in
     let q = c.args.q.0 in
     let updates = c.args.updates.now in
-    let legal = c.log-legal.ensures.legal in
+    let legal = c.log-invariant.ensures.legal in
     let i = c.loop-i.i in
     let C = raised (g.M.Metric.distance_by c.args.history.now.schedule.weights) c.args.lists.now in
     let row = c.in_ok-row.row.now in

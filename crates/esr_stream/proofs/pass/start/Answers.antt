@@ -24,13 +24,13 @@ loop-i-init g c = record {
 pub fits-fit-requires-clause-row : goal.fits-fit-requires-clause-row
 fits-fit-requires-clause-row g c =
     subst (λ l. All (λ (a : Access). a.item.0 < length c.deref_mut.result.now) l) (sym c.in_ok-row.ensures)
-    (accesses_inside g.M.Metric.distance_by c.args.history.now.schedule c.log-legal.ensures.legal _ (length c.deref_mut.result.now)
+    (accesses_inside g.M.Metric.distance_by c.args.history.now.schedule c.log-invariant.ensures.legal _ (length c.deref_mut.result.now)
     (ap (λ (items : List ItemState). length items) c.deref_mut.ensures.value ∙ c.loop-i.invariant.len ∙ c.requires.items))
 
 pub fits-fit-requires-clause-values : goal.fits-fit-requires-clause-values
 fits-fit-requires-clause-values g c =
     subst (λ l. All (λ (a : Access). IsValue a.value) l) (sym c.in_ok-row.ensures)
-    (accesses_valued g.M.Metric.distance_by c.args.history.now.schedule c.log-legal.ensures.range c.log-legal.ensures.legal _)
+    (accesses_valued g.M.Metric.distance_by c.args.history.now.schedule c.log-invariant.ensures.range c.log-invariant.ensures.legal _)
 
 pub loop-i-preserved : goal.loop-i-preserved
 loop-i-preserved g c =
@@ -38,7 +38,7 @@ loop-i-preserved g c =
     let d = g.M.Metric.distance_by in
     let q = c.args.q.0 in
     let updates = c.args.updates.now in
-    let legal = c.log-legal.ensures.legal in
+    let legal = c.log-invariant.ensures.legal in
     let i = c.loop-i.i in
     let lists = c.args.lists.now in
     let C = raised (g.M.Metric.distance_by h.weights) lists in

@@ -9,13 +9,13 @@ use Rattle.esr_tables.proofs.exports.exports.Goals as goal
 
 pub replayed_exports-requires : goal.replayed_exports-requires
 replayed_exports-requires c =
-    let upper_bound : begun_count c.args.history.now.schedule.entries ≤ 65535 = legal_begins weighted c.args.history.now.schedule c.log-legal.ensures.legal in
+    let upper_bound : begun_count c.args.history.now.schedule.entries ≤ 65535 = legal_begins weighted c.args.history.now.schedule c.log-invariant.ensures.legal in
     omega (arith, upper_bound, c.begun_count.ensures, c.saturating_add-count.ensures)
 
 pub returns-then-imports_nothing : goal.returns-then-imports_nothing
 returns-then-imports_nothing c =
     let h = c.args.history.now.schedule in
-    let upper_bound : begun_count h.entries ≤ 65535 = legal_begins weighted h c.log-legal.ensures.legal in
+    let upper_bound : begun_count h.entries ≤ 65535 = legal_begins weighted h c.log-invariant.ensures.legal in
     let count : c.saturating_add-count.result ≡ begun_count h.entries + 1 = omega (arith, upper_bound, c.begun_count.ensures, c.saturating_add-count.ensures) in
     c.in_ok-exports.ensures
     ∙ (none_exported h c.saturating_add-count.result (c.imports_nothing.ensures c.if-imports_nothing.true)
@@ -24,6 +24,6 @@ returns-then-imports_nothing c =
 pub returns : goal.returns
 returns c =
     let h = c.args.history.now.schedule in
-    let upper_bound : begun_count h.entries ≤ 65535 = legal_begins weighted h c.log-legal.ensures.legal in
+    let upper_bound : begun_count h.entries ≤ 65535 = legal_begins weighted h c.log-invariant.ensures.legal in
     let count : c.saturating_add-count.result ≡ begun_count h.entries + 1 = omega (arith, upper_bound, c.begun_count.ensures, c.saturating_add-count.ensures) in
     subst (λ n. IfOk c.replayed_exports.result (λ v. v.items ≡ map (export_in (charges_in weighted h)) (range_with_len 0 n))) count c.replayed_exports.ensures

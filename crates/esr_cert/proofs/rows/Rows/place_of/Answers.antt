@@ -2,7 +2,7 @@ use Rattle.std.proofs.Common.{rules, ltb, ◌≡◌, ◌+◌, ◌<◌, ◌∙◌
 use Rattle.std.specs.List.Sorted.{IsNonDecreasingBy}
 use Rattle.std.proofs.lemmas.List.{get_or_read}
 use Rattle.std.proofs.lemmas.List.Sorted.{IsPartitionedBy-ltb, IsPartitionPoint-from_clause}
-use Rattle.esr_cert.specs.Steps.{order_of, step_at}
+use Rattle.esr_cert.specs.Steps.{rank_of, step_at}
 use Rattle.esr_cert.specs.Rows.{row_in, span_at, Span}
 use Rattle.esr_cert.proofs.IsLaidOut.{found_place}
 use Rattle.esr_cert.proofs.rows.Rows.place_of.Goals as goal
@@ -11,9 +11,9 @@ found : (c : goal.After-partition_point) → (c.index.result.now.begin + c.parti
 found c =
     let span : c.index.result.now ≡ span_at c.args.self.now.spans.items c.args.v = get_or_read c.args.self.now.spans.items c.args.v c.index.result.now c.requires.node c.index.ensures (record { begin = 0; end = 0 }) in
     let row : c.row-row.result.now ≡ row_in c.args.self.now.steps.items (span_at c.args.self.now.spans.items c.args.v) = c.row-row.ensures ∙ ap (λ list. row_in list (span_at c.args.self.now.spans.items c.args.v)) c.deref.ensures.value in
-    let rise : IsNonDecreasingBy order_of c.row-row.result.now = subst (IsNonDecreasingBy order_of) (sym row) c.requires.ascending in
+    let rise : IsNonDecreasingBy rank_of c.row-row.result.now = subst (IsNonDecreasingBy rank_of) (sym row) c.requires.ascending in
     let at = found_place c.args.self.now.steps.items c.row-row.result.now (span_at c.args.self.now.spans.items c.args.v) c.args.step c.partition_point.result row c.requires.inside c.requires.ascending c.requires.starts
-    (IsPartitionPoint-from_clause (λ t. ltb (order_of t) (order_of c.args.step)) _ _ c.partition_point.ensures.partitioned (IsPartitionedBy-ltb order_of c.row-row.result.now (order_of c.args.step) rise) (λ a r f' called. search rules)) in
+    (IsPartitionPoint-from_clause (λ t. ltb (rank_of t) (rank_of c.args.step)) _ _ c.partition_point.ensures.partitioned (IsPartitionedBy-ltb rank_of c.row-row.result.now (rank_of c.args.step) rise) (λ a r f' called. search rules)) in
     subst (λ (s : Span). (s.begin + c.partition_point.result < length c.args.self.now.steps.items) × (step_at c.args.self.now.steps.items (s.begin + c.partition_point.result) ≡ c.args.step)) (sym span) at
 
 pub returns-clause-inside : goal.returns-clause-inside

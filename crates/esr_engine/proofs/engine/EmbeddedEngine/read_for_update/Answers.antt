@@ -17,7 +17,7 @@ held : (c : After-step) → Finished c.args.self.now c.args.t c.args.x c.step.re
 held c =
     let h = c.args.self.now in
     let steps = held_steps h c.args.t c.args.x (sym c.has_lock.ensures ∙ c.if-has_lock.true) in
-    finish h (legal_orderly weighted h (subst (IsLegal weighted) c.self.view_is c.log-legal.ensures.legal)) c.args.t c.args.x c.step.result c.step.new.self h c.step.ensures.reply c.step.ensures.added steps.0 steps.1
+    finish h (legal_orderly weighted h (subst (IsLegal weighted) c.self.view_is c.log-invariant.ensures.legal)) c.args.t c.args.x c.step.result c.step.new.self h c.step.ensures.reply c.step.ensures.added steps.0 steps.1
 
 pub returns-then-has_lock-clause-reply : goal.returns-then-has_lock-clause-reply
 returns-then-has_lock-clause-reply c = (held (goal.at.returns-then-has_lock-clause-reply c).After-step).reply
@@ -44,7 +44,7 @@ locks c =
     let t = c.args.t in
     let x = c.args.x in
     let steps = taken_steps h t x (sym c.has_lock.ensures ∙ c.if-has_lock.false) (wrote c) in
-    finish h (legal_orderly weighted h (subst (IsLegal weighted) c.self.view_is c.log-legal.ensures.legal)) t x c.step-in-Ok-Wrote.result c.step-in-Ok-Wrote.new.self (extended h (lock_event h t x) Wrote)
+    finish h (legal_orderly weighted h (subst (IsLegal weighted) c.self.view_is c.log-invariant.ensures.legal)) t x c.step-in-Ok-Wrote.result c.step-in-Ok-Wrote.new.self (extended h (lock_event h t x) Wrote)
     (subst (λ (g : Schedule). IfOk c.step-in-Ok-Wrote.result (λ a. a ≡ reply_to weighted g (Read t x))) (left c) c.step-in-Ok-Wrote.ensures.reply)
     (subst (λ (g : Schedule). IfOk c.step-in-Ok-Wrote.result (λ a. c.step-in-Ok-Wrote.new.self ≡ extended g (Read t x) a)) (left c) c.step-in-Ok-Wrote.ensures.added)
     steps.1 steps.2
@@ -56,7 +56,7 @@ has_capacity c =
     let upper_bound : taken h + 2 ≤ 1000000 = omega (arith, c.demand.ensures.taken, c.if-demand-gt-MAX_ENTRIES.false) in (
       not_lt (taken h + 2) upper_bound,
       subst (λ (g : Schedule). is_full g (Read c.args.t c.args.x) ≡ false) (sym (left c))
-          (pair_capacity weighted h (legal_orderly weighted h (subst (IsLegal weighted) c.self.view_is c.log-legal.ensures.legal)) c.args.t c.args.x _ upper_bound (wrote c)),
+          (pair_capacity weighted h (legal_orderly weighted h (subst (IsLegal weighted) c.self.view_is c.log-invariant.ensures.legal)) c.args.t c.args.x _ upper_bound (wrote c)),
     )
   where
     not_lt : (n : ℕ) → n ≤ 1000000 → nat_lt 1000000 n ≡ false

@@ -16,11 +16,11 @@ added c = search rules
 
 pub active_after-self-inside-requires-clause-some : goal.active_after-self-inside-requires-clause-some
 active_after-self-inside-requires-clause-some c =
-    some_active c.self.inside.machine c.log-legal.ensures.legal (Write c.args.t c.args.x c.args.v) c.in-Ok.reply (replied c) c.self.inside.active c.self.invariant.3
+    some_active c.self.inside.machine c.log-invariant.ensures.legal (Write c.args.t c.args.x c.args.v) c.in-Ok.reply (replied c) c.self.inside.active c.self.invariant.3
 
 pub invariant_of-self : goal.invariant_of-self
 invariant_of-self c =
     let free : is_full c.self.inside.machine (Write c.args.t c.args.x c.args.v) ≡ false = subst (λ (g : Schedule). is_full g (Write c.args.t c.args.x c.args.v) ≡ false) (sym c.self.view_is) (sym c.is_full.ensures ∙ c.if-is_full.false) in
     let ok = (goal.at.invariant_of-self c).In-Ok in
-    stepped c.self.inside.machine c.log-legal.ensures.legal (Write c.args.t c.args.x c.args.v) c.in-Ok.reply (replied ok) free _ c.self.inside.active c.self.inside.index c.self.invariant
+    stepped c.self.inside.machine c.log-invariant.ensures.legal (Write c.args.t c.args.x c.args.v) c.in-Ok.reply (replied ok) free _ c.self.inside.active c.self.inside.index c.self.invariant
     c.write.new.self (added ok) c.active_after-self-inside.result c.active_after-self-inside.ensures

@@ -9,7 +9,7 @@ use Rattle.esr_order.proofs.search.Items.is_problem.Goals as goal
 pub mark-requires : goal.mark-requires
 mark-requires g c = record {
   items = subst (λ l. All (λ (a : Access). a.item.0 < length c.deref_mut.result.now) l) (sym (c.deref.ensures.value ∙ c.in_ok-accesses.ensures))
-      (accesses_inside g.M.Metric.distance_by c.args.history.now.schedule c.log-legal.ensures.legal c.args.q.0 (length c.deref_mut.result.now) (ap length c.deref_mut.ensures.value ∙ (sym c.in_ok-read.read.ok.0 ∙ (c.in_ok-read.ensures.len ∙ c.items.ensures.items))));
+      (accesses_inside g.M.Metric.distance_by c.args.history.now.schedule c.log-invariant.ensures.legal c.args.q.0 (length c.deref_mut.result.now) (ap length c.deref_mut.ensures.value ∙ (sym c.in_ok-read.read.ok.0 ∙ (c.in_ok-read.ensures.len ∙ c.items.ensures.items))));
 }
 
 nothing_marked : (n x : ℕ) → marked (replicate n false) x ≡ false
