@@ -12,7 +12,7 @@ ghost use Rattle.esr_cert.specs.Certificate.{amounts, are_rows_matched, is_count
 ghost use Rattle.esr_cert.specs.Views.{chain_of, rows_of, certificate_of};
 ghost use Rattle.esr_flow.specs.Augmentation.{IsReach, AugmentsFromZero};
 ghost use Rattle.esr_flow.specs.Search.{is_marked};
-ghost use Rattle.esr_flow.specs.Members.{positions};
+ghost use Rattle.esr_flow.specs.Members.{members_below};
 
 use crate::maximum::{DraftOutcome, MaximumFlow, find_maximum, find_swiftly};
 use crate::network::Network;
@@ -24,7 +24,7 @@ use std::alloc::{AllocError, Global};
 fn members(alloc: Global, marks: &[bool], count: usize) -> Result<Vec<u32>, AllocError>
     requires spare_capacity { count ≤ length marks.now }
     requires within_max { count ≤ MAX_TRANSACTIONS }
-    ensures { IfOk result (λ set. set.items ≡ positions (is_marked marks.now) count) }
+    ensures { IfOk result (λ set. set.items ≡ members_below (is_marked marks.now) count) }
 {
     let mut set = Vec::new(alloc);
     for v in 0..count {

@@ -48,7 +48,7 @@ loop-at-preserved-then-i-row c =
     let ends : finish arcs s ≡ c.loop-at.at = opposite_finish arcs t ∙ at.starts in
     let begins : start arcs s ≡ e.to = opposite_start arcs t ∙ sym at.leads in
     let down : label_at labels (finish arcs s) < label_at labels (start arcs s) = omega (arith, c.next_back-i.ensures.up c.if-i-row.true, ap (label_at labels) ends, ap (label_at labels) begins) in
-    let pushed : c.push.new.self.items ≡ c.loop-at.path.items ++ s ∷ [] = c.in_ok-push.ensures.items ∙ ap (λ t. c.loop-at.path.items ++ t ∷ []) c.opposite.ensures ∙ ap (λ t. c.loop-at.path.items ++ opposite t ∷ []) (c.step.ensures ∙ get_or_read c.steps_at-steps.result.now c.next_back-i.result c.index-steps-i.result (omega (arith, row.count, c.if-i-row.true)) c.index-steps-i.is (Forward 0)) in (
+    let pushed : c.push.new.self.items ≡ c.loop-at.path.items ++ s ∷ [] = c.in_ok-push.ensures.items ∙ ap (λ t. c.loop-at.path.items ++ t ∷ []) c.opposite.ensures ∙ ap (λ t. c.loop-at.path.items ++ opposite t ∷ []) (c.unpack.ensures ∙ get_or_read c.steps_at-steps.result.now c.next_back-i.result c.index-steps-i.result (omega (arith, row.count, c.if-i-row.true)) c.index-steps-i.is (Forward 0)) in (
       subst (Walk net flow labels c.push.new.self.items) (begins ∙ ap (λ (x : AdjacencyEntry). x.to) (sym read))
           (subst (λ p. Walk net flow labels p (start arcs s)) (sym pushed)
           (walk_push net c.args.graph.now.kept.is_network flow labels c.loop-at.path.items c.loop-at.at s c.loop-at.invariant.0 ends (in_arcs, has_capacity) down)),

@@ -30,7 +30,7 @@ returns-then-node-graph c =
     let r : e.ahead ≡ true = c.if-entry.true in
     let m : is_marked c.loop-i.marks.items e.to ≡ false = cc (c.index-in-loop-i.ensures, c.if-not-index.true) in
     let vs : c.push.new.self.items ≡ c.loop-i.visits.items ++ visit_of (step_at c.args.steps.now c.loop-i.i) e (c.index.result.now.level + 1) c.args.head ∷ [] =
-    c.in_ok-push.ensures.items ∙ ap (λ s. c.loop-i.visits.items ++ visit_of s e (c.index.result.now.level + 1) c.args.head ∷ []) (c.step.ensures ∙ get_or_read c.args.steps.now c.loop-i.i c.index-steps-i.result (omega (arith, c.requires.row.count, c.loop-i-test.true)) c.index-steps-i.is (Forward 0)) in
+    c.in_ok-push.ensures.items ∙ ap (λ s. c.loop-i.visits.items ++ visit_of s e (c.index.result.now.level + 1) c.args.head ∷ []) (c.unpack.ensures ∙ get_or_read c.args.steps.now c.loop-i.i c.index-steps-i.result (omega (arith, c.requires.row.count, c.loop-i-test.true)) c.index-steps-i.is (Forward 0)) in
     subst (FoundSink (network_of c.args.graph.now) c.args._flow.now) (sym vs)
     (scan_found (network_of c.args.graph.now) c.args.graph.now.kept.is_network c.args._flow.now c.args.steps.now c.args.row.now c.loop-i.visits.items c.loop-i.marks.items c.args.head (c.index.result.now.level + 1) c.loop-i.i e c.loop-i.invariant c.loop-i-test.true (entry_read c.args.row.now c.loop-i.i c.entry-entry.result c.index-row-i.result c.loop-i-test.true c.entry-entry.ensures c.index-row-i.is) r m c.if-node-graph.true)
 
@@ -42,7 +42,7 @@ loop-i-preserved c =
       | then-not-index+then-entry+in_ok-push+else-node-graph w ↦
           let r : e.ahead ≡ true = w.if-entry.true in
           let m : is_marked c.loop-i.marks.items e.to ≡ false = cc (c.index-in-loop-i.ensures, w.if-not-index.true) in
-          let vs : c.if-not-index.visits.items ≡ c.loop-i.visits.items ++ visit_of (step_at c.args.steps.now c.loop-i.i) e level c.args.head ∷ [] = ap (λ v. v.items) w.visits-is ∙ w.in_ok-push.ensures.items ∙ ap (λ s. c.loop-i.visits.items ++ visit_of s e level c.args.head ∷ []) (w.step.ensures ∙ get_or_read c.args.steps.now c.loop-i.i w.index-steps-i.result (omega (arith, c.requires.row.count, c.loop-i-test.true)) w.index-steps-i.is (Forward 0)) in
+          let vs : c.if-not-index.visits.items ≡ c.loop-i.visits.items ++ visit_of (step_at c.args.steps.now c.loop-i.i) e level c.args.head ∷ [] = ap (λ v. v.items) w.visits-is ∙ w.in_ok-push.ensures.items ∙ ap (λ s. c.loop-i.visits.items ++ visit_of s e level c.args.head ∷ []) (w.unpack.ensures ∙ get_or_read c.args.steps.now c.loop-i.i w.index-steps-i.result (omega (arith, c.requires.row.count, c.loop-i-test.true)) w.index-steps-i.is (Forward 0)) in
           let ms : c.if-not-index.marks.items ≡ set c.loop-i.marks.items e.to true = ap (λ v. v.items) w.marks-is in
           subst (λ vis. Scanning (network_of c.args.graph.now) c.args._flow.now c.args.steps.now c.args.row.now vis c.if-not-index.marks.items c.args.head level (c.loop-i.i + 1)) (sym vs)
           (subst (λ mar. Scanning (network_of c.args.graph.now) c.args._flow.now c.args.steps.now c.args.row.now (c.loop-i.visits.items ++ visit_of (step_at c.args.steps.now c.loop-i.i) e level c.args.head ∷ []) mar c.args.head level (c.loop-i.i + 1)) (sym ms)
