@@ -139,11 +139,21 @@ fn reach(x: u32, widths: Widths) -> u32 {
     }
 }
 
-/// Returns the width that the lanes, the text at the line and the name of the query need.
+/// Returns half the width of the name of the query, which is below the line.
+fn half_name(query: &str) -> u32 {
+    width_of(query.len()) / 2
+}
+
+/// Returns the width that the lanes, the text at the line and the name of the query need. The name does not make a
+/// picture wider than [`WIDEST`]: if there is no space for half of it to the right of the line, it is shifted to the
+/// left.
 fn needed_width(scene: &Scene<'_>, slots: &Slots, widths: Widths) -> u32 {
     let x = slots.x(scene.line);
-    let name = width_of(scene.query.len()) / 2;
-    let at_line = reach(x, widths).max(name).saturating_add(30);
+    let at_line = x.saturating_add(reach(x, widths)).saturating_add(30);
+    let name = x
+        .saturating_add(half_name(scene.query))
+        .saturating_add(30)
+        .min(WIDEST);
     let strays = slots
         .x(0)
         .saturating_add(BEFORE_STRAY)
@@ -152,7 +162,8 @@ fn needed_width(scene: &Scene<'_>, slots: &Slots, widths: Widths) -> u32 {
         .end()
         .max(strays)
         .saturating_add(EDGE)
-        .max(x.saturating_add(at_line))
+        .max(at_line)
+        .max(name)
         .max(NARROWEST)
 }
 
@@ -203,6 +214,14 @@ impl Frame {
     /// Returns where lanes end.
     pub fn end(&self) -> u32 {
         self.slots.end()
+    }
+
+    /// Returns the middle of the name of the query: at the line, or to its left if the name would be past the edge.
+    pub fn name_x(&self, query: &str, line: u8) -> u32 {
+        let last = self
+            .width
+            .saturating_sub(EDGE.saturating_add(half_name(query)));
+        self.x(line).min(last)
     }
 
     /// Returns the height of the lines of the heading.

@@ -326,7 +326,8 @@ fn push_line(out: &mut String, scene: &Scene<'_>, frame: &Frame) -> Result<(), A
         out,
         "<path class='l' d='M{x} {top}V{floor}'><title>the nearest placement of {query}</title></path>\n"
     )?;
-    open_centred(out, "m n", x, floor.saturating_add(16))?;
+    let middle = frame.name_x(query, scene.line);
+    open_centred(out, "m n", middle, floor.saturating_add(16))?;
     close_text(out, query)?;
     out.push_str("\n")
 }
