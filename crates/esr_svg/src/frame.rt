@@ -28,6 +28,9 @@ const ONE_STRAY_LINE: u32 = 24;
 
 const TWO_STRAY_LINES: u32 = 40;
 
+/// What a line with the weight of an item adds.
+const WEIGHT_LINE: u32 = 16;
+
 /// From the start of a lane to the text on a value that is not a version.
 pub const BEFORE_STRAY: u32 = 38;
 
@@ -52,6 +55,8 @@ pub struct Frame {
     /// The width of the text in front of a lane.
     pub label_width: u32,
     pub strays: StrayLines,
+    /// Whether an item has a weight.
+    has_weights: bool,
     /// The height of the arrows that go over boxes.
     arches: u32,
     lanes: u8,
@@ -196,6 +201,7 @@ impl Frame {
             box_width: box_width(&scene.updates),
             label_width: left_of(&scene.lanes).saturating_sub(40),
             strays: stray_lines(&slots, widths, width),
+            has_weights: scene.lanes.iter().any(|lane| lane.weight > 1),
             arches: arches(&scene.arrows, scene.line),
             lanes: scene.lanes.len().min(MAX_LANES) as u8,
             keys: count_rows(scene, width),
@@ -244,11 +250,13 @@ impl Frame {
 
     /// Returns the distance from lane to lane.
     fn pitch(&self) -> u32 {
-        LANE.saturating_add(match self.strays {
+        let strays = match self.strays {
             StrayLines::None => 0,
             StrayLines::One => ONE_STRAY_LINE,
             StrayLines::Two => TWO_STRAY_LINES,
-        })
+        };
+        let weights = if self.has_weights { WEIGHT_LINE } else { 0 };
+        LANE.saturating_add(strays).saturating_add(weights)
     }
 
     /// Returns the middle of a lane.
