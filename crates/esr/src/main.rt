@@ -24,7 +24,7 @@ use esr_explore::{ExploreFault, Measure, Search, explore};
 use esr_history::Watched;
 use esr_lint::{KeptLine, Notes, Source};
 use esr_page::{Origin, Page};
-use esr_picture::{Drawing, NotedDrawing};
+use esr_picture::{PictureView, PictureWithErrors};
 use esr_prose::{Passage, Prose};
 use esr_script::{AuditedScript, TeeReader};
 use esr_shrink::{Progress as SearchProgress, Shrink};
@@ -221,7 +221,7 @@ fn do_task<
         },
         Task::Picture { name } => {
             let notes = &Notes::new(rt.alloc());
-            let query_view = &NotedDrawing { notes };
+            let query_view = &PictureWithErrors { notes };
             show_noted_query(rt, console, job, source, input, name, query_view, notes)
         }
         Task::Timeline { name } => {
@@ -443,7 +443,7 @@ fn show_page_of<'a, R: Print + Eprint + AllocGlobal + Clock, I: Read + Drop>(
     let page = Page {
         worst,
         timeline: &TimelinePart,
-        picture: &Drawing,
+        picture: &PictureView,
         words: &Passage,
         origin,
     };

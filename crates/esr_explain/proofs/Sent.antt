@@ -7,7 +7,7 @@ use Rattle.esr_views.specs.declared.query.AuditedQuery.{AuditedQuery}
 use Rattle.esr_views.specs.QueryAnswers.{IsAnswered}
 use Rattle.esr_views.specs.State.{ScriptState, transaction_called}
 use Rattle.esr_explain.specs.Explain.{explanation}
-use Rattle.esr_explain.specs.Written.{explained}
+use Rattle.esr_explain.specs.Output.{explained}
 use Rattle.std.proofs.lemmas.Grind.{common_steps}
 
 -- the parts of an explanation, one after another

@@ -2,4 +2,4 @@
 
 pub mod Accesses
 pub mod Explain
-pub mod Written
+pub mod Output

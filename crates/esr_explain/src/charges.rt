@@ -32,7 +32,7 @@ pub struct Meeting {
     pub item: ItemId,
 }
 
-/// The charge to a query by an entry of the history, and the rest of its own limit and of the update's after it.
+/// The charge to a query by an entry of the history, and the remaining limits of the query and the update after it.
 #[derive(Clone, Copy)]
 pub struct Charge {
     pub amount: u64,

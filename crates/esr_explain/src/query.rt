@@ -1,7 +1,7 @@
 //! The view that explains a query.
 
 ghost use Rattle.std.specs.Prelude.{◌≡◌};
-ghost use Rattle.esr_explain.specs.Written.{explained};
+ghost use Rattle.esr_explain.specs.Output.{explained};
 
 use crate::text::explanation;
 use esr_views::{AuditedQuery, QueryView};

@@ -1,7 +1,7 @@
-//! What audits find of the committed queries, one after another. Of each the distance is kept; of those that were
-//! farthest off so far the finding without its flow, which is what picture and prose read, so that it is not made twice.
-//! Where the problems of these have many updates together, the last of them go again, so that a page takes little more
-//! memory than one audit: what is told of such a query is found once more.
+//! Audits the committed queries one after another. Keeps the distance of each, and of the queries with the greatest
+//! distances so far the finding without its flow, which picture and prose need. If the problems of these findings have
+//! too many updates together, the last findings are dropped and recomputed later, so that a page needs little more
+//! memory than one audit.
 
 ghost use Rattle.std.specs.Prelude.{◌≡◌, map};
 ghost use Rattle.esr_history.specs.Machine.{accepted_in};
@@ -18,7 +18,7 @@ use std::alloc::{AllocError, Global};
 /// So many updates the problems that are kept have together at most.
 const MAX_UPDATES: usize = 250_000;
 
-/// How far a committed query was off, and by how much the sum of its reads was.
+/// The distance of a committed query, and the error of the sum of its reads.
 #[derive(Clone, Copy)]
 pub struct AuditedDistance {
     pub query: TxnId,
@@ -31,12 +31,11 @@ pub struct AuditedDistance {
 pub struct Audits {
     pub order: Vec<TxnId>,
     pub found: Vec<AuditedDistance>,
-    /// What was found of the queries that were farthest off, the farthest first.
+    /// The findings of the queries with the greatest distances, in descending order.
     farthest: Vec<Finding>,
 }
 
-/// Where a query stands among those that were farthest off: less for one that was farther off, and of two that were off
-/// alike for the one that was charged more.
+/// Returns the sort key of a query in the order by descending distance, then by descending charges.
 pub fn rank(distance: u64, charged: u64, query: TxnId) -> (u64, u64, u32) {
     let far = u64::MAX.saturating_sub(distance);
     let dear = u64::MAX.saturating_sub(charged);
@@ -48,7 +47,7 @@ fn rank_of(finding: &Finding) -> (u64, u64, u32) {
     rank(finding.distance, finding.import, finding.query)
 }
 
-/// How many of these findings, from the first, are kept, if at most so many are.
+/// Returns how many of these findings, from the first, are kept, at most `count`.
 fn count_kept(findings: &[Finding], count: usize) -> usize {
     let mut updates = 0usize;
     let mut kept = 0usize;
@@ -77,7 +76,7 @@ impl Audits {
         }
     }
 
-    /// How many of the findings that are kept come before one that is not among them.
+    /// Returns the number of kept findings that precede a finding that is not among them.
     fn place_of(&self, finding: &Finding) -> usize {
         let rank = rank_of(finding);
         let mut place = 0usize;
@@ -90,7 +89,7 @@ impl Audits {
         place
     }
 
-    /// Keeps a finding at its place, and so many of all.
+    /// Inserts a finding at its place, and keeps at most `count` findings.
     fn insert(
         &mut self,
         alloc: Global,
@@ -122,7 +121,7 @@ impl Audits {
         Ok(())
     }
 
-    /// Audits a query, notes what is found of it, and keeps it, if it is among so many that were farthest off.
+    /// Audits a query, records its distance, and keeps the finding if it is among the `count` greatest distances.
     fn audit(
         &mut self,
         alloc: Global,
@@ -143,13 +142,13 @@ impl Audits {
         }
     }
 
-    /// What was found of a query, if that was kept.
+    /// Returns the finding of a query, if it was kept.
     pub fn finding_of(&self, query: TxnId) -> Option<&Finding> {
         self.farthest.iter().find(|finding| finding.query == query)
     }
 }
 
-/// What the audit finds of a committed query.
+/// Returns the finding of a committed query.
 fn finding_in(
     alloc: Global,
     history: &History<Weighted>,
@@ -164,7 +163,8 @@ fn finding_in(
     }
 }
 
-/// The audits of a history, with the findings of up to so many queries that were farthest off.
+/// Audits all committed queries of a history, and keeps the findings of up to `count` queries with the greatest
+/// distances.
 pub fn audit_all(
     alloc: Global,
     history: &History<Weighted>,

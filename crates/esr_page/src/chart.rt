@@ -19,7 +19,7 @@ const MAX_COLUMNS: usize = 1000;
 /// The chart ends at this multiple of the amount of all but the largest queries.
 const FARTHEST: u64 = 5;
 
-/// What the columns of a chart show.
+/// The quantity that a chart shows.
 #[derive(Clone, Copy, PartialEq, Eq)]
 enum Measure {
     Distance,
@@ -62,7 +62,7 @@ fn push_bar(out: &mut String, class: &str, amount: u64, top: u64) -> Result<(), 
     )
 }
 
-/// The mark of a limit, where it is not above the chart.
+/// Appends the mark of a limit, unless it is above the chart.
 fn push_limit(out: &mut String, limit: u64, top: u64) -> Result<(), AllocError> {
     if limit > top {
         return Ok(());
@@ -72,7 +72,7 @@ fn push_limit(out: &mut String, limit: u64, top: u64) -> Result<(), AllocError> 
     write!(out, "<i class='lim' style='bottom:{whole}.{part}%'></i>")
 }
 
-/// What a column says in words.
+/// Appends the description of a column.
 fn push_words(out: &mut String, row: &QueryRow<'_>) -> Result<(), AllocError> {
     out.push_str(row.name)?;
     out.push_str(": limit ")?;
@@ -83,8 +83,8 @@ fn push_words(out: &mut String, row: &QueryRow<'_>) -> Result<(), AllocError> {
     push_number(out, row.distance().unwrap_or(0))
 }
 
-/// A column. Where it goes on above the chart, a gap through all its bars says so: an end that each bar had of its own, as
-/// if torn, crossed that of the bar before it, and could not be seen on narrow bars.
+/// Appends a column. If it continues above the chart, a gap through all its bars shows this: a torn end for each bar
+/// overlapped that of the previous bar, and was invisible on narrow bars.
 fn push_column(
     out: &mut String,
     row: &QueryRow<'_>,

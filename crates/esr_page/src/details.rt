@@ -24,7 +24,7 @@ fn farthest(alloc: Global, rows: &[QueryRow<'_>]) -> Result<Vec<(u64, u64, u32)>
     Ok(ranks)
 }
 
-/// Marks the queries of these ranks, and gives them.
+/// Marks the queries of these ranks, and returns them.
 fn mark(
     alloc: Global,
     all: &mut QueryRows<'_>,
@@ -168,7 +168,8 @@ impl<T: Part, P: Part, W: Part> Page<'_, T, P, W> {
     }
 }
 
-/// What queries are told in full, if any are: those that were farthest off, or where none was off, those that were charged most.
+/// Returns the heading of the queries described in detail: those with the greatest distances, or if all were exact,
+/// those with the largest charges.
 pub fn heading_of(rows: &[QueryRow<'_>], explained: &[TxnId]) -> &'static str {
     if explained.is_empty() {
         ""

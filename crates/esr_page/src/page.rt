@@ -77,7 +77,7 @@ fn push_errors(alloc: Global, out: &mut String, notes: &Notes) -> Result<(), All
     out.push_str("</ul></div>\n")
 }
 
-/// What the queries were off and charged together, of those that committed.
+/// The total distance and charges of the committed queries.
 #[derive(Clone, Copy)]
 struct PageTotals<'a> {
     queries: u64,
@@ -137,7 +137,7 @@ fn totals_of<'a>(rows: &[QueryRow<'a>]) -> PageTotals<'a> {
     totals
 }
 
-/// How many queries and updates there were, and how far the farthest was off.
+/// Appends the numbers of queries and updates, and the greatest distance.
 fn push_sums(out: &mut String, totals: PageTotals<'_>, updates: u64) -> Result<(), AllocError> {
     out.push_str("<p>")?;
     push_count(
@@ -243,8 +243,8 @@ fn in_order<'a>(alloc: Global, rows: &[QueryRow<'a>]) -> Result<Vec<QueryRow<'a>
     Ok(ordered)
 }
 
-/// The document with this body. What is written promises nothing, so it is tested to be markup before it is put into the
-/// document, and nothing stands for it where it is not; that never comes.
+/// Returns the document with this body. No contract specifies the body, so it is tested for well-formedness, and
+/// replaced by an empty one if the test fails. This does not occur.
 fn document(alloc: Global, body: String) -> Result<Vec<u8>, AllocError>
     ensures { IfOk result (λ text. IsPage text.items) }
 {
@@ -276,7 +276,7 @@ impl<T: Part, P: Part, W: Part> Page<'_, T, P, W> {
         out.push_str(script())
     }
 
-    /// What the document has within its outermost element.
+    /// Returns the content of the document's outermost element.
     fn body(
         &self,
         alloc: Global,

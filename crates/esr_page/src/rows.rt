@@ -1,5 +1,5 @@
-//! What is told of each query in the table and in the chart. One pass over the log counts reads and finds who is strict;
-//! what audits find is put beside it.
+//! The row of each query in the table and the charts. One pass over the log counts reads and finds strict queries; the
+//! results of the audits are added.
 
 use crate::audits::AuditedDistance;
 use esr_history::{Entry, Event, History, Reply, TxnId};
@@ -8,10 +8,10 @@ use esr_report::name_of_transaction;
 use esr_views::Recording;
 use std::alloc::{AllocError, Global};
 
-/// How a query ended.
+/// The outcome of a query.
 #[derive(Clone, Copy)]
 pub enum QueryEnd {
-    /// It committed, and its audit finds this distance to the nearest serial placement, and this error of its sum.
+    /// Committed, with the distance to the nearest serial placement and the error of its sum.
     Committed { distance: u64, sum_error: u64 },
     Aborted,
     Active,
@@ -28,7 +28,7 @@ pub enum Target {
     Nothing,
 }
 
-/// What is told of a query.
+/// The data of a query.
 #[derive(Clone, Copy)]
 pub struct QueryRow<'a> {
     pub query: TxnId,
@@ -69,7 +69,7 @@ pub fn open_link(out: &mut String, target: Target, name: &str) -> Result<(), All
     }
 }
 
-/// How a transaction ended, before what its audit finds is known.
+/// Returns the outcome of a transaction, before its audit is known.
 fn end_of(history: &History<Weighted>, end: Option<u64>) -> QueryEnd {
     let Some(entry) = end.and_then(|place| history.log().get(place as usize)) else {
         return QueryEnd::Active;
@@ -138,7 +138,7 @@ fn put_places(place_of: &mut [Option<usize>], rows: &[QueryRow<'_>]) {
 }
 
 impl<'a> QueryRows<'a> {
-    /// Notes what an entry tells of a query.
+    /// Updates a row by an entry of the query.
     fn note(&mut self, entry: Entry) {
         let (txn, is_read) = match (entry.event, entry.reply) {
             (Event::Read { txn, .. }, Reply::Value(_)) => (txn, true),

@@ -9,7 +9,7 @@ use std::alloc::AllocError;
 /// The maximum number of rows.
 pub const MAX_ROWS: usize = 2000;
 
-/// The largest limit, which is no limit in practice.
+/// The largest limit, which is shown as "no limit".
 pub const NO_LIMIT: u64 = 1_000_000_000_000_000_000;
 
 const HEADINGS: &str =
@@ -22,7 +22,7 @@ pub fn push_cell(out: &mut String, number: u64) -> Result<(), AllocError> {
     out.push_str("</td>")
 }
 
-/// The name of a query, a link where it is told in full.
+/// Appends the name of a query, as a link if the query is described in detail.
 fn push_name(out: &mut String, row: &QueryRow<'_>) -> Result<(), AllocError> {
     let name = row.name;
     if row.target == Target::Details {

@@ -1,8 +1,8 @@
-//! What is told of a query that is drawn.
+//! The text of a picture: one element `svg`.
 //!
-//! What is drawn promises nothing of its own, so it is tested before anything rests on it: a picture with an element
-//! that stays open, or with one of its own name in it, would be broken in a page, and an empty one stands for it. That
-//! never comes: each part that is written closes what it opens, and none has that name.
+//! No contract specifies the drawing, so `svg_element` tests it: an unclosed element, or a nested `svg`, would break a
+//! page that contains the picture. Such a body is replaced by an empty one. This does not occur, since each part closes
+//! the elements that it opens, and none is named `svg`.
 
 ghost use Rattle.std.specs.Prelude.{◌≡◌, IfOk, codes, true, string_bytes};
 ghost use Rattle.esr_text.specs.Markup.{Attributes, IsMarkup};
@@ -16,14 +16,14 @@ use esr_trace::{Audited, Part, QueryTrace, trace_of};
 use esr_views::{AuditedQuery, QueryView};
 use std::alloc::{AllocError, Global};
 
-/// Whether a text has a word nowhere.
+/// Returns whether a text does not contain a word.
 fn lacks(text: &str, word: &str) -> bool
     ensures { result ≡ true → Lacks word.now text.now }
 {
     !text.contains(word)
 }
 
-/// Whether a text may stand within the element of a picture.
+/// Returns whether a text may be the content of a picture's element.
 fn is_within(alloc: Global, body: &str) -> Result<bool, AllocError>
     ensures { IfOk result (λ is. is ≡ true → IsWithin body.now) }
 {
@@ -31,7 +31,7 @@ fn is_within(alloc: Global, body: &str) -> Result<bool, AllocError>
     Ok(is_markup && lacks(body, "<svg") && lacks(body, "</svg"))
 }
 
-/// What is drawn, or nothing where it may not stand within one element.
+/// Returns the body, or an empty text if it may not be the content of a picture's element.
 fn within_one(alloc: Global, body: String) -> Result<String, AllocError>
     ensures { IfOk result (λ kept. IsWithin (string_bytes kept)) }
 {
@@ -42,7 +42,7 @@ fn within_one(alloc: Global, body: String) -> Result<String, AllocError>
     }
 }
 
-/// The attributes, or none where they are no attributes.
+/// Returns the attributes, or none if they are not well-formed.
 fn in_quotes(alloc: Global, attributes: String) -> String
     ensures { Attributes (string_bytes result) }
 {
@@ -55,7 +55,7 @@ fn in_quotes(alloc: Global, attributes: String) -> String
 
 /// Returns the element `svg` with these attributes and this body. Attributes or a body that are not well-formed are left
 /// out.
-pub fn element(alloc: Global, attributes: String, body: String) -> Result<String, AllocError>
+pub fn svg_element(alloc: Global, attributes: String, body: String) -> Result<String, AllocError>
     ensures { IfOk result (λ text. IsSvg (string_bytes text)) }
 {
     let attributes = in_quotes(alloc, attributes);
@@ -76,7 +76,7 @@ fn picture_with<'a>(
     let mut scene = scene_of(alloc, audited, trace)?;
     scene.errors = errors;
     let Parts { attributes, body } = parts_of(alloc, &scene)?;
-    element(alloc, attributes, body)
+    svg_element(alloc, attributes, body)
 }
 
 /// Returns the picture of the audit of a query.
@@ -133,9 +133,9 @@ fn audited_of(audited_query: &AuditedQuery) -> Audited<'_> {
 }
 
 /// A picture of the audit of a query: an SVG, by itself or as a part of a page.
-pub struct Drawing;
+pub struct PictureView;
 
-impl QueryView for Drawing {
+impl QueryView for PictureView {
     ghost IsTextOf = { λ _ _ _ text. IsSvg text };
 
     fn text_of(
@@ -149,11 +149,11 @@ impl QueryView for Drawing {
 
 /// A picture with the lines with errors of its script in a box at the top.
 #[derive(Drop)]
-pub struct NotedDrawing<'a> {
+pub struct PictureWithErrors<'a> {
     pub notes: &'a Notes,
 }
 
-impl QueryView for NotedDrawing<'_> {
+impl QueryView for PictureWithErrors<'_> {
     ghost IsTextOf = { λ _ _ _ text. IsSvg text };
 
     fn text_of(
@@ -166,7 +166,7 @@ impl QueryView for NotedDrawing<'_> {
     }
 }
 
-impl Part for Drawing {
+impl Part for PictureView {
     fn push(
         &self,
         alloc: Global,

@@ -3,7 +3,7 @@
 //! A stretch has one version or several. Of several, the one at the line is drawn, and a few of those whose value was
 //! read, so that green always is a value that was read; the others are counted.
 
-use crate::order::Slots;
+use crate::arrow_reduction::Slots;
 use esr_cert::Chain;
 use esr_svg::{LanePart, LaneReads, LaneSegment};
 use esr_text::letters_of;
@@ -19,7 +19,7 @@ pub struct LaneVersions<'a> {
     pub values: Vec<i64>,
     /// The number of reads of each value.
     pub reads: Vec<u64>,
-    /// Whether each version was read itself, and not only one of the same value.
+    /// For each version whether the query read this version, and not only the same value of another one.
     pub seen: Vec<bool>,
     /// The version at the line.
     pub at_line: usize,

@@ -8,14 +8,14 @@
 //! with a replay of the script.
 #![tactic(auto)]
 
-mod choice;
-mod costs;
+mod arrow_reduction;
 mod drawing;
 mod lanes;
 mod observed_reads;
-mod order;
+mod required_lanes;
 mod scene;
+mod selection;
 mod titles;
 mod versions;
 
-pub use drawing::{Drawing, NotedDrawing, element, picture};
+pub use drawing::{PictureView, PictureWithErrors, picture, svg_element};

@@ -38,7 +38,7 @@ fn add_count(counts: &mut Vec<(i64, u64)>, value: i64, count: u64) -> Result<(),
     Ok(())
 }
 
-/// Whether a value that was read is a version of its item.
+/// Returns whether a value that was read is a version of its item.
 fn is_kept(trace: &QueryTrace, observed: &ObservedRead) -> bool {
     match observed.writer {
         Some(writer) => trace.end(writer) == WriterEnd::Committed && !observed.overwritten,
@@ -76,7 +76,7 @@ fn version_read(chain: &Chain, positions: &Positions, observed: &ObservedRead) -
     Some(index.saturating_add(1))
 }
 
-/// What became of a value that was read, if it did not stay.
+/// Returns what happened to a value that was read, if it did not become a version.
 fn fate_of(
     audited_query: &Audited<'_>,
     trace: &QueryTrace,

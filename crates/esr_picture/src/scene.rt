@@ -1,12 +1,12 @@
-//! What is drawn of the audit of a query.
+//! Builds the scene of a query's audit.
 //!
-//! The lanes and updates that are drawn depend on the space, and the space that they need on their names and values. So a
-//! scene is made with as many updates as there may be, and if it is too wide once more with fewer.
+//! The selected lanes and updates depend on the space, and the space that they need depends on their names and values.
+//! So a scene is built with the maximum number of updates, and if it is too wide, again with fewer.
 
-use crate::choice::{Choice, choose};
+use crate::arrow_reduction::{Slots, arrows};
 use crate::lanes::{LaneVersions, reads_in, reads_of_values, values_of};
 use crate::observed_reads::{counts_of, seen_versions, strays_of};
-use crate::order::{Slots, arrows};
+use crate::selection::{Choice, choose};
 use crate::titles::{arrow_title, update_title};
 use crate::versions::{Positions, unwritten, versions_of};
 use esr_cert::{Chain, Problem};
@@ -17,11 +17,11 @@ use esr_svg::{Arrow, Lane, MAX_UPDATES, Scene, Update, fitting_updates};
 use esr_trace::{Audited, QueryTrace, sentences_of};
 use std::alloc::{AllocError, Global};
 
-/// How often a scene that is too wide is made with less: from then on without updates, and then without values that were
-/// read within stretches of several.
+/// The number of times that a scene that is too wide is rebuilt with fewer updates. After that it has no updates, and
+/// then no values read within dotted segments.
 const MAX_TRIES: u32 = 7;
 
-/// How much a scene shows at most.
+/// The maximum content of a scene.
 #[derive(Clone, Copy)]
 struct Extent {
     updates: usize,
@@ -66,7 +66,7 @@ fn drawn_in_order(alloc: Global, choice: &Choice) -> Result<Vec<u32>, AllocError
     Ok(drawn)
 }
 
-/// What all scenes of a query are made from.
+/// The data from which all scenes of a query are built.
 #[derive(Drop)]
 struct Source<'a> {
     audited: &'a Audited<'a>,
@@ -123,7 +123,7 @@ impl<'a> Source<'a> {
     }
 }
 
-/// What a scene is made from.
+/// The data from which one scene is built.
 #[derive(Drop)]
 struct SceneParts<'a, 'b> {
     source: &'b Source<'a>,

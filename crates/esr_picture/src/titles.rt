@@ -92,7 +92,7 @@ pub fn update_title(
     Ok(title)
 }
 
-/// What a transaction did to an item.
+/// Whether a transaction read or wrote an item.
 #[derive(Clone, Copy, PartialEq, Eq)]
 struct Touch {
     reads: bool,

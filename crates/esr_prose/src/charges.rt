@@ -1,4 +1,5 @@
-//! What a query was charged, in words: how much, in which line, and why; and the sums by item and by update.
+//! Describes the charges of a query in sentences: the amount, the line and the cause of each, and the sums by item and
+//! by update.
 
 use crate::prose::{Block, MAX_POINTS, add_paragraph, add_point};
 use crate::subject::Subject;
@@ -8,7 +9,7 @@ use esr_text::{first, push_count, push_number, push_value};
 use esr_trace::{Cause, ChargeGroup, MAX_NAMES, QueryTrace, Sum, push_rest};
 use std::alloc::{AllocError, Global};
 
-/// The values before and behind an update's change.
+/// Appends the values before and after an update's change.
 fn push_change(out: &mut String, charge: &ChargeGroup) -> Result<(), AllocError> {
     out.push_str(" from ")?;
     push_value(out, charge.old)?;
@@ -45,7 +46,7 @@ fn push_cause(
     }
 }
 
-/// How many lines made the same charge behind the first.
+/// Appends the number of later lines with the same charge.
 fn push_later_lines(out: &mut String, count: u64) -> Result<(), AllocError> {
     let later = count.saturating_sub(1);
     if later == 0 {
@@ -55,7 +56,7 @@ fn push_later_lines(out: &mut String, count: u64) -> Result<(), AllocError> {
     push_count(out, later, " later one", " later ones")
 }
 
-/// How much a difference of an item counts, where that is not once.
+/// Appends the weight of an item, unless it is 1.
 fn push_weight(out: &mut String, subject: &Subject<'_>, item: ItemId) -> Result<(), AllocError> {
     let weight = subject.weight(item);
     if weight < 2 {
@@ -82,7 +83,7 @@ fn push_charge(
     push_weight(out, subject, charge.item)
 }
 
-/// How much of what limit was charged, and whether the charges follow.
+/// Appends the total charge and the limit, and whether a list of charges follows.
 fn push_intro(
     out: &mut String,
     subject: &Subject<'_>,
@@ -104,7 +105,7 @@ fn push_intro(
     out.push_str(if has_charges { ":" } else { "." })
 }
 
-/// The charges that are not told one by one, and their sum.
+/// Appends the number and the sum of the charges that are not listed.
 fn push_more_charges(
     alloc: Global,
     blocks: &mut Vec<Block>,
@@ -133,7 +134,7 @@ fn push_sum(out: &mut String, joint: &str, name: &str, amount: u64) -> Result<()
     push_number(out, amount)
 }
 
-/// What charges are added up by.
+/// The grouping of charges.
 #[derive(Clone, Copy)]
 enum By {
     Item,
@@ -195,7 +196,7 @@ fn push_each(
     push_sums(alloc, add_paragraph(alloc, blocks)?, subject, trace)
 }
 
-/// What the query was charged.
+/// Appends the charges of the query.
 pub fn push_charges(
     alloc: Global,
     blocks: &mut Vec<Block>,

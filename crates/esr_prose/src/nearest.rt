@@ -17,7 +17,7 @@ use std::alloc::{AllocError, Global};
 struct There {
     item: ItemId,
     value: i64,
-    /// What the reads of it are off, all together.
+    /// The sum of the differences of its reads.
     off: u64,
 }
 
@@ -36,7 +36,7 @@ fn put_writes(
     Ok(())
 }
 
-/// The values of the items behind these updates.
+/// Returns the values of the items after these updates.
 fn values_after(
     alloc: Global,
     subject: &Subject<'_>,
@@ -49,7 +49,7 @@ fn values_after(
     Ok(values)
 }
 
-/// What the reads of an item are off from a value.
+/// Returns the sum of the differences of an item's reads from a value.
 fn off(trace: &QueryTrace, subject: &Subject<'_>, item: ItemId, there: i64) -> u64 {
     let mut sum = 0u64;
     for observed in &trace.observed_reads {
@@ -63,7 +63,7 @@ fn off(trace: &QueryTrace, subject: &Subject<'_>, item: ItemId, there: i64) -> u
     sum.saturating_mul(subject.weight(item))
 }
 
-/// Whether an item is among these.
+/// Returns whether an item is in the list.
 fn is_there(items: &[There], item: ItemId) -> bool {
     for there in items {
         if there.item == item {
@@ -141,7 +141,7 @@ fn push_items(
     push_more(alloc, blocks, items.len(), "item", "items")
 }
 
-/// The sum of what was read beside that of the nearest moment.
+/// Appends the sum of the values read and the sum at the nearest moment.
 fn push_sums(out: &mut String, items: &[There], read: i64) -> Result<(), AllocError> {
     let mut sum = 0i64;
     for there in items {
@@ -158,7 +158,7 @@ fn push_sums(out: &mut String, items: &[There], read: i64) -> Result<(), AllocEr
     out.push('.')
 }
 
-/// What these items were at the nearest moment.
+/// Appends the values of these items at the nearest moment.
 fn push_all(
     alloc: Global,
     blocks: &mut Vec<Block>,
@@ -178,7 +178,7 @@ fn push_all(
     }
 }
 
-/// What each item was at the nearest moment, where not all was as it was read.
+/// Appends the value of each item at the nearest moment, if a read differs from it.
 pub fn push_nearest(
     alloc: Global,
     blocks: &mut Vec<Block>,

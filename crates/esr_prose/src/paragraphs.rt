@@ -29,7 +29,7 @@ fn push_lines(
     Ok(())
 }
 
-/// Appends a block, with a blank line before it where it is a paragraph and not the first.
+/// Appends a block, after a blank line if it is a paragraph and not the first block.
 fn push_block(alloc: Global, out: &mut String, block: &Block) -> Result<(), AllocError> {
     let (first, others) = match block.kind {
         BlockKind::Paragraph => ("", ""),
@@ -57,7 +57,7 @@ fn text_of(alloc: Global, blocks: &[Block]) -> Result<String, AllocError> {
     Ok(out)
 }
 
-/// What the audit finds of a query, if it has committed.
+/// Returns the finding of a query, if it has committed.
 fn finding_of(
     alloc: Global,
     recording: &Recording<'_>,

@@ -1,6 +1,6 @@
-//! The prose about a query, as paragraphs and points, whatever they are written as.
+//! The prose about a query as a list of paragraphs and list items, independent of the output format.
 //!
-//! Words are written into a block that is already among the others, so nobody who writes them has a text to let go of.
+//! Text is appended to the last block in place, so a function that appends has no separate text to drop.
 
 use crate::charges::push_charges;
 use crate::nearest::push_nearest;
@@ -14,7 +14,7 @@ use std::alloc::{AllocError, Global};
 /// So many points are listed at most, and then how many more there are.
 pub const MAX_POINTS: usize = 12;
 
-/// What a block of prose is.
+/// The kind of a block of prose.
 #[derive(Clone, Copy)]
 pub enum BlockKind {
     Paragraph,
@@ -53,7 +53,7 @@ pub fn add_point(alloc: Global, blocks: &mut Vec<Block>) -> Result<&mut String, 
     add_block(alloc, blocks, BlockKind::Point)
 }
 
-/// How many more there are of some things than are listed.
+/// Appends the number of things that are not listed.
 pub fn push_more(
     alloc: Global,
     blocks: &mut Vec<Block>,
@@ -72,7 +72,7 @@ pub fn push_more(
     out.push_str(if more == 1 { one } else { many })
 }
 
-/// What can be said of a query that has not committed.
+/// Appends the description of a query that has not committed.
 fn push_unfinished(out: &mut String, subject: &Subject<'_>) -> Result<(), AllocError> {
     out.push_str(subject.name(subject.query))?;
     if subject.ending(subject.query) == Ending::Aborted {
@@ -115,7 +115,7 @@ fn push_answer(
     push_strict(alloc, out, &audited)
 }
 
-/// How the query began.
+/// Appends the begin of the query.
 fn push_begin(
     out: &mut String,
     subject: &Subject<'_>,
@@ -136,7 +136,7 @@ fn push_begin(
     }
 }
 
-/// How the query began and ended.
+/// Appends the begin and the end of the query.
 fn push_course(
     out: &mut String,
     subject: &Subject<'_>,
@@ -198,7 +198,7 @@ fn push_prose(
     }
 }
 
-/// The prose about a query of which the history tells this.
+/// Returns the prose about a query with this trace.
 pub fn prose_of(
     alloc: Global,
     subject: &Subject<'_>,

@@ -1,4 +1,4 @@
-//! What a query read, in words: each value, in which line, and whose it was.
+//! Describes the reads of a query in sentences: each value, its line and its writer.
 
 use crate::prose::{Block, MAX_POINTS, add_paragraph, add_point, push_more};
 use crate::subject::{Ending, Subject};
@@ -72,7 +72,7 @@ fn push_observed(
     push_source(out, subject, observed)
 }
 
-/// How many different values were read of an item.
+/// Returns the number of different values read of an item.
 fn observed_reads_of(trace: &QueryTrace, item: ItemId) -> u64 {
     let mut count = 0u64;
     for observed in &trace.observed_reads {
@@ -100,7 +100,7 @@ pub fn sum_of_reads(trace: &QueryTrace, subject: &Subject<'_>) -> Option<i64> {
     }
 }
 
-/// That nothing was read, which the answer has told of a query that has committed.
+/// Appends that nothing was read, unless the first sentence of a committed query says so.
 fn push_nothing(
     alloc: Global,
     blocks: &mut Vec<Block>,
@@ -112,20 +112,20 @@ fn push_nothing(
     add_paragraph(alloc, blocks)?.push_str("It read no item.")
 }
 
-/// How many values were read.
+/// Appends the number of values read.
 fn push_intro(out: &mut String, count: usize) -> Result<(), AllocError> {
     out.push_str("It read ")?;
     push_count(out, count as u64, " value:", " values:")
 }
 
-/// What the reads add up to.
+/// Appends the sum of the reads.
 fn push_sum(out: &mut String, sum: i64) -> Result<(), AllocError> {
     out.push_str("In total they are ")?;
     push_value(out, sum)?;
     out.push('.')
 }
 
-/// What the query read.
+/// Appends the reads of the query.
 pub fn push_reads(
     alloc: Global,
     blocks: &mut Vec<Block>,

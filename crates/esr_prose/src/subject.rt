@@ -18,11 +18,11 @@ pub struct Subject<'a> {
     /// The line of each entry of the history, from 1.
     pub lines: &'a [u32],
     pub query: TxnId,
-    /// What the audit finds of it, if it has committed.
+    /// The finding of its audit, if it has committed.
     pub finding: Option<&'a Finding>,
 }
 
-/// How a transaction ended in the whole script.
+/// The outcome of a transaction at the end of the script.
 #[derive(Clone, Copy)]
 pub enum Ending {
     Committed,
@@ -41,7 +41,7 @@ impl<'a> Subject<'a> {
         self.items.name_of(item.0).unwrap_or("")
     }
 
-    /// How much a difference of an item counts.
+    /// Returns the weight of an item.
     pub fn weight(&self, item: ItemId) -> u64 {
         self.history.metric().distance(item, 0, 1)
     }
@@ -59,7 +59,7 @@ impl<'a> Subject<'a> {
         usize::try_from(end).ok()
     }
 
-    /// How a transaction ended.
+    /// Returns the outcome of a transaction.
     pub fn ending(&self, txn: TxnId) -> Ending {
         let Some(place) = self.end_place(txn) else {
             return Ending::Active;

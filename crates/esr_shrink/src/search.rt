@@ -14,7 +14,7 @@ const MAX_ROUNDS: u32 = 8;
 /// One key is left out at a time at most this many times over all keys.
 const MAX_PASSES: u32 = 64;
 
-/// What keys stand for.
+/// The meaning of keys.
 #[derive(Clone, Copy, PartialEq, Eq)]
 enum Kind {
     /// The numbers of transactions other than the query.

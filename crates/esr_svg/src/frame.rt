@@ -37,7 +37,7 @@ pub const BEFORE_STRAY: u32 = 38;
 /// From row to row of the legend.
 pub const KEY_ROW: u32 = 22;
 
-/// How the text on a value that is not a version is laid out.
+/// The layout of the text about a value that is not a version.
 #[derive(Clone, Copy, PartialEq, Eq)]
 pub enum StrayLines {
     None,
@@ -111,7 +111,7 @@ pub fn arch(from: u8, to: u8) -> u32 {
     u32::from(span).saturating_mul(8).saturating_add(10).min(90)
 }
 
-/// Returns whether an arrow goes from a box to the next.
+/// Returns whether an arrow leads from a box to the next one.
 pub fn is_straight(from: u8, to: u8, line: u8) -> bool {
     let span = to.saturating_sub(from);
     span < 2 || (span == 2 && to == line.saturating_add(1))

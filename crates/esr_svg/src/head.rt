@@ -1,6 +1,6 @@
-//! The head of a picture: its size, its words for whoever cannot see it, and its colours. These are in a `<style>` with
-//! `prefers-color-scheme`, and the picture brings its own background, so that it can be read wherever it is put. What
-//! is green is also thick, and what is off has a circle and words, for those who do not see colours.
+//! The head of a picture: its size, a description for screen readers, and its colours. The colours are in a `<style>`
+//! with `prefers-color-scheme`, and the picture has a background, so that it is legible in any page. Green parts are
+//! also thick, and reads that are off have a circle and a text, for readers who do not see colours.
 
 use crate::elements::push_text;
 use crate::frame::{EDGE, ERROR_LINE, Frame, SENTENCE_LINE};
@@ -115,7 +115,7 @@ fn push_values(out: &mut String, values: &[i64]) -> Result<(), AllocError> {
     Ok(())
 }
 
-/// What an item's reads are off, for the description.
+/// Appends the difference of an item's reads, for the description.
 fn push_off(out: &mut String, off: u64) -> Result<(), AllocError> {
     if off == 0 {
         out.push_str(" as at its place.")

@@ -6,7 +6,7 @@ use crate::lanes::push_bar;
 use crate::scene::{Lane, LanePart, Scene, have_stray};
 use std::alloc::AllocError;
 
-/// What a picture may have to explain.
+/// A symbol that the legend of a picture explains.
 #[derive(Clone, Copy, PartialEq, Eq)]
 enum Key {
     Read,

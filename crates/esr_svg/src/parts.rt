@@ -10,7 +10,7 @@ use crate::widths::{BEFORE_LINE, part_width};
 use esr_text::{push_count, push_number, push_value};
 use std::alloc::{AllocError, Global};
 
-/// Where the parts of a stretch begin and end, one more than there are parts.
+/// The bounds of the parts of a stretch, one more than there are parts.
 #[derive(Drop)]
 struct Bounds {
     places: Vec<u32>,

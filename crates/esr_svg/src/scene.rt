@@ -1,4 +1,5 @@
-//! What is drawn, as plain data: slots for the updates and the line, from the left to the right, and a lane for each item.
+//! The content of a picture as plain data: slots for the updates and the line, from left to right, and a lane for each
+//! item.
 
 /// The maximum number of updates that are drawn.
 pub const MAX_UPDATES: usize = 30;
@@ -29,7 +30,7 @@ pub struct Stray<'a> {
     pub writer: &'a str,
     /// The reason, as text that follows the writer's name.
     pub fate: &'static str,
-    /// Whether a part of the lane has that value, of another update.
+    /// True if a part of the lane has that value, written by another update.
     pub has_piece: bool,
 }
 
@@ -93,13 +94,13 @@ pub struct Update<'a> {
     pub slot: u8,
     /// The number of lanes down to the last one that it wrote.
     pub reach: u8,
-    /// Whether the query must be placed after it.
+    /// True if the query has to be placed after it.
     pub must: bool,
     /// The values that it wrote.
     pub title: String,
 }
 
-/// What is drawn of the audit of a query.
+/// The content of the picture of a query's audit.
 #[derive(Drop)]
 pub struct Scene<'a> {
     pub query: &'a str,
@@ -122,7 +123,7 @@ pub struct Scene<'a> {
     /// The number of those items that are off, and by how much together.
     pub others_off: usize,
     pub others_sum: u64,
-    /// Whether items that are not drawn are why the line is where it is.
+    /// True if items that are not drawn determine the position of the line.
     pub others_decide: bool,
 }
 

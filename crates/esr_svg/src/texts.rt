@@ -25,7 +25,7 @@ const OTHERS_DECIDE: &str = "These items keep the line from other positions.";
 #[derive(Drop)]
 pub struct ErrorLine {
     pub text: String,
-    /// Whether it continues the line above it.
+    /// True if it continues the line above it.
     pub is_continued: bool,
 }
 

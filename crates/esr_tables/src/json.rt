@@ -3,7 +3,7 @@
 
 ghost use Rattle.esr_tables.specs.Entries.{AreColumns};
 
-use crate::cells::{CELLS, Content, content_of};
+use crate::ledger_columns::{Content, LEDGER_COLUMNS, content_of};
 use crate::rows::{Columns, Row, row_at};
 use crate::spans::{LineSpan, Spans};
 use crate::words::{push_number, push_word};
@@ -24,11 +24,11 @@ fn push_content(out: &mut String, content: Content<'_>) -> Result<(), AllocError
 /// Appends the object of a row, with its name and lines.
 fn push_row(out: &mut String, name: &str, row: &Row, span: LineSpan) -> Result<(), AllocError> {
     let mut before = "{";
-    for (cell, field, _) in CELLS.iter() {
+    for (column, field, _) in LEDGER_COLUMNS.iter() {
         out.push_str(before)?;
         push_word(out, field)?;
         out.push_str(":")?;
-        push_content(out, content_of(*cell, name, row, span))?;
+        push_content(out, content_of(*column, name, row, span))?;
         before = ",";
     }
     out.push_str("}\n")

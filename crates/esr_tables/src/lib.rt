@@ -7,7 +7,6 @@
 #![tactic(auto)]
 
 mod audits;
-mod cells;
 mod csv;
 mod distances;
 mod explanations;
@@ -16,6 +15,7 @@ mod format;
 mod json;
 mod kinds;
 mod ledger;
+mod ledger_columns;
 mod rows;
 mod spans;
 mod tallies;

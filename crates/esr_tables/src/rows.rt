@@ -20,7 +20,7 @@ use esr_history::{Entry, Event, History, Log, NoMemory, TxnId};
 use esr_items::Weighted;
 use std::alloc::Global;
 
-/// How a transaction ended, if it did.
+/// The outcome of a transaction.
 #[derive(Clone, Copy)]
 pub enum RowEnd {
     Committed,

@@ -3,7 +3,7 @@
 
 ghost use Rattle.esr_tables.specs.Entries.{AreColumns};
 
-use crate::cells::{CELLS, Cell, Content, content_of};
+use crate::ledger_columns::{Column, Content, LEDGER_COLUMNS, content_of};
 use crate::rows::{Columns, Row, row_at};
 use crate::spans::{LineSpan, Spans};
 use crate::words::push_number;
@@ -13,8 +13,8 @@ use esr_report::{Names, name_of_transaction};
 use std::alloc::{AllocError, Global};
 
 /// Returns whether the text of a column is left-aligned.
-fn is_of_words(cell: Cell) -> bool {
-    matches!(cell, Cell::Name | Cell::Kind | Cell::End)
+fn is_of_words(column: Column) -> bool {
+    matches!(column, Column::Name | Column::Kind | Column::Outcome)
 }
 
 /// Returns the number of a number's decimal digits.
@@ -40,7 +40,7 @@ impl Widths {
     /// Widens the columns to their heads.
     fn of_heads() -> Widths {
         let mut widths = Widths([0; 15]);
-        for (width, (_, _, head)) in widths.0.iter_mut().zip(CELLS.iter()) {
+        for (width, (_, _, head)) in widths.0.iter_mut().zip(LEDGER_COLUMNS.iter()) {
             *width = head.len();
         }
         widths
@@ -48,8 +48,8 @@ impl Widths {
 
     /// Widens the columns to the cells of a row.
     fn widen(&mut self, name: &str, row: &Row, span: LineSpan) {
-        for (width, (cell, _, _)) in self.0.iter_mut().zip(CELLS.iter()) {
-            *width = (*width).max(width_of(content_of(*cell, name, row, span)));
+        for (width, (column, _, _)) in self.0.iter_mut().zip(LEDGER_COLUMNS.iter()) {
+            *width = (*width).max(width_of(content_of(*column, name, row, span)));
         }
     }
 }
@@ -65,12 +65,12 @@ fn push_spaces(out: &mut String, count: usize) -> Result<(), AllocError> {
 /// Appends the content of a cell, aligned.
 fn push_cell(
     out: &mut String,
-    cell: Cell,
+    column: Column,
     content: Content<'_>,
     width: usize,
 ) -> Result<(), AllocError> {
     let spaces = width.saturating_sub(width_of(content));
-    if !is_of_words(cell) {
+    if !is_of_words(column) {
         push_spaces(out, spaces)?;
     }
     match content {
@@ -78,7 +78,7 @@ fn push_cell(
         Content::Word(word) => out.push_str(word)?,
         Content::Nothing => out.push_str("-")?,
     }
-    if is_of_words(cell) {
+    if is_of_words(column) {
         push_spaces(out, spaces)?;
     }
     Ok(())
@@ -87,18 +87,18 @@ fn push_cell(
 /// Appends the heads. Those of the blocking reasons are below the words "blocked by".
 fn push_heads(out: &mut String, widths: &Widths) -> Result<(), AllocError> {
     let mut before = 0usize;
-    for (width, (cell, _, _)) in widths.0.iter().zip(CELLS.iter()) {
-        if *cell == Cell::ByLock {
+    for (width, (column, _, _)) in widths.0.iter().zip(LEDGER_COLUMNS.iter()) {
+        if *column == Column::BlockedByLock {
             push_spaces(out, before)?;
             out.push_str("blocked by\n")?;
         }
         before = before.saturating_add(*width).saturating_add(2);
     }
-    for (width, (cell, _, head)) in widths.0.iter().zip(CELLS.iter()) {
-        if *cell != Cell::Number {
+    for (width, (column, _, head)) in widths.0.iter().zip(LEDGER_COLUMNS.iter()) {
+        if *column != Column::Number {
             out.push_str("  ")?;
         }
-        push_cell(out, *cell, Content::Word(head), *width)?;
+        push_cell(out, *column, Content::Word(head), *width)?;
     }
     out.push_str("\n")
 }
@@ -111,11 +111,11 @@ fn push_row(
     row: &Row,
     span: LineSpan,
 ) -> Result<(), AllocError> {
-    for (width, (cell, _, _)) in widths.0.iter().zip(CELLS.iter()) {
-        if *cell != Cell::Number {
+    for (width, (column, _, _)) in widths.0.iter().zip(LEDGER_COLUMNS.iter()) {
+        if *column != Column::Number {
             out.push_str("  ")?;
         }
-        push_cell(out, *cell, content_of(*cell, name, row, span), *width)?;
+        push_cell(out, *column, content_of(*column, name, row, span), *width)?;
     }
     out.push_str("\n")
 }

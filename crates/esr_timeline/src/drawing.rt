@@ -371,8 +371,8 @@ fn push_outcomes(
     Ok(())
 }
 
-/// Returns where the arrow of a charge begins and ends: it goes from the band of the update, or the label below or above it,
-/// down to the band of the query, or the label above that, or up to the bar of its limit.
+/// Returns the ends of the arrow of a charge: it leads from the band of the update, or the label below or above it,
+/// down to the band of the query or the label above that, or up to the bar of its limit.
 fn ends_of(layout: &Layout<'_>, place: usize, from: usize, to: usize) -> (u32, u32) {
     let starts_at_label = has_label_on(&layout.columns, place, from);
     if from > to {

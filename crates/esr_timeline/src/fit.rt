@@ -1,6 +1,6 @@
-//! How much is drawn. A timeline is made with all that it could show, and as long as it is too wide, with less: first
-//! without the labels of events that no charge depends on, then without these events, then with the greatest charges
-//! alone.
+//! Fits a timeline into the maximum width. It is built with all events, and as long as it is too wide, with fewer:
+//! first without the labels of events on which no charge depends, then without these events, then with the largest
+//! charges only.
 
 use crate::charges::{Payers, between, charges_to, drawable, greatest, sum_of};
 use crate::lanes::{MAX_LANES, concerned, farthest, first_begun, lanes_of};
@@ -19,7 +19,7 @@ const WIDEST: u32 = 1080;
 /// A script with at most this many transactions and entries is drawn as a whole, if it fits.
 const FEW_ENTRIES: usize = 120;
 
-/// How much is drawn.
+/// The level of detail of a timeline.
 #[derive(Clone, Copy, PartialEq, Eq)]
 enum Detail {
     /// All events.

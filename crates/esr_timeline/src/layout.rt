@@ -1,8 +1,8 @@
-//! Where marks and lanes are drawn, in pixels. Names and numbers are in a font of one width, none wider than 0.61 of its
-//! height, so how much space they need is known without measuring.
+//! Computes the positions of marks and lanes in pixels. Names and numbers are in a monospaced font whose letters are at
+//! most 0.61 of its height wide, so the width of a text is known in advance.
 //!
-//! Each mark has its own column. A column is far enough from the one before it that no label meets another one of the same
-//! lane; the labels of two lanes cannot meet.
+//! Each mark has its own column. The distance of two columns is such that the labels of a lane do not overlap; the
+//! labels of two lanes cannot overlap.
 
 use crate::model::{Action, Arrow, Lane, LaneEnd, Mark};
 use esr_text::{letters_of, number_letters};
@@ -25,7 +25,7 @@ const UPDATE_HEIGHT: u32 = 60;
 
 const QUERY_HEIGHT: u32 = 88;
 
-/// The largest limit of a transaction, which is no limit in practice.
+/// The largest limit of a transaction, which is shown as "no limit".
 pub const NO_LIMIT: u64 = 1_000_000_000_000_000_000;
 
 /// A mark with its column.
@@ -44,9 +44,9 @@ pub struct Layout<'a> {
     tops: Vec<u32>,
     /// The height of the heading.
     pub heading: u32,
-    /// Where lanes begin.
+    /// The left edge of the lanes.
     pub left: u32,
-    /// Where the lanes of active transactions end.
+    /// The right edge of the lanes of active transactions.
     pub open_end: u32,
     /// The right edge of all lanes and their outcomes.
     pub right: u32,
@@ -138,7 +138,7 @@ fn tops_of(alloc: Global, lanes: &[Lane<'_>]) -> Result<Vec<u32>, AllocError> {
     Ok(tops)
 }
 
-/// How far the labels of each lane reach, and the amounts of charges below the lanes.
+/// The right edge of the labels of each lane, and of the amounts of charges below each lane.
 #[derive(Drop)]
 struct Edges {
     labels: Vec<u32>,

@@ -6,7 +6,7 @@ use crate::limits::has_bar;
 use crate::model::{Action, Lane, LaneEnd, Scene};
 use std::alloc::AllocError;
 
-/// What a timeline may have to explain.
+/// A symbol that the legend of a timeline explains.
 #[derive(Clone, Copy, PartialEq, Eq)]
 enum Key {
     Read,

@@ -1,4 +1,4 @@
-//! What a timeline shows, as plain data: lanes, marks on them in the order of the log, and charges between lanes.
+//! The content of a timeline as plain data: lanes, marks on them in the order of the log, and charges between lanes.
 
 use esr_history::{History, TxnId};
 use esr_items::Weighted;
@@ -16,7 +16,7 @@ pub struct Source<'a> {
     pub lines: &'a [u32],
 }
 
-/// How a transaction ended.
+/// The outcome of a transaction.
 #[derive(Clone, Copy, PartialEq, Eq)]
 pub enum LaneEnd {
     /// Of a query, with its distance, if that is known.
@@ -37,7 +37,7 @@ pub struct Lane<'a> {
     pub end: LaneEnd,
 }
 
-/// What happens at a mark.
+/// The event at a mark.
 #[derive(Clone, Copy, PartialEq, Eq)]
 pub enum Action {
     Begin,
@@ -59,7 +59,7 @@ pub enum Action {
     Abort,
 }
 
-/// What blocked an event.
+/// The reason why an event was blocked.
 #[derive(Clone, Copy, PartialEq, Eq)]
 pub enum Cause {
     Lock,
@@ -80,7 +80,7 @@ pub struct Mark<'a> {
     pub item: &'a str,
     /// The transaction that blocked the event, or nothing.
     pub blocker: &'a str,
-    /// Whether a charge that is drawn depends on it, or it was blocked.
+    /// True if a drawn charge depends on it, or if it was blocked.
     pub is_key: bool,
 }
 
@@ -101,7 +101,7 @@ pub struct Arrow<'a> {
     pub amount: u64,
 }
 
-/// What is not drawn.
+/// The numbers of transactions, events and charges that are not drawn.
 #[derive(Clone, Copy)]
 pub struct Rest {
     pub transactions: u64,
@@ -111,7 +111,7 @@ pub struct Rest {
     pub amount: u64,
 }
 
-/// What is drawn.
+/// The content of a timeline.
 #[derive(Drop)]
 pub struct Scene<'a> {
     /// The query that the timeline is about, if it is about one.

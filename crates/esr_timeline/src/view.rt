@@ -8,7 +8,7 @@ use crate::fit::{Picture, timeline_of_query, timeline_of_script};
 use crate::model::Source;
 use esr_history::TxnId;
 use esr_lint::Notes;
-use esr_picture::element;
+use esr_picture::svg_element;
 use esr_trace::{Audited, Part, QueryTrace, trace_of};
 use esr_views::{Recording, ScriptView};
 use std::alloc::{AllocError, Global};
@@ -26,7 +26,7 @@ fn svg_of<'a>(alloc: Global, mut picture: Picture<'a>, errors: u64) -> Result<St
     ensures { IfOk result (λ text. IsSvg (string_bytes text)) }
 {
     let Parts { attributes, body } = parts_of(alloc, &mut picture, errors)?;
-    element(alloc, attributes, body)
+    svg_element(alloc, attributes, body)
 }
 
 /// Returns the query of a name.

@@ -4,9 +4,9 @@ use crate::subject::Audited;
 use crate::trace::QueryTrace;
 use std::alloc::{AllocError, Global};
 
-/// What a page has about a query that was audited: a picture of it, or prose.
+/// A part of a page about an audited query: a picture, or prose.
 ///
-/// A page takes its parts from whoever asks for it, so it is proved beside them and not behind them.
+/// The caller passes the parts to the page, so the crates of the page and of its parts do not depend on each other.
 pub trait Part {
     /// Appends it, as markup. The history's entries are of these lines of the script.
     fn push(

@@ -1,5 +1,5 @@
-//! What a picture says in words above its lanes, and prose too: whether what the query read was ever true at one moment, where the
-//! nearest is, what it was charged and by whom, and which updates it had to be behind.
+//! The sentences above the lanes of a picture, which prose has too: whether the values read ever existed at one moment,
+//! the nearest moment, the charges and the updates charged, and the updates that a strict query had to follow.
 
 use crate::subject::Audited;
 use crate::text::{MAX_NAMES, push_names, push_rest};
@@ -9,7 +9,7 @@ use esr_report::name_of_transaction;
 use esr_text::{first, push_number};
 use std::alloc::{AllocError, Global};
 
-/// The largest limit, which is no limit in practice.
+/// The largest limit, which is shown as "no limit".
 const NO_LIMIT: u64 = 1_000_000_000_000_000_000;
 
 /// The name of a transaction.
@@ -17,7 +17,7 @@ fn name<'a>(audited: &Audited<'a>, txn: TxnId) -> &'a str {
     name_of_transaction(audited.transactions, txn)
 }
 
-/// Where the line is.
+/// Appends the position of the line.
 fn push_moment(
     out: &mut String,
     audited: &Audited<'_>,
@@ -34,12 +34,14 @@ fn push_moment(
     push_names(out, audited.transactions, before)
 }
 
-/// Whether it is placed behind updates that had committed when it began, so that earlier moments do not count.
+/// Returns whether the query has to follow updates that committed before it began, so that earlier moments are
+/// excluded.
 fn must_follow(audited: &Audited<'_>) -> bool {
     !audited.finding.problem.must().is_empty()
 }
 
-/// Whether what it read was ever true at one moment. That of a strict query may have been, before what it had to see.
+/// Appends whether the values read ever existed at one moment. For a strict query, they may have existed before the
+/// updates that it had to follow.
 pub fn push_verdict(
     out: &mut String,
     audited: &Audited<'_>,
@@ -62,7 +64,7 @@ pub fn push_verdict(
     out.push('.')
 }
 
-/// The nearest moment, where none has all that was read.
+/// Appends the nearest moment, if no moment has all values that were read.
 pub fn push_nearest_moment(
     out: &mut String,
     audited: &Audited<'_>,
@@ -133,7 +135,7 @@ fn push_charge_sentence(
     out.push('.')
 }
 
-/// The updates that a strict query had to be behind.
+/// Returns the updates that a strict query had to follow.
 fn updates_seen(alloc: Global, audited: &Audited<'_>) -> Result<Vec<TxnId>, AllocError> {
     let problem = &audited.finding.problem;
     let mut seen = Vec::new(alloc);
@@ -145,7 +147,7 @@ fn updates_seen(alloc: Global, audited: &Audited<'_>) -> Result<Vec<TxnId>, Allo
     Ok(seen)
 }
 
-/// The same in words, where there are any.
+/// Appends the updates that a strict query had to follow, if there are any.
 pub fn push_strict(
     alloc: Global,
     out: &mut String,
@@ -158,7 +160,7 @@ pub fn push_strict(
     push_predecessors(out, audited, &seen)
 }
 
-/// What a strict query had to be behind.
+/// Appends the names of the updates that a strict query had to follow.
 fn push_predecessors(
     out: &mut String,
     audited: &Audited<'_>,
@@ -190,7 +192,7 @@ fn all_sentences() -> &'static [Sentence] {
     &SENTENCES
 }
 
-/// A sentence, or nothing where it is not said.
+/// Appends a sentence unless it is empty.
 fn push_sentence(
     alloc: Global,
     out: &mut String,

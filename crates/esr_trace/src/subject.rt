@@ -1,5 +1,5 @@
-//! A query that was audited, with what its script leads to. All of it is lent: a page tells of many queries of one
-//! history.
+//! An audited query with the history and the names of its script. All of them are references, since a page describes
+//! many queries of one history.
 
 use esr_audit::Finding;
 use esr_history::History;
@@ -14,6 +14,6 @@ pub struct Audited<'a> {
     /// The names of the transactions, in the order of their numbers, from 1.
     pub transactions: &'a Names,
     pub history: &'a History<Weighted>,
-    /// What the audit finds of it.
+    /// The finding of its audit.
     pub finding: &'a Finding,
 }

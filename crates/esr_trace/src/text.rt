@@ -1,14 +1,14 @@
-//! What sentences share: names in a row.
+//! Lists of names in sentences.
 
 use esr_history::TxnId;
 use esr_report::{Names, name_of_transaction};
 use esr_text::{first, push_number};
 use std::alloc::AllocError;
 
-/// So many names are told at most, and then how many more there are.
+/// The maximum number of names in a list; the number of the others follows.
 pub const MAX_NAMES: usize = 3;
 
-/// What stands before one of some names: nothing, a comma or `and`.
+/// Returns the separator before the name at `place`: nothing, a comma or `and`.
 fn joint(place: usize, count: usize) -> &'static str {
     if place == 0 {
         ""
@@ -19,7 +19,7 @@ fn joint(place: usize, count: usize) -> &'static str {
     }
 }
 
-/// How many more there are than are told by name.
+/// Appends the number of items that are not listed by name.
 pub fn push_rest(out: &mut String, count: usize) -> Result<(), AllocError> {
     let more = count.saturating_sub(MAX_NAMES);
     if more > 0 {

@@ -15,7 +15,7 @@ const MAX_NUMBERS: usize = MAX_TRANSACTIONS + 1;
 /// So many charges are kept one by one. Those of the same reads, one after another, are kept as one.
 const MAX_CHARGES: usize = 12;
 
-/// How a transaction ended, as the query could know it at its end.
+/// The outcome of a transaction at the end of the query.
 #[derive(Clone, Copy)]
 pub enum WriterEnd {
     /// It committed before the query did.
@@ -32,16 +32,16 @@ pub struct ObservedRead {
     pub value: i64,
     /// The update that had written it, unless it is the opening value.
     pub writer: Option<TxnId>,
-    /// Whether that update had not ended then.
+    /// True if that update was still active at that time.
     pub is_dirty: bool,
     pub count: u64,
-    /// Whether that update wrote another value over it.
+    /// True if that update overwrote the value.
     pub overwritten: bool,
     /// The place of the first such read in the log.
     pub place: usize,
 }
 
-/// What made a charge.
+/// The operation that caused a charge.
 #[derive(Clone, Copy, PartialEq, Eq)]
 pub enum Cause {
     /// The query read a value that an update had changed and not committed.
@@ -55,12 +55,12 @@ pub enum Cause {
 pub struct ChargeGroup {
     pub update: TxnId,
     pub item: ItemId,
-    /// How much was charged, all together.
+    /// The total charge.
     pub amount: u64,
-    /// How often.
+    /// The number of charges.
     pub count: u64,
     pub cause: Cause,
-    /// The value before the update's change, and behind it.
+    /// The values before and after the update's change.
     pub old: i64,
     pub new: i64,
     /// The place of the first in the log.
@@ -68,7 +68,7 @@ pub struct ChargeGroup {
 }
 
 impl ChargeGroup {
-    /// Whether another one is of a read that was like those of this one.
+    /// Returns whether another charge is of the same update, item and values.
     fn is_like(&self, other: &ChargeGroup) -> bool {
         self.cause == Cause::Read
             && other.cause == Cause::Read
@@ -132,7 +132,7 @@ fn gap(metric: &Weighted, item: ItemId, a: i64, b: i64) -> u64 {
     metric.distance(item, 0, 1).saturating_mul(a.abs_diff(b))
 }
 
-/// How a transaction ended.
+/// Returns the outcome of a transaction.
 fn end_in(ends: &[WriterEnd], txn: TxnId) -> WriterEnd {
     ends.get(txn.0 as usize)
         .copied()
@@ -165,13 +165,13 @@ fn ranking(alloc: Global, sums: &[u64]) -> Result<Vec<Sum>, AllocError> {
     Ok(ranking)
 }
 
-/// What the history tells of a query.
+/// The trace of a query.
 #[derive(Drop)]
 pub struct QueryTrace {
     query: TxnId,
     items: Vec<ItemState>,
     ends: Vec<WriterEnd>,
-    /// What the query was charged, by the number of the update and by that of the item.
+    /// The charges of the query by update number and by item number.
     by_update: Vec<u64>,
     by_item: Vec<u64>,
     /// Each value that the query read of an item, once.
@@ -179,9 +179,9 @@ pub struct QueryTrace {
     /// The first charges, and how many there are of all.
     pub charges: Vec<ChargeGroup>,
     pub charge_count: u64,
-    /// Whether charges came that are not kept.
+    /// True if charges were dropped.
     is_cut: bool,
-    /// How many updates committed before the query.
+    /// The number of updates that committed before the query.
     pub committed: u64,
     /// The place of the query's begin in the log.
     pub begin: Option<usize>,
@@ -228,12 +228,12 @@ impl QueryTrace {
         })
     }
 
-    /// How a transaction ended.
+    /// Returns the outcome of a transaction.
     pub fn end(&self, txn: TxnId) -> WriterEnd {
         end_in(&self.ends, txn)
     }
 
-    /// Notes a charge, where it is above 0.
+    /// Records a charge, if it is above 0.
     fn charge(&mut self, charge: ChargeGroup) -> Result<(), AllocError> {
         if charge.amount == 0 {
             return Ok(());
@@ -244,7 +244,7 @@ impl QueryTrace {
         self.keep(charge)
     }
 
-    /// Keeps a charge, if there is room.
+    /// Stores a charge, if there is space.
     fn keep(&mut self, charge: ChargeGroup) -> Result<(), AllocError> {
         let is_cut = self.is_cut;
         if let Some(last) = self.charges.last_mut() {
@@ -277,8 +277,8 @@ impl QueryTrace {
         Ok(())
     }
 
-    /// Notes that an update wrote another value over its own, which the query may have read. All sights are looked at, so
-    /// this is for such writes alone: where updates write each item once, it never comes.
+    /// Records that an update overwrote its own value, which the query may have read. It scans all observed reads, so
+    /// it is called only for such writes.
     fn overwrite(&mut self, item: ItemId, update: TxnId, value: i64) {
         for observed in &mut self.observed_reads {
             if observed.item == item && observed.writer == Some(update) {
@@ -426,12 +426,12 @@ impl QueryTrace {
         Ok(())
     }
 
-    /// What updates were charged to the query, most first.
+    /// Returns the charges by update, in descending order.
     pub fn sums_by_update(&self, alloc: Global) -> Result<Vec<Sum>, AllocError> {
         ranking(alloc, &self.by_update)
     }
 
-    /// What the query was charged on items, most first.
+    /// Returns the charges by item, in descending order.
     pub fn sums_by_item(&self, alloc: Global) -> Result<Vec<Sum>, AllocError> {
         ranking(alloc, &self.by_item)
     }
@@ -446,7 +446,7 @@ impl QueryTrace {
     }
 }
 
-/// What the history tells of a query.
+/// The trace of a query.
 pub fn trace_of(
     alloc: Global,
     history: &History<Weighted>,

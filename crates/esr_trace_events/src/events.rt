@@ -114,7 +114,7 @@ fn push_transaction(
     out.push_str("}}")
 }
 
-/// What an event does.
+/// The kind of an event.
 #[derive(Clone, Copy)]
 struct Operation<'a> {
     verb: &'static str,

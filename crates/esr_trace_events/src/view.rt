@@ -13,7 +13,7 @@ const HEAD: &str =
 /// The transactions and charges of a script as trace events.
 pub struct TraceEvents;
 
-/// What is written so far.
+/// The output so far.
 #[derive(Drop)]
 struct Writer<'a> {
     replay: Replay<'a>,

@@ -6,7 +6,7 @@ ghost use Rattle.esr_base.specs.Watch.{failed};
 use crate::tests::devices::{Way, check_cut, cut_after, narrow_until};
 use esr_history::Watched;
 use esr_lint::{Notes, Unobserved};
-use esr_picture::{Drawing, NotedDrawing};
+use esr_picture::{PictureView, PictureWithErrors};
 use esr_script::{RunFault, render_query};
 use std::alloc::{AllocError, Global};
 use std::io::{Read, Write};
@@ -70,7 +70,7 @@ fn draw<R: Read, W: Write>(
     requires reader { failed reader.old ≡ false }
     requires writer { failed writer.old ≡ false }
 {
-    render_query(alloc, reader, writer, name, &Drawing, &mut Unobserved)
+    render_query(alloc, reader, writer, name, &PictureView, &mut Unobserved)
 }
 
 /// Draws the query of that name, and searches the output for texts.
@@ -117,7 +117,7 @@ fn lines_with_errors_are_drawn(rt: HostRuntime) {
     }
     let mut reader = Watched::new(BANK.as_bytes());
     let mut writer = Watched::new(Vec::new(alloc));
-    let view = NotedDrawing { notes: &notes };
+    let view = PictureWithErrors { notes: &notes };
     let ended = render_query(
         alloc,
         &mut reader,

@@ -4,7 +4,7 @@ use crate::tests::pictures::BANK;
 use esr_history::Watched;
 use esr_lint::{Notes, Unobserved};
 use esr_page::{Origin, Page};
-use esr_picture::Drawing;
+use esr_picture::PictureView;
 use esr_prose::{Passage, Prose};
 use esr_script::{RunFault, render_script};
 use esr_shrink::{Progress, Shrink};
@@ -135,11 +135,11 @@ fn only_queries_are_described(rt: HostRuntime) {
 }
 
 /// Returns a page with the details of `worst` queries.
-fn page<'a>(worst: u64, notes: &'a Notes) -> Page<'a, TimelinePart, Drawing, Passage> {
+fn page<'a>(worst: u64, notes: &'a Notes) -> Page<'a, TimelinePart, PictureView, Passage> {
     Page {
         worst,
         timeline: &TimelinePart,
-        picture: &Drawing,
+        picture: &PictureView,
         words: &Passage,
         origin: Origin {
             file: Some("<bank>"),

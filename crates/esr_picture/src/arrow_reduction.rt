@@ -2,11 +2,11 @@
 //! through updates that are not drawn: one pass over the pairs finds for each update which of those drawn come before
 //! it, as the bits of one number, since the pairs ascend. That is why at most 30 updates are drawn.
 
-use crate::choice::Choice;
+use crate::selection::Choice;
 use esr_cert::Problem;
 use std::alloc::{AllocError, Global};
 
-/// Where each update is drawn, by its position: 0 where it is not.
+/// The slot of each update, by position: 0 if it is not drawn.
 #[derive(Drop)]
 pub struct Slots {
     slots: Vec<u8>,
@@ -26,7 +26,7 @@ impl Slots {
         Ok(Slots { slots })
     }
 
-    /// The slot of the update at a position: 0 where it is not drawn.
+    /// Returns the slot of the update at a position: 0 if it is not drawn.
     pub fn of(&self, position: u32) -> u8 {
         self.slots.get(position as usize).copied().unwrap_or(0)
     }
@@ -48,10 +48,10 @@ fn bit(slot: u8) -> u64 {
     1u64.checked_shl(u32::from(slot)).unwrap_or(0)
 }
 
-/// For each update, by its position, the slots of those drawn that some row of pairs leads from to it.
+/// Returns for each update, by position, the slots of the drawn updates from which a path of pairs leads to it.
 ///
-/// The pairs ascend, and each leads from a lower position to a higher one. So where a pair's turn comes, all that
-/// leads to its first update is known.
+/// The pairs ascend, and each leads from a lower position to a higher one. So when a pair is processed, all
+/// predecessors of its first update are known.
 fn ancestors(alloc: Global, problem: &Problem, slots: &Slots) -> Result<Vec<u64>, AllocError> {
     let mut above = vec![in alloc; 0u64; problem.updates().len()]?;
     for (first, second) in problem.before() {
@@ -63,7 +63,7 @@ fn ancestors(alloc: Global, problem: &Problem, slots: &Slots) -> Result<Vec<u64>
     Ok(above)
 }
 
-/// What is above the updates of these slots, all together.
+/// Returns the union of the ancestors of the updates in these slots.
 fn above_those(drawn: &[(u8, u64)], those: u64) -> u64 {
     let mut all = 0;
     for (slot, above) in drawn {

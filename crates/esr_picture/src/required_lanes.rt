@@ -1,28 +1,28 @@
-//! What the lanes that are drawn say of other places for the line: a picture whose lanes are green somewhere else, at
-//! no cost, would contradict its own line.
+//! Finds the lanes that a picture has to show so that it does not contradict its line: if all drawn lanes were green at
+//! another place, a reader would expect the line there.
 //!
-//! The updates are gone through in the order in which they are drawn, those before the line first, and for each place
-//! between two of them the costs of the lanes that are drawn are added up. Where a place costs less than the line, a lane
-//! speaks against it that is not drawn: the one that costs most there is drawn too, until no place is left. All lanes
-//! together cost least at the line, so this ends.
+//! For each place between two updates, in the order of the picture, the costs of the drawn lanes are added up. If a
+//! place costs less than the line, the undrawn lane that costs most there is drawn too, until no such place is left.
+//! All lanes together cost least at the line, so this terminates.
 
-use crate::choice::Crossing;
+use crate::selection::Crossing;
 use esr_cert::Chain;
 use esr_history::MAX_TRANSACTIONS;
 use std::alloc::{AllocError, Global};
 
-/// Where each update stands in the order that is drawn.
+/// The index of each update in the order of the picture.
 #[derive(Drop)]
 pub struct Places {
     places: Vec<u32>,
-    /// How many are before the line.
+    /// The number of updates before the line.
     line: usize,
-    /// How many are before the first place that the query may have.
+    /// The number of updates before the first possible place of the query.
     first: usize,
 }
 
 impl Places {
-    /// Those of the set first, and then the others, each by their positions. The query has to be behind `must`.
+    /// Orders the updates: first those of the set, then the others, each by position. The query has to follow the
+    /// updates in `must`.
     pub fn new(alloc: Global, inside: &[bool], must: &[u32]) -> Result<Places, AllocError> {
         let line = inside.iter().filter(|is_inside| **is_inside).count();
         let mut places = Vec::new(alloc);
@@ -49,7 +49,8 @@ impl Places {
         self.places.get(position as usize).copied().unwrap_or(0) as usize
     }
 
-    /// What a lane costs behind so many updates. The places of its writers ascend, as those before the line are its first.
+    /// Returns the cost of a lane after `place` updates. The indices of its writers ascend, because those before the
+    /// line are its first ones.
     fn cost_at(&self, chain: &Chain, place: usize) -> u64 {
         let version = chain
             .writers
@@ -58,12 +59,12 @@ impl Places {
     }
 }
 
-/// What some lanes cost together at each place.
+/// The total cost of some lanes at each place.
 #[derive(Drop)]
 pub struct Costs {
-    /// What they cost before all updates.
+    /// The cost before all updates.
     first: i128,
-    /// By how much more they cost behind the update of each place.
+    /// The increase of the cost after each update.
     changes: Vec<i128>,
 }
 
@@ -89,7 +90,7 @@ impl Costs {
         }
     }
 
-    /// The place where they cost least, if they cost less there than at the line.
+    /// Returns the place with the least cost, if it is less than the cost at the line.
     pub fn cheaper_place(&self, places: &Places) -> Option<usize> {
         let mut sum = self.first;
         let mut at_line = sum;

@@ -1,21 +1,21 @@
-//! Which lanes and which updates are drawn.
+//! Selects the lanes and updates to draw.
 //!
-//! Of few updates all are. Else a lane needs those that bound its version at the line and the one nearest to what was
-//! read; what is between is one dotted piece with a count. Lanes that are off come first, and then those without which
-//! the picture would contradict its line (`costs`). These are drawn also where there is no room for the updates that
-//! they need, and the line then crosses a dotted piece: a lane that was left out would take what it is off out of the
-//! sum, and the sum is what the picture is about.
+//! A picture of few updates shows all of them. Otherwise a lane needs the updates that bound its version at the line
+//! and the version nearest to the values read; a dotted segment with a count replaces the updates in between. Lanes
+//! that are off are selected first, then those without which the picture would contradict its line (`required_lanes`).
+//! Both are drawn even if there is no space for the updates that they need; the line then crosses a dotted segment.
+//! Omitting such a lane would remove its difference from the sum, and the sum is the subject of the picture.
 
-use crate::costs::{Costs, Places, against};
+use crate::required_lanes::{Costs, Places, against};
 use esr_cert::{Chain, Problem};
 use esr_svg::MAX_LANES;
 use esr_text::first;
 use std::alloc::{AllocError, Global};
 
-/// Where a query has no more updates than this, all are drawn, if there is room.
+/// The maximum number of updates of which all are drawn, if there is space.
 const FEW_UPDATES: usize = 8;
 
-/// Where the line crosses a lane: the version there, and what the reads of the item are off from it.
+/// The version at which the line crosses a lane, and the sum of the differences of the item's reads from it.
 #[derive(Clone, Copy)]
 pub struct Crossing {
     pub version: usize,
@@ -25,7 +25,7 @@ pub struct Crossing {
 /// The lanes and the updates that are drawn.
 #[derive(Drop)]
 pub struct Choice {
-    /// Where the line crosses each lane, drawn or not.
+    /// The crossing of the line with each lane, drawn or not.
     pub crossings: Vec<Crossing>,
     /// The lanes that are drawn, by their positions among the chains, those that are off most first.
     pub lanes: Vec<usize>,
@@ -35,11 +35,11 @@ pub struct Choice {
     pub before: Vec<u32>,
     /// Those after the line.
     pub after: Vec<u32>,
-    /// Whether the lanes that are drawn would be cheaper at another place than at the line.
+    /// True if the drawn lanes cost less at another place than at the line.
     pub is_cheaper_elsewhere: bool,
 }
 
-/// Whether each of so many positions is in the set.
+/// Returns for each of `count` positions whether it is in the set.
 fn marks_of(alloc: Global, count: usize, set: &[u32]) -> Result<Vec<bool>, AllocError> {
     let mut marks = vec![in alloc; false; count]?;
     for position in set {
@@ -50,12 +50,13 @@ fn marks_of(alloc: Global, count: usize, set: &[u32]) -> Result<Vec<bool>, Alloc
     Ok(marks)
 }
 
-/// Whether the position is marked.
+/// Returns whether a position is marked.
 fn is_marked(marks: &[bool], position: u32) -> bool {
     marks.get(position as usize) == Some(&true)
 }
 
-/// Where the line crosses a lane: behind as many writers as the set has. They are the first ones, as the set is closed.
+/// Returns the crossing of the line with a lane: after the writers that are in the set. These are the first writers,
+/// because the set is closed.
 fn crossing_of(chain: &Chain, inside: &[bool]) -> Crossing {
     let version = chain
         .writers
@@ -64,7 +65,7 @@ fn crossing_of(chain: &Chain, inside: &[bool]) -> Crossing {
     Crossing { version, off }
 }
 
-/// Where the line crosses each lane.
+/// Returns the crossing of the line with each lane.
 fn crossings(
     alloc: Global,
     chains: &[Chain],
@@ -157,10 +158,10 @@ fn bounds_of(
 /// The lanes that may be drawn.
 #[derive(Drop)]
 struct Candidates {
-    /// In the order in which there is to be room for them: those that are off, most first; those without which the drawn
-    /// ones would be cheaper elsewhere; and the others as they come.
+    /// In the order of priority: lanes that are off, largest difference first; lanes without which the drawn ones would
+    /// be cheaper elsewhere; then the others.
     lanes: Vec<usize>,
-    /// How many are of the first two kinds.
+    /// The number of lanes of the first two kinds.
     needed: usize,
 }
 
@@ -244,8 +245,8 @@ fn push_others(
     Ok(())
 }
 
-/// The updates that a lane needs beside those that are drawn, if there is room for so many: those that bound its version
-/// at the line, and where they fit those that bound the nearest one.
+/// Returns the updates that a lane needs in addition to the drawn ones, if there is space for them: those that bound
+/// its version at the line, and if they fit, those that bound the nearest version.
 fn needs(
     alloc: Global,
     chain: &Chain,
@@ -262,8 +263,8 @@ fn needs(
     Ok((at_line.len() <= space).then_some(at_line))
 }
 
-/// Draws a lane, and the updates that it needs beside those that are drawn. Where there is no room for these, it draws
-/// none of them, and a lane that is not needed neither.
+/// Draws a lane and the updates that it needs in addition to the drawn ones. If there is no space for these, it draws
+/// none of them, and draws the lane only if it is required.
 fn draw_lane(
     lanes: &mut Vec<usize>,
     drawn: &mut Vec<u32>,
@@ -285,7 +286,7 @@ fn draw_lane(
     Ok(())
 }
 
-/// The lanes that are drawn, and the updates that they need beside those that are drawn.
+/// Selects the lanes to draw, and the updates that they need in addition to the drawn ones.
 fn draw_lanes(
     alloc: Global,
     chains: &[Chain],
@@ -307,7 +308,7 @@ fn draw_lanes(
     Ok(lanes)
 }
 
-/// Whether these lanes together cost less at another place than at the line.
+/// Returns whether these lanes together cost less at another place than at the line.
 fn is_cheaper_elsewhere(
     alloc: Global,
     problem: &Problem,
@@ -341,7 +342,7 @@ fn sides_of(
     Ok((before, after))
 }
 
-/// All updates, where they are few and there is room for them, and else none.
+/// Returns all updates if they are few and there is space for them, otherwise none.
 fn bounded_updates(
     alloc: Global,
     count: usize,

@@ -1,5 +1,0 @@
--- Why `DrawingQueryView::text_of` keeps its contract: the goals that are left to a proof of ours.
-use Rattle.esr_picture.proofs.drawing.DrawingQueryView.text_of.Goals as goal
-
-pub returns : goal.returns
-returns c s name answered = c.draw.ensures
