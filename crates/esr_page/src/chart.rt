@@ -6,7 +6,7 @@
 //! rejected, since a bar would no longer show its amount by its length.
 
 use crate::audits::AuditedDistance;
-use crate::rows::{QueryRow, QueryRows};
+use crate::rows::{QueryRow, QueryRows, open_link};
 use esr_text::{first, push_count, push_number};
 use std::alloc::{AllocError, Global};
 
@@ -92,8 +92,9 @@ fn push_column(
     measure: Measure,
 ) -> Result<(), AllocError> {
     let name = row.name;
-    let target = if row.has_explanation { "q" } else { "r" };
-    write!(out, "<li><a href='#{target}-{name}' title='")?;
+    out.push_str("<li>")?;
+    open_link(out, row.target, name)?;
+    out.push_str(" title='")?;
     push_words(out, row)?;
     let amount = amount_of(row, measure);
     let end = if amount > top { " cut" } else { "" };

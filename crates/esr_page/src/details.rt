@@ -2,7 +2,8 @@
 
 use crate::audits::{Audits, rank};
 use crate::page::Page;
-use crate::rows::{QueryRow, QueryRows};
+use crate::rows::{QueryRow, QueryRows, Target};
+use crate::table::MAX_ROWS;
 use esr_audit::{AuditError, Finding, audit_query};
 use esr_history::TxnId;
 use esr_report::name_of_transaction;
@@ -33,20 +34,31 @@ fn mark(
     for (_, _, number) in ranks {
         let query = TxnId(*number);
         if let Some(row) = all.of(query) {
-            row.has_explanation = true;
+            row.target = Target::Details;
             explained.push(query)?;
         }
     }
     Ok(explained)
 }
 
-/// Marks the `count` queries with the greatest distances, and returns them in descending order.
+/// Notes that no link leads to the queries of these ranks.
+fn mark_unlisted(all: &mut QueryRows<'_>, ranks: &[(u64, u64, u32)]) {
+    for (_, _, number) in ranks {
+        if let Some(row) = all.of(TxnId(*number)) {
+            row.target = Target::Nothing;
+        }
+    }
+}
+
+/// Marks the `count` queries with the greatest distances, and returns them in descending order. The table lists the
+/// committed queries in this order, so no link leads to those after its last row.
 pub fn describe_farthest(
     alloc: Global,
     all: &mut QueryRows<'_>,
     count: usize,
 ) -> Result<Vec<TxnId>, AllocError> {
     let ranks = farthest(alloc, &all.rows)?;
+    mark_unlisted(all, ranks.get(MAX_ROWS..).unwrap_or(&[]));
     mark(alloc, all, first(&ranks, count))
 }
 

@@ -7,7 +7,7 @@ use crate::audits::{Audits, audit_all, rank};
 use crate::chart::push_charts;
 use crate::details::{describe_farthest, heading_of, next_heading_of};
 use crate::histogram::push_histogram;
-use crate::rows::{QueryRow, QueryRows, rows_of};
+use crate::rows::{QueryRow, QueryRows, Target, open_link, rows_of};
 use crate::style::{head, script};
 use crate::table::push_table;
 use crate::updates::push_updates;
@@ -94,7 +94,7 @@ struct PageTotals<'a> {
 struct Farthest<'a> {
     name: &'a str,
     amount: u64,
-    has_explanation: bool,
+    target: Target,
 }
 
 /// Returns the query with the greatest amount of two, the first of them if they are equal. An amount of 0 does not count.
@@ -109,7 +109,7 @@ fn farther<'a>(
     Some(Farthest {
         name: row.name,
         amount,
-        has_explanation: row.has_explanation,
+        target: row.target,
     })
 }
 
@@ -169,11 +169,9 @@ fn push_sums(out: &mut String, totals: PageTotals<'_>, updates: u64) -> Result<(
 /// Appends the greatest amount of a kind, with a link to its query.
 fn push_farthest(out: &mut String, kind: &str, farthest: Farthest<'_>) -> Result<(), AllocError> {
     let name = farthest.name;
-    let target = if farthest.has_explanation { "q" } else { "r" };
-    write!(
-        out,
-        "<div><dt>{kind}</dt><dd><a href='#{target}-{name}'>{name}</a>, "
-    )?;
+    write!(out, "<div><dt>{kind}</dt><dd>")?;
+    open_link(out, farthest.target, name)?;
+    write!(out, ">{name}</a>, ")?;
     push_number(out, farthest.amount)?;
     out.push_str("</dd></div>\n")
 }

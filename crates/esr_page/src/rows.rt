@@ -17,6 +17,17 @@ pub enum QueryEnd {
     Active,
 }
 
+/// Where links to a query lead.
+#[derive(Clone, Copy, PartialEq, Eq)]
+pub enum Target {
+    /// To its timeline, picture and prose.
+    Details,
+    /// To its row of the table.
+    TableRow,
+    /// Nowhere: the table ends before it.
+    Nothing,
+}
+
 /// The data of a query.
 #[derive(Clone, Copy)]
 pub struct QueryRow<'a> {
@@ -27,8 +38,7 @@ pub struct QueryRow<'a> {
     pub charged: u64,
     pub reads: u64,
     pub end: QueryEnd,
-    /// True if picture and prose follow.
-    pub has_explanation: bool,
+    pub target: Target,
 }
 
 impl QueryRow<'_> {
@@ -46,6 +56,16 @@ impl QueryRow<'_> {
             QueryEnd::Committed { sum_error, .. } => Some(sum_error),
             QueryEnd::Aborted | QueryEnd::Active => None,
         }
+    }
+}
+
+/// Appends the start of a link to a query, or of an element without a link if it leads nowhere: its other attributes
+/// and its content follow.
+pub fn open_link(out: &mut String, target: Target, name: &str) -> Result<(), AllocError> {
+    match target {
+        Target::Details => write!(out, "<a href='#q-{name}'"),
+        Target::TableRow => write!(out, "<a href='#r-{name}'"),
+        Target::Nothing => out.push_str("<a"),
     }
 }
 
@@ -84,7 +104,7 @@ fn row_of<'a>(recording: &'a Recording<'_>, query: TxnId) -> Option<QueryRow<'a>
         charged: recording.history.import(query),
         reads: 0,
         end: end_of(&recording.history, facts.end),
-        has_explanation: false,
+        target: Target::TableRow,
     })
 }
 

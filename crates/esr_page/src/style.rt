@@ -34,7 +34,7 @@ dd{margin:0;font-size:1.4em;overflow-wrap:anywhere}
 .wide{overflow-x:auto;max-width:100%}
 .wide svg{display:block}
 .seen{display:flex;flex-wrap:wrap;align-items:flex-start}
-ol.chart{display:flex;align-items:flex-start;list-style:none;margin:0;padding:0 0 4px}
+ol.chart{display:flex;align-items:flex-start;list-style:none;margin:0;padding:2px 0 4px}
 .chart li{max-width:none}
 .many li{flex:1 0 4px}
 .many .lim{border-top-width:1px}

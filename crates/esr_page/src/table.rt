@@ -2,7 +2,7 @@
 //! It is complete without scripts; if a browser runs the script of the page, a press on the head
 //! of a column sorts by it, and only the first 50 rows are shown until all are requested.
 
-use crate::rows::{QueryEnd, QueryRow};
+use crate::rows::{QueryEnd, QueryRow, Target};
 use esr_text::{first, push_number};
 use std::alloc::AllocError;
 
@@ -25,7 +25,7 @@ pub fn push_cell(out: &mut String, number: u64) -> Result<(), AllocError> {
 /// Appends the name of a query, as a link if the query is described in detail.
 fn push_name(out: &mut String, row: &QueryRow<'_>) -> Result<(), AllocError> {
     let name = row.name;
-    if row.has_explanation {
+    if row.target == Target::Details {
         write!(out, "<th scope='row'><a href='#q-{name}'>{name}</a></th>")
     } else {
         write!(out, "<th scope='row'>{name}</th>")

@@ -28,6 +28,9 @@ const ONE_STRAY_LINE: u32 = 24;
 
 const TWO_STRAY_LINES: u32 = 40;
 
+/// What a line with the weight of an item adds.
+const WEIGHT_LINE: u32 = 16;
+
 /// From the start of a lane to the text on a value that is not a version.
 pub const BEFORE_STRAY: u32 = 38;
 
@@ -52,6 +55,8 @@ pub struct Frame {
     /// The width of the text in front of a lane.
     pub label_width: u32,
     pub strays: StrayLines,
+    /// Whether an item has a weight.
+    has_weights: bool,
     /// The height of the arrows that go over boxes.
     arches: u32,
     lanes: u8,
@@ -139,11 +144,21 @@ fn reach(x: u32, widths: Widths) -> u32 {
     }
 }
 
-/// Returns the width that the lanes, the text at the line and the name of the query need.
+/// Returns half the width of the name of the query, which is below the line.
+fn half_name(query: &str) -> u32 {
+    width_of(query.len()) / 2
+}
+
+/// Returns the width that the lanes, the text at the line and the name of the query need. The name does not make a
+/// picture wider than [`WIDEST`]: if there is no space for half of it to the right of the line, it is shifted to the
+/// left.
 fn needed_width(scene: &Scene<'_>, slots: &Slots, widths: Widths) -> u32 {
     let x = slots.x(scene.line);
-    let name = width_of(scene.query.len()) / 2;
-    let at_line = reach(x, widths).max(name).saturating_add(30);
+    let at_line = x.saturating_add(reach(x, widths)).saturating_add(30);
+    let name = x
+        .saturating_add(half_name(scene.query))
+        .saturating_add(30)
+        .min(WIDEST);
     let strays = slots
         .x(0)
         .saturating_add(BEFORE_STRAY)
@@ -152,7 +167,8 @@ fn needed_width(scene: &Scene<'_>, slots: &Slots, widths: Widths) -> u32 {
         .end()
         .max(strays)
         .saturating_add(EDGE)
-        .max(x.saturating_add(at_line))
+        .max(at_line)
+        .max(name)
         .max(NARROWEST)
 }
 
@@ -185,6 +201,7 @@ impl Frame {
             box_width: box_width(&scene.updates),
             label_width: left_of(&scene.lanes).saturating_sub(40),
             strays: stray_lines(&slots, widths, width),
+            has_weights: scene.lanes.iter().any(|lane| lane.weight > 1),
             arches: arches(&scene.arrows, scene.line),
             lanes: scene.lanes.len().min(MAX_LANES) as u8,
             keys: count_rows(scene, width),
@@ -203,6 +220,14 @@ impl Frame {
     /// Returns where lanes end.
     pub fn end(&self) -> u32 {
         self.slots.end()
+    }
+
+    /// Returns the middle of the name of the query: at the line, or to its left if the name would be past the edge.
+    pub fn name_x(&self, query: &str, line: u8) -> u32 {
+        let last = self
+            .width
+            .saturating_sub(EDGE.saturating_add(half_name(query)));
+        self.x(line).min(last)
     }
 
     /// Returns the height of the lines of the heading.
@@ -225,11 +250,13 @@ impl Frame {
 
     /// Returns the distance from lane to lane.
     fn pitch(&self) -> u32 {
-        LANE.saturating_add(match self.strays {
+        let strays = match self.strays {
             StrayLines::None => 0,
             StrayLines::One => ONE_STRAY_LINE,
             StrayLines::Two => TWO_STRAY_LINES,
-        })
+        };
+        let weights = if self.has_weights { WEIGHT_LINE } else { 0 };
+        LANE.saturating_add(strays).saturating_add(weights)
     }
 
     /// Returns the middle of a lane.

@@ -33,12 +33,17 @@ fn push_rest(
     out.push_str("</text>")
 }
 
+/// Returns whether an item was read more than once.
+fn is_read_again(read: &LaneReads) -> bool {
+    read.values.len() > 1 || read.count > 1
+}
+
 /// Appends the rest of the reads of an item, if it was read more than once.
 fn push_more(out: &mut String, read: &LaneReads, y: u32) -> Result<(), AllocError> {
-    let more = read.values.len().saturating_sub(1);
-    if more == 0 && read.count < 2 {
+    if !is_read_again(read) {
         return Ok(());
     }
+    let more = read.values.len().saturating_sub(1);
     open_text(out, "m g", EDGE, y)?;
     push_rest(out, read.count, more, read.values.get(1).copied())
 }
@@ -116,7 +121,7 @@ fn push_share(
     )
 }
 
-/// Appends the text in front of a lane.
+/// Appends the text in front of a lane, and right below it the share, which must not seem to be that of the next lane.
 fn push_label(
     out: &mut String,
     lane: &Lane<'_>,
@@ -130,7 +135,8 @@ fn push_label(
         push_first(out, *value, y.saturating_add(12))?;
     }
     push_more(out, &lane.read, y.saturating_add(28))?;
-    push_share(out, lane, distance, y.saturating_add(35), frame)
+    let below = if is_read_again(&lane.read) { 35 } else { 19 };
+    push_share(out, lane, distance, y.saturating_add(below), frame)
 }
 
 /// Appends a lane without the line.
@@ -326,7 +332,8 @@ fn push_line(out: &mut String, scene: &Scene<'_>, frame: &Frame) -> Result<(), A
         out,
         "<path class='l' d='M{x} {top}V{floor}'><title>the nearest placement of {query}</title></path>\n"
     )?;
-    open_centred(out, "m n", x, floor.saturating_add(16))?;
+    let middle = frame.name_x(query, scene.line);
+    open_centred(out, "m n", middle, floor.saturating_add(16))?;
     close_text(out, query)?;
     out.push_str("\n")
 }

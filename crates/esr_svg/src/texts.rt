@@ -19,7 +19,7 @@ const MAX_ERRORS: usize = 7;
 pub const MAX_ERROR_LETTERS: usize = 240;
 
 /// The sentence for items that are not drawn and decide the position of the line.
-const OTHERS_DECIDE: &str = "They keep the line from other positions.";
+const OTHERS_DECIDE: &str = "These items keep the line from other positions.";
 
 /// A line in the box of errors.
 #[derive(Drop)]

@@ -4,6 +4,7 @@ use crate::lanes::lane_at;
 use crate::marks::line_at;
 use crate::model::{Arrow, Lane, Source};
 use esr_history::TxnId;
+use esr_items::Metric;
 use esr_trace_events::{Charge, Charges};
 use std::alloc::{AllocError, Global};
 
@@ -41,6 +42,7 @@ fn arrow_of<'a>(
         place,
         line: line_at(source, place),
         item: source.items.name_of(charge.item.0).unwrap_or(""),
+        weight: source.history.metric().distance(charge.item, 0, 1),
         amount: charge.amount,
     }
 }

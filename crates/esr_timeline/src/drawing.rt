@@ -11,9 +11,9 @@ use crate::fit::Picture;
 use crate::layout::{Column, EDGE, Layout, NO_LIMIT};
 use crate::legend::{legend_height, push_legend};
 use crate::limits::push_limit;
-use crate::model::{Action, Arrow, Lane, LaneEnd, Rest, Scene};
+use crate::model::{Action, Arrow, Cause, Lane, LaneEnd, Rest, Scene};
 use crate::titles::{push_charge_title, push_mark_title};
-use esr_text::{number_letters, push_count, push_number, push_value, wrap};
+use esr_text::{first, number_letters, push_count, push_number, push_value, wrap};
 use std::alloc::{AllocError, Global};
 
 const STYLE: &str = "<style>\n\
@@ -53,6 +53,9 @@ const SENTENCE_LETTER: u32 = 8;
 /// From line to line of the sentences.
 const SENTENCE: u32 = 18;
 
+/// The maximum number of items whose weights are listed.
+const MAX_WEIGHTS: usize = 6;
+
 /// The attributes and the body of the element.
 #[derive(Drop)]
 pub struct Parts {
@@ -88,10 +91,39 @@ fn push_rest(out: &mut String, rest: Rest) -> Result<(), AllocError> {
     out.push('.')
 }
 
-/// Returns the sentences below the heading: the lines with errors, and what is not drawn.
+/// Returns a charge of each item with a weight, of the charges that are drawn.
+fn weighted<'a>(alloc: Global, arrows: &[Arrow<'a>]) -> Result<Vec<Arrow<'a>>, AllocError> {
+    let mut weighted: Vec<Arrow<'a>> = Vec::new(alloc);
+    for arrow in arrows {
+        if arrow.weight > 1 && !weighted.iter().any(|other| other.item == arrow.item) {
+            weighted.push(*arrow)?;
+        }
+    }
+    Ok(weighted)
+}
+
+/// Appends a sentence with the weights of the items of these charges, or nothing if there are none.
+fn push_weights(out: &mut String, weighted: &[Arrow<'_>]) -> Result<(), AllocError> {
+    let mut joint = "A charge is a difference times the weight of its item: ";
+    for arrow in first(weighted, MAX_WEIGHTS) {
+        let item = arrow.item;
+        write!(out, "{joint}{item} ")?;
+        push_number(out, arrow.weight)?;
+        joint = ", ";
+    }
+    if weighted.len() > MAX_WEIGHTS {
+        out.push_str(" and others")?;
+    }
+    if !weighted.is_empty() {
+        out.push('.')?;
+    }
+    Ok(())
+}
+
+/// Returns the sentences below the heading: the lines with errors, what is not drawn, and the weights.
 fn sentences_of(
     alloc: Global,
-    rest: Rest,
+    scene: &Scene<'_>,
     errors: u64,
     width: u32,
 ) -> Result<Vec<String>, AllocError> {
@@ -111,9 +143,14 @@ fn sentences_of(
         wrap(alloc, &mut lines, letters, &words)?;
     }
     let mut others = String::new(alloc);
-    push_rest(&mut others, rest)?;
+    push_rest(&mut others, scene.rest)?;
     if !others.is_empty() {
         wrap(alloc, &mut lines, letters, &others)?;
+    }
+    let mut weights = String::new(alloc);
+    push_weights(&mut weights, &weighted(alloc, &scene.arrows)?)?;
+    if !weights.is_empty() {
+        wrap(alloc, &mut lines, letters, &weights)?;
     }
     Ok(lines)
 }
@@ -459,16 +496,33 @@ fn push_values(out: &mut String, value: i64, there: i64, x: u32, y: u32) -> Resu
     close_text(out)
 }
 
-/// Appends the transaction that blocked an event, and how often if more than once.
+/// Appends the lock or the limit that blocked an event.
+fn push_cause(
+    out: &mut String,
+    lane: &Lane<'_>,
+    blocker: &str,
+    cause: Cause,
+) -> Result<(), AllocError> {
+    if cause == Cause::Lock {
+        return write!(out, "lock of {blocker}");
+    }
+    if blocker == lane.name {
+        out.push_str("its limit")
+    } else {
+        write!(out, "limit of {blocker}")
+    }
+}
+
+/// Appends what blocked an event, and how often if more than once.
 fn push_blocker(
     out: &mut String,
+    lane: &Lane<'_>,
     column: &Column<'_>,
-    times: u64,
+    (cause, times): (Cause, u64),
     y: u32,
 ) -> Result<(), AllocError> {
     open_centred(out, "lb rd ha", column.x, y)?;
-    out.push_str("by ")?;
-    out.push_str(column.mark.blocker)?;
+    push_cause(out, lane, column.mark.blocker, cause)?;
     if times > 1 {
         out.push_str(" x")?;
         push_number(out, times)?;
@@ -476,8 +530,13 @@ fn push_blocker(
     close_text(out)
 }
 
-/// Appends the value below a mark, or the transaction that blocked the event.
-fn push_value_label(out: &mut String, column: &Column<'_>, top: u32) -> Result<(), AllocError> {
+/// Appends the value below a mark, or what blocked the event.
+fn push_value_label(
+    out: &mut String,
+    lane: &Lane<'_>,
+    column: &Column<'_>,
+    top: u32,
+) -> Result<(), AllocError> {
     let y = top.saturating_add(43);
     match column.mark.action {
         Action::Read {
@@ -489,19 +548,24 @@ fn push_value_label(out: &mut String, column: &Column<'_>, top: u32) -> Result<(
             nearest: Some(there),
         } => push_values(out, value, there, column.x, y),
         Action::Write { value } => push_mark_value(out, value, column.x, y),
-        Action::Blocked { times, .. } => push_blocker(out, column, times, y),
+        Action::Blocked { cause, times, .. } => push_blocker(out, lane, column, (cause, times), y),
         Action::Begin | Action::Commit | Action::Abort => Ok(()),
     }
 }
 
 /// Appends the labels of a mark.
-fn push_labels(out: &mut String, column: &Column<'_>, top: u32) -> Result<(), AllocError> {
+fn push_labels(
+    out: &mut String,
+    lane: &Lane<'_>,
+    column: &Column<'_>,
+    top: u32,
+) -> Result<(), AllocError> {
     if !column.has_label || column.mark.item.is_empty() {
         return Ok(());
     }
     let y = top.saturating_add(10);
     push_centred(out, "lb ha", column.x, y, column.mark.item)?;
-    push_value_label(out, column, top)
+    push_value_label(out, lane, column, top)
 }
 
 /// Appends a mark with its labels.
@@ -515,7 +579,7 @@ fn push_mark(
     push_mark_title(out, lane, &column.mark)?;
     push_sign(out, column.mark.action, column.x, top.saturating_add(23))?;
     out.push_str("\n")?;
-    push_labels(out, column, top)?;
+    push_labels(out, lane, column, top)?;
     out.push_str("</g>\n")
 }
 
@@ -589,7 +653,7 @@ pub fn parts_of(
     errors: u64,
 ) -> Result<Parts, AllocError> {
     let width = picture.layout.right.saturating_add(EDGE).max(NARROWEST);
-    let sentences = sentences_of(alloc, picture.scene.rest, errors, width)?;
+    let sentences = sentences_of(alloc, &picture.scene, errors, width)?;
     let lines = sentences.len().min(100) as u32;
     picture.layout.heading = lines.saturating_mul(SENTENCE).saturating_add(48);
     let legend = legend_height(&picture.scene, &picture.layout, width);

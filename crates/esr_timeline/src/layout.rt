@@ -76,7 +76,8 @@ fn value_letters(mark: &Mark<'_>) -> usize {
             } else {
                 0
             };
-            mark.blocker.len().saturating_add(3).saturating_add(count)
+            // "limit of " has 9 letters, as "its limit" has.
+            mark.blocker.len().saturating_add(9).saturating_add(count)
         }
         Action::Begin | Action::Commit | Action::Abort => 0,
     }

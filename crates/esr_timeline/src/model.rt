@@ -96,6 +96,8 @@ pub struct Arrow<'a> {
     pub place: usize,
     pub line: u32,
     pub item: &'a str,
+    /// The factor of differences of the item.
+    pub weight: u64,
     pub amount: u64,
 }
 

@@ -245,7 +245,7 @@ fn blocked_events_are_drawn(rt: HostRuntime) {
     let view = Timeline { name: None, notes };
     let texts = [
         "<title>step 5, line 6: v was blocked from reading a by the lock of u, 2 times</title><path class='mx' ",
-        ">by u x2</text>\n",
+        ">lock of u x2</text>\n",
         "<title>step 7, line 8: q was blocked from reading a by the limit of q</title>",
         ">aborted</text>\n",
         ">still active</text>\n",
