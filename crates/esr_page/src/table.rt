@@ -3,14 +3,12 @@
 //! of a column sorts by it, and only the first 50 rows are shown until all are requested.
 
 use crate::rows::{QueryEnd, QueryRow, Target};
+use esr_history::MAX_LIMIT;
 use esr_text::{first, push_number};
 use std::alloc::AllocError;
 
 /// The maximum number of rows.
 pub const MAX_ROWS: usize = 2000;
-
-/// The largest limit, which is shown as "no limit".
-pub const NO_LIMIT: u64 = 1_000_000_000_000_000_000;
 
 const HEADINGS: &str =
     "<h2 id='all'>All queries</h2>\n<div class='wide' tabindex='0' role='group' aria-label='Table'><table>\n<thead><tr><th scope='col'>Name</th><th scope='col' class='num'>Off by</th><th scope='col' class='num'>Charged</th><th scope='col' class='num'>Sum off by</th><th scope='col' class='num'>Limit</th><th scope='col' class='num'>Left</th><th scope='col' class='num'>Reads</th><th scope='col'>Kind</th><th scope='col'>Ended</th><th scope='col' class='num'>Number</th></tr></thead>\n<tbody>\n";
@@ -51,7 +49,7 @@ fn end_cell(end: QueryEnd) -> &'static str {
 
 /// Appends the limit of a query, and the rest of it.
 fn push_limit(out: &mut String, limit: u64, charged: u64) -> Result<(), AllocError> {
-    if limit >= NO_LIMIT {
+    if limit >= MAX_LIMIT {
         return out.push_str("<td class='num'>none</td><td class='num'>-</td>");
     }
     push_cell(out, limit)?;

@@ -1,8 +1,8 @@
 //! The table of the updates that were charged, by the amount that each exported, with the number of reports that it
 //! exported to. A machine replays the history, because a history keeps only what each query imported in all.
 
-use crate::table::{MAX_ROWS, NO_LIMIT, push_cell, push_count_of_rows};
-use esr_history::{Event, History, TxnId};
+use crate::table::{MAX_ROWS, push_cell, push_count_of_rows};
+use esr_history::{Event, History, MAX_LIMIT, TxnId};
 use esr_items::Weighted;
 use esr_report::name_of_transaction;
 use esr_text::{first, push_count, push_number};
@@ -116,7 +116,7 @@ fn push_row(out: &mut String, recording: &Recording<'_>, row: UpdateRow) -> Resu
     write!(out, "<tr><th scope='row'>{name}</th>")?;
     push_cell(out, row.amount)?;
     push_cell(out, row.reports)?;
-    if limit >= NO_LIMIT {
+    if limit >= MAX_LIMIT {
         out.push_str("<td class='num'>none</td>")?;
     } else {
         push_cell(out, limit)?;

@@ -3,7 +3,7 @@
 
 use crate::prose::{Block, MAX_POINTS, add_paragraph, add_point};
 use crate::subject::Subject;
-use esr_history::TxnId;
+use esr_history::{MAX_LIMIT, TxnId};
 use esr_items::ItemId;
 use esr_text::{first, push_count, push_number, push_value};
 use esr_trace::{Cause, ChargeGroup, MAX_NAMES, QueryTrace, Sum, push_rest};
@@ -100,8 +100,12 @@ fn push_intro(
     } else {
         push_number(out, import)?;
     }
-    out.push_str(" of its limit of ")?;
-    push_number(out, limit)?;
+    if limit < MAX_LIMIT {
+        out.push_str(" of its limit of ")?;
+        push_number(out, limit)?;
+    } else {
+        out.push_str(", without a limit")?;
+    }
     out.push_str(if has_charges { ":" } else { "." })
 }
 

@@ -8,11 +8,12 @@ use crate::elements::{
     push_rect, push_square, push_text, push_vertical,
 };
 use crate::fit::Picture;
-use crate::layout::{Column, EDGE, Layout, NO_LIMIT};
+use crate::layout::{Column, EDGE, Layout};
 use crate::legend::{legend_height, push_legend};
 use crate::limits::push_limit;
 use crate::model::{Action, Arrow, Cause, Lane, LaneEnd, Rest, Scene};
 use crate::titles::{push_charge_title, push_mark_title};
+use esr_history::MAX_LIMIT;
 use esr_text::{first, number_letters, push_count, push_number, push_value, wrap};
 use std::alloc::{AllocError, Global};
 
@@ -266,7 +267,7 @@ fn push_lane_head(out: &mut String, lane: &Lane<'_>, top: u32) -> Result<(), All
     let kind = if lane.is_query { "query" } else { "update" };
     push_text(out, "lb gy", EDGE, top.saturating_add(34), kind)?;
     open_text(out, "lb gy", EDGE, top.saturating_add(47))?;
-    if lane.limit >= NO_LIMIT {
+    if lane.limit >= MAX_LIMIT {
         out.push_str("no limit")?;
     } else {
         out.push_str("limit ")?;

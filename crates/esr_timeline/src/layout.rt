@@ -5,6 +5,7 @@
 //! labels of two lanes cannot overlap.
 
 use crate::model::{Action, Arrow, Lane, LaneEnd, Mark};
+use esr_history::MAX_LIMIT;
 use esr_text::{letters_of, number_letters};
 use std::alloc::{AllocError, Global};
 
@@ -24,9 +25,6 @@ pub const EDGE: u32 = 20;
 const UPDATE_HEIGHT: u32 = 60;
 
 const QUERY_HEIGHT: u32 = 88;
-
-/// The largest limit of a transaction, which is shown as "no limit".
-pub const NO_LIMIT: u64 = 1_000_000_000_000_000_000;
 
 /// A mark with its column.
 #[derive(Clone, Copy)]
@@ -90,7 +88,7 @@ fn half_label(mark: &Mark<'_>) -> u32 {
 
 /// Returns the letters in front of a lane.
 fn head_width(lane: &Lane<'_>) -> u32 {
-    let limit = if lane.limit >= NO_LIMIT {
+    let limit = if lane.limit >= MAX_LIMIT {
         8
     } else {
         number_letters(lane.limit).saturating_add(6)

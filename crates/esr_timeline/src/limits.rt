@@ -1,8 +1,9 @@
 //! The bar of a limit below the lane of a query, which fills up with each charge.
 
 use crate::elements::push_rect;
-use crate::layout::{Layout, NO_LIMIT, charges_at_or_before};
+use crate::layout::{Layout, charges_at_or_before};
 use crate::model::{Arrow, Lane, Scene};
+use esr_history::MAX_LIMIT;
 use std::alloc::AllocError;
 
 /// The height of a bar.
@@ -81,7 +82,7 @@ fn push_parts(
 
 /// Returns whether a lane has a bar: that of a query with a limit.
 pub fn has_bar(lane: &Lane<'_>) -> bool {
-    lane.is_query && lane.limit > 0 && lane.limit < NO_LIMIT
+    lane.is_query && lane.limit > 0 && lane.limit < MAX_LIMIT
 }
 
 /// Appends the bar of the limit of a lane, if it has one.

@@ -4,13 +4,10 @@
 use crate::subject::Audited;
 use crate::text::{MAX_NAMES, push_names, push_rest};
 use crate::trace::{QueryTrace, Sum};
-use esr_history::TxnId;
+use esr_history::{MAX_LIMIT, TxnId};
 use esr_report::name_of_transaction;
 use esr_text::{first, push_number};
 use std::alloc::{AllocError, Global};
-
-/// The largest limit, which is shown as "no limit".
-const NO_LIMIT: u64 = 1_000_000_000_000_000_000;
 
 /// The name of a transaction.
 fn name<'a>(audited: &Audited<'a>, txn: TxnId) -> &'a str {
@@ -111,7 +108,7 @@ fn push_charge_sentence(
     };
     out.push_str("Charged ")?;
     push_number(out, audited.finding.import)?;
-    if limit < NO_LIMIT {
+    if limit < MAX_LIMIT {
         out.push_str(" of its limit of ")?;
         push_number(out, limit)?;
     } else {
