@@ -24,7 +24,7 @@ use esr_explore::{ExploreFault, Measure, Search, explore};
 use esr_history::Watched;
 use esr_lint::{KeptLine, Notes, Source};
 use esr_page::{Origin, Page};
-use esr_picture::{PictureView, PictureWithErrors};
+use esr_picture::{PictureView, PictureWithErrorsView};
 use esr_prose::{Passage, Prose};
 use esr_script::{AuditedScript, TeeReader};
 use esr_shrink::{Progress as SearchProgress, Shrink};
@@ -221,7 +221,7 @@ fn do_task<
         },
         Task::Picture { name } => {
             let notes = &Notes::new(rt.alloc());
-            let query_view = &PictureWithErrors { notes };
+            let query_view = &PictureWithErrorsView { notes };
             show_noted_query(rt, console, job, source, input, name, query_view, notes)
         }
         Task::Timeline { name } => {

@@ -5,7 +5,7 @@ use Rattle.std.proofs.lemmas.Bool.{cases_lt}
 use Rattle.std.proofs.lemmas.List.Sums.{sum_by-cons}
 use Rattle.esr_cert.specs.declared.problem.Chain as code
 use Rattle.esr_cert.specs.Problem.{Chain, Problem, size, is_well_formed}
-use Rattle.esr_cert.specs.Network.{arc_at, path_arcs, arcs_of_chain, precedence_arc, must_arc, precedence_arcs, must_arcs, network, Arc}
+use Rattle.esr_cert.specs.Network.{arc_at, path_arcs, arcs_of_chain, predecessor_arc, must_arc, predecessor_arcs, must_arcs, network, Arc}
 use Rattle.esr_cert.specs.Starts.{starts_from, joined, AreStarts}
 use Rattle.esr_base.specs.declared.numbers.TxnId.{TxnId}
 use Rattle.esr_cert.specs.Views.{chain_of, problem_of}
@@ -58,8 +58,8 @@ module _ (p : Problem) (ok : IsProblem p) where
   abbrev starts : List ℕ
   starts = starts_from 0 p.chains
 
-  whole_list : (network p).arcs ≡ joined rows ++ precedence_arcs p ++ must_arcs p
-  whole_list = ap (λ arcs. arcs ++ precedence_arcs p ++ must_arcs p) (sym (joined_links (size p) p.chains))
+  whole_list : (network p).arcs ≡ joined rows ++ predecessor_arcs p ++ must_arcs p
+  whole_list = ap (λ arcs. arcs ++ predecessor_arcs p ++ must_arcs p) (sym (joined_links (size p) p.chains))
 
   rows_long : length rows ≡ length p.chains
   rows_long = length-map p.chains (arcs_of_chain (size p))
@@ -69,30 +69,30 @@ module _ (p : Problem) (ok : IsProblem p) where
 
   pub arcs_long : length (network p).arcs ≡ get_or starts (length p.chains) 0 + length p.before + length p.must
   arcs_long =
-      omega (arith, ap length whole_list, length-append (joined rows ++ precedence_arcs p) (must_arcs p), length-append (joined rows) (precedence_arcs p), same_end, rows_end starts rows (links_starts p ok), length-map {B = Arc} p.before precedence_arc, length-map {B = Arc} p.must (must_arc (size p)))
+      omega (arith, ap length whole_list, length-append (joined rows ++ predecessor_arcs p) (must_arcs p), length-append (joined rows) (predecessor_arcs p), same_end, rows_end starts rows (links_starts p ok), length-map {B = Arc} p.before predecessor_arc, length-map {B = Arc} p.must (must_arc (size p)))
 
   pub arc_in_chain : (k number : ℕ) (d : Chain) → k < length p.chains → get_or starts k 0 ≤ number → number < get_or starts (suc k) 0 → arc_at (network p).arcs number ≡ arc_at (arcs_of_chain (size p) (get_or p.chains k d)) (number - get_or starts k 0)
   arc_in_chain k number d l begun before =
       ap (λ arcs. arc_at arcs number) whole_list
-      ∙ in_row starts rows (links_starts p ok) none (precedence_arcs p) (must_arcs p) k number (omega (arith, rows_long)) begun before
+      ∙ in_row starts rows (links_starts p ok) none (predecessor_arcs p) (must_arcs p) k number (omega (arith, rows_long)) begun before
       ∙ ap (λ row. arc_at row (number - get_or starts k 0)) (get_or-map (arcs_of_chain (size p)) p.chains k d [] l)
 
-  pub arc_of_pair : (number : ℕ) (d : ℕ × ℕ) → get_or starts (length p.chains) 0 ≤ number → number - get_or starts (length p.chains) 0 < length p.before → arc_at (network p).arcs number ≡ precedence_arc (get_or p.before (number - get_or starts (length p.chains) 0) d)
+  pub arc_of_pair : (number : ℕ) (d : ℕ × ℕ) → get_or starts (length p.chains) 0 ≤ number → number - get_or starts (length p.chains) 0 < length p.before → arc_at (network p).arcs number ≡ predecessor_arc (get_or p.before (number - get_or starts (length p.chains) 0) d)
   arc_of_pair number d not_before inside =
       ap (λ arcs. arc_at arcs number) whole_list
-      ∙ in_backs starts rows (links_starts p ok) none (precedence_arcs p) (must_arcs p) number (omega (arith, same_end)) (omega (arith, same_end, length-map {B = Arc} p.before precedence_arc))
-      ∙ ap (λ n. arc_at (precedence_arcs p) (number - n)) same_end
-      ∙ get_or-map precedence_arc p.before (number - get_or starts (length p.chains) 0) d none inside
+      ∙ in_backs starts rows (links_starts p ok) none (predecessor_arcs p) (must_arcs p) number (omega (arith, same_end)) (omega (arith, same_end, length-map {B = Arc} p.before predecessor_arc))
+      ∙ ap (λ n. arc_at (predecessor_arcs p) (number - n)) same_end
+      ∙ get_or-map predecessor_arc p.before (number - get_or starts (length p.chains) 0) d none inside
 
   pub arc_of_must : (number d : ℕ) → number < length (network p).arcs → get_or starts (length p.chains) 0 ≤ number → length p.before ≤ number - get_or starts (length p.chains) 0
       → (number - get_or starts (length p.chains) 0 - length p.before < length p.must) × (arc_at (network p).arcs number ≡ must_arc (size p) (get_or p.must (number - get_or starts (length p.chains) 0 - length p.before) d))
   arc_of_must number d inside not_before after =
-      let backs : length (precedence_arcs p) ≡ length p.before = length-map {B = Arc} p.before precedence_arc in
+      let backs : length (predecessor_arcs p) ≡ length p.before = length-map {B = Arc} p.before predecessor_arc in
       let short : number - get_or starts (length p.chains) 0 - length p.before < length p.must = omega (arith, arcs_long) in (
         short,
         ap (λ arcs. arc_at arcs number) whole_list
-            ∙ in_musts starts rows (links_starts p ok) none (precedence_arcs p) (must_arcs p) number (omega (arith, same_end)) (omega (arith, same_end, backs))
-            ∙ ap (λ n. arc_at (must_arcs p) (number - n - length (precedence_arcs p))) same_end ∙ ap (λ n. arc_at (must_arcs p) (number - get_or starts (length p.chains) 0 - n)) backs
+            ∙ in_musts starts rows (links_starts p ok) none (predecessor_arcs p) (must_arcs p) number (omega (arith, same_end)) (omega (arith, same_end, backs))
+            ∙ ap (λ n. arc_at (must_arcs p) (number - n - length (predecessor_arcs p))) same_end ∙ ap (λ n. arc_at (must_arcs p) (number - get_or starts (length p.chains) 0 - n)) backs
             ∙ get_or-map (must_arc (size p)) p.must (number - get_or starts (length p.chains) 0 - length p.before) d none short,
       )
 
@@ -177,9 +177,9 @@ module _ (updates : List TxnId) (before : List (ℕ × ℕ)) (chains : List code
           ∙ sym (arc_in_chain parts ok k number (chain_of chain) (omega (arith, row_in_chains, length-map chains chain_of)) (subst (λ list. get_or list k 0 ≤ number) are begun) (subst (λ list. number < get_or list (suc k) 0) are next))
 
   module _ (number : ℕ) (late : links_end ≤ number) where
-    pub pair_is : number - links_end < length before → precedence_arc (get_or before (number - links_end) (0, 0)) ≡ arc_at (network parts).arcs number
+    pub pair_is : number - links_end < length before → predecessor_arc (get_or before (number - links_end) (0, 0)) ≡ arc_at (network parts).arcs number
     pair_is inside =
-        ap (λ n. precedence_arc (get_or before (number - n) (0, 0))) end_is ∙ sym (arc_of_pair parts ok number (0, 0) (omega (arith, end_is, late)) (omega (arith, end_is)))
+        ap (λ n. predecessor_arc (get_or before (number - n) (0, 0))) end_is ∙ sym (arc_of_pair parts ok number (0, 0) (omega (arith, end_is, late)) (omega (arith, end_is)))
 
     must_parts : number < length (network parts).arcs → length before ≤ number - links_end → (number - links_end - length before < length must) × (arc_at (network parts).arcs number ≡ must_arc (size parts) (get_or must (number - links_end - length before) 0))
     must_parts inside after =

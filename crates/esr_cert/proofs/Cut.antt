@@ -84,16 +84,16 @@ carried_split has (a ∷ arcs) (x ∷ flow) = omega (arith, one (has a.from) (ha
 -- the worth plus the amount that returns is the amount that crosses
 pub cut : (net : Network) → IsNetwork net → (flow : List ℕ) → IsFlow net flow → (has : ℕ → Bool) → has net.source ≡ true → has net.sink ≡ false → worth net flow + carried (returns_from has) net.arcs flow ≡ carried (crosses has) net.arcs flow
 cut net ok flow f has at_source at_sink =
-    let out_sum : node_sum has (λ v. outflow net.arcs flow v) net.nodes ≡ carried (λ arc. has arc.from) net.arcs flow = node_sum_carried has (λ arc. arc.from) net.nodes net.arcs flow (λ i l. (ok.ends i l).0) in
-    let in_sum : node_sum has (λ v. inflow net.arcs flow v) net.nodes ≡ carried (λ arc. has arc.to) net.arcs flow = node_sum_carried has (λ arc. arc.to) net.nodes net.arcs flow (λ i l. (ok.ends i l).1) in
-    let same : node_sum has (λ v. outflow net.arcs flow v) net.nodes ≡ node_sum has (λ v. inflow net.arcs flow v + pick (eqb net.source v) (worth net flow)) net.nodes =
-    node_sum_same has (λ v. outflow net.arcs flow v) (λ v. inflow net.arcs flow v + pick (eqb net.source v) (worth net flow)) net.nodes each in
-    let added : node_sum has (λ v. inflow net.arcs flow v + pick (eqb net.source v) (worth net flow)) net.nodes ≡ node_sum has (λ v. inflow net.arcs flow v) net.nodes + node_sum has (λ v. pick (eqb net.source v) (worth net flow)) net.nodes =
-    node_sum_add has (λ v. inflow net.arcs flow v) (λ v. pick (eqb net.source v) (worth net flow)) net.nodes in
-    let point : node_sum has (λ v. pick (eqb net.source v) (worth net flow)) net.nodes ≡ worth net flow = node_sum_point has net.source (worth net flow) net.nodes ok.source_is_node ∙ ap (λ b. pick b (worth net flow)) at_source in
+    let out_sum : node_sum has (λ v. outflow net.arcs flow v) net.node_count ≡ carried (λ arc. has arc.from) net.arcs flow = node_sum_carried has (λ arc. arc.from) net.node_count net.arcs flow (λ i l. (ok.ends i l).0) in
+    let in_sum : node_sum has (λ v. inflow net.arcs flow v) net.node_count ≡ carried (λ arc. has arc.to) net.arcs flow = node_sum_carried has (λ arc. arc.to) net.node_count net.arcs flow (λ i l. (ok.ends i l).1) in
+    let same : node_sum has (λ v. outflow net.arcs flow v) net.node_count ≡ node_sum has (λ v. inflow net.arcs flow v + pick (eqb net.source v) (worth net flow)) net.node_count =
+    node_sum_same has (λ v. outflow net.arcs flow v) (λ v. inflow net.arcs flow v + pick (eqb net.source v) (worth net flow)) net.node_count each in
+    let added : node_sum has (λ v. inflow net.arcs flow v + pick (eqb net.source v) (worth net flow)) net.node_count ≡ node_sum has (λ v. inflow net.arcs flow v) net.node_count + node_sum has (λ v. pick (eqb net.source v) (worth net flow)) net.node_count =
+    node_sum_add has (λ v. inflow net.arcs flow v) (λ v. pick (eqb net.source v) (worth net flow)) net.node_count in
+    let point : node_sum has (λ v. pick (eqb net.source v) (worth net flow)) net.node_count ≡ worth net flow = node_sum_point has net.source (worth net flow) net.node_count ok.source_is_node ∙ ap (λ b. pick b (worth net flow)) at_source in
     omega (arith, carried_split has net.arcs flow)
   where
-    each : (v : ℕ) → v < net.nodes → has v ≡ true → outflow net.arcs flow v ≡ inflow net.arcs flow v + pick (eqb net.source v) (worth net flow)
+    each : (v : ℕ) → v < net.node_count → has v ≡ true → outflow net.arcs flow v ≡ inflow net.arcs flow v + pick (eqb net.source v) (worth net flow)
     each v l h =
         elim (cases_eq v net.source) [
           | inl e ↦

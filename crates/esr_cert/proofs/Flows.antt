@@ -36,19 +36,19 @@ range_from p a zero h = refl
 range_from p a (suc n) h =
     and_from (p a) (list_all p (range_with_len (a + 1) n)) (h a (omega arith) (omega arith)) (range_from p (a + 1) n (λ v l m. h v (omega arith) (omega arith)))
 
-pub conserved_each : (net : Network) (flow : List ℕ) → is_conserved net flow ≡ true → (v : ℕ) → v < net.nodes → v ≢ net.source → v ≢ net.sink → inflow net.arcs flow v ≡ outflow net.arcs flow v
+pub conserved_each : (net : Network) (flow : List ℕ) → is_conserved net flow ≡ true → (v : ℕ) → v < net.node_count → v ≢ net.source → v ≢ net.sink → inflow net.arcs flow v ≡ outflow net.arcs flow v
 conserved_each net flow h v l ns nt =
     let at : (eqb v net.source || (eqb v net.sink || is_conserved_at net.arcs flow v)) ≡ true =
-    range_each (λ v. eqb v net.source || (eqb v net.sink || is_conserved_at net.arcs flow v)) 0 net.nodes v h (omega arith) (omega arith) in
+    range_each (λ v. eqb v net.source || (eqb v net.sink || is_conserved_at net.arcs flow v)) 0 net.node_count v h (omega arith) (omega arith) in
     elim (or_cases (eqb v net.source) (eqb v net.sink || is_conserved_at net.arcs flow v) at) [
       | inl e ↦ absurd (ns (eqb-true _ _ e))
       | inr r ↦ elim (or_cases (eqb v net.sink) (is_conserved_at net.arcs flow v) r) [ inl e ↦ absurd (nt (eqb-true _ _ e)) | inr e ↦ eqb-true _ _ e ]
     ]
 
-pub conserved_from : (net : Network) (flow : List ℕ) → ((v : ℕ) → v < net.nodes → v ≢ net.source → v ≢ net.sink → inflow net.arcs flow v ≡ outflow net.arcs flow v) → is_conserved net flow ≡ true
-conserved_from net flow h = range_from (λ v. eqb v net.source || (eqb v net.sink || is_conserved_at net.arcs flow v)) 0 net.nodes at
+pub conserved_from : (net : Network) (flow : List ℕ) → ((v : ℕ) → v < net.node_count → v ≢ net.source → v ≢ net.sink → inflow net.arcs flow v ≡ outflow net.arcs flow v) → is_conserved net flow ≡ true
+conserved_from net flow h = range_from (λ v. eqb v net.source || (eqb v net.sink || is_conserved_at net.arcs flow v)) 0 net.node_count at
   where
-    at : (v : ℕ) → 0 ≤ v → v < 0 + net.nodes → (eqb v net.source || (eqb v net.sink || is_conserved_at net.arcs flow v)) ≡ true
+    at : (v : ℕ) → 0 ≤ v → v < 0 + net.node_count → (eqb v net.source || (eqb v net.sink || is_conserved_at net.arcs flow v)) ≡ true
     at v k l =
         let past : v ≢ net.source → (eqb v net.sink || is_conserved_at net.arcs flow v) ≡ true =
         λ ns. elim (cases_eq v net.sink) [

@@ -10,11 +10,11 @@ use Rattle.esr_cert.specs.Rows.{span_at, row_in, first_steps, steps_from, row_of
 use Rattle.esr_cert.proofs.StepsLaws.{first_next, has_steps}
 use Rattle.esr_cert.proofs.RowsLaws.{row_length, at_row, filled_more, place_within, capacity_along, capacity_against, filled_all, step_with}
 
-pub laid_long : {arcs : List Arc} {nodes i : ℕ} {spans : List Span} {steps : List ResidualArc} → IsLaidOut arcs nodes i spans steps → length steps ≡ 2 * length arcs
+pub laid_long : {arcs : List Arc} {node_count i : ℕ} {spans : List Span} {steps : List ResidualArc} → IsLaidOut arcs node_count i spans steps → length steps ≡ 2 * length arcs
 laid_long h = h.filled.total ∙ h.are.both
 
 -- the two steps of an arc are put into the rows of its ends
-module _ {arcs : List Arc} {nodes i : ℕ} {spans : List Span} {steps : List ResidualArc} (l : i < length arcs) (ends : EndsAreNodes arcs nodes) (h : IsLaidOut arcs nodes i spans steps) where
+module _ {arcs : List Arc} {node_count i : ℕ} {spans : List Span} {steps : List ResidualArc} (l : i < length arcs) (ends : EndsAreNodes arcs node_count) (h : IsLaidOut arcs node_count i spans steps) where
   abbrev from : ℕ
   from = (arc_at arcs i).from
 
@@ -28,10 +28,10 @@ module _ {arcs : List Arc} {nodes i : ℕ} {spans : List Span} {steps : List Res
   known_to = omega (arith, (ends i l).1, h.are.count)
 
   capacity_from : length (steps_from arcs from (first_steps i)) < get_or h.degrees from 0
-  capacity_from = capacity_along arcs nodes h.degrees i from h.are l (ends i l).0 refl
+  capacity_from = capacity_along arcs node_count h.degrees i from h.are l (ends i l).0 refl
 
   capacity_to : length (steps_from arcs to (first_steps i ++ Forward i ∷ [])) < get_or h.degrees to 0
-  capacity_to = capacity_against arcs nodes h.degrees i to h.are l (ends i l).1 refl
+  capacity_to = capacity_against arcs node_count h.degrees i to h.are l (ends i l).1 refl
 
   pub within_along : (span_at spans from).end < length steps
   within_along = place_within arcs h.degrees (first_steps i) spans steps (Forward i) from refl known_from capacity_from h.filled
@@ -51,7 +51,7 @@ module _ {arcs : List Arc} {nodes i : ℕ} {spans : List Span} {steps : List Res
         subst (λ done. Filled arcs h.degrees done (lengthen spans_along to) (set steps_along (span_at spans_along to).end (Backward i))) (first_next i)
         (filled_more arcs h.degrees (first_steps i ++ Forward i ∷ []) spans_along steps_along (Backward i) to refl known_to capacity_to filled_along)
 
-    pub laid_more : (spans_against : List Span) (steps_against : List ResidualArc) → spans_against ≡ lengthen spans_along to → steps_against ≡ set steps_along (span_at spans_along to).end (Backward i) → IsLaidOut arcs nodes (i + 1) spans_against steps_against
+    pub laid_more : (spans_against : List Span) (steps_against : List ResidualArc) → spans_against ≡ lengthen spans_along to → steps_against ≡ set steps_along (span_at spans_along to).end (Backward i) → IsLaidOut arcs node_count (i + 1) spans_against steps_against
     laid_more spans_against steps_against u v = record {
       degrees = h.degrees;
       are = h.are;
@@ -59,27 +59,27 @@ module _ {arcs : List Arc} {nodes i : ℕ} {spans : List Span} {steps : List Res
           (subst (Filled arcs h.degrees (first_steps (i + 1)) (lengthen spans_along to)) (sym v) filled_against);
     }
 
-pub laid_rows : {arcs : List Arc} {nodes i : ℕ} {spans : List Span} {steps : List ResidualArc} → i ≡ length arcs → IsLaidOut arcs nodes i spans steps → AreRows arcs nodes spans steps
-laid_rows {arcs} {nodes} {i} {spans} {steps} e laid_out =
-    let h : IsLaidOut arcs nodes (length arcs) spans steps = subst (λ n. IsLaidOut arcs nodes n spans steps) e laid_out in
-    filled_all arcs nodes h.degrees spans steps h.are h.filled
+pub laid_rows : {arcs : List Arc} {node_count i : ℕ} {spans : List Span} {steps : List ResidualArc} → i ≡ length arcs → IsLaidOut arcs node_count i spans steps → AreRows arcs node_count spans steps
+laid_rows {arcs} {node_count} {i} {spans} {steps} e laid_out =
+    let h : IsLaidOut arcs node_count (length arcs) spans steps = subst (λ n. IsLaidOut arcs node_count n spans steps) e laid_out in
+    filled_all arcs node_count h.degrees spans steps h.are h.filled
 
 -- a step is in the row of the node where it starts, exactly once
-pub laid_steps : {arcs : List Arc} {nodes i : ℕ} {spans : List Span} {steps : List ResidualArc} → length arcs ≤ MAX_ARCS → i ≡ length arcs → IsLaidOut arcs nodes i spans steps → AreSteps arcs steps
-laid_steps {arcs} {nodes} {i} {spans} {steps} within_max e laid_out = record { within_max = within_max; count = laid_long laid_out; in_arcs = in_arcs; once = once }
+pub laid_steps : {arcs : List Arc} {node_count i : ℕ} {spans : List Span} {steps : List ResidualArc} → length arcs ≤ MAX_ARCS → i ≡ length arcs → IsLaidOut arcs node_count i spans steps → AreSteps arcs steps
+laid_steps {arcs} {node_count} {i} {spans} {steps} within_max e laid_out = record { within_max = within_max; count = laid_long laid_out; arc_in_range = arc_in_range; once = once }
   where
-    h : IsLaidOut arcs nodes (length arcs) spans steps
-    h = subst (λ n. IsLaidOut arcs nodes n spans steps) e laid_out
+    h : IsLaidOut arcs node_count (length arcs) spans steps
+    h = subst (λ n. IsLaidOut arcs node_count n spans steps) e laid_out
 
-    in_arcs : (k : ℕ) → k < length steps → arc_of (step_at steps k) < length arcs
-    in_arcs k l =
-        let (v, a, in_v, in_row, at_k, is_k) = step_with arcs nodes h.degrees spans steps h.are h.filled k l in
+    arc_in_range : (k : ℕ) → k < length steps → arc_of (step_at steps k) < length arcs
+    arc_in_range k l =
+        let (v, a, in_v, in_row, at_k, is_k) = step_with arcs node_count h.degrees spans steps h.are h.filled k l in
         subst (λ s. arc_of s < length arcs) (sym is_k) ((has_steps arcs v).starts a in_row).0
 
     once : AreOnce steps
     once j k l m same =
-        let (v, a, in_v, in_row, at_j, is_j) = step_with arcs nodes h.degrees spans steps h.are h.filled j l in
-        let (u, b, in_u, in_other, at_k, is_k) = step_with arcs nodes h.degrees spans steps h.are h.filled k m in
+        let (v, a, in_v, in_row, at_j, is_j) = step_with arcs node_count h.degrees spans steps h.are h.filled j l in
+        let (u, b, in_u, in_other, at_k, is_k) = step_with arcs node_count h.degrees spans steps h.are h.filled k m in
         let node : v ≡ u = sym ((has_steps arcs v).starts a in_row).1 ∙ ap (start arcs) (sym is_j ∙ same ∙ is_k) ∙ ((has_steps arcs u).starts b in_other).1 in
         let place : a ≡ b =
         (has_steps arcs v).once a b in_row (omega (arith, ap (λ w. length (row_of arcs w)) node)) (sym is_j ∙ same ∙ is_k ∙ ap (λ w. step_at (row_of arcs w) b) (sym node)) in

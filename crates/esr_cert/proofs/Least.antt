@@ -5,7 +5,7 @@ use Rattle.std.specs.List.{list_any}
 use Rattle.std.proofs.lemmas.Bool.{cases_Bool, and_left, or_left, or_from, cond-true, cond-false}
 use Rattle.std.proofs.lemmas.List.Sums.{sum_by-cons}
 use Rattle.esr_cert.specs.Problem.{Chain, Problem, size, is_closed, version, chain_cost, cost}
-use Rattle.esr_cert.specs.Network.{Arc, arc_at, IsNetwork, path_arcs, arcs_of_chain, precedence_arc, must_arc, arcs_of_chains, precedence_arcs, must_arcs, network}
+use Rattle.esr_cert.specs.Network.{Arc, arc_at, IsNetwork, path_arcs, arcs_of_chain, predecessor_arc, must_arc, arcs_of_chains, predecessor_arcs, must_arcs, network}
 use Rattle.esr_cert.specs.Flow.{IsFlow, worth}
 use Rattle.esr_cert.specs.Cut.{crosses, across, IsLimited, AreLimited, with_source}
 use Rattle.esr_cert.proofs.Cut.{pick, weak}
@@ -148,7 +148,7 @@ module _ (p : Problem) (ok : IsProblem p) where
       (good_links count c.writers c.costs (omega arith) (h c (here c chains)).writers)
       (good_chains chains (λ d k. h d (there c d chains k)))
 
-  good_backs : (pairs : List (ℕ × ℕ)) → ((u v : ℕ) → Contains pairs (u, v) → (u < count) × (v < count)) → Each Good (map precedence_arc pairs)
+  good_backs : (pairs : List (ℕ × ℕ)) → ((u v : ℕ) → Contains pairs (u, v) → (u < count) × (v < count)) → Each Good (map predecessor_arc pairs)
   good_backs [] h = tt
   good_backs (q ∷ pairs) h =
       let m : (q.0 < count) × (q.1 < count) = h q.0 q.1 (here q pairs) in
@@ -162,7 +162,7 @@ module _ (p : Problem) (ok : IsProblem p) where
 
   pub is_network : IsNetwork (network p)
   is_network =
-      let each : Each Good (network p).arcs = each_append Good (arcs_of_chains p ++ precedence_arcs p) (must_arcs p) (each_append Good (arcs_of_chains p) (precedence_arcs p) (good_chains p.chains ok.chains) (good_backs p.before ok.pairs)) (good_musts p.must ok.musts) in
+      let each : Each Good (network p).arcs = each_append Good (arcs_of_chains p ++ predecessor_arcs p) (must_arcs p) (each_append Good (arcs_of_chains p) (predecessor_arcs p) (good_chains p.chains ok.chains) (good_backs p.before ok.pairs)) (good_musts p.must ok.musts) in
       record {
         ends = λ i l. let g : Good (arc_at (network p).arcs i) = each_at Good (network p).arcs each i l in (g.0, g.1);
         none_into_source = λ i l. let g : Good (arc_at (network p).arcs i) = each_at Good (network p).arcs each i l in g.2;
@@ -171,10 +171,10 @@ module _ (p : Problem) (ok : IsProblem p) where
       }
 
   module _ (has : ℕ → Bool) where
-    abbrev nodes : ℕ → Bool
-    nodes = with_source count has
+    abbrev node_count : ℕ → Bool
+    node_count = with_source count has
 
-    backed_from : (u : ℕ) (writers : List ℕ) → IsClosed p has → u < count → ((w : ℕ) → Contains writers w → w < count) → Neighbours p.before (u ∷ writers) → Backed nodes u writers
+    backed_from : (u : ℕ) (writers : List ℕ) → IsClosed p has → u < count → ((w : ℕ) → Contains writers w → w < count) → Neighbours p.before (u ∷ writers) → Backed node_count u writers
     backed_from u [] c l h n = tt
     backed_from u (w ∷ writers) c l h n =
         let m : w < count = h w (here w writers) in (
@@ -182,22 +182,22 @@ module _ (p : Problem) (ok : IsProblem p) where
           backed_from w writers c m (λ x k. h x (there w x writers k)) n.1,
         )
 
-    backed_chain : (writers : List ℕ) → IsClosed p has → ((w : ℕ) → Contains writers w → w < count) → Neighbours p.before writers → Backed nodes count writers
+    backed_chain : (writers : List ℕ) → IsClosed p has → ((w : ℕ) → Contains writers w → w < count) → Neighbours p.before writers → Backed node_count count writers
     backed_chain [] c h n = tt
     backed_chain (w ∷ writers) c h n =
         ((λ t. with_the_source count has), backed_from w writers c (h w (here w writers)) (λ x k. h x (there w x writers k)) n)
 
-    across_chain : (chain : Chain) → IsClosed p has → IsChain p chain → across nodes (path_arcs count (count + 1) chain.writers chain.costs) ≡ chain_cost has chain
+    across_chain : (chain : Chain) → IsClosed p has → IsChain p chain → across node_count (path_arcs count (count + 1) chain.writers chain.costs) ≡ chain_cost has chain
     across_chain chain c good =
-        links_in nodes (count + 1) count chain.writers chain.costs (with_the_source count has) (without_sink count has) (backed_chain chain.writers c good.writers good.neighbours) good.one_more
-        ∙ ap (λ n. get_or chain.costs n 0) (version_same nodes has chain.writers (λ u k. with_update count has u (good.writers u k)))
+        links_in node_count (count + 1) count chain.writers chain.costs (with_the_source count has) (without_sink count has) (backed_chain chain.writers c good.writers good.neighbours) good.one_more
+        ∙ ap (λ n. get_or chain.costs n 0) (version_same node_count has chain.writers (λ u k. with_update count has u (good.writers u k)))
 
-    across_chains : (chains : List Chain) → IsClosed p has → ((chain : Chain) → Contains chains chain → IsChain p chain) → across nodes (flat_map (arcs_of_chain count) chains) ≡ sum_by (chain_cost has) chains
+    across_chains : (chains : List Chain) → IsClosed p has → ((chain : Chain) → Contains chains chain → IsChain p chain) → across node_count (flat_map (arcs_of_chain count) chains) ≡ sum_by (chain_cost has) chains
     across_chains [] c h = refl
     across_chains (d ∷ chains) c h =
         omega (
           arith,
-          across_append nodes (path_arcs count (count + 1) d.writers d.costs) (flat_map (arcs_of_chain count) chains),
+          across_append node_count (path_arcs count (count + 1) d.writers d.costs) (flat_map (arcs_of_chain count) chains),
           across_chain d c (h d (here d chains)),
           across_chains chains c (λ e k. h e (there d e chains k)),
           sum_by-cons (chain_cost has) d chains,
@@ -205,27 +205,27 @@ module _ (p : Problem) (ok : IsProblem p) where
 
     -- an unlimited arc does not cross
     abbrev Still : Arc → Type 0
-    Still arc = crosses nodes arc ≡ true → IsLimited arc.capacity
+    Still arc = crosses node_count arc ≡ true → IsLimited arc.capacity
 
     not_both : (x y : Bool) → (x ≡ true → y ≡ true) → (x && not y) ≡ false
     not_both true true k = refl
     not_both true false k = absurd (true≢false (sym (k refl)))
     not_both false y k = refl
 
-    back_stays : (q : ℕ × ℕ) → IsClosed p has → Contains p.before q → crosses nodes (precedence_arc q) ≡ false
+    back_stays : (q : ℕ × ℕ) → IsClosed p has → Contains p.before q → crosses node_count (predecessor_arc q) ≡ false
     back_stays q c k =
         let ends : (q.0 < count) × (q.1 < count) = ok.pairs q.0 q.1 k in
-        not_both (nodes q.1) (nodes q.0) (λ t. with_update count has q.0 ends.0 ∙ c.before q.0 q.1 k (sym (with_update count has q.1 ends.1) ∙ t))
+        not_both (node_count q.1) (node_count q.0) (λ t. with_update count has q.0 ends.0 ∙ c.before q.0 q.1 k (sym (with_update count has q.1 ends.1) ∙ t))
 
-    must_stays : (u : ℕ) → IsClosed p has → Contains p.must u → crosses nodes (must_arc count u) ≡ false
-    must_stays u c k = not_both (nodes count) (nodes u) (λ t. with_update count has u (ok.musts u k) ∙ c.must u k)
+    must_stays : (u : ℕ) → IsClosed p has → Contains p.must u → crosses node_count (must_arc count u) ≡ false
+    must_stays u c k = not_both (node_count count) (node_count u) (λ t. with_update count has u (ok.musts u k) ∙ c.must u k)
 
-    across_backs : (pairs : List (ℕ × ℕ)) → IsClosed p has → ((q : ℕ × ℕ) → Contains pairs q → Contains p.before q) → across nodes (map precedence_arc pairs) ≡ 0
+    across_backs : (pairs : List (ℕ × ℕ)) → IsClosed p has → ((q : ℕ × ℕ) → Contains pairs q → Contains p.before q) → across node_count (map predecessor_arc pairs) ≡ 0
     across_backs [] c h = refl
     across_backs (q ∷ pairs) c h =
         omega (arith, ap (λ b. pick b 0) (back_stays q c (h q (here q pairs))), across_backs pairs c (λ r k. h r (there q r pairs k)))
 
-    across_musts : (us : List ℕ) → IsClosed p has → ((u : ℕ) → Contains us u → Contains p.must u) → across nodes (map (must_arc count) us) ≡ 0
+    across_musts : (us : List ℕ) → IsClosed p has → ((u : ℕ) → Contains us u → Contains p.must u) → across node_count (map (must_arc count) us) ≡ 0
     across_musts [] c h = refl
     across_musts (u ∷ us) c h =
         omega (arith, ap (λ b. pick b 0) (must_stays u c (h u (here u us))), across_musts us c (λ w k. h w (there u w us k)))
@@ -240,7 +240,7 @@ module _ (p : Problem) (ok : IsProblem p) where
     still_chains [] = tt
     still_chains (d ∷ chains) = each_append Still (path_arcs count (count + 1) d.writers d.costs) (flat_map (arcs_of_chain count) chains) (still_links count (count + 1) d.writers d.costs) (still_chains chains)
 
-    still_backs : (pairs : List (ℕ × ℕ)) → IsClosed p has → ((q : ℕ × ℕ) → Contains pairs q → Contains p.before q) → Each Still (map precedence_arc pairs)
+    still_backs : (pairs : List (ℕ × ℕ)) → IsClosed p has → ((q : ℕ × ℕ) → Contains pairs q → Contains p.before q) → Each Still (map predecessor_arc pairs)
     still_backs [] c h = tt
     still_backs (q ∷ pairs) c h =
         ((λ t. absurd (true≢false (sym t ∙ back_stays q c (h q (here q pairs))))), still_backs pairs c (λ r k. h r (there q r pairs k)))
@@ -250,19 +250,19 @@ module _ (p : Problem) (ok : IsProblem p) where
     still_musts (u ∷ us) c h =
         ((λ t. absurd (true≢false (sym t ∙ must_stays u c (h u (here u us))))), still_musts us c (λ w k. h w (there u w us k)))
 
-    pub limited : IsClosed p has → AreLimited nodes (network p).arcs
+    pub limited : IsClosed p has → AreLimited node_count (network p).arcs
     limited c =
         each_at Still (network p).arcs
-        (each_append Still (arcs_of_chains p ++ precedence_arcs p) (must_arcs p)
-        (each_append Still (arcs_of_chains p) (precedence_arcs p) (still_chains p.chains) (still_backs p.before c (λ q k. k)))
+        (each_append Still (arcs_of_chains p ++ predecessor_arcs p) (must_arcs p)
+        (each_append Still (arcs_of_chains p) (predecessor_arcs p) (still_chains p.chains) (still_backs p.before c (λ q k. k)))
         (still_musts p.must c (λ u k. k)))
 
-    pub cost_across : IsClosed p has → across nodes (network p).arcs ≡ cost p has
+    pub cost_across : IsClosed p has → across node_count (network p).arcs ≡ cost p has
     cost_across c =
         omega (
           arith,
-          across_append nodes (arcs_of_chains p ++ precedence_arcs p) (must_arcs p),
-          across_append nodes (arcs_of_chains p) (precedence_arcs p),
+          across_append node_count (arcs_of_chains p ++ predecessor_arcs p) (must_arcs p),
+          across_append node_count (arcs_of_chains p) (predecessor_arcs p),
           across_chains p.chains c ok.chains,
           across_backs p.before c (λ q k. k),
           across_musts p.must c (λ u k. k),
@@ -272,4 +272,4 @@ module _ (p : Problem) (ok : IsProblem p) where
     pub worth_le_cost : (flow : List ℕ) → IsFlow (network p) flow → is_closed p has ≡ true → worth (network p) flow ≤ cost p has
     worth_le_cost flow f closed =
         let c : IsClosed p has = closed_facts p has closed in
-        omega (arith, cost_across c, weak (network p) is_network flow f nodes (with_the_source count has) (without_sink count has) (limited c))
+        omega (arith, cost_across c, weak (network p) is_network flow f node_count (with_the_source count has) (without_sink count has) (limited c))

@@ -17,11 +17,11 @@ pub at_row : {X : Type 0} (list : List X) (span : Span) (k : ℕ) (d : X) → k 
 at_row list span k d l =
     get_or-take (span.end - span.begin) (drop span.begin list) k d l ∙ get_or-drop span.begin list k d
 
-pub counted_at : {arcs : List Arc} {nodes : ℕ} {done : List ResidualArc} {counts : List ℕ} {u x : ℕ} → u < nodes → x ≡ get_or counts u x → Counted arcs nodes done counts → x ≤ length done
-counted_at {arcs} {nodes} {done} {counts} {u} {x} l read h = omega (arith, get_or-le-sum_by (λ n. n) counts u x (omega (arith, h.count)), h.both)
+pub counted_at : {arcs : List Arc} {node_count : ℕ} {done : List ResidualArc} {counts : List ℕ} {u x : ℕ} → u < node_count → x ≡ get_or counts u x → Counted arcs node_count done counts → x ≤ length done
+counted_at {arcs} {node_count} {done} {counts} {u} {x} l read h = omega (arith, get_or-le-sum_by (λ n. n) counts u x (omega (arith, h.count)), h.both)
 
-pub counted_more : {arcs : List Arc} {nodes : ℕ} {done : List ResidualArc} {counts : List ℕ} (s : ResidualArc) {u x : ℕ} → start arcs s ≡ u → u < nodes → x ≡ get_or counts u x → Counted arcs nodes done counts → Counted arcs nodes (done ++ s ∷ []) (set counts u (x + 1))
-counted_more {arcs} {nodes} {done} {counts} s {u} {x} e l read h = record {
+pub counted_more : {arcs : List Arc} {node_count : ℕ} {done : List ResidualArc} {counts : List ℕ} (s : ResidualArc) {u x : ℕ} → start arcs s ≡ u → u < node_count → x ≡ get_or counts u x → Counted arcs node_count done counts → Counted arcs node_count (done ++ s ∷ []) (set counts u (x + 1))
+counted_more {arcs} {node_count} {done} {counts} s {u} {x} e l read h = record {
   count = length-set counts u (x + 1) ∙ h.count;
   each = λ v m. elim (cases_eq v u) [
     | inl q ↦ subst (λ w. get_or (set counts u (x + 1)) w 0 ≡ length (steps_from arcs w (done ++ s ∷ []))) (sym q) here
@@ -33,34 +33,34 @@ counted_more {arcs} {nodes} {done} {counts} s {u} {x} e l read h = record {
     here : get_or (set counts u (x + 1)) u 0 ≡ length (steps_from arcs u (done ++ s ∷ []))
     here = omega (arith, get_or-set_same counts u (x + 1) 0 (omega (arith, h.count)), get_or_read counts u x (omega (arith, h.count)) read 0, h.each u l, ap length (steps_here arcs u done s e), length_push (steps_from arcs u done) s)
 
-pub counted_none : {arcs : List Arc} {nodes : ℕ} (counts : List ℕ) → counts ≡ replicate nodes 0 → Counted arcs nodes [] counts
-counted_none {arcs} {nodes} counts is = record {
-  count = ap length is ∙ length-replicate nodes 0;
-  each = λ v l. ap (λ list. get_or list v 0) is ∙ get_or-replicate nodes v 0 0 l;
-  both = ap sum is ∙ omega (arith, sum_by-replicate (λ n. n) nodes 0);
+pub counted_none : {arcs : List Arc} {node_count : ℕ} (counts : List ℕ) → counts ≡ replicate node_count 0 → Counted arcs node_count [] counts
+counted_none {arcs} {node_count} counts is = record {
+  count = ap length is ∙ length-replicate node_count 0;
+  each = λ v l. ap (λ list. get_or list v 0) is ∙ get_or-replicate node_count v 0 0 l;
+  both = ap sum is ∙ omega (arith, sum_by-replicate (λ n. n) node_count 0);
 }
 
 -- the steps of an arc with these ends
-module _ {arcs : List Arc} {nodes : ℕ} (i : ℕ) {counts : List ℕ} {u x : ℕ} (ends : EndsAreNodes arcs nodes) (l : i < length arcs) (from : u ≡ (arc_at arcs i).from) (read : x ≡ get_or counts u x) (h : Counted arcs nodes (first_steps i) counts) where
+module _ {arcs : List Arc} {node_count : ℕ} (i : ℕ) {counts : List ℕ} {u x : ℕ} (ends : EndsAreNodes arcs node_count) (l : i < length arcs) (from : u ≡ (arc_at arcs i).from) (read : x ≡ get_or counts u x) (h : Counted arcs node_count (first_steps i) counts) where
   pub along_small : x ≤ 2 * i
   along_small = omega (arith, first_count i, counted_at {u = u} (omega (arith, (ends i l).0, from)) read h)
 
-  counted_along : Counted arcs nodes (first_steps i ++ Forward i ∷ []) (set counts u (x + 1))
+  counted_along : Counted arcs node_count (first_steps i ++ Forward i ∷ []) (set counts u (x + 1))
   counted_along = counted_more (Forward i) (sym from) (omega (arith, (ends i l).0, from)) read h
 
   module _ {w y : ℕ} (to : w ≡ (arc_at arcs i).to) (again : y ≡ get_or (set counts u (x + 1)) w y) where
     pub against_small : y ≤ 2 * i + 1
     against_small = omega (arith, first_count i, length_push (first_steps i) (Forward i), counted_at {u = w} (omega (arith, (ends i l).1, to)) again counted_along)
 
-    pub counted_arc : (k : ℕ) → k ≡ i + 1 → Counted arcs nodes (first_steps k) (set (set counts u (x + 1)) w (y + 1))
+    pub counted_arc : (k : ℕ) → k ≡ i + 1 → Counted arcs node_count (first_steps k) (set (set counts u (x + 1)) w (y + 1))
     counted_arc k next =
-        subst (λ n. Counted arcs nodes (first_steps n) (set (set counts u (x + 1)) w (y + 1))) (sym next)
-        (subst (λ done. Counted arcs nodes done (set (set counts u (x + 1)) w (y + 1))) (first_next i)
+        subst (λ n. Counted arcs node_count (first_steps n) (set (set counts u (x + 1)) w (y + 1))) (sym next)
+        (subst (λ done. Counted arcs node_count done (set (set counts u (x + 1)) w (y + 1))) (first_next i)
         (counted_more (Backward i) (sym to) (omega (arith, (ends i l).1, to)) again counted_along))
 
-pub counted_all : {arcs : List Arc} {nodes : ℕ} (i : ℕ) {counts : List ℕ} → i ≡ length arcs → Counted arcs nodes (first_steps i) counts → AreDegrees arcs nodes counts
-counted_all {arcs} {nodes} i {counts} e h =
-    let all : Counted arcs nodes (first_steps (length arcs)) counts = subst (λ n. Counted arcs nodes (first_steps n) counts) e h in
+pub counted_all : {arcs : List Arc} {node_count : ℕ} (i : ℕ) {counts : List ℕ} → i ≡ length arcs → Counted arcs node_count (first_steps i) counts → AreDegrees arcs node_count counts
+counted_all {arcs} {node_count} i {counts} e h =
+    let all : Counted arcs node_count (first_steps (length arcs)) counts = subst (λ n. Counted arcs node_count (first_steps n) counts) e h in
     record { count = all.count; degree = all.each; both = omega (arith, all.both, first_count (length arcs)) }
 
 -- a row ends before those after it begin
@@ -156,18 +156,18 @@ module _ (arcs : List Arc) (lengths : List ℕ) (done : List ResidualArc) (spans
   }
 
 -- a row has space for the steps of an arc that is not laid yet
-pub capacity_along : (arcs : List Arc) (nodes : ℕ) (degrees : List ℕ) (i u : ℕ) → AreDegrees arcs nodes degrees → i < length arcs → u < nodes → start arcs (Forward i) ≡ u → length (steps_from arcs u (first_steps i)) < get_or degrees u 0
-capacity_along arcs nodes degrees i u are l m e =
+pub capacity_along : (arcs : List Arc) (node_count : ℕ) (degrees : List ℕ) (i u : ℕ) → AreDegrees arcs node_count degrees → i < length arcs → u < node_count → start arcs (Forward i) ≡ u → length (steps_from arcs u (first_steps i)) < get_or degrees u 0
+capacity_along arcs node_count degrees i u are l m e =
     let here : length (steps_from arcs u (first_steps i)) < length (steps_from arcs u (first_steps (suc i))) = room_for arcs u (first_steps i) (Backward i ∷ []) (Forward i) e in
     omega (arith, here, first_within arcs u (suc i) (length arcs) (omega arith), are.degree u m)
 
-pub capacity_against : (arcs : List Arc) (nodes : ℕ) (degrees : List ℕ) (i u : ℕ) → AreDegrees arcs nodes degrees → i < length arcs → u < nodes → start arcs (Backward i) ≡ u → length (steps_from arcs u (first_steps i ++ Forward i ∷ [])) < get_or degrees u 0
-capacity_against arcs nodes degrees i u are l m e =
+pub capacity_against : (arcs : List Arc) (node_count : ℕ) (degrees : List ℕ) (i u : ℕ) → AreDegrees arcs node_count degrees → i < length arcs → u < node_count → start arcs (Backward i) ≡ u → length (steps_from arcs u (first_steps i ++ Forward i ∷ [])) < get_or degrees u 0
+capacity_against arcs node_count degrees i u are l m e =
     let here : length (steps_from arcs u (first_steps i ++ Forward i ∷ [])) < length (steps_from arcs u ((first_steps i ++ Forward i ∷ []) ++ Backward i ∷ [])) = room_for arcs u (first_steps i ++ Forward i ∷ []) [] (Backward i) e in
     omega (arith, here, ap (λ list. length (steps_from arcs u list)) (first_more i), first_within arcs u (suc i) (length arcs) (omega arith), are.degree u m)
 
-pub filled_all : (arcs : List Arc) (nodes : ℕ) (degrees : List ℕ) (spans : List Span) (steps : List ResidualArc) → AreDegrees arcs nodes degrees → Filled arcs degrees (first_steps (length arcs)) spans steps → AreRows arcs nodes spans steps
-filled_all arcs nodes degrees spans steps are h = record {
+pub filled_all : (arcs : List Arc) (node_count : ℕ) (degrees : List ℕ) (spans : List Span) (steps : List ResidualArc) → AreDegrees arcs node_count degrees → Filled arcs degrees (first_steps (length arcs)) spans steps → AreRows arcs node_count spans steps
+filled_all arcs node_count degrees spans steps are h = record {
   count = h.count ∙ are.count;
   ordered = λ v l. omega (arith, h.begin v (known v l), h.end v (known v l));
   inside = inside;
@@ -176,19 +176,19 @@ filled_all arcs nodes degrees spans steps are h = record {
       ∙ ap (λ n. step_at steps (n + k)) (h.begin v (known v l)) ∙ h.step v k (known v l) (omega (arith, long v l)));
 }
   where
-    known : (v : ℕ) → v < nodes → v < length degrees
+    known : (v : ℕ) → v < node_count → v < length degrees
     known v l = omega (arith, are.count)
 
-    inside : (v : ℕ) → v < nodes → (span_at spans v).end ≤ length steps
+    inside : (v : ℕ) → v < node_count → (span_at spans v).end ≤ length steps
     inside v l = omega (arith, h.end v (known v l), h.fits v (known v l), h.total, sum_by_more_le (λ x. x) degrees v 0 (known v l))
 
-    long : (v : ℕ) → v < nodes → length (row_in steps (span_at spans v)) ≡ length (row_of arcs v)
+    long : (v : ℕ) → v < node_count → length (row_in steps (span_at spans v)) ≡ length (row_of arcs v)
     long v l = omega (arith, row_length steps (span_at spans v) (inside v l), h.begin v (known v l), h.end v (known v l))
 
 -- the row of a place of the filled list, and the step there
-pub step_with : (arcs : List Arc) (nodes : ℕ) (degrees : List ℕ) (spans : List Span) (steps : List ResidualArc) → AreDegrees arcs nodes degrees → Filled arcs degrees (first_steps (length arcs)) spans steps → (k : ℕ) → k < length steps
+pub step_with : (arcs : List Arc) (node_count : ℕ) (degrees : List ℕ) (spans : List Span) (steps : List ResidualArc) → AreDegrees arcs node_count degrees → Filled arcs degrees (first_steps (length arcs)) spans steps → (k : ℕ) → k < length steps
     → (v : ℕ) × (j : ℕ) × (v < length degrees) × (j < length (row_of arcs v)) × (sum (take v degrees) + j ≡ k) × (step_at steps k ≡ step_at (row_of arcs v) j)
-step_with arcs nodes degrees spans steps are h k l =
+step_with arcs node_count degrees spans steps are h k l =
     let (v, a, b, c) = row_with degrees k (omega (arith, h.total)) in
     let j : k - sum (take v degrees) < length (row_of arcs v) = omega (arith, are.degree v (omega (arith, are.count))) in
     let place : sum (take v degrees) + (k - sum (take v degrees)) ≡ k = omega arith in

@@ -3,7 +3,7 @@ use Rattle.std.proofs.Common.{◌≡◌, ℕ, suc, ◌+◌, ◌≤◌, List, [],
 use Rattle.std.specs.List.{flat_map, concat}
 use Rattle.std.proofs.lemmas.Bool.{and_parts, and_from, eqb-true}
 use Rattle.esr_cert.specs.Problem.{Chain, Problem, size}
-use Rattle.esr_cert.specs.Network.{Arc, path_arcs, arcs_of_chain, precedence_arc, must_arc, arcs_of_chains, precedence_arcs, must_arcs, network}
+use Rattle.esr_cert.specs.Network.{Arc, path_arcs, arcs_of_chain, predecessor_arc, must_arc, arcs_of_chains, predecessor_arcs, must_arcs, network}
 use Rattle.esr_cert.specs.Flow.{within, are_within}
 use Rattle.esr_cert.specs.Certificate.{Certificate, amounts, are_rows_matched, is_within}
 use Rattle.esr_cert.specs.Parts.{is_row_within, are_rows_within}
@@ -56,7 +56,7 @@ rows_are_within n (chain ∷ chains) (row ∷ rows) whole m =
     ∙ ap (λ b. b && are_within (flat_map (arcs_of_chain n) chains) (concat rows)) (row_is_within n (n + 1) chain.writers chain.costs row (omega (arith, first.whole)))
     ∙ ap (λ b. is_row_within chain.costs row && b) (rows_are_within n chains rows first.others_whole first.others)
 
-unlimited_pairs : (pairs : List (ℕ × ℕ)) (flow : List ℕ) → length flow ≡ length pairs → are_within (map precedence_arc pairs) flow ≡ true
+unlimited_pairs : (pairs : List (ℕ × ℕ)) (flow : List ℕ) → length flow ≡ length pairs → are_within (map predecessor_arc pairs) flow ≡ true
 unlimited_pairs [] [] h = refl
 unlimited_pairs [] (a ∷ flow) h = absurd (omega arith)
 unlimited_pairs (e ∷ pairs) [] h = absurd (omega arith)
@@ -71,10 +71,10 @@ unlimited_must n (u ∷ must) (a ∷ flow) h = unlimited_must n must flow (omega
 -- if there is one amount for each arc
 arcs_within : (p : Problem) → IsProblem p → (c : Certificate) → IsMatched p c → are_within (network p).arcs (amounts c) ≡ are_rows_within p.chains c.chain_flow
 arcs_within p ok c m =
-    within_append (arcs_of_chains p ++ precedence_arcs p) (must_arcs p) (concat c.chain_flow ++ c.back_flow) c.must_flow (first_two_length p ok c m)
-    ∙ ap (λ x. are_within (arcs_of_chains p ++ precedence_arcs p) (concat c.chain_flow ++ c.back_flow) && x) (unlimited_must (size p) p.must c.must_flow m.musts)
-    ∙ and_true (are_within (arcs_of_chains p ++ precedence_arcs p) (concat c.chain_flow ++ c.back_flow))
-    ∙ within_append (arcs_of_chains p) (precedence_arcs p) (concat c.chain_flow) c.back_flow (chains_length p ok c m)
+    within_append (arcs_of_chains p ++ predecessor_arcs p) (must_arcs p) (concat c.chain_flow ++ c.back_flow) c.must_flow (first_two_length p ok c m)
+    ∙ ap (λ x. are_within (arcs_of_chains p ++ predecessor_arcs p) (concat c.chain_flow ++ c.back_flow) && x) (unlimited_must (size p) p.must c.must_flow m.musts)
+    ∙ and_true (are_within (arcs_of_chains p ++ predecessor_arcs p) (concat c.chain_flow ++ c.back_flow))
+    ∙ within_append (arcs_of_chains p) (predecessor_arcs p) (concat c.chain_flow) c.back_flow (chains_length p ok c m)
     ∙ ap (λ x. are_within (arcs_of_chains p) (concat c.chain_flow) && x) (unlimited_pairs p.before c.back_flow m.backs)
     ∙ and_true (are_within (arcs_of_chains p) (concat c.chain_flow))
     ∙ rows_are_within (size p) p.chains c.chain_flow (are_whole p ok c m) m.rows

@@ -5,7 +5,7 @@ use Rattle.std.specs.List.{flat_map, concat}
 use Rattle.std.proofs.lemmas.List.{length-append, length-map}
 use Rattle.std.proofs.lemmas.List.Sums.{sum_by-cons}
 use Rattle.esr_cert.specs.Problem.{Chain, Problem, size}
-use Rattle.esr_cert.specs.Network.{Arc, path_arcs, arcs_of_chain, precedence_arc, must_arc, arcs_of_chains, precedence_arcs, must_arcs, network}
+use Rattle.esr_cert.specs.Network.{Arc, path_arcs, arcs_of_chain, predecessor_arc, must_arc, arcs_of_chains, predecessor_arcs, must_arcs, network}
 use Rattle.esr_cert.specs.Flow.{carried, worth}
 use Rattle.esr_cert.specs.Certificate.{Certificate, amounts, are_rows_matched}
 use Rattle.esr_cert.proofs.Cut.{pick}
@@ -52,7 +52,7 @@ chains_first n (chain ∷ chains) (row ∷ rows) whole h m =
       sum_by-cons first_of row rows,
     )
 
-pairs_none : (n : ℕ) (pairs : List (ℕ × ℕ)) (flow : List ℕ) → ((u v : ℕ) → Contains pairs (u, v) → (u < n) × (v < n)) → carried (leaves n) (map precedence_arc pairs) flow ≡ 0
+pairs_none : (n : ℕ) (pairs : List (ℕ × ℕ)) (flow : List ℕ) → ((u v : ℕ) → Contains pairs (u, v) → (u < n) × (v < n)) → carried (leaves n) (map predecessor_arc pairs) flow ≡ 0
 pairs_none n [] flow h = refl
 pairs_none n (q ∷ pairs) [] h = refl
 pairs_none n (q ∷ pairs) (x ∷ flow) h =
@@ -93,9 +93,9 @@ pub arc_count : (p : Problem) → IsProblem p → length (network p).arcs ≡ su
 arc_count p ok =
     omega (
       arith,
-      length-append (arcs_of_chains p ++ precedence_arcs p) (must_arcs p),
-      length-append (arcs_of_chains p) (precedence_arcs p),
+      length-append (arcs_of_chains p ++ predecessor_arcs p) (must_arcs p),
+      length-append (arcs_of_chains p) (predecessor_arcs p),
       chain_count (size p) p.chains (λ chain k. (ok.chains chain k).one_more),
-      length-map {B = Arc} p.before precedence_arc,
+      length-map {B = Arc} p.before predecessor_arc,
       length-map {B = Arc} p.must (must_arc (size p)),
     )

@@ -43,7 +43,7 @@ worth_matches p c = (c.worth == worth (network p) (amounts c)) && (c.worth == co
 -- a count, if present, is at most nodes times arcs
 abbrev pub is_count_in_bound : Problem → Option ℕ → Bool
 is_count_in_bound p None = true
-is_count_in_bound p (Some count) = nat_le count ((network p).nodes * length (network p).arcs)
+is_count_in_bound p (Some count) = nat_le count ((network p).node_count * length (network p).arcs)
 
 -- the first fault that applies
 abbrev pub fault : Problem → Certificate → Option Fault

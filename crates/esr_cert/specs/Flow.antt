@@ -41,11 +41,11 @@ is_conserved_at arcs flow v = inflow arcs flow v == outflow arcs flow v
 -- at each node but the source and the sink
 abbrev pub is_conserved : Network → List ℕ → Bool
 is_conserved net flow =
-    list_all (λ v. v == net.source || (v == net.sink || is_conserved_at net.arcs flow v)) (range_with_len 0 net.nodes)
+    list_all (λ v. v == net.source || (v == net.sink || is_conserved_at net.arcs flow v)) (range_with_len 0 net.node_count)
 
 -- the meaning of the two tests, arc by arc and node by node
 pub record IsFlow (net : Network) (flow : List ℕ) : Type 0 where
   pub same_length : length flow ≡ length net.arcs
   pub within_capacity : (i : ℕ) → i < length net.arcs → within (amount_at flow i) (arc_at net.arcs i).capacity ≡ true
-  pub conserved : (v : ℕ) → v < net.nodes → v ≢ net.source → v ≢ net.sink
+  pub conserved : (v : ℕ) → v < net.node_count → v ≢ net.source → v ≢ net.sink
       → inflow net.arcs flow v ≡ outflow net.arcs flow v

@@ -27,9 +27,9 @@ abbrev pub row_of : List Arc → ℕ → List ResidualArc
 row_of arcs v = steps_from arcs v (first_steps (length arcs))
 
 -- how many steps start at each node, and how many there are
-pub record AreDegrees (arcs : List Arc) (nodes : ℕ) (degrees : List ℕ) : Type 0 where
-  pub count : length degrees ≡ nodes
-  pub degree : (v : ℕ) → v < nodes → get_or degrees v 0 ≡ length (row_of arcs v)
+pub record AreDegrees (arcs : List Arc) (node_count : ℕ) (degrees : List ℕ) : Type 0 where
+  pub count : length degrees ≡ node_count
+  pub degree : (v : ℕ) → v < node_count → get_or degrees v 0 ≡ length (row_of arcs v)
   pub both : sum degrees ≡ 2 * length arcs
 
 -- the beginnings of consecutive empty rows of these lengths
@@ -49,12 +49,12 @@ pub record AreRows (arcs : List Arc) (n : ℕ) (spans : List Span) (steps : List
 pub record AreSteps (arcs : List Arc) (steps : List ResidualArc) : Type 0 where
   pub within_max : length arcs ≤ MAX_ARCS
   pub count : length steps ≡ 2 * length arcs
-  pub in_arcs : (k : ℕ) → k < length steps → arc_of (step_at steps k) < length arcs
+  pub arc_in_range : (k : ℕ) → k < length steps → arc_of (step_at steps k) < length arcs
   pub once : AreOnce steps
 
 -- the rows of a network, in which no step occurs twice
 pub record AreLaidOut (net : Network) (r : Rows) : Type 0 where
-  pub rows : AreRows net.arcs net.nodes r.spans.items r.steps.items
+  pub rows : AreRows net.arcs net.node_count r.spans.items r.steps.items
   pub steps : AreSteps net.arcs r.steps.items
 
 -- the span of a row with one more
@@ -66,9 +66,9 @@ abbrev pub lengthen : List Span → ℕ → List Span
 lengthen spans v = set spans v (longer (span_at spans v))
 
 -- how many of some steps start at each node
-pub record Counted (arcs : List Arc) (nodes : ℕ) (done : List ResidualArc) (counts : List ℕ) : Type 0 where
-  pub count : length counts ≡ nodes
-  pub each : (v : ℕ) → v < nodes → get_or counts v 0 ≡ length (steps_from arcs v done)
+pub record Counted (arcs : List Arc) (node_count : ℕ) (done : List ResidualArc) (counts : List ℕ) : Type 0 where
+  pub count : length counts ≡ node_count
+  pub each : (v : ℕ) → v < node_count → get_or counts v 0 ≡ length (steps_from arcs v done)
   pub both : sum counts ≡ length done
 
 -- some steps are in their rows, which have these lengths
@@ -84,7 +84,7 @@ pub record Filled (arcs : List Arc) (lengths : List ℕ) (done : List ResidualAr
       → step_at steps (sum (take v lengths) + k) ≡ step_at (steps_from arcs v done) k
 
 -- the rows after the first i arcs
-pub record IsLaidOut (arcs : List Arc) (nodes i : ℕ) (spans : List Span) (steps : List ResidualArc) : Type 0 where
+pub record IsLaidOut (arcs : List Arc) (node_count i : ℕ) (spans : List Span) (steps : List ResidualArc) : Type 0 where
   pub degrees : List ℕ
-  pub are : AreDegrees arcs nodes degrees
+  pub are : AreDegrees arcs node_count degrees
   pub filled : Filled arcs degrees (first_steps i) spans steps

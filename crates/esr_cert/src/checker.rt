@@ -232,9 +232,9 @@ fn is_count_in_bound(problem: &Problem, augmentations: Option<u64>) -> bool
     let Some(count) = augmentations else {
         return true;
     };
-    let nodes = problem.updates().len() as u128 + 2;
+    let node_count = problem.updates().len() as u128 + 2;
     let arcs = arc_count(problem.before(), problem.chains(), problem.must());
-    u128::from(count) <= nodes * arcs
+    u128::from(count) <= node_count * arcs
 }
 
 /// Returns the first fault of a certificate, if it has one.

@@ -73,19 +73,19 @@ fn count_others(arcs: &Arcs, _nodes: usize, first: usize, degrees: &mut Vec<u32>
 
 /// Returns how many steps start at each node: its outgoing and its incoming arcs. The ends of a chain's arcs are read
 /// off the chain, since finding an arc by its number needs a look-up.
-fn degrees_of(alloc: Global, nodes: usize, arcs: &Arcs) -> Result<Vec<u32>, AllocError>
+fn degrees_of(alloc: Global, node_count: usize, arcs: &Arcs) -> Result<Vec<u32>, AllocError>
     requires within_max { length arcs.now ≤ MAX_ARCS }
-    requires ends { EndsAreNodes arcs.now nodes }
-    ensures { IfOk result (λ degrees. AreDegrees arcs.now nodes degrees.items) }
+    requires ends { EndsAreNodes arcs.now node_count }
+    ensures { IfOk result (λ degrees. AreDegrees arcs.now node_count degrees.items) }
 {
-    let mut degrees = vec![in alloc; 0u32; nodes]?;
+    let mut degrees = vec![in alloc; 0u32; node_count]?;
     let (chains, source) = arcs.chains();
     let mut begin = 0;
     for chain in chains {
-        count_links(arcs, nodes, source, chain, begin, &mut degrees);
+        count_links(arcs, node_count, source, chain, begin, &mut degrees);
         begin += chain.costs.len();
     }
-    count_others(arcs, nodes, begin, &mut degrees);
+    count_others(arcs, node_count, begin, &mut degrees);
     Ok(degrees)
 }
 
@@ -188,22 +188,22 @@ fn lay_others(arcs: &Arcs, _nodes: usize, first: usize, rows: &mut Rows)
 
 /// Returns for each node the steps that start at it: counts them, then puts each into its row.
 #[tactic(auto, using(crate::proofs::LinksLaws::starts_first))]
-pub fn rows_of(alloc: Global, nodes: usize, arcs: &Arcs) -> Result<Rows, AllocError>
+pub fn rows_of(alloc: Global, node_count: usize, arcs: &Arcs) -> Result<Rows, AllocError>
     requires within_max { length arcs.now ≤ MAX_ARCS }
-    requires ends { EndsAreNodes arcs.now nodes }
-    ensures rows { IfOk result (λ rows. AreRows arcs.now nodes rows.spans.items rows.steps.items) }
+    requires ends { EndsAreNodes arcs.now node_count }
+    ensures rows { IfOk result (λ rows. AreRows arcs.now node_count rows.spans.items rows.steps.items) }
     ensures steps { IfOk result (λ rows. AreSteps arcs.now rows.steps.items) }
 {
-    let spans = begin_rows(alloc, &degrees_of(alloc, nodes, arcs)?)?;
+    let spans = begin_rows(alloc, &degrees_of(alloc, node_count, arcs)?)?;
     let steps = vec![in alloc; PackedResidualArc::of(ResidualArc::Forward(0)); 2 * arcs.len()]?;
     let mut rows = Rows { spans, steps };
     let (chains, source) = arcs.chains();
     let mut begin = 0;
     // arcs are added in ascending order, so each row is sorted, and `place_of` can use binary search
     for chain in chains {
-        lay_links(arcs, nodes, source, chain, begin, &mut rows);
+        lay_links(arcs, node_count, source, chain, begin, &mut rows);
         begin += chain.costs.len();
     }
-    lay_others(arcs, nodes, begin, &mut rows);
+    lay_others(arcs, node_count, begin, &mut rows);
     Ok(rows)
 }

@@ -22,7 +22,7 @@ use Rattle.esr_order.proofs.Entries.{accepts}
 use Rattle.esr_audit.proofs.ProblemRanges.{state_in_range}
 use Rattle.esr_order.specs.declared.accesses.Access.{Access}
 use Rattle.esr_order.specs.Scans.{access_of, accesses_in}
-use Rattle.esr_explain.specs.Accesses.{access_line, put, put_all}
+use Rattle.esr_explain.specs.AccessLines.{access_line, put, put_all}
 
 abbrev by : ℕ → Operation → Bool
 by t o = eqb o.txn t

@@ -2,7 +2,7 @@
 ghost use Rattle.std.specs.Prelude.{◌≡◌, ◌++◌, ℕ, OnOk, All, map, flat_map};
 ghost use Rattle.esr_items.specs.Values.{value_at, IsValue};
 ghost use Rattle.esr_items.specs.Weights.{weighted};
-ghost use Rattle.esr_explain.specs.Accesses.{access_line};
+ghost use Rattle.esr_explain.specs.AccessLines.{access_line};
 ghost use Rattle.esr_explain.specs.Explain.{named_read_line, read_line, read_lines};
 
 use crate::accesses::values_after;

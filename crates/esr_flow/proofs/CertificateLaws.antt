@@ -8,7 +8,7 @@ use Rattle.std.proofs.lemmas.List.Sums.{sum_by-cons, sum_by-append}
 use Rattle.esr_flow.specs.Types.{Arc}
 use Rattle.esr_cert.specs.declared.problem.Chain as code
 use Rattle.esr_cert.specs.Problem.{Chain, Problem, size, in_set, is_ascending, cost, IsSmallestLeast}
-use Rattle.esr_cert.specs.Network.{path_arcs, arcs_of_chain, arcs_of_chains, precedence_arcs, must_arcs, precedence_arc, must_arc, network}
+use Rattle.esr_cert.specs.Network.{path_arcs, arcs_of_chain, arcs_of_chains, predecessor_arcs, must_arcs, predecessor_arc, must_arc, network}
 use Rattle.esr_cert.specs.Flow.{are_within, IsFlow, worth}
 use Rattle.esr_cert.specs.Certificate.{Certificate, amounts, are_rows_matched, is_count_in_bound, Certifies}
 use Rattle.esr_cert.specs.Views.{chain_of, rows_of}
@@ -43,10 +43,10 @@ flow_length p ok flow f =
     omega (
       arith,
       f.same_length,
-      length-append (arcs_of_chains p ++ precedence_arcs p) (must_arcs p),
-      length-append (arcs_of_chains p) (precedence_arcs p),
+      length-append (arcs_of_chains p ++ predecessor_arcs p) (must_arcs p),
+      length-append (arcs_of_chains p) (predecessor_arcs p),
       chains_length p (size p) p.chains ok.chains,
-      length-map {B = Arc} p.before precedence_arc,
+      length-map {B = Arc} p.before predecessor_arc,
       length-map {B = Arc} p.must (must_arc (size p)),
     )
 

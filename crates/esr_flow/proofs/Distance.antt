@@ -67,16 +67,16 @@ module _ (arcs : List Arc) (flow : List ℕ) (sink : ℕ) where
       ]
 
 -- a path on which the labels fall has at most as many steps as there are nodes
-pub steps_le_nodes : (net : Network) → IsNetwork net → (d : ℕ → ℕ) (k : ℕ) (path : List ResidualArc) → Levels d net.arcs k path → length path ≤ count_below (λ v. leb (d v) k) net.nodes
+pub steps_le_nodes : (net : Network) → IsNetwork net → (d : ℕ → ℕ) (k : ℕ) (path : List ResidualArc) → Levels d net.arcs k path → length path ≤ count_below (λ v. leb (d v) k) net.node_count
 steps_le_nodes net ok d k [] h = omega arith
 steps_le_nodes net ok d k (s ∷ path) h =
-    let rest : length path ≤ count_below (λ v. leb (d v) (d (finish net.arcs s))) net.nodes = steps_le_nodes net ok d (d (finish net.arcs s)) path h.3 in
-    let more : suc (count_below (λ v. leb (d v) (d (finish net.arcs s))) net.nodes) ≤ count_below (λ v. leb (d v) k) net.nodes =
-    count_fewer (λ v. leb (d v) (d (finish net.arcs s))) (λ v. leb (d v) k) net.nodes (start net.arcs s)
+    let rest : length path ≤ count_below (λ v. leb (d v) (d (finish net.arcs s))) net.node_count = steps_le_nodes net ok d (d (finish net.arcs s)) path h.3 in
+    let more : suc (count_below (λ v. leb (d v) (d (finish net.arcs s))) net.node_count) ≤ count_below (λ v. leb (d v) k) net.node_count =
+    count_fewer (λ v. leb (d v) (d (finish net.arcs s))) (λ v. leb (d v) k) net.node_count (start net.arcs s)
     (λ i l t. le-leb (d i) k (omega (arith, leb-true (d i) (d (finish net.arcs s)) t)))
     (in_range s h.2) (lt-leb _ _ (omega arith)) (le-leb _ _ h.0) in
     omega arith
   where
-    in_range : (s : ResidualArc) → arc_of s < length net.arcs → start net.arcs s < net.nodes
+    in_range : (s : ResidualArc) → arc_of s < length net.arcs → start net.arcs s < net.node_count
     in_range (Forward i) l = (ok.ends i l).0
     in_range (Backward i) l = (ok.ends i l).1

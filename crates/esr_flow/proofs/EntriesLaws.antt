@@ -9,7 +9,7 @@ use Rattle.esr_cert.specs.declared.rows.Span.{Span}
 use Rattle.esr_cert.specs.Flow.{within, amount_at}
 use Rattle.esr_cert.specs.Steps.{arc_of, start, step_at, same_step, has_step, HasSteps}
 use Rattle.esr_flow.specs.Residual.{residual_capacity, left_of}
-use Rattle.esr_flow.specs.Graph.{arcs_of, network_of, adjacency_entry, entry_at, AreEntries, IsEntry, Lists, Graph}
+use Rattle.esr_flow.specs.ResidualGraph.{arcs_of, network_of, adjacency_entry, entry_at, AreEntries, IsEntry, IsAdjacencyRow, ResidualGraph}
 use Rattle.esr_cert.specs.Rows.{span_at, row_in}
 use Rattle.esr_flow.proofs.WalkLaws.{start_in}
 
@@ -29,14 +29,14 @@ contains_from (t ∷ steps) s h =
     ]
 
 -- the entries of a node's steps
-lists_from : (arcs : List Arc) (flow : List ℕ) (v : ℕ) (steps : List ResidualArc) → HasSteps arcs v steps → Lists arcs flow v steps (map (adjacency_entry arcs flow) steps)
+lists_from : (arcs : List Arc) (flow : List ℕ) (v : ℕ) (steps : List ResidualArc) → HasSteps arcs v steps → IsAdjacencyRow arcs flow v steps (map (adjacency_entry arcs flow) steps)
 lists_from arcs flow v steps h = record {
   count = length-map steps (adjacency_entry arcs flow);
   entries = λ k l.
       let inside : k < length steps = omega (arith, length-map steps (adjacency_entry arcs flow)) in
       let is : entry_at (map (adjacency_entry arcs flow) steps) k ≡ adjacency_entry arcs flow (step_at steps k) = get_or-map (adjacency_entry arcs flow) steps k (Forward 0) (entry_at [] 0) inside in
       let (a, s) = h.starts k inside in
-      subst (IsEntry arcs flow v (step_at steps k)) (sym is) (record { in_arcs = a; starts = s; leads = refl; ahead = refl; back = refl });
+      subst (IsEntry arcs flow v (step_at steps k)) (sym is) (record { arc_in_range = a; starts = s; leads = refl; has_residual = refl; opposite_has_residual = refl });
   all = λ step l e. contains_from steps step (h.all step l e);
 }
 
@@ -63,27 +63,27 @@ module _ {S E : Type 0} (f h : S → E) (steps : List S) (entries : List E) (p q
       each_written are lp lq at_p at_q others k inside ∙ sym (get_or-map h steps k d z inside))
 
 -- the entries of an arc's two steps
-pub along_is : (arcs : List Arc) (flow : List ℕ) (i x : ℕ) (arc : Arc) → arc ≡ arc_at arcs i → x ≡ amount_at flow i → record { to = arc.to; ahead = within 1 (left_of arc.capacity x); back = within 1 (Some x) } ≡ adjacency_entry arcs flow (Forward i)
+pub along_is : (arcs : List Arc) (flow : List ℕ) (i x : ℕ) (arc : Arc) → arc ≡ arc_at arcs i → x ≡ amount_at flow i → record { to = arc.to; has_residual = within 1 (left_of arc.capacity x); opposite_has_residual = within 1 (Some x) } ≡ adjacency_entry arcs flow (Forward i)
 along_is arcs flow i x arc is x_is =
-    let by : Arc → ℕ → AdjacencyEntry = λ a n. record { to = a.to; ahead = within 1 (left_of a.capacity n); back = within 1 (Some n) } in
+    let by : Arc → ℕ → AdjacencyEntry = λ a n. record { to = a.to; has_residual = within 1 (left_of a.capacity n); opposite_has_residual = within 1 (Some n) } in
     ap (λ a. by a x) is ∙ ap (by (arc_at arcs i)) x_is
 
-pub against_is : (arcs : List Arc) (flow : List ℕ) (i x : ℕ) (arc : Arc) → arc ≡ arc_at arcs i → x ≡ amount_at flow i → record { to = arc.from; ahead = within 1 (Some x); back = within 1 (left_of arc.capacity x) } ≡ adjacency_entry arcs flow (Backward i)
+pub against_is : (arcs : List Arc) (flow : List ℕ) (i x : ℕ) (arc : Arc) → arc ≡ arc_at arcs i → x ≡ amount_at flow i → record { to = arc.from; has_residual = within 1 (Some x); opposite_has_residual = within 1 (left_of arc.capacity x) } ≡ adjacency_entry arcs flow (Backward i)
 against_is arcs flow i x arc is x_is =
-    let by : Arc → ℕ → AdjacencyEntry = λ a n. record { to = a.from; ahead = within 1 (Some n); back = within 1 (left_of a.capacity n) } in
+    let by : Arc → ℕ → AdjacencyEntry = λ a n. record { to = a.from; has_residual = within 1 (Some n); opposite_has_residual = within 1 (left_of a.capacity n) } in
     ap (λ a. by a x) is ∙ ap (by (arc_at arcs i)) x_is
 
 -- the entry of a step of another arc
 same_entry : (arcs : List Arc) (flow : List ℕ) (i x : ℕ) (t : ResidualArc) → arc_of t ≢ i → adjacency_entry arcs (set flow i x) t ≡ adjacency_entry arcs flow t
 same_entry arcs flow i x (Forward j) ne =
-    let by : ℕ → AdjacencyEntry = λ n. record { to = (arc_at arcs j).to; ahead = within 1 (left_of (arc_at arcs j).capacity n); back = within 1 (Some n) } in
+    let by : ℕ → AdjacencyEntry = λ n. record { to = (arc_at arcs j).to; has_residual = within 1 (left_of (arc_at arcs j).capacity n); opposite_has_residual = within 1 (Some n) } in
     ap by (get_or-set_other flow i j x 0 ne)
 same_entry arcs flow i x (Backward j) ne =
-    let by : ℕ → AdjacencyEntry = λ n. record { to = (arc_at arcs j).from; ahead = within 1 (Some n); back = within 1 (left_of (arc_at arcs j).capacity n) } in
+    let by : ℕ → AdjacencyEntry = λ n. record { to = (arc_at arcs j).from; has_residual = within 1 (Some n); opposite_has_residual = within 1 (left_of (arc_at arcs j).capacity n) } in
     ap by (get_or-set_other flow i j x 0 ne)
 
 abbrev entry : ℕ → Bool → Bool → AdjacencyEntry
-entry n ahead back = record { to = n; ahead = ahead; back = back }
+entry n has_residual opposite_has_residual = record { to = n; has_residual = has_residual; opposite_has_residual = opposite_has_residual }
 
 same_capacities : (n : ℕ) {a b c d : Bool} → a ≡ b → c ≡ d → entry n a c ≡ entry n b d
 same_capacities n {a} {b} {c} {d} p q = ap (λ x. entry n x c) p ∙ ap (entry n b) q
@@ -92,25 +92,25 @@ map_same : {S E : Type 0} (f h : S → E) → ((s : S) → f s ≡ h s) → (ste
 map_same f h e [] = refl
 map_same f h e (s ∷ steps) = ap (λ x. x ∷ map f steps) (e s) ∙ ap (λ xs. h s ∷ xs) (map_same f h e steps)
 
-module _ (g : Graph) where
+module _ (g : ResidualGraph) where
   -- a step is in the row of the node where it starts
   pub in_row : (s : ResidualArc) → arc_of s < length (arcs_of g) → Contains (row_in g.rows.now.steps.items (span_at g.rows.now.spans.items (start (arcs_of g) s))) s
   in_row s l =
       contains_from (row_in g.rows.now.steps.items (span_at g.rows.now.spans.items (start (arcs_of g) s))) s
       ((g.kept.lists (start (arcs_of g) s) (start_in (network_of g) g.kept.is_network s l)).all s l refl)
 
-  row_lists : (flow : List ℕ) (entries : List AdjacencyEntry) → AreEntries g flow entries → (v : ℕ) → v < g.nodes → Lists (arcs_of g) flow v (row_in g.rows.now.steps.items (span_at g.rows.now.spans.items v)) (row_in entries (span_at g.rows.now.spans.items v))
+  row_lists : (flow : List ℕ) (entries : List AdjacencyEntry) → AreEntries g flow entries → (v : ℕ) → v < g.node_count → IsAdjacencyRow (arcs_of g) flow v (row_in g.rows.now.steps.items (span_at g.rows.now.spans.items v)) (row_in entries (span_at g.rows.now.spans.items v))
   row_lists flow entries are v l =
       let span : Span = span_at g.rows.now.spans.items v in
       let same : row_in entries span ≡ map (adjacency_entry (arcs_of g) flow) (row_in g.rows.now.steps.items span) =
       ap (λ es. row_in es span) are ∙ ap (take (span.end - span.begin)) (drop-map (adjacency_entry (arcs_of g) flow) span.begin g.rows.now.steps.items) ∙ take-map (adjacency_entry (arcs_of g) flow) (span.end - span.begin) (drop span.begin g.rows.now.steps.items) in
-      subst (Lists (arcs_of g) flow v (row_in g.rows.now.steps.items span)) (sym same) (lists_from (arcs_of g) flow v (row_in g.rows.now.steps.items span) (g.kept.lists v l))
+      subst (IsAdjacencyRow (arcs_of g) flow v (row_in g.rows.now.steps.items span)) (sym same) (lists_from (arcs_of g) flow v (row_in g.rows.now.steps.items span) (g.kept.lists v l))
 
   -- the steps and the entries of a node as they were read
-  pub lists_read : (flow : List ℕ) (entries : List AdjacencyEntry) → AreEntries g flow entries → (v : ℕ) → v < g.nodes → (steps : List ResidualArc) (row : List AdjacencyEntry) → steps ≡ row_in g.rows.now.steps.items (span_at g.rows.now.spans.items v) → row ≡ row_in entries (span_at g.rows.now.spans.items v) → Lists (arcs_of g) flow v steps row
+  pub lists_read : (flow : List ℕ) (entries : List AdjacencyEntry) → AreEntries g flow entries → (v : ℕ) → v < g.node_count → (steps : List ResidualArc) (row : List AdjacencyEntry) → steps ≡ row_in g.rows.now.steps.items (span_at g.rows.now.spans.items v) → row ≡ row_in entries (span_at g.rows.now.spans.items v) → IsAdjacencyRow (arcs_of g) flow v steps row
   lists_read flow entries are v l steps row steps_are row_is =
-      subst (λ list. Lists (arcs_of g) flow v list row) (sym steps_are)
-      (subst (Lists (arcs_of g) flow v (row_in g.rows.now.steps.items (span_at g.rows.now.spans.items v))) (sym row_is) (row_lists flow entries are v l))
+      subst (λ list. IsAdjacencyRow (arcs_of g) flow v list row) (sym steps_are)
+      (subst (IsAdjacencyRow (arcs_of g) flow v (row_in g.rows.now.steps.items (span_at g.rows.now.spans.items v))) (sym row_is) (row_lists flow entries are v l))
 
   -- a step at neither index of an arc's two steps belongs to another arc
   other_arc : (i k p q : ℕ) → k < length g.rows.now.steps.items → p < length g.rows.now.steps.items → q < length g.rows.now.steps.items → step_at g.rows.now.steps.items p ≡ Forward i → step_at g.rows.now.steps.items q ≡ Backward i → k ≢ p → k ≢ q
@@ -140,14 +140,14 @@ module _ (g : Graph) where
       now : x ≡ amount_at (set flow i x) i
       now = sym (get_or-set_same flow i x 0 l)
 
-      ahead : within 1 (residual_capacity (arcs_of g) flow (Forward i)) ≡ within 1 (residual_capacity (arcs_of g) (set flow i x) (Forward i))
-      ahead =
+      has_residual : within 1 (residual_capacity (arcs_of g) flow (Forward i)) ≡ within 1 (residual_capacity (arcs_of g) (set flow i x) (Forward i))
+      has_residual =
           subst (λ (a : Arc). within 1 (left_of a.capacity (amount_at flow i)) ≡ within 1 (left_of a.capacity x)) is same_ahead
           ∙ ap (λ n. within 1 (left_of (arc_at (arcs_of g) i).capacity n)) now
 
-      back : within 1 (residual_capacity (arcs_of g) flow (Backward i)) ≡ within 1 (residual_capacity (arcs_of g) (set flow i x) (Backward i))
-      back = same_back ∙ ap (λ n. within 1 (Some n)) now
+      opposite_has_residual : within 1 (residual_capacity (arcs_of g) flow (Backward i)) ≡ within 1 (residual_capacity (arcs_of g) (set flow i x) (Backward i))
+      opposite_has_residual = same_back ∙ ap (λ n. within 1 (Some n)) now
 
       here : (s : ResidualArc) → arc_of s ≡ i → adjacency_entry (arcs_of g) flow s ≡ adjacency_entry (arcs_of g) (set flow i x) s
-      here (Forward j) e = subst (λ n. adjacency_entry (arcs_of g) flow (Forward n) ≡ adjacency_entry (arcs_of g) (set flow i x) (Forward n)) (sym e) (same_capacities (arc_at (arcs_of g) i).to ahead back)
-      here (Backward j) e = subst (λ n. adjacency_entry (arcs_of g) flow (Backward n) ≡ adjacency_entry (arcs_of g) (set flow i x) (Backward n)) (sym e) (same_capacities (arc_at (arcs_of g) i).from back ahead)
+      here (Forward j) e = subst (λ n. adjacency_entry (arcs_of g) flow (Forward n) ≡ adjacency_entry (arcs_of g) (set flow i x) (Forward n)) (sym e) (same_capacities (arc_at (arcs_of g) i).to has_residual opposite_has_residual)
+      here (Backward j) e = subst (λ n. adjacency_entry (arcs_of g) flow (Backward n) ≡ adjacency_entry (arcs_of g) (set flow i x) (Backward n)) (sym e) (same_capacities (arc_at (arcs_of g) i).from opposite_has_residual has_residual)

@@ -13,7 +13,7 @@ use Rattle.esr_cert.proofs.StepsLaws.{steps_parts, room_for, first_all, first_ne
 use Rattle.esr_cert.proofs.RowsLaws.{row_length, at_row, counted_more}
 use Rattle.esr_flow.specs.ShortEntry.{AdjacencyEntry}
 use Rattle.esr_flow.specs.Residual.{left_of}
-use Rattle.esr_flow.specs.Graph.{arcs_of, adjacency_entry, entry_at, AreEntries, Graph}
+use Rattle.esr_flow.specs.ResidualGraph.{arcs_of, adjacency_entry, entry_at, AreEntries, ResidualGraph}
 use Rattle.esr_flow.proofs.EntriesLaws.{along_is, against_is}
 
 -- the first steps are those before an arc, its two, and later ones
@@ -30,13 +30,13 @@ first_split i (suc n) l =
     ]
 
 -- the entries of some steps are in their places, and the steps of each node are counted
-pub record ArePut (g : Graph) (flow : List ℕ) (done : List ResidualArc) (counts : List ℕ) (entries : List AdjacencyEntry) : Type 0 where
-  pub counted : Counted (arcs_of g) g.nodes done counts
+pub record ArePut (g : ResidualGraph) (flow : List ℕ) (done : List ResidualArc) (counts : List ℕ) (entries : List AdjacencyEntry) : Type 0 where
+  pub counted : Counted (arcs_of g) g.node_count done counts
   pub long : length entries ≡ length g.rows.now.steps.items
   pub put : (k : ℕ) → k < length g.rows.now.steps.items → Contains done (step_at g.rows.now.steps.items k)
       → entry_at entries k ≡ adjacency_entry (arcs_of g) flow (step_at g.rows.now.steps.items k)
 
-module _ (g : Graph) where
+module _ (g : ResidualGraph) where
   abbrev steps : List ResidualArc
   steps = g.rows.now.steps.items
 
@@ -44,7 +44,7 @@ module _ (g : Graph) where
   begin v = (span_at g.rows.now.spans.items v).begin
 
   -- a step comes after the earlier steps of its node
-  module _ (done rest : List ResidualArc) (s : ResidualArc) (v : ℕ) (known : v < g.nodes) (starts : start (arcs_of g) s ≡ v) (all : first_steps (length (arcs_of g)) ≡ done ++ s ∷ rest) where
+  module _ (done rest : List ResidualArc) (s : ResidualArc) (v : ℕ) (known : v < g.node_count) (starts : start (arcs_of g) s ≡ v) (all : first_steps (length (arcs_of g)) ≡ done ++ s ∷ rest) where
     abbrev place : ℕ
     place = length (steps_from (arcs_of g) v done)
 
@@ -104,7 +104,7 @@ module _ (g : Graph) where
   all_put flow counts entries are =
       ext_get_or (entry_at [] 0) entries (map (adjacency_entry (arcs_of g) flow) steps) (are.long ∙ sym (length-map steps (adjacency_entry (arcs_of g) flow))) (λ k l.
       let inside : k < length steps = omega (arith, are.long) in
-      are.put k inside (first_all (length (arcs_of g)) (step_at steps k) (g.kept.steps.in_arcs k inside))
+      are.put k inside (first_all (length (arcs_of g)) (step_at steps k) (g.kept.steps.arc_in_range k inside))
       ∙ sym (get_or-map (adjacency_entry (arcs_of g) flow) steps k (Forward 0) (entry_at [] 0) inside))
 
   -- the two steps of an arc
@@ -112,10 +112,10 @@ module _ (g : Graph) where
     split : (rest : List ResidualArc) × (first_steps (length (arcs_of g)) ≡ first_steps i ++ Forward i ∷ Backward i ∷ rest)
     split = first_split i (length (arcs_of g)) l
 
-    known_from : arc.from < g.nodes
+    known_from : arc.from < g.node_count
     known_from = rw is ((g.kept.is_network.ends i l).0)
 
-    known_to : arc.to < g.nodes
+    known_to : arc.to < g.node_count
     known_to = rw is ((g.kept.is_network.ends i l).1)
 
     starts_along : start (arcs_of g) (Forward i) ≡ arc.from
@@ -130,7 +130,7 @@ module _ (g : Graph) where
     pub along_bounded : get_or counts arc.from 0 < 4294967296
     along_bounded = put_bounded (first_steps i) (Backward i ∷ split.0) (Forward i) arc.from known_from starts_along split.1 flow counts entries are
 
-    module _ (counts_along : List ℕ) (entries_along : List AdjacencyEntry) (a : AdjacencyEntry) (a_is : a ≡ record { to = arc.to; ahead = within 1 (left_of arc.capacity x); back = within 1 (Some x) }) (c : counts_along ≡ set counts arc.from (get_or counts arc.from 0 + 1)) (e : entries_along ≡ set entries (begin arc.from + get_or counts arc.from 0) a) where
+    module _ (counts_along : List ℕ) (entries_along : List AdjacencyEntry) (a : AdjacencyEntry) (a_is : a ≡ record { to = arc.to; has_residual = within 1 (left_of arc.capacity x); opposite_has_residual = within 1 (Some x) }) (c : counts_along ≡ set counts arc.from (get_or counts arc.from 0 + 1)) (e : entries_along ≡ set entries (begin arc.from + get_or counts arc.from 0) a) where
       after_along : ArePut g flow (first_steps i ++ Forward i ∷ []) counts_along entries_along
       after_along =
           subst (λ cs. ArePut g flow (first_steps i ++ Forward i ∷ []) cs entries_along) (sym c)
@@ -146,7 +146,7 @@ module _ (g : Graph) where
       pub against_bounded : get_or counts_along arc.to 0 < 4294967296
       against_bounded = put_bounded (first_steps i ++ Forward i ∷ []) split.0 (Backward i) arc.to known_to starts_against later flow counts_along entries_along after_along
 
-      pub put_both : (counts_now : List ℕ) (entries_now : List AdjacencyEntry) (b : AdjacencyEntry) → b ≡ record { to = arc.from; ahead = within 1 (Some x); back = within 1 (left_of arc.capacity x) } → counts_now ≡ set counts_along arc.to (get_or counts_along arc.to 0 + 1) → entries_now ≡ set entries_along (begin arc.to + get_or counts_along arc.to 0) b → ArePut g flow (first_steps (i + 1)) counts_now entries_now
+      pub put_both : (counts_now : List ℕ) (entries_now : List AdjacencyEntry) (b : AdjacencyEntry) → b ≡ record { to = arc.from; has_residual = within 1 (Some x); opposite_has_residual = within 1 (left_of arc.capacity x) } → counts_now ≡ set counts_along arc.to (get_or counts_along arc.to 0 + 1) → entries_now ≡ set entries_along (begin arc.to + get_or counts_along arc.to 0) b → ArePut g flow (first_steps (i + 1)) counts_now entries_now
       put_both counts_now entries_now b b_is d f =
           subst (λ done. ArePut g flow done counts_now entries_now) (first_next i)
           (subst (λ cs. ArePut g flow ((first_steps i ++ Forward i ∷ []) ++ Backward i ∷ []) cs entries_now) (sym d)

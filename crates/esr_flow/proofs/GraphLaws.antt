@@ -11,13 +11,13 @@ use Rattle.esr_cert.specs.Steps.{rank_of, HasSteps}
 use Rattle.esr_cert.specs.Rows.{AreLaidOut}
 use Rattle.esr_cert.proofs.StepsLaws.{has_steps, row_ascends}
 
-module _ (p : Problem) (nodes source sink : ℕ) (a : nodes ≡ size p + 2) (b : source ≡ size p) (c : sink ≡ size p + 1) where
-  pub net_is : net_with p nodes source sink ≡ network p
+module _ (p : Problem) (node_count source sink : ℕ) (a : node_count ≡ size p + 2) (b : source ≡ size p) (c : sink ≡ size p + 1) where
+  pub net_is : net_with p node_count source sink ≡ network p
   net_is = ap (λ n. net_with p n source sink) a ∙ ap (λ n. net_with p (size p + 2) n sink) b ∙ ap (net_with p (size p + 2) (size p)) c
 
-  pub graph_is : IsProblem p → (rows : Rows) → AreLaidOut (network p) rows → nodes < 2 ^ 30 → IsGraphOf p rows nodes source sink
+  pub graph_is : IsProblem p → (rows : Rows) → AreLaidOut (network p) rows → node_count < 2 ^ 30 → IsGraphOf p rows node_count source sink
   graph_is ok rows given within_max =
-      let laid_out : AreLaidOut (net_with p nodes source sink) rows = subst (λ net. AreLaidOut net rows) (sym net_is) given in
+      let laid_out : AreLaidOut (net_with p node_count source sink) rows = subst (λ net. AreLaidOut net rows) (sym net_is) given in
       record {
         is_network = subst IsNetwork (sym net_is) (is_network p ok);
         count = laid_out.rows.count;

@@ -7,13 +7,13 @@ use Rattle.esr_cert.specs.Network.{Network}
 use Rattle.esr_flow.specs.Search.{visit_at, label_at, EndsVisited, FoundSink, Guides, Visit}
 
 -- the labels of the first k visits are set
-pub record Labelled (visits : List Visit) (nodes last : ℕ) (labels : List ℕ) (k : ℕ) : Type 0 where
-  pub count : length labels ≡ nodes
+pub record Labelled (visits : List Visit) (node_count last : ℕ) (labels : List ℕ) (k : ℕ) : Type 0 where
+  pub count : length labels ≡ node_count
   pub some_visit : (v : ℕ) → (label_at labels v ≡ 0) ⊎ ((i : ℕ) × (i < length visits) × ((visit_at visits i).node ≡ v) × (label_at labels v ≡ last - (visit_at visits i).level))
   pub at_least : (j : ℕ) → j < k → last - (visit_at visits j).level ≤ label_at labels (visit_at visits j).node
 
-pub label_more : (visits : List Visit) (nodes last : ℕ) (labels : List ℕ) (k : ℕ) → k < length visits → (visit_at visits k).node < nodes → Labelled visits nodes last labels k → Labelled visits nodes last (set labels (visit_at visits k).node (max (label_at labels (visit_at visits k).node) (last - (visit_at visits k).level))) (k + 1)
-label_more visits nodes last labels k l n h =
+pub label_more : (visits : List Visit) (node_count last : ℕ) (labels : List ℕ) (k : ℕ) → k < length visits → (visit_at visits k).node < node_count → Labelled visits node_count last labels k → Labelled visits node_count last (set labels (visit_at visits k).node (max (label_at labels (visit_at visits k).node) (last - (visit_at visits k).level))) (k + 1)
+label_more visits node_count last labels k l n h =
     record { count = length-set labels node new ∙ h.count; some_visit = some_visit; at_least = at_least }
   where
     node : ℕ
@@ -54,7 +54,7 @@ label_more visits nodes last labels k l n h =
           ]
     ]
 
-module _ (net : Network) (flow : List ℕ) (visits : List Visit) (f : FoundSink net flow visits) (labels : List ℕ) (k : ℕ) (past : length visits ≤ k) (h : Labelled visits net.nodes (visit_at visits (length visits - 1)).level labels k) where
+module _ (net : Network) (flow : List ℕ) (visits : List Visit) (f : FoundSink net flow visits) (labels : List ℕ) (k : ℕ) (past : length visits ≤ k) (h : Labelled visits net.node_count (visit_at visits (length visits - 1)).level labels k) where
   falls : Falls net.arcs flow (label_at labels)
   falls s res = elim (h.some_visit (start net.arcs s)) [
     | inl z ↦ omega arith

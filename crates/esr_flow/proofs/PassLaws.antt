@@ -3,7 +3,7 @@ use Rattle.std.proofs.Common.{◌≡◌, ℕ, ◌+◌, ◌-◌, ◌<◌, ◌≤�
 use Rattle.std.proofs.lemmas.List.{get_or_append_left}
 use Rattle.esr_cert.specs.declared.problem.Chain as code
 use Rattle.esr_cert.specs.Problem.{Problem, size, is_well_formed}
-use Rattle.esr_cert.specs.Network.{arc_at, precedence_arc, network}
+use Rattle.esr_cert.specs.Network.{arc_at, predecessor_arc, network}
 use Rattle.esr_cert.specs.Starts.{starts_from}
 use Rattle.esr_cert.specs.Views.{chain_of}
 use Rattle.esr_cert.proofs.Sound.{facts, IsProblem}
@@ -36,7 +36,7 @@ module _ (p : Problem) (sound : is_well_formed p ≡ true) where
   pub pair_kept : (flow : List ℕ) (marks : List Bool) (i : ℕ) → first_back p ≤ i → i - first_back p < length p.before
       → is_marked marks (get_or p.before (i - first_back p) (0, 0)).1 ≡ is_marked marks (get_or p.before (i - first_back p) (0, 0)).0 → IsKeptOver (network p).arcs flow marks i
   pair_kept flow marks i not_before inside same =
-      let is : arc_at (network p).arcs i ≡ precedence_arc (get_or p.before (i - first_back p) (0, 0)) = arc_of_pair p ok i (0, 0) not_before inside in
+      let is : arc_at (network p).arcs i ≡ predecessor_arc (get_or p.before (i - first_back p) (0, 0)) = arc_of_pair p ok i (0, 0) not_before inside in
       kept_equal (network p).arcs flow marks i (ap (λ (a : Arc). is_marked marks a.from) is ∙ same ∙ sym (ap (λ (a : Arc). is_marked marks a.to) is))
 
   -- the same, given a list equal to the pairs, and the number of the first pair's arc

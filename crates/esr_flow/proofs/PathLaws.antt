@@ -34,20 +34,20 @@ all_unmarked : (n : ℕ) → unmarked (replicate n false) ≡ n
 all_unmarked zero = refl
 all_unmarked (suc n) = omega (arith, all_unmarked n)
 
-pub begin : (net : Network) (flow : List ℕ) → IsNetwork net → Searched net flow (record { node = net.source; level = 0; step = Forward 0; parent = 0 } ∷ []) (set (replicate net.nodes false) net.source true) 0
+pub begin : (net : Network) (flow : List ℕ) → IsNetwork net → Searched net flow (record { node = net.source; level = 0; step = Forward 0; parent = 0 } ∷ []) (set (replicate net.node_count false) net.source true) 0
 begin net flow ok =
-    start_search net flow (set (replicate net.nodes false) net.source true) (record { node = net.source; level = 0; step = Forward 0; parent = 0 } ∷ []) ok.source_is_node
-    (length-set (replicate net.nodes false) net.source true ∙ length-replicate net.nodes false)
-    (omega (arith, unmarked_mark (replicate net.nodes false) net.source in_list (none_marked net.nodes net.source), all_unmarked net.nodes))
+    start_search net flow (set (replicate net.node_count false) net.source true) (record { node = net.source; level = 0; step = Forward 0; parent = 0 } ∷ []) ok.source_is_node
+    (length-set (replicate net.node_count false) net.source true ∙ length-replicate net.node_count false)
+    (omega (arith, unmarked_mark (replicate net.node_count false) net.source in_list (none_marked net.node_count net.source), all_unmarked net.node_count))
     (λ v t. elim (cases_eq v net.source) [
       | inl e ↦ e
-      | inr ne ↦ absurd (true≢false (sym t ∙ get_or-set_other (replicate net.nodes false) net.source v true false ne ∙ none_marked net.nodes v))
+      | inr ne ↦ absurd (true≢false (sym t ∙ get_or-set_other (replicate net.node_count false) net.source v true false ne ∙ none_marked net.node_count v))
     ])
-    (get_or-set_same (replicate net.nodes false) net.source true false in_list)
+    (get_or-set_same (replicate net.node_count false) net.source true false in_list)
     refl
   where
-    in_list : net.source < length (replicate net.nodes false)
-    in_list = omega (arith, ok.source_is_node, length-replicate net.nodes false)
+    in_list : net.source < length (replicate net.node_count false)
+    in_list = omega (arith, ok.source_is_node, length-replicate net.node_count false)
 
-pub sink_unmarked : (net : Network) → IsNetwork net → is_marked (set (replicate net.nodes false) net.source true) net.sink ≡ false
-sink_unmarked net ok = get_or-set_other (replicate net.nodes false) net.source net.sink true false (λ e. ok.source_is_not_sink (sym e)) ∙ none_marked net.nodes net.sink
+pub sink_unmarked : (net : Network) → IsNetwork net → is_marked (set (replicate net.node_count false) net.source true) net.sink ≡ false
+sink_unmarked net ok = get_or-set_other (replicate net.node_count false) net.source net.sink true false (λ e. ok.source_is_not_sink (sym e)) ∙ none_marked net.node_count net.sink

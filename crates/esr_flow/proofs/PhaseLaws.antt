@@ -45,6 +45,6 @@ run_more net first flow after labels path base n value x r p a e = record {
 pub running_flow : (net : Network) → IsNetwork net → (first flow labels : List ℕ) (base n value : ℕ) → Running net first flow labels base n value → Taken net first (n - base) flow
 running_flow net ok first flow labels base n value r = taken net ok first r.start (n - base) flow r.takes
 
-pub running_bounded : (net : Network) → IsNetwork net → (first flow labels : List ℕ) (base n value : ℕ) → Running net first flow labels base n value → n ≤ net.nodes * length net.arcs + base
+pub running_bounded : (net : Network) → IsNetwork net → (first flow labels : List ℕ) (base n value : ℕ) → Running net first flow labels base n value → n ≤ net.node_count * length net.arcs + base
 running_bounded net ok first flow labels base n value r =
     omega (arith, bounded_augmentations net ok first r.start.is_flow.same_length (n - base) flow r.takes)

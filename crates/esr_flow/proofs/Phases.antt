@@ -71,7 +71,7 @@ pub record Phase (net : Network) (n : ℕ) (flow : List ℕ) : Type 0 where
   pub label : ℕ → ℕ
   pub at_sink : label net.sink ≡ 0
   pub falls : Falls net.arcs flow label
-  pub within_max : label net.source ≤ net.nodes
+  pub within_max : label net.source ≤ net.node_count
   pub spent : n + count_below (tight label net.arcs flow) (length net.arcs) ≤ label net.source * length net.arcs
   pub same_length : length flow ≡ length net.arcs
 
@@ -111,7 +111,7 @@ next_phase net ok n flow after p a l =
     let falls : Falls net.arcs flow d = distance_falls net.arcs flow net.sink (length a.path) in
     let bottom : d net.sink ≡ 0 = distance_sink net.arcs flow net.sink (length a.path) in
     let h : Levels d net.arcs (d net.source) a.path = levels_from net.arcs flow d falls a.path net.source net.sink a.is_path (omega arith) in
-    let within_max : length a.path ≤ net.nodes = omega (arith, steps_le_nodes net ok d (d net.source) a.path h, count_le (λ v. leb (d v) (d net.source)) net.nodes) in
+    let within_max : length a.path ≤ net.node_count = omega (arith, steps_le_nodes net ok d (d net.source) a.path h, count_le (λ v. leb (d v) (d net.source)) net.node_count) in
     let all : count_below (tight d net.arcs flow) (length net.arcs) ≤ length net.arcs = count_le (tight d net.arcs flow) (length net.arcs) in
     let rows : suc (p.label net.source) * length net.arcs ≤ d net.source * length net.arcs = mul-le-mul_right (length net.arcs) (omega arith) in
     (record { label = d; at_sink = bottom; falls = falls; within_max = omega arith; spent = omega (arith, p.spent, rows, all); same_length = p.same_length }, omega arith)
@@ -131,8 +131,8 @@ phases net ok first e zero flow h = subst (Phase net 0) (sym h) (first_phase net
 phases net ok first e (suc n) flow h = phase_step net ok n h.0 flow (phases net ok first e n h.0 h.1) h.2
 
 -- at most nodes times arcs
-pub bounded_augmentations : (net : Network) → IsNetwork net → (first : List ℕ) → length first ≡ length net.arcs → (n : ℕ) (flow : List ℕ) → AugmentsFrom net first n flow → n ≤ net.nodes * length net.arcs
+pub bounded_augmentations : (net : Network) → IsNetwork net → (first : List ℕ) → length first ≡ length net.arcs → (n : ℕ) (flow : List ℕ) → AugmentsFrom net first n flow → n ≤ net.node_count * length net.arcs
 bounded_augmentations net ok first e n flow h =
     let p : Phase net n flow = phases net ok first e n flow h in
-    let rows : p.label net.source * length net.arcs ≤ net.nodes * length net.arcs = mul-le-mul_right (length net.arcs) p.within_max in
+    let rows : p.label net.source * length net.arcs ≤ net.node_count * length net.arcs = mul-le-mul_right (length net.arcs) p.within_max in
     omega (arith, p.spent, rows)

@@ -10,7 +10,7 @@ use Rattle.esr_flow.specs.Search.{is_marked}
 use Rattle.esr_flow.specs.Reached.{AreReached, IsKeptOver}
 use Rattle.esr_flow.proofs.SearchLaws.{path_append}
 
-finish_in : (net : Network) → IsNetwork net → (s : ResidualArc) → arc_of s < length net.arcs → finish net.arcs s < net.nodes
+finish_in : (net : Network) → IsNetwork net → (s : ResidualArc) → arc_of s < length net.arcs → finish net.arcs s < net.node_count
 finish_in net ok (Forward i) k = (ok.ends i k).1
 finish_in net ok (Backward i) k = (ok.ends i k).0
 
@@ -43,8 +43,8 @@ module _ (arcs : List Arc) (flow : List ℕ) (marks : List Bool) (i : ℕ) where
   -- both steps over an arc, each for itself
   kept_over : (is_marked marks (arc_at arcs i).from ≡ true → within 1 (left_of (arc_at arcs i).capacity (amount_at flow i)) ≡ true → is_marked marks (arc_at arcs i).to ≡ true)
       → (is_marked marks (arc_at arcs i).to ≡ true → within 1 (Some (amount_at flow i)) ≡ true → is_marked marks (arc_at arcs i).from ≡ true) → IsKeptOver arcs flow marks i
-  kept_over on back (Forward j) e res m = subst (λ k. is_marked marks (arc_at arcs k).to ≡ true) (sym e) (on (subst (λ k. is_marked marks (arc_at arcs k).from ≡ true) e m) (subst (λ k. within 1 (left_of (arc_at arcs k).capacity (amount_at flow k)) ≡ true) e res.1))
-  kept_over on back (Backward j) e res m = subst (λ k. is_marked marks (arc_at arcs k).from ≡ true) (sym e) (back (subst (λ k. is_marked marks (arc_at arcs k).to ≡ true) e m) (subst (λ k. within 1 (Some (amount_at flow k)) ≡ true) e res.1))
+  kept_over on opposite_has_residual (Forward j) e res m = subst (λ k. is_marked marks (arc_at arcs k).to ≡ true) (sym e) (on (subst (λ k. is_marked marks (arc_at arcs k).from ≡ true) e m) (subst (λ k. within 1 (left_of (arc_at arcs k).capacity (amount_at flow k)) ≡ true) e res.1))
+  kept_over on opposite_has_residual (Backward j) e res m = subst (λ k. is_marked marks (arc_at arcs k).from ≡ true) (sym e) (opposite_has_residual (subst (λ k. is_marked marks (arc_at arcs k).to ≡ true) e m) (subst (λ k. within 1 (Some (amount_at flow k)) ≡ true) e res.1))
 
   -- both ends are marked, or none is
   pub kept_equal : is_marked marks (arc_at arcs i).from ≡ is_marked marks (arc_at arcs i).to → IsKeptOver arcs flow marks i

@@ -7,7 +7,7 @@ use Rattle.esr_flow.specs.ShortEntry.{AdjacencyEntry}
 use Rattle.esr_cert.specs.Steps.{arc_of, start, step_at}
 use Rattle.esr_flow.specs.Residual.{finish, IsResidual}
 use Rattle.esr_cert.specs.Network.{Network, IsNetwork}
-use Rattle.esr_flow.specs.Graph.{IsEntry, Lists}
+use Rattle.esr_flow.specs.ResidualGraph.{IsEntry, IsAdjacencyRow}
 use Rattle.esr_flow.specs.Search.{visit_at, is_marked, EndsVisited, Searched, FoundSink, Visit}
 use Rattle.esr_flow.proofs.SearchLaws.{visit_more, next_head, unmarked_far}
 
@@ -15,19 +15,19 @@ use Rattle.esr_flow.proofs.SearchLaws.{visit_more, next_head, unmarked_far}
 pub record Scanning (net : Network) (flow : List ℕ) (steps : List ResidualArc) (row : List AdjacencyEntry) (visits : List Visit) (marks : List Bool) (head level k : ℕ) : Type 0 where
   pub searched : Searched net flow visits marks head
   pub in_visits : head < length visits
-  pub lists : Lists net.arcs flow (visit_at visits head).node steps row
+  pub lists : IsAdjacencyRow net.arcs flow (visit_at visits head).node steps row
   pub next_level : level ≡ (visit_at visits head).level + 1
   pub unfound : is_marked marks net.sink ≡ false
   pub row_done : (i : ℕ) → i < k → i < length row → IsResidual net.arcs flow (step_at steps i) → EndsVisited net.arcs visits (visit_at visits head).level (step_at steps i)
 
 abbrev pub none_at : AdjacencyEntry
-none_at = record { to = 0; ahead = false; back = false }
+none_at = record { to = 0; has_residual = false; opposite_has_residual = false }
 
 abbrev pub visit_of : ResidualArc → AdjacencyEntry → ℕ → ℕ → Visit
 visit_of s e level head = record { node = e.to; level = level; step = s; parent = head }
 
 -- a step of a node has a place in the node's row
-place_of : (arcs : List Arc) (flow : List ℕ) (v : ℕ) (steps : List ResidualArc) (row : List AdjacencyEntry) (s : ResidualArc) → Lists arcs flow v steps row → arc_of s < length arcs → start arcs s ≡ v → (k : ℕ) × (k < length row) × (step_at steps k ≡ s)
+place_of : (arcs : List Arc) (flow : List ℕ) (v : ℕ) (steps : List ResidualArc) (row : List AdjacencyEntry) (s : ResidualArc) → IsAdjacencyRow arcs flow v steps row → arc_of s < length arcs → start arcs s ≡ v → (k : ℕ) × (k < length row) × (step_at steps k ≡ s)
 place_of arcs flow v steps row s h l e =
     let (k, m, q) = h.all s l e in
     (k, omega (arith, h.count), get_or_default steps k (Forward 0) s m ∙ q)
@@ -37,7 +37,7 @@ ends_visited_more arcs visits x level s (j, l, e, m) =
     let same : visit_at (visits ++ x ∷ []) j ≡ visit_at visits j = get_or_append_left visits (x ∷ []) (record { node = 0; level = 0; step = Forward 0; parent = 0 }) j l in
     (j, omega (arith, length_push visits x), ap (λ v. v.node) same ∙ e, omega (arith, ap (λ v. v.level) same))
 
-finish_in : (net : Network) → IsNetwork net → (s : ResidualArc) → arc_of s < length net.arcs → finish net.arcs s < net.nodes
+finish_in : (net : Network) → IsNetwork net → (s : ResidualArc) → arc_of s < length net.arcs → finish net.arcs s < net.node_count
 finish_in net ok (Forward i) k = (ok.ends i k).1
 finish_in net ok (Backward i) k = (ok.ends i k).0
 
@@ -53,7 +53,7 @@ module _ (net : Network) (ok : IsNetwork net) (flow : List ℕ) (steps : List Re
   entry_in e h l is = subst (IsEntry net.arcs flow (visit_at visits head).node (step_at steps k)) (sym is) (h.lists.entries k l)
 
   pub entry_marked : (e : AdjacencyEntry) → Scanning net flow steps row visits marks head level k → k < length row → e ≡ get_or row k none_at → e.to < length marks
-  entry_marked e h l is = let q : IsEntry net.arcs flow (visit_at visits head).node (step_at steps k) e = entry_in e h l is in omega (arith, q.leads, finish_in net ok (step_at steps k) q.in_arcs, h.searched.marks_length)
+  entry_marked e h l is = let q : IsEntry net.arcs flow (visit_at visits head).node (step_at steps k) e = entry_in e h l is in omega (arith, q.leads, finish_in net ok (step_at steps k) q.arc_in_range, h.searched.marks_length)
 
   -- one more step, which leads to a visit if it has residual capacity
   scan_on : Scanning net flow steps row visits marks head level k → (IsResidual net.arcs flow (step_at steps k) → EndsVisited net.arcs visits (visit_at visits head).level (step_at steps k)) → Scanning net flow steps row visits marks head level (k + 1)
@@ -67,25 +67,25 @@ module _ (net : Network) (ok : IsNetwork net) (flow : List ℕ) (steps : List Re
   }
 
   -- a step without residual capacity
-  pub scan_skip : (e : AdjacencyEntry) → Scanning net flow steps row visits marks head level k → k < length row → e ≡ get_or row k none_at → e.ahead ≡ false → Scanning net flow steps row visits marks head level (k + 1)
+  pub scan_skip : (e : AdjacencyEntry) → Scanning net flow steps row visits marks head level k → k < length row → e ≡ get_or row k none_at → e.has_residual ≡ false → Scanning net flow steps row visits marks head level (k + 1)
   scan_skip e h l is f =
       let q : IsEntry net.arcs flow (visit_at visits head).node (step_at steps k) e = entry_in e h l is in
-      scan_on h (λ r. absurd (true≢false (sym r.1 ∙ sym q.ahead ∙ f)))
+      scan_on h (λ r. absurd (true≢false (sym r.1 ∙ sym q.has_residual ∙ f)))
 
   -- a step to a node that was visited; the node is in range, so elements past the end do not matter
   pub scan_marked : (e : AdjacencyEntry) → Scanning net flow steps row visits marks head level k → k < length row → e ≡ get_or row k none_at → get_or marks e.to true ≡ true → Scanning net flow steps row visits marks head level (k + 1)
   scan_marked e h l is m =
       let q : IsEntry net.arcs flow (visit_at visits head).node (step_at steps k) e = entry_in e h l is in
-      let t : is_marked marks (finish net.arcs (step_at steps k)) ≡ true = ap (is_marked marks) (sym q.leads) ∙ get_or_default marks e.to false true (omega (arith, q.leads, finish_in net ok (step_at steps k) q.in_arcs, h.searched.marks_length)) ∙ m in
+      let t : is_marked marks (finish net.arcs (step_at steps k)) ≡ true = ap (is_marked marks) (sym q.leads) ∙ get_or_default marks e.to false true (omega (arith, q.leads, finish_in net ok (step_at steps k) q.arc_in_range, h.searched.marks_length)) ∙ m in
       scan_on h (λ r.
       let v : (j : ℕ) × (j < length visits) × ((visit_at visits j).node ≡ finish net.arcs (step_at steps k)) = h.searched.visited (finish net.arcs (step_at steps k)) t in
       (v.0, v.1, v.2, h.searched.relevant v.0 v.1 h.in_visits))
 
-  searched_more : (e : AdjacencyEntry) → Scanning net flow steps row visits marks head level k → k < length row → e ≡ get_or row k none_at → e.ahead ≡ true → is_marked marks e.to ≡ false → Searched net flow (visits ++ visit_of (step_at steps k) e level head ∷ []) (set marks e.to true) head
+  searched_more : (e : AdjacencyEntry) → Scanning net flow steps row visits marks head level k → k < length row → e ≡ get_or row k none_at → e.has_residual ≡ true → is_marked marks e.to ≡ false → Searched net flow (visits ++ visit_of (step_at steps k) e level head ∷ []) (set marks e.to true) head
   searched_more e h l is r f =
       let q : IsEntry net.arcs flow (visit_at visits head).node (step_at steps k) e = entry_in e h l is in
       let more : Searched net flow (visits ++ record { node = finish net.arcs (step_at steps k); level = (visit_at visits head).level + 1; step = (step_at steps k); parent = head } ∷ []) (set marks (finish net.arcs (step_at steps k)) true) head =
-      visit_more net flow visits marks head (step_at steps k) ok h.searched h.in_visits (q.in_arcs, sym q.ahead ∙ r) q.starts (ap (is_marked marks) (sym q.leads) ∙ f) in
+      visit_more net flow visits marks head (step_at steps k) ok h.searched h.in_visits (q.arc_in_range, sym q.has_residual ∙ r) q.starts (ap (is_marked marks) (sym q.leads) ∙ f) in
       subst (λ n. Searched net flow (visits ++ visit_of (step_at steps k) e n head ∷ []) (set marks e.to true) head) (sym h.next_level)
       (subst (λ n. Searched net flow (visits ++ record { node = n; level = (visit_at visits head).level + 1; step = (step_at steps k); parent = head } ∷ []) (set marks n true) head) (sym q.leads) more)
 
@@ -93,7 +93,7 @@ module _ (net : Network) (ok : IsNetwork net) (flow : List ℕ) (steps : List Re
   same_head e l = get_or_append_left visits (visit_of (step_at steps k) e level head ∷ []) (record { node = 0; level = 0; step = Forward 0; parent = 0 }) head l
 
   -- a step to a node that was not
-  pub scan_visit : (e : AdjacencyEntry) → Scanning net flow steps row visits marks head level k → k < length row → e ≡ get_or row k none_at → e.ahead ≡ true → is_marked marks e.to ≡ false → e.to ≢ net.sink → Scanning net flow steps row (visits ++ visit_of (step_at steps k) e level head ∷ []) (set marks e.to true) head level (k + 1)
+  pub scan_visit : (e : AdjacencyEntry) → Scanning net flow steps row visits marks head level k → k < length row → e ≡ get_or row k none_at → e.has_residual ≡ true → is_marked marks e.to ≡ false → e.to ≢ net.sink → Scanning net flow steps row (visits ++ visit_of (step_at steps k) e level head ∷ []) (set marks e.to true) head level (k + 1)
   scan_visit e h l is r f ne =
       let q : IsEntry net.arcs flow (visit_at visits head).node (step_at steps k) e = entry_in e h l is in
       let same : visit_at (visits ++ visit_of (step_at steps k) e level head ∷ []) head ≡ visit_at visits head = same_head e h.in_visits in
@@ -102,7 +102,7 @@ module _ (net : Network) (ok : IsNetwork net) (flow : List ℕ) (steps : List Re
       record {
         searched = searched_more e h l is r f;
         in_visits = omega (arith, len, h.in_visits);
-        lists = subst (λ x. Lists net.arcs flow x.node steps row) (sym same) h.lists;
+        lists = subst (λ x. IsAdjacencyRow net.arcs flow x.node steps row) (sym same) h.lists;
         next_level = omega (arith, h.next_level, ap (λ x. x.level) same);
         unfound = get_or-set_other marks e.to net.sink true false (λ g. ne (sym g)) ∙ h.unfound;
         row_done = subst (λ x. (i : ℕ) → i < k + 1 → i < length row → IsResidual net.arcs flow (step_at steps i) → EndsVisited net.arcs (visits ++ visit_of (step_at steps k) e level head ∷ []) x.level (step_at steps i)) (sym same)
@@ -112,7 +112,7 @@ module _ (net : Network) (ok : IsNetwork net) (flow : List ℕ) (steps : List Re
       }
 
   -- a step to the sink
-  pub scan_found : (e : AdjacencyEntry) → Scanning net flow steps row visits marks head level k → k < length row → e ≡ get_or row k none_at → e.ahead ≡ true → is_marked marks e.to ≡ false → e.to ≡ net.sink → FoundSink net flow (visits ++ visit_of (step_at steps k) e level head ∷ [])
+  pub scan_found : (e : AdjacencyEntry) → Scanning net flow steps row visits marks head level k → k < length row → e ≡ get_or row k none_at → e.has_residual ≡ true → is_marked marks e.to ≡ false → e.to ≡ net.sink → FoundSink net flow (visits ++ visit_of (step_at steps k) e level head ∷ [])
   scan_found e h l is r f at =
       let len : length (visits ++ visit_of (step_at steps k) e level head ∷ []) - 1 ≡ length visits = omega (arith, length_push visits (visit_of (step_at steps k) e level head)) in
       let new : visit_at (visits ++ visit_of (step_at steps k) e level head ∷ []) (length (visits ++ visit_of (step_at steps k) e level head ∷ []) - 1) ≡ visit_of (step_at steps k) e level head =

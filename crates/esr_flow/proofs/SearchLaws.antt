@@ -95,7 +95,7 @@ module _ (net : Network) (flow : List ℕ) where
             | inr (q, none) ↦ omega arith
           ]
 
-  pub start_search : (marks : List Bool) (visits : List Visit) → net.source < net.nodes → length marks ≡ net.nodes → unmarked marks + 1 ≡ net.nodes → ((v : ℕ) → is_marked marks v ≡ true → v ≡ net.source) → is_marked marks net.source ≡ true → visits ≡ record { node = net.source; level = 0; step = Forward 0; parent = 0 } ∷ [] → Searched net flow visits marks 0
+  pub start_search : (marks : List Bool) (visits : List Visit) → net.source < net.node_count → length marks ≡ net.node_count → unmarked marks + 1 ≡ net.node_count → ((v : ℕ) → is_marked marks v ≡ true → v ≡ net.source) → is_marked marks net.source ≡ true → visits ≡ record { node = net.source; level = 0; step = Forward 0; parent = 0 } ∷ [] → Searched net flow visits marks 0
   start_search marks visits ok ml spare_capacity only here e =
       subst (λ vs. Searched net flow vs marks 0) (sym e) (record {
         marks_length = ml;
@@ -105,7 +105,7 @@ module _ (net : Network) (flow : List ℕ) where
         is_reached = λ j a b. absurd (omega arith);
         sorted = λ i j a b. let z : j ≡ 0 = omega arith in let y : i ≡ 0 = omega arith in same_level i j (y ∙ sym z);
         low = λ j a. let z : j ≡ 0 = omega arith in omega (arith, zero_level j z);
-        nodes = λ j a. let z : j ≡ 0 = omega arith in subst (λ n. (visit_at one n).node < net.nodes) (sym z) ok;
+        node_count = λ j a. let z : j ≡ 0 = omega arith in subst (λ n. (visit_at one n).node < net.node_count) (sym z) ok;
         marked = λ j a. let z : j ≡ 0 = omega arith in subst (λ n. is_marked marks (visit_at one n).node ≡ true) (sym z) here;
         visited = λ v t. (0, omega arith, sym (only v t));
         done = λ i a. absurd (omega arith);
@@ -142,8 +142,8 @@ module _ (net : Network) (flow : List ℕ) where
           | inl jl ↦ omega (arith, ap (λ x. x.level) (old j jl), h.low j jl)
           | inr je ↦ omega (arith, ap (λ x. x.level) (new j je), h.low head l)
         ];
-        nodes = λ j b. elim (place j b) [
-          | inl jl ↦ omega (arith, ap (λ x. x.node) (old j jl), h.nodes j jl)
+        node_count = λ j b. elim (place j b) [
+          | inl jl ↦ omega (arith, ap (λ x. x.node) (old j jl), h.node_count j jl)
           | inr je ↦ omega (arith, ap (λ x. x.node) (new j je), target)
         ];
         marked = λ j b. elim (place j b) [
@@ -180,10 +180,10 @@ module _ (net : Network) (flow : List ℕ) where
       place : (j : ℕ) → j < length (visits ++ extra ∷ []) → (j < length visits) ⊎ (j ≡ length visits)
       place j b = let m : j < length visits + 1 = omega (arith, len) in grind arith
 
-      target : finish net.arcs s < net.nodes
+      target : finish net.arcs s < net.node_count
       target = in_range s res.0
         where
-          in_range : (s : ResidualArc) → arc_of s < length net.arcs → finish net.arcs s < net.nodes
+          in_range : (s : ResidualArc) → arc_of s < length net.arcs → finish net.arcs s < net.node_count
           in_range (Forward i) k = (ok.ends i k).1
           in_range (Backward i) k = (ok.ends i k).0
 
@@ -201,9 +201,9 @@ module _ (net : Network) (flow : List ℕ) where
 
       reached_old : (j : ℕ) → j < length visits → IsReached net.arcs flow visits j → IsReached net.arcs flow (visits ++ extra ∷ []) j
       reached_old j jl c =
-          let back : visit_at (visits ++ extra ∷ []) (visit_at visits j).parent ≡ visit_at visits (visit_at visits j).parent = old (visit_at visits j).parent (omega (arith, c.earlier)) in
+          let opposite_has_residual : visit_at (visits ++ extra ∷ []) (visit_at visits j).parent ≡ visit_at visits (visit_at visits j).parent = old (visit_at visits j).parent (omega (arith, c.earlier)) in
           let same : visit_at (visits ++ extra ∷ []) j ≡ visit_at visits j = old j jl in
-          let back' : visit_at (visits ++ extra ∷ []) (visit_at (visits ++ extra ∷ []) j).parent ≡ visit_at visits (visit_at visits j).parent = ap (λ x. visit_at (visits ++ extra ∷ []) x.parent) same ∙ back in
+          let back' : visit_at (visits ++ extra ∷ []) (visit_at (visits ++ extra ∷ []) j).parent ≡ visit_at visits (visit_at visits j).parent = ap (λ x. visit_at (visits ++ extra ∷ []) x.parent) same ∙ opposite_has_residual in
           record {
             earlier = omega (arith, ap (λ x. x.parent) same, c.earlier);
             residual = subst (λ x. IsResidual net.arcs flow x.step) (sym same) c.residual;
@@ -215,13 +215,13 @@ module _ (net : Network) (flow : List ℕ) where
       reached_new : (j : ℕ) → j ≡ length visits → IsReached net.arcs flow (visits ++ extra ∷ []) j
       reached_new j je =
           let same : visit_at (visits ++ extra ∷ []) j ≡ extra = new j je in
-          let back : visit_at (visits ++ extra ∷ []) (visit_at (visits ++ extra ∷ []) j).parent ≡ visit_at visits head = ap (λ x. visit_at (visits ++ extra ∷ []) x.parent) same ∙ old head l in
+          let opposite_has_residual : visit_at (visits ++ extra ∷ []) (visit_at (visits ++ extra ∷ []) j).parent ≡ visit_at visits head = ap (λ x. visit_at (visits ++ extra ∷ []) x.parent) same ∙ old head l in
           record {
             earlier = omega (arith, ap (λ x. x.parent) same);
             residual = subst (λ x. IsResidual net.arcs flow x.step) (sym same) res;
             ends = ap (λ x. finish net.arcs x.step) same ∙ sym (ap (λ x. x.node) same);
-            begins = ap (λ x. start net.arcs x.step) same ∙ e ∙ sym (ap (λ x. x.node) back);
-            next_level = omega (arith, ap (λ x. x.level) same, ap (λ x. x.level) back);
+            begins = ap (λ x. start net.arcs x.step) same ∙ e ∙ sym (ap (λ x. x.node) opposite_has_residual);
+            next_level = omega (arith, ap (λ x. x.level) same, ap (λ x. x.level) opposite_has_residual);
           }
 
       reached_more : (j : ℕ) → 0 < j → j < length (visits ++ extra ∷ []) → IsReached net.arcs flow (visits ++ extra ∷ []) j
@@ -237,7 +237,7 @@ module _ (net : Network) (flow : List ℕ) where
     is_reached = h.is_reached;
     sorted = h.sorted;
     low = h.low;
-    nodes = h.nodes;
+    node_count = h.node_count;
     marked = h.marked;
     visited = h.visited;
     spare_capacity = h.spare_capacity;

@@ -7,7 +7,7 @@ use Rattle.std.proofs.lemmas.List.Sums.{sum_by-cons}
 use Rattle.esr_cert.specs.declared.range.TheConstants.{MAX_COST}
 use Rattle.esr_flow.specs.Types.{Arc, ResidualArc, Forward, Backward}
 use Rattle.esr_cert.specs.Problem.{Chain, Problem, size, version, chain_cost, cost, greatest, IsSmallestLeast}
-use Rattle.esr_cert.specs.Network.{arc_at, Network, precedence_arc, must_arc, arcs_of_chains, precedence_arcs, must_arcs, network}
+use Rattle.esr_cert.specs.Network.{arc_at, Network, predecessor_arc, must_arc, arcs_of_chains, predecessor_arcs, must_arcs, network}
 use Rattle.esr_cert.specs.Flow.{within, amount_at, IsFlow, worth}
 use Rattle.esr_cert.specs.Cut.{with_source}
 use Rattle.esr_cert.proofs.Sound.{IsClosed, IsProblem, closed_facts, closed_from}
@@ -30,14 +30,14 @@ module _ (p : Problem) (ok : IsProblem p) (flow : List ℕ) (has : ℕ → Bool)
   back_place : (k : ℕ) (q : ℕ × ℕ) → k < length p.before → get_or p.before k q ≡ q → (i : ℕ) × (i < length (network p).arcs) × (arc_at (network p).arcs i ≡ record { from = q.1; to = q.0; capacity = None })
   back_place k q l e =
       let none : Arc = record { from = 0; to = 0; capacity = Some 0 } in
-      let m : length (precedence_arcs p) ≡ length p.before = length-map p.before precedence_arc in
-      let in_backs : get_or (precedence_arcs p) k none ≡ record { from = q.1; to = q.0; capacity = None } =
-      get_or-map precedence_arc p.before k q none l ∙ ap precedence_arc e in
-      let in_both : get_or (arcs_of_chains p ++ precedence_arcs p) (length (arcs_of_chains p) + k) none ≡ get_or (precedence_arcs p) k none = get_or-append-add (arcs_of_chains p) (precedence_arcs p) k none in
-      let size : length (arcs_of_chains p ++ precedence_arcs p) ≡ length (arcs_of_chains p) + length (precedence_arcs p) = length-append (arcs_of_chains p) (precedence_arcs p) in
-      let all : get_or (arcs_of_chains p ++ precedence_arcs p ++ must_arcs p) (length (arcs_of_chains p) + k) none ≡ get_or (arcs_of_chains p ++ precedence_arcs p) (length (arcs_of_chains p) + k) none =
-      get_or_append_left (arcs_of_chains p ++ precedence_arcs p) (must_arcs p) none (length (arcs_of_chains p) + k) (omega arith) in
-      (length (arcs_of_chains p) + k, omega (arith, length-append (arcs_of_chains p ++ precedence_arcs p) (must_arcs p)), all ∙ in_both ∙ in_backs)
+      let m : length (predecessor_arcs p) ≡ length p.before = length-map p.before predecessor_arc in
+      let in_backs : get_or (predecessor_arcs p) k none ≡ record { from = q.1; to = q.0; capacity = None } =
+      get_or-map predecessor_arc p.before k q none l ∙ ap predecessor_arc e in
+      let in_both : get_or (arcs_of_chains p ++ predecessor_arcs p) (length (arcs_of_chains p) + k) none ≡ get_or (predecessor_arcs p) k none = get_or-append-add (arcs_of_chains p) (predecessor_arcs p) k none in
+      let size : length (arcs_of_chains p ++ predecessor_arcs p) ≡ length (arcs_of_chains p) + length (predecessor_arcs p) = length-append (arcs_of_chains p) (predecessor_arcs p) in
+      let all : get_or (arcs_of_chains p ++ predecessor_arcs p ++ must_arcs p) (length (arcs_of_chains p) + k) none ≡ get_or (arcs_of_chains p ++ predecessor_arcs p) (length (arcs_of_chains p) + k) none =
+      get_or_append_left (arcs_of_chains p ++ predecessor_arcs p) (must_arcs p) none (length (arcs_of_chains p) + k) (omega arith) in
+      (length (arcs_of_chains p) + k, omega (arith, length-append (arcs_of_chains p ++ predecessor_arcs p) (must_arcs p)), all ∙ in_both ∙ in_backs)
 
   must_place : (k u : ℕ) → k < length p.must → get_or p.must k u ≡ u → (i : ℕ) × (i < length (network p).arcs) × (arc_at (network p).arcs i ≡ record { from = count; to = u; capacity = None })
   must_place k u l e =
@@ -45,9 +45,9 @@ module _ (p : Problem) (ok : IsProblem p) (flow : List ℕ) (has : ℕ → Bool)
       let m : length (must_arcs p) ≡ length p.must = length-map p.must (must_arc count) in
       let in_musts : get_or (must_arcs p) k none ≡ record { from = count; to = u; capacity = None } =
       get_or-map (must_arc count) p.must k u none l ∙ ap (must_arc count) e in (
-        length (arcs_of_chains p ++ precedence_arcs p) + k,
-        omega (arith, length-append (arcs_of_chains p ++ precedence_arcs p) (must_arcs p)),
-        get_or-append-add (arcs_of_chains p ++ precedence_arcs p) (must_arcs p) k none ∙ in_musts,
+        length (arcs_of_chains p ++ predecessor_arcs p) + k,
+        omega (arith, length-append (arcs_of_chains p ++ predecessor_arcs p) (must_arcs p)),
+        get_or-append-add (arcs_of_chains p ++ predecessor_arcs p) (must_arcs p) k none ∙ in_musts,
       )
 
   pub reach_closed : IsReach (network p) flow has → IsClosed p has

@@ -7,10 +7,10 @@ use Rattle.esr_cert.specs.Network.{arc_at}
 use Rattle.esr_cert.specs.Flow.{amount_at, carried}
 use Rattle.esr_cert.proofs.Flows.{carried_append}
 
-module _ (arcs : List Arc) (flow : List ℕ) (same : length flow ≡ length arcs) (i : ℕ) (in_arcs : i < length arcs) where
+module _ (arcs : List Arc) (flow : List ℕ) (same : length flow ≡ length arcs) (i : ℕ) (arc_in_range : i < length arcs) where
   carried_more : (q : Arc → Bool) → carried q (take (i + 1) arcs) (take (i + 1) flow) ≡ carried q (take i arcs) (take i flow) + cond {A = ℕ} (q (arc_at arcs i)) (amount_at flow i) 0
   carried_more q =
-      let more_arcs = take_more arcs i (record { from = 0; to = 0; capacity = Some 0 }) in_arcs in
+      let more_arcs = take_more arcs i (record { from = 0; to = 0; capacity = Some 0 }) arc_in_range in
       let more_flow = take_more flow i 0 (omega arith) in
       let both = carried_append q (take i arcs) (arc_at arcs i ∷ []) (take i flow) (amount_at flow i ∷ []) (omega (arith, length-take-le i arcs (omega arith), length-take-le i flow (omega arith))) in
       omega (
@@ -21,9 +21,9 @@ module _ (arcs : List Arc) (flow : List ℕ) (same : length flow ≡ length arcs
       )
 
   -- the sums by one end of the arcs, with one arc more
-  pub sums_more : (end : Arc → ℕ) (sums after : List ℕ) (nodes : ℕ) → length sums ≡ nodes → end (arc_at arcs i) < nodes → after ≡ set sums (end (arc_at arcs i)) (get_or sums (end (arc_at arcs i)) 0 + amount_at flow i)
-      → ((v : ℕ) → v < nodes → get_or sums v 0 ≡ carried (λ a. eqb (end a) v) (take i arcs) (take i flow)) → (v : ℕ) → v < nodes → get_or after v 0 ≡ carried (λ a. eqb (end a) v) (take (i + 1) arcs) (take (i + 1) flow)
-  sums_more end sums after nodes long inside is so_far v l =
+  pub sums_more : (end : Arc → ℕ) (sums after : List ℕ) (node_count : ℕ) → length sums ≡ node_count → end (arc_at arcs i) < node_count → after ≡ set sums (end (arc_at arcs i)) (get_or sums (end (arc_at arcs i)) 0 + amount_at flow i)
+      → ((v : ℕ) → v < node_count → get_or sums v 0 ≡ carried (λ a. eqb (end a) v) (take i arcs) (take i flow)) → (v : ℕ) → v < node_count → get_or after v 0 ≡ carried (λ a. eqb (end a) v) (take (i + 1) arcs) (take (i + 1) flow)
+  sums_more end sums after node_count long inside is so_far v l =
       let node = end (arc_at arcs i) in
       let more = carried_more (λ a. eqb (end a) v) in
       elim (cases_eq v node) [
@@ -42,9 +42,9 @@ module _ (arcs : List Arc) (flow : List ℕ) (same : length flow ≡ length arcs
   nothing false = refl
 
   -- with an arc more that carries nothing
-  pub sums_same : (end : Arc → ℕ) (sums : List ℕ) (nodes : ℕ) → amount_at flow i ≡ 0 → ((v : ℕ) → v < nodes → get_or sums v 0 ≡ carried (λ a. eqb (end a) v) (take i arcs) (take i flow))
-      → (v : ℕ) → v < nodes → get_or sums v 0 ≡ carried (λ a. eqb (end a) v) (take (i + 1) arcs) (take (i + 1) flow)
-  sums_same end sums nodes none so_far v l =
+  pub sums_same : (end : Arc → ℕ) (sums : List ℕ) (node_count : ℕ) → amount_at flow i ≡ 0 → ((v : ℕ) → v < node_count → get_or sums v 0 ≡ carried (λ a. eqb (end a) v) (take i arcs) (take i flow))
+      → (v : ℕ) → v < node_count → get_or sums v 0 ≡ carried (λ a. eqb (end a) v) (take (i + 1) arcs) (take (i + 1) flow)
+  sums_same end sums node_count none so_far v l =
       let more = carried_more (λ a. eqb (end a) v) in
       let here = eqb (end (arc_at arcs i)) v in
       let zero : cond {A = ℕ} here (amount_at flow i) 0 ≡ 0 = ap (λ n. cond {A = ℕ} here n 0) none ∙ nothing here in

@@ -26,13 +26,13 @@ opposite_finish arcs (Backward i) = refl
 pub record Walk (net : Network) (flow labels : List ℕ) (path : List ResidualArc) (at : ℕ) : Type 0 where
   pub is_path : IsPath net.arcs flow at (reverse path) net.sink
   pub steps : length path ≤ label_at labels at
-  pub node : at < net.nodes
+  pub node : at < net.node_count
 
-pub start_in : (net : Network) → IsNetwork net → (s : ResidualArc) → arc_of s < length net.arcs → start net.arcs s < net.nodes
+pub start_in : (net : Network) → IsNetwork net → (s : ResidualArc) → arc_of s < length net.arcs → start net.arcs s < net.node_count
 start_in net ok (Forward i) k = (ok.ends i k).0
 start_in net ok (Backward i) k = (ok.ends i k).1
 
-pub end_in : (net : Network) → IsNetwork net → (s : ResidualArc) → arc_of s < length net.arcs → finish net.arcs s < net.nodes
+pub end_in : (net : Network) → IsNetwork net → (s : ResidualArc) → arc_of s < length net.arcs → finish net.arcs s < net.node_count
 end_in net ok (Forward i) k = (ok.ends i k).1
 end_in net ok (Backward i) k = (ok.ends i k).0
 
@@ -50,11 +50,11 @@ module _ (net : Network) (ok : IsNetwork net) (flow labels : List ℕ) where
 
   pub walk_pop : (path : List ResidualArc) (at : ℕ) (s : ResidualArc) → Guides net flow labels → Walk net flow labels (path ++ s ∷ []) at → Walk net flow labels path (finish net.arcs s)
   walk_pop path at s g w =
-      let back : IsPath net.arcs flow at (s ∷ reverse path) net.sink = from_last path at s w in
+      let opposite_has_residual : IsPath net.arcs flow at (s ∷ reverse path) net.sink = from_last path at s w in
       record {
-        is_path = back.2;
-        steps = omega (arith, length_push path s, w.steps, g.falls s back.1, ap (label_at labels) back.0);
-        node = end_in net ok s back.1.0;
+        is_path = opposite_has_residual.2;
+        steps = omega (arith, length_push path s, w.steps, g.falls s opposite_has_residual.1, ap (label_at labels) opposite_has_residual.0);
+        node = end_in net ok s opposite_has_residual.1.0;
       }
 
   pub popped_in : (path : List ResidualArc) (at : ℕ) (s : ResidualArc) → Walk net flow labels (path ++ s ∷ []) at → arc_of s < length net.arcs

@@ -9,20 +9,20 @@ use Rattle.esr_cert.specs.Rows.{span_at, row_in, row_of, AreSteps}
 
 -- the arcs of a problem, with this number of nodes
 abbrev pub net_with : Problem → ℕ → ℕ → ℕ → Network
-net_with p nodes source sink = record { nodes = nodes; arcs = (network p).arcs; source = source; sink = sink }
+net_with p node_count source sink = record { node_count = node_count; arcs = (network p).arcs; source = source; sink = sink }
 
-pub record IsGraphOf (p : Problem) (rows : Rows) (nodes source sink : ℕ) : Type 0 where
-  pub is_network : IsNetwork (net_with p nodes source sink)
-  pub count : length rows.spans.items ≡ nodes
-  pub ordered : (v : ℕ) → v < nodes
+pub record IsGraphOf (p : Problem) (rows : Rows) (node_count source sink : ℕ) : Type 0 where
+  pub is_network : IsNetwork (net_with p node_count source sink)
+  pub count : length rows.spans.items ≡ node_count
+  pub ordered : (v : ℕ) → v < node_count
       → (span_at rows.spans.items v).begin ≤ (span_at rows.spans.items v).end
-  pub inside : (v : ℕ) → v < nodes → (span_at rows.spans.items v).end ≤ length rows.steps.items
-  pub row : (v : ℕ) → v < nodes
+  pub inside : (v : ℕ) → v < node_count → (span_at rows.spans.items v).end ≤ length rows.steps.items
+  pub row : (v : ℕ) → v < node_count
       → row_in rows.steps.items (span_at rows.spans.items v) ≡ row_of (network p).arcs v
-  pub lists : (v : ℕ) → v < nodes
+  pub lists : (v : ℕ) → v < node_count
       → HasSteps (network p).arcs v (row_in rows.steps.items (span_at rows.spans.items v))
-  pub ascend : (v : ℕ) → v < nodes
+  pub ascend : (v : ℕ) → v < node_count
       → IsNonDecreasingBy rank_of (row_in rows.steps.items (span_at rows.spans.items v))
   pub steps : AreSteps (network p).arcs rows.steps.items
-  pub sink_is_node : sink < nodes
-  pub within_max : nodes < 2 ^ 30
+  pub sink_is_node : sink < node_count
+  pub within_max : node_count < 2 ^ 30

@@ -5,7 +5,7 @@ pub mod Types
 pub mod Residual
 pub mod Augmentation
 pub mod IsLaidOut
-pub mod Graph
+pub mod ResidualGraph
 pub mod ShortEntry
 pub mod Search
 pub mod Reached

@@ -11,7 +11,7 @@ use Rattle.esr_flow.specs.Search.{is_marked}
 
 -- the source is marked, and a path leads from it to each node that is
 pub record AreReached (net : Network) (flow : List ℕ) (marks : List Bool) : Type 0 where
-  pub count : length marks ≡ net.nodes
+  pub count : length marks ≡ net.node_count
   pub source : is_marked marks net.source ≡ true
   pub reached : (v : ℕ) → is_marked marks v ≡ true → (path : List ResidualArc) × IsPath net.arcs flow net.source path v
 

@@ -39,21 +39,21 @@ ComeFromEarlier visits = (j : ℕ) → 0 < j → j < length visits → (visit_at
 
 -- the visits before head are done: each residual step from them leads to a visit
 pub record Searched (net : Network) (flow : List ℕ) (visits : List Visit) (marks : List Bool) (head : ℕ) : Type 0 where
-  pub marks_length : length marks ≡ net.nodes
+  pub marks_length : length marks ≡ net.node_count
   pub some : 0 < length visits
   pub first_node : (visit_at visits 0).node ≡ net.source
   pub first_level : (visit_at visits 0).level ≡ 0
   pub is_reached : (j : ℕ) → 0 < j → j < length visits → IsReached net.arcs flow visits j
   pub sorted : (i j : ℕ) → i ≤ j → j < length visits → (visit_at visits i).level ≤ (visit_at visits j).level
   pub low : (j : ℕ) → j < length visits → (visit_at visits j).level ≤ j
-  pub nodes : (j : ℕ) → j < length visits → (visit_at visits j).node < net.nodes
+  pub node_count : (j : ℕ) → j < length visits → (visit_at visits j).node < net.node_count
   pub marked : (j : ℕ) → j < length visits → is_marked marks (visit_at visits j).node ≡ true
   pub visited : (v : ℕ) → is_marked marks v ≡ true → (j : ℕ) × (j < length visits) × ((visit_at visits j).node ≡ v)
   pub done : (i : ℕ) → i < head → (step : ResidualArc) → IsResidual net.arcs flow step
       → start net.arcs step ≡ (visit_at visits i).node → EndsVisited net.arcs visits (visit_at visits i).level step
   pub relevant : (j : ℕ) → j < length visits → head < length visits
       → (visit_at visits j).level ≤ suc (visit_at visits head).level
-  pub spare_capacity : length visits + unmarked marks ≡ net.nodes
+  pub spare_capacity : length visits + unmarked marks ≡ net.node_count
 
 -- a path with fewest arcs from the source to the sink
 pub record IsShortestPath (net : Network) (flow : List ℕ) (path : List ResidualArc) : Type 0 where
@@ -82,7 +82,7 @@ AfterScan net flow visits marks head false =
 -- marks of all that the source reaches, which the sink is not
 abbrev pub ReachesNoSink : Network → List ℕ → List Bool → Type 0
 ReachesNoSink net flow marks =
-    IsReach net flow (is_marked marks) × (is_marked marks net.sink ≡ false) × (length marks ≡ net.nodes)
+    IsReach net flow (is_marked marks) × (is_marked marks net.sink ≡ false) × (length marks ≡ net.node_count)
 
 -- the state after a search
 abbrev pub AfterSearch : Network → List ℕ → List Visit → List Bool → Bool → Type 0
@@ -95,7 +95,7 @@ label_at labels v = get_or labels v 0
 -- labels that fall by at most one along each residual step, and are 0 at the sink:
 -- a path along steps on which they fall, from the source to the sink, is a shortest one
 pub record Guides (net : Network) (flow labels : List ℕ) : Type 0 where
-  pub count : length labels ≡ net.nodes
+  pub count : length labels ≡ net.node_count
   pub falls : Falls net.arcs flow (label_at labels)
   pub at_sink : label_at labels net.sink ≡ 0
 

@@ -4,10 +4,10 @@ use Rattle.std.proofs.lemmas.Bool.{cases_eq, cases_lt, lt-ltb, le-ltb}
 pub use Rattle.esr_flow.specs.declared.entry.AdjacencyEntry.{AdjacencyEntry}
 
 abbrev pub entry_in : ℕ → AdjacencyEntry
-entry_in n = record { to = n / 4; ahead = n % 2 == 1; back = nat_lt 1 (n % 4) }
+entry_in n = record { to = n / 4; has_residual = n % 2 == 1; opposite_has_residual = nat_lt 1 (n % 4) }
 
 abbrev pub packed_entry : AdjacencyEntry → ℕ
-packed_entry e = e.to * 4 + (if e.back then 2 else 0) + (if e.ahead then 1 else 0)
+packed_entry e = e.to * 4 + (if e.opposite_has_residual then 2 else 0) + (if e.has_residual then 1 else 0)
 
 pub packed_entry-entry_in : (n : ℕ) → packed_entry (entry_in n) ≡ n
 packed_entry-entry_in n =

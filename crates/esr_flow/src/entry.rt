@@ -11,8 +11,8 @@ use std::marker::Model;
 #[derive(Clone, Copy)]
 pub struct AdjacencyEntry {
     pub to: u32,
-    pub ahead: bool,
-    pub back: bool,
+    pub has_residual: bool,
+    pub opposite_has_residual: bool,
 }
 
 /// An entry in four bytes, since a search reads one for each step: four times the node, plus 2 if the opposite has
@@ -45,10 +45,10 @@ impl ShortEntry {
         requires { entry.to < 1073741824 }
         ensures { result ≡ entry }
     {
-        let back = if entry.back { 2 } else { 0 };
-        let ahead = if entry.ahead { 1 } else { 0 };
+        let opposite_has_residual = if entry.opposite_has_residual { 2 } else { 0 };
+        let has_residual = if entry.has_residual { 1 } else { 0 };
         ShortEntry {
-            number: entry.to * 4 + back + ahead,
+            number: entry.to * 4 + opposite_has_residual + has_residual,
         }
     }
 
@@ -58,8 +58,8 @@ impl ShortEntry {
     {
         AdjacencyEntry {
             to: self.number / 4,
-            ahead: self.number % 2 == 1,
-            back: 1 < self.number % 4,
+            has_residual: self.number % 2 == 1,
+            opposite_has_residual: 1 < self.number % 4,
         }
     }
 }

@@ -5,9 +5,9 @@
 ghost use Rattle.std.specs.Prelude.{◌≡◌, ◌≢◌, ℕ, ◌+◌, ◌<◌, ◌≤◌, true, length, get_or, set, IfOk, IfSome};
 ghost use Rattle.esr_cert.specs.Network.{arc_at};
 ghost use Rattle.esr_cert.specs.Flow.{within, amount_at, inflow, outflow, IsFlow, worth};
-ghost use Rattle.esr_flow.specs.Graph.{arcs_of, network_of};
+ghost use Rattle.esr_flow.specs.ResidualGraph.{arcs_of, network_of};
 
-use crate::graph::Graph;
+use crate::graph::ResidualGraph;
 use esr_cert::Arc;
 use std::alloc::{AllocError, Global};
 
@@ -51,17 +51,22 @@ fn add_arc(arc: Arc, amount: u64, inflows: &mut [u64], outflows: &mut [u64]) -> 
 
 /// Computes the inflow and the outflow of each node, and returns the greatest amount. Returns `None` if an amount is
 /// above the capacity of its arc or a sum overflows.
-fn sum_arcs(graph: &Graph, flow: &[u64], inflows: &mut [u64], outflows: &mut [u64]) -> Option<u64>
+fn sum_arcs(
+    graph: &ResidualGraph,
+    flow: &[u64],
+    inflows: &mut [u64],
+    outflows: &mut [u64],
+) -> Option<u64>
     requires flow { length flow.now ≡ length (arcs_of graph.now) }
-    requires inflows { length inflows.old ≡ graph.now.nodes }
-    requires outflows { length outflows.old ≡ graph.now.nodes }
+    requires inflows { length inflows.old ≡ graph.now.node_count }
+    requires outflows { length outflows.old ≡ graph.now.node_count }
     requires zero { (v : ℕ) → (get_or inflows.old v 0 ≡ 0) × (get_or outflows.old v 0 ≡ 0) }
     ensures capacities { IfSome result (λ upper_bound. (i : ℕ) → i < length flow.now
         → within (get_or flow.now i 0) (arc_at (arcs_of graph.now) i).capacity ≡ true) }
     ensures upper_bound { IfSome result (λ upper_bound. (i : ℕ) → i < length flow.now → get_or flow.now i 0 ≤ upper_bound) }
-    ensures inflows { IfSome result (λ upper_bound. (v : ℕ) → v < graph.now.nodes
+    ensures inflows { IfSome result (λ upper_bound. (v : ℕ) → v < graph.now.node_count
         → get_or inflows.new v 0 ≡ inflow (arcs_of graph.now) flow.now v) }
-    ensures outflows { IfSome result (λ upper_bound. (v : ℕ) → v < graph.now.nodes
+    ensures outflows { IfSome result (λ upper_bound. (v : ℕ) → v < graph.now.node_count
         → get_or outflows.new v 0 ≡ outflow (arcs_of graph.now) flow.now v) }
 {
     let mut greatest = 0;
@@ -80,13 +85,13 @@ fn sum_arcs(graph: &Graph, flow: &[u64], inflows: &mut [u64], outflows: &mut [u6
 }
 
 /// Returns whether inflow equals outflow at each node other than the source and the sink.
-fn is_conserved(graph: &Graph, inflows: &[u64], outflows: &[u64]) -> bool
-    requires inflows { length inflows.now ≡ graph.now.nodes }
-    requires outflows { length outflows.now ≡ graph.now.nodes }
-    ensures { result ≡ true → (v : ℕ) → v < graph.now.nodes → v ≢ graph.now.source → v ≢ graph.now.sink
+fn is_conserved(graph: &ResidualGraph, inflows: &[u64], outflows: &[u64]) -> bool
+    requires inflows { length inflows.now ≡ graph.now.node_count }
+    requires outflows { length outflows.now ≡ graph.now.node_count }
+    ensures { result ≡ true → (v : ℕ) → v < graph.now.node_count → v ≢ graph.now.source → v ≢ graph.now.sink
         → get_or inflows.now v 0 ≡ get_or outflows.now v 0 }
 {
-    for v in 0..graph.nodes {
+    for v in 0..graph.node_count {
         if v != graph.source && v != graph.sink && inflows[v] != outflows[v] {
             return false;
         }
@@ -97,7 +102,7 @@ fn is_conserved(graph: &Graph, inflows: &[u64], outflows: &[u64]) -> bool
 /// Returns the value of a flow. Returns `None` if the amounts are not a flow, or if one of them is above that value.
 pub fn checked_flow_value(
     alloc: Global,
-    graph: &Graph,
+    graph: &ResidualGraph,
     flow: &[u64],
 ) -> Result<Option<u64>, AllocError>
     requires flow { length flow.now ≡ length (arcs_of graph.now) }
@@ -105,8 +110,8 @@ pub fn checked_flow_value(
     ensures worth { IfOk result (λ r. IfSome r (λ value. value ≡ worth (network_of graph.now) flow.now)) }
     ensures amounts { IfOk result (λ r. IfSome r (λ value. (i : ℕ) → amount_at flow.now i ≤ value)) }
 {
-    let mut inflows = vec![in alloc; 0u64; graph.nodes]?;
-    let mut outflows = vec![in alloc; 0u64; graph.nodes]?;
+    let mut inflows = vec![in alloc; 0u64; graph.node_count]?;
+    let mut outflows = vec![in alloc; 0u64; graph.node_count]?;
     let Some(greatest) = sum_arcs(graph, flow, &mut inflows, &mut outflows) else {
         return Ok(None);
     };

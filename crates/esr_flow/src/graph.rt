@@ -18,24 +18,24 @@ use std::alloc::{AllocError, Global};
 
 /// The network of a problem, and for each node the steps that start at it.
 #[derive(Drop)]
-pub struct Graph<'a> {
+pub struct ResidualGraph<'a> {
     pub problem: &'a Problem,
     pub rows: &'a Rows,
-    pub nodes: usize,
+    pub node_count: usize,
     pub source: usize,
     pub sink: usize,
-    ghost kept: { IsGraphOf problem.now rows.now nodes source sink },
+    ghost kept: { IsGraphOf problem.now rows.now node_count source sink },
 }
 
-impl<'a> Graph<'a> {
+impl<'a> ResidualGraph<'a> {
     ghost use Rattle.std.specs.Prelude.{◌≡◌, ◌<◌, length, set, IfOk};
     ghost use Rattle.esr_cert.specs.Steps.{arc_of, step_at};
     ghost use Rattle.esr_cert.specs.Rows.{span_at, row_in};
-    ghost use Rattle.esr_flow.specs.Graph.{AreEntries, arcs_of};
+    ghost use Rattle.esr_flow.specs.ResidualGraph.{AreEntries, arcs_of};
 
     /// Returns the steps that start at a node.
     pub fn steps_at(&self, v: usize) -> &[PackedResidualArc]
-        requires node { v < self.now.nodes }
+        requires node { v < self.now.node_count }
         ensures { result.now ≡ row_in self.now.rows.now.steps.items (span_at self.now.rows.now.spans.items v) }
     {
         self.rows.row(&self.rows.steps, v)
@@ -44,7 +44,7 @@ impl<'a> Graph<'a> {
     /// Returns the entries of a node.
     pub fn row<'b>(&self, entries: &'b [ShortEntry], v: usize) -> &'b [ShortEntry]
         requires entries { length entries.now ≡ length self.now.rows.now.steps.items }
-        requires node { v < self.now.nodes }
+        requires node { v < self.now.node_count }
         ensures { result.now ≡ row_in entries.now (span_at self.now.rows.now.spans.items v) }
     {
         self.rows.row(entries, v)
@@ -58,11 +58,11 @@ impl<'a> Graph<'a> {
     {
         let none = ShortEntry::of(AdjacencyEntry {
             to: 0,
-            ahead: false,
-            back: false,
+            has_residual: false,
+            opposite_has_residual: false,
         });
         let mut entries = vec![in alloc; none; self.rows.steps.len()]?;
-        let mut counts = vec![in alloc; 0usize; self.nodes]?;
+        let mut counts = vec![in alloc; 0usize; self.node_count]?;
         for i in 0..flow.len() {
             let arc = self.problem.arc(i as u32);
             let (along, against) = entries_of(arc, flow[i]);
@@ -92,10 +92,13 @@ impl<'a> Graph<'a> {
         ensures entries { AreEntries self.now flow.new entries.new }
     {
         let ends = self.problem.arc(arc);
-        let (ahead, back) = have_capacity(ends.capacity, flow[arc as usize]);
+        let (has_residual, opposite_has_residual) = have_capacity(
+            ends.capacity,
+            flow[arc as usize],
+        );
         let (ahead_now, back_now) = have_capacity(ends.capacity, amount);
         flow[arc as usize] = amount;
-        if ahead_now == ahead && back_now == back {
+        if ahead_now == has_residual && back_now == opposite_has_residual {
             return;
         }
         let (along, against) = entries_of(ends, amount);
@@ -109,14 +112,14 @@ impl<'a> Graph<'a> {
 /// Returns whether the forward step and the backward step over an arc with this capacity have residual capacity if the
 /// arc carries this amount.
 pub fn have_capacity(capacity: Option<u64>, amount: u64) -> (bool, bool)
-    ensures ahead { result.0 ≡ within 1 (left_of capacity amount) }
-    ensures back { result.1 ≡ within 1 (Some amount) }
+    ensures has_residual { result.0 ≡ within 1 (left_of capacity amount) }
+    ensures opposite_has_residual { result.1 ≡ within 1 (Some amount) }
 {
-    let ahead = match capacity {
+    let has_residual = match capacity {
         None => true,
         Some(limit) => amount < limit,
     };
-    (ahead, 1 <= amount)
+    (has_residual, 1 <= amount)
 }
 
 /// Returns the residual capacity of a step, or `None` if it is unlimited.
@@ -136,30 +139,30 @@ pub fn residual_capacity_of(problem: &Problem, flow: &[u64], step: ResidualArc) 
 
 /// Returns the entries of the two steps of an arc that carries this amount.
 fn entries_of(arc: Arc, amount: u64) -> (ShortEntry, ShortEntry)
-    requires nodes { (arc.from < 1073741824) × (arc.to < 1073741824) }
+    requires node_numbers_fit { (arc.from < 1073741824) × (arc.to < 1073741824) }
     ensures along { result.0 ≡ record {
       to = arc.to;
-      ahead = within 1 (left_of arc.capacity amount);
-      back = within 1 (Some amount);
+      has_residual = within 1 (left_of arc.capacity amount);
+      opposite_has_residual = within 1 (Some amount);
     } }
     ensures against { result.1 ≡ record {
       to = arc.from;
-      ahead = within 1 (Some amount);
-      back = within 1 (left_of arc.capacity amount);
+      has_residual = within 1 (Some amount);
+      opposite_has_residual = within 1 (left_of arc.capacity amount);
     } }
 {
     let (along, against) = have_capacity(arc.capacity, amount);
-    let ahead = ShortEntry::of(AdjacencyEntry {
+    let has_residual = ShortEntry::of(AdjacencyEntry {
         to: arc.to,
-        ahead: along,
-        back: against,
+        has_residual: along,
+        opposite_has_residual: against,
     });
-    let back = ShortEntry::of(AdjacencyEntry {
+    let opposite_has_residual = ShortEntry::of(AdjacencyEntry {
         to: arc.from,
-        ahead: against,
-        back: along,
+        has_residual: against,
+        opposite_has_residual: along,
     });
-    (ahead, back)
+    (has_residual, opposite_has_residual)
 }
 
 /// Puts an entry at the next free index of a node's row, after the `counts[node]` entries that it has.

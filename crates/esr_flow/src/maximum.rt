@@ -11,13 +11,13 @@ ghost use Rattle.esr_cert.specs.Steps.{arc_of};
 ghost use Rattle.esr_flow.specs.Residual.{smaller, bottleneck, shift, raise};
 ghost use Rattle.esr_cert.specs.Flow.{amount_at, IsFlow, worth};
 ghost use Rattle.esr_flow.specs.Augmentation.{IsReach, Augments, AugmentsFromZero, AugmentsFrom};
-ghost use Rattle.esr_flow.specs.Graph.{arcs_of, network_of, AreEntries};
+ghost use Rattle.esr_flow.specs.ResidualGraph.{arcs_of, network_of, AreEntries};
 ghost use Rattle.esr_flow.specs.Search.{IsShortestPath, Guides, IsGuided, ReachesNoSink, is_marked};
 ghost use Rattle.esr_flow.specs.Maximum.{InArcs, HasLimit, IsStart};
 
 use crate::entry::ShortEntry;
 use crate::flow_check::checked_flow_value;
-use crate::graph::{Graph, residual_capacity_of};
+use crate::graph::{ResidualGraph, residual_capacity_of};
 use crate::paths::{next_path, put_back};
 use crate::reach::reach;
 use crate::search::{Found, search};
@@ -64,13 +64,13 @@ fn amount_after(flow: &[u64], amount: u64, step: ResidualArc) -> u64
 
 /// Pushes an amount of flow along a path.
 fn raise_along(
-    graph: &Graph,
+    graph: &ResidualGraph,
     flow: &mut [u64],
     entries: &mut [ShortEntry],
     amount: u64,
     path: &[ResidualArc],
 )
-    requires in_arcs { InArcs (arcs_of graph.now) path.now }
+    requires arc_in_range { InArcs (arcs_of graph.now) path.now }
     requires flow { length flow.old ≡ length (arcs_of graph.now) }
     requires entries { AreEntries graph.now flow.old entries.old }
     requires fits { (k i : ℕ) → amount_at (raise flow.old amount (take k path.now)) i + amount < 2 ^ 64 }
@@ -84,7 +84,12 @@ fn raise_along(
 }
 
 /// Augments along a path that a search found. Returns the amount.
-fn augment(graph: &Graph, flow: &mut [u64], entries: &mut [ShortEntry], path: &[ResidualArc]) -> u64
+fn augment(
+    graph: &ResidualGraph,
+    flow: &mut [u64],
+    entries: &mut [ShortEntry],
+    path: &[ResidualArc],
+) -> u64
     requires flow { IsFlow (network_of graph.now) flow.old }
     requires entries { AreEntries graph.now flow.old entries.old }
     requires amounts { (i : ℕ) → amount_at flow.old i ≤ MAX_COST }
@@ -116,7 +121,7 @@ pub struct FlowSoFar {
 /// Runs one phase, a blocking flow: augments along `first` and along each further path of its length that is found.
 fn run_phase(
     alloc: Global,
-    graph: &Graph,
+    graph: &ResidualGraph,
     labels: &[u32],
     first: Vec<ResidualArc>,
     flow: &mut [u64],
@@ -139,7 +144,7 @@ fn run_phase(
     ensures more { IfOk result (λ p. before.augmentations < p.augmentations) }
     ensures phases { IfOk result (λ p. p.phases ≤ p.augmentations) }
 {
-    let mut next = vec![in alloc; 0usize; graph.nodes]?;
+    let mut next = vec![in alloc; 0usize; graph.node_count]?;
     let mut augmentations = before.augmentations;
     let mut worth = before.worth;
     let mut path = first;
@@ -162,7 +167,7 @@ fn run_phase(
 /// marks of the nodes that the source then reaches.
 fn run_phases(
     alloc: Global,
-    graph: &Graph,
+    graph: &ResidualGraph,
     flow: &mut [u64],
     entries: &mut [ShortEntry],
     value: u64,
@@ -205,7 +210,7 @@ pub struct MaximumFlow {
 /// Augments a flow with this worth along shortest paths until there is none.
 fn maximum_from(
     alloc: Global,
-    graph: &Graph,
+    graph: &ResidualGraph,
     mut flow: Vec<u64>,
     value: u64,
 ) -> Result<MaximumFlow, AllocError>
@@ -220,7 +225,7 @@ fn maximum_from(
     ensures phases { IfOk result (λ m. m.phases ≤ m.augmentations) }
     ensures reach { IfOk result (λ m. IsReach (network_of graph.now) m.flow.items (is_marked m.marks.items)) }
     ensures end { IfOk result (λ m. (is_marked m.marks.items graph.now.sink ≡ false)
-        × (length m.marks.items ≡ graph.now.nodes)) }
+        × (length m.marks.items ≡ graph.now.node_count)) }
 {
     let mut entries = graph.entries(alloc, &flow)?;
     let (taken, marks) = run_phases(alloc, graph, &mut flow, &mut entries, value)?;
@@ -234,11 +239,11 @@ fn maximum_from(
 }
 
 /// Augments the flow of zeros along shortest paths until there is none.
-pub fn find_maximum(alloc: Global, graph: &Graph) -> Result<MaximumFlow, AllocError>
+pub fn find_maximum(alloc: Global, graph: &ResidualGraph) -> Result<MaximumFlow, AllocError>
     requires small { (f : List ℕ) → IsFlow (network_of graph.now) f → worth (network_of graph.now) f ≤ MAX_COST }
     requires limited { HasLimit (network_of graph.now) }
     ensures takes { IfOk result (λ m. AugmentsFromZero (network_of graph.now) m.augmentations m.flow.items) }
-    ensures within_max { IfOk result (λ m. m.augmentations ≤ graph.now.nodes * length (arcs_of graph.now)) }
+    ensures within_max { IfOk result (λ m. m.augmentations ≤ graph.now.node_count * length (arcs_of graph.now)) }
     ensures flow { IfOk result (λ m. IsFlow (network_of graph.now) m.flow.items) }
     ensures worth_is { IfOk result (λ m. m.worth ≡ worth (network_of graph.now) m.flow.items) }
     ensures worth { IfOk result (λ m. m.augmentations ≤ worth (network_of graph.now) m.flow.items) }
@@ -246,7 +251,7 @@ pub fn find_maximum(alloc: Global, graph: &Graph) -> Result<MaximumFlow, AllocEr
     ensures phases { IfOk result (λ m. m.phases ≤ m.augmentations) }
     ensures reach { IfOk result (λ m. IsReach (network_of graph.now) m.flow.items (is_marked m.marks.items)) }
     ensures end { IfOk result (λ m. (is_marked m.marks.items graph.now.sink ≡ false)
-        × (length m.marks.items ≡ graph.now.nodes)) }
+        × (length m.marks.items ≡ graph.now.node_count)) }
 {
     let none = vec![in alloc; 0u64; graph.rows.steps.len() / 2]?;
     let maximum = maximum_from(alloc, graph, none, 0)?;
@@ -266,7 +271,10 @@ pub enum DraftOutcome {
 
 /// Finds a maximum flow, and returns it with the outcome of the initial draft: a draft that is a maximum flow is used,
 /// any other flow is raised by augmentations, and otherwise the search begins from the zero flow.
-pub fn find_swiftly(alloc: Global, graph: &Graph) -> Result<(MaximumFlow, DraftOutcome), AllocError>
+pub fn find_swiftly(
+    alloc: Global,
+    graph: &ResidualGraph,
+) -> Result<(MaximumFlow, DraftOutcome), AllocError>
     requires small { (f : List ℕ) → IsFlow (network_of graph.now) f → worth (network_of graph.now) f ≤ MAX_COST }
     requires limited { HasLimit (network_of graph.now) }
     ensures flow { IfOk result (λ m. IsFlow (network_of graph.now) m.0.flow.items) }
@@ -274,7 +282,7 @@ pub fn find_swiftly(alloc: Global, graph: &Graph) -> Result<(MaximumFlow, DraftO
     ensures amounts { IfOk result (λ m. (i : ℕ) → amount_at m.0.flow.items i ≤ m.0.worth) }
     ensures reach { IfOk result (λ m. IsReach (network_of graph.now) m.0.flow.items (is_marked m.0.marks.items)) }
     ensures end { IfOk result (λ m. (is_marked m.0.marks.items graph.now.sink ≡ false)
-        × (length m.0.marks.items ≡ graph.now.nodes)) }
+        × (length m.0.marks.items ≡ graph.now.node_count)) }
 {
     let flow = draft(alloc, graph)?;
     let Some(worth) = checked_flow_value(alloc, graph, &flow)? else {

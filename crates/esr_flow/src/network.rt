@@ -2,22 +2,22 @@
 ghost use Rattle.std.specs.Prelude.{◌≡◌, ◌<◌, true, IfOk};
 ghost use Rattle.esr_cert.specs.Problem.{is_well_formed};
 ghost use Rattle.esr_cert.specs.Network as networks;
-ghost use Rattle.esr_flow.specs.Graph.{network_of};
+ghost use Rattle.esr_flow.specs.ResidualGraph.{network_of};
 
-use crate::graph::Graph;
+use crate::graph::ResidualGraph;
 use esr_base::NoMemory;
 use esr_cert::Problem;
 use std::alloc::Global;
 
 /// Builds the graph of a problem's network.
-fn graph_of<'a>(problem: &'a Problem) -> Graph<'a>
+fn graph_of<'a>(problem: &'a Problem) -> ResidualGraph<'a>
     ensures { network_of result ≡ networks.network problem.now }
 {
     let source = problem.updates().len();
-    Graph {
+    ResidualGraph {
         problem,
         rows: problem.rows(),
-        nodes: source + 2,
+        node_count: source + 2,
         source,
         sink: source + 1,
     }
@@ -29,7 +29,7 @@ fn graph_of<'a>(problem: &'a Problem) -> Graph<'a>
 #[derive(Drop)]
 pub struct Network<'a> {
     pub problem: &'a Problem,
-    pub(crate) graph: Graph<'a>,
+    pub(crate) graph: ResidualGraph<'a>,
     ghost sound: { is_well_formed problem.now ≡ true },
     ghost same: { network_of graph ≡ networks.network problem.now },
 }

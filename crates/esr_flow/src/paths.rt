@@ -8,19 +8,19 @@ ghost use Rattle.std.specs.Prelude.{◌≡◌, ◌<◌, ◌≤◌, true, length,
 ghost use Rattle.esr_cert.specs.Flow.{within};
 ghost use Rattle.esr_flow.specs.Residual.{residual_capacity};
 ghost use Rattle.esr_cert.specs.Steps.{opposite, step_at};
-ghost use Rattle.esr_flow.specs.Graph.{arcs_of, network_of, AreEntries, Lists, entry_at};
+ghost use Rattle.esr_flow.specs.ResidualGraph.{arcs_of, network_of, AreEntries, IsAdjacencyRow, entry_at};
 ghost use Rattle.esr_flow.specs.Search.{Guides, IsGuided, label_at};
 ghost use Rattle.esr_flow.specs.Maximum.{InArcs};
 
 use crate::entry::ShortEntry;
-use crate::graph::{Graph, finish_of};
+use crate::graph::{ResidualGraph, finish_of};
 use esr_cert::{PackedResidualArc, ResidualArc};
 use std::alloc::{AllocError, Global};
 
 /// Returns the first index of a node's adjacency row, at or after `from`, of a step to a greater label whose opposite
 /// has residual capacity; the row's length if there is none.
 fn next_back(
-    graph: &Graph,
+    graph: &ResidualGraph,
     flow: &[u64],
     labels: &[u32],
     at: usize,
@@ -28,10 +28,10 @@ fn next_back(
     row: &[ShortEntry],
     from: usize,
 ) -> usize
-    requires node { at < graph.now.nodes }
-    requires row { Lists (arcs_of graph.now) flow.now at _steps.now row.now }
+    requires node { at < graph.now.node_count }
+    requires row { IsAdjacencyRow (arcs_of graph.now) flow.now at _steps.now row.now }
     requires flow { length flow.now ≡ length (arcs_of graph.now) }
-    requires labels { length labels.now ≡ graph.now.nodes }
+    requires labels { length labels.now ≡ graph.now.node_count }
     ensures later { from ≤ result }
     ensures residual { result < length row.now → within 1
         (residual_capacity (arcs_of graph.now) flow.now (opposite (step_at _steps.now result))) ≡ true }
@@ -40,7 +40,7 @@ fn next_back(
     let label = labels[at];
     for i in from..row.len() {
         let entry = row[i].entry();
-        if entry.back {
+        if entry.opposite_has_residual {
             if label < labels[entry.to as usize] {
                 return i;
             }
@@ -54,7 +54,7 @@ fn next_back(
 /// pointer.
 pub fn next_path(
     alloc: Global,
-    graph: &Graph,
+    graph: &ResidualGraph,
     flow: &[u64],
     entries: &[ShortEntry],
     labels: &[u32],
@@ -63,7 +63,7 @@ pub fn next_path(
     requires flow { length flow.now ≡ length (arcs_of graph.now) }
     requires entries { AreEntries graph.now flow.now entries.now }
     requires guides { Guides (network_of graph.now) flow.now labels.now }
-    requires next { length next.old ≡ graph.now.nodes }
+    requires next { length next.old ≡ graph.now.node_count }
     ensures { IfOk result (λ found. IfSome found (λ path. IsGuided (network_of graph.now) flow.now labels.now path.items)) }
 {
     let mut path = Vec::with_capacity(alloc, labels[graph.source] as usize)?;
@@ -89,9 +89,9 @@ pub fn next_path(
 }
 
 /// Moves the pointers at the nodes of a path back by one, since their steps may have residual capacity left.
-pub fn put_back(graph: &Graph, next: &mut [usize], path: &[ResidualArc])
+pub fn put_back(graph: &ResidualGraph, next: &mut [usize], path: &[ResidualArc])
     requires path { InArcs (arcs_of graph.now) path.now }
-    requires next { length next.old ≡ graph.now.nodes }
+    requires next { length next.old ≡ graph.now.node_count }
     ensures { length next.new ≡ length next.old }
 {
     // each pointer is past the step that was taken, and perhaps only one step of the path is full now

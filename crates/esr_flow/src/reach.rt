@@ -13,11 +13,11 @@
 //! reachable, so they skip the arcs before the first unmarked update. If they have marked everything, one pass over all
 //! arcs confirms it. When each pass covered all arcs, the passes took a fifth of an audit's instructions.
 ghost use Rattle.std.specs.Prelude.{◌≡◌, ℕ, ◌+◌, ◌-◌, ◌<◌, ◌≤◌, true, false, length, get_or, IfOk, IfSome};
-ghost use Rattle.esr_flow.specs.Graph.{arcs_of, network_of};
+ghost use Rattle.esr_flow.specs.ResidualGraph.{arcs_of, network_of};
 ghost use Rattle.esr_flow.specs.Reached.{AreReached, IsKeptOver, IsKept, HasLinks, first_back};
 ghost use Rattle.esr_flow.specs.Search.{ReachesNoSink, is_marked};
 
-use crate::graph::{Graph, have_capacity};
+use crate::graph::{ResidualGraph, have_capacity};
 use esr_cert::Chain;
 use std::alloc::{AllocError, Global};
 
@@ -25,7 +25,7 @@ use std::alloc::{AllocError, Global};
 const MAX_PASSES: usize = 100;
 
 /// Marks the end of an arc that a residual step reaches from its marked other end. Returns whether it marked anything.
-fn spread(graph: &Graph, flow: &[u64], marks: &mut [bool], i: usize) -> bool
+fn spread(graph: &ResidualGraph, flow: &[u64], marks: &mut [bool], i: usize) -> bool
     requires flow { length flow.now ≡ length (arcs_of graph.now) }
     requires arc { i < length (arcs_of graph.now) }
     requires reached { AreReached (network_of graph.now) flow.now marks.old }
@@ -39,12 +39,12 @@ fn spread(graph: &Graph, flow: &[u64], marks: &mut [bool], i: usize) -> bool
     if marks[from] == marks[to] {
         return false;
     }
-    let (ahead, back) = have_capacity(arc.capacity, flow[i]);
-    if marks[from] && ahead {
+    let (has_residual, opposite_has_residual) = have_capacity(arc.capacity, flow[i]);
+    if marks[from] && has_residual {
         marks[to] = true;
         return true;
     }
-    if marks[to] && back {
+    if marks[to] && opposite_has_residual {
         marks[from] = true;
         return true;
     }
@@ -98,7 +98,7 @@ fn first_unmarked(marks: &[bool]) -> u32 {
 }
 
 /// Marks the end of an arc, if there is one with that number, as `spread` does.
-fn spread_if(graph: &Graph, flow: &[u64], marks: &mut [bool], i: usize) -> bool
+fn spread_if(graph: &ResidualGraph, flow: &[u64], marks: &mut [bool], i: usize) -> bool
     requires flow { length flow.now ≡ length (arcs_of graph.now) }
     requires reached { AreReached (network_of graph.now) flow.now marks.old }
     ensures { AreReached (network_of graph.now) flow.now marks.new }
@@ -108,7 +108,7 @@ fn spread_if(graph: &Graph, flow: &[u64], marks: &mut [bool], i: usize) -> bool
 
 /// Skims the arcs of a chain, which begin at a number, on from those between nodes below one. Whether it marked anything.
 fn skim_chain(
-    graph: &Graph,
+    graph: &ResidualGraph,
     flow: &[u64],
     marks: &mut [bool],
     chain: &Chain,
@@ -132,7 +132,7 @@ fn skim_chain(
 }
 
 /// Skims the arcs of all chains, from the first to the last. Whether it marked anything.
-fn skim_chains(graph: &Graph, flow: &[u64], marks: &mut [bool], low: u32) -> bool
+fn skim_chains(graph: &ResidualGraph, flow: &[u64], marks: &mut [bool], low: u32) -> bool
     requires flow { length flow.now ≡ length (arcs_of graph.now) }
     requires reached { AreReached (network_of graph.now) flow.now marks.old }
     ensures { AreReached (network_of graph.now) flow.now marks.new }
@@ -150,7 +150,13 @@ fn skim_chains(graph: &Graph, flow: &[u64], marks: &mut [bool], low: u32) -> boo
 
 /// Skims the arcs of pairs, backward from the last to those whose earlier update comes before a node. The arc of the
 /// first pair has the number `first`. Returns whether it marked anything.
-fn skim_pairs(graph: &Graph, flow: &[u64], marks: &mut [bool], first: usize, low: u32) -> bool
+fn skim_pairs(
+    graph: &ResidualGraph,
+    flow: &[u64],
+    marks: &mut [bool],
+    first: usize,
+    low: u32,
+) -> bool
     requires flow { length flow.now ≡ length (arcs_of graph.now) }
     requires reached { AreReached (network_of graph.now) flow.now marks.old }
     ensures { AreReached (network_of graph.now) flow.now marks.new }
@@ -170,7 +176,7 @@ fn skim_pairs(graph: &Graph, flow: &[u64], marks: &mut [bool], first: usize, low
 
 /// Marks the updates that must be in the set, and skims arcs until that marks nothing more. The arcs of pairs begin at
 /// `first`. It need not mark every reachable node.
-fn skim(graph: &Graph, flow: &[u64], marks: &mut [bool], first: usize)
+fn skim(graph: &ResidualGraph, flow: &[u64], marks: &mut [bool], first: usize)
     requires flow { length flow.now ≡ length (arcs_of graph.now) }
     requires reached { AreReached (network_of graph.now) flow.now marks.old }
     ensures { AreReached (network_of graph.now) flow.now marks.new }
@@ -188,7 +194,13 @@ fn skim(graph: &Graph, flow: &[u64], marks: &mut [bool], first: usize)
 }
 
 /// Passes over the arcs of a chain, from `begin` on, from the first to the last. Returns whether it marked anything.
-fn pass_chain(graph: &Graph, flow: &[u64], marks: &mut [bool], chain: &Chain, begin: usize) -> bool
+fn pass_chain(
+    graph: &ResidualGraph,
+    flow: &[u64],
+    marks: &mut [bool],
+    chain: &Chain,
+    begin: usize,
+) -> bool
     requires flow { length flow.now ≡ length (arcs_of graph.now) }
     requires chain { HasLinks (arcs_of graph.now) chain.now begin }
     requires reached { AreReached (network_of graph.now) flow.now marks.old }
@@ -207,7 +219,7 @@ fn pass_chain(graph: &Graph, flow: &[u64], marks: &mut [bool], chain: &Chain, be
 }
 
 /// Passes over the arcs of all chains, from the first to the last. Returns whether it marked anything.
-fn pass_chains(graph: &Graph, flow: &[u64], marks: &mut [bool]) -> bool
+fn pass_chains(graph: &ResidualGraph, flow: &[u64], marks: &mut [bool]) -> bool
     requires flow { length flow.now ≡ length (arcs_of graph.now) }
     requires reached { AreReached (network_of graph.now) flow.now marks.old }
     ensures reached { AreReached (network_of graph.now) flow.now marks.new }
@@ -227,7 +239,7 @@ fn pass_chains(graph: &Graph, flow: &[u64], marks: &mut [bool]) -> bool
 }
 
 /// Passes over the arcs from that of the first pair on, from the last to the first. Returns whether it marked anything.
-fn pass_back(graph: &Graph, flow: &[u64], marks: &mut [bool], first: usize) -> bool
+fn pass_back(graph: &ResidualGraph, flow: &[u64], marks: &mut [bool], first: usize) -> bool
     requires flow { length flow.now ≡ length (arcs_of graph.now) }
     requires first { first ≡ first_back graph.now.problem.now }
     requires reached { AreReached (network_of graph.now) flow.now marks.old }
@@ -247,7 +259,7 @@ fn pass_back(graph: &Graph, flow: &[u64], marks: &mut [bool], first: usize) -> b
 }
 
 /// Returns the number of the first arc that is not in a chain; `count` is the number of all arcs.
-fn first_back_of(graph: &Graph, count: usize) -> usize
+fn first_back_of(graph: &ResidualGraph, count: usize) -> usize
     requires count { count ≡ length (arcs_of graph.now) }
     ensures { result ≡ first_back graph.now.problem.now }
 {
@@ -255,7 +267,7 @@ fn first_back_of(graph: &Graph, count: usize) -> usize
 }
 
 /// Marks all nodes that are reachable from the marked ones. Returns whether the passes sufficed.
-fn pass_often(graph: &Graph, flow: &[u64], marks: &mut [bool]) -> bool
+fn pass_often(graph: &ResidualGraph, flow: &[u64], marks: &mut [bool]) -> bool
     requires flow { length flow.now ≡ length (arcs_of graph.now) }
     requires reached { AreReached (network_of graph.now) flow.now marks.old }
     ensures reached { AreReached (network_of graph.now) flow.now marks.new }
@@ -274,11 +286,15 @@ fn pass_often(graph: &Graph, flow: &[u64], marks: &mut [bool]) -> bool
 
 /// Marks the nodes that the source reaches. Returns `None` if it reaches the sink, or if `MAX_PASSES` passes do not
 /// suffice.
-pub fn reach(alloc: Global, graph: &Graph, flow: &[u64]) -> Result<Option<Vec<bool>>, AllocError>
+pub fn reach(
+    alloc: Global,
+    graph: &ResidualGraph,
+    flow: &[u64],
+) -> Result<Option<Vec<bool>>, AllocError>
     requires flow { length flow.now ≡ length (arcs_of graph.now) }
     ensures { IfOk result (λ r. IfSome r (λ marks. ReachesNoSink (network_of graph.now) flow.now marks.items)) }
 {
-    let mut marks = vec![in alloc; false; graph.nodes]?;
+    let mut marks = vec![in alloc; false; graph.node_count]?;
     marks[graph.source] = true;
     if !pass_often(graph, flow, &mut marks) || marks[graph.sink] {
         return Ok(None);

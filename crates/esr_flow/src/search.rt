@@ -2,11 +2,11 @@
 //! to further ones of its length, or marks of the nodes that the source reaches: the smallest set of least cost.
 ghost use Rattle.std.specs.Prelude.{◌≡◌, ℕ, List, ◌-◌, ◌<◌, ◌≤◌, false, length, IfOk};
 ghost use Rattle.esr_cert.specs.Network.{Network};
-ghost use Rattle.esr_flow.specs.Graph.{arcs_of, network_of, AreEntries, Lists};
+ghost use Rattle.esr_flow.specs.ResidualGraph.{arcs_of, network_of, AreEntries, IsAdjacencyRow};
 ghost use Rattle.esr_flow.specs.Search.{Searched, visit_at, is_marked, ComeFromEarlier, IsShortestPath, AfterScan, AfterSearch, FoundSink, IsFound, Guides, label_at};
 
 use crate::entry::ShortEntry;
-use crate::graph::Graph;
+use crate::graph::ResidualGraph;
 use esr_cert::{PackedResidualArc, ResidualArc};
 use std::alloc::{AllocError, Global};
 
@@ -21,7 +21,7 @@ pub struct Visit {
 
 /// Visits each unmarked node that a step of the row leads to, until the sink is visited.
 fn scan(
-    graph: &Graph,
+    graph: &ResidualGraph,
     _flow: &[u64],
     steps: &[PackedResidualArc],
     row: &[ShortEntry],
@@ -29,7 +29,7 @@ fn scan(
     marks: &mut Vec<bool>,
     head: usize,
 ) -> Result<bool, AllocError>
-    requires row { Lists (arcs_of graph.now) _flow.now (visit_at visits.old.items head).node steps.now row.now }
+    requires row { IsAdjacencyRow (arcs_of graph.now) _flow.now (visit_at visits.old.items head).node steps.now row.now }
     requires head { head < length visits.old.items }
     requires searched { Searched (network_of graph.now) _flow.now visits.old.items marks.old.items head }
     requires sink { is_marked marks.old.items graph.now.sink ≡ false }
@@ -41,7 +41,7 @@ fn scan(
         let entry = short.entry();
         let node = entry.to as usize;
         if !marks[node] {
-            if entry.ahead {
+            if entry.has_residual {
                 visits.push(Visit {
                     node: entry.to,
                     level,
@@ -81,7 +81,7 @@ fn path_to_last(alloc: Global, visits: &[Visit]) -> Result<Vec<ResidualArc>, All
 /// Returns each node's distance to the sink in levels of this search; 0 for nodes that it did not reach.
 fn labels_of(
     alloc: Global,
-    graph: &Graph,
+    graph: &ResidualGraph,
     _flow: &[u64],
     visits: &[Visit],
 ) -> Result<Vec<u32>, AllocError>
@@ -91,7 +91,7 @@ fn labels_of(
         ≤ label_at labels.items graph.now.source) }
 {
     let last = visits[visits.len() - 1].level;
-    let mut labels = vec![in alloc; 0u32; graph.nodes]?;
+    let mut labels = vec![in alloc; 0u32; graph.node_count]?;
     for visit in visits {
         // each node is visited once, but that need not be known here
         let label = last.saturating_sub(visit.level);
@@ -111,7 +111,7 @@ pub enum Found {
 
 /// Visits the nodes that the source reaches, the nearest first, until the sink is visited.
 fn visit_nodes(
-    graph: &Graph,
+    graph: &ResidualGraph,
     flow: &[u64],
     entries: &[ShortEntry],
     visits: &mut Vec<Visit>,
@@ -139,16 +139,16 @@ fn visit_nodes(
 /// Searches the residual network for a path from the source to the sink.
 pub fn search(
     alloc: Global,
-    graph: &Graph,
+    graph: &ResidualGraph,
     flow: &[u64],
     entries: &[ShortEntry],
 ) -> Result<Found, AllocError>
     requires entries { AreEntries graph.now flow.now entries.now }
     ensures { IfOk result (λ found. IsFound (network_of graph.now) flow.now found) }
 {
-    let mut marks = vec![in alloc; false; graph.nodes]?;
+    let mut marks = vec![in alloc; false; graph.node_count]?;
     marks[graph.source] = true;
-    let mut visits = Vec::with_capacity(alloc, graph.nodes)?;
+    let mut visits = Vec::with_capacity(alloc, graph.node_count)?;
     visits.push(Visit {
         node: graph.source as u32,
         level: 0,

@@ -12,9 +12,9 @@
 //! flow to a maximum.
 ghost use Rattle.std.specs.Prelude.{◌≡◌, ◌<◌, length, IfOk};
 ghost use Rattle.esr_cert.specs.Network.{network};
-ghost use Rattle.esr_flow.specs.Graph.{arcs_of};
+ghost use Rattle.esr_flow.specs.ResidualGraph.{arcs_of};
 
-use crate::graph::Graph;
+use crate::graph::ResidualGraph;
 use esr_cert::{Arc, Chain, PackedResidualArc, ResidualArc};
 use std::alloc::{AllocError, Global};
 
@@ -69,7 +69,7 @@ fn capacity_on(capacity: Option<u64>, amount: u64) -> u64 {
 /// Each capacity takes four bytes: one that does not fit is the largest number, and the arc is looked up.
 #[derive(Drop)]
 struct Field<'a> {
-    graph: &'a Graph<'a>,
+    graph: &'a ResidualGraph<'a>,
     limits: Vec<u32>,
 }
 
@@ -82,7 +82,7 @@ fn push_limits(limits: &mut Vec<u32>, costs: &[u64]) -> Result<(), AllocError> {
 }
 
 impl<'a> Field<'a> {
-    fn of(alloc: Global, graph: &'a Graph<'a>) -> Result<Field<'a>, AllocError> {
+    fn of(alloc: Global, graph: &'a ResidualGraph<'a>) -> Result<Field<'a>, AllocError> {
         let chains = graph.problem.chains();
         let mut count = 0usize;
         for chain in chains {
@@ -140,7 +140,7 @@ fn take_at(numbers: &mut [u64], place: usize, upper_bound: u64) -> u64
 
 /// Returns the steps that start at a node, or an empty row if there is no such node.
 fn row_of<'a>(field: &'a Field, node: usize) -> &'a [PackedResidualArc] {
-    if node < field.graph.nodes {
+    if node < field.graph.node_count {
         field.graph.steps_at(node)
     } else {
         &[]
@@ -226,8 +226,8 @@ fn takes_part(field: &Field, sweep: Sweep, node: u32) -> bool {
 }
 
 impl Searches {
-    /// Prepares searches in a graph of `nodes` nodes.
-    fn none(alloc: Global, nodes: usize, sweep: Sweep) -> Result<Searches, AllocError> {
+    /// Prepares searches in a graph of `node_count` nodes.
+    fn none(alloc: Global, node_count: usize, sweep: Sweep) -> Result<Searches, AllocError> {
         let unseen = NodeLabel {
             round: 0,
             way: ResidualArc::Forward(0),
@@ -235,10 +235,10 @@ impl Searches {
         };
         Ok(Searches {
             sweep,
-            looks: MAX_LOOKS.saturating_mul(nodes as u64),
+            looks: MAX_LOOKS.saturating_mul(node_count as u64),
             round: 0,
-            seen: Vec::with_capacity(alloc, nodes)?,
-            node_labels: vec![in alloc; unseen; nodes]?,
+            seen: Vec::with_capacity(alloc, node_count)?,
+            node_labels: vec![in alloc; unseen; node_count]?,
         })
     }
 
@@ -314,7 +314,7 @@ impl Searches {
         update: u32,
     ) -> Result<Option<ResidualArc>, AllocError> {
         self.begin(update)?;
-        for head in 0..field.graph.nodes {
+        for head in 0..field.graph.node_count {
             let Some(node) = self.seen.get(head).copied() else {
                 return Ok(None);
             };
@@ -337,7 +337,7 @@ impl Searches {
     ) -> u64 {
         let mut least = due;
         let mut step = first;
-        for _ in 0..field.graph.nodes {
+        for _ in 0..field.graph.node_count {
             let (node, spare_capacity) = end_and_capacity(field, flow, self.sweep, step);
             least = least.min(spare_capacity);
             if node == update {
@@ -353,7 +353,7 @@ impl Searches {
         ensures { length flow.new ≡ length flow.old }
     {
         let mut step = first;
-        for _ in 0..field.graph.nodes {
+        for _ in 0..field.graph.node_count {
             bring_over(field, flow, step, amount);
             let (node, _) = end_and_capacity(field, flow, self.sweep, step);
             if node == update {
@@ -629,8 +629,8 @@ fn add_back(
 ) -> Result<Vec<u64>, AllocError>
     ensures { length flow.new ≡ length flow.old }
 {
-    let mut searches = Searches::none(alloc, field.graph.nodes, Sweep::Back(middle))?;
-    let mut owed = vec![in alloc; 0u64; field.graph.nodes]?;
+    let mut searches = Searches::none(alloc, field.graph.node_count, Sweep::Back(middle))?;
+    let mut owed = vec![in alloc; 0u64; field.graph.node_count]?;
     for update in (0..middle).rev() {
         let left = add_update(field, flow, &mut searches, update)?;
         add_at(&mut owed, update as usize, left);
@@ -647,8 +647,8 @@ fn add_forward(
 ) -> Result<Vec<u64>, AllocError>
     ensures { length flow.new ≡ length flow.old }
 {
-    let mut searches = Searches::none(alloc, field.graph.nodes, Sweep::Forward)?;
-    let mut owed = vec![in alloc; 0u64; field.graph.nodes]?;
+    let mut searches = Searches::none(alloc, field.graph.node_count, Sweep::Forward)?;
+    let mut owed = vec![in alloc; 0u64; field.graph.node_count]?;
     for update in middle..field.graph.source as u32 {
         let left = add_update(field, flow, &mut searches, update)?;
         add_at(&mut owed, update as usize, left);
@@ -695,7 +695,7 @@ fn add_costs(changes: &mut [u64], chain: &Chain, source: u32)
 /// Returns for each update how much more the prefix up to and including it costs than the one before it, modulo 2^64,
 /// and at the index of the source the cost of the empty prefix.
 fn cost_changes(alloc: Global, field: &Field) -> Result<Vec<u64>, AllocError> {
-    let mut changes = vec![in alloc; 0u64; field.graph.nodes]?;
+    let mut changes = vec![in alloc; 0u64; field.graph.node_count]?;
     for chain in field.graph.problem.chains() {
         add_costs(&mut changes, chain, field.graph.source as u32);
     }
@@ -752,7 +752,7 @@ fn fill_middle(field: &Field, flow: &mut [u64], middle: u32)
 }
 
 /// Amounts for the arcs of a graph that mostly are a maximum flow.
-pub fn draft<'a>(alloc: Global, graph: &'a Graph<'a>) -> Result<Vec<u64>, AllocError>
+pub fn draft<'a>(alloc: Global, graph: &'a ResidualGraph<'a>) -> Result<Vec<u64>, AllocError>
     ensures { IfOk result (λ flow. length flow.items ≡ length (arcs_of graph.now)) }
 {
     let mut flow = vec![in alloc; 0u64; graph.rows.steps.len() / 2]?;

@@ -15,6 +15,7 @@ use Rattle.esr_history.proofs.Laws.{audit_stays}
 use Rattle.esr_history.proofs.Membership.{In, In-Contains, In-append_cases, filter_agree_in}
 use Rattle.esr_order.specs.Least.{parts, is_closed_part, closed_parts, least_parts, least_set, least_cost}
 use Rattle.esr_order.specs.Placements.{is_among}
+use Rattle.esr_order.proofs.Least.{part_within}
 use Rattle.esr_audit.specs.Findings.{summary_of}
 use Rattle.esr_least.specs.Audits.{audited, IsAuditFrom}
 use Rattle.esr_least.specs.declared.query.QueryAudit.{QueryAudit}
@@ -22,19 +23,6 @@ use Rattle.esr_least.specs.declared.query.QueryAudit.{QueryAudit}
 all_agree : (p r : ℕ → Bool) (xs : List ℕ) → ((x : ℕ) → In x xs → p x ≡ r x) → list_all p xs ≡ list_all r xs
 all_agree p r [] f = refl
 all_agree p r (x ∷ xs) f = ap₂ (λ a b. a && b) (f x (inl refl)) (all_agree p r xs (λ y i. f y (inr i)))
-
-of_onto : (u : ℕ) (p : List ℕ) (ps : List (List ℕ)) → In p (map (λ part. u ∷ part) ps) → (o : List ℕ) × In o ps × ((u ∷ o) ≡ p)
-of_onto u p [] i = absurd i
-of_onto u p (o ∷ ps) i = ⊎_elim (λ e. (o, inl refl, e)) (λ j. let r = of_onto u p ps j in (r.0, inr r.1, r.2)) i
-
--- a part has elements of its list only
-part_within : (us p : List ℕ) (u : ℕ) → In p (parts us) → In u p → In u us
-part_within [] p u i j = absurd (⊎_elim (λ e. subst (In u) (sym e) j) (λ none. none) i)
-part_within (v ∷ us) p u i j =
-    ⊎_elim
-    (λ a. let r = of_onto v p (parts us) a in ⊎_elim (λ e. inl e) (λ k. inr (part_within us r.0 u r.1 k)) (subst (In u) (sym r.2) j))
-    (λ b. inr (part_within us p u b j))
-    (In-append_cases (map (λ part. v ∷ part) (parts us)) (parts us) p i)
 
 -- the parts of least cost, by the cost of a set
 abbrev cheapest : ((ℕ → Bool) → ℕ) → List (List ℕ) → List (List ℕ)

@@ -39,7 +39,7 @@ part_listed S (u ∷ us) =
     (λ _. In-append_left (map (λ part. u ∷ part) (parts us)) (parts us) (u ∷ filter S us) (in_onto u (filter S us) (parts us) (part_listed S us)))
     (λ _. In-append_right (map (λ part. u ∷ part) (parts us)) (parts us) (filter S us) (part_listed S us))
 
-part_within : (us p : List ℕ) (u : ℕ) → In p (parts us) → In u p → In u us
+pub part_within : (us p : List ℕ) (u : ℕ) → In p (parts us) → In u p → In u us
 part_within [] p u i j = absurd (⊎_elim (λ e. subst (In u) (sym e) j) (λ none. none) i)
 part_within (v ∷ us) p u i j =
     ⊎_elim

@@ -7,12 +7,12 @@
 #![tactic(auto)]
 
 mod accesses;
+mod backward_scan;
 mod chains;
 mod conflicts;
 mod index;
 mod laws;
 mod links;
-mod operations;
 mod order;
 mod read_values;
 mod rows;

@@ -21,9 +21,9 @@ ghost use Rattle.esr_history.specs.Serial.{is_before};
 ghost use Rattle.esr_history.specs.Machine.{accepted_in};
 ghost use Rattle.esr_history.specs.Operations.{commit_order, operations};
 
+use crate::backward_scan::pairs_and_chains;
 use crate::index::Index;
 use crate::links::Links;
-use crate::operations::gather;
 use crate::rows::AccessRows;
 use crate::scan::{committed, count_must, is_committed_query, updates_before};
 use crate::search::relevant_of;
@@ -104,7 +104,7 @@ fn among<M: Metric>(
         (filter (λ p. is_among (map (λ t. t.0) commits.items) p.txn) (operations history.now.schedule))) }
 {
     let _invariant = history.log(); // brings the invariant into the proof
-    let gathered = gather(alloc, history, rows, &commits, writers)?;
+    let gathered = pairs_and_chains(alloc, history, rows, &commits, writers)?;
     let must = first_positions(alloc, first)?;
     Ok(Order {
         commits,

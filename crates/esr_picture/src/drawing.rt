@@ -149,11 +149,11 @@ impl QueryView for PictureView {
 
 /// A picture with the lines with errors of its script in a box at the top.
 #[derive(Drop)]
-pub struct PictureWithErrors<'a> {
+pub struct PictureWithErrorsView<'a> {
     pub notes: &'a Notes,
 }
 
-impl QueryView for PictureWithErrors<'_> {
+impl QueryView for PictureWithErrorsView<'_> {
     ghost IsTextOf = { λ _ _ _ text. IsSvg text };
 
     fn text_of(

@@ -6,12 +6,12 @@ use crate::versions::Positions;
 use esr_cert::Chain;
 use esr_items::ItemId;
 use esr_report::name_of_transaction;
-use esr_svg::{Stray, Strays};
+use esr_svg::{TransientRead, TransientReads};
 use esr_trace::{Audited, ObservedRead, QueryTrace, WriterEnd};
 use std::alloc::{AllocError, Global};
 
 /// Returns the values that were read of an item, without repetitions, with the number of reads of each.
-pub fn counts_of(
+pub fn read_counts_by_value(
     alloc: Global,
     trace: &QueryTrace,
     item: ItemId,
@@ -47,7 +47,7 @@ fn is_kept(trace: &QueryTrace, observed: &ObservedRead) -> bool {
 }
 
 /// Returns for each version of a chain whether the query read it, and not only a value equal to it.
-pub fn seen_versions(
+pub fn read_flags_by_version(
     alloc: Global,
     trace: &QueryTrace,
     chain: &Chain,
@@ -77,7 +77,7 @@ fn version_read(chain: &Chain, positions: &Positions, observed: &ObservedRead) -
 }
 
 /// Returns what happened to a value that was read, if it did not become a version.
-fn fate_of(
+fn writer_outcome_of(
     audited_query: &Audited<'_>,
     trace: &QueryTrace,
     observed: &ObservedRead,
@@ -97,39 +97,44 @@ fn fate_of(
 }
 
 /// A value that was read of an item, if it did not stay.
-fn stray_of<'a>(
+fn transient_read_of<'a>(
     audited_query: &Audited<'a>,
     trace: &QueryTrace,
     observed: &ObservedRead,
     pieces: &[i64],
-) -> Option<Stray<'a>> {
-    let fate = fate_of(audited_query, trace, observed)?;
+) -> Option<TransientRead<'a>> {
+    let writer_outcome = writer_outcome_of(audited_query, trace, observed)?;
     let writer = observed.writer?;
-    Some(Stray {
+    Some(TransientRead {
         value: observed.value,
         writer: name_of_transaction(audited_query.transactions, writer),
-        fate,
+        writer_outcome,
         has_piece: pieces.contains(&observed.value),
     })
 }
 
-/// The strays of an item, whose lane has pieces of these values.
-pub fn strays_of<'a>(
+/// The transient reads of an item, whose lane has pieces of these values.
+pub fn transient_reads_of<'a>(
     audited_query: &Audited<'a>,
     trace: &QueryTrace,
     item: ItemId,
     pieces: &[i64],
-) -> Strays<'a> {
-    let mut strays = Strays {
+) -> TransientReads<'a> {
+    let mut transient_reads = TransientReads {
         first: None,
         more: 0,
     };
     for observed in &trace.observed_reads {
         if observed.item == item
-            && let Some(stray) = stray_of(audited_query, trace, observed, pieces)
+            && let Some(transient_read) = transient_read_of(
+                audited_query,
+                trace,
+                observed,
+                pieces,
+            )
         {
-            strays.add(stray);
+            transient_reads.add(transient_read);
         }
     }
-    strays
+    transient_reads
 }

@@ -5,7 +5,7 @@
 
 use crate::arrow_reduction::{Slots, arrows};
 use crate::lanes::{LaneVersions, reads_in, reads_of_values, values_of};
-use crate::observed_reads::{counts_of, seen_versions, strays_of};
+use crate::observed_reads::{read_counts_by_value, read_flags_by_version, transient_reads_of};
 use crate::selection::{Choice, choose};
 use crate::titles::{arrow_title, update_title};
 use crate::versions::{Positions, unwritten, versions_of};
@@ -110,13 +110,13 @@ impl<'a> Source<'a> {
         reads_drawn: usize,
     ) -> Result<LaneVersions<'b>, AllocError> {
         let values = versions_of(alloc, self.audited.history, chain, &self.positions)?;
-        let counts = counts_of(alloc, self.trace, chain.item)?;
+        let counts = read_counts_by_value(alloc, self.trace, chain.item)?;
         let reads = reads_of_values(alloc, &values, &counts)?;
         Ok(LaneVersions {
             chain,
             values,
             reads,
-            seen: seen_versions(alloc, self.trace, chain, &self.positions)?,
+            seen: read_flags_by_version(alloc, self.trace, chain, &self.positions)?,
             at_line,
             reads_drawn,
         })
@@ -175,7 +175,7 @@ impl<'a, 'b> SceneParts<'a, 'b> {
         let audited = self.source.audited;
         let versions = self.source.versions(alloc, chain, at_line, self.reads)?;
         let segments = versions.segments(alloc, &self.slots)?;
-        let counts = counts_of(alloc, self.source.trace, chain.item)?;
+        let counts = read_counts_by_value(alloc, self.source.trace, chain.item)?;
         let values = values_of(alloc, &segments)?;
         Ok(Lane {
             name: audited.items.name_of(chain.item.0).unwrap_or(""),
@@ -183,7 +183,7 @@ impl<'a, 'b> SceneParts<'a, 'b> {
             read: reads_in(alloc, &counts)?,
             off,
             segments,
-            strays: strays_of(audited, self.source.trace, chain.item, &values),
+            transient_reads: transient_reads_of(audited, self.source.trace, chain.item, &values),
         })
     }
 

@@ -4,7 +4,7 @@ use crate::keys::count_rows;
 use crate::scene::{Arrow, Lane, MAX_LANES, Scene};
 use crate::slots::{Slots, left_of};
 use crate::texts::Texts;
-use crate::widths::{box_width, factors_width, off_width, stray_widths, width_of};
+use crate::widths::{box_width, factors_width, off_width, transient_read_widths, width_of};
 use std::alloc::{AllocError, Global};
 
 /// The maximum width of a picture, as long as its contents can be folded.
@@ -32,14 +32,14 @@ const TWO_STRAY_LINES: u32 = 40;
 const WEIGHT_LINE: u32 = 16;
 
 /// From the start of a lane to the text on a value that is not a version.
-pub const BEFORE_STRAY: u32 = 38;
+pub const BEFORE_TRANSIENT_READ: u32 = 38;
 
 /// From row to row of the legend.
 pub const KEY_ROW: u32 = 22;
 
 /// The layout of the text about a value that is not a version.
 #[derive(Clone, Copy, PartialEq, Eq)]
-pub enum StrayLines {
+pub enum TransientReadLines {
     None,
     One,
     Two,
@@ -54,7 +54,7 @@ pub struct Frame {
     pub box_width: u32,
     /// The width of the text in front of a lane.
     pub label_width: u32,
-    pub strays: StrayLines,
+    pub transient_reads: TransientReadLines,
     /// Whether an item has a weight.
     has_weights: bool,
     /// The height of the arrows that go over boxes.
@@ -72,18 +72,24 @@ struct Widths {
     off: u32,
     factors: u32,
     /// Of the text on values that are not versions, in one line and in two.
-    stray: u32,
-    folded_stray: u32,
+    transient_read: u32,
+    folded_transient_read: u32,
 }
 
 impl Widths {
     /// Takes a lane in.
     fn add(&mut self, lane: &Lane<'_>) {
-        let stray = stray_widths(&lane.strays);
+        let transient_read = transient_read_widths(&lane.transient_reads);
         self.off = self.off.max(off_width(lane));
         self.factors = self.factors.max(factors_width(lane));
-        self.stray = self.stray.max(stray.value.saturating_add(stray.fate));
-        self.folded_stray = self.folded_stray.max(stray.value.max(stray.fate));
+        self.transient_read = self.transient_read.max(
+            transient_read
+                .value
+                .saturating_add(transient_read.writer_outcome),
+        );
+        self.folded_transient_read = self
+            .folded_transient_read
+            .max(transient_read.value.max(transient_read.writer_outcome));
     }
 }
 
@@ -92,8 +98,8 @@ fn widths_of(lanes: &[Lane<'_>]) -> Widths {
     let mut widths = Widths {
         off: 0,
         factors: 0,
-        stray: 0,
-        folded_stray: 0,
+        transient_read: 0,
+        folded_transient_read: 0,
     };
     for lane in lanes {
         widths.add(lane);
@@ -159,13 +165,13 @@ fn needed_width(scene: &Scene<'_>, slots: &Slots, widths: Widths) -> u32 {
         .saturating_add(half_name(scene.query))
         .saturating_add(30)
         .min(WIDEST);
-    let strays = slots
+    let transient_reads = slots
         .x(0)
-        .saturating_add(BEFORE_STRAY)
-        .saturating_add(widths.folded_stray);
+        .saturating_add(BEFORE_TRANSIENT_READ)
+        .saturating_add(widths.folded_transient_read);
     slots
         .end()
-        .max(strays)
+        .max(transient_reads)
         .saturating_add(EDGE)
         .max(at_line)
         .max(name)
@@ -173,18 +179,18 @@ fn needed_width(scene: &Scene<'_>, slots: &Slots, widths: Widths) -> u32 {
 }
 
 /// Returns how the texts on values that are not versions are laid out in a picture of this width.
-fn stray_lines(slots: &Slots, widths: Widths, width: u32) -> StrayLines {
+fn transient_read_lines(slots: &Slots, widths: Widths, width: u32) -> TransientReadLines {
     let end = slots
         .x(0)
-        .saturating_add(BEFORE_STRAY)
-        .saturating_add(widths.stray)
+        .saturating_add(BEFORE_TRANSIENT_READ)
+        .saturating_add(widths.transient_read)
         .saturating_add(EDGE);
-    if widths.stray == 0 {
-        StrayLines::None
+    if widths.transient_read == 0 {
+        TransientReadLines::None
     } else if end <= width {
-        StrayLines::One
+        TransientReadLines::One
     } else {
-        StrayLines::Two
+        TransientReadLines::Two
     }
 }
 
@@ -200,7 +206,7 @@ impl Frame {
             width,
             box_width: box_width(&scene.updates),
             label_width: left_of(&scene.lanes).saturating_sub(40),
-            strays: stray_lines(&slots, widths, width),
+            transient_reads: transient_read_lines(&slots, widths, width),
             has_weights: scene.lanes.iter().any(|lane| lane.weight > 1),
             arches: arches(&scene.arrows, scene.line),
             lanes: scene.lanes.len().min(MAX_LANES) as u8,
@@ -250,13 +256,13 @@ impl Frame {
 
     /// Returns the distance from lane to lane.
     fn pitch(&self) -> u32 {
-        let strays = match self.strays {
-            StrayLines::None => 0,
-            StrayLines::One => ONE_STRAY_LINE,
-            StrayLines::Two => TWO_STRAY_LINES,
+        let transient_reads = match self.transient_reads {
+            TransientReadLines::None => 0,
+            TransientReadLines::One => ONE_STRAY_LINE,
+            TransientReadLines::Two => TWO_STRAY_LINES,
         };
         let weights = if self.has_weights { WEIGHT_LINE } else { 0 };
-        LANE.saturating_add(strays).saturating_add(weights)
+        LANE.saturating_add(transient_reads).saturating_add(weights)
     }
 
     /// Returns the middle of a lane.

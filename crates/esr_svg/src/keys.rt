@@ -3,7 +3,7 @@
 use crate::elements::{push_horizontal, push_straight, push_text, push_vertical};
 use crate::frame::{EDGE, Frame, KEY_ROW};
 use crate::lanes::push_bar;
-use crate::scene::{Lane, LanePart, Scene, have_stray};
+use crate::scene::{Lane, LanePart, Scene, have_transient_read};
 use std::alloc::AllocError;
 
 /// A symbol that the legend of a picture explains.
@@ -12,7 +12,7 @@ enum Key {
     Read,
     Other,
     Several,
-    Stray,
+    TransientRead,
     Before,
     After,
     Must,
@@ -35,7 +35,7 @@ static KEYS: [Key; 10] = [
     Key::Before,
     Key::After,
     Key::First,
-    Key::Stray,
+    Key::TransientRead,
     Key::Must,
 ];
 
@@ -48,7 +48,7 @@ fn words_of(key: Key) -> &'static str {
         Key::Read => "value that it read",
         Key::Other => "other value",
         Key::Several => "several values",
-        Key::Stray => "read, but did not last",
+        Key::TransientRead => "read, but did not last",
         Key::Before => "update before the line",
         Key::After => "update after the line",
         Key::Must => "must precede the report",
@@ -83,7 +83,7 @@ fn occurs(scene: &Scene<'_>, key: Key) -> bool {
         Key::Read | Key::Other | Key::Several => {
             scene.lanes.iter().any(|lane| has_part(lane, key))
         }
-        Key::Stray => have_stray(&scene.lanes),
+        Key::TransientRead => have_transient_read(&scene.lanes),
         Key::Before => scene.updates.iter().any(|update| update.slot < scene.line),
         Key::After => scene.updates.iter().any(|update| update.slot > scene.line),
         Key::Must => scene.updates.iter().any(|update| update.must),
@@ -142,7 +142,7 @@ fn push_sign(out: &mut String, query: &str, key: Key, x: u32, y: u32) -> Result<
         Key::Read => push_horizontal(out, "u", middle, x, right),
         Key::Other => push_horizontal(out, "v", middle, x, right),
         Key::Several => push_horizontal(out, "v s", middle, x, right),
-        Key::Stray => push_horizontal(out, "u s", middle, x, right),
+        Key::TransientRead => push_horizontal(out, "u s", middle, x, right),
         Key::Before => push_box(out, "b", x, y),
         Key::After => push_box(out, "a", x, y),
         Key::Must => push_box(out, "b e", x, y),

@@ -4,9 +4,9 @@ use crate::elements::{
     close_text, open_before, open_centred, open_text, push_horizontal, push_straight, push_text,
     push_vertical,
 };
-use crate::frame::{BEFORE_STRAY, EDGE, Frame, StrayLines};
+use crate::frame::{BEFORE_TRANSIENT_READ, EDGE, Frame, TransientReadLines};
 use crate::parts::push_segment;
-use crate::scene::{Lane, LaneReads, Scene, Stray, Strays};
+use crate::scene::{Lane, LaneReads, Scene, TransientRead, TransientReads};
 use crate::slots::slot_after;
 use esr_text::{push_number, push_value};
 use std::alloc::{AllocError, Global};
@@ -198,9 +198,9 @@ fn push_ending(out: &mut String, has_piece: bool, more: usize) -> Result<(), All
 }
 
 /// Appends the text on a value that is not a version.
-fn push_stray_text(
+fn push_transient_read(
     out: &mut String,
-    stray: Stray<'_>,
+    transient_read: TransientRead<'_>,
     more: usize,
     x: u32,
     y: u32,
@@ -208,9 +208,9 @@ fn push_stray_text(
 ) -> Result<(), AllocError> {
     open_text(out, "m q o", x, y)?;
     out.push_str("read ")?;
-    push_value(out, stray.value)?;
+    push_value(out, transient_read.value)?;
     out.push_str(" of ")?;
-    out.push_str(stray.writer)?;
+    out.push_str(transient_read.writer)?;
     out.push(',')?;
     if is_folded {
         out.push_str("</text>")?;
@@ -219,19 +219,19 @@ fn push_stray_text(
         out.push(' ')?;
     }
     out.push_str("which ")?;
-    out.push_str(stray.fate)?;
-    push_ending(out, stray.has_piece, more)?;
+    out.push_str(transient_read.writer_outcome)?;
+    push_ending(out, transient_read.has_piece, more)?;
     out.push_str("</text>\n")
 }
 
 /// Appends the values of a lane that were read and are not versions.
-fn push_strays(
+fn push_transient_reads(
     out: &mut String,
-    strays: &Strays<'_>,
+    transient_reads: &TransientReads<'_>,
     y: u32,
     frame: &Frame,
 ) -> Result<(), AllocError> {
-    let Some(stray) = strays.first else {
+    let Some(transient_read) = transient_reads.first else {
         return Ok(());
     };
     let left = frame.x(0);
@@ -243,16 +243,25 @@ fn push_strays(
         left.saturating_add(4),
         left.saturating_add(30),
     )?;
-    let x = left.saturating_add(BEFORE_STRAY);
-    let is_folded = frame.strays == StrayLines::Two;
-    push_stray_text(out, stray, strays.more, x, y, is_folded)
+    let x = left.saturating_add(BEFORE_TRANSIENT_READ);
+    let is_folded = frame.transient_reads == TransientReadLines::Two;
+    push_transient_read(out, transient_read, transient_reads.more, x, y, is_folded)
 }
 
 /// Appends the values that were read and are not versions, lane by lane.
-fn push_all_strays(out: &mut String, lanes: &[Lane<'_>], frame: &Frame) -> Result<(), AllocError> {
+fn push_all_transient_reads(
+    out: &mut String,
+    lanes: &[Lane<'_>],
+    frame: &Frame,
+) -> Result<(), AllocError> {
     let mut number = 0u8;
     for lane in lanes {
-        push_strays(out, &lane.strays, frame.y(number).saturating_add(44), frame)?;
+        push_transient_reads(
+            out,
+            &lane.transient_reads,
+            frame.y(number).saturating_add(44),
+            frame,
+        )?;
         number = number.saturating_add(1);
     }
     Ok(())
@@ -368,6 +377,6 @@ pub fn push_audit(
     push_lanes(alloc, out, scene, frame)?;
     push_axis(out, scene, frame)?;
     push_line(out, scene, frame)?;
-    push_all_strays(out, &scene.lanes, frame)?;
+    push_all_transient_reads(out, &scene.lanes, frame)?;
     push_crossings(out, scene, frame)
 }

@@ -25,31 +25,31 @@ pub struct LaneReads {
 
 /// A value that was read and is not a version of its item.
 #[derive(Clone, Copy)]
-pub struct Stray<'a> {
+pub struct TransientRead<'a> {
     pub value: i64,
     pub writer: &'a str,
     /// The reason, as text that follows the writer's name.
-    pub fate: &'static str,
+    pub writer_outcome: &'static str,
     /// True if a part of the lane has that value, written by another update.
     pub has_piece: bool,
 }
 
-/// The strays of a lane: the first, of those without a part if there is one, and the number of the others.
+/// The transient reads of a lane: the first, of those without a part if there is one, and the number of the others.
 #[derive(Clone, Copy)]
-pub struct Strays<'a> {
-    pub first: Option<Stray<'a>>,
+pub struct TransientReads<'a> {
+    pub first: Option<TransientRead<'a>>,
     pub more: usize,
 }
 
-impl<'a> Strays<'a> {
+impl<'a> TransientReads<'a> {
     /// Adds one.
-    pub fn add(&mut self, stray: Stray<'a>) {
+    pub fn add(&mut self, transient_read: TransientRead<'a>) {
         match self.first {
-            None => self.first = Some(stray),
+            None => self.first = Some(transient_read),
             Some(first) => {
                 self.more = self.more.saturating_add(1);
-                if first.has_piece && !stray.has_piece {
-                    self.first = Some(stray);
+                if first.has_piece && !transient_read.has_piece {
+                    self.first = Some(transient_read);
                 }
             }
         }
@@ -84,7 +84,7 @@ pub struct Lane<'a> {
     /// The distance of the reads from the version at the line.
     pub off: u64,
     pub segments: Vec<LaneSegment>,
-    pub strays: Strays<'a>,
+    pub transient_reads: TransientReads<'a>,
 }
 
 /// An update that is drawn.
@@ -135,9 +135,9 @@ impl Scene<'_> {
 }
 
 /// Returns whether some lane has a value that is not a version.
-pub fn have_stray(lanes: &[Lane<'_>]) -> bool {
+pub fn have_transient_read(lanes: &[Lane<'_>]) -> bool {
     for lane in lanes {
-        if lane.strays.first.is_some() {
+        if lane.transient_reads.first.is_some() {
             return true;
         }
     }

@@ -1,7 +1,7 @@
 //! The width of each text, which is known without measuring: names and numbers are in a font of one width, none wider
 //! than 0.61 of its height, and sentences in one whose letters are on average not wider than 0.64 of it.
 
-use crate::scene::{Lane, LanePart, LaneReads, LaneSegment, Strays, Update};
+use crate::scene::{Lane, LanePart, LaneReads, LaneSegment, TransientReads, Update};
 use esr_text::{letters_of, number_letters};
 
 /// The maximum number of letters after the words on a value that is not a version.
@@ -129,27 +129,34 @@ pub fn factors_width(lane: &Lane<'_>) -> u32 {
 
 /// The widths of the two parts of the text on a value that is not a version.
 #[derive(Clone, Copy)]
-pub struct StrayWidths {
+pub struct TransientReadWidths {
     pub value: u32,
-    pub fate: u32,
+    pub writer_outcome: u32,
 }
 
 /// Returns the widths of the text on the values of a lane that are not versions.
-pub fn stray_widths(strays: &Strays<'_>) -> StrayWidths {
-    let Some(stray) = strays.first else {
-        return StrayWidths { value: 0, fate: 0 };
+pub fn transient_read_widths(transient_reads: &TransientReads<'_>) -> TransientReadWidths {
+    let Some(transient_read) = transient_reads.first else {
+        return TransientReadWidths {
+            value: 0,
+            writer_outcome: 0,
+        };
     };
-    let ending = if stray.has_piece || strays.more > 0 {
+    let ending = if transient_read.has_piece || transient_reads.more > 0 {
         MAX_ENDING
     } else {
         0
     };
-    let value = letters_of(stray.value)
-        .saturating_add(stray.writer.len())
+    let value = letters_of(transient_read.value)
+        .saturating_add(transient_read.writer.len())
         .saturating_add(10);
-    let fate = stray.fate.len().saturating_add(ending).saturating_add(7);
-    StrayWidths {
+    let writer_outcome = transient_read
+        .writer_outcome
+        .len()
+        .saturating_add(ending)
+        .saturating_add(7);
+    TransientReadWidths {
         value: width_of(value),
-        fate: width_of(fate),
+        writer_outcome: width_of(writer_outcome),
     }
 }

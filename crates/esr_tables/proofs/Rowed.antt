@@ -9,8 +9,8 @@ use Rattle.esr_history.specs.BackLinks.{accepted_end, facts_of, last_place}
 use Rattle.esr_order.proofs.Commits.{commit_at_end, end_some}
 use Rattle.esr_tables.specs.declared.kinds.RowKind.{RowKind}
 use Rattle.esr_tables.specs.declared.kinds.RowKind.TheVariants.{Update}
-use Rattle.esr_tables.specs.declared.rows.RowEnd.{RowEnd}
-use Rattle.esr_tables.specs.declared.rows.RowEnd.TheVariants.{Committed, Aborted, Active}
+use Rattle.esr_tables.specs.declared.rows.RowOutcome.{RowOutcome}
+use Rattle.esr_tables.specs.declared.rows.RowOutcome.TheVariants.{Committed, Aborted, Active}
 use Rattle.esr_tables.specs.declared.rows.Row.{Row}
 use Rattle.esr_tables.specs.declared.tallies.Tally.{Tally}
 use Rattle.esr_items.specs.Weights.{weighted}
@@ -38,7 +38,7 @@ pub charged_there : (h : Schedule) (t x : ℕ) → is_query (accepted_in h) t �
 charged_there h t x is same = same ∙ sym (ap (λ (b : Bool). if b then import_in (charges_in weighted h) t else export_in (charges_in weighted h) t) is)
 
 -- the row, by its parts
-pub row_there : (h : Schedule) (t : TxnId) (k : RowKind) (l c f : ℕ) (y : Tally) (e : RowEnd) (g : Option ℕ) → k ≡ kind_at h t.0 → l ≡ limit_of (accepted_in h) t.0 → c ≡ charged_of weighted h t.0
+pub row_there : (h : Schedule) (t : TxnId) (k : RowKind) (l c f : ℕ) (y : Tally) (e : RowOutcome) (g : Option ℕ) → k ≡ kind_at h t.0 → l ≡ limit_of (accepted_in h) t.0 → c ≡ charged_of weighted h t.0
     → f ≡ l - c → y ≡ tally_of h.entries t.0 → e ≡ end_of h t.0 → g ≡ distance_of weighted h t.0
     → ◌≡◌ {A = Row} record { number = t; kind = k; limit = l; charged = c; left = f; tally = y; end = e; distance = g } (row_of weighted h t.0)
 row_there h t k l c f y e g kind limit charged left counts end far =

@@ -5,8 +5,8 @@ use Rattle.esr_history.specs.Machine.{DistanceFunction, Schedule}
 use Rattle.esr_report.specs.Names.{name_of_transaction}
 use Rattle.esr_tables.specs.declared.kinds.RowKind.{RowKind}
 use Rattle.esr_tables.specs.declared.kinds.RowKind.TheVariants.{Update, Query, Strict}
-use Rattle.esr_tables.specs.declared.rows.RowEnd.{RowEnd}
-use Rattle.esr_tables.specs.declared.rows.RowEnd.TheVariants.{Committed, Aborted, Active}
+use Rattle.esr_tables.specs.declared.rows.RowOutcome.{RowOutcome}
+use Rattle.esr_tables.specs.declared.rows.RowOutcome.TheVariants.{Committed, Aborted, Active}
 use Rattle.esr_tables.specs.declared.rows.Row.{Row}
 use Rattle.esr_tables.specs.Rows.{rows_of}
 
@@ -23,15 +23,15 @@ kind_word Update = codes "update"
 kind_word Query = codes "query"
 kind_word Strict = codes "strict"
 
-abbrev pub end_word : RowEnd → List ℕ
-end_word Committed = codes "committed"
-end_word Aborted = codes "aborted"
-end_word Active = codes "active"
+abbrev pub outcome_word : RowOutcome → List ℕ
+outcome_word Committed = codes "committed"
+outcome_word Aborted = codes "aborted"
+outcome_word Active = codes "active"
 
 -- a number, or the empty text for None
-abbrev pub optional : Option ℕ → List ℕ
-optional None = []
-optional (Some n) = decimal n
+abbrev pub decimal_or_empty : Option ℕ → List ℕ
+decimal_or_empty None = []
+decimal_or_empty (Some n) = decimal n
 
 -- the names of the fields
 abbrev pub head : List ℕ
@@ -48,7 +48,7 @@ amounts r =
 -- a row, with the name of its transaction and its first and last lines
 abbrev pub row_line : List ℕ → Row → (first last : ℕ) → List ℕ
 row_line name r first last = csv_line (decimal r.number.0) (
-    name ∷ kind_word r.kind ∷ amounts r ++ end_word r.end ∷ optional r.distance ∷ decimal first ∷ decimal last ∷ []
+    name ∷ kind_word r.kind ∷ amounts r ++ outcome_word r.end ∷ decimal_or_empty r.distance ∷ decimal first ∷ decimal last ∷ []
     )
 
 -- the line of a row, given the names of the transactions and their first and last lines

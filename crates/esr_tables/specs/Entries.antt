@@ -12,8 +12,8 @@ use Rattle.esr_items.specs.Weights.{weighted}
 use Rattle.esr_order.specs.Scans.{is_commit_at}
 use Rattle.esr_tables.specs.declared.kinds.RowKind.{RowKind}
 use Rattle.esr_tables.specs.declared.rows.Columns.{Columns}
-use Rattle.esr_tables.specs.declared.rows.RowEnd.{RowEnd}
-use Rattle.esr_tables.specs.declared.rows.RowEnd.TheVariants.{Committed, Aborted, Active}
+use Rattle.esr_tables.specs.declared.rows.RowOutcome.{RowOutcome}
+use Rattle.esr_tables.specs.declared.rows.RowOutcome.TheVariants.{Committed, Aborted, Active}
 use Rattle.esr_tables.specs.declared.tallies.Tally.{Tally}
 use Rattle.esr_tables.specs.Rows.{distance_of, kind_of, tally_of}
 
@@ -43,7 +43,7 @@ abbrev pub AreTallies : List Entry → List Tally → Type 0
 AreTallies es tallies = (t : ℕ) → t < length tallies → (d : Tally) → slice_index_or tallies t d ≡ tally_of es t
 
 -- the end of a transaction, given the place of its accepted commit or abort, if there is one
-abbrev pub end_at : List Entry → Option ℕ → RowEnd
+abbrev pub end_at : List Entry → Option ℕ → RowOutcome
 end_at es end = if is_commit_at es end then Committed else (if is_some end then Aborted else Active)
 
 -- the columns of all transactions

@@ -11,8 +11,8 @@ use Rattle.esr_history.specs.BackLinks.{txn_in, is_key, last_place, accepted_end
 use Rattle.esr_order.specs.Least.{least_cost}
 use Rattle.esr_tables.specs.declared.kinds.RowKind.{RowKind}
 use Rattle.esr_tables.specs.declared.kinds.RowKind.TheVariants.{Update, Query, Strict}
-use Rattle.esr_tables.specs.declared.rows.RowEnd.{RowEnd}
-use Rattle.esr_tables.specs.declared.rows.RowEnd.TheVariants.{Committed, Aborted, Active}
+use Rattle.esr_tables.specs.declared.rows.RowOutcome.{RowOutcome}
+use Rattle.esr_tables.specs.declared.rows.RowOutcome.TheVariants.{Committed, Aborted, Active}
 use Rattle.esr_tables.specs.declared.rows.Row.{Row}
 use Rattle.esr_tables.specs.declared.tallies.Tally.{Tally}
 
@@ -64,7 +64,7 @@ tally_of es t = record {
 -- ---- how it ended
 
 -- committed; else aborted, if an accepted commit or abort of it is in the log
-abbrev pub end_of : Schedule → ℕ → RowEnd
+abbrev pub end_of : Schedule → ℕ → RowOutcome
 end_of h t =
     if is_committed (accepted_in h) t then Committed
     else (if is_some (last_place accepted_end t h.entries) then Aborted else Active)

@@ -4,13 +4,13 @@
 ghost use Rattle.std.specs.Prelude.{◌≡◌, ◌++◌, ◌∷◌, [], OnOk, decimal, map};
 ghost use Rattle.std.specs.List.{flat_map};
 ghost use Rattle.esr_items.specs.Weights.{weighted};
-ghost use Rattle.esr_tables.specs.Csv.{amounts, separated, end_word, head, kind_word, named_line, optional, row_line};
+ghost use Rattle.esr_tables.specs.Csv.{amounts, separated, outcome_word, head, kind_word, named_line, decimal_or_empty, row_line};
 ghost use Rattle.esr_tables.specs.Entries.{AreColumns};
 ghost use Rattle.esr_tables.specs.Rows.{rows_of};
 ghost use Rattle.esr_tables.specs.Spans.{first_of, last_of};
 
 use crate::kinds::RowKind;
-use crate::rows::{Columns, Row, RowEnd, row_at};
+use crate::rows::{Columns, Row, RowOutcome, row_at};
 use crate::spans::{LineSpan, Spans};
 use esr_history::History;
 use esr_items::Weighted;
@@ -29,13 +29,13 @@ pub fn kind_word(kind: RowKind) -> &'static str
 }
 
 /// Returns the name of an end.
-pub fn end_word(end: RowEnd) -> &'static str
-    ensures { result.now ≡ end_word end }
+pub fn outcome_word(end: RowOutcome) -> &'static str
+    ensures { result.now ≡ outcome_word end }
 {
     match end {
-        RowEnd::Committed => "committed",
-        RowEnd::Aborted => "aborted",
-        RowEnd::Active => "active",
+        RowOutcome::Committed => "committed",
+        RowOutcome::Aborted => "aborted",
+        RowOutcome::Active => "active",
     }
 }
 
@@ -66,8 +66,8 @@ fn push_all_fields(out: &mut Vec<u8>, fields: &[&str]) -> Result<(), AllocError>
 }
 
 /// Returns a number in decimal, or the empty text for `None`.
-fn optional(digits: &mut itoa::Buffer, number: Option<u64>) -> &str
-    ensures { result.now ≡ optional number }
+fn decimal_or_empty(digits: &mut itoa::Buffer, number: Option<u64>) -> &str
+    ensures { result.now ≡ decimal_or_empty number }
 {
     match number {
         Some(number) => digits.format(number),
@@ -104,10 +104,10 @@ fn push_amounts(out: &mut Vec<u8>, row: &Row) -> Result<(), AllocError>
 
 /// Appends the distance of a row.
 fn push_distance(out: &mut Vec<u8>, distance: Option<u64>) -> Result<(), AllocError>
-    ensures { OnOk result (out.new.items ≡ out.old.items ++ separated (optional distance ∷ [])) }
+    ensures { OnOk result (out.new.items ≡ out.old.items ++ separated (decimal_or_empty distance ∷ [])) }
 {
     let mut digits = itoa::Buffer::new();
-    push_field(out, optional(&mut digits, distance))
+    push_field(out, decimal_or_empty(&mut digits, distance))
 }
 
 /// Appends the first and the last line of a transaction.
@@ -127,7 +127,7 @@ fn row_line(out: &mut Vec<u8>, name: &str, row: &Row, span: LineSpan) -> Result<
     push_field(out, name)?;
     push_field(out, kind_word(row.kind))?;
     push_amounts(out, row)?;
-    push_field(out, end_word(row.end))?;
+    push_field(out, outcome_word(row.end))?;
     push_distance(out, row.distance)?;
     push_span(out, span)?;
     out.push(b'\n')?;

@@ -1,7 +1,7 @@
 //! The columns of a ledger as text and JSON, with the content of each cell. The functions are proved safe; tests compare the
 //! text.
 
-use crate::csv::{end_word, kind_word};
+use crate::csv::{kind_word, outcome_word};
 use crate::rows::Row;
 use crate::spans::LineSpan;
 
@@ -66,7 +66,7 @@ pub fn content_of<'a>(column: Column, name: &'a str, row: &Row, span: LineSpan) 
         Column::BlockedByLock => Content::Number(row.tally.by_lock),
         Column::BlockedByImport => Content::Number(row.tally.by_import),
         Column::BlockedByExport => Content::Number(row.tally.by_export),
-        Column::Outcome => Content::Word(end_word(row.end)),
+        Column::Outcome => Content::Word(outcome_word(row.end)),
         Column::Distance => match row.distance {
             Some(distance) => Content::Number(distance),
             None => Content::Nothing,

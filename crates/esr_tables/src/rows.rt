@@ -22,7 +22,7 @@ use std::alloc::Global;
 
 /// The outcome of a transaction.
 #[derive(Clone, Copy)]
-pub enum RowEnd {
+pub enum RowOutcome {
     Committed,
     Aborted,
     Active,
@@ -39,7 +39,7 @@ pub struct Row {
     /// The rest of the limit.
     pub left: u64,
     pub tally: Tally,
-    pub end: RowEnd,
+    pub end: RowOutcome,
     /// The distance of a committed query from the nearest serial placement.
     pub distance: Option<u64>,
 }
@@ -80,20 +80,20 @@ fn is_commit(entry: Entry) -> bool
 }
 
 /// Returns how a transaction ended, given the place of its accepted commit or abort, if there is one.
-fn end_at(log: &Log, place: Option<u64>) -> RowEnd
+fn end_at(log: &Log, place: Option<u64>) -> RowOutcome
     ensures { result ≡ end_at log.now.entries place }
 {
     let Some(place) = place else {
-        return RowEnd::Active;
+        return RowOutcome::Active;
     };
     match log.get(place as usize) {
-        Some(entry) if is_commit(entry) => RowEnd::Committed,
-        _ => RowEnd::Aborted,
+        Some(entry) if is_commit(entry) => RowOutcome::Committed,
+        _ => RowOutcome::Aborted,
     }
 }
 
 /// Returns how a transaction ended.
-fn end_of(history: &History<Weighted>, t: TxnId) -> RowEnd
+fn end_of(history: &History<Weighted>, t: TxnId) -> RowOutcome
     requires { (1 ≤ t.0) × (t.0 ≤ begun_count history.now.schedule.entries) }
     ensures { result ≡ end_of history.now.schedule t.0 }
 {

@@ -6,7 +6,7 @@ ghost use Rattle.esr_base.specs.Watch.{failed};
 use crate::tests::devices::{Way, check_cut, cut_after, narrow_until};
 use esr_history::Watched;
 use esr_lint::{Notes, Unobserved};
-use esr_picture::{PictureView, PictureWithErrors};
+use esr_picture::{PictureView, PictureWithErrorsView};
 use esr_script::{RunFault, render_query};
 use std::alloc::{AllocError, Global};
 use std::io::{Read, Write};
@@ -117,7 +117,7 @@ fn lines_with_errors_are_drawn(rt: HostRuntime) {
     }
     let mut reader = Watched::new(BANK.as_bytes());
     let mut writer = Watched::new(Vec::new(alloc));
-    let view = PictureWithErrors { notes: &notes };
+    let view = PictureWithErrorsView { notes: &notes };
     let ended = render_query(
         alloc,
         &mut reader,

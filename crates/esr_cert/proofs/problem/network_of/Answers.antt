@@ -52,6 +52,6 @@ rows_of-requires-clause-within_max c =
 pub rows_of-requires-clause-ends : goal.rows_of-requires-clause-ends
 rows_of-requires-clause-ends c =
     let p : Problem = problem_by c.args.parts.now in
-    let nodes : c.len-2.result + 2 ≡ (network p).nodes = omega (arith, length-map c.args.parts.now.updates.items (λ t. t.0), c.len-2.ensures, c.args.parts.now.updates.ok.0) in
+    let node_count : c.len-2.result + 2 ≡ (network p).node_count = omega (arith, length-map c.args.parts.now.updates.items (λ t. t.0), c.len-2.ensures, c.args.parts.now.updates.ok.0) in
     subst (λ arcs. EndsAreNodes arcs (c.len-2.result + 2)) (sym c.arcs_of.ensures)
-    (subst (EndsAreNodes (network p).arcs) (sym nodes) (is_network p (facts p c.requires.sound)).ends)
+    (subst (EndsAreNodes (network p).arcs) (sym node_count) (is_network p (facts p c.requires.sound)).ends)

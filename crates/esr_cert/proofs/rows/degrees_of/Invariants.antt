@@ -8,5 +8,5 @@ abbrev pub invariant-loop-chain : goal.invariant-loop-chain
 invariant-loop-chain l = record {
   place : l.begin ≡ get_or (starts_from 0 (map chain_of l.chains)) l.chain-index 0;
   inside : l.begin ≤ length l.arcs;
-  counted : Counted l.arcs l.nodes (first_steps l.begin) l.degrees.items;
+  counted : Counted l.arcs l.node_count (first_steps l.begin) l.degrees.items;
 }

@@ -8,5 +8,5 @@ abbrev pub invariant-loop-chain : goal.invariant-loop-chain
 invariant-loop-chain l = record {
   place : l.begin ≡ get_or (starts_from 0 (map chain_of l.chains)) l.chain-index 0;
   inside : l.begin ≤ length l.arcs;
-  laid_out : IsLaidOut l.arcs l.nodes l.begin l.rows.spans.items l.rows.steps.items;
+  laid_out : IsLaidOut l.arcs l.node_count l.begin l.rows.spans.items l.rows.steps.items;
 }

@@ -4,7 +4,7 @@ use Rattle.esr_items.specs.Values.{value_at, IsValue}
 use Rattle.esr_items.specs.Weights.{weighted}
 use Rattle.esr_audit.proofs.Gathered.{value_fits}
 use Rattle.esr_order.specs.declared.accesses.Access.{Access}
-use Rattle.esr_explain.specs.Accesses.{access_line}
+use Rattle.esr_explain.specs.AccessLines.{access_line}
 use Rattle.esr_explain.specs.Explain.{read_line}
 use Rattle.esr_explain.proofs.Accessed.{lines_more}
 use Rattle.esr_explain.proofs.reads.push_lines.Goals as goal

@@ -1,7 +1,7 @@
 use Rattle.std.proofs.Common.{◌≡◌, ◌++◌, flat_map, take}
 use Rattle.esr_items.specs.Values.{value_at}
 use Rattle.esr_items.specs.Weights.{weighted}
-use Rattle.esr_explain.specs.Accesses.{access_line}
+use Rattle.esr_explain.specs.AccessLines.{access_line}
 use Rattle.esr_explain.proofs.reads.push_lines.Given as goal
 
 -- the lines so far

@@ -5,7 +5,7 @@ use Rattle.esr_base.specs.declared.numbers.TxnId.{TxnId}
 use Rattle.esr_history.specs.Machine.{value_distance}
 use Rattle.esr_history.specs.Serial.{state}
 use Rattle.esr_order.specs.Scans.{accesses_in}
-use Rattle.esr_explain.specs.Accesses.{access_line}
+use Rattle.esr_explain.specs.AccessLines.{access_line}
 use Rattle.esr_explain.specs.Explain.{read_line, read_lines}
 use Rattle.esr_explain.proofs.Accessed.{accesses_inside, accesses_valued, lines_agree, reads_are_within}
 use Rattle.esr_explain.proofs.reads.push_reads.Goals as goal

@@ -3,7 +3,7 @@ use Rattle.esr_cert.specs.Network.{Network}
 use Rattle.esr_cert.specs.Flow.{worth}
 use Rattle.esr_flow.specs.Residual.{bottleneck, raise}
 use Rattle.esr_flow.specs.Augmentation.{Augments}
-use Rattle.esr_flow.specs.Graph.{arcs_of, network_of}
+use Rattle.esr_flow.specs.ResidualGraph.{arcs_of, network_of}
 use Rattle.esr_flow.proofs.FlowLaws.{After, augmented}
 use Rattle.esr_flow.proofs.MaximumLaws.{path_in_arcs, raise_fits, augments}
 use Rattle.esr_flow.proofs.maximum.augment.Goals as goal
@@ -12,8 +12,8 @@ pub bottleneck_of-requires-clause-path : goal.bottleneck_of-requires-clause-path
 bottleneck_of-requires-clause-path c =
     path_in_arcs (arcs_of c.args.graph.now) c.args.flow.now c.args.path.now c.args.graph.now.source c.args.graph.now.sink c.requires.path.is_path
 
-pub raise_along-requires-clause-in_arcs : goal.raise_along-requires-clause-in_arcs
-raise_along-requires-clause-in_arcs c =
+pub raise_along-requires-clause-arc_in_range : goal.raise_along-requires-clause-arc_in_range
+raise_along-requires-clause-arc_in_range c =
     path_in_arcs (arcs_of c.args.graph.now) c.args.flow.now c.args.path.now c.args.graph.now.source c.args.graph.now.sink c.requires.path.is_path
 
 pub raise_along-requires-clause-fits : goal.raise_along-requires-clause-fits

@@ -1,7 +1,7 @@
 use Rattle.std.proofs.Common.{arith, ◌≡◌, length, replicate, rules, sym, subst, ap, ◌∙◌}
 use Rattle.esr_cert.specs.Flow.{worth}
 use Rattle.esr_flow.specs.Augmentation.{AugmentsFrom}
-use Rattle.esr_flow.specs.Graph.{arcs_of, network_of}
+use Rattle.esr_flow.specs.ResidualGraph.{arcs_of, network_of}
 use Rattle.esr_flow.specs.Maximum.{IsStart}
 use Rattle.esr_flow.proofs.FlowLaws.{Taken, taken, zero_worth, zero_start}
 use Rattle.esr_flow.proofs.MaximumLaws.{takes_zeros}

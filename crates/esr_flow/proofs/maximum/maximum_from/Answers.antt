@@ -1,7 +1,7 @@
 use Rattle.std.proofs.Common.{arith, ◌≡◌, ◌∙◌, ◌++◌, append-nil, length, take, drop, sym, ap, subst}
 use Rattle.std.proofs.lemmas.List.{drop_all, take_all}
 use Rattle.esr_cert.specs.Flow.{amount_at, IsFlow}
-use Rattle.esr_flow.specs.Graph.{network_of}
+use Rattle.esr_flow.specs.ResidualGraph.{network_of}
 use Rattle.esr_flow.specs.Maximum.{IsStart}
 use Rattle.esr_flow.proofs.FlowLaws.{Taken, taken}
 use Rattle.esr_flow.proofs.maximum.maximum_from.Goals as goal

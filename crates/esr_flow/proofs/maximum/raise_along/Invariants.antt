@@ -1,6 +1,6 @@
 use Rattle.std.proofs.Common.{◌≡◌, take}
 use Rattle.esr_flow.specs.Residual.{raise}
-use Rattle.esr_flow.specs.Graph.{AreEntries}
+use Rattle.esr_flow.specs.ResidualGraph.{AreEntries}
 use Rattle.esr_flow.proofs.maximum.raise_along.Given as goal
 
 abbrev pub invariant-loop-step : goal.invariant-loop-step

@@ -6,7 +6,7 @@ use Rattle.esr_cert.specs.Network.{Network}
 use Rattle.esr_flow.specs.ShortEntry.{AdjacencyEntry}
 use Rattle.esr_flow.specs.Residual.{residual_capacity, finish}
 use Rattle.esr_cert.specs.Steps.{arc_of, start, opposite, step_at}
-use Rattle.esr_flow.specs.Graph.{arcs_of, network_of, Lists, IsEntry, entry_at}
+use Rattle.esr_flow.specs.ResidualGraph.{arcs_of, network_of, IsAdjacencyRow, IsEntry, entry_at}
 use Rattle.esr_cert.specs.Rows.{span_at}
 use Rattle.esr_flow.specs.Search.{label_at, IsGuided}
 use Rattle.esr_flow.proofs.EntriesLaws.{lists_read}
@@ -38,12 +38,12 @@ loop-at-preserved-then-i-row c =
     let flow : List ℕ = c.args.flow.now in
     let labels : List ℕ = c.args.labels.now in
     let e : AdjacencyEntry = entry_at c.row-row.result.now c.next_back-i.result in
-    let read : c.entry-at.result ≡ e = c.entry-at.ensures ∙ get_or_read c.row-row.result.now c.next_back-i.result c.index-row-i.result c.if-i-row.true c.index-row-i.is (record { to = 0; ahead = false; back = false }) in
+    let read : c.entry-at.result ≡ e = c.entry-at.ensures ∙ get_or_read c.row-row.result.now c.next_back-i.result c.index-row-i.result c.if-i-row.true c.index-row-i.is (record { to = 0; has_residual = false; opposite_has_residual = false }) in
     let t : ResidualArc = step_at c.steps_at-steps.result.now c.next_back-i.result in
     let s : ResidualArc = opposite t in
-    let row : Lists arcs flow c.loop-at.at c.steps_at-steps.result.now c.row-row.result.now = lists_read c.args.graph.now c.args.flow.now c.args.entries.now c.requires.entries c.loop-at.at c.loop-at.invariant.0.node c.steps_at-steps.result.now c.row-row.result.now c.steps_at-steps.ensures c.row-row.ensures in
+    let row : IsAdjacencyRow arcs flow c.loop-at.at c.steps_at-steps.result.now c.row-row.result.now = lists_read c.args.graph.now c.args.flow.now c.args.entries.now c.requires.entries c.loop-at.at c.loop-at.invariant.0.node c.steps_at-steps.result.now c.row-row.result.now c.steps_at-steps.ensures c.row-row.ensures in
     let at : IsEntry arcs flow c.loop-at.at t e = row.entries c.next_back-i.result c.if-i-row.true in
-    let in_arcs : arc_of s < length arcs = omega (arith, at.in_arcs, opposite_arc t) in
+    let arc_in_range : arc_of s < length arcs = omega (arith, at.arc_in_range, opposite_arc t) in
     let has_capacity : within 1 (residual_capacity arcs flow s) ≡ true = c.next_back-i.ensures.residual c.if-i-row.true in
     let ends : finish arcs s ≡ c.loop-at.at = opposite_finish arcs t ∙ at.starts in
     let begins : start arcs s ≡ e.to = opposite_start arcs t ∙ sym at.leads in
@@ -51,7 +51,7 @@ loop-at-preserved-then-i-row c =
     let pushed : c.push.new.self.items ≡ c.loop-at.path.items ++ s ∷ [] = c.in_ok-push.ensures.items ∙ ap (λ t. c.loop-at.path.items ++ t ∷ []) c.opposite.ensures ∙ ap (λ t. c.loop-at.path.items ++ opposite t ∷ []) (c.unpack.ensures ∙ get_or_read c.steps_at-steps.result.now c.next_back-i.result c.index-steps-i.result (omega (arith, row.count, c.if-i-row.true)) c.index-steps-i.is (Forward 0)) in (
       subst (Walk net flow labels c.push.new.self.items) (begins ∙ ap (λ (x : AdjacencyEntry). x.to) (sym read))
           (subst (λ p. Walk net flow labels p (start arcs s)) (sym pushed)
-          (walk_push net c.args.graph.now.kept.is_network flow labels c.loop-at.path.items c.loop-at.at s c.loop-at.invariant.0 ends (in_arcs, has_capacity) down)),
+          (walk_push net c.args.graph.now.kept.is_network flow labels c.loop-at.path.items c.loop-at.at s c.loop-at.invariant.0 ends (arc_in_range, has_capacity) down)),
       length-set c.loop-at.next c.loop-at.at (c.next_back-i.result + 1) ∙ c.loop-at.invariant.1,
     )
 

@@ -1,6 +1,6 @@
 use Rattle.std.proofs.Common.{arith, ◌≡◌, ℕ, ◌-◌, ◌<◌, ◌≤◌, false, length, inl, inr, sym, ◌∙◌, subst}
 use Rattle.std.proofs.lemmas.Bool.{cases_lt}
-use Rattle.esr_flow.specs.Graph.{arcs_of, network_of}
+use Rattle.esr_flow.specs.ResidualGraph.{arcs_of, network_of}
 use Rattle.esr_flow.specs.Reached.{AreReached, IsKeptOver}
 use Rattle.esr_flow.proofs.PassLaws.{pair_kept_by}
 use Rattle.esr_flow.proofs.reach.pass_back.Goals as goal

@@ -1,5 +1,5 @@
 use Rattle.std.proofs.Common.{◌≡◌, ℕ, ◌<◌, ◌≤◌, false, length}
-use Rattle.esr_flow.specs.Graph.{arcs_of, network_of}
+use Rattle.esr_flow.specs.ResidualGraph.{arcs_of, network_of}
 use Rattle.esr_flow.specs.Reached.{AreReached, IsKeptOver}
 use Rattle.esr_flow.proofs.reach.pass_back.Given as goal
 

@@ -1,6 +1,6 @@
 use Rattle.std.proofs.Common.{arith, ◌≡◌, ℕ, ◌+◌, ◌<◌, true, false, inl, inr, sym, ◌∙◌, subst, true≢false}
 use Rattle.std.proofs.lemmas.Bool.{cases_lt}
-use Rattle.esr_flow.specs.Graph.{arcs_of, network_of}
+use Rattle.esr_flow.specs.ResidualGraph.{arcs_of, network_of}
 use Rattle.esr_flow.specs.Reached.{AreReached, IsKeptOver}
 use Rattle.esr_flow.proofs.PassLaws.{link_kept}
 use Rattle.esr_flow.proofs.reach.pass_chain.Goals as goal

@@ -1,6 +1,6 @@
 use Rattle.std.proofs.Common.{arith, ◌≡◌, ℕ, ◌+◌, ◌-◌, ◌≤◌, length, get_or, inl, inr, refl, sym, ap, ◌∙◌, subst, true≢false}
 use Rattle.std.proofs.lemmas.Bool.{cases_lt}
-use Rattle.esr_flow.specs.Graph.{arcs_of}
+use Rattle.esr_flow.specs.ResidualGraph.{arcs_of}
 use Rattle.esr_cert.specs.Starts.{starts_from}
 use Rattle.esr_flow.specs.Reached.{IsKeptOver, first_back}
 use Rattle.esr_cert.proofs.LinksLaws.{starts_first, next_begin, inside_all}

@@ -1,6 +1,6 @@
 use Rattle.std.proofs.Common.{◌≡◌, ℕ, ◌<◌, false, get_or}
 use Rattle.esr_cert.specs.Starts.{starts_from}
-use Rattle.esr_flow.specs.Graph.{arcs_of, network_of}
+use Rattle.esr_flow.specs.ResidualGraph.{arcs_of, network_of}
 use Rattle.esr_flow.specs.Reached.{AreReached, IsKeptOver}
 use Rattle.esr_flow.proofs.reach.pass_chains.Given as goal
 

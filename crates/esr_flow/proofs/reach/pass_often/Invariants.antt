@@ -1,4 +1,4 @@
-use Rattle.esr_flow.specs.Graph.{network_of}
+use Rattle.esr_flow.specs.ResidualGraph.{network_of}
 use Rattle.esr_flow.specs.Reached.{AreReached}
 use Rattle.esr_flow.proofs.reach.pass_often.Given as goal
 

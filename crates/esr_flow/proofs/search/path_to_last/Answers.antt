@@ -10,6 +10,6 @@ loop-at-preserved c =
     let earlier = c.requires.earlier c.loop-at.at pos c.loop-at.invariant.in_visits in
     record {
       in_visits = omega (arith, earlier, c.loop-at.invariant.in_visits);
-      back = λ net flow found. subst (λ p. Back net flow visits p (visit_at visits c.loop-at.at).parent) (sym c.in_ok-push.ensures.items)
-          (back_more net flow visits found c.loop-at.path.items c.loop-at.at pos (c.loop-at.invariant.back net flow found));
+      opposite_has_residual = λ net flow found. subst (λ p. Back net flow visits p (visit_at visits c.loop-at.at).parent) (sym c.in_ok-push.ensures.items)
+          (back_more net flow visits found c.loop-at.path.items c.loop-at.at pos (c.loop-at.invariant.opposite_has_residual net flow found));
     }

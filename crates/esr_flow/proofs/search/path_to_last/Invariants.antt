@@ -7,7 +7,7 @@ use Rattle.esr_flow.proofs.search.path_to_last.Given as goal
 abbrev pub invariant-loop-at : goal.invariant-loop-at
 invariant-loop-at l = record {
   in_visits : l.at < length l.visits;
-  back : (net : Network) (flow : List ℕ) → FoundSink net flow l.visits → Back net flow l.visits l.path.items l.at;
+  opposite_has_residual : (net : Network) (flow : List ℕ) → FoundSink net flow l.visits → Back net flow l.visits l.path.items l.at;
 }
 
 abbrev pub decreases-loop-at : goal.decreases-loop-at

@@ -1,4 +1,4 @@
-use Rattle.esr_flow.specs.Graph.{network_of}
+use Rattle.esr_flow.specs.ResidualGraph.{network_of}
 use Rattle.esr_flow.proofs.ScanLaws.{Scanning}
 use Rattle.esr_flow.proofs.search.scan.Given as goal
 

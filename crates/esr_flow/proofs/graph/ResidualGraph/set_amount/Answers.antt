@@ -1,14 +1,14 @@
 use Rattle.std.proofs.Common.{◌≡◌, ℕ, List, arith, get_or, get_or-set_same, set, sym, ◌∙◌}
 use Rattle.std.specs.Cmp.{booleans_Decides}
-use Rattle.esr_flow.specs.Graph.{arcs_of}
+use Rattle.esr_flow.specs.ResidualGraph.{arcs_of}
 use Rattle.esr_flow.proofs.EntriesLaws.{renewed, unchanged, along_is, against_is}
-use Rattle.esr_flow.proofs.graph.Graph.set_amount.Goals as goal
+use Rattle.esr_flow.proofs.graph.ResidualGraph.set_amount.Goals as goal
 
-pub returns-then-back_now-back-clause-entries : goal.returns-then-back_now-back-clause-entries
-returns-then-back_now-back-clause-entries c =
+pub returns-then-back_now-opposite_has_residual-clause-entries : goal.returns-then-back_now-opposite_has_residual-clause-entries
+returns-then-back_now-opposite_has_residual-clause-entries c =
     unchanged c.args.self.now c.args.flow.now c.args.entries.now c.args.arc c.args.amount c.arc-ends.result (omega (arith, c.requires.arc, c.requires.flow)) c.arc-ends.ensures c.requires.entries
-    (sym c.have_capacity-ahead.ensures.ahead ∙ sym ((booleans_Decides c.have_capacity-ahead_now.result.0 c.have_capacity-ahead.result.0).0 c.if-ahead_now-ahead.true) ∙ c.have_capacity-ahead_now.ensures.ahead)
-    (sym c.have_capacity-ahead.ensures.back ∙ sym ((booleans_Decides c.have_capacity-ahead_now.result.1 c.have_capacity-ahead.result.1).0 c.if-back_now-back.true) ∙ c.have_capacity-ahead_now.ensures.back)
+    (sym c.have_capacity-has_residual.ensures.has_residual ∙ sym ((booleans_Decides c.have_capacity-ahead_now.result.0 c.have_capacity-has_residual.result.0).0 c.if-ahead_now-has_residual.true) ∙ c.have_capacity-ahead_now.ensures.has_residual)
+    (sym c.have_capacity-has_residual.ensures.opposite_has_residual ∙ sym ((booleans_Decides c.have_capacity-ahead_now.result.1 c.have_capacity-has_residual.result.1).0 c.if-back_now-opposite_has_residual.true) ∙ c.have_capacity-ahead_now.ensures.opposite_has_residual)
 
 pub returns-clause-entries : goal.returns-clause-entries
 returns-clause-entries c =

@@ -146,7 +146,7 @@ fn gather_into<M: Metric>(
     requires none { pairs.old.items ≡ [] }
     ensures ascending { OnOk result (AllPairs IsLexLess pairs.new.items) }
     ensures conflicting { OnOk result (AreConflicts (update_operations history.now.schedule updates.now) pairs.new.items) }
-    ensures next { OnOk result ((x : ℕ) → AreNextPaired pairs.new.items
+    ensures successive_writers_paired { OnOk result ((x : ℕ) → AreNextPaired pairs.new.items
         (filter (λ s. s.writes) (on_item x (update_operations history.now.schedule updates.now)))) }
     ensures len { OnOk result (length chains.new ≡ length chains.old) }
     ensures chains { OnOk result (map chain_view chains.new
@@ -171,7 +171,7 @@ fn gather_into<M: Metric>(
 
 /// Gathers the pairs and chains of updates in one backward scan. `writers` has the capacities to reserve for the chains
 /// of the items, or is empty.
-pub fn gather<M: Metric>(
+pub fn pairs_and_chains<M: Metric>(
     alloc: Global,
     history: &History<M>,
     rows: &AccessRows,
@@ -182,7 +182,7 @@ pub fn gather<M: Metric>(
     requires within_max { length updates.now ≤ MAX_TRANSACTIONS }
     ensures ascending { IfOk result (λ g. AllPairs IsLexLess g.pairs.items) }
     ensures conflicting { IfOk result (λ g. AreConflicts (update_operations history.now.schedule updates.now) g.pairs.items) }
-    ensures next { IfOk result (λ g. (x : ℕ) → AreNextPaired g.pairs.items
+    ensures successive_writers_paired { IfOk result (λ g. (x : ℕ) → AreNextPaired g.pairs.items
         (filter (λ s. s.writes) (on_item x (update_operations history.now.schedule updates.now)))) }
     ensures chains { IfOk result (λ g. map chain_view g.chains.items
         ≡ map (λ x. chain_from (last_by_update (update_operations history.now.schedule updates.now) x)

@@ -1,7 +1,7 @@
 use Rattle.std.proofs.Common.{◌∙◌, ap, length, map}
 use Rattle.esr_order.specs.Chains.{chain_view}
 use Rattle.esr_order.proofs.Lists.{written_back}
-use Rattle.esr_order.proofs.operations.gather.Goals as goal
+use Rattle.esr_order.proofs.backward_scan.pairs_and_chains.Goals as goal
 
 pub returns-clause-chains : goal.returns-clause-chains
 returns-clause-chains g c =

@@ -1,11 +1,11 @@
 use Rattle.std.proofs.Common.{◌≡◌, Contains, ◌∙◌, ap, sym, subst}
 use Rattle.esr_cert.specs.Steps.{start}
 use Rattle.esr_cert.specs.Rows.{row_in, span_at}
-use Rattle.esr_flow.specs.Graph.{arcs_of}
+use Rattle.esr_flow.specs.ResidualGraph.{arcs_of}
 use Rattle.esr_flow.specs.Residual.{finish}
 use Rattle.esr_flow.proofs.WalkLaws.{opposite_finish}
 use Rattle.esr_flow.proofs.EntriesLaws.{in_row}
-use Rattle.esr_flow.proofs.graph.Graph.place_of.Goals as goal
+use Rattle.esr_flow.proofs.graph.ResidualGraph.place_of.Goals as goal
 
 pub place_of-requires-clause-starts : goal.place_of-requires-clause-starts
 place_of-requires-clause-starts c =

@@ -2,7 +2,7 @@ use Rattle.std.proofs.Common.{◌≡◌, ℕ, zero, suc, ◌+◌, ◌<◌, List,
 use Rattle.std.proofs.lemmas.List.{length-append, map_push}
 use Rattle.esr_order.specs.Chains.{chain_view}
 use Rattle.esr_order.specs.Later.{no_one, SummarizeLater}
-use Rattle.esr_order.proofs.operations.empty_scan.Goals as goal
+use Rattle.esr_order.proofs.backward_scan.empty_scan.Goals as goal
 
 -- one more equal element
 same_more : {X : Type 0} (xs : List X) (d : X) → ((x : ℕ) → x < length xs → slice_index_or xs x d ≡ d) → (x : ℕ) → x < length (xs ++ d ∷ []) → slice_index_or (xs ++ d ∷ []) x d ≡ d

@@ -1,7 +1,7 @@
 use Rattle.std.proofs.Common.{◌≡◌, length, map}
 use Rattle.esr_order.specs.Chains.{chain_view}
 use Rattle.esr_order.proofs.Gathering.{IsGathered}
-use Rattle.esr_order.proofs.operations.gather_into.Given as goal
+use Rattle.esr_order.proofs.backward_scan.gather_into.Given as goal
 
 -- the state for the updates from the position on
 abbrev pub invariant-loop-i : goal.invariant-loop-i

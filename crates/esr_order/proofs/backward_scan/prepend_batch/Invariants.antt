@@ -3,7 +3,7 @@ use Rattle.esr_order.specs.UpdateOperations.{UpdateOperation}
 use Rattle.esr_order.specs.Batches.{operation_at}
 use Rattle.esr_order.specs.Chains.{chain_view}
 use Rattle.esr_order.specs.Later.{batch_conflicts, SummarizeLater}
-use Rattle.esr_order.proofs.operations.prepend_batch.Given as goal
+use Rattle.esr_order.proofs.backward_scan.prepend_batch.Given as goal
 
 -- the chains and readers with the accesses so far, and the conflicts found for these
 abbrev pub invariant-loop-i : goal.invariant-loop-i

@@ -1,7 +1,7 @@
 use Rattle.std.proofs.Common.{◌≡◌, [], length, map}
 use Rattle.esr_order.specs.Chains.{chain_view}
 use Rattle.esr_order.specs.Later.{SummarizeLater}
-use Rattle.esr_order.proofs.operations.empty_scan.Given as goal
+use Rattle.esr_order.proofs.backward_scan.empty_scan.Given as goal
 
 -- the items so far
 abbrev pub invariant-loop-x : goal.invariant-loop-x

@@ -4,7 +4,7 @@ use Rattle.esr_order.specs.Batches.{operation_at}
 use Rattle.esr_order.specs.Chains.{chain_view}
 use Rattle.esr_order.specs.Later.{batch_conflicts, SummarizeLater}
 use Rattle.esr_order.proofs.Gathering.{no_access, batch_later, batch_conflicting}
-use Rattle.esr_order.proofs.operations.prepend_batch.Goals as goal
+use Rattle.esr_order.proofs.backward_scan.prepend_batch.Goals as goal
 
 pub loop-i-preserved : goal.loop-i-preserved
 loop-i-preserved c =

@@ -1,8 +1,8 @@
 use Rattle.std.proofs.Common.{◌≡◌, arith, get_or, length, refl, subst}
 use Rattle.esr_cert.specs.Rows.{first_steps}
-use Rattle.esr_flow.specs.Graph.{arcs_of}
+use Rattle.esr_flow.specs.ResidualGraph.{arcs_of}
 use Rattle.esr_flow.proofs.FillLaws.{ArePut, along_within, along_bounded, against_within, against_bounded, put_both, all_put}
-use Rattle.esr_flow.proofs.graph.Graph.entries.Goals as goal
+use Rattle.esr_flow.proofs.graph.ResidualGraph.entries.Goals as goal
 
 pub of-none-requires : goal.of-none-requires
 of-none-requires c = omega arith

@@ -10,7 +10,7 @@ use Rattle.esr_order.specs.Chains.{chain_from, last_by_update, reversed_chain, c
 use Rattle.esr_order.specs.Later.{batch_conflicts}
 use Rattle.esr_order.proofs.Accessed.{accesses_inside}
 use Rattle.esr_order.proofs.Gathering.{no_txn, rest, gathered_more, gathered_ascending, gathered_conflicting, gathered_next, gathered_chains}
-use Rattle.esr_order.proofs.operations.gather_into.Goals as goal
+use Rattle.esr_order.proofs.backward_scan.gather_into.Goals as goal
 
 pub prepend_batch-requires-clause-linked : goal.prepend_batch-requires-clause-linked
 prepend_batch-requires-clause-linked g c =
@@ -49,8 +49,8 @@ pub returns-clause-conflicting : goal.returns-clause-conflicting
 returns-clause-conflicting g c = subst (AreConflicts (batches (operations c.args.history.now.schedule) 0 (map (λ t. t.0) c.args.updates.now))) (sym c.reverse.ensures.items)
     (gathered_conflicting c.args.history.now.schedule c.args.updates.now c.loop-i.i (omega (arith, c.loop-i-test.false)) (map chain_view c.loop-i.chains) (map (λ r. r.items) c.loop-i.readers) c.loop-i.pairs.items c.loop-i.invariant.2)
 
-pub returns-clause-next : goal.returns-clause-next
-returns-clause-next g c = λ x. subst (λ l. AreNextPaired l (filter (λ s. s.writes) (on_item x (batches (operations c.args.history.now.schedule) 0 (map (λ t. t.0) c.args.updates.now))))) (sym c.reverse.ensures.items)
+pub returns-clause-successive_writers_paired : goal.returns-clause-successive_writers_paired
+returns-clause-successive_writers_paired g c = λ x. subst (λ l. AreNextPaired l (filter (λ s. s.writes) (on_item x (batches (operations c.args.history.now.schedule) 0 (map (λ t. t.0) c.args.updates.now))))) (sym c.reverse.ensures.items)
     (gathered_next c.args.history.now.schedule c.args.updates.now c.loop-i.i (omega (arith, c.loop-i-test.false)) (map chain_view c.loop-i.chains) (map (λ r. r.items) c.loop-i.readers) c.loop-i.pairs.items c.loop-i.invariant.2 x)
 
 pub returns-clause-len : goal.returns-clause-len
