@@ -1,4 +1,4 @@
--- The values that updates leave, and the lines of reads.
+-- The values that updates leave, and the reads compared with them.
 use Rattle.std.proofs.Common.{◌≡◌, ℕ, zero, suc, ℤ, pos, ◌+◌, ◌<◌, ◌≤◌, Bool, true, false, not, ◌&&◌, eqb, cond, if◌then◌else◌, List, [], ◌∷◌, ◌++◌, length, get_or, set, take, map, filter, flat_map, refl, sym, ◌∙◌, ap, subst, arith, ⊎_elim, Option, Some, None, All, append-nil, get_or-set_same, get_or-set_other, length-set}
 use Rattle.std.specs.List.{filter_map, cons_option, AllByRecursion}
 use Rattle.std.proofs.lemmas.Bool.{cases_eq, cases_lt, eq-eqb, ne_eqb}
@@ -6,6 +6,7 @@ use Rattle.std.proofs.lemmas.Grind.{flat_map-append}
 use Rattle.std.proofs.lemmas.List.{map-append, set_past, take_more}
 use Rattle.std.proofs.lemmas.List.Elements.{filter_map-append, recursion_from_All, All-from_recursion}
 use Rattle.esr_items.specs.Values.{value_at, IsValue}
+use Rattle.esr_base.specs.declared.numbers.ItemId.{ItemId}
 use Rattle.esr_base.specs.declared.numbers.TxnId.{TxnId}
 use Rattle.esr_history.specs.declared.event.Event.{Event}
 use Rattle.esr_history.specs.declared.event.Event.TheVariants.{BeginUpdate, BeginQuery, Read, Write, Commit, Abort}
@@ -22,7 +23,9 @@ use Rattle.esr_order.proofs.Entries.{accepts}
 use Rattle.esr_audit.proofs.ProblemRanges.{state_in_range}
 use Rattle.esr_order.specs.declared.accesses.Access.{Access}
 use Rattle.esr_order.specs.Scans.{access_of, accesses_in}
-use Rattle.esr_explain.specs.AccessLines.{access_line, put, put_all}
+use Rattle.esr_explain.specs.declared.reads.ComparedRead.{ComparedRead}
+use Rattle.esr_explain.specs.Explain.{compared_access}
+use Rattle.esr_explain.specs.ValuesAfter.{put, put_all}
 
 abbrev by : ℕ → Operation → Bool
 by t o = eqb o.txn t
@@ -122,26 +125,29 @@ left_by h us x l = put_all_value (flat_map (accesses_in h.entries) us) h.opening
 abbrev pub IsInside : ℕ → ℕ → ℤ → Type 0
 IsInside n x v = IsValue v × (x < n)
 
--- the lines of the reads among the accesses of q are those of its reads
-reads_of : (q : ℕ) (f : ℕ → ℤ → List ℕ) (os : List Operation)
-    → flat_map (λ (a : Access). if a.writes then [] else f a.item.0 a.value) (accesses_by q os) ≡ flat_map (λ (o : Operation). f o.item o.value) (filter (λ (o : Operation). not o.writes && (eqb o.txn q)) os)
+-- the reads among the accesses of q are its reads
+reads_of : (q : ℕ) (f : ItemId → ℤ → ComparedRead) (os : List Operation)
+    → flat_map (λ (a : Access). if a.writes then [] else f a.item a.value ∷ []) (accesses_by q os)
+    ≡ map (λ (o : Operation). f (record { 0 = o.item }) o.value) (filter (λ (o : Operation). not o.writes && (eqb o.txn q)) os)
 reads_of q f [] = refl
 reads_of q f (o ∷ os) = grind (arith, eqb, reads_of q f os, filter, flat_map, map, cond, filter (by q) os)
 
-pub reads_are_within : (h : Schedule) (q : ℕ) (f : ℕ → ℤ → List ℕ) → flat_map (λ (a : Access). if a.writes then [] else f a.item.0 a.value) (accesses_in h.entries q) ≡ flat_map (λ (o : Operation). f o.item o.value) (reads_by h q)
+pub reads_are_within : (h : Schedule) (q : ℕ) (f : ItemId → ℤ → ComparedRead)
+    → flat_map (λ (a : Access). if a.writes then [] else f a.item a.value ∷ []) (accesses_in h.entries q)
+    ≡ map (λ (o : Operation). f (record { 0 = o.item }) o.value) (reads_by h q)
 reads_are_within h q f = reads_of q f (operations h)
 
--- the lines of one access more
-pub lines_more : (f : Access → List ℕ) (xs : List Access) (k : ℕ) (d : Access) → k < length xs → flat_map f (take (k + 1) xs) ≡ flat_map f (take k xs) ++ f (get_or xs k d)
-lines_more f xs k d l =
+-- the reads of one access more
+pub reads_more : (f : Access → List ComparedRead) (xs : List Access) (k : ℕ) (d : Access) → k < length xs → flat_map f (take (k + 1) xs) ≡ flat_map f (take k xs) ++ f (get_or xs k d)
+reads_more f xs k d l =
     ap (flat_map f) (take_more xs k d l) ∙ (flat_map-append f (take k xs) (get_or xs k d ∷ []) ∙ ap (λ l. flat_map f (take k xs) ++ l) (append-nil (f (get_or xs k d))))
 
--- the lines of accesses to some items, with values that agree there
-pub lines_agree : (D : ℕ → ℤ → ℤ → ℕ) (items : List (List ℕ)) (v w : ℕ → ℤ) (n : ℕ) → ((x : ℕ) → x < n → v x ≡ w x)
-    → (xs : List Access) → AllByRecursion (λ (a : Access). IsInside n a.item.0 a.value) xs → flat_map (access_line D items v) xs ≡ flat_map (access_line D items w) xs
-lines_agree D items v w n same [] all = refl
-lines_agree D items v w n same (a ∷ xs) all =
-    grind (arith, flat_map (access_line D items v) xs, lines_agree D items v w n same xs all.1)
+-- the reads among accesses to some items, with values that agree there
+pub reads_agree : (D : ℕ → ℤ → ℤ → ℕ) (v w : ℕ → ℤ) (n : ℕ) → ((x : ℕ) → x < n → v x ≡ w x)
+    → (xs : List Access) → AllByRecursion (λ (a : Access). IsInside n a.item.0 a.value) xs → flat_map (compared_access D v) xs ≡ flat_map (compared_access D w) xs
+reads_agree D v w n same [] all = refl
+reads_agree D v w n same (a ∷ xs) all =
+    grind (arith, flat_map (compared_access D v) xs, reads_agree D v w n same xs all.1)
 
 -- ---- ranges
 

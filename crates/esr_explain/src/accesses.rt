@@ -3,7 +3,7 @@
 ghost use Rattle.std.specs.Prelude.{◌≡◌, ◌<◌, ℕ, All, IfOk, map, length};
 ghost use Rattle.esr_items.specs.Values.{value_at, IsValue};
 ghost use Rattle.esr_history.specs.Serial.{state};
-ghost use Rattle.esr_explain.specs.AccessLines.{put_all};
+ghost use Rattle.esr_explain.specs.ValuesAfter.{put_all};
 
 use esr_history::{History, TxnId};
 use esr_items::Weighted;

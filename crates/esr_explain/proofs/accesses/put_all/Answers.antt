@@ -2,7 +2,7 @@ use Rattle.std.proofs.Common.{◌≡◌, ◌∙◌, ap, arith, get_or, length, p
 use Rattle.std.proofs.lemmas.Int.{to_z-of_z}
 use Rattle.esr_audit.proofs.Gathered.{value_fits}
 use Rattle.esr_order.specs.declared.accesses.Access.{Access}
-use Rattle.esr_explain.specs.AccessLines.{put}
+use Rattle.esr_explain.specs.ValuesAfter.{put}
 use Rattle.esr_explain.proofs.Accessed.{put_more, put_none, put_one}
 use Rattle.esr_explain.proofs.accesses.put_all.Goals as goal
 use Rattle.esr_explain.proofs.accesses.put_all.Goals.{then-access+then-x-len, else-access, else-access-via-then-access+else-x-len, else-access-via-else-access}

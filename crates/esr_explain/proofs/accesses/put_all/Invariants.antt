@@ -1,5 +1,5 @@
 use Rattle.std.proofs.Common.{◌≡◌, take}
-use Rattle.esr_explain.specs.AccessLines.{put_all}
+use Rattle.esr_explain.specs.ValuesAfter.{put_all}
 use Rattle.esr_explain.proofs.accesses.put_all.Given as goal
 
 -- the values after the accesses so far

@@ -1,7 +1,7 @@
 use Rattle.std.proofs.Common.{◌≡◌, ◌∙◌, flat_map, map, arith, take_all}
 use Rattle.esr_base.specs.declared.numbers.TxnId.{TxnId}
 use Rattle.esr_order.specs.Scans.{accesses_in}
-use Rattle.esr_explain.specs.AccessLines.{put_all}
+use Rattle.esr_explain.specs.ValuesAfter.{put_all}
 use Rattle.esr_explain.proofs.Accessed.{accesses_valued, left_by, left_in_range, put_update}
 use Rattle.esr_explain.proofs.accesses.values_after.Goals as goal
 

@@ -1,6 +1,6 @@
 use Rattle.std.proofs.Common.{◌≡◌, flat_map, map, take}
 use Rattle.esr_order.specs.Scans.{accesses_in}
-use Rattle.esr_explain.specs.AccessLines.{put_all}
+use Rattle.esr_explain.specs.ValuesAfter.{put_all}
 use Rattle.esr_explain.proofs.accesses.values_after.Given as goal
 
 -- the values after the updates so far
