@@ -29,7 +29,7 @@ pub struct TransientRead<'a> {
     pub value: i64,
     pub writer: &'a str,
     /// The reason, as text that follows the writer's name.
-    pub writer_outcome: &'static str,
+    pub reason: &'static str,
     /// True if a part of the lane has that value, written by another update.
     pub has_piece: bool,
 }
