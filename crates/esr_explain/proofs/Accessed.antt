@@ -25,7 +25,7 @@ use Rattle.esr_order.specs.declared.accesses.Access.{Access}
 use Rattle.esr_order.specs.Scans.{access_of, accesses_in}
 use Rattle.esr_explain.specs.declared.reads.ComparedRead.{ComparedRead}
 use Rattle.esr_explain.specs.Explain.{compared_access}
-use Rattle.esr_explain.specs.ValuesAfter.{put, put_all}
+use Rattle.esr_explain.specs.ValuesAfter.{apply_access, apply_accesses}
 
 abbrev by : ℕ → Operation → Bool
 by t o = eqb o.txn t
@@ -62,19 +62,19 @@ values_put_all h x [] = refl
 values_put_all h x (u ∷ us) =
     grind (arith, filter_map-append, flat_map (accesses_in h.entries) us, values_put h x u, values_put_all h x us)
 
-pub put_length : (vs : List ℤ) (a : Access) → length (put vs a) ≡ length vs
+pub put_length : (vs : List ℤ) (a : Access) → length (apply_access vs a) ≡ length vs
 put_length vs a = grind (arith, set vs a.item.0 a.value, length-set)
 
-pub put_all_length : (vs : List ℤ) (xs : List Access) → length (put_all vs xs) ≡ length vs
+pub put_all_length : (vs : List ℤ) (xs : List Access) → length (apply_accesses vs xs) ≡ length vs
 put_all_length vs [] = refl
-put_all_length vs (a ∷ xs) = put_all_length (put vs a) xs ∙ put_length vs a
+put_all_length vs (a ∷ xs) = put_all_length (apply_access vs a) xs ∙ put_length vs a
 
 -- the value of item x after some accesses is the last that they write there
-pub put_all_value : (xs : List Access) (vs : List ℤ) (x : ℕ) → x < length vs → value_at (put_all vs xs) x ≡ last_value (value_at vs x) (filter_map (put_in x) xs)
+pub put_all_value : (xs : List Access) (vs : List ℤ) (x : ℕ) → x < length vs → value_at (apply_accesses vs xs) x ≡ last_value (value_at vs x) (filter_map (put_in x) xs)
 put_all_value [] vs x l = refl
 put_all_value (a ∷ xs) vs x l =
-    let same : length (put vs a) ≡ length vs = put_length vs a in
-    put_all_value xs (put vs a) x (omega (arith, same, l)) ∙ one a.writes a.item.0 a.value
+    let same : length (apply_access vs a) ≡ length vs = put_length vs a in
+    put_all_value xs (apply_access vs a) x (omega (arith, same, l)) ∙ one a.writes a.item.0 a.value
   where
     R : List ℤ
     R = filter_map (put_in x) xs
@@ -84,31 +84,31 @@ put_all_value (a ∷ xs) vs x l =
     one true i v =
         grind (arith, ⊎_elim, set, get_or-set_same vs x v (pos 0) l, pos 0, eq-eqb, get_or-set_other, ne_eqb, cases_eq i x)
 
-pub put_append : (vs : List ℤ) (xs bs : List Access) → put_all vs (xs ++ bs) ≡ put_all (put_all vs xs) bs
+pub put_append : (vs : List ℤ) (xs bs : List Access) → apply_accesses vs (xs ++ bs) ≡ apply_accesses (apply_accesses vs xs) bs
 put_append vs [] bs = refl
-put_append vs (a ∷ xs) bs = put_append (put vs a) xs bs
+put_append vs (a ∷ xs) bs = put_append (apply_access vs a) xs bs
 
-pub put_more : (vs : List ℤ) (xs : List Access) (k : ℕ) (d : Access) → k < length xs → put_all vs (take (k + 1) xs) ≡ put (put_all vs (take k xs)) (get_or xs k d)
-put_more vs xs k d l = ap (put_all vs) (take_more xs k d l) ∙ put_append vs (take k xs) (get_or xs k d ∷ [])
+pub put_more : (vs : List ℤ) (xs : List Access) (k : ℕ) (d : Access) → k < length xs → apply_accesses vs (take (k + 1) xs) ≡ apply_access (apply_accesses vs (take k xs)) (get_or xs k d)
+put_more vs xs k d l = ap (apply_accesses vs) (take_more xs k d l) ∙ put_append vs (take k xs) (get_or xs k d ∷ [])
 
 -- the effect of one more update's accesses
 pub put_update : (h : Schedule) (us : List TxnId) (k : ℕ) (d : TxnId) → k < length us
-    → put_all (put_all h.opening (flat_map (accesses_in h.entries) (map (λ (t : TxnId). t.0) (take k us)))) (accesses_in h.entries (get_or us k d).0)
-    ≡ put_all h.opening (flat_map (accesses_in h.entries) (map (λ (t : TxnId). t.0) (take (k + 1) us)))
+    → apply_accesses (apply_accesses h.opening (flat_map (accesses_in h.entries) (map (λ (t : TxnId). t.0) (take k us)))) (accesses_in h.entries (get_or us k d).0)
+    ≡ apply_accesses h.opening (flat_map (accesses_in h.entries) (map (λ (t : TxnId). t.0) (take (k + 1) us)))
 put_update h us k d l =
     let A : ℕ → List Access = accesses_in h.entries in let u : TxnId = get_or us k d in
     let before : List ℕ = map (λ (t : TxnId). t.0) (take k us) in
     sym (put_append h.opening (flat_map A before) (A u.0))
-    ∙ ap (put_all h.opening)
+    ∙ ap (apply_accesses h.opening)
     (ap (λ l. flat_map A before ++ l) (sym (append-nil (A u.0)))
     ∙ (sym (flat_map-append A before (u.0 ∷ []))
     ∙ ap (flat_map A) (sym (map-append (λ (t : TxnId). t.0) (take k us) (u ∷ [])) ∙ ap (map (λ (t : TxnId). t.0)) (sym (take_more us k d l)))))
 
 -- the effect of one more access
-pub put_one : (vs : List ℤ) (a : Access) → a.writes ≡ true → set vs a.item.0 a.value ≡ put vs a
+pub put_one : (vs : List ℤ) (a : Access) → a.writes ≡ true → set vs a.item.0 a.value ≡ apply_access vs a
 put_one vs a w = sym (ap (λ (b : Bool). if b then set vs a.item.0 a.value else vs) w)
 
-pub put_none : (vs : List ℤ) (a : Access) → (a.writes ≡ true → length vs ≤ a.item.0) → vs ≡ put vs a
+pub put_none : (vs : List ℤ) (a : Access) → (a.writes ≡ true → length vs ≤ a.item.0) → vs ≡ apply_access vs a
 put_none vs a past = at a.writes refl
   where
     at : (w : Bool) → a.writes ≡ w → vs ≡ (if w then set vs a.item.0 a.value else vs)
@@ -116,7 +116,7 @@ put_none vs a past = at a.writes refl
     at false is = refl
 
 -- the values after some updates
-pub left_by : (h : Schedule) (us : List ℕ) (x : ℕ) → x < length h.opening → value_at (put_all h.opening (flat_map (accesses_in h.entries) us)) x ≡ state h us x
+pub left_by : (h : Schedule) (us : List ℕ) (x : ℕ) → x < length h.opening → value_at (apply_accesses h.opening (flat_map (accesses_in h.entries) us)) x ≡ state h us x
 left_by h us x l = put_all_value (flat_map (accesses_in h.entries) us) h.opening x l ∙ ap (last_value (value_at h.opening x)) (values_put_all h x us)
 
 -- ---- reads
@@ -177,12 +177,12 @@ module _ (d : DistanceFunction) (h : Schedule) (opened : All IsValue h.opening) 
   accesses_valued t = grind (arith, All-from_recursion, accesses_inside t)
 
   -- the values after updates are in range
-  pub left_in_range : (us : List ℕ) (x : ℕ) → IsValue (value_at (put_all h.opening (flat_map (accesses_in h.entries) us)) x)
+  pub left_in_range : (us : List ℕ) (x : ℕ) → IsValue (value_at (apply_accesses h.opening (flat_map (accesses_in h.entries) us)) x)
   left_in_range us x = ⊎_elim
       (λ l. subst IsValue (sym (left_by h us x l)) (state_in_range h (legal_within_ranges d h opened legal) opened us x))
       (λ past.
-      let long : length (put_all h.opening (flat_map (accesses_in h.entries) us)) ≡ length h.opening = put_all_length h.opening (flat_map (accesses_in h.entries) us) in
-      beyond (put_all h.opening (flat_map (accesses_in h.entries) us)) x (omega (arith, long, past)))
+      let long : length (apply_accesses h.opening (flat_map (accesses_in h.entries) us)) ≡ length h.opening = put_all_length h.opening (flat_map (accesses_in h.entries) us) in
+      beyond (apply_accesses h.opening (flat_map (accesses_in h.entries) us)) x (omega (arith, long, past)))
       (cases_lt x (length h.opening))
     where
       beyond : (vs : List ℤ) (x : ℕ) → length vs ≤ x → IsValue (value_at vs x)
