@@ -5,7 +5,7 @@ ghost use Rattle.esr_audit.specs.Findings.{summary, summary_of};
 ghost use Rattle.esr_explain.specs.Explain.{explanation, explanation_lines, sums_line};
 
 use crate::charges::push_charges;
-use crate::explanation::Explanation;
+use crate::explained::Explanation;
 use crate::reads::push_reads;
 use esr_audit::Finding;
 use esr_history::{History, NoMemory};

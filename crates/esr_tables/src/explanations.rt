@@ -54,7 +54,10 @@ struct ScriptNames<'a> {
 /// Returns the fields of a read.
 fn read_fields<'a>(names: ScriptNames<'a>, read: ComparedRead) -> [Field<'a>; 4] {
     [
-        ("item", FieldValue::Word(name_of_item(names.items, read.item))),
+        (
+            "item",
+            FieldValue::Word(name_of_item(names.items, read.item)),
+        ),
         ("value", FieldValue::Value(read.value)),
         ("nearest", FieldValue::Value(read.nearest)),
         ("off", FieldValue::Amount(read.off)),
@@ -74,9 +77,15 @@ fn charge_fields<'a>(names: ScriptNames<'a>, charge: Charge) -> [Field<'a>; 9] {
     let meeting = charge.meeting;
     let update = name_of_transaction(names.transactions, meeting.update);
     [
-        ("operation", FieldValue::Word(operation_word(meeting.operation))),
+        (
+            "operation",
+            FieldValue::Word(operation_word(meeting.operation)),
+        ),
         ("update", FieldValue::Word(update)),
-        ("item", FieldValue::Word(name_of_item(names.items, meeting.item))),
+        (
+            "item",
+            FieldValue::Word(name_of_item(names.items, meeting.item)),
+        ),
         ("amount", FieldValue::Amount(charge.amount)),
         ("step", FieldValue::Amount(charge.step)),
         ("import_left", FieldValue::Amount(charge.import_left)),

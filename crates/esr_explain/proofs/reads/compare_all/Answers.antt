@@ -1,4 +1,4 @@
-use Rattle.std.proofs.Common.{◌≡◌, ◌∙◌, ◌+◌, ◌++◌, ◌∷◌, Bool, List, [], ℕ, ℤ, ap, append-nil, flat_map, get_or, if◌then◌else◌, of_z, pos, subst, sym, take, to_z, w64, arith, take_all}
+use Rattle.std.proofs.Common.{◌≡◌, ◌∙◌, ◌+◌, ◌++◌, ◌∷◌, Bool, List, [], ℕ, ℤ, ap, append-nil, false, flat_map, get_or, if◌then◌else◌, of_z, pos, subst, sym, take, to_z, w64, arith, take_all}
 use Rattle.std.proofs.lemmas.Int.{to_z-of_z}
 use Rattle.esr_items.specs.Values.{value_at, IsValue}
 use Rattle.esr_items.specs.Weights.{weighted}

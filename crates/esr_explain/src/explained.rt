@@ -1,5 +1,5 @@
 //! An explanation as data, which texts, CSV and JSON render.
-ghost use Rattle.std.specs.Prelude.{◌≡◌, ◌×◌, IfOk, map};
+ghost use Rattle.std.specs.Prelude.{◌≡◌, IfOk, map};
 ghost use Rattle.esr_items.specs.Weights.{weighted};
 ghost use Rattle.esr_explain.specs.Explain.{charges, compared_reads, others};
 
