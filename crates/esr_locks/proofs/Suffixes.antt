@@ -1,5 +1,5 @@
 -- The effect of an edit of a list on the elements after the first s.
-use Rattle.std.proofs.Common.{◌≡◌, ℕ, ◌+◌, ◌<◌, ◌≤◌, List, [], ◌∷◌, length, refl, ap, arith, zero, suc, drop, set}
+use Rattle.std.proofs.Common.{◌≡◌, ℕ, ◌+◌, ◌*◌, ◌<◌, ◌≤◌, List, [], ◌∷◌, ◌++◌, length, length-drop, refl, ap, subst, arith, zero, suc, drop, set}
 use Rattle.std.specs.List.{insert, remove}
 use Rattle.esr_history.specs.Ascending.{IsAscendingBy, IsPlaceOf}
 use Rattle.esr_history.proofs.Ascending.{others, others_at}
@@ -36,3 +36,15 @@ module _ {X : Type 0} where
 pub others_removed : {X : Type 0} (key : X → ℕ) (t i : ℕ) (xs : List X) → IsAscendingBy key xs → IsPlaceOf key xs t i → others key t xs ≡ remove xs i
 others_removed key t i [] asc place = absurd (omega (arith, place.in_range))
 others_removed key t i (x ∷ xs) asc place = others_at key t i (x ∷ xs) x asc place
+
+-- a list at most half of which is dropped is empty if nothing is left
+pub nothing_dropped : {X : Type 0} (s : ℕ) (xs : List X) → 2 * s ≤ length xs → drop s xs ≡ [] → s ≡ 0
+nothing_dropped s xs half none =
+    let left : length (drop s xs) ≡ 0 = ap length none in
+    omega (arith, half, left, length-drop s xs)
+
+pub nothing_left : {X : Type 0} (s : ℕ) (xs : List X) (x : X) → 2 * s ≤ length xs → drop s xs ≡ [] → drop s (xs ++ x ∷ []) ≡ x ∷ []
+nothing_left s xs x half none =
+    let zero_dropped : s ≡ 0 = nothing_dropped s xs half none in
+    let empty : xs ≡ [] = subst (λ n. drop n xs ≡ []) zero_dropped none in
+    rw (zero_dropped, empty) refl

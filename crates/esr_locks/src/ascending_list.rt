@@ -2,10 +2,10 @@
 //!
 //! Transactions often end in the order of their begins, and then each end removes the first row of a list. In a long
 //! list, this increments the number of rows that are unused, and moves no other row. Once more than half of the rows are
-//! unused, the others are moved to the front. So a removal of the first row moves at most one row on average, and a
-//! list allocates at most twice the memory that its rows need. A short list has no unused rows.
+//! unused, the others are moved to the front. So a removal of the first row of a long list moves at most one row on
+//! average, and at most half of the rows are unused. A list with at most one row has no unused rows.
 
-ghost use Rattle.std.specs.Prelude.{◌≡◌, ℕ, ◌+◌, ◌*◌, ◌<◌, ◌≤◌, ◌==◌, [], drop, length, filter, not, IfOk, IfErr, slice_set};
+ghost use Rattle.std.specs.Prelude.{◌≡◌, ℕ, ◌+◌, ◌*◌, ◌<◌, ◌≤◌, ◌==◌, [], ◌∷◌, drop, length, filter, not, IfOk, IfErr, slice_set};
 ghost use Rattle.std.specs.List.{insert, remove};
 ghost use Rattle.smallvec.specs.SmallVec.{HasRoomFor};
 ghost use Rattle.esr_history.specs.Ascending.{IsAscendingBy, IsPlaceOf, IsGapFor};
@@ -136,6 +136,16 @@ impl<R: MadeWith<Global> + Copy + Drop, const N: usize> AscendingList<R, N> {
         ensures { Reserves self.old self.new result }
     {
         reserve_one(&mut self.rows)
+    }
+
+    /// Inserts the first row into an empty list. The capacity must be reserved.
+    #[inline(always)]
+    pub fn insert_only(&mut self, row: R)
+        requires empty { self.old.items ≡ [] }
+        requires spare_capacity { HasRoomFor self.old 1 }
+        ensures { self.new.items ≡ row ∷ [] }
+    {
+        self.rows.push_reserved(row);
     }
 
     /// Inserts a row at an index. The capacity must be reserved.

@@ -151,7 +151,7 @@ pub fn add_reader(readers: &mut Readers, t: TxnId) -> bool
     ensures is_new { result ≡ not (list_any (λ r. r.update.0 == t.0) readers.old.items) }
 {
     if readers.is_empty() {
-        readers.insert(0, Reader { update: t });
+        readers.insert_only(Reader { update: t });
         return true;
     }
     add_among(readers, t)
