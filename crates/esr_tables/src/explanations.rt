@@ -283,21 +283,30 @@ fn explanation_json(
     Ok(out)
 }
 
+/// Returns the explanation of an audited query as a table.
+fn explanation_table(
+    alloc: Global,
+    data: Data,
+    audited: &AuditedQuery,
+) -> Result<Vec<u8>, AllocError> {
+    let names = ScriptNames {
+        items: &audited.items,
+        transactions: &audited.transactions,
+    };
+    let Ok(explained) = Explanation::of(alloc, &audited.history, &audited.finding) else {
+        return Err(AllocError);
+    };
+    let table = match data {
+        Data::Csv => explanation_csv(alloc, names, &explained)?,
+        Data::Json => explanation_json(alloc, names, audited.finding.query, &explained)?,
+    };
+    Ok(table.into_bytes())
+}
+
 impl QueryView for ExplanationTable {
     ghost IsTextOf = { λ _ _ _ _. Unit {0} };
 
     fn text_of(&self, alloc: Global, audited: &mut AuditedQuery) -> Result<Vec<u8>, AllocError> {
-        let names = ScriptNames {
-            items: &audited.items,
-            transactions: &audited.transactions,
-        };
-        let Ok(explained) = Explanation::of(alloc, &audited.history, &audited.finding) else {
-            return Err(AllocError);
-        };
-        let table = match self.data {
-            Data::Csv => explanation_csv(alloc, names, &explained)?,
-            Data::Json => explanation_json(alloc, names, audited.finding.query, &explained)?,
-        };
-        Ok(table.into_bytes())
+        explanation_table(alloc, self.data, audited)
     }
 }
