@@ -1,4 +1,4 @@
--- The values that updates leave, and the lines of reads.
+-- The values that updates leave, and the reads compared with them.
 use Rattle.std.proofs.Common.{◌≡◌, ℕ, zero, suc, ℤ, pos, ◌+◌, ◌<◌, ◌≤◌, Bool, true, false, not, ◌&&◌, eqb, cond, if◌then◌else◌, List, [], ◌∷◌, ◌++◌, length, get_or, set, take, map, filter, flat_map, refl, sym, ◌∙◌, ap, subst, arith, ⊎_elim, Option, Some, None, All, append-nil, get_or-set_same, get_or-set_other, length-set}
 use Rattle.std.specs.List.{filter_map, cons_option, AllByRecursion}
 use Rattle.std.proofs.lemmas.Bool.{cases_eq, cases_lt, eq-eqb, ne_eqb}
@@ -6,6 +6,7 @@ use Rattle.std.proofs.lemmas.Grind.{flat_map-append}
 use Rattle.std.proofs.lemmas.List.{map-append, set_past, take_more}
 use Rattle.std.proofs.lemmas.List.Elements.{filter_map-append, recursion_from_All, All-from_recursion}
 use Rattle.esr_items.specs.Values.{value_at, IsValue}
+use Rattle.esr_base.specs.declared.numbers.ItemId.{ItemId}
 use Rattle.esr_base.specs.declared.numbers.TxnId.{TxnId}
 use Rattle.esr_history.specs.declared.event.Event.{Event}
 use Rattle.esr_history.specs.declared.event.Event.TheVariants.{BeginUpdate, BeginQuery, Read, Write, Commit, Abort}
@@ -22,7 +23,9 @@ use Rattle.esr_order.proofs.Entries.{accepts}
 use Rattle.esr_audit.proofs.ProblemRanges.{state_in_range}
 use Rattle.esr_order.specs.declared.accesses.Access.{Access}
 use Rattle.esr_order.specs.Scans.{access_of, accesses_in}
-use Rattle.esr_explain.specs.AccessLines.{access_line, put, put_all}
+use Rattle.esr_explain.specs.declared.reads.ComparedRead.{ComparedRead}
+use Rattle.esr_explain.specs.Explain.{compared_access}
+use Rattle.esr_explain.specs.ValuesAfter.{apply_access, apply_accesses}
 
 abbrev by : ℕ → Operation → Bool
 by t o = eqb o.txn t
@@ -59,19 +62,19 @@ values_put_all h x [] = refl
 values_put_all h x (u ∷ us) =
     grind (arith, filter_map-append, flat_map (accesses_in h.entries) us, values_put h x u, values_put_all h x us)
 
-pub put_length : (vs : List ℤ) (a : Access) → length (put vs a) ≡ length vs
+pub put_length : (vs : List ℤ) (a : Access) → length (apply_access vs a) ≡ length vs
 put_length vs a = grind (arith, set vs a.item.0 a.value, length-set)
 
-pub put_all_length : (vs : List ℤ) (xs : List Access) → length (put_all vs xs) ≡ length vs
+pub put_all_length : (vs : List ℤ) (xs : List Access) → length (apply_accesses vs xs) ≡ length vs
 put_all_length vs [] = refl
-put_all_length vs (a ∷ xs) = put_all_length (put vs a) xs ∙ put_length vs a
+put_all_length vs (a ∷ xs) = put_all_length (apply_access vs a) xs ∙ put_length vs a
 
 -- the value of item x after some accesses is the last that they write there
-pub put_all_value : (xs : List Access) (vs : List ℤ) (x : ℕ) → x < length vs → value_at (put_all vs xs) x ≡ last_value (value_at vs x) (filter_map (put_in x) xs)
+pub put_all_value : (xs : List Access) (vs : List ℤ) (x : ℕ) → x < length vs → value_at (apply_accesses vs xs) x ≡ last_value (value_at vs x) (filter_map (put_in x) xs)
 put_all_value [] vs x l = refl
 put_all_value (a ∷ xs) vs x l =
-    let same : length (put vs a) ≡ length vs = put_length vs a in
-    put_all_value xs (put vs a) x (omega (arith, same, l)) ∙ one a.writes a.item.0 a.value
+    let same : length (apply_access vs a) ≡ length vs = put_length vs a in
+    put_all_value xs (apply_access vs a) x (omega (arith, same, l)) ∙ one a.writes a.item.0 a.value
   where
     R : List ℤ
     R = filter_map (put_in x) xs
@@ -81,31 +84,31 @@ put_all_value (a ∷ xs) vs x l =
     one true i v =
         grind (arith, ⊎_elim, set, get_or-set_same vs x v (pos 0) l, pos 0, eq-eqb, get_or-set_other, ne_eqb, cases_eq i x)
 
-pub put_append : (vs : List ℤ) (xs bs : List Access) → put_all vs (xs ++ bs) ≡ put_all (put_all vs xs) bs
+pub put_append : (vs : List ℤ) (xs bs : List Access) → apply_accesses vs (xs ++ bs) ≡ apply_accesses (apply_accesses vs xs) bs
 put_append vs [] bs = refl
-put_append vs (a ∷ xs) bs = put_append (put vs a) xs bs
+put_append vs (a ∷ xs) bs = put_append (apply_access vs a) xs bs
 
-pub put_more : (vs : List ℤ) (xs : List Access) (k : ℕ) (d : Access) → k < length xs → put_all vs (take (k + 1) xs) ≡ put (put_all vs (take k xs)) (get_or xs k d)
-put_more vs xs k d l = ap (put_all vs) (take_more xs k d l) ∙ put_append vs (take k xs) (get_or xs k d ∷ [])
+pub put_more : (vs : List ℤ) (xs : List Access) (k : ℕ) (d : Access) → k < length xs → apply_accesses vs (take (k + 1) xs) ≡ apply_access (apply_accesses vs (take k xs)) (get_or xs k d)
+put_more vs xs k d l = ap (apply_accesses vs) (take_more xs k d l) ∙ put_append vs (take k xs) (get_or xs k d ∷ [])
 
 -- the effect of one more update's accesses
 pub put_update : (h : Schedule) (us : List TxnId) (k : ℕ) (d : TxnId) → k < length us
-    → put_all (put_all h.opening (flat_map (accesses_in h.entries) (map (λ (t : TxnId). t.0) (take k us)))) (accesses_in h.entries (get_or us k d).0)
-    ≡ put_all h.opening (flat_map (accesses_in h.entries) (map (λ (t : TxnId). t.0) (take (k + 1) us)))
+    → apply_accesses (apply_accesses h.opening (flat_map (accesses_in h.entries) (map (λ (t : TxnId). t.0) (take k us)))) (accesses_in h.entries (get_or us k d).0)
+    ≡ apply_accesses h.opening (flat_map (accesses_in h.entries) (map (λ (t : TxnId). t.0) (take (k + 1) us)))
 put_update h us k d l =
     let A : ℕ → List Access = accesses_in h.entries in let u : TxnId = get_or us k d in
     let before : List ℕ = map (λ (t : TxnId). t.0) (take k us) in
     sym (put_append h.opening (flat_map A before) (A u.0))
-    ∙ ap (put_all h.opening)
+    ∙ ap (apply_accesses h.opening)
     (ap (λ l. flat_map A before ++ l) (sym (append-nil (A u.0)))
     ∙ (sym (flat_map-append A before (u.0 ∷ []))
     ∙ ap (flat_map A) (sym (map-append (λ (t : TxnId). t.0) (take k us) (u ∷ [])) ∙ ap (map (λ (t : TxnId). t.0)) (sym (take_more us k d l)))))
 
 -- the effect of one more access
-pub put_one : (vs : List ℤ) (a : Access) → a.writes ≡ true → set vs a.item.0 a.value ≡ put vs a
+pub put_one : (vs : List ℤ) (a : Access) → a.writes ≡ true → set vs a.item.0 a.value ≡ apply_access vs a
 put_one vs a w = sym (ap (λ (b : Bool). if b then set vs a.item.0 a.value else vs) w)
 
-pub put_none : (vs : List ℤ) (a : Access) → (a.writes ≡ true → length vs ≤ a.item.0) → vs ≡ put vs a
+pub put_none : (vs : List ℤ) (a : Access) → (a.writes ≡ true → length vs ≤ a.item.0) → vs ≡ apply_access vs a
 put_none vs a past = at a.writes refl
   where
     at : (w : Bool) → a.writes ≡ w → vs ≡ (if w then set vs a.item.0 a.value else vs)
@@ -113,7 +116,7 @@ put_none vs a past = at a.writes refl
     at false is = refl
 
 -- the values after some updates
-pub left_by : (h : Schedule) (us : List ℕ) (x : ℕ) → x < length h.opening → value_at (put_all h.opening (flat_map (accesses_in h.entries) us)) x ≡ state h us x
+pub left_by : (h : Schedule) (us : List ℕ) (x : ℕ) → x < length h.opening → value_at (apply_accesses h.opening (flat_map (accesses_in h.entries) us)) x ≡ state h us x
 left_by h us x l = put_all_value (flat_map (accesses_in h.entries) us) h.opening x l ∙ ap (last_value (value_at h.opening x)) (values_put_all h x us)
 
 -- ---- reads
@@ -122,26 +125,29 @@ left_by h us x l = put_all_value (flat_map (accesses_in h.entries) us) h.opening
 abbrev pub IsInside : ℕ → ℕ → ℤ → Type 0
 IsInside n x v = IsValue v × (x < n)
 
--- the lines of the reads among the accesses of q are those of its reads
-reads_of : (q : ℕ) (f : ℕ → ℤ → List ℕ) (os : List Operation)
-    → flat_map (λ (a : Access). if a.writes then [] else f a.item.0 a.value) (accesses_by q os) ≡ flat_map (λ (o : Operation). f o.item o.value) (filter (λ (o : Operation). not o.writes && (eqb o.txn q)) os)
+-- the reads among the accesses of q are its reads
+reads_of : (q : ℕ) (f : ItemId → ℤ → ComparedRead) (os : List Operation)
+    → flat_map (λ (a : Access). if a.writes then [] else f a.item a.value ∷ []) (accesses_by q os)
+    ≡ map (λ (o : Operation). f (record { 0 = o.item }) o.value) (filter (λ (o : Operation). not o.writes && (eqb o.txn q)) os)
 reads_of q f [] = refl
 reads_of q f (o ∷ os) = grind (arith, eqb, reads_of q f os, filter, flat_map, map, cond, filter (by q) os)
 
-pub reads_are_within : (h : Schedule) (q : ℕ) (f : ℕ → ℤ → List ℕ) → flat_map (λ (a : Access). if a.writes then [] else f a.item.0 a.value) (accesses_in h.entries q) ≡ flat_map (λ (o : Operation). f o.item o.value) (reads_by h q)
+pub reads_are_within : (h : Schedule) (q : ℕ) (f : ItemId → ℤ → ComparedRead)
+    → flat_map (λ (a : Access). if a.writes then [] else f a.item a.value ∷ []) (accesses_in h.entries q)
+    ≡ map (λ (o : Operation). f (record { 0 = o.item }) o.value) (reads_by h q)
 reads_are_within h q f = reads_of q f (operations h)
 
--- the lines of one access more
-pub lines_more : (f : Access → List ℕ) (xs : List Access) (k : ℕ) (d : Access) → k < length xs → flat_map f (take (k + 1) xs) ≡ flat_map f (take k xs) ++ f (get_or xs k d)
-lines_more f xs k d l =
+-- the reads of one access more
+pub reads_more : (f : Access → List ComparedRead) (xs : List Access) (k : ℕ) (d : Access) → k < length xs → flat_map f (take (k + 1) xs) ≡ flat_map f (take k xs) ++ f (get_or xs k d)
+reads_more f xs k d l =
     ap (flat_map f) (take_more xs k d l) ∙ (flat_map-append f (take k xs) (get_or xs k d ∷ []) ∙ ap (λ l. flat_map f (take k xs) ++ l) (append-nil (f (get_or xs k d))))
 
--- the lines of accesses to some items, with values that agree there
-pub lines_agree : (D : ℕ → ℤ → ℤ → ℕ) (items : List (List ℕ)) (v w : ℕ → ℤ) (n : ℕ) → ((x : ℕ) → x < n → v x ≡ w x)
-    → (xs : List Access) → AllByRecursion (λ (a : Access). IsInside n a.item.0 a.value) xs → flat_map (access_line D items v) xs ≡ flat_map (access_line D items w) xs
-lines_agree D items v w n same [] all = refl
-lines_agree D items v w n same (a ∷ xs) all =
-    grind (arith, flat_map (access_line D items v) xs, lines_agree D items v w n same xs all.1)
+-- the reads among accesses to some items, with values that agree there
+pub reads_agree : (D : ℕ → ℤ → ℤ → ℕ) (v w : ℕ → ℤ) (n : ℕ) → ((x : ℕ) → x < n → v x ≡ w x)
+    → (xs : List Access) → AllByRecursion (λ (a : Access). IsInside n a.item.0 a.value) xs → flat_map (compared_access D v) xs ≡ flat_map (compared_access D w) xs
+reads_agree D v w n same [] all = refl
+reads_agree D v w n same (a ∷ xs) all =
+    grind (arith, flat_map (compared_access D v) xs, reads_agree D v w n same xs all.1)
 
 -- ---- ranges
 
@@ -171,12 +177,12 @@ module _ (d : DistanceFunction) (h : Schedule) (opened : All IsValue h.opening) 
   accesses_valued t = grind (arith, All-from_recursion, accesses_inside t)
 
   -- the values after updates are in range
-  pub left_in_range : (us : List ℕ) (x : ℕ) → IsValue (value_at (put_all h.opening (flat_map (accesses_in h.entries) us)) x)
+  pub left_in_range : (us : List ℕ) (x : ℕ) → IsValue (value_at (apply_accesses h.opening (flat_map (accesses_in h.entries) us)) x)
   left_in_range us x = ⊎_elim
       (λ l. subst IsValue (sym (left_by h us x l)) (state_in_range h (legal_within_ranges d h opened legal) opened us x))
       (λ past.
-      let long : length (put_all h.opening (flat_map (accesses_in h.entries) us)) ≡ length h.opening = put_all_length h.opening (flat_map (accesses_in h.entries) us) in
-      beyond (put_all h.opening (flat_map (accesses_in h.entries) us)) x (omega (arith, long, past)))
+      let long : length (apply_accesses h.opening (flat_map (accesses_in h.entries) us)) ≡ length h.opening = put_all_length h.opening (flat_map (accesses_in h.entries) us) in
+      beyond (apply_accesses h.opening (flat_map (accesses_in h.entries) us)) x (omega (arith, long, past)))
       (cases_lt x (length h.opening))
     where
       beyond : (vs : List ℤ) (x : ℕ) → length vs ≤ x → IsValue (value_at vs x)

@@ -1,7 +1,8 @@
 -- The explanation of a committed query of a history.
-use Rattle.std.specs.Prelude.{ℕ, ℤ, ◌+◌, ◌-◌, ◌==◌, List, [], ◌∷◌, ◌++◌, not, Option, Some, None, codes, decimal, length, filter, nat_lt, slice_get, slice_index_or, if◌then◌else◌, option_map}
+use Rattle.std.specs.Prelude.{ℕ, ℤ, ◌+◌, ◌-◌, ◌==◌, List, [], ◌∷◌, ◌++◌, map, not, Option, Some, None, codes, decimal, length, filter, nat_lt, slice_get, slice_index_or, if◌then◌else◌, option_map}
 use Rattle.std.specs.List.{filter_map, flat_map, range_with_len}
 use Rattle.std.specs.Fmt.{signed_decimal}
+use Rattle.esr_base.specs.declared.numbers.ItemId.{ItemId}
 use Rattle.esr_history.specs.declared.event.Event.{Event}
 use Rattle.esr_history.specs.declared.event.Event.TheVariants.{Read, Write}
 use Rattle.esr_history.specs.declared.event.Entry.{Entry}
@@ -9,6 +10,7 @@ use Rattle.esr_history.specs.Events.{limit_of}
 use Rattle.esr_history.specs.Machine.{DistanceFunction, Schedule, accepted_in, value_distance, writer, charges_in, import_in, export_in}
 use Rattle.esr_history.specs.Serial.{state}
 use Rattle.esr_history.specs.Queries.{updates_of, reads_by}
+use Rattle.esr_order.specs.declared.accesses.Access.{Access}
 use Rattle.esr_order.specs.Least.{least_set, least_cost}
 use Rattle.esr_order.specs.Placements.{is_among}
 use Rattle.esr_replay.specs.Replays.{until}
@@ -18,6 +20,7 @@ use Rattle.esr_explain.specs.declared.charges.Operation.{Operation}
 use Rattle.esr_explain.specs.declared.charges.Operation.TheVariants as operation
 use Rattle.esr_explain.specs.declared.charges.Meeting.{Meeting}
 use Rattle.esr_explain.specs.declared.charges.Charge.{Charge}
+use Rattle.esr_explain.specs.declared.reads.ComparedRead.{ComparedRead}
 
 -- items are numbered from 0
 abbrev pub name_of_item : List (List ℕ) → ℕ → List ℕ
@@ -25,21 +28,28 @@ name_of_item items x = slice_index_or items x []
 
 -- ---- reads
 
--- with this word for the item
-abbrev pub named_read_line : (item : List ℕ) → (value nearest : ℤ) → (off : ℕ) → List ℕ
-named_read_line item value nearest off = line (
-    codes "read" ∷ item ∷ signed_decimal value ∷ codes "nearest" ∷ signed_decimal nearest ∷ codes "off"
-    ∷ decimal off ∷ []
+-- a value read of an item, the nearest one, and their distance
+abbrev pub compared_read : (ℕ → ℤ → ℤ → ℕ) → ItemId → (value nearest : ℤ) → ComparedRead
+compared_read d x value nearest = record { item = x; value = value; nearest = nearest; off = d x.0 value nearest }
+
+-- the reads of q, in order, with the values that the updates us leave
+abbrev pub compared_reads : DistanceFunction → Schedule → ℕ → (us : List ℕ) → List ComparedRead
+compared_reads d h q us =
+    map (λ o. compared_read (value_distance d h) (record { 0 = o.item }) o.value (state h us o.item)) (reads_by h q)
+
+-- the reads among an access: itself or none, with these values of the items
+abbrev pub compared_access : (ℕ → ℤ → ℤ → ℕ) → (values : ℕ → ℤ) → Access → List ComparedRead
+compared_access d values a = if a.writes then [] else compared_read d a.item a.value (values a.item.0) ∷ []
+
+-- the line of a read with this text for the item
+abbrev pub named_read_line : (item : List ℕ) → ComparedRead → List ℕ
+named_read_line item r = line (
+    codes "read" ∷ item ∷ signed_decimal r.value ∷ codes "nearest" ∷ signed_decimal r.nearest ∷ codes "off"
+    ∷ decimal r.off ∷ []
     )
 
--- the line of a value read of item x and the nearest one: the two, and their distance
-abbrev pub read_line : (ℕ → ℤ → ℤ → ℕ) → (items : List (List ℕ)) → (x : ℕ) → (value nearest : ℤ) → List ℕ
-read_line d items x value nearest = named_read_line (name_of_item items x) value nearest (d x value nearest)
-
--- the lines of the reads of q, in order, with the values that the updates us leave
-abbrev pub read_lines : DistanceFunction → Schedule → (items : List (List ℕ)) → ℕ → (us : List ℕ) → List ℕ
-read_lines d h items q us =
-    flat_map (λ o. read_line (value_distance d h) items o.item o.value (state h us o.item)) (reads_by h q)
+abbrev pub read_line : (items : List (List ℕ)) → ComparedRead → List ℕ
+read_line items r = named_read_line (name_of_item items r.item.0) r
 
 -- the updates of q but for these, in commit order
 abbrev pub others : Schedule → ℕ → List ℕ → List ℕ
@@ -113,12 +123,18 @@ charge_line items transactions c =
 abbrev pub sums_line : ℕ → ℕ → List ℕ
 sums_line distance import = line (codes "distance" ∷ decimal distance ∷ codes "import" ∷ decimal import ∷ [])
 
--- The reads of q, with the values of the nearest placement; the charges to q, in order; the updates before that
--- placement, and the others; and the sums.
+-- the lines of an explanation: reads, charges, the updates before the nearest placement and the others, and the sums
+abbrev pub explanation_lines : (items transactions : List (List ℕ)) → List ComparedRead → List Charge
+    → (before after : List ℕ) → (distance import : ℕ) → List ℕ
+explanation_lines items transactions reads charges before after distance import =
+    flat_map (read_line items) reads
+    ++ flat_map (charge_line items transactions) charges
+    ++ names_line (codes "before") transactions before
+    ++ names_line (codes "after") transactions after
+    ++ sums_line distance import
+
+-- the explanation of q, with the values of its nearest placement
 abbrev pub explanation : DistanceFunction → Schedule → (items transactions : List (List ℕ)) → ℕ → List ℕ
 explanation d h items transactions q =
-    read_lines d h items q (least_set d h q)
-    ++ flat_map (charge_line items transactions) (charges d h q)
-    ++ names_line (codes "before") transactions (least_set d h q)
-    ++ names_line (codes "after") transactions (others h q (least_set d h q))
-    ++ sums_line (least_cost d h q) (import_in (charges_in d h) q)
+    explanation_lines items transactions (compared_reads d h q (least_set d h q)) (charges d h q) (least_set d h q)
+    (others h q (least_set d h q)) (least_cost d h q) (import_in (charges_in d h) q)

@@ -1,5 +1,5 @@
 -- The explanation of a committed query, and the output of explaining one of a script.
 
-pub mod AccessLines
 pub mod Explain
 pub mod Output
+pub mod ValuesAfter

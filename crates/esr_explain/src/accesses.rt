@@ -3,7 +3,7 @@
 ghost use Rattle.std.specs.Prelude.{◌≡◌, ◌<◌, ℕ, All, IfOk, map, length};
 ghost use Rattle.esr_items.specs.Values.{value_at, IsValue};
 ghost use Rattle.esr_history.specs.Serial.{state};
-ghost use Rattle.esr_explain.specs.AccessLines.{put_all};
+ghost use Rattle.esr_explain.specs.ValuesAfter.{apply_accesses};
 
 use esr_history::{History, TxnId};
 use esr_items::Weighted;
@@ -12,9 +12,9 @@ use std::alloc::{AllocError, Global};
 
 /// Sets the values of the items to those after these accesses.
 #[tactic(auto, using(std::proofs::lemmas::List::take_all))]
-fn put_all(values: &mut Vec<i64>, accesses: &[Access])
+fn apply_accesses(values: &mut Vec<i64>, accesses: &[Access])
     requires { All (λ a. IsValue a.value) accesses.now }
-    ensures { values.new.items ≡ put_all values.old.items accesses.now }
+    ensures { values.new.items ≡ apply_accesses values.old.items accesses.now }
 {
     for access in accesses {
         let x = access.item.0 as usize;
@@ -38,7 +38,7 @@ pub fn values_after(
     let mut values = history.opening_values().to_vec(alloc)?;
     for u in updates {
         let accesses = accesses_of(alloc, history, *u)?;
-        put_all(&mut values, &accesses);
+        apply_accesses(&mut values, &accesses);
     }
     Ok(values)
 }

@@ -6,10 +6,14 @@
 
 mod accesses;
 mod charges;
+mod explained;
 mod others;
 mod query;
 mod reads;
 mod text;
 
+pub use charges::{Charge, Operation, name_of_item};
+pub use explained::Explanation;
 pub use query::Explaining;
+pub use reads::ComparedRead;
 pub use text::explanation;

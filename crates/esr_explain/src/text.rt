@@ -1,11 +1,11 @@
 //! The text of an explanation, in its order: reads, charges, before, after, sums.
-ghost use Rattle.std.specs.Prelude.{◌≡◌, ◌++◌, IfOk, OnOk};
+ghost use Rattle.std.specs.Prelude.{◌≡◌, ◌++◌, IfOk, OnOk, map};
 ghost use Rattle.esr_items.specs.Weights.{weighted};
 ghost use Rattle.esr_audit.specs.Findings.{summary, summary_of};
-ghost use Rattle.esr_explain.specs.Explain.{explanation, sums_line};
+ghost use Rattle.esr_explain.specs.Explain.{explanation, explanation_lines, sums_line};
 
-use crate::charges::{charges_of, push_charges};
-use crate::others::others;
+use crate::charges::push_charges;
+use crate::explained::Explanation;
 use crate::reads::push_reads;
 use esr_audit::Finding;
 use esr_history::{History, NoMemory};
@@ -27,7 +27,27 @@ fn sums_line(out: &mut Vec<u8>, distance: u64, import: u64) -> Result<(), AllocE
     push_line(out, "distance", &words)
 }
 
-/// Returns the explanation of a query with this finding.
+/// Returns the text of an explanation.
+fn text_of(
+    alloc: Global,
+    items: &Names,
+    transactions: &Names,
+    explained: &Explanation<'_>,
+) -> Result<Vec<u8>, AllocError>
+    ensures { IfOk result (λ v. v.items ≡ explanation_lines items.now transactions.now explained.now.reads.items
+        explained.now.charges.items (map (λ t. t.0) explained.now.before.now) (map (λ t. t.0) explained.now.after.items)
+        explained.now.distance explained.now.import) }
+{
+    let mut out = Vec::new(alloc);
+    push_reads(&mut out, items, &explained.reads)?;
+    push_charges(&mut out, items, transactions, &explained.charges)?;
+    names_line(&mut out, "before", transactions, explained.before)?;
+    names_line(&mut out, "after", transactions, &explained.after)?;
+    sums_line(&mut out, explained.distance, explained.import)?;
+    Ok(out)
+}
+
+/// Returns the text of the explanation of a query with this finding.
 pub fn explanation(
     alloc: Global,
     items: &Names,
@@ -39,20 +59,6 @@ pub fn explanation(
         → IfOk result
         (λ v. v.items ≡ explanation weighted history.now.schedule items.now transactions.now finding.now.query.0) }
 {
-    let mut out = Vec::new(alloc);
-    push_reads(
-        alloc,
-        &mut out,
-        items,
-        history,
-        finding.query,
-        &finding.before,
-    )?;
-    let charges = charges_of(alloc, history, finding.query)?;
-    push_charges(&mut out, items, transactions, &charges)?;
-    names_line(&mut out, "before", transactions, &finding.before)?;
-    let after = others(alloc, history, finding.query, &finding.before)?;
-    names_line(&mut out, "after", transactions, &after)?;
-    sums_line(&mut out, finding.distance, finding.import)?;
-    Ok(out)
+    let explained = Explanation::of(alloc, history, finding)?;
+    Ok(text_of(alloc, items, transactions, &explained)?)
 }

@@ -1,4 +1,5 @@
 -- The effect of changes of rows on the whole table. The machine uses `Least`.
 
 pub mod Least
+pub mod Suffixes
 pub mod Tables

@@ -12,10 +12,7 @@ ghost use Rattle.esr_locks.specs.Tables.{no_locks, is_writer, is_reader, has_upd
 ghost use Rattle.std.specs.List.{AllByRecursion};
 ghost use Rattle.std.specs.Option.{option_map};
 
-use crate::lists::{
-    Queries, QueryReads, Readers, add_reader, count_read, drop_row, is_reader, other_reader,
-    reserve_one,
-};
+use crate::lists::{Queries, QueryReads, Readers, add_reader, count_read, is_reader, other_reader};
 use crate::mode::{Mode, conflicts};
 use esr_history::TxnId;
 use std::alloc::{AllocError, Global};
@@ -103,7 +100,7 @@ impl LockEntry {
         ensures ascending { IsAscendingBy (λ r. r.query.0) result.now }
         ensures upper_bound { All (λ r. r.count ≤ MAX_READS) result.now }
     {
-        &self.queries
+        self.queries.as_slice()
     }
 
     /// Returns the smallest reader other than `t` if read locks conflict with this mode.
@@ -112,7 +109,7 @@ impl LockEntry {
             (option_map (λ u. u.0) result) }
     {
         if conflicts(Mode::Read, asked) {
-            other_reader(&self.readers, t)
+            other_reader(self.readers.as_slice(), t)
         } else {
             None
         }
@@ -148,8 +145,8 @@ impl LockEntry {
         ensures ok { OnOk result (0 < self.new.spare_capacity) }
         ensures no_capacity { OnErr result (self.old.spare_capacity ≡ 0) }
     {
-        reserve_one(&mut self.readers)?;
-        reserve_one(&mut self.queries)?;
+        self.readers.reserve()?;
+        self.queries.reserve()?;
         Ok(())
     }
 
@@ -172,7 +169,7 @@ impl LockEntry {
         ensures is_new { result ≡ not (has_update_lock self.old.locks t.0) }
     {
         let has_written = writer_is(self.writer, t);
-        let has_read = is_reader(&self.readers, t);
+        let has_read = is_reader(self.readers.as_slice(), t);
         self.writer = Some(t);
         !(has_written | has_read)
     }
@@ -207,7 +204,7 @@ impl LockEntry {
         ensures { self.new.locks ≡ released t.0 self.old.locks }
     {
         self.writer = writer_unless(self.writer, t);
-        drop_row(&mut self.readers, t);
-        drop_row(&mut self.queries, t);
+        self.readers.drop_row(t);
+        self.queries.drop_row(t);
     }
 }

@@ -5,6 +5,7 @@
 //! can find the queries to charge.
 #![tactic(auto)]
 
+mod ascending_list;
 mod entry;
 mod lists;
 mod locked_items;

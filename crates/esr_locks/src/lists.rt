@@ -1,17 +1,18 @@
-//! Lists in ascending order of transaction numbers, searched by binary search.
+//! The readers of an item, and the queries that have read it.
 //!
 //! Most items never have more than a few readers, and otherwise the first lock on each item would need two allocations.
 //! So the row itself stores up to four readers and two queries, in the space that pointers to allocations would take.
 //! Most lists are empty or have one element, which is the one looked for. So that case is tested first, and the search
 //! is a separate function, since an inlined search would make each event save more registers.
 
-ghost use Rattle.std.specs.Prelude.{◌≡◌, ℕ, ◌<◌, ◌≤◌, ◌==◌, length, filter, find, not, All, IfOk, IfErr, option_map};
-ghost use Rattle.std.specs.List.{list_any, insert, AllByRecursion};
+ghost use Rattle.std.specs.Prelude.{◌≡◌, ℕ, ◌<◌, ◌≤◌, ◌==◌, length, filter, find, not, All, option_map};
+ghost use Rattle.std.specs.List.{list_any, AllByRecursion};
 ghost use Rattle.smallvec.specs.SmallVec.{HasRoomFor};
 ghost use Rattle.esr_base.specs.declared.limits.TheConstants.{MAX_READS};
-ghost use Rattle.esr_history.specs.Ascending.{IsAscendingBy, IsPlaceOf, IsGapFor, upserted};
+ghost use Rattle.esr_history.specs.Ascending.{IsAscendingBy, upserted};
 ghost use Rattle.esr_locks.specs.LockEntries.{Reserves, reader, first_reads, more_reads};
 
+use crate::ascending_list::AscendingList;
 use esr_history::TxnId;
 use smallvec::SmallVec;
 use std::alloc::{AllocError, Global};
@@ -77,10 +78,10 @@ impl Default for QueryReads {
 }
 
 /// Up to four readers are stored inline, more in an allocation.
-pub type Readers = SmallVec<Reader, 4>;
+pub type Readers = AscendingList<Reader, 4>;
 
 /// Up to two queries are stored inline, more in an allocation.
-pub type Queries = SmallVec<QueryReads, 2>;
+pub type Queries = AscendingList<QueryReads, 2>;
 
 /// Reserves capacity for one more element in a full list.
 #[inline(never)]
@@ -110,19 +111,6 @@ pub fn reserve_one<T: MadeWith<Global> + Drop, const N: usize>(
     grow(list)
 }
 
-/// Returns the index of a transaction's row in a list, or else the index at which to insert it.
-#[inline(always)]
-fn place_of<R: Numbered + MadeWith<Global>, const N: usize>(
-    entries: &SmallVec<R, N>,
-    t: TxnId,
-) -> Result<usize, usize>
-    requires { IsAscendingBy R.number entries.now.items }
-    ensures found { IfOk result (IsPlaceOf R.number entries.now.items t.0) }
-    ensures absent { IfErr result (IsGapFor R.number entries.now.items t.0) }
-{
-    entries.binary_search_by_key(&t.0, |r| r.number())
-}
-
 /// Returns the first reader other than `t`.
 pub fn other_reader(readers: &[Reader], t: TxnId) -> Option<TxnId>
     ensures { result ≡ option_map (λ r. r.update) (find (λ r. not (r.update.0 == t.0)) readers.now) }
@@ -137,20 +125,6 @@ pub fn is_reader(readers: &[Reader], t: TxnId) -> bool
     readers.iter().any(|r| r.update.0 == t.0)
 }
 
-/// Inserts an element at an index. The capacity must be reserved. Most elements go to the end, so that none is moved.
-#[inline(always)]
-fn put<T: MadeWith<Global> + Drop, const N: usize>(list: &mut SmallVec<T, N>, at: usize, element: T)
-    requires place { at ≤ length list.old.items }
-    requires spare_capacity { HasRoomFor list.old 1 }
-    ensures { list.new.items ≡ insert list.old.items at element }
-{
-    if at == list.len() {
-        list.push_reserved(element);
-    } else {
-        let _ = list.insert(at, element);
-    }
-}
-
 /// Adds a reader to a list that may have others. Returns whether it is new.
 #[inline(never)]
 fn add_among(readers: &mut Readers, t: TxnId) -> bool
@@ -159,10 +133,10 @@ fn add_among(readers: &mut Readers, t: TxnId) -> bool
     ensures items { readers.new.items ≡ upserted (λ r. r.update.0) t.0 (reader t) (λ r. r) readers.old.items }
     ensures is_new { result ≡ not (list_any (λ r. r.update.0 == t.0) readers.old.items) }
 {
-    match place_of(readers, t) {
+    match readers.place_of(t) {
         Ok(_) => false,
         Err(at) => {
-            put(readers, at, Reader { update: t });
+            readers.insert(at, Reader { update: t });
             true
         }
     }
@@ -177,7 +151,7 @@ pub fn add_reader(readers: &mut Readers, t: TxnId) -> bool
     ensures is_new { result ≡ not (list_any (λ r. r.update.0 == t.0) readers.old.items) }
 {
     if readers.is_empty() {
-        readers.push_reserved(Reader { update: t });
+        readers.insert_only(Reader { update: t });
         return true;
     }
     add_among(readers, t)
@@ -193,59 +167,16 @@ pub fn count_read(queries: &mut Queries, q: TxnId) -> bool
     ensures upper_bound { AllByRecursion (λ r. r.count ≤ MAX_READS) queries.new.items }
     ensures is_new { result ≡ not (list_any (λ r. r.query.0 == q.0) queries.old.items) }
 {
-    match place_of(queries, q) {
+    match queries.place_of(q) {
         Ok(at) => {
-            let reads = &mut queries[at];
+            let mut reads = queries.as_slice()[at];
             reads.count += 1;
+            queries.replace(at, reads);
             false
         }
         Err(at) => {
-            put(queries, at, QueryReads { query: q, count: 1 });
+            queries.insert(at, QueryReads { query: q, count: 1 });
             true
         }
-    }
-}
-
-/// Drops the only row, if it is of the transaction.
-#[inline(always)]
-fn drop_only<R: Numbered + MadeWith<Global> + Drop, const N: usize>(
-    entries: &mut SmallVec<R, N>,
-    t: TxnId,
-)
-    requires { length entries.old.items ≡ 1 }
-    ensures { entries.new.items ≡ filter (λ r. not (R.number r == t.0)) entries.old.items }
-{
-    if entries[0].number() == t.0 {
-        let _ = entries.pop();
-    }
-}
-
-/// Drops the row of a transaction from a list that may have others.
-#[inline(never)]
-fn drop_among<R: Numbered + MadeWith<Global> + Drop, const N: usize>(
-    entries: &mut SmallVec<R, N>,
-    t: TxnId,
-)
-    requires { IsAscendingBy R.number entries.old.items }
-    ensures { entries.new.items ≡ filter (λ r. not (R.number r == t.0)) entries.old.items }
-{
-    if let Ok(at) = place_of(entries, t) {
-        let _ = entries.remove(at);
-    }
-}
-
-/// Drops the row of a transaction. Most lists are empty, or have no other row, and then there is nothing to search.
-#[inline(always)]
-pub fn drop_row<R: Numbered + MadeWith<Global> + Drop, const N: usize>(
-    entries: &mut SmallVec<R, N>,
-    t: TxnId,
-)
-    requires { IsAscendingBy R.number entries.old.items }
-    ensures { entries.new.items ≡ filter (λ r. not (R.number r == t.0)) entries.old.items }
-{
-    match entries.len() {
-        0 => {}
-        1 => drop_only(entries, t),
-        _ => drop_among(entries, t),
     }
 }

@@ -1,13 +1,13 @@
-//! The explanation of a query, for programs. The fields are the words of the explanation's own text, line by line,
-//! and nothing is recomputed: so the two cannot differ.
+//! The explanation of a query for programs: the record that the text for people renders too (`esr_explain`), as CSV and
+//! JSON.
 
 use crate::format::Data;
-use crate::words::push_word;
-use esr_explain::Explaining;
-use esr_report::name_of_transaction;
+use crate::words::{push_number, push_word};
+use esr_explain::{Charge, ComparedRead, Explanation, Operation, name_of_item};
+use esr_history::TxnId;
+use esr_report::{Names, name_of_transaction};
 use esr_views::{AuditedQuery, QueryView};
 use std::alloc::{AllocError, Global};
-use std::str::from_utf8;
 
 /// The explanation of a query.
 #[derive(Clone, Copy)]
@@ -15,29 +15,18 @@ pub struct ExplanationTable {
     pub data: Data,
 }
 
-/// A field, and the index of its word in the line, from 0.
-type Field = (&'static str, usize);
+/// The value of a field.
+#[derive(Clone, Copy)]
+enum FieldValue<'a> {
+    Word(&'a str),
+    Amount(u64),
+    Value(i64),
+}
 
-/// The fields of a read.
-const READ: [Field; 4] = [("item", 1), ("value", 2), ("nearest", 4), ("off", 6)];
+/// A field of a row: its name and its value.
+type Field<'a> = (&'static str, FieldValue<'a>);
 
-/// The fields of a charge.
-const CHARGE: [Field; 9] = [
-    ("operation", 1),
-    ("update", 2),
-    ("item", 3),
-    ("amount", 5),
-    ("step", 7),
-    ("import_left", 10),
-    ("import_limit", 12),
-    ("export_left", 15),
-    ("export_limit", 17),
-];
-
-/// The fields of the sums.
-const SUMS: [Field; 2] = [("distance", 1), ("import", 3)];
-
-/// The columns of an explanation after the first, which contains the kind of the row.
+/// The columns after the first, which contains the kind of the row.
 const COLUMNS: [&str; 14] = [
     "item",
     "value",
@@ -55,163 +44,269 @@ const COLUMNS: [&str; 14] = [
     "import",
 ];
 
-/// Returns the fields of a line, given its first word; none for a line that lists names.
-fn fields_of(first: &str) -> &'static [Field] {
-    match first {
-        "read" => &READ,
-        "charge" => &CHARGE,
-        "distance" => &SUMS,
-        _ => &[],
+/// The names of the items and the transactions of a script.
+#[derive(Clone, Copy)]
+struct ScriptNames<'a> {
+    items: &'a Names,
+    transactions: &'a Names,
+}
+
+/// Returns the fields of a read.
+fn read_fields<'a>(names: ScriptNames<'a>, read: ComparedRead) -> [Field<'a>; 4] {
+    [
+        (
+            "item",
+            FieldValue::Word(name_of_item(names.items, read.item)),
+        ),
+        ("value", FieldValue::Value(read.value)),
+        ("nearest", FieldValue::Value(read.nearest)),
+        ("off", FieldValue::Amount(read.off)),
+    ]
+}
+
+/// Returns the name of an operation.
+fn operation_word(operation: Operation) -> &'static str {
+    match operation {
+        Operation::Read => "read",
+        Operation::Write => "write",
     }
 }
 
-/// Returns a word of a line, counted from 0.
-fn word_at(line: &str, place: usize) -> &str {
-    line.split(' ').nth(place).unwrap_or("")
+/// Returns the fields of a charge.
+fn charge_fields<'a>(names: ScriptNames<'a>, charge: Charge) -> [Field<'a>; 9] {
+    let meeting = charge.meeting;
+    let update = name_of_transaction(names.transactions, meeting.update);
+    [
+        (
+            "operation",
+            FieldValue::Word(operation_word(meeting.operation)),
+        ),
+        ("update", FieldValue::Word(update)),
+        (
+            "item",
+            FieldValue::Word(name_of_item(names.items, meeting.item)),
+        ),
+        ("amount", FieldValue::Amount(charge.amount)),
+        ("step", FieldValue::Amount(charge.step)),
+        ("import_left", FieldValue::Amount(charge.import_left)),
+        ("import_limit", FieldValue::Amount(charge.import_limit)),
+        ("export_left", FieldValue::Amount(charge.export_left)),
+        ("export_limit", FieldValue::Amount(charge.export_limit)),
+    ]
 }
 
-/// Returns the names that a line lists after its first word.
-fn names_in(line: &str) -> &str {
-    match word_at(line, 1) {
-        "-" => "",
-        names => names,
-    }
+/// Returns the fields of the sums.
+fn sums_fields(explained: &Explanation<'_>) -> [Field<'static>; 2] {
+    [
+        ("distance", FieldValue::Amount(explained.distance)),
+        ("import", FieldValue::Amount(explained.import)),
+    ]
 }
 
-/// Returns the word of a line in a column, if it has one.
-fn word_in<'a>(line: &'a str, column: &str) -> &'a str {
-    for (field, place) in fields_of(word_at(line, 0)) {
-        if *field == column {
-            return word_at(line, *place);
+/// Appends a value that a read returned or would return.
+fn push_value(out: &mut String, value: i64) -> Result<(), AllocError> {
+    let mut digits = itoa::Buffer::new();
+    out.push_str(digits.format(value))
+}
+
+/// Appends the value of the field with this name, or nothing if no field has it.
+fn push_cell(out: &mut String, fields: &[Field<'_>], name: &str) -> Result<(), AllocError> {
+    for (field, value) in fields {
+        if *field == name {
+            return match *value {
+                FieldValue::Word(word) => out.push_str(word),
+                FieldValue::Amount(amount) => push_number(out, amount),
+                FieldValue::Value(value) => push_value(out, value),
+            };
         }
-    }
-    ""
-}
-
-/// Appends a row of an explanation as CSV.
-fn push_row(out: &mut String, line: &str) -> Result<(), AllocError> {
-    out.push_str(match word_at(line, 0) {
-        "distance" => "sums",
-        first => first,
-    })?;
-    for column in COLUMNS.iter() {
-        out.push_str(",")?;
-        out.push_str(word_in(line, column))?;
-    }
-    out.push_str("\n")
-}
-
-/// Appends a row for each name that a line lists.
-fn push_names(out: &mut String, line: &str) -> Result<(), AllocError> {
-    for name in names_in(line).split(',').filter(|name| !name.is_empty()) {
-        out.push_str(word_at(line, 0))?;
-        for column in COLUMNS.iter() {
-            out.push_str(",")?;
-            out.push_str(if *column == "update" { name } else { "" })?;
-        }
-        out.push_str("\n")?;
     }
     Ok(())
 }
 
-/// Returns an explanation as CSV.
-fn explanation_csv(alloc: Global, text: &str) -> Result<String, AllocError> {
-    let mut out = String::new(alloc);
+/// Appends a row of CSV with these fields.
+fn push_row(out: &mut String, kind: &str, fields: &[Field<'_>]) -> Result<(), AllocError> {
+    out.push_str(kind)?;
+    for column in COLUMNS.iter() {
+        out.push_str(",")?;
+        push_cell(out, fields, column)?;
+    }
+    out.push_str("\n")
+}
+
+/// Appends the first row of CSV, the names of the columns.
+fn push_column_names(out: &mut String) -> Result<(), AllocError> {
     out.push_str("row")?;
     for column in COLUMNS.iter() {
         out.push_str(",")?;
         out.push_str(column)?;
     }
-    out.push_str("\n")?;
-    for line in text.lines() {
-        match word_at(line, 0) {
-            "before" | "after" => push_names(&mut out, line)?,
-            _ => push_row(&mut out, line)?,
-        }
+    out.push_str("\n")
+}
+
+/// Appends a row of CSV for each update.
+fn push_update_rows(
+    out: &mut String,
+    names: ScriptNames<'_>,
+    kind: &str,
+    updates: &[TxnId],
+) -> Result<(), AllocError> {
+    for update in updates {
+        let name = name_of_transaction(names.transactions, *update);
+        push_row(out, kind, &[("update", FieldValue::Word(name))])?;
     }
+    Ok(())
+}
+
+/// Appends a row of CSV for each read.
+fn push_read_rows(
+    out: &mut String,
+    names: ScriptNames<'_>,
+    reads: &[ComparedRead],
+) -> Result<(), AllocError> {
+    for read in reads {
+        push_row(out, "read", &read_fields(names, *read))?;
+    }
+    Ok(())
+}
+
+/// Appends a row of CSV for each charge.
+fn push_charge_rows(
+    out: &mut String,
+    names: ScriptNames<'_>,
+    charges: &[Charge],
+) -> Result<(), AllocError> {
+    for charge in charges {
+        push_row(out, "charge", &charge_fields(names, *charge))?;
+    }
+    Ok(())
+}
+
+/// Returns an explanation as CSV.
+fn explanation_csv(
+    alloc: Global,
+    names: ScriptNames<'_>,
+    explained: &Explanation<'_>,
+) -> Result<String, AllocError> {
+    let mut out = String::new(alloc);
+    push_column_names(&mut out)?;
+    push_read_rows(&mut out, names, &explained.reads)?;
+    push_charge_rows(&mut out, names, &explained.charges)?;
+    push_update_rows(&mut out, names, "before", explained.before)?;
+    push_update_rows(&mut out, names, "after", &explained.after)?;
+    push_row(&mut out, "sums", &sums_fields(explained))?;
     Ok(out)
 }
 
-/// Appends the fields of a line as members of an object.
-fn push_members(out: &mut String, line: &str) -> Result<(), AllocError> {
+/// Appends fields as members of an object.
+fn push_members(out: &mut String, fields: &[Field<'_>]) -> Result<(), AllocError> {
     let mut between = "";
-    for (field, place) in fields_of(word_at(line, 0)) {
+    for (field, value) in fields {
         out.push_str(between)?;
         push_word(out, field)?;
         out.push_str(":")?;
-        match *field {
-            "item" | "operation" | "update" => push_word(out, word_at(line, *place))?,
-            _ => out.push_str(word_at(line, *place))?,
+        match *value {
+            FieldValue::Word(word) => push_word(out, word)?,
+            FieldValue::Amount(amount) => push_number(out, amount)?,
+            FieldValue::Value(value) => push_value(out, value)?,
         }
         between = ",";
     }
     Ok(())
 }
 
-/// Appends the lines that have this first word, an object each, in brackets.
-fn push_objects(out: &mut String, text: &str, first: &str) -> Result<(), AllocError> {
-    let mut is_empty = true;
-    for line in text.lines() {
-        if word_at(line, 0) == first {
-            out.push_str(if is_empty { "[{" } else { "},{" })?;
-            push_members(out, line)?;
-            is_empty = false;
-        }
+/// Appends an array with an object for each read.
+fn push_read_objects(
+    out: &mut String,
+    names: ScriptNames<'_>,
+    reads: &[ComparedRead],
+) -> Result<(), AllocError> {
+    let mut open = "[{";
+    for read in reads {
+        out.push_str(open)?;
+        push_members(out, &read_fields(names, *read))?;
+        open = "},{";
     }
-    out.push_str(if is_empty { "[]" } else { "}]" })
+    out.push_str(if reads.is_empty() { "[]" } else { "}]" })
 }
 
-/// Appends the names that a line lists, in brackets.
-fn push_list(out: &mut String, line: &str) -> Result<(), AllocError> {
-    let mut is_empty = true;
-    for name in names_in(line).split(',').filter(|name| !name.is_empty()) {
-        out.push_str(if is_empty { "[" } else { "," })?;
-        push_word(out, name)?;
-        is_empty = false;
+/// Appends an array with an object for each charge.
+fn push_charge_objects(
+    out: &mut String,
+    names: ScriptNames<'_>,
+    charges: &[Charge],
+) -> Result<(), AllocError> {
+    let mut open = "[{";
+    for charge in charges {
+        out.push_str(open)?;
+        push_members(out, &charge_fields(names, *charge))?;
+        open = "},{";
     }
-    out.push_str(if is_empty { "[]" } else { "]" })
+    out.push_str(if charges.is_empty() { "[]" } else { "}]" })
 }
 
-/// Returns the line with this first word.
-fn line_of<'a>(text: &'a str, first: &str) -> &'a str {
-    for line in text.lines() {
-        if word_at(line, 0) == first {
-            return line;
-        }
+/// Appends an array of the names of some updates.
+fn push_name_array(
+    out: &mut String,
+    names: ScriptNames<'_>,
+    updates: &[TxnId],
+) -> Result<(), AllocError> {
+    let mut open = "[";
+    for update in updates {
+        out.push_str(open)?;
+        push_word(out, name_of_transaction(names.transactions, *update))?;
+        open = ",";
     }
-    ""
+    out.push_str(if updates.is_empty() { "[]" } else { "]" })
 }
 
 /// Returns an explanation as JSON.
-fn explanation_json(alloc: Global, name: &str, text: &str) -> Result<String, AllocError> {
+fn explanation_json(
+    alloc: Global,
+    names: ScriptNames<'_>,
+    query: TxnId,
+    explained: &Explanation<'_>,
+) -> Result<String, AllocError> {
     let mut out = String::new(alloc);
     out.push_str("{\"name\":")?;
-    push_word(&mut out, name)?;
+    push_word(&mut out, name_of_transaction(names.transactions, query))?;
     out.push_str(",\"reads\":")?;
-    push_objects(&mut out, text, "read")?;
+    push_read_objects(&mut out, names, &explained.reads)?;
     out.push_str(",\"charges\":")?;
-    push_objects(&mut out, text, "charge")?;
+    push_charge_objects(&mut out, names, &explained.charges)?;
     out.push_str(",\"before\":")?;
-    push_list(&mut out, line_of(text, "before"))?;
+    push_name_array(&mut out, names, explained.before)?;
     out.push_str(",\"after\":")?;
-    push_list(&mut out, line_of(text, "after"))?;
+    push_name_array(&mut out, names, &explained.after)?;
     out.push_str(",")?;
-    push_members(&mut out, line_of(text, "distance"))?;
+    push_members(&mut out, &sums_fields(explained))?;
     out.push_str("}\n")?;
     Ok(out)
+}
+
+/// Returns the explanation of an audited query as a table.
+fn explanation_table(
+    alloc: Global,
+    data: Data,
+    audited: &AuditedQuery,
+) -> Result<Vec<u8>, AllocError> {
+    let names = ScriptNames {
+        items: &audited.items,
+        transactions: &audited.transactions,
+    };
+    let Ok(explained) = Explanation::of(alloc, &audited.history, &audited.finding) else {
+        return Err(AllocError);
+    };
+    let table = match data {
+        Data::Csv => explanation_csv(alloc, names, &explained)?,
+        Data::Json => explanation_json(alloc, names, audited.finding.query, &explained)?,
+    };
+    Ok(table.into_bytes())
 }
 
 impl QueryView for ExplanationTable {
     ghost IsTextOf = { λ _ _ _ _. Unit {0} };
 
     fn text_of(&self, alloc: Global, audited: &mut AuditedQuery) -> Result<Vec<u8>, AllocError> {
-        let bytes = Explaining.text_of(alloc, audited)?;
-        let text = from_utf8(&bytes).unwrap_or("");
-        let name = name_of_transaction(&audited.transactions, audited.finding.query);
-        let sheet = match self.data {
-            Data::Csv => explanation_csv(alloc, text)?,
-            Data::Json => explanation_json(alloc, name, text)?,
-        };
-        Ok(sheet.into_bytes())
+        explanation_table(alloc, self.data, audited)
     }
 }

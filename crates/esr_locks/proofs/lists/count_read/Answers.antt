@@ -1,6 +1,4 @@
-use Rattle.std.proofs.Common.{◌∙◌, sym, ap, not, set, get_or, List, arith}
-use Rattle.std.proofs.Math.ListN.{length-set}
-use Rattle.smallvec.proofs.SmallVecLemmas.{items-with_items}
+use Rattle.std.proofs.Common.{sym, ap, not, arith}
 use Rattle.esr_history.proofs.Ascending.{placed_at, placed_gap, any_gap}
 use Rattle.esr_locks.specs.declared.lists.QueryReads.{QueryReads}
 use Rattle.esr_locks.specs.LockEntries.{first_reads, more_reads}
@@ -9,10 +7,8 @@ use Rattle.esr_locks.proofs.lists.count_read.Goals as goal
 pub returns-in-Ok-clause-items : goal.returns-in-Ok-clause-items
 returns-in-Ok-clause-items c =
     let no_one : QueryReads = record { query = record { 0 = 0 }; count = 0 } in
-    let reads : List QueryReads = c.args.queries.now.items in
-    let counted : List QueryReads = set reads c.in-Ok.at (more_reads (get_or reads c.in-Ok.at no_one)) in
-    rw c.deref_mut.ensures.value (items-with_items c.args.queries.now counted (length-set reads c.in-Ok.at (more_reads (get_or reads c.in-Ok.at no_one)))
-    ∙ placed_at (λ r. r.query.0) c.args.q.0 (first_reads c.args.q) more_reads reads c.requires.ascending c.in-Ok.at no_one c.in-Ok.ensures.found)
+    rw (c.replace.ensures, c.as_slice.ensures)
+    (placed_at (λ r. r.query.0) c.args.q.0 (first_reads c.args.q) more_reads c.args.queries.now.items c.requires.ascending c.in-Ok.at no_one c.in-Ok.ensures.found)
 
 pub returns-in-Err-clause-items : goal.returns-in-Err-clause-items
 returns-in-Err-clause-items c = grind (arith, placed_gap)

@@ -18,7 +18,7 @@ returns-then-conflicts c =
     let t = c.args.t.0 in
     let readers = c.self.inside.readers.items in
     let relevant : IsSmallest (λ u. not (u == t) && list_any (λ r. r.update.0 == u) readers) (option_map (λ v. v.0) c.other_reader.result) =
-    rw (c.other_reader.ensures, c.deref.ensures, number_of (find (λ r. not (r.update.0 == t)) readers)) (least_other (λ r. r.update.0) t readers c.self.invariant.0) in
+    rw (c.other_reader.ensures, c.as_slice.ensures, number_of (find (λ r. not (r.update.0 == t)) readers)) (least_other (λ r. r.update.0) t readers c.self.invariant.0) in
     let on : conflicts Read c.args.asked ≡ true = sym c.conflicts.ensures ∙ c.if-conflicts.true in
     IsSmallest-extensional (λ u. not (u == t) && list_any (λ r. r.update.0 == u) readers) (λ u. not (u == t) && (conflicts Read c.args.asked && is_reader c.args.self.now.locks u)) _
     (λ u. ap (λ b. not (u == t) && b) (sym (any-map (λ r. r.update.0) (λ v. v) (λ r. r.update.0) (λ r. refl) u readers) ∙ ap (λ (v : LockEntryModel). is_reader v.locks u) c.self.view_is

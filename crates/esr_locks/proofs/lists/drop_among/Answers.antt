@@ -1,9 +1,0 @@
-use Rattle.std.proofs.Common.{◌∙◌, sym}
-use Rattle.esr_history.proofs.Ascending.{others_at, others_gap}
-use Rattle.esr_locks.proofs.lists.drop_among.Goals as goal
-
-pub returns-in-Ok : goal.returns-in-Ok
-returns-in-Ok g c = c.remove.ensures.items ∙ sym (others_at g.R.Numbered.number c.args.t.0 c.in-Ok.at c.args.entries.now.items c.remove.result c.requires c.in-Ok.ensures.found)
-
-pub returns-in_default : goal.returns-in_default
-returns-in_default g c = sym (others_gap g.R.Numbered.number c.args.t.0 c.in_default.field-0 c.args.entries.now.items c.in_default.ensures.absent)
