@@ -6,7 +6,8 @@ use Rattle.esr_items.specs.Values.{IsValue, max_distance}
 use Rattle.esr_history.specs.Machine.{DistanceFunction, Schedule, IsLegal}
 use Rattle.esr_history.specs.Queries.{is_committed_query}
 use Rattle.esr_history.proofs.Traces.{IsMetric}
-use Rattle.esr_audit.specs.Findings.{Finding, IsFindingOf, IsFinding, summary, summary_of}
+use Rattle.esr_audit.specs.declared.finding.Finding.{Finding}
+use Rattle.esr_audit.specs.Findings.{IsFindingOf, IsFinding, summary, summary_of}
 use Rattle.esr_audit.proofs.HasFinding.{auditable, each_committed_query_has_a_finding}
 use Rattle.esr_audit.proofs.SummaryLaws.{summary_is}
 use Rattle.esr_least.specs.Audits.{audited, IsOfFinding}

@@ -5,7 +5,8 @@ use Rattle.esr_history.specs.Legal.{along}
 use Rattle.esr_history.specs.Machine.{DistanceFunction, Schedule, IsLegal}
 use Rattle.esr_history.specs.Queries.{is_committed_query}
 use Rattle.esr_base.specs.declared.numbers.TxnId.{TxnId}
-use Rattle.esr_audit.specs.Findings.{Finding, IsFinding, summary, summary_of}
+use Rattle.esr_audit.specs.declared.finding.Finding.{Finding}
+use Rattle.esr_audit.specs.Findings.{IsFinding, summary, summary_of}
 use Rattle.esr_least.specs.declared.query.QueryAudit.{QueryAudit}
 
 -- its query, its distance, its import, and the updates before the position
