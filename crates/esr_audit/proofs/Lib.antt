@@ -1,5 +1,5 @@
 -- The problem that is gathered represents its query (`ProblemOfOrder`, `BuiltProblem`), and its solution is the audit's
--- result, also in longer histories (`Found`, `Stays`).
+-- result, also in longer histories (`Found`, `Stays`). Each committed query has a finding (`HasFinding`).
 
 pub mod Values
 pub mod Places
@@ -15,6 +15,9 @@ pub mod Shape
 pub mod ProblemRanges
 pub mod ItemReads
 pub mod BuiltProblem
+pub mod HasOrder
+pub mod CertificateValues
+pub mod HasFinding
 pub mod Committed
 pub mod SummaryLaws
 pub mod SameSet

@@ -2,6 +2,7 @@
 
 pub mod Problems
 pub mod Findings
+pub mod Existence
 pub mod Reads
 pub mod Ranges
 pub mod Worked

@@ -10,7 +10,7 @@ use Rattle.esr_audit.specs.declared.finding.Book.{Book}
 use Rattle.esr_audit.specs.declared.finding.Summaries.{Summaries}
 use Rattle.esr_audit.specs.declared.finding.Finding.{Finding}
 use Rattle.esr_audit.specs.declared.finding.AuditError.{AuditError}
-use Rattle.esr_audit.specs.Findings.{IsFinding, IsBook, AreSummaries, summary, seen_summary, committed_queries}
+use Rattle.esr_audit.specs.Findings.{IsFinding, IsFindingOf, IsBook, AreSummaries, summary, seen_summary, committed_queries}
 use Rattle.esr_audit.proofs.SummaryLaws.{all_summaries}
 use Rattle.esr_history.specs.Serial.{committed_updates}
 use Rattle.esr_board.specs.Shares.{IsKeptOf, IsFindingFor, KeepsFindings, AreKept, AreFound, query_of}
@@ -76,3 +76,9 @@ found_kept d h queries jobs found a =
 pub found_if_ok : (d : DistanceFunction) (h : Schedule) (queries : List TxnId) (jobs : ℕ) (r : Result (Share Finding) AuditError) → IfOk r (λ s. AreKept (λ (f x : Finding). x ≡ f) d h queries jobs s.found.items) → IfOk r (λ s. AreFound d h queries jobs s.found.items)
 found_if_ok d h queries jobs (Ok s) kept = found_kept d h queries jobs s.found.items kept
 found_if_ok d h queries jobs (Err e) kept = tt
+
+-- the finding of a query, kept as it is
+pub finding_kept : (d : DistanceFunction) (h : Schedule) (q : TxnId) (r : Result Finding AuditError) → IfOk r (λ f. f.query ≡ q) → IfOk r (IsFindingOf d h q.0)
+    → IfOk r (IsKeptOf (λ (f x : Finding). x ≡ f) d h q)
+finding_kept d h q (Ok f) query found = (f, query, subst (λ (t : TxnId). IsFindingOf d h t.0 f) (sym query) found, refl)
+finding_kept d h q (Err e) query found = tt

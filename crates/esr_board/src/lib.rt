@@ -9,10 +9,12 @@ mod board;
 mod gate;
 mod hand;
 mod parallel;
+mod result;
 mod rule;
 mod worker;
 
 pub use board::{Board, BoardError, BoardSeat, ClaimsMissing};
 pub use gate::{Gate, NoGate};
 pub use parallel::{audit_parallel, summarize_parallel};
+pub use result::AuditResult;
 pub use worker::{Share, work};

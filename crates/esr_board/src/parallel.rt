@@ -1,8 +1,8 @@
 //! Audits a whole history with several workers.
 //!
-//! A board hands out one job for each committed query. Each worker converts each finding to a `T` (`From`): the finding
-//! itself for a book, or its summary. All functions up to `pages_by` are generic in `T`, and their contracts use the
-//! relation of the conversion, `from_gives`.
+//! A board hands out one job for each committed query. Each worker keeps a result `T` (`AuditResult`) of each audit: the
+//! finding for a book, or a summary. All functions up to `pages_by` are generic in `T`, and their contracts use the
+//! relation of a result to a finding, `keeps`.
 //!
 //! Workers share only the history, its index and the word of the board. Each result is stored at the index of its job,
 //! so the book is in the order of the jobs. The workers are joined and return all seats, so the board always closes:
@@ -25,10 +25,9 @@ ghost use Rattle.esr_board.specs.Shares.{AreCommitted, AreKept, IsWorked, IsFill
 
 use crate::board::{Board, BoardError, BoardSeat, MAX_SEATS};
 use crate::gate::Gate;
+use crate::result::AuditResult;
 use crate::worker::{Share, Worked, take_turns};
-use esr_audit::{
-    AuditError, Book, CommitLists, Finding, Summaries, commit_lists, history_is_sound,
-};
+use esr_audit::{AuditError, Book, CommitLists, Summaries, commit_lists, history_is_sound};
 use esr_history::{History, TxnId};
 use esr_items::Metric;
 use esr_order::Index;
@@ -45,17 +44,17 @@ fn put<T: Drop>(slots: &mut Vec<Option<T>>, job: usize, kept: T)
 }
 
 /// Stores the results of a share at the indices of their jobs.
-fn place_findings<M: Metric, T: From<Finding> + Drop>(
+fn place_findings<M: Metric, T: AuditResult<M> + Drop>(
     history: &History<M>,
     jobs: &[TxnId],
     slots: &mut Vec<Option<T>>,
     share: Share<T>,
 )
-    requires share { AreKept T.from_gives M.distance_by history.now.schedule jobs.now (vec_len slots.old)
+    requires share { AreKept T.keeps M.distance_by history.now.schedule jobs.now (vec_len slots.old)
         share.found.items }
-    requires right { AreCorrect T.from_gives M.distance_by history.now.schedule jobs.now slots.old.items }
+    requires right { AreCorrect T.keeps M.distance_by history.now.schedule jobs.now slots.old.items }
     ensures len { vec_len slots.new ≡ vec_len slots.old }
-    ensures right { AreCorrect T.from_gives M.distance_by history.now.schedule jobs.now slots.new.items }
+    ensures right { AreCorrect T.keeps M.distance_by history.now.schedule jobs.now slots.new.items }
     ensures kept { (k : ℕ) → IsFilled slots.old.items k → IsFilled slots.new.items k }
     ensures filled { (k : ℕ) → 0 < times k (map (λ p. p.0) share.found.items) → IsFilled slots.new.items k }
 {
@@ -66,7 +65,7 @@ fn place_findings<M: Metric, T: From<Finding> + Drop>(
 }
 
 /// Runs each worker on a separate thread, and returns their shares.
-fn shares<M: Metric + Sync, R: Threads + Sync, G: Gate + Sync, T: From<Finding> + Send + Drop>(
+fn shares<M: Metric + Sync, R: Threads + Sync, G: Gate + Sync, T: AuditResult<M> + Send + Drop>(
     rt: &R,
     alloc: Global,
     history: &History<M>,
@@ -80,7 +79,7 @@ fn shares<M: Metric + Sync, R: Threads + Sync, G: Gate + Sync, T: From<Finding> 
     requires seats { All (λ s. IsSeatOf board.now s × (claimed s ≡ [])) seats.items }
     requires jobs { (length jobs.now ≡ jobs_of board.now) × AreCommitted history.now.schedule jobs.now }
     ensures { IfOk result (λ v. (vec_len v ≡ vec_len seats)
-        × All (IsWorked T.from_gives M.distance_by history.now.schedule jobs.now board.now) v.items) }
+        × All (IsWorked T.keeps M.distance_by history.now.schedule jobs.now board.now) v.items) }
 {
     thread::map_vec(
         rt,
@@ -89,7 +88,7 @@ fn shares<M: Metric + Sync, R: Threads + Sync, G: Gate + Sync, T: From<Finding> 
             requires { IsSeatOf board.now seat × (claimed seat ≡ []) × (length jobs.now ≡ jobs_of board.now)
                 × AreCommitted history.now.schedule jobs.now
                 × IsWholeIndexOf history.now.schedule.entries index.now }
-            ensures { IsWorked T.from_gives M.distance_by history.entry.now.schedule jobs.entry.now board.entry.now result }
+            ensures { IsWorked T.keeps M.distance_by history.entry.now.schedule jobs.entry.now board.entry.now result }
         { take_turns(alloc, history, index, jobs, board, seat, gate) },
     )
 }
@@ -113,19 +112,19 @@ fn empty_slots<T: Drop>(alloc: Global, count: usize) -> Result<Vec<Option<T>>, A
 }
 
 /// Stores the results of all shares at the indices of their jobs, and collects the seats.
-fn gather<M: Metric, T: From<Finding> + Drop>(
+fn gather<M: Metric, T: AuditResult<M> + Drop>(
     alloc: Global,
     history: &History<M>,
     jobs: &[TxnId],
     board: &Board,
     mut all: Vec<Worked<T>>,
 ) -> Result<KeptAndSeats<T>, AuditError>
-    requires all { All (IsWorked T.from_gives M.distance_by history.now.schedule jobs.now board.now) all.items }
+    requires all { All (IsWorked T.keeps M.distance_by history.now.schedule jobs.now board.now) all.items }
     requires len { length jobs.now ≡ jobs_of board.now }
     ensures seats { IfOk result (λ g. (vec_len g.seats ≡ vec_len all)
         × All (λ s. IsSeatOf board.now s × (0 < count_past (jobs_of board.now) (claimed s))) g.seats.items) }
     ensures slots { IfOk result (λ g. (vec_len g.slots ≡ length jobs.now)
-        × AreCorrect T.from_gives M.distance_by history.now.schedule jobs.now g.slots.items) }
+        × AreCorrect T.keeps M.distance_by history.now.schedule jobs.now g.slots.items) }
     ensures filled { IfOk result (λ g. (k : ℕ) → k < jobs_of board.now → 0 < times k (all_claimed g.seats.items)
         → IsFilled g.slots.items k) }
     ensures err { IfErr result (λ e. e ≡ AuditError.NoMemory) }
@@ -149,16 +148,16 @@ fn gather<M: Metric, T: From<Finding> + Drop>(
 }
 
 /// Takes the values out of their slots, which are all filled.
-fn unwrap_slots<M: Metric, T: From<Finding> + Drop>(
+fn unwrap_slots<M: Metric, T: AuditResult<M> + Drop>(
     alloc: Global,
     history: &History<M>,
     jobs: &[TxnId],
     mut slots: Vec<Option<T>>,
 ) -> Result<Vec<T>, AuditError>
     requires len { vec_len slots ≡ length jobs.now }
-    requires right { AreCorrect T.from_gives M.distance_by history.now.schedule jobs.now slots.items }
+    requires right { AreCorrect T.keeps M.distance_by history.now.schedule jobs.now slots.items }
     requires filled { (k : ℕ) → k < vec_len slots → IsFilled slots.items k }
-    ensures kept { IfOk result (λ v. AllZip (IsKeptOf T.from_gives M.distance_by history.now.schedule)
+    ensures kept { IfOk result (λ v. AllZip (IsKeptOf T.keeps M.distance_by history.now.schedule)
         jobs.now v.items) }
     ensures err { IfErr result (λ e. e ≡ AuditError.NoMemory) }
 {
@@ -176,7 +175,7 @@ fn unwrap_slots<M: Metric, T: From<Finding> + Drop>(
 }
 
 /// Audits these committed queries with `workers` threads, and returns the values made of the findings, in order.
-fn kept_by<M: Metric + Sync, R: Threads + Sync, G: Gate + Sync, T: From<Finding> + Send + Drop>(
+fn kept_by<M: Metric + Sync, R: Threads + Sync, G: Gate + Sync, T: AuditResult<M> + Send + Drop>(
     rt: &R,
     alloc: Global,
     history: &History<M>,
@@ -188,7 +187,7 @@ fn kept_by<M: Metric + Sync, R: Threads + Sync, G: Gate + Sync, T: From<Finding>
     requires index { IsWholeIndexOf history.now.schedule.entries index.now }
     requires jobs { (length jobs.now ≤ MAX_JOBS) × AreCommitted history.now.schedule jobs.now }
     requires workers { (1 ≤ workers) × (workers ≤ MAX_SEATS) }
-    ensures kept { IfOk result (λ v. AllZip (IsKeptOf T.from_gives M.distance_by history.now.schedule)
+    ensures kept { IfOk result (λ v. AllZip (IsKeptOf T.keeps M.distance_by history.now.schedule)
         jobs.now v.items) }
     ensures err { IfErr result (λ e. e ≡ AuditError.NoMemory) }
 {
@@ -220,7 +219,7 @@ struct Pages<T> {
 }
 
 /// Audits a history with `workers` threads: returns its committed updates, and the values made of the findings.
-fn pages_by<M: Metric + Sync, R: Threads + Sync, G: Gate + Sync, T: From<Finding> + Send + Drop>(
+fn pages_by<M: Metric + Sync, R: Threads + Sync, G: Gate + Sync, T: AuditResult<M> + Send + Drop>(
     rt: &R,
     alloc: Global,
     history: &History<M>,
@@ -228,7 +227,7 @@ fn pages_by<M: Metric + Sync, R: Threads + Sync, G: Gate + Sync, T: From<Finding
     gate: &G,
 ) -> Result<Pages<T>, AuditError>
     ensures order { IfOk result (λ p. map (λ t. t.0) p.order.items ≡ committed_updates history.now.schedule) }
-    ensures kept { IfOk result (λ p. KeepsFindings T.from_gives M.distance_by history.now.schedule
+    ensures kept { IfOk result (λ p. KeepsFindings T.keeps M.distance_by history.now.schedule
         (committed_queries history.now.schedule) p.kept.items) }
     ensures workers { (result ≡ Err AuditError.WorkersOutOfRange) ↔ ((workers ≡ 0) ⊎ (MAX_SEATS < workers)) }
     ensures err { IfErr result (λ e. (e ≡ AuditError.NoMemory) ⊎ (e ≡ AuditError.WorkersOutOfRange)) }

@@ -16,7 +16,6 @@ use Rattle.esr_cert.proofs.Sound.{here, there, IsChain, IsProblem}
 use Rattle.esr_cert.proofs.Flows.{within_from, conserved_from}
 use Rattle.esr_cert.proofs.Certified.{certifies_from}
 use Rattle.esr_flow.specs.Augmentation.{IsReach}
-use Rattle.esr_flow.specs.Search.{is_marked}
 use Rattle.esr_flow.specs.Members.{members_below}
 use Rattle.esr_flow.proofs.Smallest.{smallest_least, reach_cost}
 use Rattle.esr_flow.proofs.SolveLaws.{positions_at, positions_below, positions_ascend, smallest_same, same_cost}
@@ -102,26 +101,26 @@ pub record Parts (p : Problem) (flow xs bs ms : List ℕ) : Type 0 where
   pub musts : length ms ≡ length p.must
   pub whole : (xs ++ bs) ++ ms ≡ flow
 
-pub least_set : (p : Problem) → IsProblem p → (flow : List ℕ) → IsFlow (network p) flow → (marks : List Bool) → IsReach (network p) flow (is_marked marks) → is_marked marks (size p + 1) ≡ false → (set : List ℕ) → set ≡ members_below (is_marked marks) (size p) → IsSmallestLeast p (in_set set)
-least_set p ok flow f marks r s set e =
-    smallest_same p ok (is_marked marks) (in_set set)
-    (λ u l. sym (positions_at (is_marked marks) (size p) u l) ∙ ap (λ xs. in_set xs u) (sym e))
-    (smallest_least p ok flow (is_marked marks) f r s)
+pub least_set : (p : Problem) → IsProblem p → (flow : List ℕ) → IsFlow (network p) flow → (has : ℕ → Bool) → IsReach (network p) flow has → has (size p + 1) ≡ false → (set : List ℕ) → set ≡ members_below has (size p) → IsSmallestLeast p (in_set set)
+least_set p ok flow f has r s set e =
+    smallest_same p ok has (in_set set)
+    (λ u l. sym (positions_at has (size p) u l) ∙ ap (λ xs. in_set xs u) (sym e))
+    (smallest_least p ok flow has f r s)
 
-pub certified : (p : Problem) → IsProblem p → (flow : List ℕ) → IsFlow (network p) flow → (marks : List Bool) → IsReach (network p) flow (is_marked marks) → is_marked marks (size p + 1) ≡ false
-    → (c : Certificate) → c.set ≡ members_below (is_marked marks) (size p) → Parts p flow (concat c.chain_flow) c.back_flow c.must_flow → are_rows_matched p.chains c.chain_flow ≡ true
+pub certified : (p : Problem) → IsProblem p → (flow : List ℕ) → IsFlow (network p) flow → (has : ℕ → Bool) → IsReach (network p) flow has → has (size p + 1) ≡ false
+    → (c : Certificate) → c.set ≡ members_below has (size p) → Parts p flow (concat c.chain_flow) c.back_flow c.must_flow → are_rows_matched p.chains c.chain_flow ≡ true
     → c.worth ≡ worth (network p) flow → is_count_in_bound p c.augmentations ≡ true → Certifies p c
-certified p ok flow f marks r s c set_is parts rows worth_is short =
-    let smallest : IsSmallestLeast p (in_set c.set) = least_set p ok flow f marks r s c.set set_is in
-    let same : cost p (is_marked marks) ≡ cost p (in_set c.set) =
-    same_cost p ok (is_marked marks) (in_set c.set) (λ u l. sym (positions_at (is_marked marks) (size p) u l) ∙ ap (λ xs. in_set xs u) (sym set_is)) in
+certified p ok flow f has r s c set_is parts rows worth_is short =
+    let smallest : IsSmallestLeast p (in_set c.set) = least_set p ok flow f has r s c.set set_is in
+    let same : cost p has ≡ cost p (in_set c.set) =
+    same_cost p ok has (in_set c.set) (λ u l. sym (positions_at has (size p) u l) ∙ ap (λ xs. in_set xs u) (sym set_is)) in
     let g : IsFlow (network p) (amounts c) = subst (IsFlow (network p)) (sym parts.whole) f in
     let inside : are_within (network p).arcs (amounts c) ≡ true = within_from (network p).arcs (amounts c) g.same_length g.within_capacity in
     let tight : c.worth ≡ worth (network p) (amounts c) = worth_is ∙ ap (worth (network p)) (sym parts.whole) in
-    let dear : c.worth ≡ cost p (in_set c.set) = worth_is ∙ reach_cost p ok flow (is_marked marks) f r s ∙ same in
+    let dear : c.worth ≡ cost p (in_set c.set) = worth_is ∙ reach_cost p ok flow has f r s ∙ same in
     certifies_from p c (record {
-      ascending = ap is_ascending set_is ∙ positions_ascend (is_marked marks) (size p);
-      known = ap (list_all (λ u. nat_lt u (size p))) set_is ∙ positions_below (is_marked marks) (size p);
+      ascending = ap is_ascending set_is ∙ positions_ascend has (size p);
+      known = ap (list_all (λ u. nat_lt u (size p))) set_is ∙ positions_below has (size p);
       closed = smallest.closed;
       within = and_from _ _ (and_from _ _ (and_from _ _ rows (eq-eqb _ _ parts.backs)) (eq-eqb _ _ parts.musts)) inside;
       conserved = conserved_from (network p) (amounts c) g.conserved;

@@ -1,5 +1,6 @@
 -- The distance to the sink in the residual network, cut off at a limit that no path undercuts.
-use Rattle.std.proofs.Common.{◌≡◌, ℕ, zero, suc, ◌<◌, ◌≤◌, Bool, true, ◌&&◌, ◌||◌, ◌⊎◌, leb, eqb, List, [], ◌∷◌, length, refl, ap, inl, inr, arith, eq-eqb, eqb-true, le-leb, leb-true}
+use Rattle.std.proofs.Common.{◌≡◌, ℕ, zero, suc, ◌<◌, ◌≤◌, Bool, true, ◌&&◌, ◌||◌, ◌⊎◌, leb, eqb, List, [], ◌∷◌, length, refl, ap, subst, inl, inr, arith}
+use Rattle.std.proofs.Common.{eq-eqb, eqb-true, le-leb, leb-true}
 use Rattle.std.proofs.lemmas.Bool.{or_left, or_right, or_cases, and_parts, and_from, lt-leb}
 use Rattle.esr_flow.specs.Types.{Arc, ResidualArc, Forward, Backward}
 use Rattle.esr_flow.specs.Residual.{Falls, finish, residual_capacity, IsResidual, IsPath}
@@ -65,6 +66,20 @@ module _ (arcs : List Arc) (flow : List ℕ) (sink : ℕ) where
             absurd (omega (arith, shortest p.0 p.2))
         | inr l ↦ omega arith
       ]
+
+  reaches_along : (path : List ResidualArc) (v : ℕ) → IsPath arcs flow v path sink → reaches (length path) v ≡ true
+  reaches_along [] v h = eq-eqb v sink h
+  reaches_along (s ∷ path) v h =
+      subst (λ n. reaches (suc (length path)) n ≡ true) h.0 (reaches_step (length path) s h.1 (reaches_along path (finish arcs s) h.2))
+
+  -- no path is shorter than the distance
+  pub distance_least : (limit : ℕ) (path : List ResidualArc) (v : ℕ) → IsPath arcs flow v path sink → distance limit v ≤ length path
+  distance_least limit path v h = first_least (λ k. reaches k v) limit (length path) (reaches_along path v h)
+
+  -- and if it is below the limit, a path is as long as it
+  pub distance_path : (limit v : ℕ) → distance limit v < limit
+      → (path : List ResidualArc) × (length path ≡ distance limit v) × IsPath arcs flow v path sink
+  distance_path limit v l = path_from (distance limit v) v (first_passes (λ k. reaches k v) limit l)
 
 -- a path on which the labels fall has at most as many steps as there are nodes
 pub steps_le_nodes : (net : Network) → IsNetwork net → (d : ℕ → ℕ) (k : ℕ) (path : List ResidualArc) → Levels d net.arcs k path → length path ≤ count_below (λ v. leb (d v) k) net.node_count

@@ -1,6 +1,7 @@
 -- Phases of shortest augmentations end, within the bound, at a maximum flow, and the nodes that the source then reaches
--- are the smallest set of least cost. `SolveLaws`, `MaximumLaws` and `CertificateLaws` are the results; the other
--- modules are lemmas about the search, its labels and its entries.
+-- are the smallest set of least cost, so that each problem has a certificate. `SolveLaws`, `MaximumLaws`,
+-- `CertificateLaws` and `Existence` are the results; the other modules are lemmas about the search, its labels and its
+-- entries.
 
 pub mod Count
 pub mod Distance
@@ -24,3 +25,5 @@ pub mod SumLaws
 pub mod ReachLaws
 pub mod PassLaws
 pub mod CertificateLaws
+pub mod Reachable
+pub mod Existence

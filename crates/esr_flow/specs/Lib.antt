@@ -11,3 +11,4 @@ pub mod Search
 pub mod Reached
 pub mod Maximum
 pub mod Members
+pub mod Existence

@@ -4,7 +4,9 @@ use Rattle.esr_history.specs.declared.event.Entry.{Entry}
 use Rattle.esr_history.specs.Legal.{along}
 use Rattle.esr_history.specs.Machine.{DistanceFunction, Schedule, IsLegal}
 use Rattle.esr_history.specs.Queries.{is_committed_query}
-use Rattle.esr_audit.specs.Findings.{summary_of}
+use Rattle.esr_base.specs.declared.numbers.TxnId.{TxnId}
+use Rattle.esr_audit.specs.declared.finding.Finding.{Finding}
+use Rattle.esr_audit.specs.Findings.{IsFinding, summary, summary_of}
 use Rattle.esr_least.specs.declared.query.QueryAudit.{QueryAudit}
 
 -- its query, its distance, its import, and the updates before the position
@@ -16,3 +18,7 @@ abbrev pub IsAuditFrom : DistanceFunction → Schedule → QueryAudit → Type 0
 IsAuditFrom d h a =
     (rest : List Entry) → IsLegal d (along h rest)
     → (is_committed_query (along h rest) a.query.0 ≡ true) × (audited a ≡ summary_of d (along h rest) a.query.0)
+
+-- it says of the query what a finding of it says
+abbrev pub IsOfFinding : DistanceFunction → Schedule → TxnId → QueryAudit → Type 0
+IsOfFinding d h q a = (f : Finding) × (f.query ≡ q) × IsFinding d h f × (audited a ≡ summary f)

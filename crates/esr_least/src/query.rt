@@ -2,11 +2,11 @@
 ghost use Rattle.std.specs.Prelude.{◌≡◌, ◌↔◌, IfOk, IsErrOf, false, map, true};
 ghost use Rattle.esr_history.specs.Queries.{is_committed_query};
 ghost use Rattle.esr_order.specs.Index.{IsWholeIndexOf};
-ghost use Rattle.esr_audit.specs.Findings.{IsFindingOf, summary_of};
+ghost use Rattle.esr_audit.specs.Findings.{IsFindingOf, seen_summary, summary_of};
 ghost use Rattle.esr_stream.specs.Passes.{IsLeast};
-ghost use Rattle.esr_least.specs.Audits.{audited, IsAuditFrom};
+ghost use Rattle.esr_least.specs.Audits.{audited, IsAuditFrom, IsOfFinding};
 
-use esr_audit::{AuditError, Finding, audit_query_by_index};
+use esr_audit::{AuditError, Finding, Summary, TxnList, audit_query_by_index};
 use esr_history::{History, TxnId};
 use esr_items::Metric;
 use esr_order::{Index, is_committed_query};
@@ -25,6 +25,26 @@ pub struct QueryAudit {
     pub before: Vec<TxnId>,
 }
 
+impl From<QueryAudit> for Summary {
+    ghost from_gives = { λ a s. seen_summary s ≡ audited a };
+
+    fn from(audit: QueryAudit) -> Summary {
+        let QueryAudit {
+            query,
+            distance,
+            import,
+            before,
+        } = audit;
+        Summary {
+            query,
+            distance,
+            import,
+            before: TxnList::of(before),
+        }
+    }
+}
+
+/// Returns the audit of a query with this least distance and set.
 fn of_least<M: Metric>(history: &History<M>, q: TxnId, least: Least) -> QueryAudit
     requires { IsLeast M.distance_by history.now.schedule q.0 least.distance (map (λ t. t.0) least.before.items) }
     ensures { audited result ≡ summary_of M.distance_by history.now.schedule q.0 }
@@ -79,7 +99,9 @@ pub fn summarize_by_index<M: Metric>(
         ↔ (is_committed_query history.now.schedule q.0 ≡ false) }
     ensures workers { ¬ IsErrOf result AuditError.WorkersOutOfRange }
     ensures stays { IfOk result (IsAuditFrom M.distance_by history.now.schedule) }
+    ensures found { IfOk result (IsOfFinding M.distance_by history.now.schedule q) }
 {
+    let _invariant = history.log(); // brings the invariant into the proof
     if !is_committed_query(history, q) {
         return Err(AuditError::NotACommittedQuery);
     }

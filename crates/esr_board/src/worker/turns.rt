@@ -3,8 +3,7 @@
 //! list.
 //!
 //! A finding is large because of its problem and its certificate, and a caller that audits a whole history may need
-//! only one line of each. So one loop, `claim_all`, claims and audits for every type that can be made of a finding by
-//! `T::from`.
+//! only one line of each. So one loop, `claim_all`, claims and audits for every type of result (`AuditResult`).
 
 ghost use Rattle.std.specs.Prelude.{[], ◌≡◌, ◌≢◌, ℕ, ◌<◌, length, map, IfOk, IfErr, List, Any, false};
 ghost use Rattle.esr_history.specs.Queries.{is_committed_query};
@@ -16,15 +15,16 @@ ghost use Rattle.esr_board.specs.Shares.{AreCommitted, AreFound, AreKept, IsWork
 use super::{Share, Worked};
 use crate::board::{Board, BoardSeat};
 use crate::gate::Gate;
-use esr_audit::{AuditError, Finding, audit_query_by_index};
+use crate::result::AuditResult;
+use esr_audit::{AuditError, Finding};
 use esr_history::{History, TxnId};
 use esr_items::Metric;
 use esr_order::Index;
 use std::alloc::Global;
 
-/// Claims jobs and audits their queries until no job is left, and makes a `T` of each finding. The audits share the
-/// index of the history.
-fn claim_all<M: Metric, G: Gate, T: From<Finding> + Drop>(
+/// Claims jobs and audits their queries until no job is left, and keeps a `T` of each. The audits share the index of the
+/// history.
+fn claim_all<M: Metric, G: Gate, T: AuditResult<M> + Drop>(
     alloc: Global,
     history: &History<M>,
     index: &Index,
@@ -39,7 +39,7 @@ fn claim_all<M: Metric, G: Gate, T: From<Finding> + Drop>(
     ensures seat { IsSeatOf board.now seat.new }
     ensures jobs { IfOk result (λ s. HasClaimed (jobs_of board.now) (claimed seat.old) (claimed seat.new)
         (map (λ p. p.0) s.found.items)) }
-    ensures kept { IfOk result (λ s. AreKept T.from_gives M.distance_by history.now.schedule jobs.now
+    ensures kept { IfOk result (λ s. AreKept T.keeps M.distance_by history.now.schedule jobs.now
         (jobs_of board.now) s.found.items) }
     ensures ended { IfOk result (λ _. 0 < count_past (jobs_of board.now) (claimed seat.new)) }
     ensures err { IfErr result (λ e. (js : List ℕ) × HasClaimed (jobs_of board.now) (claimed seat.old) (claimed seat.new) js
@@ -51,11 +51,10 @@ fn claim_all<M: Metric, G: Gate, T: From<Finding> + Drop>(
     let mut found = Vec::new(alloc);
     while let Some(job) = board.claim(seat) {
         gate.enter(job, jobs.len() as u64);
-        let finding = match audit_query_by_index(alloc, history, index, jobs[job as usize]) {
-            Ok(finding) => finding,
+        let kept = match T::of_query(alloc, history, index, jobs[job as usize]) {
+            Ok(kept) => kept,
             Err(failed) => return Err(failed),
         };
-        let kept = T::from(finding);
         if found.push((job, kept)).is_err() {
             return Err(AuditError::NoMemory);
         }
@@ -98,7 +97,7 @@ pub fn work<M: Metric, G: Gate>(
 }
 
 /// Runs one worker to its end, with a seat that has claimed nothing.
-pub(crate) fn take_turns<M: Metric, G: Gate, T: From<Finding> + Drop>(
+pub(crate) fn take_turns<M: Metric, G: Gate, T: AuditResult<M> + Drop>(
     alloc: Global,
     history: &History<M>,
     index: &Index,
@@ -110,7 +109,7 @@ pub(crate) fn take_turns<M: Metric, G: Gate, T: From<Finding> + Drop>(
     requires index { IsWholeIndexOf history.now.schedule.entries index.now }
     requires seat { IsSeatOf board.now seat × (claimed seat ≡ []) }
     requires jobs { (length jobs.now ≡ jobs_of board.now) × AreCommitted history.now.schedule jobs.now }
-    ensures { IsWorked T.from_gives M.distance_by history.now.schedule jobs.now board.now result }
+    ensures { IsWorked T.keeps M.distance_by history.now.schedule jobs.now board.now result }
 {
     let share = claim_all(alloc, history, index, jobs, board, &mut seat, gate);
     Worked { share, seat }

@@ -9,8 +9,8 @@ use Rattle.esr_board.proofs.parallel.gather.Goals as goal
 
 pub loop-next-preserved : goal.loop-next-preserved
 loop-next-preserved g c = let was = c.loop-next.invariant in let b = c.args.board.now in let seat = c.in-Some.next.seat in
-    let parts = all_popped (IsWorked g.T.From.from_gives g.M.Metric.distance_by c.args.history.now.schedule c.args.jobs.now b) _ _ _ c.in-Some.ensures.items was.all in
-    let is : IsShareOf g.T.From.from_gives g.M.Metric.distance_by c.args.history.now.schedule c.args.jobs.now b.jobs (claimed seat) c.in-Ok-share.share = subst (λ r. MatchResult r (IsShareOf g.T.From.from_gives g.M.Metric.distance_by c.args.history.now.schedule c.args.jobs.now b.jobs (claimed seat)) (λ e. e ≡ NoMemory)) c.in-Ok-share.is parts.1.1 in
+    let parts = all_popped (IsWorked g.T.AuditResult.keeps g.M.Metric.distance_by c.args.history.now.schedule c.args.jobs.now b) _ _ _ c.in-Some.ensures.items was.all in
+    let is : IsShareOf g.T.AuditResult.keeps g.M.Metric.distance_by c.args.history.now.schedule c.args.jobs.now b.jobs (claimed seat) c.in-Ok-share.share = subst (λ r. MatchResult r (IsShareOf g.T.AuditResult.keeps g.M.Metric.distance_by c.args.history.now.schedule c.args.jobs.now b.jobs (claimed seat)) (λ e. e ≡ NoMemory)) c.in-Ok-share.is parts.1.1 in
     let more : c.push.new.self.items ≡ c.loop-next.seats.items ++ seat ∷ [] = search rules in record {
       all = parts.0;
       count = search rules;
@@ -24,9 +24,9 @@ loop-next-preserved g c = let was = c.loop-next.invariant in let b = c.args.boar
 
 pub place_findings-requires-clause-share : goal.place_findings-requires-clause-share
 place_findings-requires-clause-share g c = let was = c.loop-next.invariant in let b = c.args.board.now in let seat = c.in-Some.next.seat in
-    let parts = all_popped (IsWorked g.T.From.from_gives g.M.Metric.distance_by c.args.history.now.schedule c.args.jobs.now b) _ _ _ c.in-Some.ensures.items was.all in
-    let is : IsShareOf g.T.From.from_gives g.M.Metric.distance_by c.args.history.now.schedule c.args.jobs.now b.jobs (claimed seat) c.in-Ok-share.share = subst (λ r. MatchResult r (IsShareOf g.T.From.from_gives g.M.Metric.distance_by c.args.history.now.schedule c.args.jobs.now b.jobs (claimed seat)) (λ e. e ≡ NoMemory)) c.in-Ok-share.is parts.1.1 in
-    subst (λ n. AreKept g.T.From.from_gives g.M.Metric.distance_by c.args.history.now.schedule c.args.jobs.now n c.in-Ok-share.share.found.items) (sym (was.len ∙ c.requires.len)) is.1
+    let parts = all_popped (IsWorked g.T.AuditResult.keeps g.M.Metric.distance_by c.args.history.now.schedule c.args.jobs.now b) _ _ _ c.in-Some.ensures.items was.all in
+    let is : IsShareOf g.T.AuditResult.keeps g.M.Metric.distance_by c.args.history.now.schedule c.args.jobs.now b.jobs (claimed seat) c.in-Ok-share.share = subst (λ r. MatchResult r (IsShareOf g.T.AuditResult.keeps g.M.Metric.distance_by c.args.history.now.schedule c.args.jobs.now b.jobs (claimed seat)) (λ e. e ≡ NoMemory)) c.in-Ok-share.is parts.1.1 in
+    subst (λ n. AreKept g.T.AuditResult.keeps g.M.Metric.distance_by c.args.history.now.schedule c.args.jobs.now n c.in-Ok-share.share.found.items) (sym (was.len ∙ c.requires.len)) is.1
 
 pub returns-clause-slots : goal.returns-clause-slots
 returns-clause-slots g c = (c.loop-next.invariant.len, c.loop-next.invariant.right)

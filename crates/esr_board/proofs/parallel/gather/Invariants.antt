@@ -6,11 +6,11 @@ use Rattle.esr_board.proofs.parallel.gather.Given as goal
 
 abbrev pub invariant-loop-next : goal.invariant-loop-next
 invariant-loop-next g l = record {
-  all : All (IsWorked g.T.From.from_gives g.M.Metric.distance_by l.history.schedule l.jobs l.board) l.all.items;
+  all : All (IsWorked g.T.AuditResult.keeps g.M.Metric.distance_by l.history.schedule l.jobs l.board) l.all.items;
   count : vec_len l.seats + vec_len l.all ≡ vec_len l.initial.all;
   seats : All (λ s. IsSeatOf l.board s × (0 < count_past l.board.jobs (claimed s))) l.seats.items;
   len : vec_len l.slots ≡ length l.jobs;
-  right : AreCorrect g.T.From.from_gives g.M.Metric.distance_by l.history.schedule l.jobs l.slots.items;
+  right : AreCorrect g.T.AuditResult.keeps g.M.Metric.distance_by l.history.schedule l.jobs l.slots.items;
   filled : (k : ℕ) → k < l.board.jobs → 0 < times k (all_claimed l.seats.items) → IsFilled l.slots.items k;
 }
 

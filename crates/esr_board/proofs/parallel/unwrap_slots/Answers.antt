@@ -8,7 +8,7 @@ use Rattle.esr_board.proofs.parallel.unwrap_slots.Goals as goal
 
 pub loop-k-preserved : goal.loop-k-preserved
 loop-k-preserved g c = let was = c.loop-k.invariant in let k = c.loop-k.k in let x = c.in-Some.one in
-    let P = IsKeptOf g.T.From.from_gives g.M.Metric.distance_by c.args.history.now.schedule in let q = c.args.jobs.now in
+    let P = IsKeptOf g.T.AuditResult.keeps g.M.Metric.distance_by c.args.history.now.schedule in let q = c.args.jobs.now in
     let same : get_or c.loop-k.slots.items k None ≡ get_or c.args.slots.items k None = was.rest k (omega arith) in
     let there : get_or c.loop-k.slots.items k None ≡ Some x = get_or_default c.loop-k.slots.items k None c.index_mut.result.now (search rules) ∙ sym c.index_mut.ensures.value ∙ sym c.in-Some.ensures.value in
     let here : get_or c.args.slots.items k None ≡ Some x = sym same ∙ there in
@@ -21,4 +21,4 @@ loop-k-preserved g c = let was = c.loop-k.invariant in let k = c.loop-k.k in let
     }
 
 pub returns-clause-kept : goal.returns-clause-kept
-returns-clause-kept g c = subst (λ (qs : List TxnId). AllZip (IsKeptOf g.T.From.from_gives g.M.Metric.distance_by c.args.history.now.schedule) qs c.loop-k.kept.items) (take_all c.loop-k.k c.args.jobs.now (search rules)) c.loop-k.invariant.kept
+returns-clause-kept g c = subst (λ (qs : List TxnId). AllZip (IsKeptOf g.T.AuditResult.keeps g.M.Metric.distance_by c.args.history.now.schedule) qs c.loop-k.kept.items) (take_all c.loop-k.k c.args.jobs.now (search rules)) c.loop-k.invariant.kept

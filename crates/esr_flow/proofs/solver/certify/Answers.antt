@@ -71,11 +71,11 @@ pub returns-clause-certifies : goal.returns-clause-certifies
 returns-clause-certifies c =
     let p = c.args.problem.now in
     let rows : are_rows_matched p.chains (rows_of c.in_ok-chain_flow.chain_flow.items) ≡ true = ap (λ cs. are_rows_matched cs (rows_of c.in_ok-chain_flow.chain_flow.items)) (sym c.chains.ensures.list) ∙ c.in_ok-chain_flow.ensures.matched in
-    certified p (facts p c.chains.ensures.sound) c.args.maximum.flow.items c.requires.flow c.args.maximum.marks.items c.requires.reach c.requires.sink
+    certified p (facts p c.chains.ensures.sound) c.args.maximum.flow.items c.requires.flow (is_marked c.args.maximum.marks.items) c.requires.reach c.requires.sink
     (certificate_of (record { set = c.in_ok-set.set; chain_flow = c.in_ok-chain_flow.chain_flow; back_flow = c.in_ok-back_flow.back_flow; must_flow = c.in_ok-must_flow.must_flow; worth = c.args.maximum.worth; augmentations = c.args.augmentations }))
     (members_are c) (parts c) rows c.requires.worth c.requires.short
 
 pub returns-clause-least : goal.returns-clause-least
 returns-clause-least c =
     let p = c.args.problem.now in
-    least_set p (facts p c.chains.ensures.sound) c.args.maximum.flow.items c.requires.flow c.args.maximum.marks.items c.requires.reach c.requires.sink c.in_ok-set.set.items (members_are c)
+    least_set p (facts p c.chains.ensures.sound) c.args.maximum.flow.items c.requires.flow (is_marked c.args.maximum.marks.items) c.requires.reach c.requires.sink c.in_ok-set.set.items (members_are c)

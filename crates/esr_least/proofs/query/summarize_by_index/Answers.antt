@@ -1,5 +1,7 @@
 use Rattle.std.proofs.Common.{◌∙◌, sym}
+use Rattle.esr_least.proofs.Found.{is_of_finding}
 use Rattle.esr_least.proofs.Stays.{from_now}
+use Rattle.esr_least.proofs.query.summarize_by_index.Given.{Over}
 use Rattle.esr_least.proofs.query.summarize_by_index.Goals as goal
 
 pub returns-in-Ok-Some-clause-stays : goal.returns-in-Ok-Some-clause-stays
@@ -7,3 +9,15 @@ returns-in-Ok-Some-clause-stays g c = from_now g.M.Metric.distance_by c.args.his
 
 pub returns-clause-stays : goal.returns-clause-stays
 returns-clause-stays g c = from_now g.M.Metric.distance_by c.args.history.now.schedule c.args.q.0 c.of_finding.result (sym c.is_committed_query.ensures ∙ c.if-not-is_committed_query.false) c.of_finding.ensures
+
+pub returns-in-Ok-Some-clause-found : goal.returns-in-Ok-Some-clause-found
+returns-in-Ok-Some-clause-found g c =
+    is_of_finding g.M.Metric.distance_by (λ w. record { same = g.met.M.Metric.same w; symmetric = g.met.M.Metric.symmetric w; triangle = g.met.M.Metric.triangle w }) g.met.M.Metric.bounded
+    c.args.history.now.schedule c.log-invariant.ensures.legal c.log-invariant.ensures.range c.log-invariant.ensures.items c.args.q c.of_least.result
+    (sym c.is_committed_query.ensures ∙ c.if-not-is_committed_query.false) c.of_least.ensures
+
+pub returns-clause-found : goal.returns-clause-found
+returns-clause-found g c =
+    is_of_finding g.M.Metric.distance_by (λ w. record { same = g.met.M.Metric.same w; symmetric = g.met.M.Metric.symmetric w; triangle = g.met.M.Metric.triangle w }) g.met.M.Metric.bounded
+    c.args.history.now.schedule c.log-invariant.ensures.legal c.log-invariant.ensures.range c.log-invariant.ensures.items c.args.q c.of_finding.result
+    (sym c.is_committed_query.ensures ∙ c.if-not-is_committed_query.false) c.of_finding.ensures

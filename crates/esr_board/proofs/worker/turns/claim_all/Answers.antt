@@ -2,7 +2,6 @@ use Rattle.std.proofs.Common.{rules, false, sym, subst, ◌∙◌, ◌≡◌, �
 use Rattle.std.proofs.lemmas.List.{get_or_default}
 use Rattle.esr_history.specs.Queries.{is_committed_query}
 use Rattle.esr_base.specs.declared.numbers.TxnId.{TxnId}
-use Rattle.esr_audit.specs.Findings.{IsFindingOf}
 use Rattle.esr_board.specs.Shares.{IsKeptOf, query_of}
 use Rattle.esr_board.proofs.Whole.{all_pushed}
 use Rattle.esr_board.proofs.Draws.{claimed_then, claimed_job, claimed_more, claimed_last, any_last}
@@ -26,12 +25,11 @@ pub returns-clause-jobs : goal.returns-clause-jobs
 returns-clause-jobs g c = claimed_last _ _ _ _ _ c.loop-job.invariant.has_claimed c.in_default.ensures.none.1
 
 pub loop-job-preserved : goal.loop-job-preserved
-loop-job-preserved g c = let job = c.in-Some.job in let f = c.in-Ok.finding in let x = c.from-kept.result in
-    let keeps = g.T.From.from_gives in let d = g.M.Metric.distance_by in let h = c.args.history.now.schedule in let q = c.args.jobs.now in
+loop-job-preserved g c = let job = c.in-Some.job in let x = c.in-Ok.kept in
+    let keeps = g.T.AuditResult.keeps in let d = g.M.Metric.distance_by in let h = c.args.history.now.schedule in let q = c.args.jobs.now in
     let more : c.push.new.self.items ≡ c.loop-job.found.items ++ (job, x) ∷ [] = search rules in
     let below : job < length q = omega (arith, c.in-Some.ensures.job.0, c.requires.jobs) in
-    let e = c.in-Ok.ensures in
-    let is : IsKeptOf keeps d h (query_of q job) x = (f, e.query ∙ get_or_default q job _ (record { 0 = 0 }) below, subst (λ (t : TxnId). IsFindingOf d h t.0 f) (sym e.query) e.finding, c.from-kept.ensures) in record {
+    let is : IsKeptOf keeps d h (query_of q job) x = subst (λ (t : TxnId). IsKeptOf keeps d h t x) (get_or_default q job _ (record { 0 = 0 }) below) c.in-Ok.ensures.kept in record {
       seat = search rules;
       has_claimed = claimed_more _ _ _ _ c.loop-job.found.items c.push.new.self.items job x c.loop-job.invariant.has_claimed c.in-Some.ensures.job.1 c.in-Some.ensures.job.0 more;
       kept = all_pushed (λ (p : ℕ × g.row.T.Denot). (p.0 < c.args.board.now.jobs) × IsKeptOf keeps d h (query_of q p.0) p.1) _ _ (job, x) more c.loop-job.invariant.kept (c.in-Some.ensures.job.0, is);

@@ -8,7 +8,7 @@ abbrev pub invariant-loop-job : goal.invariant-loop-job
 invariant-loop-job g l = record {
   seat : IsSeatOf l.board l.seat;
   has_claimed : HasClaimed l.board.jobs (claimed l.initial.seat) (claimed l.seat) (map (λ p. p.0) l.found.items);
-  kept : AreKept g.T.From.from_gives g.M.Metric.distance_by l.history.schedule l.jobs l.board.jobs l.found.items;
+  kept : AreKept g.T.AuditResult.keeps g.M.Metric.distance_by l.history.schedule l.jobs l.board.jobs l.found.items;
 }
 
 abbrev pub decreases-loop-job : goal.decreases-loop-job
