@@ -128,7 +128,7 @@ module _ (d : DistanceFunction) (h : Schedule) (q : ℕ) (range : IsWithinRanges
       let all : sum_by (λ (o : Operation). B) (reads_by h q) ≤ length (reads_by h q) * B = sum_by-le (λ (o : Operation). B) B (reads_by h q) (All-from_recursion (λ (o : Operation). B ≤ B) (reads_by h q) (each_in (λ (o : Operation). B ≤ B) (reads_by h q) (λ o i. omega arith))) in
       omega arith
 
-  module _ (legal : IsLegal d h) (us : List ℕ) (relevant : AreRelevant h q us) (o : ConflictOrder) (is_order : IsConflictOrderOn h q us o) (within_max : length h.opening ≤ 4096) (query : IsTrue (is_query (accepted_in h) q)) where
+  module _ (legal : IsLegal d h) (us : List ℕ) (relevant : AreRelevant h q us) (o : ConflictOrder) (is_order : IsConflictOrderOn h q us o) (count_within_max : length h.opening ≤ 4096) (query : IsTrue (is_query (accepted_in h) q)) where
     abbrev p : Problem
     p = problem_of_order d h q o
 

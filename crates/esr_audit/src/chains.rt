@@ -7,8 +7,8 @@ ghost use Rattle.std.specs.Prelude.{◌≡◌, ◌<◌, ◌≤◌, [], ◌∷◌
 ghost use Rattle.esr_items.specs.Values.{IsValue};
 ghost use Rattle.esr_base.specs.declared.limits.TheConstants.{MAX_READS};
 ghost use Rattle.esr_order.specs.Orders.{chain_at};
-ghost use Rattle.esr_cert.specs.Views.{chain_of as chain_view};
-ghost use Rattle.esr_order.specs.Chains.{chain_view as links_view, writers_in};
+ghost use Rattle.esr_cert.specs.Views.{chain_view};
+ghost use Rattle.esr_order.specs.Chains.{links_view, writers_in};
 ghost use Rattle.esr_audit.specs.Reads.{values_of, list_at, distance_sum, version_values, chain_of_item, audit_chain_by, items_in};
 
 use crate::reads::ItemRead;
@@ -57,10 +57,10 @@ fn costs_of<M: Metric>(
     opening: i64,
     versions: &[i64],
 ) -> Result<Vec<u64>, AllocError>
-    requires within_max { length values.now ≤ MAX_READS }
-    requires values { All IsValue values.now }
-    requires opening { IsValue opening }
-    requires versions { All IsValue versions.now }
+    requires count_within_max { length values.now ≤ MAX_READS }
+    requires values_in_range { All IsValue values.now }
+    requires opening_in_range { IsValue opening }
+    requires versions_in_range { All IsValue versions.now }
     ensures { IfOk result (λ v. v.items ≡ map (distance_sum (M.distance_by (M.weights metric.now)) x.0 values.now)
         (opening ∷ versions.now)) }
 {
@@ -97,10 +97,10 @@ fn chain_of<M: Metric>(
     values: &[i64],
     x: ItemId,
 ) -> Result<Chain, AllocError>
-    requires item { x.0 < length history.now.schedule.opening }
-    requires within_max { length values.now ≤ MAX_READS }
-    requires values { All IsValue values.now }
-    requires versions { All IsValue (version_values (option_map links_view links)) }
+    requires item_exists { x.0 < length history.now.schedule.opening }
+    requires count_within_max { length values.now ≤ MAX_READS }
+    requires values_in_range { All IsValue values.now }
+    requires versions_in_range { All IsValue (version_values (option_map links_view links)) }
     ensures { IfOk result (λ c. chain_view c ≡ audit_chain_by (M.distance_by history.now.schedule.weights)
         history.now.schedule.opening (option_map links_view links) values.now x.0) }
 {
@@ -127,16 +127,16 @@ pub fn take_chains<M: Metric>(
     order: &mut Order,
     reads: &[ItemRead],
 ) -> Result<Vec<Chain>, AllocError>
-    requires within_max { length reads.now ≤ MAX_READS }
-    requires reads { All (λ r. IsValue r.value) reads.now }
-    requires versions { (x : ℕ) → All IsValue (version_values (chain_at order.old x)) }
+    requires count_within_max { length reads.now ≤ MAX_READS }
+    requires reads_in_range { All (λ r. IsValue r.value) reads.now }
+    requires versions_in_range { (x : ℕ) → All IsValue (version_values (chain_at order.old x)) }
     ensures chains { IfOk result (λ v. map chain_view v.items
         ≡ map
         (chain_of_item (M.distance_by history.now.schedule.weights) history.now.schedule.opening order.old reads.now)
         (items_in reads.now (length history.now.schedule.opening))) }
-    ensures commits { order.new.commits ≡ order.old.commits }
-    ensures before { order.new.before ≡ order.old.before }
-    ensures must { order.new.must ≡ order.old.must }
+    ensures commits_unchanged { order.new.commits ≡ order.old.commits }
+    ensures before_unchanged { order.new.before ≡ order.old.before }
+    ensures must_unchanged { order.new.must ≡ order.old.must }
 {
     let lists = values_by_item(alloc, reads, history.items())?;
     let mut chains = Vec::new(alloc);

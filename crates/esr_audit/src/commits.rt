@@ -60,7 +60,7 @@ pub fn commit_lists<M: Metric>(alloc: Global, history: &History<M>) -> Result<Co
         ≡ committed_queries history.now.schedule) }
     ensures committed { IfOk result (λ lists. All (λ t. IsTrue
         (is_committed_query history.now.schedule t.0)) lists.queries.items) }
-    ensures within_max { IfOk result (λ lists. vec_len lists.queries ≤ MAX_TRANSACTIONS) }
+    ensures count_within_max { IfOk result (λ lists. vec_len lists.queries ≤ MAX_TRANSACTIONS) }
 {
     let _invariant = history.log(); // brings the invariant into the proof
     let txns = committed(alloc, history)?;

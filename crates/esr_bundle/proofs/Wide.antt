@@ -7,7 +7,7 @@ use Rattle.esr_base.specs.declared.limits.TheConstants.{MAX_ITEMS, MAX_TRANSACTI
 use Rattle.esr_cert.specs.Problem.{Problem, size, has_shape, is_in_range, is_well_formed, chain_is_in_range}
 use Rattle.esr_cert.specs.Faults.{problem_fault}
 use Rattle.esr_cert.specs.declared.problem.BundleFault.TheVariants.{Range}
-use Rattle.esr_cert.proofs.Sound.{all_in, all_from, within_max, range_facts, InRange}
+use Rattle.esr_cert.proofs.Sound.{all_in, all_from, count_within_max, range_facts, InRange}
 use Rattle.esr_bundle.specs.Bundle.{is_position, is_pair_of_positions, is_chain_of_positions}
 
 is_small : (n : ℕ) → n ≤ 65535 → is_position n ≡ true
@@ -37,7 +37,7 @@ positions p h = record {
     r = range_facts p (and_parts (has_shape p) (is_in_range p) h).1
 
     below : (u : ℕ) → ltb u (size p) ≡ true → is_position u ≡ true
-    below u l = is_small u (omega (arith, ltb-true _ _ l, within_max p h))
+    below u l = is_small u (omega (arith, ltb-true _ _ l, count_within_max p h))
 
 pub out_of_range : (p : Problem) → has_shape p ≡ true → (is_well_formed p ≡ true → ⊥) → problem_fault p ≡ Some Range
 out_of_range p s unsound = elim (cases_Bool (is_in_range p)) [

@@ -101,7 +101,7 @@ impl Fitted for Chain {
 
     ghost Kind = { spec.Chain };
 
-    ghost model_of = { views.chain_of };
+    ghost model_of = { views.chain_view };
 
     ghost drafted = { drafted_chain };
 

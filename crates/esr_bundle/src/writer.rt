@@ -63,7 +63,7 @@ impl Written for Vec<u64> {
 }
 
 impl Written for Chain {
-    ghost model_of = { λ chain. chain_data (views.chain_of chain) };
+    ghost model_of = { λ chain. chain_data (views.chain_view chain) };
 
     fn tree(&self, alloc: Global) -> Result<Value, AllocError> {
         let costs = list_tree(alloc, &self.costs)?;

@@ -8,16 +8,16 @@ use Rattle.esr_cert.specs.Problem.{Chain, Problem, size, is_well_formed}
 use Rattle.esr_cert.specs.Network.{arc_at, path_arcs, arcs_of_chain, predecessor_arc, must_arc, predecessor_arcs, must_arcs, network, Arc}
 use Rattle.esr_cert.specs.Starts.{starts_from, joined, AreStarts}
 use Rattle.esr_base.specs.declared.numbers.TxnId.{TxnId}
-use Rattle.esr_cert.specs.Views.{chain_of, problem_of}
-use Rattle.esr_cert.proofs.Sound.{here, there, facts, within_max, are_bounded, IsProblem}
+use Rattle.esr_cert.specs.Views.{chain_view, problem_of}
+use Rattle.esr_cert.proofs.Sound.{here, there, facts, count_within_max, are_bounded, IsProblem}
 use Rattle.esr_cert.proofs.Matched.{AreWhole, links_length}
 use Rattle.esr_cert.proofs.StartsLaws.{starts_long, row_ends, in_row, in_backs, in_musts, rows_end}
 
 -- the costs of the code's chains are as many as those of the chains that contracts see
-pub costs_count : (chains : List code.Chain) → sum_by (λ (chain : Chain). length chain.costs) (map chain_of chains) ≡ sum_by (λ (chain : code.Chain). length chain.costs.items) chains
+pub costs_count : (chains : List code.Chain) → sum_by (λ (chain : Chain). length chain.costs) (map chain_view chains) ≡ sum_by (λ (chain : code.Chain). length chain.costs.items) chains
 costs_count [] = refl
 costs_count (one ∷ chains) =
-    omega (arith, sum_by-cons (λ (chain : Chain). length chain.costs) (chain_of one) (map chain_of chains), sum_by-cons (λ (chain : code.Chain). length chain.costs.items) one chains, costs_count chains)
+    omega (arith, sum_by-cons (λ (chain : Chain). length chain.costs) (chain_view one) (map chain_view chains), sum_by-cons (λ (chain : code.Chain). length chain.costs.items) one chains, costs_count chains)
 
 -- ---- an arc by its number
 
@@ -109,7 +109,7 @@ writer_before source writers zero l = absurd (omega arith)
 writer_before source writers (suc j) l = ap (λ i. get_or writers i 0) (omega arith)
 
 -- the arcs of a problem's parts, in the code's types
-module _ (updates : List TxnId) (before : List (ℕ × ℕ)) (chains : List code.Chain) (must : List ℕ) (sound : is_well_formed (problem_of updates before chains must) ≡ true) (starts : List ℕ) (are : starts ≡ starts_from 0 (map chain_of chains)) where
+module _ (updates : List TxnId) (before : List (ℕ × ℕ)) (chains : List code.Chain) (must : List ℕ) (sound : is_well_formed (problem_of updates before chains must) ≡ true) (starts : List ℕ) (are : starts ≡ starts_from 0 (map chain_view chains)) where
   abbrev parts : Problem
   parts = problem_of updates before chains must
 
@@ -117,22 +117,22 @@ module _ (updates : List TxnId) (before : List (ℕ × ℕ)) (chains : List code
   ok = facts parts sound
 
   pub updates_bounded : length updates ≤ 65535
-  updates_bounded = omega (arith, within_max parts sound, length-map updates (λ t. t.0))
+  updates_bounded = omega (arith, count_within_max parts sound, length-map updates (λ t. t.0))
 
   pub chains_bounded : length chains ≤ 4096
-  chains_bounded = omega (arith, (are_bounded parts sound).chains, length-map chains chain_of)
+  chains_bounded = omega (arith, (are_bounded parts sound).chains, length-map chains chain_view)
 
   pub starts_are : AreStarts starts (map (arcs_of_chain (size parts)) parts.chains)
   starts_are = subst (λ list. AreStarts list (map (arcs_of_chain (size parts)) parts.chains)) (sym are) (links_starts parts ok)
 
   pub count_is : length starts ≡ length chains + 1
-  count_is = omega (arith, starts_are.count, length-map parts.chains (arcs_of_chain (size parts)), length-map chains chain_of)
+  count_is = omega (arith, starts_are.count, length-map parts.chains (arcs_of_chain (size parts)), length-map chains chain_view)
 
   abbrev links_end : ℕ
   links_end = get_or starts (length chains) 0
 
   end_is : links_end ≡ get_or (starts_from 0 parts.chains) (length parts.chains) 0
-  end_is = ap (λ list. get_or list (length chains) 0) are ∙ ap (λ n. get_or (starts_from 0 parts.chains) n 0) (sym (length-map chains chain_of))
+  end_is = ap (λ list. get_or list (length chains) 0) are ∙ ap (λ n. get_or (starts_from 0 parts.chains) n 0) (sym (length-map chains chain_view))
 
   size_is : size parts ≡ length updates
   size_is = length-map updates (λ t. t.0)
@@ -155,26 +155,26 @@ module _ (updates : List TxnId) (before : List (ℕ × ℕ)) (chains : List code
     next = let one : k + 1 ≡ suc k = omega arith in subst (λ n. number < get_or starts n 0) one (last (omega (arith, count_is, row_in_chains)))
 
     module _ (chain : code.Chain) (is : chain ≡ get_or chains k chain) where
-      chain_is : chain_of chain ≡ get_or parts.chains k (chain_of chain)
-      chain_is = ap chain_of is ∙ sym (get_or-map chain_of chains k chain (chain_of chain) row_in_chains)
+      chain_is : chain_view chain ≡ get_or parts.chains k (chain_view chain)
+      chain_is = ap chain_view is ∙ sym (get_or-map chain_view chains k chain (chain_view chain) row_in_chains)
 
       pub chain_whole : length chain.costs.items ≡ length chain.writers.items + 1
-      chain_whole = (ok.chains (chain_of chain) (k, omega (arith, length-map chains chain_of, row_in_chains), sym chain_is)).one_more
+      chain_whole = (ok.chains (chain_view chain) (k, omega (arith, length-map chains chain_view, row_in_chains), sym chain_is)).one_more
 
       pub place_in_chain : number - get_or starts k 0 < length chain.costs.items
       place_in_chain =
-          let row : get_or (map (arcs_of_chain (size parts)) parts.chains) k [] ≡ arcs_of_chain (size parts) (chain_of chain) =
-          get_or-map (arcs_of_chain (size parts)) parts.chains k (chain_of chain) [] (omega (arith, length-map chains chain_of, row_in_chains)) ∙ ap (arcs_of_chain (size parts)) (sym chain_is) in
+          let row : get_or (map (arcs_of_chain (size parts)) parts.chains) k [] ≡ arcs_of_chain (size parts) (chain_view chain) =
+          get_or-map (arcs_of_chain (size parts)) parts.chains k (chain_view chain) [] (omega (arith, length-map chains chain_view, row_in_chains)) ∙ ap (arcs_of_chain (size parts)) (sym chain_is) in
           let long : get_or starts (suc k) 0 ≡ get_or starts k 0 + length (get_or (map (arcs_of_chain (size parts)) parts.chains) k []) =
-          row_ends starts (map (arcs_of_chain (size parts)) parts.chains) starts_are k (omega (arith, row_in_chains, length-map parts.chains (arcs_of_chain (size parts)), length-map chains chain_of)) in
+          row_ends starts (map (arcs_of_chain (size parts)) parts.chains) starts_are k (omega (arith, row_in_chains, length-map parts.chains (arcs_of_chain (size parts)), length-map chains chain_view)) in
           omega (arith, long, ap length row, links_length (size parts) (size parts + 1) chain.writers.items chain.costs.items chain_whole, begun, next)
 
-      pub link_of : arc_at (arcs_of_chain (length updates) (chain_of chain)) (number - get_or starts k 0) ≡ arc_at (network parts).arcs number
+      pub link_of : arc_at (arcs_of_chain (length updates) (chain_view chain)) (number - get_or starts k 0) ≡ arc_at (network parts).arcs number
       link_of =
-          ap (λ n. arc_at (arcs_of_chain n (chain_of chain)) (number - get_or starts k 0)) (sym size_is)
+          ap (λ n. arc_at (arcs_of_chain n (chain_view chain)) (number - get_or starts k 0)) (sym size_is)
           ∙ ap (λ d. arc_at (arcs_of_chain (size parts) d) (number - get_or starts k 0)) chain_is
-          ∙ ap (λ list. arc_at (arcs_of_chain (size parts) (get_or parts.chains k (chain_of chain))) (number - get_or list k 0)) are
-          ∙ sym (arc_in_chain parts ok k number (chain_of chain) (omega (arith, row_in_chains, length-map chains chain_of)) (subst (λ list. get_or list k 0 ≤ number) are begun) (subst (λ list. number < get_or list (suc k) 0) are next))
+          ∙ ap (λ list. arc_at (arcs_of_chain (size parts) (get_or parts.chains k (chain_view chain))) (number - get_or list k 0)) are
+          ∙ sym (arc_in_chain parts ok k number (chain_view chain) (omega (arith, row_in_chains, length-map chains chain_view)) (subst (λ list. get_or list k 0 ≤ number) are begun) (subst (λ list. number < get_or list (suc k) 0) are next))
 
   module _ (number : ℕ) (late : links_end ≤ number) where
     pub pair_is : number - links_end < length before → predecessor_arc (get_or before (number - links_end) (0, 0)) ≡ arc_at (network parts).arcs number

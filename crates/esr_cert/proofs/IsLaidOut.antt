@@ -66,7 +66,7 @@ laid_rows {arcs} {node_count} {i} {spans} {steps} e laid_out =
 
 -- a step is in the row of the node where it starts, exactly once
 pub laid_steps : {arcs : List Arc} {node_count i : ℕ} {spans : List Span} {steps : List ResidualArc} → length arcs ≤ MAX_ARCS → i ≡ length arcs → IsLaidOut arcs node_count i spans steps → AreSteps arcs steps
-laid_steps {arcs} {node_count} {i} {spans} {steps} within_max e laid_out = record { within_max = within_max; count = laid_long laid_out; arc_in_range = arc_in_range; once = once }
+laid_steps {arcs} {node_count} {i} {spans} {steps} count_within_max e laid_out = record { count_within_max = count_within_max; count = laid_long laid_out; arc_in_range = arc_in_range; once = once }
   where
     h : IsLaidOut arcs node_count (length arcs) spans steps
     h = subst (λ n. IsLaidOut arcs node_count n spans steps) e laid_out

@@ -150,8 +150,8 @@ facts p h =
     }
 
 -- positions fit 16 bits
-pub within_max : (p : Problem) → is_well_formed p ≡ true → size p ≤ 65535
-within_max p h =
+pub count_within_max : (p : Problem) → is_well_formed p ≡ true → size p ≤ 65535
+count_within_max p h =
     let both : (has_shape p ≡ true) × (is_in_range p ≡ true) = and_parts _ _ h in
     distinct_bounded MAX_TRANSACTIONS p.updates (shape_facts p both.0).distinct (range_facts p both.1).numbers
 
@@ -186,7 +186,7 @@ are_bounded p h =
     let both : (has_shape p ≡ true) × (is_in_range p ≡ true) = and_parts _ _ h in
     let s : HasShape p = shape_facts p both.0 in
     let r : InRange p = range_facts p both.1 in
-    let n : size p ≤ 65535 = within_max p h in
+    let n : size p ≤ 65535 = count_within_max p h in
     let small : (e : ℕ × ℕ) → Contains p.before e → (ltb e.0 65536 && ltb e.1 65536) ≡ true =
     λ e k. let f : (ltb e.0 (size p) ≡ true) × (ltb e.1 (size p) ≡ true) = and_parts _ _ (all_in (λ (e : ℕ × ℕ). ltb e.0 (size p) && ltb e.1 (size p)) p.before e r.pairs k) in
     and_from (ltb e.0 65536) (ltb e.1 65536) (lt-ltb e.0 65536 (omega (arith, ltb-true e.0 (size p) f.0))) (lt-ltb e.1 65536 (omega (arith, ltb-true e.1 (size p) f.1))) in

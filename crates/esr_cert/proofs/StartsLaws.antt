@@ -7,7 +7,7 @@ use Rattle.std.specs.List.Sorted.{IsNonDecreasingBy, IsPartitionPoint}
 use Rattle.std.proofs.lemmas.List.Sorted.{IsNonDecreasingBy-from_default}
 use Rattle.esr_cert.specs.declared.problem.Chain as code
 use Rattle.esr_cert.specs.Problem.{Chain, Problem}
-use Rattle.esr_cert.specs.Views.{chain_of}
+use Rattle.esr_cert.specs.Views.{chain_view}
 use Rattle.esr_cert.specs.Certificate.{Certificate, are_rows_matched}
 use Rattle.esr_cert.specs.Starts.{starts_from, owners_from, joined, AreStarts}
 use Rattle.esr_cert.proofs.Sound.{here, there, IsProblem}
@@ -193,12 +193,12 @@ pub starts_long : (m : ℕ) (chains : List Chain) → length (starts_from m chai
 starts_long m [] = refl
 starts_long m (chain ∷ chains) = ap suc (starts_long (m + length chain.costs) chains)
 
-module _ (chains : List code.Chain) (starts owners : List ℕ) (number : ℕ) (s : starts ≡ starts_from 0 (map chain_of chains)) (o : owners ≡ owners_from 0 (map chain_of chains)) (early : number < get_or starts (length chains) 0) where
+module _ (chains : List code.Chain) (starts owners : List ℕ) (number : ℕ) (s : starts ≡ starts_from 0 (map chain_view chains)) (o : owners ≡ owners_from 0 (map chain_view chains)) (early : number < get_or starts (length chains) 0) where
   abbrev all : List Chain
-  all = map chain_of chains
+  all = map chain_view chains
 
   same_count : length all ≡ length chains
-  same_count = length-map chains chain_of
+  same_count = length-map chains chain_view
 
   in_all : number < length (owners_from 0 all)
   in_all = omega (arith, owners_end 0 0 all, ap (λ list. get_or list (length chains) 0) s, ap (λ n. get_or (starts_from 0 all) n 0) same_count, early)

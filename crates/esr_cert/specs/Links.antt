@@ -3,7 +3,7 @@ use Rattle.std.specs.Prelude.{◌≡◌, ℕ, ◌+◌, ◌<◌, ◌≤◌, List,
 use Rattle.esr_cert.specs.declared.problem.Chain.{Chain}
 use Rattle.esr_cert.specs.Network.{arc_at, Arc}
 use Rattle.esr_cert.specs.Starts.{starts_from}
-use Rattle.esr_cert.specs.Views.{chain_of}
+use Rattle.esr_cert.specs.Views.{chain_view}
 
 -- the arcs of a chain begin at a number, and lead from the source through its writers to the sink
 pub record HasLinks (arcs : List Arc) (source : ℕ) (chain : Chain) (begin : ℕ) : Type 0 where
@@ -17,4 +17,4 @@ pub record HasLinks (arcs : List Arc) (source : ℕ) (chain : Chain) (begin : �
 -- so do those of each of some chains
 abbrev pub HaveLinks : List Arc → ℕ → List Chain → Type 0
 HaveLinks arcs source chains = (k : ℕ) (chain : Chain) → k < length chains → chain ≡ get_or chains k chain
-    → HasLinks arcs source chain (get_or (starts_from 0 (map chain_of chains)) k 0)
+    → HasLinks arcs source chain (get_or (starts_from 0 (map chain_view chains)) k 0)

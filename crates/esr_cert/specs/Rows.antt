@@ -47,7 +47,7 @@ pub record AreRows (arcs : List Arc) (n : ℕ) (spans : List Span) (steps : List
 
 -- the two steps of each of some arcs, each once, and few enough for their numbers
 pub record AreSteps (arcs : List Arc) (steps : List ResidualArc) : Type 0 where
-  pub within_max : length arcs ≤ MAX_ARCS
+  pub count_within_max : length arcs ≤ MAX_ARCS
   pub count : length steps ≡ 2 * length arcs
   pub arc_in_range : (k : ℕ) → k < length steps → arc_of (step_at steps k) < length arcs
   pub once : AreOnce steps

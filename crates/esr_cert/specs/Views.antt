@@ -8,15 +8,15 @@ use Rattle.esr_cert.specs.declared.problem.Chain.{Chain}
 use Rattle.esr_cert.specs.declared.problem.ProblemParts.{ProblemParts}
 use Rattle.esr_cert.specs.declared.certificate.Certificate.{Certificate}
 
-abbrev pub chain_of : Chain → spec.Chain
-chain_of chain = record { item = chain.item.0; writers = chain.writers.items; costs = chain.costs.items }
+abbrev pub chain_view : Chain → spec.Chain
+chain_view chain = record { item = chain.item.0; writers = chain.writers.items; costs = chain.costs.items }
 
 abbrev pub rows_of : List (Vec ℕ Global) → List (List ℕ)
 rows_of rows = map (λ row. row.items) rows
 
 abbrev pub problem_of : List TxnId → List (ℕ × ℕ) → List Chain → List ℕ → spec.Problem
 problem_of updates before chains must =
-    record { updates = map (λ t. t.0) updates; before = before; chains = map chain_of chains; must = must }
+    record { updates = map (λ t. t.0) updates; before = before; chains = map chain_view chains; must = must }
 
 abbrev pub problem_by : ProblemParts → spec.Problem
 problem_by p = problem_of p.updates.items p.before.items p.chains.items p.must.items

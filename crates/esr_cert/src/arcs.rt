@@ -5,7 +5,7 @@
 //! it often: with a binary search instead, a solve took 1.4 to 1.7 times as long.
 ghost use Rattle.std.specs.Prelude.{◌≡◌, ◌+◌, ◌^◌, ◌<◌, ◌≤◌, [], ◌∷◌, ◌++◌, length, get_or, map, sum_by, List, true};
 ghost use Rattle.esr_base.specs.declared.limits.TheConstants.{MAX_ITEMS, MAX_TRANSACTIONS};
-ghost use Rattle.esr_cert.specs.Views.{chain_of, problem_of};
+ghost use Rattle.esr_cert.specs.Views.{chain_view, problem_of};
 ghost use Rattle.esr_cert.specs.Network.{arc_at, arcs_of_chain, network};
 ghost use Rattle.esr_cert.specs.declared.network.Arc.{Arc};
 ghost use Rattle.esr_cert.specs.Problem.{is_well_formed};
@@ -46,7 +46,7 @@ fn link_at(chain: &Chain, source: u32, j: usize) -> Arc
     requires count { length chain.now.costs.items ≡ length chain.now.writers.items + 1 }
     requires place { j < length chain.now.costs.items }
     requires source { source ≤ MAX_TRANSACTIONS }
-    ensures { result ≡ arc_at (arcs_of_chain source (chain_of chain.now)) j }
+    ensures { result ≡ arc_at (arcs_of_chain source (chain_view chain.now)) j }
 {
     Arc {
         from: arc_tail(chain, source, j),
@@ -73,8 +73,8 @@ impl<'a> Model for Arcs<'a> {
     ghost view = { λ a. (network (problem_of a.updates.now a.before.now a.chains.now a.must.now)).arcs };
 
     ghost invariant = { λ a. (is_well_formed (problem_of a.updates.now a.before.now a.chains.now a.must.now) ≡ true)
-        × (a.starts.now ≡ starts_from 0 (map chain_of a.chains.now))
-        × (a.owners.now ≡ owners_from 0 (map chain_of a.chains.now)) };
+        × (a.starts.now ≡ starts_from 0 (map chain_view a.chains.now))
+        × (a.owners.now ≡ owners_from 0 (map chain_view a.chains.now)) };
 }
 
 impl<'a> Arcs<'a> {
@@ -88,7 +88,7 @@ impl<'a> Arcs<'a> {
     /// Returns the chains, whose arcs come first, and the source.
     pub fn chains(&self) -> (&'a [Chain], u32)
         ensures links { HaveLinks self.now result.1 result.0.now }
-        ensures within_max { result.1 ≤ MAX_TRANSACTIONS }
+        ensures count_within_max { result.1 ≤ MAX_TRANSACTIONS }
     {
         let source = self.updates.len() as u32;
         (self.chains, source)
@@ -123,7 +123,7 @@ impl<'a> Arcs<'a> {
 /// Returns the number of arcs of the chains.
 fn link_count(chains: &[Chain]) -> u128
     requires { length chains.now ≤ MAX_ITEMS }
-    ensures value { result ≡ sum_by (λ chain. length chain.costs) (map chain_of chains.now) }
+    ensures value { result ≡ sum_by (λ chain. length chain.costs) (map chain_view chains.now) }
     ensures small { result < 2 ^ 76 }
 {
     let mut count: u128 = 0;
@@ -137,7 +137,7 @@ fn link_count(chains: &[Chain]) -> u128
 pub fn arc_count(before: &[(u32, u32)], chains: &[Chain], must: &[u32]) -> u128
     requires { length chains.now ≤ MAX_ITEMS }
     ensures value { result
-        ≡ sum_by (λ chain. length chain.costs) (map chain_of chains.now) + length before.now + length must.now }
+        ≡ sum_by (λ chain. length chain.costs) (map chain_view chains.now) + length before.now + length must.now }
     ensures small { result < 2 ^ 77 }
 {
     link_count(chains) + before.len() as u128 + must.len() as u128

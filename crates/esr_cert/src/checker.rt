@@ -13,7 +13,7 @@ ghost use Rattle.esr_cert.specs.Certificate.{amounts, is_known, is_within, worth
 ghost use Rattle.esr_cert.specs.Balance.{is_balanced};
 ghost use Rattle.esr_cert.specs.Starts.{AreStarts};
 ghost use Rattle.esr_cert.specs.Parts.{is_row_within, are_rows_within};
-ghost use Rattle.esr_cert.specs.Views.{chain_of, rows_of, certificate_of};
+ghost use Rattle.esr_cert.specs.Views.{chain_view, rows_of, certificate_of};
 
 use crate::arcs::arc_count;
 use crate::certificate::{Certificate, Fault};
@@ -70,7 +70,7 @@ fn is_row_within(costs: &[u64], row: &[u64]) -> bool
 }
 
 fn are_rows_within(chains: &[Chain], rows: &[Vec<u64>]) -> bool
-    ensures { result ≡ are_rows_within (map chain_of chains.now) (rows_of rows.now) }
+    ensures { result ≡ are_rows_within (map chain_view chains.now) (rows_of rows.now) }
 {
     if chains.len() != rows.len() {
         return false;
@@ -179,7 +179,7 @@ fn version(writers: &[u32], set: &[u32]) -> usize
 
 fn set_cost(chains: &[Chain], set: &[u32]) -> u128
     requires { is_ascending set.now ≡ true }
-    ensures { result ≡ sum_by (chain_cost (in_set set.now)) (map chain_of chains.now) }
+    ensures { result ≡ sum_by (chain_cost (in_set set.now)) (map chain_view chains.now) }
 {
     let mut sum: u128 = 0;
     for chain in chains {

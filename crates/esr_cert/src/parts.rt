@@ -1,7 +1,7 @@
 //! Checks the shape of parts, as numbers of any size, for `Problem::new`.
 ghost use Rattle.std.specs.Prelude.{◌≡◌, map, IfOk};
 ghost use Rattle.esr_cert.specs.Problem.{has_shape};
-ghost use Rattle.esr_cert.specs.Views.{chain_of, problem_by};
+ghost use Rattle.esr_cert.specs.Views.{chain_view, problem_by};
 ghost use Rattle.esr_cert.specs.Drafts.{drafted_chain, drafted_problem};
 
 use crate::draft::{ChainDraft, ProblemDraft};
@@ -37,7 +37,7 @@ fn wide_pairs(alloc: Global, pairs: &[(u32, u32)]) -> Result<Vec<(u64, u64)>, Al
 }
 
 fn chain_draft(alloc: Global, chain: &Chain) -> Result<ChainDraft, AllocError>
-    ensures { IfOk result (λ d. drafted_chain d ≡ chain_of chain.now) }
+    ensures { IfOk result (λ d. drafted_chain d ≡ chain_view chain.now) }
 {
     let writers = wide(alloc, &chain.writers)?;
     let costs = chain.costs.to_vec(alloc)?;
@@ -49,7 +49,7 @@ fn chain_draft(alloc: Global, chain: &Chain) -> Result<ChainDraft, AllocError>
 }
 
 fn chain_drafts(alloc: Global, chains: &[Chain]) -> Result<Vec<ChainDraft>, AllocError>
-    ensures { IfOk result (λ v. map drafted_chain v.items ≡ map chain_of chains.now) }
+    ensures { IfOk result (λ v. map drafted_chain v.items ≡ map chain_view chains.now) }
 {
     let mut drafts = Vec::new(alloc);
     for chain in chains {

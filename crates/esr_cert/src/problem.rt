@@ -13,7 +13,7 @@ ghost use Rattle.esr_cert.specs.Faults.{problem_fault, bundle_fault_number};
 ghost use Rattle.esr_cert.specs.Network.{arc_at, network};
 ghost use Rattle.esr_cert.specs.Rows.{AreLaidOut};
 ghost use Rattle.esr_cert.specs.Starts.{starts_from, owners_from};
-ghost use Rattle.esr_cert.specs.Views.{chain_of, problem_by, problem_of};
+ghost use Rattle.esr_cert.specs.Views.{chain_view, problem_by, problem_of};
 ghost use Rattle.esr_cert.specs.Problem as spec;
 
 use crate::arcs::{Arcs, arc_count};
@@ -212,7 +212,7 @@ impl Problem {
     /// Returns the numbers of the updates. Elsewhere an update is named by its position here.
     pub fn updates(&self) -> &[TxnId]
         ensures list { map (λ t. t.0) result.now ≡ self.now.updates }
-        ensures within_max { size self.now ≤ MAX_TRANSACTIONS }
+        ensures count_within_max { size self.now ≤ MAX_TRANSACTIONS }
         ensures sound { is_well_formed self.now ≡ true }
     {
         &self.parts.updates
@@ -228,7 +228,7 @@ impl Problem {
 
     /// Returns the chains, ascending by item.
     pub fn chains(&self) -> &[Chain]
-        ensures list { map chain_of result.now ≡ self.now.chains }
+        ensures list { map chain_view result.now ≡ self.now.chains }
         ensures sound { is_well_formed self.now ≡ true }
     {
         &self.parts.chains

@@ -3,7 +3,7 @@
 ghost use Rattle.std.specs.Prelude.{◌≡◌, ◌&&◌, map, nat_lt, nat_le};
 ghost use Rattle.std.specs.List.{list_all, sum_by};
 ghost use Rattle.esr_cert.specs.Problem.{greatest, chain_is_in_range, is_in_range};
-ghost use Rattle.esr_cert.specs.Views.{chain_of, problem_by};
+ghost use Rattle.esr_cert.specs.Views.{chain_view, problem_by};
 
 use crate::lists::are_below;
 use crate::problem::{Chain, ProblemParts};
@@ -31,7 +31,7 @@ fn are_updates_in_range(updates: &[TxnId]) -> bool
 }
 
 fn chain_is_in_range(chain: &Chain, n: usize) -> bool
-    ensures { result ≡ chain_is_in_range n (chain_of chain.now) }
+    ensures { result ≡ chain_is_in_range n (chain_view chain.now) }
 {
     if chain.item.0 as usize >= MAX_ITEMS {
         return false;
@@ -40,7 +40,7 @@ fn chain_is_in_range(chain: &Chain, n: usize) -> bool
 }
 
 fn are_chains_in_range(chains: &[Chain], n: usize) -> bool
-    ensures { result ≡ list_all (chain_is_in_range n) (map chain_of chains.now) }
+    ensures { result ≡ list_all (chain_is_in_range n) (map chain_view chains.now) }
 {
     for chain in chains {
         if !chain_is_in_range(chain, n) {
@@ -71,7 +71,7 @@ fn greatest(costs: &[u64]) -> u64
 }
 
 fn greatest_costs(chains: &[Chain]) -> u128
-    ensures { result ≡ sum_by (λ chain. greatest chain.costs) (map chain_of chains.now) }
+    ensures { result ≡ sum_by (λ chain. greatest chain.costs) (map chain_view chains.now) }
 {
     let mut sum: u128 = 0;
     for chain in chains {

@@ -39,7 +39,7 @@ fn count_links(
     _begin: usize,
     degrees: &mut Vec<u32>,
 )
-    requires within_max { length _arcs.now ≤ MAX_ARCS }
+    requires count_within_max { length _arcs.now ≤ MAX_ARCS }
     requires ends { EndsAreNodes _arcs.now _nodes }
     requires source { source ≤ MAX_TRANSACTIONS }
     requires links { HasLinks _arcs.now source chain.now _begin }
@@ -56,7 +56,7 @@ fn count_links(
 
 /// Counts the steps of the arcs from a number on.
 fn count_others(arcs: &Arcs, _nodes: usize, first: usize, degrees: &mut Vec<u32>)
-    requires within_max { length arcs.now ≤ MAX_ARCS }
+    requires count_within_max { length arcs.now ≤ MAX_ARCS }
     requires ends { EndsAreNodes arcs.now _nodes }
     requires first { first ≤ length arcs.now }
     requires counted { Counted arcs.now _nodes (first_steps first) degrees.old.items }
@@ -74,7 +74,7 @@ fn count_others(arcs: &Arcs, _nodes: usize, first: usize, degrees: &mut Vec<u32>
 /// Returns how many steps start at each node: its outgoing and its incoming arcs. The ends of a chain's arcs are read
 /// off the chain, since finding an arc by its number needs a look-up.
 fn degrees_of(alloc: Global, node_count: usize, arcs: &Arcs) -> Result<Vec<u32>, AllocError>
-    requires within_max { length arcs.now ≤ MAX_ARCS }
+    requires count_within_max { length arcs.now ≤ MAX_ARCS }
     requires ends { EndsAreNodes arcs.now node_count }
     ensures { IfOk result (λ degrees. AreDegrees arcs.now node_count degrees.items) }
 {
@@ -142,7 +142,7 @@ impl Rows {
         requires node { node < length self.old.spans.items }
         requires arc { arc_of step < 2147483648 }
         requires in_bounds { (span_at self.old.spans.items node).end < length self.old.steps.items }
-        requires within_max { length self.old.steps.items < 4294967296 }
+        requires count_within_max { length self.old.steps.items < 4294967296 }
         ensures spans { self.new.spans.items ≡ lengthen self.old.spans.items node }
         ensures steps { self.new.steps.items ≡ set self.old.steps.items (span_at self.old.spans.items node).end step }
     {
@@ -154,7 +154,7 @@ impl Rows {
 
 /// Puts the steps of the arcs of a chain, which begin at a number, into their rows.
 fn lay_links(_arcs: &Arcs, _nodes: usize, source: u32, chain: &Chain, begin: usize, rows: &mut Rows)
-    requires within_max { length _arcs.now ≤ MAX_ARCS }
+    requires count_within_max { length _arcs.now ≤ MAX_ARCS }
     requires ends { EndsAreNodes _arcs.now _nodes }
     requires source { source ≤ MAX_TRANSACTIONS }
     requires links { HasLinks _arcs.now source chain.now begin }
@@ -172,7 +172,7 @@ fn lay_links(_arcs: &Arcs, _nodes: usize, source: u32, chain: &Chain, begin: usi
 
 /// Puts the steps of the arcs from a number on into their rows.
 fn lay_others(arcs: &Arcs, _nodes: usize, first: usize, rows: &mut Rows)
-    requires within_max { length arcs.now ≤ MAX_ARCS }
+    requires count_within_max { length arcs.now ≤ MAX_ARCS }
     requires ends { EndsAreNodes arcs.now _nodes }
     requires first { first ≤ length arcs.now }
     requires laid_out { IsLaidOut arcs.now _nodes first rows.old.spans.items rows.old.steps.items }
@@ -189,7 +189,7 @@ fn lay_others(arcs: &Arcs, _nodes: usize, first: usize, rows: &mut Rows)
 /// Returns for each node the steps that start at it: counts them, then puts each into its row.
 #[tactic(auto, using(crate::proofs::LinksLaws::starts_first))]
 pub fn rows_of(alloc: Global, node_count: usize, arcs: &Arcs) -> Result<Rows, AllocError>
-    requires within_max { length arcs.now ≤ MAX_ARCS }
+    requires count_within_max { length arcs.now ≤ MAX_ARCS }
     requires ends { EndsAreNodes arcs.now node_count }
     ensures rows { IfOk result (λ rows. AreRows arcs.now node_count rows.spans.items rows.steps.items) }
     ensures steps { IfOk result (λ rows. AreSteps arcs.now rows.steps.items) }

@@ -4,7 +4,7 @@ ghost use Rattle.std.specs.Prelude.{◌≡◌, ◌+◌, ◌<◌, ◌≤◌, ◌+
 ghost use Rattle.std.specs.List.Sorted.{IsNonDecreasingBy};
 ghost use Rattle.esr_base.specs.declared.limits.TheConstants.{MAX_ITEMS};
 ghost use Rattle.esr_cert.specs.Starts.{starts_from, owners_from};
-ghost use Rattle.esr_cert.specs.Views.{chain_of};
+ghost use Rattle.esr_cert.specs.Views.{chain_view};
 
 use crate::problem::Chain;
 use std::alloc::{AllocError, Global};
@@ -12,7 +12,7 @@ use std::alloc::{AllocError, Global};
 /// Returns the number of the first arc of each chain, and of the first arc after them all.
 pub fn starts_of(alloc: Global, chains: &[Chain]) -> Result<Vec<u32>, AllocError>
     requires { sum_by (λ chain. length chain.costs.items) chains.now ≤ 4294967295 }
-    ensures { IfOk result (λ starts. starts.items ≡ starts_from 0 (map chain_of chains.now)) }
+    ensures { IfOk result (λ starts. starts.items ≡ starts_from 0 (map chain_view chains.now)) }
 {
     let mut starts = Vec::with_capacity(alloc, chains.len().saturating_add(1))?;
     let mut next = 0;
@@ -48,7 +48,7 @@ fn push_owner(owners: &mut Vec<u16>, chain: u16, count: usize) -> Result<(), All
 /// Returns the chain of each arc of the chains, which have `count` arcs in total.
 pub fn owners_of(alloc: Global, chains: &[Chain], count: usize) -> Result<Vec<u16>, AllocError>
     requires { length chains.now ≤ MAX_ITEMS }
-    ensures { IfOk result (λ owners. owners.items ≡ owners_from 0 (map chain_of chains.now)) }
+    ensures { IfOk result (λ owners. owners.items ≡ owners_from 0 (map chain_view chains.now)) }
 {
     let mut owners = Vec::with_capacity(alloc, count)?;
     for (k, chain) in chains.iter().enumerate() {
@@ -59,8 +59,8 @@ pub fn owners_of(alloc: Global, chains: &[Chain], count: usize) -> Result<Vec<u1
 
 /// Returns the chain of an arc of the chains, by the arc's number: the last that begins at or before the number.
 pub fn owner_at(_chains: &[Chain], _starts: &[u32], owners: &[u16], number: u32) -> usize
-    requires starts { _starts.now ≡ starts_from 0 (map chain_of _chains.now) }
-    requires owners { owners.now ≡ owners_from 0 (map chain_of _chains.now) }
+    requires starts { _starts.now ≡ starts_from 0 (map chain_view _chains.now) }
+    requires owners { owners.now ≡ owners_from 0 (map chain_view _chains.now) }
     requires early { number < get_or _starts.now (length _chains.now) 0 }
     ensures bound { result < length _starts.now }
     ensures begun { get_or _starts.now result 0 ≤ number }

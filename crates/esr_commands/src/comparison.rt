@@ -2,7 +2,7 @@
 //! positive verdict depends on it.
 
 ghost use Rattle.std.specs.Prelude.{◌≡◌, ◌↔◌, IsTrue, map};
-ghost use Rattle.esr_cert.specs.Views.{chain_of};
+ghost use Rattle.esr_cert.specs.Views.{chain_view};
 
 use esr_cert::{Chain, Problem};
 use esr_history::TxnId;
@@ -46,7 +46,7 @@ fn are_same_numbers(a: &[u32], b: &[u32]) -> bool
 
 /// Returns whether two chains are the same.
 fn is_same_chain(a: &Chain, b: &Chain) -> bool
-    ensures { IsTrue result ↔ (chain_of a.now ≡ chain_of b.now) }
+    ensures { IsTrue result ↔ (chain_view a.now ≡ chain_view b.now) }
 {
     a.item.0 == b.item.0
         && a.writers.as_slice() == b.writers.as_slice()
@@ -55,7 +55,7 @@ fn is_same_chain(a: &Chain, b: &Chain) -> bool
 
 /// Returns whether two lists of chains are the same.
 fn are_same_chains(a: &[Chain], b: &[Chain]) -> bool
-    ensures { IsTrue result → map chain_of a.now ≡ map chain_of b.now }
+    ensures { IsTrue result → map chain_view a.now ≡ map chain_view b.now }
 {
     if a.len() != b.len() {
         return false;

@@ -70,7 +70,7 @@ module _ (d : DistanceFunction) (h : Schedule) (items : List Versions) (table : 
 
   -- how often each query has read the item
   pub bounded_here : (t x : ℕ) → x < length items → total_read_count (accepted_in h) t < 1000 → All (λ (r : ℕ × ℕ). r.0 ≡ t → r.1 < 1000) (locks_at locks x).queries
-  bounded_here t x l within_max =
+  bounded_here t x l count_within_max =
       subst (λ (g : ItemLocks). All (λ (r : ℕ × ℕ). r.0 ≡ t → r.1 < 1000) g.queries) (sym (ap (λ (ls : List ItemLocks). locks_at ls x) rep.locked ∙ locks_at_item (accepted_in h) (length h.opening) x (rw (← rep.count) l)))
       (All-from_recursion (λ (r : ℕ × ℕ). r.0 ≡ t → r.1 < 1000) (filter_map (query_reads (accepted_in h) x) (txn_numbers (accepted_in h))) (each (txn_numbers (accepted_in h))))
     where

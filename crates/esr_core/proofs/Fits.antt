@@ -72,10 +72,10 @@ law_of_carried_length d h =
     let begins : length (map (carried_begin d h) (active_numbers h)) ≡ length (active_numbers h) = length-map (active_numbers h) (carried_begin d h) in
     let active : length (active_numbers h) ≤ length (txn_numbers (accepted_in h)) = kept_bounded (is_active (accepted_in h)) (txn_numbers (accepted_in h)) in
     let all : length (txn_numbers (accepted_in h)) ≡ length (begin_records (accepted_in h)) = range_length 1 (length (begin_records (accepted_in h))) in
-    let within_max : length (begin_records (accepted_in h)) + (length (filter_map (λ e. carried_operation h e.reply e.event) es) + length (filter_map (carried_read h) (accepted_in h))) ≤ length es = fewer d h es in
+    let count_within_max : length (begin_records (accepted_in h)) + (length (filter_map (λ e. carried_operation h e.reply e.event) es) + length (filter_map (carried_read h) (accepted_in h))) ≤ length es = fewer d h es in
     let kept : length es ≤ length h.entries = kept_bounded (λ e. not (is_refusal e.reply)) h.entries in
     rw (
       length-append (map (carried_begin d h) (active_numbers h)) (filter_map (λ e. carried_operation h e.reply e.event) es ++ filter_map (carried_read h) (accepted_in h)),
       length-append (filter_map (λ e. carried_operation h e.reply e.event) es) (filter_map (carried_read h) (accepted_in h)),
     )
-    (omega (arith, begins, active, all, within_max, kept))
+    (omega (arith, begins, active, all, count_within_max, kept))

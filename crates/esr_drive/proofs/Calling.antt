@@ -22,7 +22,7 @@ use Rattle.esr_plan.specs.Blocks.{Answered, IsRun, AreRuns, start, more, event_o
 run_of : (e : Event) (r : Receipt) (blocked : List Receipt)
     → All (λ s. (s.event ≡ e) × (is_blocked s.reply ≡ true)) blocked → r.event ≡ e → length blocked < 100 → (is_blocked r.reply ≡ true → length blocked + 1 ≡ 100)
     → IsRun e r.reply (blocked ++ r ∷ [])
-run_of e r blocked all same within_max patient =
+run_of e r blocked all same count_within_max patient =
     let len = length-append blocked (r ∷ []) in
     record {
       blocked = blocked;
@@ -30,7 +30,7 @@ run_of e r blocked all same within_max patient =
       parts = refl;
       events = All-push (λ (s : Receipt). s.event ≡ e) blocked r (λ k x lt. (all k x lt).0) same;
       were_blocked = λ k x lt. (all k x lt).1;
-      upper_bound = omega (arith, len, within_max);
+      upper_bound = omega (arith, len, count_within_max);
       patient = λ b. let all_turns = patient b in omega (arith, len, all_turns);
       reply_is = refl;
     }
@@ -126,7 +126,7 @@ call_next replies e (Some c) is = (c, refl, same_Some _ _ is)
 
 pub begun : (calls : List Call) → IsUnderWay calls [] 0 []
 begun calls = record {
-  within_max = omega arith;
+  count_within_max = omega arith;
   done = [];
   again = [];
   parts = refl;
@@ -140,7 +140,7 @@ begun calls = record {
 pub still_blocked : (calls : List Call) (replies : List Reply) (blocked : ℕ) (receipts : List Receipt) (r : Receipt)
     → IsUnderWay calls replies blocked receipts → next_event calls replies ≡ Some r.event → is_blocked r.reply ≡ true → IsUnderWay calls replies (blocked + 1) (receipts ++ r ∷ [])
 still_blocked calls replies blocked receipts r way next is = record {
-  within_max = way.within_max;
+  count_within_max = way.count_within_max;
   done = way.done;
   again = way.again ++ r ∷ [];
   parts = ap (λ (rs : List Receipt). rs ++ r ∷ []) way.parts ∙ append_assoc way.done way.again (r ∷ []);
@@ -154,7 +154,7 @@ still_blocked calls replies blocked receipts r way next is = record {
 pub answered : (calls : List Call) (replies : List Reply) (blocked : ℕ) (receipts : List Receipt) (r : Receipt)
     → IsUnderWay calls replies blocked receipts → next_event calls replies ≡ Some r.event → blocked < 100 → (is_blocked r.reply ≡ true → blocked + 1 ≡ 100)
     → IsUnderWay calls (replies ++ r.reply ∷ []) 0 (receipts ++ r ∷ [])
-answered calls replies blocked receipts r way next within_max patient =
+answered calls replies blocked receipts r way next count_within_max patient =
     let i = length replies in
     let found = call_next replies r.event (slice_get calls i) next in
     let c = found.0 in
@@ -162,9 +162,9 @@ answered calls replies blocked receipts r way next within_max patient =
     let is : get_or calls i c ≡ c = get_or_from_slice_get calls i c c found.1 in
     let len : length (replies ++ r.reply ∷ []) ≡ i + 1 = length-append replies (r.reply ∷ []) in
     let run : IsRun r.event r.reply (way.again ++ r ∷ []) =
-    run_of r.event r way.again (λ k s below. let b = way.were_blocked k s below in (same_Some _ _ (sym b.0 ∙ next), b.1)) refl (omega (arith, way.times, within_max)) (λ b. let p = patient b in omega (arith, way.times, p)) in
+    run_of r.event r way.again (λ k s below. let b = way.were_blocked k s below in (same_Some _ _ (sym b.0 ∙ next), b.1)) refl (omega (arith, way.times, count_within_max)) (λ b. let p = patient b in omega (arith, way.times, p)) in
     record {
-      within_max = omega (arith, len, lt);
+      count_within_max = omega (arith, len, lt);
       done = way.done ++ (way.again ++ r ∷ []);
       again = [];
       parts = ap (λ (rs : List Receipt). rs ++ r ∷ []) way.parts ∙ append_assoc way.done way.again (r ∷ []) ∙ sym (append-nil (way.done ++ (way.again ++ r ∷ [])));
@@ -179,7 +179,7 @@ answered calls replies blocked receipts r way next within_max patient =
           (subst (λ (l : List Answered). AreRuns names l (way.done ++ (way.again ++ r ∷ []))) (sym answers) on);
       were_blocked = λ k x below. absurd (omega (arith, below));
       times = refl;
-      upper_bound = omega (arith, len, way.upper_bound, way.times, within_max, length-append way.done (way.again ++ r ∷ []), length-append way.again (r ∷ []));
+      upper_bound = omega (arith, len, way.upper_bound, way.times, count_within_max, length-append way.done (way.again ++ r ∷ []), length-append way.again (r ∷ []));
     }
 
 -- if all calls have their replies, no call has been retried since
@@ -192,14 +192,14 @@ none_resumed calls replies (r ∷ again) le all =
 
 pub bounded_calls : (calls : List Call) (replies : List Reply) (blocked : ℕ) (receipts : List Receipt) → IsUnderWay calls replies blocked receipts → blocked < 100
     → length receipts ≤ 100 * length calls
-bounded_calls calls replies blocked receipts way within_max =
+bounded_calls calls replies blocked receipts way count_within_max =
     let len = ap length way.parts ∙ length-append way.done way.again in
     let split : (length calls ≤ length replies) ⊎ (length replies < length calls) = grind arith in
     elim split [
       | inl le ↦
           let none = ap length (none_resumed calls replies way.again le way.were_blocked) in
-          omega (arith, len, none, way.upper_bound, way.within_max)
-      | inr lt ↦ omega (arith, len, way.times, within_max, way.upper_bound, lt)
+          omega (arith, len, none, way.upper_bound, way.count_within_max)
+      | inr lt ↦ omega (arith, len, way.times, count_within_max, way.upper_bound, lt)
     ]
 
 -- a block whose calls all have their replies is run
@@ -208,7 +208,7 @@ pub block_run : (calls : List Call) (replies : List Reply) (blocked : ℕ) (rece
 block_run calls replies blocked receipts way le =
     let all : receipts ≡ way.done = way.parts ∙ ap (λ (rs : List Receipt). way.done ++ rs) (none_resumed calls replies way.again le way.were_blocked) ∙ append-nil way.done in
     record {
-      every = omega (arith, le, way.within_max);
+      every = omega (arith, le, way.count_within_max);
       runs = λ names resolved.
           subst (λ (rs : List Receipt). AreRuns names (answers_of calls replies) rs) (sym all)
           (subst (λ (l : List Call). AreRuns names (answers_of l replies) way.done) (take_all (length replies) calls le) (way.runs names resolved));
@@ -230,6 +230,6 @@ not_zero (suc n) not = omega arith
 pub nearer : (calls : List Call) (replies : List Reply) (m n : ℕ) (old made new : List Receipt) → length calls ≡ m → length replies < m
     → (n ≡ 0 → next_event calls replies ≡ None) → new ≡ old ++ made → n ≡ length made → length new ≤ 100 * m
     → 100 * m + 1 - length new < 100 * m + 1 - length old
-nearer calls replies m n old made new len lt none grown count within_max =
+nearer calls replies m n old made new len lt none grown count count_within_max =
     let some = not_zero n (λ zero. has_next calls replies (omega (arith, len, lt)) (none zero)) in
-    omega (arith, some, count, within_max, ap length grown, length-append old made)
+    omega (arith, some, count, count_within_max, ap length grown, length-append old made)

@@ -14,7 +14,7 @@ next_event calls replies = option_map (event_by replies) (slice_get calls (lengt
 
 -- the first calls of the block have these last replies, and the next call was blocked `blocked` times after them
 pub record IsUnderWay (calls : List Call) (replies : List Reply) (blocked : ℕ) (receipts : List Receipt) : Type 0 where
-  pub within_max : length replies ≤ length calls
+  pub count_within_max : length replies ≤ length calls
   pub done : List Receipt
   pub again : List Receipt
   pub parts : receipts ≡ done ++ again

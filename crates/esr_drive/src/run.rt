@@ -37,7 +37,7 @@ struct BlockProgress<'a, 't> {
     replies: Vec<Reply>,
     blocked: u32,
     ghost fits: { length calls.now ≤ vec_capacity replies },
-    ghost within_max: { blocked < 100 },
+    ghost count_within_max: { blocked < 100 },
 }
 
 impl EventSource for BlockProgress<'_, '_> {

@@ -57,7 +57,7 @@ first_long count names = length-map-range_with_len (λ i. slice_index_or names i
 -- there is a name for each item and each transaction, and it is valid in a line
 pub names_are : (items transactions : List (List ℕ)) (h : Schedule) → length h.opening < 2 ^ 32 → length (begin_records (accepted_in h)) + 1 < 2 ^ 32
     → AreNames (spelled (codes "i") 0 (first_names (length h.opening) items)) (spelled (codes "t") 1 (first_names (length (begin_records (accepted_in h))) transactions)) h
-names_are items transactions h bounded_items within_max =
+names_are items transactions h bounded_items count_within_max =
     let xs = first_names (length h.opening) items in
     let ts = first_names (length (begin_records (accepted_in h))) transactions in
     let xs_long = first_long (length h.opening) items in
@@ -116,7 +116,7 @@ spelled_none word first words numbers n is long are = are ∙ ap (all_numbered w
 pub carried_past : (items transactions xs ts : List (List ℕ)) (n m : ℕ) (h : Schedule) (text : List ℕ) → n ≡ length h.opening → m ≡ length (begin_records (accepted_in h))
     → items ≡ spelled (codes "i") 0 (first_names n xs) → transactions ≡ spelled (codes "t") 1 (first_names m ts)
     → n < 2 ^ 32 → m + 1 < 2 ^ 32 → (AreNames items transactions h → RoundTrips items transactions h text) → IsDump xs ts h text
-carried_past items transactions xs ts n m h text n_is m_is is are bounded_items within_max again =
+carried_past items transactions xs ts n m h text n_is m_is is are bounded_items count_within_max again =
     let own : List (List ℕ) = spelled (codes "i") 0 (first_names (length h.opening) xs) in
     let others : List (List ℕ) = spelled (codes "t") 1 (first_names (length (begin_records (accepted_in h))) ts) in
     let items_are : items ≡ own = is ∙ ap (λ k. spelled (codes "i") 0 (first_names k xs)) n_is in

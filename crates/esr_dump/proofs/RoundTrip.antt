@@ -165,10 +165,10 @@ module _ (items transactions : List (List ℕ)) (h : Schedule) (names : AreNames
     new_name : (e : Event) (r : Reply) (n : ℕ) → r ≡ Begun (record { 0 = n + 1 }) → n ≡ length (begin_records (accepted_in before)) → length (begin_records (accepted_in before ++ e ∷ [])) ≡ n + 1
         → length (begin_records (accepted_in (extended before e r))) ≤ length (begin_records (accepted_in h))
         → IsName (name_of_transaction transactions (n + 1))
-    new_name e r n is count more within_max =
+    new_name e r n is count more count_within_max =
         let after : accepted_in (extended before e r) ≡ accepted_in before ++ e ∷ [] = done-accepted before e r (ap is_refusal is) in
         let number : TxnId = record { 0 = n + 1 } in
-        (transaction_fact number (omega arith) (omega (arith, within_max, ap (λ (es : List Event). length (begin_records es)) after, more))).0
+        (transaction_fact number (omega arith) (omega (arith, count_within_max, ap (λ (es : List Event). length (begin_records es)) after, more))).0
 
     pub begins : (e : Event) (b : _) → begin_record_of e ≡ Some b → length (begin_records (accepted_in before ++ e ∷ [])) ≡ length (begin_records (accepted_in before)) + 1
     begins e b is =
@@ -180,28 +180,28 @@ module _ (items transactions : List (List ℕ)) (h : Schedule) (names : AreNames
         → r ≡ answered (first_reason (when (nat_lt 1000000000000000000 limit) LimitOutOfRange ∷ when (nat_le 65535 (length (begin_records (accepted_in before)))) TooManyTransactions ∷ [])) (Begun (record { 0 = length (begin_records (accepted_in before)) + 1 }))
         → is_kept r ≡ true → length (begin_records (accepted_in (extended before e r))) ≤ length (begin_records (accepted_in h))
         → (r ≡ Begun (record { 0 = length (begin_records (accepted_in before)) + 1 })) × (IsName (name_of_transaction transactions (length (begin_records (accepted_in before)) + 1)) × (limit < 10 ^ 19))
-    begun_kept e b limit r begins_so is stays within_max =
+    begun_kept e b limit r begins_so is stays count_within_max =
         let low = passed (nat_lt 1000000000000000000 limit) LimitOutOfRange _ _ refl (ap is_kept (sym is) ∙ stays) in
         let below_max = passed (nat_le 65535 (length (begin_records (accepted_in before)))) TooManyTransactions _ _ refl low.1 in
         let begun = is ∙ none_left _ _ LimitOutOfRange TooManyTransactions _ low.0 below_max.0 in
-        let name = new_name e r (length (begin_records (accepted_in before))) begun refl (begins e b begins_so) within_max in
+        let name = new_name e r (length (begin_records (accepted_in before))) begun refl (begins e b begins_so) count_within_max in
         (begun, (name, omega (arith, ltb-false 1000000000000000000 limit low.0)))
 
     pub asks : (e : Event) (r : Reply) → r ≡ reply_to weighted before e → is_kept r ≡ true
         → length (begin_records (accepted_in (extended before e r))) ≤ length (begin_records (accepted_in h)) → Requests e r
-    asks (BeginUpdate limit) r is stays within_max =
-        let kept = begun_kept (BeginUpdate limit) _ limit r refl is stays within_max in rw kept.0 (kept.1, refl)
-    asks (BeginQuery limit true) r is stays within_max =
-        let kept = begun_kept (BeginQuery limit true) _ limit r refl is stays within_max in rw kept.0 (kept.1, refl)
-    asks (BeginQuery limit false) r is stays within_max =
-        let kept = begun_kept (BeginQuery limit false) _ limit r refl is stays within_max in rw kept.0 (kept.1, refl)
-    asks (Read t x) r is stays within_max =
+    asks (BeginUpdate limit) r is stays count_within_max =
+        let kept = begun_kept (BeginUpdate limit) _ limit r refl is stays count_within_max in rw kept.0 (kept.1, refl)
+    asks (BeginQuery limit true) r is stays count_within_max =
+        let kept = begun_kept (BeginQuery limit true) _ limit r refl is stays count_within_max in rw kept.0 (kept.1, refl)
+    asks (BeginQuery limit false) r is stays count_within_max =
+        let kept = begun_kept (BeginQuery limit false) _ limit r refl is stays count_within_max in rw kept.0 (kept.1, refl)
+    asks (Read t x) r is stays count_within_max =
         let a = passed (not (is_begun (accepted_in before) t.0)) NoSuchTransaction _ _ refl (ap is_kept (sym is) ∙ stays) in
         let b = passed (not (is_active (accepted_in before) t.0)) AlreadyEnded _ _ refl a.1 in
         let c = passed (nat_le (length before.opening) x.0) NoSuchItem _ _ refl b.1 in
         let tf = begun_fact t a.0 in let xf = there x c.0 in
         ((tf.0, xf.0), rw (tf.1, xf.1) refl)
-    asks (Write t x v) r is stays within_max =
+    asks (Write t x v) r is stays count_within_max =
         let a = passed (not (is_begun (accepted_in before) t.0)) NoSuchTransaction _ _ refl (ap is_kept (sym is) ∙ stays) in
         let b = passed (not (is_active (accepted_in before) t.0)) AlreadyEnded _ _ refl a.1 in
         let c = passed (nat_le (length before.opening) x.0) NoSuchItem _ _ refl b.1 in
@@ -209,11 +209,11 @@ module _ (items transactions : List (List ℕ)) (h : Schedule) (names : AreNames
         let e = passed (not (is_value v)) ValueOutOfRange _ _ refl d.1 in
         let tf = begun_fact t a.0 in let xf = there x c.0 in
         ((tf.0, xf.0, small v (not-false (is_value v) e.0)), rw (tf.1, xf.1) refl)
-    asks (Commit t) r is stays within_max =
+    asks (Commit t) r is stays count_within_max =
         let a = passed (not (is_begun (accepted_in before) t.0)) NoSuchTransaction _ _ refl (ap is_kept (sym is) ∙ stays) in
         let tf = begun_fact t a.0 in
         (tf.0, rw tf.1 refl)
-    asks (Abort t) r is stays within_max =
+    asks (Abort t) r is stays count_within_max =
         let a = passed (not (is_begun (accepted_in before) t.0)) NoSuchTransaction _ _ refl (ap is_kept (sym is) ∙ stays) in
         let tf = begun_fact t a.0 in
         (tf.0, rw tf.1 refl)
@@ -227,13 +227,13 @@ module _ (items transactions : List (List ℕ)) (h : Schedule) (names : AreNames
     entries_found : (before : Schedule) (later : List Entry) → IsLegalAfter weighted before later → before.opening ≡ h.opening
         → length (begin_records (accepted (before.entries ++ later))) ≤ length (begin_records (accepted_in h))
         → found_in of (flat_map (entry_text items transactions) later) ≡ filter_map q (filter (λ (e : Entry). is_kept e.reply) later)
-    entries_found before [] legal opens within_max = refl
-    entries_found before (e ∷ later) legal opens within_max =
+    entries_found before [] legal opens count_within_max = refl
+    entries_found before (e ∷ later) legal opens count_within_max =
         let next : Schedule = extended before e.event e.reply in
         let joined_up : next.entries ++ later ≡ before.entries ++ e ∷ later = append_assoc before.entries (e ∷ []) later in
         let bounded_next : length (begin_records (accepted (next.entries ++ later))) ≤ length (begin_records (accepted_in h)) =
-        subst (λ (es : List Entry). length (begin_records (accepted es)) ≤ length (begin_records (accepted_in h))) (sym joined_up) within_max in
-        let bounded_before : length (begin_records (accepted_in before)) ≤ length (begin_records (accepted_in h)) = omega (arith, within_max, fewer before.entries (e ∷ later)) in
+        subst (λ (es : List Entry). length (begin_records (accepted es)) ≤ length (begin_records (accepted_in h))) (sym joined_up) count_within_max in
+        let bounded_before : length (begin_records (accepted_in before)) ≤ length (begin_records (accepted_in h)) = omega (arith, count_within_max, fewer before.entries (e ∷ later)) in
         let bounded_after : length (begin_records (accepted_in next)) ≤ length (begin_records (accepted_in h)) = omega (arith, bounded_next, fewer next.entries later) in
         let rest = entries_found next later legal.1 opens bounded_next in
         elim (cases_Bool (is_kept e.reply)) [
@@ -292,12 +292,12 @@ module _ (items transactions : List (List ℕ)) (h : Schedule) (names : AreNames
         items_declared =
             items_found declared_by (λ x. Some (declared items h x)) valued (λ x. declaration_declares (name_of_item items x) (value_at h.opening x) (weight_of h.weights x)) remainder 0 n (omega arith)
             ∙ (ap₂ (λ (xs ys : List (List ℕ × ℤ × ℕ)). xs ++ ys) (some_map (declared items h) (range_with_len 0 n))
-            (entries_found declared_by (λ e. None) (λ b e is stays opens within_max after. declares_none e.reply e.event) (empty_schedule h) h.entries legal refl (omega arith) ∙ none_map Entry (List ℕ × ℤ × ℕ) kept_entries)
+            (entries_found declared_by (λ e. None) (λ b e is stays opens count_within_max after. declares_none e.reply e.event) (empty_schedule h) h.entries legal refl (omega arith) ∙ none_map Entry (List ℕ × ℤ × ℕ) kept_entries)
             ∙ append-nil (map (declared items h) (range_with_len 0 n)));
         events_asked =
             items_found (event_of items transactions) (λ x. None) valued (λ x. declaration_requests items transactions (name_of_item items x) (value_at h.opening x) (weight_of h.weights x)) remainder 0 n (omega arith)
             ∙ (ap (λ l. l ++ found_in (event_of items transactions) remainder) (none_map ℕ Event (range_with_len 0 n))
-            ∙ (entries_found (event_of items transactions) (λ e. Some e.event) (λ b e is stays opens within_max after. (asks b opens within_max e.event e.reply is stays after).1) (empty_schedule h) h.entries legal refl (omega arith)
+            ∙ (entries_found (event_of items transactions) (λ e. Some e.event) (λ b e is stays opens count_within_max after. (asks b opens count_within_max e.event e.reply is stays after).1) (empty_schedule h) h.entries legal refl (omega arith)
             ∙ some_map (λ (e : Entry). e.event) kept_entries));
         same_answers = kept_legal weighted (empty_schedule h) (empty_schedule h) h.entries legal refl refl refl;
       }

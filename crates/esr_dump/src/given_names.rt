@@ -21,7 +21,7 @@ pub fn named_script<I: TransactionNames, T: TransactionNames>(
     transactions: &T,
     history: &History<Weighted>,
 ) -> Result<Vec<u8>, AllocError>
-    requires within_max { length history.now.schedule.entries ≤ MAX_ENTRIES }
+    requires count_within_max { length history.now.schedule.entries ≤ MAX_ENTRIES }
     ensures { IfOk result (λ text. IsDump (I.names items.now) (T.names transactions.now) history.now.schedule text.items) }
 {
     let item_table = text_of_names(alloc, items, history.items(), "i", 0)?;

@@ -50,7 +50,7 @@ fn names_in(alloc: Global, text: &[u8]) -> Result<Vec<&[u8]>, AllocError>
 
 /// Returns a table of these names, or `None` if one is invalid or occurs twice.
 fn table(alloc: Global, words: &[&[u8]]) -> Result<Option<Names>, AllocError>
-    requires within_max { length words.now < 2 ^ 32 }
+    requires count_within_max { length words.now < 2 ^ 32 }
     ensures { IfOk result (λ found. found ≡ named (map (λ word. word.now) words.now)) }
 {
     let mut names = Names::new(alloc);
@@ -70,7 +70,7 @@ fn table(alloc: Global, words: &[&[u8]]) -> Result<Option<Names>, AllocError>
 /// Returns the names that a text specifies for `count` items, one per line; `i0`, `i1` if it is empty. Returns `None`
 /// if the text specifies another number of names, an invalid name, or a name twice.
 pub fn item_names(alloc: Global, text: &[u8], count: u32) -> Result<Option<Names>, AllocError>
-    requires within_max { count ≤ MAX_ITEMS }
+    requires count_within_max { count ≤ MAX_ITEMS }
     ensures { IfOk result (λ found. found ≡ item_names count text.now) }
 {
     if text.is_empty() {

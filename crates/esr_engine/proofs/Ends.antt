@@ -65,7 +65,7 @@ active_is es t =
 -- ---- the index that audits share
 pub index_later : (es more : List Entry) (i : Indexed) → IsIndexOf es i → IsIndexOf (es ++ more) i
 index_later es more i is = record {
-  within_max = omega (arith, length-append es more, is.within_max);
-  commits = is.commits ∙ ap (filter_map commit_in) (sym (take-append-le i.read es more is.within_max));
-  rows = subst (λ first. AreRowsOf first i.rows) (sym (take-append-le i.read es more is.within_max)) is.rows;
+  count_within_max = omega (arith, length-append es more, is.count_within_max);
+  commits = is.commits ∙ ap (filter_map commit_in) (sym (take-append-le i.read es more is.count_within_max));
+  rows = subst (λ first. AreRowsOf first i.rows) (sym (take-append-le i.read es more is.count_within_max)) is.rows;
 }

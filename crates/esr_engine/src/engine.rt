@@ -249,7 +249,7 @@ impl EmbeddedEngine {
 #[inline(always)]
 fn active_after(active: usize, reply: Reply) -> usize
     requires some { is_end reply ≡ true → 0 < active }
-    requires within_max { active ≤ MAX_ENTRIES }
+    requires count_within_max { active ≤ MAX_ENTRIES }
     ensures { result ≡ active_after active reply }
 {
     match reply {

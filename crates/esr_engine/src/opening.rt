@@ -70,7 +70,7 @@ fn check(opening: &[i64], weights: &[u32]) -> Result<(), OpenError>
 
 /// Creates the metric with these weights.
 pub(crate) fn metric_of(alloc: Global, weights: &[u32]) -> Result<Weighted, AllocError>
-    requires within_max { length weights.now ≤ MAX_ITEMS }
+    requires count_within_max { length weights.now ≤ MAX_ITEMS }
     requires range { All IsWeight weights.now }
     ensures { IfOk result (λ m. m ≡ weights.now) }
 {
@@ -86,7 +86,7 @@ pub(crate) fn engine_of(
     opening: &[i64],
     weights: &[u32],
 ) -> Result<EmbeddedEngine, NoMemory>
-    requires within_max { length opening.now ≤ MAX_ITEMS }
+    requires count_within_max { length opening.now ≤ MAX_ITEMS }
     requires range { All IsValue opening.now }
     requires weights { (length weights.now ≤ MAX_ITEMS) × All IsWeight weights.now }
     ensures { IfOk result (λ e. e ≡ schedule_of opening.now weights.now []) }

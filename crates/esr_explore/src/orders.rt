@@ -33,7 +33,7 @@ fn push_longer_by(
     counts: &[u32],
     block: usize,
 ) -> Result<(), AllocError>
-    requires within_max { length counts.now ≤ 256 }
+    requires count_within_max { length counts.now ≤ 256 }
     requires number { block < length counts.now }
     ensures { OnOk result (map (λ o. o.items) out.new.items
         ≡ map (λ o. o.items) out.old.items ++ longer_by counts.now order.now block) }

@@ -137,7 +137,7 @@ fn drawn_summaries(
     seeds: u64,
 ) -> Result<Vec<RunSummary>, ExploreFault>
     requires sound { IsSound drive_plan.now }
-    requires within_max { length counts.now ≤ MAX_BLOCKS }
+    requires count_within_max { length counts.now ≤ MAX_BLOCKS }
     ensures { IfOk result (λ summaries. AreDrawn drive_plan.now.values.items (weights_of drive_plan.now.weights.items)
         (map (λ b. b.items) drive_plan.now.blocks.items) queries.now counts.now seeds summaries.items) }
 {
@@ -159,7 +159,7 @@ fn all_summaries(
     counts: &[u32],
 ) -> Result<Vec<RunSummary>, ExploreFault>
     requires sound { IsSound drive_plan.now }
-    requires within_max { length counts.now ≤ MAX_BLOCKS }
+    requires count_within_max { length counts.now ≤ MAX_BLOCKS }
     ensures all { IfOk result (λ summaries. IfSome (orders_of ways.now) (λ orders. AreRunSummaries drive_plan.now.values.items
         (weights_of drive_plan.now.weights.items) (map (λ b. b.items) drive_plan.now.blocks.items) queries.now orders summaries.items)) }
     ensures drawn { IfOk result (λ summaries. IfSome (drawn_of ways.now) (λ n. AreDrawn drive_plan.now.values.items

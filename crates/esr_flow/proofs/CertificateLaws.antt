@@ -11,7 +11,7 @@ use Rattle.esr_cert.specs.Problem.{Chain, Problem, size, in_set, is_ascending, c
 use Rattle.esr_cert.specs.Network.{path_arcs, arcs_of_chain, arcs_of_chains, predecessor_arcs, must_arcs, predecessor_arc, must_arc, network}
 use Rattle.esr_cert.specs.Flow.{are_within, IsFlow, worth}
 use Rattle.esr_cert.specs.Certificate.{Certificate, amounts, are_rows_matched, is_count_in_bound, Certifies}
-use Rattle.esr_cert.specs.Views.{chain_of, rows_of}
+use Rattle.esr_cert.specs.Views.{chain_view, rows_of}
 use Rattle.esr_cert.proofs.Sound.{here, there, IsChain, IsProblem}
 use Rattle.esr_cert.proofs.Flows.{within_from, conserved_from}
 use Rattle.esr_cert.proofs.Certified.{certifies_from}
@@ -50,9 +50,9 @@ flow_length p ok flow f =
       length-map {B = Arc} p.must (must_arc (size p)),
     )
 
-pub costs_mapped : (chains : List code.Chain) → sum_by (λ (chain : Chain). length chain.costs) (map chain_of chains) ≡ sum_by (λ (chain : code.Chain). length chain.costs.items) chains
+pub costs_mapped : (chains : List code.Chain) → sum_by (λ (chain : Chain). length chain.costs) (map chain_view chains) ≡ sum_by (λ (chain : code.Chain). length chain.costs.items) chains
 costs_mapped [] = refl
-costs_mapped (c ∷ chains) = omega (arith, sum_by-cons (λ (chain : Chain). length chain.costs) (chain_of c) (map chain_of chains), sum_by-cons (λ (chain : code.Chain). length chain.costs.items) c chains, costs_mapped chains)
+costs_mapped (c ∷ chains) = omega (arith, sum_by-cons (λ (chain : Chain). length chain.costs) (chain_view c) (map chain_view chains), sum_by-cons (λ (chain : code.Chain). length chain.costs.items) c chains, costs_mapped chains)
 
 -- a further row
 pub cut_more : (rows : List (Vec ℕ Global)) (row : Vec ℕ Global) (flow : List ℕ) (at n : ℕ) → concat (rows_of rows) ≡ take at flow → row.items ≡ take ((at + n) - at) (drop at flow) → concat (rows_of (rows ++ row ∷ [])) ≡ take (at + n) flow
@@ -73,11 +73,11 @@ matched_push (c ∷ chains) (r ∷ rows) chain row h e =
     let both : ((length r == length c.costs) ≡ true) × (are_rows_matched chains rows ≡ true) = and_parts (length r == length c.costs) (are_rows_matched chains rows) h in
     and_from (length r == length c.costs) (are_rows_matched (chains ++ chain ∷ []) (rows ++ row ∷ [])) both.0 (matched_push chains rows chain row both.1 e)
 
-pub matched_more : (chains : List code.Chain) (rows : List (Vec ℕ Global)) (chain : code.Chain) (row : Vec ℕ Global) → are_rows_matched (map chain_of chains) (rows_of rows) ≡ true → length row.items ≡ length chain.costs.items → are_rows_matched (map chain_of (chains ++ chain ∷ [])) (rows_of (rows ++ row ∷ [])) ≡ true
+pub matched_more : (chains : List code.Chain) (rows : List (Vec ℕ Global)) (chain : code.Chain) (row : Vec ℕ Global) → are_rows_matched (map chain_view chains) (rows_of rows) ≡ true → length row.items ≡ length chain.costs.items → are_rows_matched (map chain_view (chains ++ chain ∷ [])) (rows_of (rows ++ row ∷ [])) ≡ true
 matched_more chains rows chain row h e =
-    ap (λ cs. are_rows_matched cs (rows_of (rows ++ row ∷ []))) (map-append chain_of chains (chain ∷ []))
-    ∙ ap (are_rows_matched (map chain_of chains ++ chain_of chain ∷ [])) (map-append (λ (r : Vec ℕ Global). r.items) rows (row ∷ []))
-    ∙ matched_push (map chain_of chains) (rows_of rows) (chain_of chain) row.items h e
+    ap (λ cs. are_rows_matched cs (rows_of (rows ++ row ∷ []))) (map-append chain_view chains (chain ∷ []))
+    ∙ ap (are_rows_matched (map chain_view chains ++ chain_view chain ∷ [])) (map-append (λ (r : Vec ℕ Global). r.items) rows (row ∷ []))
+    ∙ matched_push (map chain_view chains) (rows_of rows) (chain_view chain) row.items h e
 
 pub sum_take : (chains : List code.Chain) (n : ℕ) → sum_by (λ (chain : code.Chain). length chain.costs.items) (take n chains) ≤ sum_by (λ (chain : code.Chain). length chain.costs.items) chains
 sum_take chains n =

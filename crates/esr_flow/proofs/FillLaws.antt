@@ -13,7 +13,7 @@ use Rattle.esr_cert.proofs.StepsLaws.{steps_parts, room_for, first_all, first_ne
 use Rattle.esr_cert.proofs.RowsLaws.{row_length, at_row, counted_more}
 use Rattle.esr_flow.specs.ShortEntry.{AdjacencyEntry}
 use Rattle.esr_flow.specs.Residual.{left_of}
-use Rattle.esr_flow.specs.ResidualGraph.{arcs_of, adjacency_entry, entry_at, AreEntries, ResidualGraph}
+use Rattle.esr_flow.specs.ResidualGraph.{network_arcs, adjacency_entry, entry_at, AreEntries, ResidualGraph}
 use Rattle.esr_flow.proofs.EntriesLaws.{along_is, against_is}
 
 -- the first steps are those before an arc, its two, and later ones
@@ -31,10 +31,10 @@ first_split i (suc n) l =
 
 -- the entries of some steps are in their places, and the steps of each node are counted
 pub record ArePut (g : ResidualGraph) (flow : List ℕ) (done : List ResidualArc) (counts : List ℕ) (entries : List AdjacencyEntry) : Type 0 where
-  pub counted : Counted (arcs_of g) g.node_count done counts
+  pub counted : Counted (network_arcs g) g.node_count done counts
   pub long : length entries ≡ length g.rows.now.steps.items
   pub put : (k : ℕ) → k < length g.rows.now.steps.items → Contains done (step_at g.rows.now.steps.items k)
-      → entry_at entries k ≡ adjacency_entry (arcs_of g) flow (step_at g.rows.now.steps.items k)
+      → entry_at entries k ≡ adjacency_entry (network_arcs g) flow (step_at g.rows.now.steps.items k)
 
 module _ (g : ResidualGraph) where
   abbrev steps : List ResidualArc
@@ -44,22 +44,22 @@ module _ (g : ResidualGraph) where
   begin v = (span_at g.rows.now.spans.items v).begin
 
   -- a step comes after the earlier steps of its node
-  module _ (done rest : List ResidualArc) (s : ResidualArc) (v : ℕ) (known : v < g.node_count) (starts : start (arcs_of g) s ≡ v) (all : first_steps (length (arcs_of g)) ≡ done ++ s ∷ rest) where
+  module _ (done rest : List ResidualArc) (s : ResidualArc) (v : ℕ) (known : v < g.node_count) (starts : start (network_arcs g) s ≡ v) (all : first_steps (length (network_arcs g)) ≡ done ++ s ∷ rest) where
     abbrev place : ℕ
-    place = length (steps_from (arcs_of g) v done)
+    place = length (steps_from (network_arcs g) v done)
 
-    here : step_at (row_of (arcs_of g) v) place ≡ s
+    here : step_at (row_of (network_arcs g) v) place ≡ s
     here =
-        ap (λ list. step_at (steps_from (arcs_of g) v list) place) all
-        ∙ ap (λ list. step_at list place) (steps_parts (arcs_of g) v done rest s starts)
-        ∙ get_or-append_seam (steps_from (arcs_of g) v done) s (steps_from (arcs_of g) v rest) (Forward 0)
+        ap (λ list. step_at (steps_from (network_arcs g) v list) place) all
+        ∙ ap (λ list. step_at list place) (steps_parts (network_arcs g) v done rest s starts)
+        ∙ get_or-append_seam (steps_from (network_arcs g) v done) s (steps_from (network_arcs g) v rest) (Forward 0)
 
     early : place < (span_at g.rows.now.spans.items v).end - begin v
     early =
         omega (
           arith,
-          room_for (arcs_of g) v done rest s starts,
-          ap (λ list. length (steps_from (arcs_of g) v list)) all,
+          room_for (network_arcs g) v done rest s starts,
+          ap (λ list. length (steps_from (network_arcs g) v list)) all,
           ap (λ (list : List ResidualArc). length list) (g.kept.row v known),
           row_length steps (span_at g.rows.now.spans.items v) (g.kept.inside v known),
         )
@@ -81,36 +81,36 @@ module _ (g : ResidualGraph) where
       put_within = omega (arith, at_is, lies_within, are.long)
 
       pub put_bounded : get_or counts v 0 < 4294967296
-      put_bounded = omega (arith, are.counted.each v known, lies_within, g.kept.steps.count, g.kept.steps.within_max)
+      put_bounded = omega (arith, are.counted.each v known, lies_within, g.kept.steps.count, g.kept.steps.count_within_max)
 
       step_there : step_at steps at ≡ s
       step_there = ap (step_at steps) at_is ∙ lies
 
-      pub put_more : (a : AdjacencyEntry) → a ≡ adjacency_entry (arcs_of g) flow s → ArePut g flow (done ++ s ∷ []) (set counts v (get_or counts v 0 + 1)) (set entries at a)
+      pub put_more : (a : AdjacencyEntry) → a ≡ adjacency_entry (network_arcs g) flow s → ArePut g flow (done ++ s ∷ []) (set counts v (get_or counts v 0 + 1)) (set entries at a)
       put_more a is = record {
         counted = counted_more s starts known (get_or_default counts v 0 (get_or counts v 0) (omega (arith, are.counted.count))) are.counted;
         long = length-set entries at a ∙ are.long;
         put = λ k l c. elim (cases_eq k at) [
           | inl e ↦
               ap (entry_at (set entries at a)) e ∙ get_or-set_same entries at a (entry_at [] 0) put_within ∙ is
-              ∙ ap (adjacency_entry (arcs_of g) flow) (sym step_there ∙ ap (step_at steps) (sym e))
+              ∙ ap (adjacency_entry (network_arcs g) flow) (sym step_there ∙ ap (step_at steps) (sym e))
           | inr ne ↦
               get_or-set_other entries at k a (entry_at [] 0) ne
               ∙ are.put k l (⊎_elim (λ old. old) (λ same. absurd (ne (g.kept.steps.once k at l (omega (arith, put_within, are.long)) (sym same ∙ sym step_there)))) (Contains-push_cases done s (step_at steps k) c))
         ];
       }
 
-  pub all_put : (flow counts : List ℕ) (entries : List AdjacencyEntry) → ArePut g flow (first_steps (length (arcs_of g))) counts entries → AreEntries g flow entries
+  pub all_put : (flow counts : List ℕ) (entries : List AdjacencyEntry) → ArePut g flow (first_steps (length (network_arcs g))) counts entries → AreEntries g flow entries
   all_put flow counts entries are =
-      ext_get_or (entry_at [] 0) entries (map (adjacency_entry (arcs_of g) flow) steps) (are.long ∙ sym (length-map steps (adjacency_entry (arcs_of g) flow))) (λ k l.
+      ext_get_or (entry_at [] 0) entries (map (adjacency_entry (network_arcs g) flow) steps) (are.long ∙ sym (length-map steps (adjacency_entry (network_arcs g) flow))) (λ k l.
       let inside : k < length steps = omega (arith, are.long) in
-      are.put k inside (first_all (length (arcs_of g)) (step_at steps k) (g.kept.steps.arc_in_range k inside))
-      ∙ sym (get_or-map (adjacency_entry (arcs_of g) flow) steps k (Forward 0) (entry_at [] 0) inside))
+      are.put k inside (first_all (length (network_arcs g)) (step_at steps k) (g.kept.steps.arc_in_range k inside))
+      ∙ sym (get_or-map (adjacency_entry (network_arcs g) flow) steps k (Forward 0) (entry_at [] 0) inside))
 
   -- the two steps of an arc
-  module _ (flow counts : List ℕ) (entries : List AdjacencyEntry) (i : ℕ) (l : i < length (arcs_of g)) (are : ArePut g flow (first_steps i) counts entries) (arc : Arc) (is : arc ≡ arc_at (arcs_of g) i) (x : ℕ) (x_is : x ≡ amount_at flow i) where
-    split : (rest : List ResidualArc) × (first_steps (length (arcs_of g)) ≡ first_steps i ++ Forward i ∷ Backward i ∷ rest)
-    split = first_split i (length (arcs_of g)) l
+  module _ (flow counts : List ℕ) (entries : List AdjacencyEntry) (i : ℕ) (l : i < length (network_arcs g)) (are : ArePut g flow (first_steps i) counts entries) (arc : Arc) (is : arc ≡ arc_at (network_arcs g) i) (x : ℕ) (x_is : x ≡ amount_at flow i) where
+    split : (rest : List ResidualArc) × (first_steps (length (network_arcs g)) ≡ first_steps i ++ Forward i ∷ Backward i ∷ rest)
+    split = first_split i (length (network_arcs g)) l
 
     known_from : arc.from < g.node_count
     known_from = rw is ((g.kept.is_network.ends i l).0)
@@ -118,10 +118,10 @@ module _ (g : ResidualGraph) where
     known_to : arc.to < g.node_count
     known_to = rw is ((g.kept.is_network.ends i l).1)
 
-    starts_along : start (arcs_of g) (Forward i) ≡ arc.from
+    starts_along : start (network_arcs g) (Forward i) ≡ arc.from
     starts_along = ap (λ a. a.from) (sym is)
 
-    starts_against : start (arcs_of g) (Backward i) ≡ arc.to
+    starts_against : start (network_arcs g) (Backward i) ≡ arc.to
     starts_against = ap (λ a. a.to) (sym is)
 
     pub along_within : begin arc.from + get_or counts arc.from 0 < length entries
@@ -135,9 +135,9 @@ module _ (g : ResidualGraph) where
       after_along =
           subst (λ cs. ArePut g flow (first_steps i ++ Forward i ∷ []) cs entries_along) (sym c)
           (subst (ArePut g flow (first_steps i ++ Forward i ∷ []) (set counts arc.from (get_or counts arc.from 0 + 1))) (sym e)
-          (put_more (first_steps i) (Backward i ∷ split.0) (Forward i) arc.from known_from starts_along split.1 flow counts entries are a (a_is ∙ along_is (arcs_of g) flow i x arc is x_is)))
+          (put_more (first_steps i) (Backward i ∷ split.0) (Forward i) arc.from known_from starts_along split.1 flow counts entries are a (a_is ∙ along_is (network_arcs g) flow i x arc is x_is)))
 
-      later : first_steps (length (arcs_of g)) ≡ (first_steps i ++ Forward i ∷ []) ++ Backward i ∷ split.0
+      later : first_steps (length (network_arcs g)) ≡ (first_steps i ++ Forward i ∷ []) ++ Backward i ∷ split.0
       later = split.1 ∙ sym (append_assoc (first_steps i) (Forward i ∷ []) (Backward i ∷ split.0))
 
       pub against_within : begin arc.to + get_or counts_along arc.to 0 < length entries_along
@@ -151,4 +151,4 @@ module _ (g : ResidualGraph) where
           subst (λ done. ArePut g flow done counts_now entries_now) (first_next i)
           (subst (λ cs. ArePut g flow ((first_steps i ++ Forward i ∷ []) ++ Backward i ∷ []) cs entries_now) (sym d)
           (subst (ArePut g flow ((first_steps i ++ Forward i ∷ []) ++ Backward i ∷ []) (set counts_along arc.to (get_or counts_along arc.to 0 + 1))) (sym f)
-          (put_more (first_steps i ++ Forward i ∷ []) split.0 (Backward i) arc.to known_to starts_against later flow counts_along entries_along after_along b (b_is ∙ against_is (arcs_of g) flow i x arc is x_is))))
+          (put_more (first_steps i ++ Forward i ∷ []) split.0 (Backward i) arc.to known_to starts_against later flow counts_along entries_along after_along b (b_is ∙ against_is (network_arcs g) flow i x arc is x_is))))

@@ -16,7 +16,7 @@ module _ (p : Problem) (node_count source sink : ℕ) (a : node_count ≡ size p
   net_is = ap (λ n. net_with p n source sink) a ∙ ap (λ n. net_with p (size p + 2) n sink) b ∙ ap (net_with p (size p + 2) (size p)) c
 
   pub graph_is : IsProblem p → (rows : Rows) → AreLaidOut (network p) rows → node_count < 2 ^ 30 → IsGraphOf p rows node_count source sink
-  graph_is ok rows given within_max =
+  graph_is ok rows given count_within_max =
       let laid_out : AreLaidOut (net_with p node_count source sink) rows = subst (λ net. AreLaidOut net rows) (sym net_is) given in
       record {
         is_network = subst IsNetwork (sym net_is) (is_network p ok);
@@ -28,5 +28,5 @@ module _ (p : Problem) (node_count source sink : ℕ) (a : node_count ≡ size p
         ascend = λ v l. subst (IsNonDecreasingBy rank_of) (sym (laid_out.rows.row v l)) (row_ascends (network p).arcs v);
         steps = laid_out.steps;
         sink_is_node = omega (arith, a, c);
-        within_max = within_max;
+        count_within_max = count_within_max;
       }

@@ -5,7 +5,7 @@ use Rattle.esr_cert.specs.declared.problem.Chain as code
 use Rattle.esr_cert.specs.Problem.{Problem, size, is_well_formed}
 use Rattle.esr_cert.specs.Network.{arc_at, predecessor_arc, network}
 use Rattle.esr_cert.specs.Starts.{starts_from}
-use Rattle.esr_cert.specs.Views.{chain_of}
+use Rattle.esr_cert.specs.Views.{chain_view}
 use Rattle.esr_cert.proofs.Sound.{facts, IsProblem}
 use Rattle.esr_cert.specs.Links as certs
 use Rattle.esr_cert.proofs.LinksLaws as laws
@@ -46,7 +46,7 @@ module _ (p : Problem) (sound : is_well_formed p ≡ true) where
       let at : get_or p.before (i - first_back p) (0, 0) ≡ get_or pairs (i - first) (0, 0) = ap (λ list. get_or list (i - first_back p) (0, 0)) (sym ps) ∙ ap (λ n. get_or pairs (i - n) (0, 0)) (sym fs) in
       pair_kept flow marks i (omega (arith, not_before, fs)) (omega (arith, inside, fs, ap length ps)) (ap (λ (e : ℕ × ℕ). is_marked marks e.1) at ∙ (same ∙ sym (ap (λ (e : ℕ × ℕ). is_marked marks e.0) at)))
 
-  module _ (chains : List code.Chain) (are : map chain_of chains ≡ p.chains) where
+  module _ (chains : List code.Chain) (are : map chain_view chains ≡ p.chains) where
     pub has_links : (k begin : ℕ) (chain : code.Chain) → k < length chains → chain ≡ get_or chains k chain → begin ≡ get_or starts k 0 → HasLinks (network p).arcs chain begin
     has_links k begin chain inside is at =
         let all : certs.HasLinks (network p).arcs (size p) chain begin = laws.has_links p sound chains are k begin chain inside is at in

@@ -71,7 +71,7 @@ pub record Phase (net : Network) (n : ℕ) (flow : List ℕ) : Type 0 where
   pub label : ℕ → ℕ
   pub at_sink : label net.sink ≡ 0
   pub falls : Falls net.arcs flow label
-  pub within_max : label net.source ≤ net.node_count
+  pub count_within_max : label net.source ≤ net.node_count
   pub spent : n + count_below (tight label net.arcs flow) (length net.arcs) ≤ label net.source * length net.arcs
   pub same_length : length flow ≡ length net.arcs
 
@@ -80,7 +80,7 @@ first_phase net first e = record {
   label = λ v. 0;
   at_sink = refl;
   falls = λ s res. omega arith;
-  within_max = omega arith;
+  count_within_max = omega arith;
   spent = omega (arith, count_none_lem (tight (λ v. 0) net.arcs first) (length net.arcs) (λ i. or_from _ _ (and_right _ _ (ne_eqb 0 1 (λ (e : 0 ≡ 1). omega arith))) (and_right _ _ (ne_eqb 0 1 (λ (e : 0 ≡ 1). omega arith)))));
   same_length = e;
 }
@@ -98,7 +98,7 @@ within_phase net ok n flow after p a l =
       label = p.label;
       at_sink = p.at_sink;
       falls = falls_after p.label net.arcs flow a.amount a.path (p.label net.source) x h r p.falls;
-      within_max = p.within_max;
+      count_within_max = p.count_within_max;
       spent = omega (arith, p.spent);
       same_length = length-raise flow a.amount a.path ∙ p.same_length;
     })
@@ -111,10 +111,10 @@ next_phase net ok n flow after p a l =
     let falls : Falls net.arcs flow d = distance_falls net.arcs flow net.sink (length a.path) in
     let bottom : d net.sink ≡ 0 = distance_sink net.arcs flow net.sink (length a.path) in
     let h : Levels d net.arcs (d net.source) a.path = levels_from net.arcs flow d falls a.path net.source net.sink a.is_path (omega arith) in
-    let within_max : length a.path ≤ net.node_count = omega (arith, steps_le_nodes net ok d (d net.source) a.path h, count_le (λ v. leb (d v) (d net.source)) net.node_count) in
+    let count_within_max : length a.path ≤ net.node_count = omega (arith, steps_le_nodes net ok d (d net.source) a.path h, count_le (λ v. leb (d v) (d net.source)) net.node_count) in
     let all : count_below (tight d net.arcs flow) (length net.arcs) ≤ length net.arcs = count_le (tight d net.arcs flow) (length net.arcs) in
     let rows : suc (p.label net.source) * length net.arcs ≤ d net.source * length net.arcs = mul-le-mul_right (length net.arcs) (omega arith) in
-    (record { label = d; at_sink = bottom; falls = falls; within_max = omega arith; spent = omega (arith, p.spent, rows, all); same_length = p.same_length }, omega arith)
+    (record { label = d; at_sink = bottom; falls = falls; count_within_max = omega arith; spent = omega (arith, p.spent, rows, all); same_length = p.same_length }, omega arith)
 
 phase_step : (net : Network) → IsNetwork net → (n : ℕ) (flow after : List ℕ) → Phase net n flow → Augments net flow after → Phase net (suc n) after
 phase_step net ok n flow after p a =
@@ -134,5 +134,5 @@ phases net ok first e (suc n) flow h = phase_step net ok n h.0 flow (phases net 
 pub bounded_augmentations : (net : Network) → IsNetwork net → (first : List ℕ) → length first ≡ length net.arcs → (n : ℕ) (flow : List ℕ) → AugmentsFrom net first n flow → n ≤ net.node_count * length net.arcs
 bounded_augmentations net ok first e n flow h =
     let p : Phase net n flow = phases net ok first e n flow h in
-    let rows : p.label net.source * length net.arcs ≤ net.node_count * length net.arcs = mul-le-mul_right (length net.arcs) p.within_max in
+    let rows : p.label net.source * length net.arcs ≤ net.node_count * length net.arcs = mul-le-mul_right (length net.arcs) p.count_within_max in
     omega (arith, p.spent, rows)

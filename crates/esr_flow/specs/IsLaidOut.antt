@@ -25,4 +25,4 @@ pub record IsGraphOf (p : Problem) (rows : Rows) (node_count source sink : ℕ) 
       → IsNonDecreasingBy rank_of (row_in rows.steps.items (span_at rows.spans.items v))
   pub steps : AreSteps (network p).arcs rows.steps.items
   pub sink_is_node : sink < node_count
-  pub within_max : node_count < 2 ^ 30
+  pub count_within_max : node_count < 2 ^ 30

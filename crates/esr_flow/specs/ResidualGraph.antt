@@ -10,8 +10,8 @@ use Rattle.esr_cert.specs.Steps.{arc_of, start, opposite, step_at}
 use Rattle.esr_flow.specs.IsLaidOut.{net_with}
 use Rattle.esr_flow.specs.Residual.{finish, residual_capacity}
 
-abbrev pub arcs_of : ResidualGraph → List Arc
-arcs_of g = (network g.problem.now).arcs
+abbrev pub network_arcs : ResidualGraph → List Arc
+network_arcs g = (network g.problem.now).arcs
 
 abbrev pub network_of : ResidualGraph → Network
 network_of g = net_with g.problem.now g.node_count g.source g.sink
@@ -29,7 +29,7 @@ entry_at entries k = get_or entries k (record { to = 0; has_residual = false; op
 
 -- the entries of a graph's steps, with the residual capacities of a flow
 abbrev pub AreEntries : ResidualGraph → List ℕ → List AdjacencyEntry → Type 0
-AreEntries g flow entries = entries ≡ map (adjacency_entry (arcs_of g) flow) g.rows.now.steps.items
+AreEntries g flow entries = entries ≡ map (adjacency_entry (network_arcs g) flow) g.rows.now.steps.items
 
 -- a step that starts at a node, and its entry: the end of the step, and whether it and its opposite have residual
 -- capacity

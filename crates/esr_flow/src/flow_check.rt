@@ -5,7 +5,7 @@
 ghost use Rattle.std.specs.Prelude.{◌≡◌, ◌≢◌, ℕ, ◌+◌, ◌<◌, ◌≤◌, true, length, get_or, set, IfOk, IfSome};
 ghost use Rattle.esr_cert.specs.Network.{arc_at};
 ghost use Rattle.esr_cert.specs.Flow.{within, amount_at, inflow, outflow, IsFlow, worth};
-ghost use Rattle.esr_flow.specs.ResidualGraph.{arcs_of, network_of};
+ghost use Rattle.esr_flow.specs.ResidualGraph.{network_arcs, network_of};
 
 use crate::graph::ResidualGraph;
 use esr_cert::Arc;
@@ -57,17 +57,17 @@ fn sum_arcs(
     inflows: &mut [u64],
     outflows: &mut [u64],
 ) -> Option<u64>
-    requires flow { length flow.now ≡ length (arcs_of graph.now) }
+    requires flow { length flow.now ≡ length (network_arcs graph.now) }
     requires inflows { length inflows.old ≡ graph.now.node_count }
     requires outflows { length outflows.old ≡ graph.now.node_count }
     requires zero { (v : ℕ) → (get_or inflows.old v 0 ≡ 0) × (get_or outflows.old v 0 ≡ 0) }
     ensures capacities { IfSome result (λ upper_bound. (i : ℕ) → i < length flow.now
-        → within (get_or flow.now i 0) (arc_at (arcs_of graph.now) i).capacity ≡ true) }
+        → within (get_or flow.now i 0) (arc_at (network_arcs graph.now) i).capacity ≡ true) }
     ensures upper_bound { IfSome result (λ upper_bound. (i : ℕ) → i < length flow.now → get_or flow.now i 0 ≤ upper_bound) }
     ensures inflows { IfSome result (λ upper_bound. (v : ℕ) → v < graph.now.node_count
-        → get_or inflows.new v 0 ≡ inflow (arcs_of graph.now) flow.now v) }
+        → get_or inflows.new v 0 ≡ inflow (network_arcs graph.now) flow.now v) }
     ensures outflows { IfSome result (λ upper_bound. (v : ℕ) → v < graph.now.node_count
-        → get_or outflows.new v 0 ≡ outflow (arcs_of graph.now) flow.now v) }
+        → get_or outflows.new v 0 ≡ outflow (network_arcs graph.now) flow.now v) }
 {
     let mut greatest = 0;
     for i in 0..flow.len() {
@@ -105,7 +105,7 @@ pub fn checked_flow_value(
     graph: &ResidualGraph,
     flow: &[u64],
 ) -> Result<Option<u64>, AllocError>
-    requires flow { length flow.now ≡ length (arcs_of graph.now) }
+    requires flow { length flow.now ≡ length (network_arcs graph.now) }
     ensures flow { IfOk result (λ r. IfSome r (λ value. IsFlow (network_of graph.now) flow.now)) }
     ensures worth { IfOk result (λ r. IfSome r (λ value. value ≡ worth (network_of graph.now) flow.now)) }
     ensures amounts { IfOk result (λ r. IfSome r (λ value. (i : ℕ) → amount_at flow.now i ≤ value)) }

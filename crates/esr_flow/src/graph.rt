@@ -31,7 +31,7 @@ impl<'a> ResidualGraph<'a> {
     ghost use Rattle.std.specs.Prelude.{◌≡◌, ◌<◌, length, set, IfOk};
     ghost use Rattle.esr_cert.specs.Steps.{arc_of, step_at};
     ghost use Rattle.esr_cert.specs.Rows.{span_at, row_in};
-    ghost use Rattle.esr_flow.specs.ResidualGraph.{AreEntries, arcs_of};
+    ghost use Rattle.esr_flow.specs.ResidualGraph.{AreEntries, network_arcs};
 
     /// Returns the steps that start at a node.
     pub fn steps_at(&self, v: usize) -> &[PackedResidualArc]
@@ -53,7 +53,7 @@ impl<'a> ResidualGraph<'a> {
     /// Returns the entries of all steps, with the residual capacities of a flow. They are put into their rows arc by
     /// arc, like the steps, since the arcs of a chain are consecutive.
     pub fn entries(&self, alloc: Global, flow: &[u64]) -> Result<Vec<ShortEntry>, AllocError>
-        requires flow { length flow.now ≡ length (arcs_of self.now) }
+        requires flow { length flow.now ≡ length (network_arcs self.now) }
         ensures { IfOk result (λ entries. AreEntries self.now flow.now entries.items) }
     {
         let none = ShortEntry::of(AdjacencyEntry {
@@ -74,7 +74,7 @@ impl<'a> ResidualGraph<'a> {
 
     /// Returns the index of a step's entry.
     fn place_of(&self, step: ResidualArc) -> usize
-        requires arc { arc_of step < length (arcs_of self.now) }
+        requires arc { arc_of step < length (network_arcs self.now) }
         ensures inside { result < length self.now.rows.now.steps.items }
         ensures place { step_at self.now.rows.now.steps.items result ≡ step }
     {
@@ -85,8 +85,8 @@ impl<'a> ResidualGraph<'a> {
     /// Sets the amount on an arc. Rewrites the entries of its two steps if this changes which of them have residual
     /// capacity.
     pub fn set_amount(&self, flow: &mut [u64], entries: &mut [ShortEntry], arc: u32, amount: u64)
-        requires arc { arc < length (arcs_of self.now) }
-        requires flow { length flow.old ≡ length (arcs_of self.now) }
+        requires arc { arc < length (network_arcs self.now) }
+        requires flow { length flow.old ≡ length (network_arcs self.now) }
         requires entries { AreEntries self.now flow.old entries.old }
         ensures flow { flow.new ≡ set flow.old arc amount }
         ensures entries { AreEntries self.now flow.new entries.new }
@@ -175,7 +175,7 @@ fn put_next(
 )
     requires span { node < length rows.now.spans.items }
     requires count { node < length counts.old.items }
-    requires within_max { get_or counts.old.items node 0 < 4294967296 }
+    requires count_within_max { get_or counts.old.items node 0 < 4294967296 }
     requires place { (span_at rows.now.spans.items node).begin + get_or counts.old.items node 0
         < length entries.old.items }
     ensures counts { counts.new.items ≡ set counts.old.items node (get_or counts.old.items node 0 + 1) }

@@ -11,7 +11,7 @@ ghost use Rattle.esr_cert.specs.Steps.{arc_of};
 ghost use Rattle.esr_flow.specs.Residual.{smaller, bottleneck, shift, raise};
 ghost use Rattle.esr_cert.specs.Flow.{amount_at, IsFlow, worth};
 ghost use Rattle.esr_flow.specs.Augmentation.{IsReach, Augments, AugmentsFromZero, AugmentsFrom};
-ghost use Rattle.esr_flow.specs.ResidualGraph.{arcs_of, network_of, AreEntries};
+ghost use Rattle.esr_flow.specs.ResidualGraph.{network_arcs, network_of, AreEntries};
 ghost use Rattle.esr_flow.specs.Search.{IsShortestPath, Guides, IsGuided, ReachesNoSink, is_marked};
 ghost use Rattle.esr_flow.specs.Maximum.{InArcs, HasLimit, IsStart};
 
@@ -70,8 +70,8 @@ fn raise_along(
     amount: u64,
     path: &[ResidualArc],
 )
-    requires arc_in_range { InArcs (arcs_of graph.now) path.now }
-    requires flow { length flow.old ≡ length (arcs_of graph.now) }
+    requires arc_in_range { InArcs (network_arcs graph.now) path.now }
+    requires flow { length flow.old ≡ length (network_arcs graph.now) }
     requires entries { AreEntries graph.now flow.old entries.old }
     requires fits { (k i : ℕ) → amount_at (raise flow.old amount (take k path.now)) i + amount < 2 ^ 64 }
     ensures flow { flow.new ≡ raise flow.old amount path.now }
@@ -243,7 +243,7 @@ pub fn find_maximum(alloc: Global, graph: &ResidualGraph) -> Result<MaximumFlow,
     requires small { (f : List ℕ) → IsFlow (network_of graph.now) f → worth (network_of graph.now) f ≤ MAX_COST }
     requires limited { HasLimit (network_of graph.now) }
     ensures takes { IfOk result (λ m. AugmentsFromZero (network_of graph.now) m.augmentations m.flow.items) }
-    ensures within_max { IfOk result (λ m. m.augmentations ≤ graph.now.node_count * length (arcs_of graph.now)) }
+    ensures count_within_max { IfOk result (λ m. m.augmentations ≤ graph.now.node_count * length (network_arcs graph.now)) }
     ensures flow { IfOk result (λ m. IsFlow (network_of graph.now) m.flow.items) }
     ensures worth_is { IfOk result (λ m. m.worth ≡ worth (network_of graph.now) m.flow.items) }
     ensures worth { IfOk result (λ m. m.augmentations ≤ worth (network_of graph.now) m.flow.items) }

@@ -8,7 +8,7 @@ ghost use Rattle.std.specs.Prelude.{◌≡◌, ◌<◌, ◌≤◌, true, length,
 ghost use Rattle.esr_cert.specs.Flow.{within};
 ghost use Rattle.esr_flow.specs.Residual.{residual_capacity};
 ghost use Rattle.esr_cert.specs.Steps.{opposite, step_at};
-ghost use Rattle.esr_flow.specs.ResidualGraph.{arcs_of, network_of, AreEntries, IsAdjacencyRow, entry_at};
+ghost use Rattle.esr_flow.specs.ResidualGraph.{network_arcs, network_of, AreEntries, IsAdjacencyRow, entry_at};
 ghost use Rattle.esr_flow.specs.Search.{Guides, IsGuided, label_at};
 ghost use Rattle.esr_flow.specs.Maximum.{InArcs};
 
@@ -29,12 +29,12 @@ fn next_back(
     from: usize,
 ) -> usize
     requires node { at < graph.now.node_count }
-    requires row { IsAdjacencyRow (arcs_of graph.now) flow.now at _steps.now row.now }
-    requires flow { length flow.now ≡ length (arcs_of graph.now) }
+    requires row { IsAdjacencyRow (network_arcs graph.now) flow.now at _steps.now row.now }
+    requires flow { length flow.now ≡ length (network_arcs graph.now) }
     requires labels { length labels.now ≡ graph.now.node_count }
     ensures later { from ≤ result }
     ensures residual { result < length row.now → within 1
-        (residual_capacity (arcs_of graph.now) flow.now (opposite (step_at _steps.now result))) ≡ true }
+        (residual_capacity (network_arcs graph.now) flow.now (opposite (step_at _steps.now result))) ≡ true }
     ensures up { result < length row.now → label_at labels.now at < label_at labels.now (entry_at row.now result).to }
 {
     let label = labels[at];
@@ -60,7 +60,7 @@ pub fn next_path(
     labels: &[u32],
     next: &mut [usize],
 ) -> Result<Option<Vec<ResidualArc>>, AllocError>
-    requires flow { length flow.now ≡ length (arcs_of graph.now) }
+    requires flow { length flow.now ≡ length (network_arcs graph.now) }
     requires entries { AreEntries graph.now flow.now entries.now }
     requires guides { Guides (network_of graph.now) flow.now labels.now }
     requires next { length next.old ≡ graph.now.node_count }
@@ -90,7 +90,7 @@ pub fn next_path(
 
 /// Moves the pointers at the nodes of a path back by one, since their steps may have residual capacity left.
 pub fn put_back(graph: &ResidualGraph, next: &mut [usize], path: &[ResidualArc])
-    requires path { InArcs (arcs_of graph.now) path.now }
+    requires path { InArcs (network_arcs graph.now) path.now }
     requires next { length next.old ≡ graph.now.node_count }
     ensures { length next.new ≡ length next.old }
 {

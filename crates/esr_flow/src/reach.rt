@@ -13,7 +13,7 @@
 //! reachable, so they skip the arcs before the first unmarked update. If they have marked everything, one pass over all
 //! arcs confirms it. When each pass covered all arcs, the passes took a fifth of an audit's instructions.
 ghost use Rattle.std.specs.Prelude.{◌≡◌, ℕ, ◌+◌, ◌-◌, ◌<◌, ◌≤◌, true, false, length, get_or, IfOk, IfSome};
-ghost use Rattle.esr_flow.specs.ResidualGraph.{arcs_of, network_of};
+ghost use Rattle.esr_flow.specs.ResidualGraph.{network_arcs, network_of};
 ghost use Rattle.esr_flow.specs.Reached.{AreReached, IsKeptOver, IsKept, HasLinks, first_back};
 ghost use Rattle.esr_flow.specs.Search.{ReachesNoSink, is_marked};
 
@@ -26,12 +26,12 @@ const MAX_PASSES: usize = 100;
 
 /// Marks the end of an arc that a residual step reaches from its marked other end. Returns whether it marked anything.
 fn spread(graph: &ResidualGraph, flow: &[u64], marks: &mut [bool], i: usize) -> bool
-    requires flow { length flow.now ≡ length (arcs_of graph.now) }
-    requires arc { i < length (arcs_of graph.now) }
+    requires flow { length flow.now ≡ length (network_arcs graph.now) }
+    requires arc { i < length (network_arcs graph.now) }
     requires reached { AreReached (network_of graph.now) flow.now marks.old }
     ensures reached { AreReached (network_of graph.now) flow.now marks.new }
     ensures marks { result ≡ false → marks.new ≡ marks.old }
-    ensures kept { result ≡ false → IsKeptOver (arcs_of graph.now) flow.now marks.old i }
+    ensures kept { result ≡ false → IsKeptOver (network_arcs graph.now) flow.now marks.old i }
 {
     let arc = graph.problem.arc(i as u32);
     let from = arc.from as usize;
@@ -99,7 +99,7 @@ fn first_unmarked(marks: &[bool]) -> u32 {
 
 /// Marks the end of an arc, if there is one with that number, as `spread` does.
 fn spread_if(graph: &ResidualGraph, flow: &[u64], marks: &mut [bool], i: usize) -> bool
-    requires flow { length flow.now ≡ length (arcs_of graph.now) }
+    requires flow { length flow.now ≡ length (network_arcs graph.now) }
     requires reached { AreReached (network_of graph.now) flow.now marks.old }
     ensures { AreReached (network_of graph.now) flow.now marks.new }
 {
@@ -115,7 +115,7 @@ fn skim_chain(
     begin: usize,
     low: u32,
 ) -> bool
-    requires flow { length flow.now ≡ length (arcs_of graph.now) }
+    requires flow { length flow.now ≡ length (network_arcs graph.now) }
     requires reached { AreReached (network_of graph.now) flow.now marks.old }
     ensures { AreReached (network_of graph.now) flow.now marks.new }
 {
@@ -133,7 +133,7 @@ fn skim_chain(
 
 /// Skims the arcs of all chains, from the first to the last. Whether it marked anything.
 fn skim_chains(graph: &ResidualGraph, flow: &[u64], marks: &mut [bool], low: u32) -> bool
-    requires flow { length flow.now ≡ length (arcs_of graph.now) }
+    requires flow { length flow.now ≡ length (network_arcs graph.now) }
     requires reached { AreReached (network_of graph.now) flow.now marks.old }
     ensures { AreReached (network_of graph.now) flow.now marks.new }
 {
@@ -157,7 +157,7 @@ fn skim_pairs(
     first: usize,
     low: u32,
 ) -> bool
-    requires flow { length flow.now ≡ length (arcs_of graph.now) }
+    requires flow { length flow.now ≡ length (network_arcs graph.now) }
     requires reached { AreReached (network_of graph.now) flow.now marks.old }
     ensures { AreReached (network_of graph.now) flow.now marks.new }
 {
@@ -177,7 +177,7 @@ fn skim_pairs(
 /// Marks the updates that must be in the set, and skims arcs until that marks nothing more. The arcs of pairs begin at
 /// `first`. It need not mark every reachable node.
 fn skim(graph: &ResidualGraph, flow: &[u64], marks: &mut [bool], first: usize)
-    requires flow { length flow.now ≡ length (arcs_of graph.now) }
+    requires flow { length flow.now ≡ length (network_arcs graph.now) }
     requires reached { AreReached (network_of graph.now) flow.now marks.old }
     ensures { AreReached (network_of graph.now) flow.now marks.new }
 {
@@ -201,13 +201,13 @@ fn pass_chain(
     chain: &Chain,
     begin: usize,
 ) -> bool
-    requires flow { length flow.now ≡ length (arcs_of graph.now) }
-    requires chain { HasLinks (arcs_of graph.now) chain.now begin }
+    requires flow { length flow.now ≡ length (network_arcs graph.now) }
+    requires chain { HasLinks (network_arcs graph.now) chain.now begin }
     requires reached { AreReached (network_of graph.now) flow.now marks.old }
     ensures reached { AreReached (network_of graph.now) flow.now marks.new }
     ensures marks { result ≡ false → marks.new ≡ marks.old }
     ensures kept { result ≡ false → (j : ℕ) → j < length chain.now.costs.items
-        → IsKeptOver (arcs_of graph.now) flow.now marks.new (begin + j) }
+        → IsKeptOver (network_arcs graph.now) flow.now marks.new (begin + j) }
 {
     let mut more = false;
     for j in 0..chain.costs.len() {
@@ -220,12 +220,12 @@ fn pass_chain(
 
 /// Passes over the arcs of all chains, from the first to the last. Returns whether it marked anything.
 fn pass_chains(graph: &ResidualGraph, flow: &[u64], marks: &mut [bool]) -> bool
-    requires flow { length flow.now ≡ length (arcs_of graph.now) }
+    requires flow { length flow.now ≡ length (network_arcs graph.now) }
     requires reached { AreReached (network_of graph.now) flow.now marks.old }
     ensures reached { AreReached (network_of graph.now) flow.now marks.new }
     ensures marks { result ≡ false → marks.new ≡ marks.old }
     ensures kept { result ≡ false → (i : ℕ) → i < first_back graph.now.problem.now
-        → IsKeptOver (arcs_of graph.now) flow.now marks.new i }
+        → IsKeptOver (network_arcs graph.now) flow.now marks.new i }
 {
     let mut more = false;
     let mut begin = 0;
@@ -240,12 +240,12 @@ fn pass_chains(graph: &ResidualGraph, flow: &[u64], marks: &mut [bool]) -> bool
 
 /// Passes over the arcs from that of the first pair on, from the last to the first. Returns whether it marked anything.
 fn pass_back(graph: &ResidualGraph, flow: &[u64], marks: &mut [bool], first: usize) -> bool
-    requires flow { length flow.now ≡ length (arcs_of graph.now) }
+    requires flow { length flow.now ≡ length (network_arcs graph.now) }
     requires first { first ≡ first_back graph.now.problem.now }
     requires reached { AreReached (network_of graph.now) flow.now marks.old }
     ensures reached { AreReached (network_of graph.now) flow.now marks.new }
-    ensures kept { result ≡ false → (i : ℕ) → first ≤ i → i < length (arcs_of graph.now)
-        → IsKeptOver (arcs_of graph.now) flow.now marks.new i }
+    ensures kept { result ≡ false → (i : ℕ) → first ≤ i → i < length (network_arcs graph.now)
+        → IsKeptOver (network_arcs graph.now) flow.now marks.new i }
     ensures marks { result ≡ false → marks.new ≡ marks.old }
 {
     let pairs = graph.problem.before();
@@ -260,7 +260,7 @@ fn pass_back(graph: &ResidualGraph, flow: &[u64], marks: &mut [bool], first: usi
 
 /// Returns the number of the first arc that is not in a chain; `count` is the number of all arcs.
 fn first_back_of(graph: &ResidualGraph, count: usize) -> usize
-    requires count { count ≡ length (arcs_of graph.now) }
+    requires count { count ≡ length (network_arcs graph.now) }
     ensures { result ≡ first_back graph.now.problem.now }
 {
     count - graph.problem.must().len() - graph.problem.before().len()
@@ -268,10 +268,10 @@ fn first_back_of(graph: &ResidualGraph, count: usize) -> usize
 
 /// Marks all nodes that are reachable from the marked ones. Returns whether the passes sufficed.
 fn pass_often(graph: &ResidualGraph, flow: &[u64], marks: &mut [bool]) -> bool
-    requires flow { length flow.now ≡ length (arcs_of graph.now) }
+    requires flow { length flow.now ≡ length (network_arcs graph.now) }
     requires reached { AreReached (network_of graph.now) flow.now marks.old }
     ensures reached { AreReached (network_of graph.now) flow.now marks.new }
-    ensures kept { result ≡ true → IsKept (arcs_of graph.now) flow.now marks.new }
+    ensures kept { result ≡ true → IsKept (network_arcs graph.now) flow.now marks.new }
 {
     let first = first_back_of(graph, flow.len());
     for _ in 0..MAX_PASSES {
@@ -291,7 +291,7 @@ pub fn reach(
     graph: &ResidualGraph,
     flow: &[u64],
 ) -> Result<Option<Vec<bool>>, AllocError>
-    requires flow { length flow.now ≡ length (arcs_of graph.now) }
+    requires flow { length flow.now ≡ length (network_arcs graph.now) }
     ensures { IfOk result (λ r. IfSome r (λ marks. ReachesNoSink (network_of graph.now) flow.now marks.items)) }
 {
     let mut marks = vec![in alloc; false; graph.node_count]?;

@@ -2,7 +2,7 @@
 //! to further ones of its length, or marks of the nodes that the source reaches: the smallest set of least cost.
 ghost use Rattle.std.specs.Prelude.{◌≡◌, ℕ, List, ◌-◌, ◌<◌, ◌≤◌, false, length, IfOk};
 ghost use Rattle.esr_cert.specs.Network.{Network};
-ghost use Rattle.esr_flow.specs.ResidualGraph.{arcs_of, network_of, AreEntries, IsAdjacencyRow};
+ghost use Rattle.esr_flow.specs.ResidualGraph.{network_arcs, network_of, AreEntries, IsAdjacencyRow};
 ghost use Rattle.esr_flow.specs.Search.{Searched, visit_at, is_marked, ComeFromEarlier, IsShortestPath, AfterScan, AfterSearch, FoundSink, IsFound, Guides, label_at};
 
 use crate::entry::ShortEntry;
@@ -29,7 +29,7 @@ fn scan(
     marks: &mut Vec<bool>,
     head: usize,
 ) -> Result<bool, AllocError>
-    requires row { IsAdjacencyRow (arcs_of graph.now) _flow.now (visit_at visits.old.items head).node steps.now row.now }
+    requires row { IsAdjacencyRow (network_arcs graph.now) _flow.now (visit_at visits.old.items head).node steps.now row.now }
     requires head { head < length visits.old.items }
     requires searched { Searched (network_of graph.now) _flow.now visits.old.items marks.old.items head }
     requires sink { is_marked marks.old.items graph.now.sink ≡ false }

@@ -9,7 +9,7 @@ ghost use Rattle.esr_cert.specs.Problem.{size, in_set, IsSmallestLeast};
 ghost use Rattle.esr_cert.specs.Network.{network};
 ghost use Rattle.esr_cert.specs.Flow as flow_check;
 ghost use Rattle.esr_cert.specs.Certificate.{amounts, are_rows_matched, is_count_in_bound, Certifies};
-ghost use Rattle.esr_cert.specs.Views.{chain_of, rows_of, certificate_of};
+ghost use Rattle.esr_cert.specs.Views.{chain_view, rows_of, certificate_of};
 ghost use Rattle.esr_flow.specs.Augmentation.{IsReach, AugmentsFromZero};
 ghost use Rattle.esr_flow.specs.Search.{is_marked};
 ghost use Rattle.esr_flow.specs.Members.{members_below};
@@ -23,7 +23,7 @@ use std::alloc::{AllocError, Global};
 /// Returns the marked positions, ascending.
 fn members(alloc: Global, marks: &[bool], count: usize) -> Result<Vec<u32>, AllocError>
     requires spare_capacity { count ≤ length marks.now }
-    requires within_max { count ≤ MAX_TRANSACTIONS }
+    requires count_within_max { count ≤ MAX_TRANSACTIONS }
     ensures { IfOk result (λ set. set.items ≡ members_below (is_marked marks.now) count) }
 {
     let mut set = Vec::new(alloc);
@@ -39,7 +39,7 @@ fn members(alloc: Global, marks: &[bool], count: usize) -> Result<Vec<u32>, Allo
 fn chain_rows(alloc: Global, flow: &[u64], chains: &[Chain]) -> Result<Vec<Vec<u64>>, AllocError>
     requires { sum_by (λ chain. length chain.costs.items) chains.now ≡ length flow.now }
     ensures all { IfOk result (λ rows. concat (rows_of rows.items) ≡ flow.now) }
-    ensures matched { IfOk result (λ rows. are_rows_matched (map chain_of chains.now) (rows_of rows.items) ≡ true) }
+    ensures matched { IfOk result (λ rows. are_rows_matched (map chain_view chains.now) (rows_of rows.items) ≡ true) }
 {
     let mut rows = Vec::new(alloc);
     let mut at = 0;
@@ -131,7 +131,7 @@ pub fn solve(alloc: Global, net: &Network) -> Result<Solved, NoMemory>
     ensures takes { IfOk result (λ s. AugmentsFromZero (network net.now.problem.now) s.augmentations
         (amounts (certificate_of s.certificate))) }
     ensures worth { IfOk result (λ s. s.augmentations ≤ s.certificate.worth) }
-    ensures within_max { IfOk result (λ s. s.augmentations ≤ (size net.now.problem.now + 2) * length
+    ensures count_within_max { IfOk result (λ s. s.augmentations ≤ (size net.now.problem.now + 2) * length
         (network net.now.problem.now).arcs) }
     ensures amounts { IfOk result (λ s. (i : ℕ) → get_or (amounts (certificate_of s.certificate)) i 0
         ≤ s.certificate.worth) }

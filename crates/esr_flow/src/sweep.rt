@@ -12,7 +12,7 @@
 //! flow to a maximum.
 ghost use Rattle.std.specs.Prelude.{◌≡◌, ◌<◌, length, IfOk};
 ghost use Rattle.esr_cert.specs.Network.{network};
-ghost use Rattle.esr_flow.specs.ResidualGraph.{arcs_of};
+ghost use Rattle.esr_flow.specs.ResidualGraph.{network_arcs};
 
 use crate::graph::ResidualGraph;
 use esr_cert::{Arc, Chain, PackedResidualArc, ResidualArc};
@@ -753,7 +753,7 @@ fn fill_middle(field: &Field, flow: &mut [u64], middle: u32)
 
 /// Amounts for the arcs of a graph that mostly are a maximum flow.
 pub fn draft<'a>(alloc: Global, graph: &'a ResidualGraph<'a>) -> Result<Vec<u64>, AllocError>
-    ensures { IfOk result (λ flow. length flow.items ≡ length (arcs_of graph.now)) }
+    ensures { IfOk result (λ flow. length flow.items ≡ length (network_arcs graph.now)) }
 {
     let mut flow = vec![in alloc; 0u64; graph.rows.steps.len() / 2]?;
     let field = Field::of(alloc, graph)?;

@@ -19,18 +19,18 @@ all_before (b ∷ bs) (suc n) l h = rw (passed (is_name_byte b) (h 0 (omega arit
 
 named : (bytes : List ℕ) (place : ℕ) → place ≤ length bytes → ((k : ℕ) → k < place → not (is_name_byte (get_or bytes k 0)) ≡ false) → (place ≡ 0 → ⊥) → place ≤ 16
     → is_letter (get_or bytes 0 0) ≡ true → is_name (take place bytes) ≡ true
-named bytes zero l h some within_max first = absurd (some refl)
-named [] (suc n) l h some within_max first = absurd (omega (arith, l))
-named (b ∷ bs) (suc n) l h some within_max first =
-    let short : length (take n bs) ≤ 15 = omega (arith, within_max, l, length-take n bs) in
+named bytes zero l h some count_within_max first = absurd (some refl)
+named [] (suc n) l h some count_within_max first = absurd (omega (arith, l))
+named (b ∷ bs) (suc n) l h some count_within_max first =
+    let short : length (take n bs) ≤ 15 = omega (arith, count_within_max, l, length-take n bs) in
     rw (first, le-leb _ _ short, all_before bs n (omega (arith, l)) (λ k i. h (suc k) (omega (arith, i)))) refl
 
 -- the bytes before the first that is not permitted in a name, if they are a letter and up to 15 more
 pub front_is_name : (bytes : List ℕ) (place : ℕ) → position (λ b. not (is_name_byte b)) bytes ≡ Some place → (place ≡ 0 → ⊥) → place ≤ 16
     → is_letter (get_or bytes 0 0) ≡ true → is_name (take place bytes) ≡ true
-front_is_name bytes place e some within_max first =
+front_is_name bytes place e some count_within_max first =
     let found = position-Some (λ b. not (is_name_byte b)) bytes place 0 e in
-    named bytes place (omega (arith, found.0)) found.2 some within_max first
+    named bytes place (omega (arith, found.0)) found.2 some count_within_max first
 
 cut : (bytes : List ℕ) (place : ℕ) → place < length bytes → get_or bytes place 0 ≡ 32 → bytes ≡ take place bytes ++ 32 ∷ drop (suc place) bytes
 cut [] place l e = absurd (omega (arith, l))

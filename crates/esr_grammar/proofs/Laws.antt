@@ -139,13 +139,13 @@ limit_some text n small is = rw is (sym (number_round_trip (10 ^ 19) n (omega ar
 
 -- so few digits fit
 pub fits : (i value : ℕ) → value < 10 ^ i → i ≤ 18 → 10 * value + 9 < 10 ^ 19
-fits i value small within_max =
-    let upper_bound : 10 ^ i ≤ 10 ^ 18 = pow-le-pow_right (omega arith) within_max in
+fits i value small count_within_max =
+    let upper_bound : 10 ^ i ≤ 10 ^ 18 = pow-le-pow_right (omega arith) count_within_max in
     omega (arith, small, upper_bound)
 
 -- after the last digit
 pub all_read : (cs : List ℕ) (i value : ℕ) → IsValueOf cs i value → length cs ≤ i → i ≤ length cs → length cs ≤ 19 → (value ≡ value_from 0 cs) × (value < 10 ^ 19) × (all_ascii_digits cs ≡ true)
-all_read cs i value so_far end within within_max = grind (arith, take_all i cs end, pow-le-pow_right)
+all_read cs i value so_far end within count_within_max = grind (arith, take_all i cs end, pow-le-pow_right)
 
 pub too_long : (word : List ℕ) → 19 < length word → None ≡ limit_in word
 too_long word long = limit_none word (λ n small is. omega (arith, long, ap length is, length-decimal-le 19 n (omega arith) small (omega arith)))

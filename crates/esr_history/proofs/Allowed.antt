@@ -17,7 +17,7 @@ pub record ReadAllowed (d : DistanceFunction) (h : Schedule) (t : TxnId) (x : It
   pub begun : not_begun h t.0 ≡ None
   pub active : ended h t.0 ≡ None
   pub item : no_item h x.0 ≡ None
-  pub within_max : many_reads h t.0 ≡ None
+  pub count_within_max : many_reads h t.0 ≡ None
   pub free : read_blocked h t.0 x.0 ≡ None
   pub imports : import_full d h (due_in d h (Read t x)) ≡ None
   pub exports : export_full d h (due_in d h (Read t x)) ≡ None
@@ -46,7 +46,7 @@ read_allowed d h t x none = record {
   begun = none.0;
   active = none.1.0;
   item = none.1.1.0;
-  within_max = none.1.1.1.0;
+  count_within_max = none.1.1.1.0;
   free = none.1.1.1.1.0;
   imports = none.1.1.1.1.1.0;
   exports = none.1.1.1.1.1.1.0;

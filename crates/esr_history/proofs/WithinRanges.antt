@@ -101,7 +101,7 @@ module _ (d : DistanceFunction) (h : Schedule) (in_ranges : InRanges h) where
       act = not_ended h t.0 (read_allowed d h t x none).active
 
       spare_capacity : is_query (accepted_in h) t.0 ≡ true → total_read_count (accepted_in h) t.0 < 1000
-      spare_capacity query = leb-false 1000 (total_read_count (accepted_in h) t.0) (sym (ap (λ b. b && nat_le 1000 (total_read_count (accepted_in h) t.0)) query) ∙ when_none (is_query (accepted_in h) t.0 && nat_le 1000 (total_read_count (accepted_in h) t.0)) TooManyReads (read_allowed d h t x none).within_max)
+      spare_capacity query = leb-false 1000 (total_read_count (accepted_in h) t.0) (sym (ap (λ b. b && nat_le 1000 (total_read_count (accepted_in h) t.0)) query) ∙ when_none (is_query (accepted_in h) t.0 && nat_le 1000 (total_read_count (accepted_in h) t.0)) TooManyReads (read_allowed d h t x none).count_within_max)
 
       reads : (u : ℕ) → is_update (accepted_in h ++ Read t x ∷ []) u ≡ false → total_read_count (accepted_in h ++ Read t x ∷ []) u ≤ 1000
       reads u fails =

@@ -71,7 +71,7 @@ impl Store {
 
     /// Like [`Store::new`], but for values that have been checked, so that only an allocation can fail.
     pub fn of_valid(alloc: Global, values: &[i64]) -> Result<Store, AllocError>
-        requires within_max { length values.now ≤ MAX_ITEMS }
+        requires count_within_max { length values.now ≤ MAX_ITEMS }
         requires range { All IsValue values.now }
         ensures both { IfOk result (λ s. s ≡ map both_versions values.now) }
         ensures committed { IfOk result (λ s. map (λ w. w.committed) s ≡ values.now) }
@@ -139,7 +139,7 @@ impl Store {
 fn versions_of(alloc: Global, values: &[i64]) -> Result<Vec<Versions>, AllocError>
     requires { All IsValue values.now }
     ensures both { IfOk result (λ items. items.items ≡ map both_versions values.now) }
-    ensures within_max { IfOk result (λ items. length items.items ≡ length values.now) }
+    ensures count_within_max { IfOk result (λ items. length items.items ≡ length values.now) }
     ensures range { IfOk result (λ items. All AreValues items.items) }
 {
     let versions = values.iter().map(|v| Versions {

@@ -180,7 +180,7 @@ impl LockEntry {
     /// Adds a read by a query. Returns whether the query had not read the item.
     fn add_query_read(&mut self, q: TxnId) -> bool
         requires spare_capacity { 0 < self.old.spare_capacity }
-        requires within_max { All (λ r. r.0 ≡ q.0 → r.1 < MAX_READS) self.old.locks.queries }
+        requires count_within_max { All (λ r. r.0 ≡ q.0 → r.1 < MAX_READS) self.old.locks.queries }
         ensures locks { self.new.locks ≡ with_query_read q.0 self.old.locks }
         ensures is_new { result ≡ not (has_query_lock self.old.locks q.0) }
     {
@@ -191,7 +191,7 @@ impl LockEntry {
     #[inline(always)]
     pub fn add(&mut self, t: TxnId, mode: Mode) -> bool
         requires spare_capacity { 0 < self.old.spare_capacity }
-        requires within_max { mode ≡ Mode.QueryRead → All (λ r. r.0 ≡ t.0 → r.1 < MAX_READS) self.old.locks.queries }
+        requires count_within_max { mode ≡ Mode.QueryRead → All (λ r. r.0 ≡ t.0 → r.1 < MAX_READS) self.old.locks.queries }
         ensures locks { self.new.locks ≡ with_lock mode t.0 self.old.locks }
         ensures is_new { result ≡ not (has_lock_in_mode mode self.old.locks t.0) }
     {

@@ -187,7 +187,7 @@ pub fn add_reader(readers: &mut Readers, t: TxnId) -> bool
 pub fn count_read(queries: &mut Queries, q: TxnId) -> bool
     requires ascending { IsAscendingBy (λ r. r.query.0) queries.old.items }
     requires spare_capacity { HasRoomFor queries.old 1 }
-    requires within_max { All (λ r. r.query.0 ≡ q.0 → r.count < MAX_READS) queries.old.items }
+    requires count_within_max { All (λ r. r.query.0 ≡ q.0 → r.count < MAX_READS) queries.old.items }
     requires upper_bound { AllByRecursion (λ r. r.count ≤ MAX_READS) queries.old.items }
     ensures items { queries.new.items ≡ upserted (λ r. r.query.0) q.0 (first_reads q) more_reads queries.old.items }
     ensures upper_bound { AllByRecursion (λ r. r.count ≤ MAX_READS) queries.new.items }

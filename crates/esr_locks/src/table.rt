@@ -234,7 +234,7 @@ impl LockTable {
     fn add(&mut self, t: TxnId, x: ItemId, mode: Mode)
         requires item { x.0 < length self.old.locks }
         requires spare_capacity { 0 < spare_lock_capacity self.old t.0 x.0 }
-        requires within_max { mode ≡ Mode.QueryRead
+        requires count_within_max { mode ≡ Mode.QueryRead
             → All (λ r. r.0 ≡ t.0 → r.1 < MAX_READS) (locks_at self.old.locks x.0).queries }
         ensures already_locked { has_lock_in_mode mode (locks_at self.old.locks x.0) t.0 ≡ true → self.new.spare_by_transaction ≡ self.old.spare_by_transaction }
         ensures locks { self.new.locks ≡ slice_set self.old.locks x.0 (with_lock mode t.0 (locks_at self.old.locks x.0)) }
@@ -270,7 +270,7 @@ impl LockTable {
     pub fn add_read_query(&mut self, q: TxnId, x: ItemId)
         requires item { x.0 < length self.old.locks }
         requires spare_capacity { 0 < spare_lock_capacity self.old q.0 x.0 }
-        requires within_max { All (λ r. r.0 ≡ q.0 → r.1 < MAX_READS) (locks_at self.old.locks x.0).queries }
+        requires count_within_max { All (λ r. r.0 ≡ q.0 → r.1 < MAX_READS) (locks_at self.old.locks x.0).queries }
         ensures already_locked { has_query_lock (locks_at self.old.locks x.0) q.0 ≡ true → self.new.spare_by_transaction ≡ self.old.spare_by_transaction }
         ensures locks { self.new.locks ≡ slice_set self.old.locks x.0 (with_query_read q.0 (locks_at self.old.locks x.0)) }
     {

@@ -18,7 +18,7 @@ use Rattle.esr_order.specs.Orders.{IsConflictOrderOn}
 use Rattle.esr_order.proofs.Batches as batches_of
 use Rattle.esr_order.proofs.Complete.{order_found}
 
-module _ (d : DistanceFunction) (h : Schedule) (legal : IsLegal d h) (commits : List TxnId) (once : AllPairs (λ u v. u ≢ v) (map (λ t. t.0) commits)) (keeps : AllPairs (λ u v. is_before h v u ≡ false) (map (λ t. t.0) commits)) (within_max : length commits ≤ 65535) where
+module _ (d : DistanceFunction) (h : Schedule) (legal : IsLegal d h) (commits : List TxnId) (once : AllPairs (λ u v. u ≢ v) (map (λ t. t.0) commits)) (keeps : AllPairs (λ u v. is_before h v u ≡ false) (map (λ t. t.0) commits)) (count_within_max : length commits ≤ 65535) where
   abbrev us : List ℕ
   us = map (λ (t : TxnId). t.0) commits
 
@@ -29,7 +29,7 @@ module _ (d : DistanceFunction) (h : Schedule) (legal : IsLegal d h) (commits : 
   len = length-map commits (λ (t : TxnId). t.0)
 
   pub bounded_pairs : (before : List (ℕ × ℕ)) → AreConflicts steps before → length before ≤ 2 * length (filter (λ o. is_among (map (λ t. t.0) commits) o.txn) (operations h))
-  bounded_pairs before conflicting = omega (arith, conflicting.within_max, batches_of.counted (operations h) 0 us (Pairs-from_all (λ u v. u ≢ v) us once))
+  bounded_pairs before conflicting = omega (arith, conflicting.count_within_max, batches_of.counted (operations h) 0 us (Pairs-from_all (λ u v. u ≢ v) us once))
 
   pub made : (before : List (ℕ × ℕ)) → AllPairs IsLexLess before → AreConflicts steps before × ((x : ℕ) → AreNextPaired before (filter (λ s. s.writes) (on_item x steps)))
       → (chains : List Chain) → chains ≡ map (λ x. chain_from (last_by_update steps x) (length commits)) (range_with_len 0 (length h.opening))
@@ -40,7 +40,7 @@ module _ (d : DistanceFunction) (h : Schedule) (legal : IsLegal d h) (commits : 
       let chained : chains ≡ map (λ x. chain_from (last_by_update steps x) (length us)) (range_with_len 0 (length h.opening)) =
       links ∙ ap (λ k. map (λ x. chain_from (last_by_update steps x) k) (range_with_len 0 (length h.opening))) (sym len) in
       let within : n ≤ length us = omega (arith, part, len) in
-      let upper_bound : length us ≤ 65535 = omega (arith, within_max, len) in
+      let upper_bound : length us ≤ 65535 = omega (arith, count_within_max, len) in
       subst (λ ms. IsConflictOrderOn h q us (record { commits = commits; before = before; must = ms; chains = chains })) (sym firsts)
       (subst (λ cs. IsConflictOrderOn h q us (record { commits = commits; before = before; must = range_with_len 0 n; chains = cs })) (sym chained)
       (order_found d h q legal us once keeps before ascends pairs.0 pairs.1 n within musts upper_bound commits refl))

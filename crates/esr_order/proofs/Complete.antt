@@ -67,7 +67,7 @@ module _ (d : DistanceFunction) (h : Schedule) (q : ℕ) (legal : IsLegal d h) (
   rising : (x : ℕ) → Pairs (λ (a b : UpdateOperation). a.update_index ≤ b.update_index) (writes_in (on x steps))
   rising x = Pairs-filter (λ (a b : UpdateOperation). a.update_index ≤ b.update_index) (λ (s : UpdateOperation). s.writes) (on x steps) (Pairs-filter (λ (a b : UpdateOperation). a.update_index ≤ b.update_index) (λ (s : UpdateOperation). eqb s.item x) steps (rises (operations h) 0 us))
 
-  module _ (before : List (ℕ × ℕ)) (ascends : AllPairs IsLexLess before) (conflicting : AreConflicts steps before) (next : (x : ℕ) → AreNextPaired before (writes_in (on x steps))) (n : ℕ) (part : n ≤ length us) (musts : map (nth us) (range_with_len 0 n) ≡ must h q) (within_max : length us ≤ 65535) (commits : List TxnId) where
+  module _ (before : List (ℕ × ℕ)) (ascends : AllPairs IsLexLess before) (conflicting : AreConflicts steps before) (next : (x : ℕ) → AreNextPaired before (writes_in (on x steps))) (n : ℕ) (part : n ≤ length us) (musts : map (nth us) (range_with_len 0 n) ≡ must h q) (count_within_max : length us ≤ 65535) (commits : List TxnId) where
     abbrev found : ConflictOrder
     found = record { commits = commits; before = before; must = range_with_len 0 n; chains = map (λ x. chain_from (last_by_update steps x) (length us)) (range_with_len 0 (length h.opening)) }
 
@@ -176,7 +176,7 @@ module _ (d : DistanceFunction) (h : Schedule) (q : ℕ) (legal : IsLegal d h) (
         let below : 0 + n ≤ length commits = omega arith in
         record {
           commits = same;
-          within_max = subst (λ m. m ≤ 65535) (sym len) within_max;
+          count_within_max = subst (λ m. m ≤ 65535) (sym len) count_within_max;
           serial = record { lists = λ u. ((λ i. i), (λ i. i)); once = once; keeps = keeps };
           ascending = ascends;
           pairs = subst (λ m. All (λ p. (p.0 < p.1) × (p.1 < m) × IsTrue (is_before h (nth us p.0) (nth us p.1))) before) (sym len) upward;
@@ -197,7 +197,7 @@ pub order_whole : (h : Schedule) (q : ℕ) (o : ConflictOrder) → IsConflictOrd
 order_whole h q o a = record {
   commits = a.commits;
   serial = a.serial;
-  within_max = a.within_max;
+  count_within_max = a.count_within_max;
   ascending = a.ascending;
   pairs = a.pairs;
   closed = λ S. (

@@ -155,7 +155,7 @@ rest_more h updates i inside d =
 pub record IsGathered (h : Schedule) (updates : List TxnId) (i : ℕ) (links : List Chain) (rows : List (List ℕ)) (pairs : List Pair) : Type 0 where
   pub later : SummarizeLater links rows (rest h updates i)
   pub kept : Kept (rest h updates i) pairs
-  pub within_max : length pairs + length (open_reads (rest h updates i)) ≤ 2 * length (rest h updates i)
+  pub count_within_max : length pairs + length (open_reads (rest h updates i)) ≤ 2 * length (rest h updates i)
   pub falling : Pairs (λ p r. IsLexLess r p) pairs
   pub above : (p : Pair) → In p pairs → i ≤ p.0
 
@@ -183,7 +183,7 @@ pub gathered_more : (h : Schedule) (updates : List TxnId) (i next : ℕ) → nex
     → (conflicts others : List ℕ) → conflicts ≡ batch_conflicts (map (operation_at i) accesses) (rest h updates next)
     → AllPairs (λ j k. j < k) others → ((j : ℕ) → Contains conflicts j → Contains others j) → ((j : ℕ) → Contains others j → Contains conflicts j) → length others ≤ length conflicts
     → (more : List Pair) → more ≡ pairs ++ reverse (pairs_from i others) → IsGathered h updates i more_links more_rows more
-gathered_more h updates i next is inside d links rows pairs g accesses made more_links more_rows are conflicts others conflicting ascends keeps adds within_max more grown =
+gathered_more h updates i next is inside d links rows pairs g accesses made more_links more_rows are conflicts others conflicting ascends keeps adds count_within_max more grown =
     subst (IsGathered h updates i more_links more_rows) (sym grown) (record {
       later = subst (SummarizeLater more_links more_rows) whole are;
       kept = subst (λ ss. Kept ss (pairs ++ reverse own)) whole
@@ -191,8 +191,8 @@ gathered_more h updates i next is inside d links rows pairs g accesses made more
           (λ p j. ⊎_elim (λ a. In-append_right pairs (reverse own) p (In-reverse own p (from_conflicts p a))) (λ a. In-append_left pairs (reverse own) p a) (In-append_cases (pairs_from i (batch_conflicts own_operations later)) pairs p j))
           (λ p j. ⊎_elim (λ a. In-append_right (pairs_from i (batch_conflicts own_operations later)) pairs p a) (λ a. In-append_left (pairs_from i (batch_conflicts own_operations later)) pairs p (to_conflicts p (In-of_reverse own p a))) (In-append_cases pairs (reverse own) p j))
           (kept_batch i own_operations later pairs (placed_at i accesses) g.kept));
-      within_max = subst (λ ss. length (pairs ++ reverse own) + length (open_reads ss) ≤ 2 * length ss) whole
-          (omega (arith, g.within_max, within_max, ap length conflicting, batch_count own_operations later, length-append pairs (reverse own), length-reverse own, pairs_bounded others i, length-append own_operations later));
+      count_within_max = subst (λ ss. length (pairs ++ reverse own) + length (open_reads ss) ≤ 2 * length ss) whole
+          (omega (arith, g.count_within_max, count_within_max, ap length conflicting, batch_count own_operations later, length-append pairs (reverse own), length-reverse own, pairs_bounded others i, length-append own_operations later));
       falling = Pairs-append (λ p r. IsLexLess r p) pairs (reverse own) g.falling (Pairs-reverse IsLexLess own (below_from i others (Pairs-from_all (λ j k. j < k) others ascends)))
           (λ p r j k.
           let high : next ≤ p.0 = g.above p j in
@@ -238,7 +238,7 @@ module _ (h : Schedule) (updates : List TxnId) (i : ℕ) (is : i ≡ 0) (links :
   gathered_ascending = All-from_pairs IsLexLess (reverse pairs) (Pairs-reverse (λ p r. IsLexLess r p) pairs g.falling)
 
   pub gathered_conflicting : AreConflicts steps (reverse pairs)
-  gathered_conflicting = conflicting_all steps (reverse pairs) kept (let within_max = g.within_max in omega (arith, within_max, ap length all, length-reverse pairs))
+  gathered_conflicting = conflicting_all steps (reverse pairs) kept (let count_within_max = g.count_within_max in omega (arith, count_within_max, ap length all, length-reverse pairs))
 
   pub gathered_next : (x : ℕ) → AreNextPaired (reverse pairs) (filter (λ s. s.writes) (on_item x steps))
   gathered_next x = next_paired (writes_in (on x steps)) (reverse pairs) (kept.next x)

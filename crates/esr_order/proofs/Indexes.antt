@@ -52,7 +52,7 @@ index_more d h legal i e commits is at added =
     let inside : i.read < length entries = slice_get_within entries i.read e (sym at) in
     let read : get_or entries i.read e ≡ e = get_or_from_slice_get entries i.read e e (sym at) in
     let more : take (i.read + 1) entries ≡ take i.read entries ++ e ∷ [] = take_more entries i.read e inside ∙ ap (λ x. take i.read entries ++ x ∷ []) read in record {
-      within_max = omega (arith, inside);
+      count_within_max = omega (arith, inside);
       commits = added ∙ ap (λ ts. ts ++ filter_map commit_in (e ∷ [])) is.commits ∙ sym (ap (filter_map commit_in) more ∙ filter_map-append commit_in (take i.read entries) (e ∷ []));
       rows = rows_later d h legal i.read (i.read + 1) (omega arith) i.rows is.rows;
     }

@@ -404,8 +404,8 @@ batch_count (s ∷ batch) ss = omega (arith, batch_count batch ss, operation_cou
 -- ---- all of them
 
 pub conflicting_all : (ss : List UpdateOperation) (pairs : List Pair) → Kept ss pairs → length pairs ≤ 2 * length ss → AreConflicts ss pairs
-conflicting_all ss pairs k within_max = record {
+conflicting_all ss pairs k count_within_max = record {
   sound = All-from_recursion (λ (p : Pair). is_conflict_pair ss p.0 p.1 ≡ true) pairs (each_in (λ (p : Pair). is_conflict_pair ss p.0 p.1 ≡ true) pairs (λ p i. k.sound p i));
   closed = λ S d. k.covers S (λ p i. All-contains (λ (p : Pair). S p.1 ≡ true → S p.0 ≡ true) pairs p d (In-Contains pairs p i));
-  within_max = within_max;
+  count_within_max = count_within_max;
 }

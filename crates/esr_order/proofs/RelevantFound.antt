@@ -34,7 +34,7 @@ first_kept p (suc n) (x ∷ xs) l pass =
 
 pub record IsRelevantRun (h : Schedule) (q first : ℕ) (commits : List TxnId) : Type 0 where
   pub once : AllPairs (λ u v. u ≢ v) (map (λ t. t.0) commits)
-  pub within_max : length commits ≤ 65535
+  pub count_within_max : length commits ≤ 65535
   pub keeps : AllPairs (λ u v. is_before h v u ≡ false) (map (λ t. t.0) commits)
   pub first_inside : first ≤ length commits
   pub musts : map (nth (map (λ t. t.0) commits)) (range_with_len 0 first) ≡ must h q
@@ -70,7 +70,7 @@ module _ (d : DistanceFunction) (h : Schedule) (q : ℕ) (legal : IsLegal d h) w
         let n = length (must h q) in
         subst (λ m. IsRelevantRun h q m commits) (sym is) (record {
           once = ordered (λ u v. u ≢ v) (in_order d h q legal).once;
-          within_max = omega (arith, count, filter_shorter (is_among us) (updates_of h q), bounded_updates d h q legal);
+          count_within_max = omega (arith, count, filter_shorter (is_among us) (updates_of h q), bounded_updates d h q legal);
           keeps = ordered (λ u v. is_before h v u ≡ false) (in_order d h q legal).keeps;
           first_inside = omega (arith, count, firsts.0);
           musts =

@@ -86,5 +86,5 @@ with_write c i v =
 abbrev pub reversed_chain : Chain → Chain
 reversed_chain c = record { writers = reverse c.writers; values = reverse c.values }
 
-abbrev pub chain_view : Links → Chain
-chain_view l = record { writers = l.writers.items; values = l.values.items }
+abbrev pub links_view : Links → Chain
+links_view l = record { writers = l.writers.items; values = l.values.items }

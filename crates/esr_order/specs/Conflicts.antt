@@ -34,4 +34,4 @@ pub record AreConflicts (operations : List UpdateOperation) (pairs : List (ℕ �
   pub sound : All (λ p. is_conflict_pair operations p.0 p.1 ≡ true) pairs
   pub closed : (S : ℕ → Bool) → IsDownward S pairs → (i j : ℕ) → is_conflict_pair operations i j ≡ true → IsTrue (S j)
       → IsTrue (S i)
-  pub within_max : length pairs ≤ 2 * length operations
+  pub count_within_max : length pairs ≤ 2 * length operations

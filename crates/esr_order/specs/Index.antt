@@ -13,7 +13,7 @@ pub record Indexed : Type 0 where
 
 -- they are the first of these entries
 pub record IsIndexOf (entries : List Entry) (i : Indexed) : Type 0 where
-  pub within_max : i.read ≤ length entries
+  pub count_within_max : i.read ≤ length entries
   pub commits : i.commits ≡ filter_map commit_in (take i.read entries)
   pub rows : AreRowsOf (take i.read entries) i.rows
 

@@ -39,7 +39,7 @@ operations_of h q = filter (λ o. is_among (updates_of h q) o.txn) (operations h
 pub record IsConflictOrder (h : Schedule) (q : ℕ) (o : ConflictOrder) : Type 0 where
   pub commits : map (λ t. t.0) o.commits ≡ updates_of h q
   pub serial : IsSerialOrder h (updates_of h q) (updates_of h q)
-  pub within_max : length o.commits ≤ MAX_TRANSACTIONS
+  pub count_within_max : length o.commits ≤ MAX_TRANSACTIONS
   -- pairs of the conflict order, from a lower to a higher position, by which the same sets are closed
   pub ascending : AllPairs IsLexLess o.before
   pub pairs : All (λ p. (p.0 < p.1) × (p.1 < length o.commits)
@@ -66,7 +66,7 @@ pub record IsClosedAt (us : List ℕ) (o : ConflictOrder) (S : ℕ → Bool) : T
 pub record IsConflictOrderOn (h : Schedule) (q : ℕ) (us : List ℕ) (o : ConflictOrder) : Type 0 where
   pub commits : map (λ t. t.0) o.commits ≡ us
   pub serial : IsSerialOrder h us us
-  pub within_max : length o.commits ≤ MAX_TRANSACTIONS
+  pub count_within_max : length o.commits ≤ MAX_TRANSACTIONS
   pub ascending : AllPairs IsLexLess o.before
   pub pairs : All (λ p. (p.0 < p.1) × (p.1 < length o.commits)
       × IsTrue (is_before h (nth us p.0) (nth us p.1))) o.before

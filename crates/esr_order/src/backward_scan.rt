@@ -17,7 +17,7 @@ ghost use Rattle.esr_order.specs.AccessRows.{AreRowsOf};
 ghost use Rattle.esr_order.specs.Batches.{operation_at, update_operations};
 ghost use Rattle.esr_order.specs.ConflictPairs.{IsLexLess};
 ghost use Rattle.esr_order.specs.Conflicts.{on_item, AreConflicts, AreNextPaired};
-ghost use Rattle.esr_order.specs.Chains.{chain_from, last_by_update, chain_view};
+ghost use Rattle.esr_order.specs.Chains.{chain_from, last_by_update, links_view};
 ghost use Rattle.esr_order.specs.Later.{with_operation, readers_with, conflicts_of, batch_conflicts, SummarizeLater};
 
 use crate::accesses::Access;
@@ -38,11 +38,11 @@ fn prepend_operation(
     position: u32,
     conflicts: &mut Vec<u32>,
 ) -> Result<(), AllocError>
-    ensures chain { OnOk result (chain_view links.new
-        ≡ with_operation (chain_view links.old) (operation_at position access)) }
+    ensures chain { OnOk result (links_view links.new
+        ≡ with_operation (links_view links.old) (operation_at position access)) }
     ensures readers { OnOk result (readers.new.items ≡ readers_with readers.old.items (operation_at position access)) }
     ensures conflicts { OnOk result (conflicts.new.items
-        ≡ conflicts.old.items ++ conflicts_of (chain_view links.old) readers.old.items (operation_at position access)) }
+        ≡ conflicts.old.items ++ conflicts_of (links_view links.old) readers.old.items (operation_at position access)) }
 {
     if let Some(writer) = latest_writer(links) {
         conflicts.push(writer)?;
@@ -70,11 +70,11 @@ fn prepend_batch(
     ensures chains_len { OnOk result (length chains.new ≡ length chains.old) }
     ensures readers_len { OnOk result (length readers.new ≡ length readers.old) }
     ensures later { OnOk result ((operations : List UpdateOperation)
-        → SummarizeLater (map chain_view chains.old) (map (λ r. r.items) readers.old) operations
-        → SummarizeLater (map chain_view chains.new) (map (λ r. r.items) readers.new)
+        → SummarizeLater (map links_view chains.old) (map (λ r. r.items) readers.old) operations
+        → SummarizeLater (map links_view chains.new) (map (λ r. r.items) readers.new)
         (map (operation_at position) accesses.now ++ operations)) }
     ensures conflicts { OnOk result ((operations : List UpdateOperation)
-        → SummarizeLater (map chain_view chains.old) (map (λ r. r.items) readers.old) operations
+        → SummarizeLater (map links_view chains.old) (map (λ r. r.items) readers.old) operations
         → conflicts.new.items ≡ conflicts.old.items ++ batch_conflicts (map (operation_at position) accesses.now) operations) }
 {
     for i in (0..accesses.len()).rev() {
@@ -98,7 +98,7 @@ fn empty_scan(
 ) -> Result<(Vec<Links>, Vec<Vec<u32>>), AllocError>
     ensures chains_len { IfOk result (λ r. length r.0.items ≡ items) }
     ensures readers_len { IfOk result (λ r. length r.1.items ≡ items) }
-    ensures later { IfOk result (λ r. SummarizeLater (map chain_view r.0.items) (map (λ v. v.items) r.1.items) []) }
+    ensures later { IfOk result (λ r. SummarizeLater (map links_view r.0.items) (map (λ v. v.items) r.1.items) []) }
 {
     let mut chains = Vec::with_capacity(alloc, items as usize)?;
     let mut readers = Vec::with_capacity(alloc, items as usize)?;
@@ -139,17 +139,17 @@ fn gather_into<M: Metric>(
     pairs: &mut Vec<(u32, u32)>,
 ) -> Result<(), AllocError>
     requires rows { AreRowsOf history.now.schedule.entries rows.now }
-    requires within_max { length updates.now ≤ MAX_TRANSACTIONS }
+    requires count_within_max { length updates.now ≤ MAX_TRANSACTIONS }
     requires linked { length chains.old ≡ length history.now.schedule.opening }
     requires read { length readers.old ≡ length history.now.schedule.opening }
-    requires later { SummarizeLater (map chain_view chains.old) (map (λ r. r.items) readers.old) [] }
+    requires later { SummarizeLater (map links_view chains.old) (map (λ r. r.items) readers.old) [] }
     requires none { pairs.old.items ≡ [] }
     ensures ascending { OnOk result (AllPairs IsLexLess pairs.new.items) }
     ensures conflicting { OnOk result (AreConflicts (update_operations history.now.schedule updates.now) pairs.new.items) }
     ensures successive_writers_paired { OnOk result ((x : ℕ) → AreNextPaired pairs.new.items
         (filter (λ s. s.writes) (on_item x (update_operations history.now.schedule updates.now)))) }
     ensures len { OnOk result (length chains.new ≡ length chains.old) }
-    ensures chains { OnOk result (map chain_view chains.new
+    ensures chains { OnOk result (map links_view chains.new
         ≡ map (λ x. chain_from (last_by_update (update_operations history.now.schedule updates.now) x)
         (length updates.now))
         (range_with_len 0 (length history.now.schedule.opening))) }
@@ -179,12 +179,12 @@ pub fn pairs_and_chains<M: Metric>(
     writers: &[u32],
 ) -> Result<PairsAndChains, AllocError>
     requires rows { AreRowsOf history.now.schedule.entries rows.now }
-    requires within_max { length updates.now ≤ MAX_TRANSACTIONS }
+    requires count_within_max { length updates.now ≤ MAX_TRANSACTIONS }
     ensures ascending { IfOk result (λ g. AllPairs IsLexLess g.pairs.items) }
     ensures conflicting { IfOk result (λ g. AreConflicts (update_operations history.now.schedule updates.now) g.pairs.items) }
     ensures successive_writers_paired { IfOk result (λ g. (x : ℕ) → AreNextPaired g.pairs.items
         (filter (λ s. s.writes) (on_item x (update_operations history.now.schedule updates.now)))) }
-    ensures chains { IfOk result (λ g. map chain_view g.chains.items
+    ensures chains { IfOk result (λ g. map links_view g.chains.items
         ≡ map (λ x. chain_from (last_by_update (update_operations history.now.schedule updates.now) x)
         (length updates.now))
         (range_with_len 0 (length history.now.schedule.opening))) }

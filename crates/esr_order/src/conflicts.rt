@@ -30,7 +30,7 @@ pub fn sort_and_dedup(positions: &mut Vec<u32>)
     ensures ascending { AllPairs (λ i j. i < j) positions.new.items }
     ensures keeps { (i : ℕ) → Contains positions.old.items i → Contains positions.new.items i }
     ensures adds_none { (i : ℕ) → Contains positions.new.items i → Contains positions.old.items i }
-    ensures within_max { length positions.new.items ≤ length positions.old.items }
+    ensures count_within_max { length positions.new.items ≤ length positions.old.items }
 {
     positions.sort_unstable();
     positions.dedup();

@@ -10,7 +10,7 @@ ghost use Rattle.std.specs.Prelude.{◌≡◌, ◌↔◌, ◌<◌, ◌≤◌, �
 ghost use Rattle.std.specs.List.{range_with_len};
 ghost use Rattle.esr_base.specs.declared.limits.TheConstants.{MAX_TRANSACTIONS};
 ghost use Rattle.esr_history.specs.Queries.{is_committed_query, must};
-ghost use Rattle.esr_order.specs.Chains.{chain_view, nth};
+ghost use Rattle.esr_order.specs.Chains.{links_view, nth};
 ghost use Rattle.esr_order.specs.declared.order.OrderError.TheVariants.{NoMemory};
 ghost use Rattle.esr_order.specs.Orders.{ConflictOrder, IsConflictOrder, IsConflictOrderOn, chain_at, operations_of};
 ghost use Rattle.esr_order.specs.AccessRows.{AreRowsOf};
@@ -70,7 +70,7 @@ impl Model for Order {
       commits = o.commits.items;
       before = o.before.items;
       must = o.must.items;
-      chains = map chain_view o.chains.items;
+      chains = map links_view o.chains.items;
     } };
 }
 
@@ -94,7 +94,7 @@ fn among<M: Metric>(
 ) -> Result<Order, AllocError>
     requires rows { AreRowsOf history.now.schedule.entries rows.now }
     requires once { AllPairs (λ t u. t ≢ u) (map (λ t. t.0) commits.items) }
-    requires within_max { length commits.items ≤ MAX_TRANSACTIONS }
+    requires count_within_max { length commits.items ≤ MAX_TRANSACTIONS }
     requires keeps { AllPairs (λ u v. is_before history.now.schedule v u ≡ false) (map (λ t. t.0) commits.items) }
     requires first { first ≤ length commits.items }
     ensures commits { IfOk result (λ o. o.commits ≡ commits.items) }
@@ -256,7 +256,7 @@ impl Order {
 
     /// Returns the updates that wrote the item, if there are any.
     pub fn chain(&self, x: ItemId) -> Option<&Links>
-        ensures { option_map (λ l. chain_view l.now) result ≡ chain_at self.now x.0 }
+        ensures { option_map (λ l. links_view l.now) result ≡ chain_at self.now x.0 }
     {
         match self.chains.get(x.0 as usize) {
             Some(links) if !links.writers.is_empty() => Some(links),
@@ -266,7 +266,7 @@ impl Order {
 
     /// Takes the updates that wrote the item, and the values that they left, out of the order, if there are any.
     pub fn take_chain(&mut self, alloc: Global, x: ItemId) -> Option<Links>
-        ensures chain { option_map chain_view result ≡ chain_at self.old x.0 }
+        ensures chain { option_map links_view result ≡ chain_at self.old x.0 }
         ensures others { (y : ℕ) → y ≢ x.0 → chain_at self.new y ≡ chain_at self.old y }
         ensures commits { self.new.commits ≡ self.old.commits }
         ensures before { self.new.before ≡ self.old.before }

@@ -26,7 +26,7 @@ pub fn empty_lists(alloc: Global, count: u32) -> Result<Vec<Vec<i64>>, AllocErro
 
 /// Returns the sum of the distances of the values from a version of the item.
 pub fn distance_to<M: Metric>(metric: &M, x: ItemId, values: &[i64], version: i64) -> u64
-    requires within_max { length values.now ≤ MAX_READS }
+    requires count_within_max { length values.now ≤ MAX_READS }
     requires values { All IsValue values.now }
     requires version { IsValue version }
     ensures { result ≡ distance_sum (M.distance_by (M.weights metric.now)) x.0 values.now version }

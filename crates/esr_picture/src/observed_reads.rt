@@ -39,7 +39,7 @@ fn add_count(counts: &mut Vec<(i64, u64)>, value: i64, count: u64) -> Result<(),
 }
 
 /// Returns whether a value that was read is a version of its item.
-fn is_kept(trace: &QueryTrace, observed: &ObservedRead) -> bool {
+fn is_installed(trace: &QueryTrace, observed: &ObservedRead) -> bool {
     match observed.writer {
         Some(writer) => trace.end(writer) == WriterEnd::Committed && !observed.overwritten,
         None => true,
@@ -56,7 +56,7 @@ pub fn read_flags_by_version(
     let mut seen = vec![in alloc; false; chain.writers.len().saturating_add(1)]?;
     for observed in &trace.observed_reads {
         if observed.item == chain.item
-            && is_kept(trace, observed)
+            && is_installed(trace, observed)
             && let Some(version) = version_read(chain, positions, observed)
             && let Some(is_seen) = seen.get_mut(version)
         {
@@ -77,7 +77,7 @@ fn version_read(chain: &Chain, positions: &Positions, observed: &ObservedRead) -
 }
 
 /// Returns what happened to a value that was read, if it did not become a version.
-fn writer_outcome_of(
+fn reason_not_installed(
     audited_query: &Audited<'_>,
     trace: &QueryTrace,
     observed: &ObservedRead,
@@ -125,12 +125,12 @@ fn transient_read_of<'a>(
     chain: &Chain,
     versions: &[(i64, usize)],
 ) -> Option<TransientRead<'a>> {
-    let writer_outcome = writer_outcome_of(audited_query, trace, observed)?;
+    let reason = reason_not_installed(audited_query, trace, observed)?;
     let writer = observed.writer?;
     Some(TransientRead {
         value: observed.value,
         writer: name_of_transaction(audited_query.transactions, writer),
-        writer_outcome,
+        reason,
         same: same_value(audited_query, chain, versions, observed.value),
     })
 }

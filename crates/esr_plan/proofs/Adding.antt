@@ -137,7 +137,7 @@ pub session_opened : (d : Draft) (done : Vec (Vec Call Global) Global) (fresh : 
     → blocks_of d ≡ map (λ b. commands_in b.items) done.items → All (λ b. AreResolved d.names b.items) done.items → length done.items < 64 → fresh.items ≡ [] → since ≡ length d.begun
     → IsSound (record d { done = done; current = Some fresh; earlier = since })
     × (with_session (plan_in d) ≡ Ok (plan_in (record d { done = done; current = Some fresh; earlier = since })))
-session_opened d done fresh since sound now resolves within_max none is =
+session_opened d done fresh since sound now resolves count_within_max none is =
     let blocks = map (λ (b : Vec Call Global). commands_in b.items) done.items in
     let opened : commands_in fresh.items ≡ [] = ap commands_in none in
     let len : length blocks ≡ length done.items = length-map done.items (λ (b : Vec Call Global). commands_in b.items) in (
@@ -149,7 +149,7 @@ session_opened d done fresh since sound now resolves within_max none is =
         weighed = sound.weighed;
         opened = tt;
         items = sound.items;
-        blocks = omega (arith, within_max, len, length-append blocks (commands_in fresh.items ∷ []));
+        blocks = omega (arith, count_within_max, len, length-append blocks (commands_in fresh.items ∷ []));
         every = sound.every;
         earlier = omega (arith, is);
         places = subst (λ (l : List Call). ArePlaces l since d.places.items d.begun) (sym none) (places_opened d.places.items d.begun since is);
@@ -157,11 +157,11 @@ session_opened d done fresh since sound now resolves within_max none is =
         done_resolved = resolves;
       },
       ap (λ b. with_session (plan d.names d.values.items d.weights.items b)) now
-          ∙ (with_opened blocks (omega (arith, within_max, len)) ∙ ap (λ l. Ok (plan d.names d.values.items d.weights.items (blocks ++ l ∷ []))) (sym opened)),
+          ∙ (with_opened blocks (omega (arith, count_within_max, len)) ∙ ap (λ l. Ok (plan d.names d.values.items d.weights.items (blocks ++ l ∷ []))) (sym opened)),
     )
   where
     with_opened : (blocks : List (List Command)) → length blocks < 64 → with_session (plan d.names d.values.items d.weights.items blocks) ≡ Ok (plan d.names d.values.items d.weights.items (blocks ++ [] ∷ []))
-    with_opened blocks within_max = let less : nat_eq (length blocks) 64 ≡ false = grind (arith, nat_tests) in rw less refl
+    with_opened blocks count_within_max = let less : nat_eq (length blocks) 64 ≡ false = grind (arith, nat_tests) in rw less refl
 
 -- the completed blocks, with the open one if there is one
 pub done_with : (d : Draft) (done : Vec (Vec Call Global) Global) (block : Vec Call Global) → IsSound d → d.current ≡ Some block → done.items ≡ d.done.items ++ block ∷ []
@@ -186,7 +186,7 @@ none_done d sound is = subst (λ (o : Option (Vec Call Global)). elim o as (λ x
 item_onto : (names : List (List ℕ)) (values : List ℤ) (weights : List (Option ℕ)) (name : List ℕ) (value : ℤ) (weight : Option ℕ)
     → is_bound names name ≡ false → is_value value ≡ true → nat_eq (length names) 4096 ≡ false → is_weight (weight_in weight) ≡ true
     → with_item (plan names values weights []) name value weight ≡ Ok (plan (names ++ name ∷ []) (values ++ value ∷ []) (weights ++ weight ∷ []) [])
-item_onto names values weights name value weight free ranged within_max weighed = rw (free, ranged, within_max, weighed) refl
+item_onto names values weights name value weight free ranged count_within_max weighed = rw (free, ranged, count_within_max, weighed) refl
 
 -- an item
 pub item_added : (d : Draft) (names : List (List ℕ)) (values : Vec ℤ Global) (weights : Vec (Option ℕ) Global) (name : List ℕ) (value : ℤ) (weight : Option ℕ) → IsSound d → d.current ≡ None
@@ -194,7 +194,7 @@ pub item_added : (d : Draft) (names : List (List ℕ)) (values : Vec ℤ Global)
     → names ≡ d.names ++ name ∷ [] → values.items ≡ d.values.items ++ value ∷ [] → weights.items ≡ d.weights.items ++ weight ∷ []
     → IsSound (record d { names = names; values = values; weights = weights })
     × (with_item (plan_in d) name value weight ≡ Ok (plan_in (record d { names = names; values = values; weights = weights })))
-item_added d names values weights name value weight sound is free ranged within_max weighed named valued given =
+item_added d names values weights name value weight sound is free ranged count_within_max weighed named valued given =
     let none : d.done.items ≡ [] = none_done d sound is in
     let no_blocks : blocks_of d ≡ [] = ap (λ (o : Option (Vec Call Global)). blocks_with (done_in d) (option_map (λ b. commands_in b.items) o)) is ∙ ap (map (λ (b : Vec Call Global). commands_in b.items)) none in
     let no_calls : current_calls d ≡ [] = ap (λ (o : Option (Vec Call Global)). elim o [ Some b ↦ b.items | None ↦ [] ]) is in
@@ -207,7 +207,7 @@ item_added d names values weights name value weight sound is free ranged within_
         weighed = subst (λ (l : List ℕ). All IsWeight l) (sym (ap weights_of given ∙ map-append weight_in d.weights.items (weight ∷ [])))
             (All-push IsWeight (weights_of d.weights.items) (weight_in weight) sound.weighed fits);
         opened = sound.opened;
-        items = omega (arith, within_max, ap length named, length-append d.names (name ∷ []));
+        items = omega (arith, count_within_max, ap length named, length-append d.names (name ∷ []));
         blocks = sound.blocks;
         every = sound.every;
         earlier = sound.earlier;
@@ -216,7 +216,7 @@ item_added d names values weights name value weight sound is free ranged within_
         done_resolved = subst (λ (l : List (Vec Call Global)). All (λ b. AreResolved names b.items) l) (sym none) (λ i b lt. absurd (omega (arith, lt)));
       },
       ap (λ b. with_item (plan d.names d.values.items d.weights.items b) name value weight) no_blocks
-          ∙ (item_onto d.names d.values.items d.weights.items name value weight (ap is_some free) (in_values value ranged) (not_all (length d.names) within_max) weighed
+          ∙ (item_onto d.names d.values.items d.weights.items name value weight (ap is_some free) (in_values value ranged) (not_all (length d.names) count_within_max) weighed
           ∙ sym (ap (λ n. Ok (plan n values.items weights.items (blocks_of d))) named
           ∙ (ap (λ v. Ok (plan (d.names ++ name ∷ []) v weights.items (blocks_of d))) valued
           ∙ (ap (λ w. Ok (plan (d.names ++ name ∷ []) (d.values.items ++ value ∷ []) w (blocks_of d))) given
@@ -256,7 +256,7 @@ pub record Opens (d m : Draft) : Type 0 where
   pub same : m ≡ record d { done = m.done; current = None }
   pub now : blocks_of d ≡ map (λ b. commands_in b.items) m.done.items
   pub resolves : All (λ b. AreResolved d.names b.items) m.done.items
-  pub within_max : length m.done.items < 64
+  pub count_within_max : length m.done.items < 64
 
 pub opens_none : (d m : Draft) (taken : Option (Vec Call Global)) → IsSound d → d.current ≡ None → m ≡ record d { current = taken } → taken ≡ None → Opens d m
 opens_none d m taken sound is same none =
@@ -267,12 +267,12 @@ opens_none d m taken sound is same none =
       same = same ∙ (ap (λ (o : Option (Vec Call Global)). record d { current = o }) none ∙ ap (λ (v : Vec (Vec Call Global) Global). record d { done = v; current = None }) (sym done));
       now = alone.0;
       resolves = alone.1;
-      within_max = omega (arith, ap length empty);
+      count_within_max = omega (arith, ap length empty);
     }
 
 pub opens_some : (d m : Draft) (taken : Option (Vec Call Global)) (grown : Vec (Vec Call Global) Global) (block : Vec Call Global) → IsSound d → d.current ≡ Some block
     → m ≡ record d { done = grown; current = taken } → taken ≡ None → grown.items ≡ d.done.items ++ block ∷ [] → length d.done.items + 1 < 64 → Opens d m
-opens_some d m taken grown block sound is same none more within_max =
+opens_some d m taken grown block sound is same none more count_within_max =
     let done : m.done ≡ grown = ap (λ (x : Draft). x.done) same in
     let items : m.done.items ≡ d.done.items ++ block ∷ [] = ap (λ (v : Vec (Vec Call Global) Global). v.items) done ∙ more in
     let with = done_with d m.done block sound is items in
@@ -280,11 +280,11 @@ opens_some d m taken grown block sound is same none more within_max =
       same = same ∙ (ap (λ (o : Option (Vec Call Global)). record d { done = grown; current = o }) none ∙ ap (λ (v : Vec (Vec Call Global) Global). record d { done = v; current = None }) (sym done));
       now = with.0;
       resolves = with.1;
-      within_max = omega (arith, within_max, ap length items, length-append d.done.items (block ∷ []));
+      count_within_max = omega (arith, count_within_max, ap length items, length-append d.done.items (block ∷ []));
     }
 
 pub session_after : (d m : Draft) (fresh : Vec Call Global) (since : ℕ) → IsSound d → Opens d m → fresh.items ≡ [] → since ≡ length m.begun
     → IsSound (record m { current = Some fresh; earlier = since }) × (with_session (plan_in d) ≡ Ok (plan_in (record m { current = Some fresh; earlier = since })))
 session_after d m fresh since sound opens none is =
     subst (λ (x : Draft). IsSound (record x { current = Some fresh; earlier = since }) × (with_session (plan_in d) ≡ Ok (plan_in (record x { current = Some fresh; earlier = since })))) (sym opens.same)
-    (session_opened d m.done fresh since sound opens.now opens.resolves opens.within_max none (is ∙ ap (λ (x : Draft). length x.begun) opens.same))
+    (session_opened d m.done fresh since sound opens.now opens.resolves opens.count_within_max none (is ∙ ap (λ (x : Draft). length x.begun) opens.same))

@@ -43,8 +43,8 @@ is_not a b h = grind (arith, nat_tests)
 -- a line that may be read
 pub cut_more : (count : ℕ) (ls more : List (List ℕ)) (line : List ℕ) → ls ≡ line ∷ more → (count ≡ 2000000 → ⊥) → length line ≤ 200
     → cut_fault count ls ≡ cut_fault (count + 1) more
-cut_more count ls more line is within_max short =
-    ap (cut_fault count) is ∙ rw (is_not count 2000000 within_max, le_ltb 200 (length line) short) refl
+cut_more count ls more line is count_within_max short =
+    ap (cut_fault count) is ∙ rw (is_not count 2000000 count_within_max, le_ltb 200 (length line) short) refl
 
 -- a line too many
 pub cut_too_many : (count : ℕ) (ls more : List (List ℕ)) (line : List ℕ) → ls ≡ line ∷ more → count ≡ 2000000 → cut_fault count ls ≡ Some TooManyLines
@@ -52,8 +52,8 @@ cut_too_many count ls more line is all = ap (λ n. cut_fault n ls) all ∙ ap (c
 
 -- a line that is too long
 pub cut_long : (count : ℕ) (ls more : List (List ℕ)) (line : List ℕ) → ls ≡ line ∷ more → (count ≡ 2000000 → ⊥) → 200 < length line → cut_fault count ls ≡ Some LineTooLong
-cut_long count ls more line is within_max long =
-    ap (cut_fault count) is ∙ rw (is_not count 2000000 within_max, lt_ltb 200 (length line) long) refl
+cut_long count ls more line is count_within_max long =
+    ap (cut_fault count) is ∙ rw (is_not count 2000000 count_within_max, lt_ltb 200 (length line) long) refl
 
 pub some : (n : ℕ) → nat_eq n 0 ≡ false → 0 < n
 some n h = grind (arith, nat_tests)
@@ -82,7 +82,7 @@ mark_more bytes more start count le at rest =
 -- one more line
 pub mark_line : (bytes : List ℕ) (start count len : ℕ) → At bytes start count → position (λ b. nat_eq b 10) (drop start bytes) ≡ Some len
     → (count ≡ 2000000 → ⊥) → len ≤ 200 → At bytes (start + len + 1) (count + 1)
-mark_line bytes start count len at found within_max short rest =
+mark_line bytes start count len at found count_within_max short rest =
     let tail = drop start bytes in
     let is = cond_some _ _ _ found in
     let within : line_len tail < length tail = ltb-true _ _ is.0 in
@@ -92,7 +92,7 @@ mark_line bytes start count len at found within_max short rest =
     ∙ (ap lines (append_assoc (front tail) (10 ∷ after_front tail) rest) ∙ lines-line (front tail) (after_front tail ++ rest) (plain-front tail)) in
     let following : after_front tail ≡ drop (start + len + 1) bytes =
     ap (λ n. drop (n + 1) tail) is.1 ∙ (drop-drop (len + 1) start bytes ∙ ap (λ n. drop n bytes) (omega arith)) in
-    at rest ∙ (cut_more count (lines (tail ++ rest)) (lines (after_front tail ++ rest)) (front tail) cut within_max size ∙ ap (λ l. cut_fault (count + 1) (lines (l ++ rest))) following)
+    at rest ∙ (cut_more count (lines (tail ++ rest)) (lines (after_front tail ++ rest)) (front tail) cut count_within_max size ∙ ap (λ l. cut_fault (count + 1) (lines (l ++ rest))) following)
 
 -- a line with a fault, whatever follows
 pub mark_fault : (bytes : List ℕ) (start count len : ℕ) (e : DriveFault) → At bytes start count → 0 < length (drop start bytes) → len ≡ line_len (drop start bytes)
@@ -115,9 +115,9 @@ mark_fault bytes start count len e at some is bad rest = at rest ∙ by e bad
 -- a last line that is not whole
 pub last_fine : (tail : List ℕ) (count : ℕ) → position (λ b. nat_eq b 10) tail ≡ None → (count ≡ 2000000 → ⊥) → length tail ≤ 200
     → cut_fault count (lines tail) ≡ None
-last_fine [] count none within_max short = refl
-last_fine (b ∷ bs) count none within_max short =
-    cut_more count (lines (b ∷ bs)) [] (b ∷ bs) (no_feed (b ∷ bs) none (omega arith)) within_max short
+last_fine [] count none count_within_max short = refl
+last_fine (b ∷ bs) count none count_within_max short =
+    cut_more count (lines (b ∷ bs)) [] (b ∷ bs) (no_feed (b ∷ bs) none (omega arith)) count_within_max short
 
 -- the whole file
 pub whole_fine : (bytes : List ℕ) (start count : ℕ) → At bytes start count → cut_fault count (lines (drop start bytes)) ≡ None → cut_fault 0 (lines bytes) ≡ None
@@ -171,16 +171,16 @@ line_fault bytes start count len e at is bad =
 pub line_next : (bytes : List ℕ) (start count len : ℕ) → start ≤ length bytes → count ≤ 2000000 → At bytes start count → Some len ≡ feed (sliced bytes start)
     → (count ≡ 2000000 → ⊥) → len ≤ 200
     → (start + len + 1 ≤ length bytes) × (count + 1 ≤ 2000000) × At bytes (start + len + 1) (count + 1)
-line_next bytes start count len low le at is within_max short =
+line_next bytes start count len low le at is count_within_max short =
     let found = found_in bytes start (Some len) is in
     let within = position_within (λ b. nat_eq b 10) (drop start bytes) len found in (
       omega (arith, within, low, length-drop start bytes),
-      one_above count le within_max,
-      mark_line bytes start count len at found within_max short,
+      one_above count le count_within_max,
+      mark_line bytes start count len at found count_within_max short,
     )
   where
     one_above : (n : ℕ) → n ≤ 2000000 → (n ≡ 2000000 → ⊥) → n + 1 ≤ 2000000
-    one_above n le within_max = omega (arith, le, within_max)
+    one_above n le count_within_max = omega (arith, le, count_within_max)
 
 pub begun_fault : (bytes : List ℕ) (start count : ℕ) (e : DriveFault) → At bytes start count → None ≡ feed (sliced bytes start) → 0 < length bytes - start
     → IsLineFault count (length bytes - start) e → (rest : List ℕ) → cut_fault 0 (lines (bytes ++ rest)) ≡ Some e
@@ -191,7 +191,7 @@ begun_fault bytes start count e at is some bad =
 
 pub begun_fine : (bytes : List ℕ) (start count : ℕ) → None ≡ feed (sliced bytes start) → (count ≡ 2000000 → ⊥) → length bytes - start ≤ 200
     → cut_fault count (lines (drop start bytes)) ≡ None
-begun_fine bytes start count is within_max short = last_fine (drop start bytes) count (found_in bytes start None is) within_max (omega (arith, short, length-drop start bytes))
+begun_fine bytes start count is count_within_max short = last_fine (drop start bytes) count (found_in bytes start None is) count_within_max (omega (arith, short, length-drop start bytes))
 
 -- ---- the faults of reading
 

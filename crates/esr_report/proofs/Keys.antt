@@ -23,16 +23,16 @@ word4 x y lx ly bx by e = sym (le_bytes_4 x (from_le_bytes w32 x) lx bx refl) �
 
 -- the last n bytes from the first n on
 rest : (n : ℕ) (a : List ℕ) → n ≤ length a → length a ≤ n + n → drop n a ≡ drop (n - (length a - n)) (drop (length a - n) a)
-rest n a within_max short =
-    let at : (length a - n) + (n - (length a - n)) ≡ n = omega (arith, within_max, short) in
-    grind (arith, drop-drop, at, within_max, short)
+rest n a count_within_max short =
+    let at : (length a - n) + (n - (length a - n)) ≡ n = omega (arith, count_within_max, short) in
+    grind (arith, drop-drop, at, count_within_max, short)
 
 joined : (n : ℕ) (a b : List ℕ) → length a ≡ length b → n ≤ length a → length a ≤ n + n → take n a ≡ take n b
     → drop (length a - n) a ≡ drop (length b - n) b → a ≡ b
-joined n a b long within_max short front back =
+joined n a b long count_within_max short front back =
     let following : drop n a ≡ drop n b =
-    rest n a within_max short ∙ ap (drop (n - (length a - n))) back ∙ ap (λ l. drop (n - (l - n)) (drop (length b - n) b)) long
-    ∙ sym (rest n b (omega (arith, long, within_max)) (omega (arith, long, short))) in
+    rest n a count_within_max short ∙ ap (drop (n - (length a - n))) back ∙ ap (λ l. drop (n - (l - n)) (drop (length b - n) b)) long
+    ∙ sym (rest n b (omega (arith, long, count_within_max)) (omega (arith, long, short))) in
     sym (take-append-drop n a) ∙ ap (λ l. l ++ drop n a) front ∙ ap (λ l. take n b ++ l) following ∙ take-append-drop n b
 
 two : (a b : List ℕ) → length a ≡ length b → length a < 3 → AreBytes a → AreBytes b
@@ -63,22 +63,22 @@ three (x ∷ xs) (y ∷ ys) l s ba bb e f =
 pub same_name : (a b : List ℕ) → length a ≡ length b → length a ≤ 16 → AreBytes a → AreBytes b → low_of a ≡ low_of b → high_of a ≡ high_of b → a ≡ b
 same_name a b l s ba bb low high = elim (cases_Bool (nat_le 8 (length a))) [
   | inl t ↦
-      let within_max : 8 ≤ length a = leb-true 8 (length a) t in
+      let count_within_max : 8 ≤ length a = leb-true 8 (length a) t in
       let front : from_le_bytes w64 (take 8 a) ≡ from_le_bytes w64 (take 8 b) = rw (← l, t) at low in
       let back : from_le_bytes w64 (drop (length a - 8) a) ≡ from_le_bytes w64 (drop (length a - 8) b) = rw (← l, t) at high in
-      joined 8 a b l within_max (omega (arith, s))
-      (word8 (take 8 a) (take 8 b) (omega (arith, within_max, length-take 8 a)) (omega (arith, within_max, l, length-take 8 b)) (bytes_taken 8 a ba) (bytes_taken 8 b bb) front)
-      (word8 (drop (length a - 8) a) (drop (length a - 8) b) (omega (arith, within_max, length-drop (length a - 8) a)) (omega (arith, within_max, l, length-drop (length a - 8) b)) (bytes_dropped _ a ba) (bytes_dropped _ b bb) back
+      joined 8 a b l count_within_max (omega (arith, s))
+      (word8 (take 8 a) (take 8 b) (omega (arith, count_within_max, length-take 8 a)) (omega (arith, count_within_max, l, length-take 8 b)) (bytes_taken 8 a ba) (bytes_taken 8 b bb) front)
+      (word8 (drop (length a - 8) a) (drop (length a - 8) b) (omega (arith, count_within_max, length-drop (length a - 8) a)) (omega (arith, count_within_max, l, length-drop (length a - 8) b)) (bytes_dropped _ a ba) (bytes_dropped _ b bb) back
       ∙ ap (λ n. drop (n - 8) b) l)
   | inr f ↦ elim (cases_Bool (nat_le 4 (length a))) [
     | inl t ↦
-        let within_max : 4 ≤ length a = leb-true 4 (length a) t in
+        let count_within_max : 4 ≤ length a = leb-true 4 (length a) t in
         let small : length a < 8 = leb-false 8 (length a) f in
         let front : from_le_bytes w32 (take 4 a) ≡ from_le_bytes w32 (take 4 b) = rw (← l, f, t) at low in
         let back : from_le_bytes w32 (drop (length a - 4) a) ≡ from_le_bytes w32 (drop (length a - 4) b) = rw (← l, f, t) at high in
-        joined 4 a b l within_max (omega (arith, small))
-        (word4 (take 4 a) (take 4 b) (omega (arith, within_max, length-take 4 a)) (omega (arith, within_max, l, length-take 4 b)) (bytes_taken 4 a ba) (bytes_taken 4 b bb) front)
-        (word4 (drop (length a - 4) a) (drop (length a - 4) b) (omega (arith, within_max, length-drop (length a - 4) a)) (omega (arith, within_max, l, length-drop (length a - 4) b)) (bytes_dropped _ a ba) (bytes_dropped _ b bb) back
+        joined 4 a b l count_within_max (omega (arith, small))
+        (word4 (take 4 a) (take 4 b) (omega (arith, count_within_max, length-take 4 a)) (omega (arith, count_within_max, l, length-take 4 b)) (bytes_taken 4 a ba) (bytes_taken 4 b bb) front)
+        (word4 (drop (length a - 4) a) (drop (length a - 4) b) (omega (arith, count_within_max, length-drop (length a - 4) a)) (omega (arith, count_within_max, l, length-drop (length a - 4) b)) (bytes_dropped _ a ba) (bytes_dropped _ b bb) back
         ∙ ap (λ n. drop (n - 4) b) l)
     | inr g ↦
         let small : length a < 4 = leb-false 4 (length a) g in

@@ -112,7 +112,7 @@ module _ (items transactions : List (List ℕ)) (h : Schedule) (names : AreNames
     pub transactions_are : s.transactions ≡ take (length (begin_records (accepted_in before))) transactions
 
   module _ (s : ScriptState) (before : Schedule) (at : IsAt s before) (opens : before.opening ≡ h.opening) (weighs : before.weights ≡ h.weights)
-      (within_max : length (begin_records (accepted_in before)) ≤ length (begin_records (accepted_in h))) (room : length s.history.entries < MAX_ENTRIES) where
+      (count_within_max : length (begin_records (accepted_in before)) ≤ length (begin_records (accepted_in h))) (room : length s.history.entries < MAX_ENTRIES) where
     reply_is : (e : Event) → reply_to weighted s.history e ≡ reply_to weighted before e
     reply_is e =
         same_reply s.history before e (at.opening_is ∙ sym opens) (ap weighted at.weights_are ∙ same_distance ∙ ap weighted (sym weighs)) at.events_are
@@ -150,7 +150,7 @@ module _ (items transactions : List (List ℕ)) (h : Schedule) (names : AreNames
         let n = begun_in_range (accepted_in before) t.0 (not-false (is_begun (accepted_in before) t.0) begun) in
         let place : position_of s.transactions (name_of_transaction transactions t.0) ≡ Some (t.0 - 1) =
         ap (λ (bs : List (List ℕ)). position_of bs (name_of_transaction transactions t.0)) at.transactions_are
-        ∙ bound_at transactions distinct_too (length (begin_records (accepted_in before))) (t.0 - 1) (omega (arith, n.0, n.1)) (omega (arith, within_max, names.all_transactions)) in
+        ∙ bound_at transactions distinct_too (length (begin_records (accepted_in before))) (t.0 - 1) (omega (arith, n.0, n.1)) (omega (arith, count_within_max, names.all_transactions)) in
         let same : t.0 - 1 + 1 ≡ t.0 = omega (arith, n.0) in
         rw place (ap (λ (n : ℕ). record { 0 = n }) same)
 
@@ -176,10 +176,10 @@ module _ (items transactions : List (List ℕ)) (h : Schedule) (names : AreNames
     step_of_begin e b limit begins is stays bounded_after =
         let m : ℕ = length (begin_records (accepted_in before)) in
         let r : Reply = reply_to weighted before e in
-        let kept = dumped.begun_kept items transactions h names distinct distinct_too before opens within_max e b limit r begins is stays bounded_after in
+        let kept = dumped.begun_kept items transactions h names distinct distinct_too before opens count_within_max e b limit r begins is stays bounded_after in
         let accepted_now : accepted_in (extended before e r) ≡ accepted_in before ++ e ∷ [] = done-accepted before e r (ap is_refusal kept.0) in
         let count : length (begin_records (accepted_in (extended before e r))) ≡ m + 1 =
-        ap (λ (es : List Event). length (begin_records es)) accepted_now ∙ dumped.begins items transactions h names distinct distinct_too before opens within_max e b begins in
+        ap (λ (es : List Event). length (begin_records es)) accepted_now ∙ dumped.begins items transactions h names distinct distinct_too before opens count_within_max e b begins in
         let inside : m < length transactions = omega (arith, count, bounded_after, names.all_transactions) in
         let number : number_begun r ≡ m + 1 = ap number_begun kept.0 in
         let name_is : name_of_transaction transactions (number_begun r) ≡ get_or transactions m [] = ap (λ (n : ℕ). get_or transactions n []) (omega (arith, number)) in
@@ -250,29 +250,29 @@ module _ (items transactions : List (List ℕ)) (h : Schedule) (names : AreNames
   pub record Ends (s : ScriptState) (later : List Entry) : Type 0 where
     pub next : ScriptState
     pub count : ℕ
-    pub within_max : count ≤ length later
+    pub count_within_max : count ≤ length later
     pub leads : Leads s (flat_map (entry_text items transactions) later) count next
     pub history : next.history ≡ record s.history { entries = s.history.entries ++ filter (λ (e : Entry). is_kept e.reply) later }
 
   pub entries_run : (s : ScriptState) (before : Schedule) (later : List Entry) → IsAt s before → before.opening ≡ h.opening → before.weights ≡ h.weights → IsLegalAfter weighted before later
       → length (begin_records (accepted (before.entries ++ later))) ≤ length (begin_records (accepted_in h)) → length s.history.entries + length later ≤ MAX_ENTRIES
       → Ends s later
-  entries_run s before [] at opens weighs legal within_max room = record {
+  entries_run s before [] at opens weighs legal count_within_max room = record {
     next = s;
     count = 0;
-    within_max = omega arith;
+    count_within_max = omega arith;
     leads = leads_nowhere s;
     history = ap (λ (es : List Entry). record s.history { entries = es }) (sym (append-nil s.history.entries));
   }
-  entries_run s before (e ∷ later) at opens weighs legal within_max room =
+  entries_run s before (e ∷ later) at opens weighs legal count_within_max room =
       let next : Schedule = extended before e.event e.reply in
       let more : List ℕ = flat_map (entry_text items transactions) later in
       let later_kept : List Entry = filter (λ (n : Entry). is_kept n.reply) later in
       let with_entries : List Entry → Schedule = λ es. record s.history { entries = es } in
       let joined : next.entries ++ later ≡ before.entries ++ e ∷ later = append_assoc before.entries (e ∷ []) later in
       let bounded_next : length (begin_records (accepted (next.entries ++ later))) ≤ length (begin_records (accepted_in h)) =
-      subst (λ (es : List Entry). length (begin_records (accepted es)) ≤ length (begin_records (accepted_in h))) (sym joined) within_max in
-      let bounded_before : length (begin_records (accepted_in before)) ≤ length (begin_records (accepted_in h)) = omega (arith, within_max, dumped.fewer before.entries (e ∷ later)) in
+      subst (λ (es : List Entry). length (begin_records (accepted es)) ≤ length (begin_records (accepted_in h))) (sym joined) count_within_max in
+      let bounded_before : length (begin_records (accepted_in before)) ≤ length (begin_records (accepted_in h)) = omega (arith, count_within_max, dumped.fewer before.entries (e ∷ later)) in
       let bounded_after : length (begin_records (accepted_in next)) ≤ length (begin_records (accepted_in h)) = omega (arith, bounded_next, dumped.fewer next.entries later) in
       elim (cases_Bool (is_kept e.reply)) [
         | inl stays ↦
@@ -292,7 +292,7 @@ module _ (items transactions : List (List ℕ)) (h : Schedule) (names : AreNames
             record {
               next = rest.next;
               count = 1 + rest.count;
-              within_max = omega (arith, rest.within_max);
+              count_within_max = omega (arith, rest.count_within_max);
               leads = subst (λ (t : List ℕ). Leads s (t ++ more) (1 + rest.count) rest.next) (sym line)
                   (leads_on s does.0 rest.next (line_of command) more 1 rest.count (leads_by_line s does.0 command does.1 spelled executes) rest.leads);
               history = rest.history ∙ (ap gains history ∙ (ap with_entries (append_assoc s.history.entries (e ∷ []) later_kept) ∙ ap (λ (es : List Entry). with_entries (s.history.entries ++ es)) kept));
@@ -312,7 +312,7 @@ module _ (items transactions : List (List ℕ)) (h : Schedule) (names : AreNames
             record {
               next = rest.next;
               count = rest.count;
-              within_max = omega (arith, rest.within_max);
+              count_within_max = omega (arith, rest.count_within_max);
               leads = subst (λ (t : List ℕ). Leads s (t ++ more) rest.count rest.next) line rest.leads;
               history = rest.history ∙ ap (λ (b : Bool). with_entries (s.history.entries ++ cond b (e ∷ later_kept) later_kept)) (sym lost);
             }

@@ -29,7 +29,7 @@ law_of_restoring items transactions h names distinct distinct_too fits =
     let ends : entries.Ends items transactions h names distinct distinct_too fits begun h.entries =
     entries.entries_run items transactions h names distinct distinct_too fits begun (empty_schedule h) h.entries at refl refl fits.legal (omega arith) (omega (arith, fits.entries)) in
     let whole : Leads start (script items transactions h) (n + ends.count) ends.next = leads_on start begun ends.next (items_text items h) more n ends.count declared ends.leads in
-    let run = whole [] 0 (omega (arith, ends.within_max, fits.items, fits.entries)) in
+    let run = whole [] 0 (omega (arith, ends.count_within_max, fits.items, fits.entries)) in
     let nothing : script items transactions h ++ [] ≡ script items transactions h = append-nil (script items transactions h) in
     let history : (final (script items transactions h)).history ≡ record begun.history { entries = (kept h).entries } =
     ap (λ (t : List ℕ). (state_after start (lines t)).history) (sym nothing) ∙ (ap (λ (s : ScriptState). s.history) run.0 ∙ ends.history) in

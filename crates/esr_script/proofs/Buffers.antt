@@ -7,7 +7,7 @@ use Rattle.std.proofs.lemmas.List.{drop-take, take-append-le, length-take-le}
 -- fewer bytes from the start on
 pub skipped : (items ahead : List ℕ) (s e n : ℕ) → s ≤ e → e ≤ length items → take (e - s) (drop s items) ≡ ahead → n ≤ length ahead
     → take (e - (s + n)) (drop (s + n) items) ≡ drop n ahead
-skipped items ahead s e n order within is within_max =
+skipped items ahead s e n order within is count_within_max =
     let size : length ahead ≡ e - s = ap length (sym is) ∙ length-take-le (e - s) (drop s items) (omega (arith, length-drop s items)) in
     let parts : e - s ≡ n + (e - (s + n)) = omega (arith, size) in
     ap (take (e - (s + n))) (sym (drop-drop n s items)) ∙ sym (drop-take n (e - (s + n)) (drop s items))
@@ -49,7 +49,7 @@ module _ (items moved ahead : List ℕ) (s e len : ℕ) (order : s ≤ e) (withi
 
     -- a buffer with few bytes has capacity for more
     pub has_capacity : length ahead ≤ 200 → len ≡ 65536 → 0 < length read
-    has_capacity within_max all = omega (arith, fits, size, long, whole, within_max, all, length-take part (drop (e - s) moved), length-drop (e - s) moved)
+    has_capacity count_within_max all = omega (arith, fits, size, long, whole, count_within_max, all, length-take part (drop (e - s) moved), length-drop (e - s) moved)
 
 -- no bytes that came leave those that were there
 pub same_bytes : (before after more : List ℕ) (n : ℕ) → length more ≡ n → n ≡ 0 → after ≡ before ++ more → after ≡ before

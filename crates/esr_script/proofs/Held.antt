@@ -89,15 +89,15 @@ module _ (input : List ℕ) (left : Option (List ℕ)) (bytes : List ℕ) (n : �
   held_memory other = (text, at_memory input left bytes n s (sent ++ out) here)
 
   pub held_long : n ≢ MAX_LINES → MAX_LINE_BYTES < line_len bytes → IsHeldRun input left out (Err fault.LineTooLong) sent
-  held_long within_max is = (text, at_long input left bytes n s (sent ++ out) here within_max is)
+  held_long count_within_max is = (text, at_long input left bytes n s (sent ++ out) here count_within_max is)
 
   pub held_many : n ≡ MAX_LINES → 0 < length bytes → IsHeldRun input left out (Err fault.TooManyLines) sent
   held_many many some = (text, at_too_many input left bytes n s (sent ++ out) here many some)
 
   pub held_full : (k : ℕ) → n ≢ MAX_LINES → IsNext (next.Line k) bytes → answer s (take k bytes) ≡ Err fault.HistoryFull → IsHeldRun input left out (Err fault.HistoryFull) sent
-  held_full k within_max is full = (
+  held_full k count_within_max is full = (
     text,
-    at_fault_line input left bytes n s (sent ++ out) here fault.HistoryFull within_max (omega (arith, is.0, is.1)) (omega (arith, is.0, is.2))
+    at_fault_line input left bytes n s (sent ++ out) here fault.HistoryFull count_within_max (omega (arith, is.0, is.1)) (omega (arith, is.0, is.2))
         (ap (λ j. answer s (take j bytes)) (sym is.0) ∙ full),
   )
 
@@ -110,29 +110,29 @@ module _ (input : List ℕ) (left : Option (List ℕ)) (bytes : List ℕ) (n : �
   module _ (end : IsAtEnd left) (plain : line_len bytes ≡ length bytes) (short : length bytes ≤ MAX_LINE_BYTES) where
     pub held_line_last : 0 < length bytes → n ≢ MAX_LINES → (s' : ScriptState) (t gone grown : List ℕ) → answer s bytes ≡ Ok (s', t) → out ++ t ≡ gone ++ grown
         → IsHeldRun input left grown (Ok tt) (sent ++ gone)
-    held_line_last some within_max s' t gone grown is grew =
-        let all = at_last input left bytes n s (sent ++ out) here end plain some short within_max s' t is in
+    held_line_last some count_within_max s' t gone grown is grew =
+        let all = at_last input left bytes n s (sent ++ out) here end plain some short count_within_max s' t is in
         let same : (sent ++ out) ++ t ≡ (sent ++ gone) ++ grown = append_assoc sent out t ∙ ap (λ l. sent ++ l) grew ∙ sym (append_assoc sent gone grown) in
         let finished = rw same at all in
         (([], ap (λ o. o.text) finished ∙ sym (append-nil ((sent ++ gone) ++ grown))), (all_read input left bytes n s (sent ++ out) here end, finished))
 
     pub held_full_last : 0 < length bytes → n ≢ MAX_LINES → answer s bytes ≡ Err fault.HistoryFull → IsHeldRun input left out (Err fault.HistoryFull) sent
-    held_full_last some within_max full = (text, at_fault_last input left bytes n s (sent ++ out) here end plain some short within_max fault.HistoryFull full)
+    held_full_last some count_within_max full = (text, at_fault_last input left bytes n s (sent ++ out) here end plain some short count_within_max fault.HistoryFull full)
 
 -- the last line, by its result
 pub held_last : (taken : Option (List ℕ)) (input : List ℕ) (left : Option (List ℕ)) (bytes : List ℕ) (n : ℕ) (s : ScriptState) (sent out : List ℕ)
     → InputProgress input left bytes n s (sent ++ out) → IsAtEnd left → line_len bytes ≡ length bytes → length bytes ≤ MAX_LINE_BYTES → 0 < length bytes → n ≢ MAX_LINES
     → (r : Result (Unit {0}) RunFault) (s' : ScriptState) (grown : List ℕ) → IsAnswer taken (answer s bytes) s' out grown r
     → (gone : List ℕ) × IsUnread taken gone × IsHeldRun input left grown r (sent ++ gone)
-held_last taken input left bytes n s sent out here end plain short some within_max (Ok done) s' grown a =
-    (a.ok.1, a.ok.4, held_line_last input left bytes n s sent out here end plain short some within_max s' a.ok.0 a.ok.1 grown a.ok.2 a.ok.3)
-held_last taken input left bytes n s sent out here end plain short some within_max (Err e) s' grown a =
+held_last taken input left bytes n s sent out here end plain short some count_within_max (Ok done) s' grown a =
+    (a.ok.1, a.ok.4, held_line_last input left bytes n s sent out here end plain short some count_within_max s' a.ok.0 a.ok.1 grown a.ok.2 a.ok.3)
+held_last taken input left bytes n s sent out here end plain short some count_within_max (Err e) s' grown a =
     let at = some_gone sent out a.err.0 grown a.err.1 here in (
       a.err.0,
       a.err.2,
       elim a.faults [
         | inl m ↦ rw m (held_memory input left bytes n s (sent ++ a.err.0) grown at left)
-        | inr h ↦ rw h.0 (held_full_last input left bytes n s (sent ++ a.err.0) grown at end plain short some within_max h.1)
+        | inr h ↦ rw h.0 (held_full_last input left bytes n s (sent ++ a.err.0) grown at end plain short some count_within_max h.1)
       ],
     )
 

@@ -27,23 +27,23 @@ module _ (input : List ℕ) (left : Option (List ℕ)) (bytes : List ℕ) (n : �
   replay_many many some = ap fault_of (at_too_many input left bytes n s w here many some)
 
   pub replay_long : n ≢ MAX_LINES → MAX_LINE_BYTES < line_len bytes → EndsBy input fault.LineTooLong
-  replay_long within_max long = ap fault_of (at_long input left bytes n s w here within_max long)
+  replay_long count_within_max long = ap fault_of (at_long input left bytes n s w here count_within_max long)
 
   pub replay_full : (k : ℕ) → n ≢ MAX_LINES → IsNext (next.Line k) bytes → answer s (take k bytes) ≡ Err fault.HistoryFull → EndsBy input fault.HistoryFull
-  replay_full k within_max is full =
-      ap fault_of (at_fault_line input left bytes n s w here fault.HistoryFull within_max (omega (arith, is.0, is.1)) (omega (arith, is.0, is.2)) (ap (λ j. answer s (take j bytes)) (sym is.0) ∙ full))
+  replay_full k count_within_max is full =
+      ap fault_of (at_fault_line input left bytes n s w here fault.HistoryFull count_within_max (omega (arith, is.0, is.1)) (omega (arith, is.0, is.2)) (ap (λ j. answer s (take j bytes)) (sym is.0) ∙ full))
 
   pub replay_more : (k : ℕ) (s' : ScriptState) (t : List ℕ) → n ≢ MAX_LINES → IsNext (next.Line k) bytes → answer s (take k bytes) ≡ Ok (s', t)
       → InputProgress input left (drop (k + 1) bytes) (n + 1) s' (w ++ t)
-  replay_more k s' t within_max is ok = grind (arith, step_line)
+  replay_more k s' t count_within_max is ok = grind (arith, step_line)
 
   pub replay_ended : IsAtEnd left → line_len bytes ≡ length bytes → length bytes ≤ MAX_LINE_BYTES → 0 < length bytes → n ≢ MAX_LINES
       → (taken : Option (List ℕ)) (r : Result (Unit {0}) RunFault) (s' : ScriptState) (out grown : List ℕ) → IsAnswer taken (answer s bytes) s' out grown r → IsReplay input left r s'
-  replay_ended end plain short some within_max taken (Ok done) s' out grown a =
-      (all_read input left bytes n s w here end, ap fault_of (at_last input left bytes n s w here end plain some short within_max s' a.ok.0 a.ok.2), state_at_last input left bytes n s w here end plain some s' a.ok.0 a.ok.2)
-  replay_ended end plain short some within_max taken (Err e) s' out grown a = elim a.faults [
+  replay_ended end plain short some count_within_max taken (Ok done) s' out grown a =
+      (all_read input left bytes n s w here end, ap fault_of (at_last input left bytes n s w here end plain some short count_within_max s' a.ok.0 a.ok.2), state_at_last input left bytes n s w here end plain some s' a.ok.0 a.ok.2)
+  replay_ended end plain short some count_within_max taken (Err e) s' out grown a = elim a.faults [
     | inl m ↦ rw m tt
-    | inr h ↦ rw h.0 (ap fault_of (at_fault_last input left bytes n s w here end plain some short within_max fault.HistoryFull h.1))
+    | inr h ↦ rw h.0 (ap fault_of (at_fault_last input left bytes n s w here end plain some short count_within_max fault.HistoryFull h.1))
   ]
 
 -- ---- the certificate

@@ -16,15 +16,15 @@ use Rattle.esr_grammar.proofs.Prefix.{line_len-le}
 
 pub outcome-line : (n : ℕ) (s s' : ScriptState) (line t : List ℕ) (more : List (List ℕ)) → n ≢ MAX_LINES → length line ≤ MAX_LINE_BYTES → answer s line ≡ Ok (s', t)
     → outcome_from n s (line ∷ more) ≡ preceded_by t (outcome_from (n + 1) s' more)
-outcome-line n s s' line t more within_max short is = rw (ne_eqb n MAX_LINES within_max, le-ltb MAX_LINE_BYTES (length line) short, is) refl
+outcome-line n s s' line t more count_within_max short is = rw (ne_eqb n MAX_LINES count_within_max, le-ltb MAX_LINE_BYTES (length line) short, is) refl
 
 pub outcome-fault : (n : ℕ) (s : ScriptState) (line : List ℕ) (f : RunFault) (more : List (List ℕ)) → n ≢ MAX_LINES → length line ≤ MAX_LINE_BYTES → answer s line ≡ Err f
     → outcome_from n s (line ∷ more) ≡ stopped f
-outcome-fault n s line f more within_max short is = rw (ne_eqb n MAX_LINES within_max, le-ltb MAX_LINE_BYTES (length line) short, is) refl
+outcome-fault n s line f more count_within_max short is = rw (ne_eqb n MAX_LINES count_within_max, le-ltb MAX_LINE_BYTES (length line) short, is) refl
 
 pub outcome-long : (n : ℕ) (s : ScriptState) (line : List ℕ) (more : List (List ℕ)) → n ≢ MAX_LINES → MAX_LINE_BYTES < length line
     → outcome_from n s (line ∷ more) ≡ stopped LineTooLong
-outcome-long n s line more within_max long = rw (ne_eqb n MAX_LINES within_max, lt-ltb MAX_LINE_BYTES (length line) long) refl
+outcome-long n s line more count_within_max long = rw (ne_eqb n MAX_LINES count_within_max, lt-ltb MAX_LINE_BYTES (length line) long) refl
 
 pub outcome-many : (n : ℕ) (s : ScriptState) (line : List ℕ) (more : List (List ℕ)) → n ≡ MAX_LINES → outcome_from n s (line ∷ more) ≡ stopped TooManyLines
 outcome-many n s line more many = rw (eq-eqb n MAX_LINES many) refl
@@ -55,7 +55,7 @@ module _ (input : List ℕ) (n : ℕ) (s : ScriptState) (w : List ℕ) where
   pub step : (bytes rest : List ℕ) (s' : ScriptState) (t : List ℕ) → Progress input (bytes ++ rest) n s w → n ≢ MAX_LINES
       → line_len bytes < length bytes → line_len bytes ≤ MAX_LINE_BYTES → answer s (front bytes) ≡ Ok (s', t)
       → Progress input (after_front bytes ++ rest) (n + 1) s' (w ++ t)
-  step bytes rest s' t p within_max ended short is =
+  step bytes rest s' t p count_within_max ended short is =
       let l = front bytes in
       let plain : line_len l ≡ length l = plain-front bytes in
       let size : length l ≤ MAX_LINE_BYTES = omega (arith, length-take (line_len bytes) bytes, line_len-le bytes) in
@@ -71,7 +71,7 @@ module _ (input : List ℕ) (n : ℕ) (s : ScriptState) (w : List ℕ) where
       let reached : state_after start (p.answered ++ l ∷ []) ≡ s' = state-more start s s' p.answered l t p.reached is in
       let ran : (more : List (List ℕ)) → outcome_of_lines ((p.answered ++ l ∷ []) ++ more) ≡ preceded_by (w ++ t) (outcome_from (n + 1) s' more) =
       λ more. ap outcome_of_lines (append_assoc p.answered (l ∷ []) more) ∙ p.ran (l ∷ more)
-      ∙ ap (preceded_by w) (outcome-line n s s' l t more within_max size is) ∙ preceded_by-preceded_by w t (outcome_from (n + 1) s' more) in
+      ∙ ap (preceded_by w) (outcome-line n s s' l t more count_within_max size is) ∙ preceded_by-preceded_by w t (outcome_from (n + 1) s' more) in
       record { used = p.used ++ (l ++ 10 ∷ []); answered = p.answered ++ l ∷ []; split = split; counted = counted; cut = cut; cut_whole = cut_whole; reached = reached; ran = ran }
 
   -- the outcome of the whole input, from the lines of the unread rest
@@ -114,7 +114,7 @@ module _ (input : List ℕ) (left : Option (List ℕ)) (bytes : List ℕ) (n : �
   pub step_line : InputProgress input left bytes n s w → (s' : ScriptState) (t : List ℕ) → n ≢ MAX_LINES
       → line_len bytes < length bytes → line_len bytes ≤ MAX_LINE_BYTES → answer s (front bytes) ≡ Ok (s', t)
       → InputProgress input left (after_front bytes) (n + 1) s' (w ++ t)
-  step_line here s' t within_max ended short is = grind (arith, step input n s w bytes here.rest s' t here.progress within_max ended short is)
+  step_line here s' t count_within_max ended short is = grind (arith, step input n s w bytes here.rest s' t here.progress count_within_max ended short is)
 
   pub text_begins : InputProgress input left bytes n s w → BeginsWith (outcome input).text w
   text_begins here = begins_with input n s w (bytes ++ here.rest) here.progress
@@ -123,22 +123,22 @@ module _ (input : List ℕ) (left : Option (List ℕ)) (bytes : List ℕ) (n : �
   at_memory here = memory input n s w (bytes ++ here.rest) here.progress
 
   pub at_long : InputProgress input left bytes n s w → n ≢ MAX_LINES → MAX_LINE_BYTES < line_len bytes → outcome input ≡ record { text = w; fault = Some LineTooLong }
-  at_long here within_max long =
+  at_long here count_within_max long =
       let b : Begins bytes here.rest = begins bytes here.rest (omega (arith, long, line_len-le bytes)) in
       whole input n s w (bytes ++ here.rest) (b.line ∷ b.more) here.progress b.is
-      ∙ ap (preceded_by w) (outcome-long n s b.line b.more within_max (omega (arith, long, b.long))) ∙ preceded_by-stopped w LineTooLong
+      ∙ ap (preceded_by w) (outcome-long n s b.line b.more count_within_max (omega (arith, long, b.long))) ∙ preceded_by-stopped w LineTooLong
 
   pub at_too_many : InputProgress input left bytes n s w → n ≡ MAX_LINES → 0 < length bytes → outcome input ≡ record { text = w; fault = Some TooManyLines }
   at_too_many here many some = grind (arith, begins bytes here.rest some, whole, outcome-many, preceded_by-stopped w TooManyLines)
 
   pub at_fault_line : InputProgress input left bytes n s w → (f : RunFault) → n ≢ MAX_LINES → line_len bytes < length bytes → line_len bytes ≤ MAX_LINE_BYTES
       → answer s (front bytes) ≡ Err f → outcome input ≡ record { text = w; fault = Some f }
-  at_fault_line here f within_max ended short is =
+  at_fault_line here f count_within_max ended short is =
       let size : length (front bytes) ≤ MAX_LINE_BYTES = omega (arith, length-take (line_len bytes) bytes, line_len-le bytes) in
       let moved : bytes ++ here.rest ≡ front bytes ++ 10 ∷ (after_front bytes ++ here.rest) = ap (λ b. b ++ here.rest) (split-front bytes ended) ∙ simp append_assoc in
       whole input n s w (bytes ++ here.rest) (front bytes ∷ lines (after_front bytes ++ here.rest)) here.progress
       (ap lines moved ∙ lines-line (front bytes) (after_front bytes ++ here.rest) (plain-front bytes))
-      ∙ ap (preceded_by w) (outcome-fault n s (front bytes) f (lines (after_front bytes ++ here.rest)) within_max size is) ∙ preceded_by-stopped w f
+      ∙ ap (preceded_by w) (outcome-fault n s (front bytes) f (lines (after_front bytes ++ here.rest)) count_within_max size is) ∙ preceded_by-stopped w f
 
   -- at the end of the input
   pub all_read : InputProgress input left bytes n s w → IsAtEnd left → Consumes (Some input) left input
@@ -155,14 +155,14 @@ module _ (input : List ℕ) (left : Option (List ℕ)) (bytes : List ℕ) (n : �
 
   pub at_last : InputProgress input left bytes n s w → IsAtEnd left → line_len bytes ≡ length bytes → 0 < length bytes → length bytes ≤ MAX_LINE_BYTES → n ≢ MAX_LINES
       → (s' : ScriptState) (t : List ℕ) → answer s bytes ≡ Ok (s', t) → outcome input ≡ record { text = w ++ t; fault = None }
-  at_last here end plain some short within_max s' t is =
-      last_line here end plain some ∙ ap (preceded_by w) (outcome-line n s s' bytes t [] within_max short is)
+  at_last here end plain some short count_within_max s' t is =
+      last_line here end plain some ∙ ap (preceded_by w) (outcome-line n s s' bytes t [] count_within_max short is)
       ∙ preceded_by-preceded_by w t (outcome_from (n + 1) s' []) ∙ preceded_by-done (w ++ t) (n + 1) s'
 
   pub at_fault_last : InputProgress input left bytes n s w → IsAtEnd left → line_len bytes ≡ length bytes → 0 < length bytes → length bytes ≤ MAX_LINE_BYTES → n ≢ MAX_LINES
       → (f : RunFault) → answer s bytes ≡ Err f → outcome input ≡ record { text = w; fault = Some f }
-  at_fault_last here end plain some short within_max f is =
-      last_line here end plain some ∙ ap (preceded_by w) (outcome-fault n s bytes f [] within_max short is) ∙ preceded_by-stopped w f
+  at_fault_last here end plain some short count_within_max f is =
+      last_line here end plain some ∙ ap (preceded_by w) (outcome-fault n s bytes f [] count_within_max short is) ∙ preceded_by-stopped w f
 
   -- if a read failed
   pub at_read : InputProgress input left bytes n s w → line_len bytes ≡ length bytes → (taken : List ℕ) × Consumes (Some input) left taken × IsWholeText (outcome_of_lines (whole_lines taken)) w

@@ -90,7 +90,7 @@ pub fn answer_next<S: Sink, O: Observer>(
     requires next { IsNext next pending.old }
     requires is_complete { next ≢ Next.More }
     requires count { count ≤ MAX_LINES }
-    ensures within_max { OnOk result (count ≢ MAX_LINES) }
+    ensures count_within_max { OnOk result (count ≢ MAX_LINES) }
     ensures text { OnOk result ((text gone : List ℕ) × (out.old.items ++ text ≡ gone ++ out.new.items)
         × IsUnread (S.contents sink.now) gone × ((input written : List ℕ) (left : Option (List ℕ)) → InputProgress input left pending.old count script.old written
         → InputProgress input left pending.new (count + 1) script.new (written ++ text))) }

@@ -48,7 +48,7 @@ impl Declarations {
     ///
     /// An allocation failed. The value may have been added then, without a weight.
     pub fn add(&mut self, value: i64, weight: u32) -> Result<(), AllocError>
-        requires within_max { length self.old.values < MAX_ITEMS }
+        requires count_within_max { length self.old.values < MAX_ITEMS }
         requires value { IsValue value }
         requires weight { IsWeight weight }
         ensures values { OnOk result (self.new.values ≡ self.old.values ++ value ∷ []) }

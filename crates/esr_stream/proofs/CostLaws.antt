@@ -170,7 +170,7 @@ module _ (d : DistanceFunction) (h : Schedule) (q : ℕ) (opened : All IsValue h
 
     pub are_read : AreRead lists
     are_read = record {
-      within_max = λ x. elim (cases_lt x (length h.opening)) [
+      count_within_max = λ x. elim (cases_lt x (length h.opening)) [
         | inl l ↦ let e = ap (λ (vs : List ℤ). length vs) (is x l ∙ values_are h q x) in let f = few_on x (reads_by h q) in omega (arith, e, f, few_reads)
         | inr m ↦ let e = ap (λ (vs : List ℤ). length vs) (past x m) in omega (arith, e)
       ];

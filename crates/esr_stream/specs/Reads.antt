@@ -17,5 +17,5 @@ raised D lists x v = distance_sum D x (list_at lists x) v + OFFSET
 
 -- lists of values that one query can have read
 pub record AreRead (lists : List (Vec ℤ Global)) : Type 0 where
-  pub within_max : (x : ℕ) → length (list_at lists x) ≤ MAX_READS
+  pub count_within_max : (x : ℕ) → length (list_at lists x) ≤ MAX_READS
   pub values : (x : ℕ) → All IsValue (list_at lists x)

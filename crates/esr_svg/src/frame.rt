@@ -82,14 +82,12 @@ impl Widths {
         let transient_read = transient_read_widths(&lane.transient_reads);
         self.off = self.off.max(off_width(lane));
         self.factors = self.factors.max(factors_width(lane));
-        self.transient_read = self.transient_read.max(
-            transient_read
-                .value
-                .saturating_add(transient_read.writer_outcome),
-        );
+        self.transient_read = self
+            .transient_read
+            .max(transient_read.value.saturating_add(transient_read.reason));
         self.folded_transient_read = self
             .folded_transient_read
-            .max(transient_read.value.max(transient_read.writer_outcome));
+            .max(transient_read.value.max(transient_read.reason));
     }
 }
 

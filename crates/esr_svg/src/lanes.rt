@@ -222,7 +222,7 @@ fn push_transient_read(
         out.push(' ')?;
     }
     out.push_str("which ")?;
-    out.push_str(transient_read.writer_outcome)?;
+    out.push_str(transient_read.reason)?;
     push_ending(out, transient_read.same, more)?;
     out.push_str("</text>\n")
 }

@@ -38,7 +38,7 @@ pub struct TransientRead<'a> {
     pub value: i64,
     pub writer: &'a str,
     /// The reason, as text that follows the writer's name.
-    pub writer_outcome: &'static str,
+    pub reason: &'static str,
     /// The first version that is a part of the lane and has that value.
     pub same: Option<SameValue<'a>>,
 }

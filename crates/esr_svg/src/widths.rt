@@ -128,7 +128,7 @@ pub fn factors_width(lane: &Lane<'_>) -> u32 {
 #[derive(Clone, Copy)]
 pub struct TransientReadWidths {
     pub value: u32,
-    pub writer_outcome: u32,
+    pub reason: u32,
 }
 
 /// Returns the maximum number of letters of the end of the text on a value that is not a version.
@@ -146,20 +146,20 @@ pub fn transient_read_widths(transient_reads: &TransientReads<'_>) -> TransientR
     let Some(transient_read) = transient_reads.first else {
         return TransientReadWidths {
             value: 0,
-            writer_outcome: 0,
+            reason: 0,
         };
     };
     let ending = ending_letters(transient_read.same, transient_reads.more);
     let value = letters_of(transient_read.value)
         .saturating_add(transient_read.writer.len())
         .saturating_add(10);
-    let writer_outcome = transient_read
-        .writer_outcome
+    let reason = transient_read
+        .reason
         .len()
         .saturating_add(ending)
         .saturating_add(7);
     TransientReadWidths {
         value: width_of(value),
-        writer_outcome: width_of(writer_outcome),
+        reason: width_of(reason),
     }
 }

@@ -76,7 +76,7 @@ fn decimal_or_empty(digits: &mut itoa::Buffer, number: Option<u64>) -> &str
 }
 
 /// Appends the amounts and the counts of a row.
-fn push_amounts(out: &mut Vec<u8>, row: &Row) -> Result<(), AllocError>
+fn push_amounts_and_counts(out: &mut Vec<u8>, row: &Row) -> Result<(), AllocError>
     ensures { OnOk result (out.new.items ≡ out.old.items ++ separated (amounts row.now)) }
 {
     let mut limit = itoa::Buffer::new();
@@ -111,7 +111,7 @@ fn push_distance(out: &mut Vec<u8>, distance: Option<u64>) -> Result<(), AllocEr
 }
 
 /// Appends the first and the last line of a transaction.
-fn push_span(out: &mut Vec<u8>, span: LineSpan) -> Result<(), AllocError>
+fn push_line_span(out: &mut Vec<u8>, span: LineSpan) -> Result<(), AllocError>
     ensures { OnOk result (out.new.items ≡ out.old.items ++ separated (decimal span.first ∷ decimal span.last ∷ [])) }
 {
     let mut first = itoa::Buffer::new();
@@ -120,16 +120,16 @@ fn push_span(out: &mut Vec<u8>, span: LineSpan) -> Result<(), AllocError>
 }
 
 /// Appends the line of a row, with the name of its transaction and its first and last lines.
-fn row_line(out: &mut Vec<u8>, name: &str, row: &Row, span: LineSpan) -> Result<(), AllocError>
+fn push_row(out: &mut Vec<u8>, name: &str, row: &Row, span: LineSpan) -> Result<(), AllocError>
     ensures { OnOk result (out.new.items ≡ out.old.items ++ row_line name.now row.now span.first span.last) }
 {
     push_number(out, row.number.0)?;
     push_field(out, name)?;
     push_field(out, kind_word(row.kind))?;
-    push_amounts(out, row)?;
+    push_amounts_and_counts(out, row)?;
     push_field(out, outcome_word(row.end))?;
     push_distance(out, row.distance)?;
-    push_span(out, span)?;
+    push_line_span(out, span)?;
     out.push(b'\n')?;
     Ok(())
 }
@@ -154,7 +154,7 @@ fn push_rows(
     for place in 0..history.begun_count() {
         let row = row_at(history, columns, place);
         let name = name_of_transaction(transactions, row.number);
-        row_line(out, name, &row, spans.of(row.number))?;
+        push_row(out, name, &row, spans.of(row.number))?;
     }
     Ok(())
 }

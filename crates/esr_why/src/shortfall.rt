@@ -85,7 +85,7 @@ fn push_if(found: &mut Vec<Shortfall>, more: Option<Shortfall>) -> Result<(), Al
 
 /// Returns the total charge to the queries that have read an item, if one read of each costs this amount.
 fn total(reads: &[QueryReads], amount: u64) -> u128
-    requires within_max { All (λ r. r.count ≤ MAX_READS) reads.now }
+    requires count_within_max { All (λ r. r.count ≤ MAX_READS) reads.now }
     requires amount { amount ≤ max_distance }
     ensures total { result ≡ sum_by (λ r. r.1 * amount) (map query_and_count reads.now) }
     ensures upper_bound { result ≤ 2 ^ 126 }
@@ -174,7 +174,7 @@ fn reads_lack(
     reads: QueryReads,
     amount: u64,
 ) -> Option<Shortfall>
-    requires within_max { reads.count ≤ MAX_READS }
+    requires count_within_max { reads.count ≤ MAX_READS }
     requires amount { amount ≤ max_distance }
     ensures { result ≡ import_lack weighted machine.now reads.query.0 (reads.count * amount) }
 {
@@ -188,7 +188,7 @@ fn push_imports(
     reads: &[QueryReads],
     amount: u64,
 ) -> Result<(), AllocError>
-    requires within_max { All (λ r. r.count ≤ MAX_READS) reads.now }
+    requires count_within_max { All (λ r. r.count ≤ MAX_READS) reads.now }
     requires amount { amount ≤ max_distance }
     ensures { OnOk result (found.new.items ≡ found.old.items
         ++ filter_map (λ r. import_lack weighted machine.now r.0 (r.1 * amount)) (map query_and_count reads.now)) }

@@ -54,7 +54,7 @@ impl<M: Metric> Machine<M> {
     pub fn committed_values(&self, alloc: Global) -> Result<Vec<i64>, AllocError>
         ensures values { IfOk result (λ v. v.items ≡ committed_values self.now) }
         ensures range { IfOk result (λ v. All IsValue v.items) }
-        ensures within_max { IfOk result (λ v. length v.items ≤ MAX_ITEMS) }
+        ensures count_within_max { IfOk result (λ v. length v.items ≤ MAX_ITEMS) }
     {
         committed_values(alloc, &self.state.items)
     }

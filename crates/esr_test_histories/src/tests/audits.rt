@@ -1,11 +1,11 @@
 //! Audits of the worked histories.
 
-use super::Asked::{Commit, Query, Read, Update, Write};
+use super::Request::{BeginQuery, BeginUpdate, Commit, Read, Write};
+use super::brute_force::least_or_abort;
 use super::naive::agrees;
-use super::placements::least_or_abort;
 use super::{
-    Asked, BEHIND_AN_UPDATE, OVER_A_REPORT, STRICTLY_BEHIND_AN_UPDATE, THROUGH_A_THIRD_ITEM,
-    answer, play,
+    QUERY_AFTER_UPDATE, Request, STRICT_QUERY_AFTER_UPDATE, THROUGH_A_THIRD_ITEM,
+    TWO_UPDATES_OVERWRITE_A_READ, reply_to, try_execute_all,
 };
 use esr_audit::{AuditError, Book, Finding, audit_history, audit_query};
 use esr_cert::check;
@@ -34,18 +34,22 @@ pub(super) fn open_machine(alloc: Global, opening: &[i64]) -> Option<Machine<Pla
 pub(super) fn machine_after(
     alloc: Global,
     opening: &[i64],
-    events: &[Asked],
+    events: &[Request],
 ) -> Option<Machine<Plain>> {
     let mut m = open_machine(alloc, opening)?;
-    if play(&mut m, events) { Some(m) } else { None }
+    if try_execute_all(&mut m, events) {
+        Some(m)
+    } else {
+        None
+    }
 }
 
 /// Returns a machine that executed these events, all of which must be accepted.
-pub(super) fn play_machine(
+pub(super) fn expect_machine_after(
     rt: &impl Abort,
     alloc: Global,
     opening: &[i64],
-    events: &[Asked],
+    events: &[Request],
 ) -> Machine<Plain> {
     let Some(m) = machine_after(alloc, opening, events) else {
         panic!(rt; "a history")
@@ -101,7 +105,7 @@ fn finds(alloc: Global, m: &Machine<Plain>, row: Row) -> bool {
 }
 
 /// Returns whether the events are accepted, and the audit of their history has this result, like [`finds`].
-fn finds_in(alloc: Global, opening: &[i64], events: &[Asked], row: Row) -> bool {
+fn finds_in(alloc: Global, opening: &[i64], events: &[Request], row: Row) -> bool {
     match machine_after(alloc, opening, events) {
         Some(m) => finds(alloc, &m, row),
         None => false,
@@ -109,7 +113,7 @@ fn finds_in(alloc: Global, opening: &[i64], events: &[Asked], row: Row) -> bool 
 }
 
 /// Returns whether the events are accepted, and the audit of a transaction is then refused.
-fn refuses_in(alloc: Global, opening: &[i64], events: &[Asked], t: u32) -> bool {
+fn refuses_in(alloc: Global, opening: &[i64], events: &[Request], t: u32) -> bool {
     match machine_after(alloc, opening, events) {
         Some(m) => is_refused(alloc, &m, t),
         None => false,
@@ -130,8 +134,8 @@ fn book_now(rt: &impl Abort, alloc: Global, m: &Machine<Plain>) -> Book {
 }
 
 /// Audits the whole history of these events, all of which must be accepted.
-fn book_in(rt: &impl Abort, alloc: Global, opening: &[i64], events: &[Asked]) -> Book {
-    let m = play_machine(rt, alloc, opening, events);
+fn book_in(rt: &impl Abort, alloc: Global, opening: &[i64], events: &[Request]) -> Book {
+    let m = expect_machine_after(rt, alloc, opening, events);
     book_now(rt, alloc, &m)
 }
 
@@ -139,7 +143,7 @@ fn book_in(rt: &impl Abort, alloc: Global, opening: &[i64], events: &[Asked]) ->
 struct Case {
     name: &'static str,
     opening: &'static [i64],
-    events: &'static [Asked],
+    events: &'static [Request],
     found: Row<'static>,
 }
 
@@ -148,8 +152,8 @@ static CASES: [Case; 9] = [
         name: "an update writes beside a report that reads what it wrote",
         opening: &[100],
         events: &[
-            Update(50),
-            Query(10),
+            BeginUpdate(50),
+            BeginQuery(10),
             Write(1, 0, 107),
             Read(2, 0),
             Commit(1),
@@ -166,11 +170,11 @@ static CASES: [Case; 9] = [
         name: "the same, where the update aborts",
         opening: &[100],
         events: &[
-            Update(50),
-            Query(10),
+            BeginUpdate(50),
+            BeginQuery(10),
             Write(1, 0, 107),
             Read(2, 0),
-            Asked::Abort(1),
+            Request::Abort(1),
             Commit(2),
         ],
         found: Row {
@@ -184,8 +188,8 @@ static CASES: [Case; 9] = [
         name: "nearer before the update",
         opening: &[0, 0],
         events: &[
-            Query(5),
-            Update(5),
+            BeginQuery(5),
+            BeginUpdate(5),
             Read(1, 1),
             Write(2, 0, 3),
             Write(2, 1, 5),
@@ -204,8 +208,8 @@ static CASES: [Case; 9] = [
         name: "the smaller of two sets",
         opening: &[0],
         events: &[
-            Query(9),
-            Update(4),
+            BeginQuery(9),
+            BeginUpdate(4),
             Read(1, 0),
             Write(2, 0, 4),
             Commit(2),
@@ -233,7 +237,7 @@ static CASES: [Case; 9] = [
     Case {
         name: "a strict report",
         opening: &[0],
-        events: &STRICTLY_BEHIND_AN_UPDATE,
+        events: &STRICT_QUERY_AFTER_UPDATE,
         found: Row {
             query: 2,
             distance: 5,
@@ -244,7 +248,7 @@ static CASES: [Case; 9] = [
     Case {
         name: "the same, not strict",
         opening: &[0],
-        events: &BEHIND_AN_UPDATE,
+        events: &QUERY_AFTER_UPDATE,
         found: Row {
             query: 2,
             distance: 0,
@@ -255,7 +259,13 @@ static CASES: [Case; 9] = [
     Case {
         name: "a query that reads nothing",
         opening: &[7],
-        events: &[Query(0), Commit(1), Query(0), Read(2, 0), Commit(2)],
+        events: &[
+            BeginQuery(0),
+            Commit(1),
+            BeginQuery(0),
+            Read(2, 0),
+            Commit(2),
+        ],
         found: Row {
             query: 1,
             distance: 0,
@@ -266,7 +276,13 @@ static CASES: [Case; 9] = [
     Case {
         name: "a query that reads an item which no update wrote",
         opening: &[7],
-        events: &[Query(0), Commit(1), Query(0), Read(2, 0), Commit(2)],
+        events: &[
+            BeginQuery(0),
+            Commit(1),
+            BeginQuery(0),
+            Read(2, 0),
+            Commit(2),
+        ],
         found: Row {
             query: 2,
             distance: 0,
@@ -287,9 +303,9 @@ fn queries_are_audited(rt: HostRuntime) {
 
 /// An audit that is always out of memory keeps its contract: here it is refused before the commit, and then answers.
 #[test]
-fn two_updates_over_a_report(rt: HostRuntime) {
+fn two_updates_overwrite_a_read(rt: HostRuntime) {
     let alloc = rt.alloc();
-    let events = &OVER_A_REPORT;
+    let events = &TWO_UPDATES_OVERWRITE_A_READ;
     let row = Row {
         query: 1,
         distance: 1,
@@ -320,17 +336,17 @@ const LIMIT: u64 = 2_000_000_000_000;
 #[test]
 fn values_at_the_edge(rt: HostRuntime) {
     let alloc = rt.alloc();
-    let events = [Query(LIMIT), Update(LIMIT), Read(1, 0)];
-    let mut m = play_machine(&rt, alloc, &[-EDGE], &events);
+    let events = [BeginQuery(LIMIT), BeginUpdate(LIMIT), Read(1, 0)];
+    let mut m = expect_machine_after(&rt, alloc, &[-EDGE], &events);
     play_the_edge(&rt, &mut m);
     check_the_edge(&rt, alloc, &m);
 }
 
 /// Writes past the edge, which is refused, and at the edge.
 fn play_the_edge(rt: &impl Abort, m: &mut Machine<Plain>) {
-    let past = answer(m, Write(2, 0, EDGE + 1));
+    let past = reply_to(m, Write(2, 0, EDGE + 1));
     assert!(rt; past == Ok(Reply::Refused(Refusal::ValueOutOfRange)));
-    assert!(rt; play(m, &[Write(2, 0, EDGE), Commit(2), Commit(1)]));
+    assert!(rt; try_execute_all(m, &[Write(2, 0, EDGE), Commit(2), Commit(1)]));
 }
 
 fn check_the_edge(rt: &impl Abort, alloc: Global, m: &Machine<Plain>) {

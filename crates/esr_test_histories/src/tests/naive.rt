@@ -1,10 +1,10 @@
 //! Naive computations to compare with the indexed ones of the engine: scans of the log, a list of locks, and all pairs of
 //! conflicting updates.
 
-use super::Asked::{Commit, Query, Read, Strict, Update, Write};
+use super::Request::{BeginQuery, BeginStrictQuery, BeginUpdate, Commit, Read, Write};
 use super::audits::open_machine;
-use super::placements::Draws;
-use super::{Asked, accepts, order_of};
+use super::brute_force::Draws;
+use super::{Request, query_order, step_is_accepted};
 use esr_core::Machine;
 use esr_history::{Entry, Event, Facts, History, Log, Refusal, Reply, TxnId};
 use esr_items::{ItemId, Plain};
@@ -594,9 +594,9 @@ fn pairs_conflict(alloc: Global, order: &Order, operations: &[Operation]) -> Opt
 /// Returns whether an order's pairs tie its updates as all pairs of conflicting updates do, and are few.
 fn pairs_agree(alloc: Global, log: &Log, order: &Order) -> Option<bool> {
     let operations = operations_in(alloc, log, order.commits()).ok()?;
-    let within_max = order.before().len() <= operations.len().saturating_mul(2);
+    let count_within_max = order.before().len() <= operations.len().saturating_mul(2);
     let conflict = pairs_conflict(alloc, order, &operations)?;
-    Some(within_max && conflict && rows_agree(alloc, order, &operations)?)
+    Some(count_within_max && conflict && rows_agree(alloc, order, &operations)?)
 }
 
 /// Returns whether an update wrote an item.
@@ -708,7 +708,7 @@ fn relevant_order(alloc: Global, m: &Machine<Plain>, q: u32) -> Option<Order> {
 
 /// Returns the order of a query, if it is committed; or `None` if an allocation fails.
 fn order_if(alloc: Global, m: &Machine<Plain>, q: u32) -> Option<Option<Order>> {
-    match order_of(alloc, m, q) {
+    match query_order(alloc, m, q) {
         Ok(order) => Some(Some(order)),
         Err(OrderError::NotACommittedQuery) => Some(None),
         Err(OrderError::NoMemory) => None,
@@ -765,7 +765,7 @@ pub(super) fn agrees(alloc: Global, m: &Machine<Plain>, stride: u32) -> bool {
 }
 
 /// Draws an event of one of the last eight transactions, or of one that has not begun.
-fn any_event(draws: &mut Draws, begun: u32) -> Asked {
+fn any_event(draws: &mut Draws, begun: u32) -> Request {
     let t = begun.saturating_add(1).saturating_sub(draws.next(9));
     let item = draws.next(66);
     let value = i64::from(draws.next(900));
@@ -777,19 +777,19 @@ fn any_event(draws: &mut Draws, begun: u32) -> Asked {
 }
 
 /// Draws the begin of an update, a query or a strict query.
-fn any_begin(draws: &mut Draws) -> Asked {
+fn any_begin(draws: &mut Draws) -> Request {
     let limit = u64::from(draws.next(4000));
     match draws.next(4) {
-        0 => Query(limit),
-        1 => Strict(limit),
-        _ => Update(limit.saturating_mul(4)),
+        0 => BeginQuery(limit),
+        1 => BeginStrictQuery(limit),
+        _ => BeginUpdate(limit.saturating_mul(4)),
     }
 }
 
 /// Draws the end of a transaction.
-fn any_end(draws: &mut Draws, t: u32) -> Asked {
+fn any_end(draws: &mut Draws, t: u32) -> Request {
     if draws.next(6) == 0 {
-        Asked::Abort(t)
+        Request::Abort(t)
     } else {
         Commit(t)
     }
@@ -797,11 +797,11 @@ fn any_end(draws: &mut Draws, t: u32) -> Asked {
 
 /// Begins a transaction, and ends the one that began eight before it.
 fn round(m: &mut Machine<Plain>, draws: &mut Draws, begun: u32) {
-    let _ = accepts(m, any_begin(draws));
+    let _ = step_is_accepted(m, any_begin(draws));
     for _ in 0..8 {
-        let _ = accepts(m, any_event(draws, begun));
+        let _ = step_is_accepted(m, any_event(draws, begun));
     }
-    let _ = accepts(m, any_end(draws, begun.saturating_sub(8)));
+    let _ = step_is_accepted(m, any_end(draws, begun.saturating_sub(8)));
 }
 
 /// Draws a history of 64 items and 500 transactions, of which eight run at a time.

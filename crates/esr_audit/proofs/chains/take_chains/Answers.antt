@@ -3,29 +3,29 @@ use Rattle.std.specs.List.{list_any}
 use Rattle.std.proofs.lemmas.Bool.{eqb-true}
 use Rattle.std.proofs.lemmas.List.Elements.{All-from_recursion, recursion_from_All}
 use Rattle.esr_items.specs.Values.{IsValue}
-use Rattle.esr_order.specs.Chains.{chain_view as links_view}
+use Rattle.esr_order.specs.Chains.{links_view}
 use Rattle.esr_order.specs.Orders.{ConflictOrder, chain_at}
 use Rattle.esr_cert.specs.Problem as spec
-use Rattle.esr_cert.specs.Views.{chain_of as chain_view}
+use Rattle.esr_cert.specs.Views.{chain_view}
 use Rattle.esr_audit.specs.Reads.{values_of, chain_of_item, audit_chain_by, audit_chain_from, ItemRead}
 use Rattle.esr_audit.proofs.Gathered.{list_is, values_bounded, values_in_range, none_read, some_read, chain_step, chain_skip}
 use Rattle.esr_audit.proofs.chains.take_chains.Goals as goal
 use Rattle.esr_audit.proofs.chains.take_chains.Goals.{then-not-is_empty+in_ok-chain_of+in_ok-push, else-not-is_empty}
 
-pub chain_of-requires-clause-within_max : goal.chain_of-requires-clause-within_max
-chain_of-requires-clause-within_max g c =
+pub chain_of-requires-clause-count_within_max : goal.chain_of-requires-clause-count_within_max
+chain_of-requires-clause-count_within_max g c =
     let x : ℕ = c.loop-x.x in
     let inside : x < length c.in_ok-lists.lists.items = omega (arith, c.loop-x-test.true, c.items.ensures.items, c.items-x-end.ensures.items, c.in_ok-lists.ensures.list_count) in
     let values = c.deref.ensures.value ∙ list_is c.in_ok-lists.lists.items x c.index-values.result.now inside c.index-values.ensures ∙ c.in_ok-lists.ensures.values x (omega (arith, inside, c.in_ok-lists.ensures.list_count)) in
-    omega (arith, values_bounded c.args.reads.now x, ap (λ (xs : List ℤ). length xs) values, c.requires.within_max)
+    omega (arith, values_bounded c.args.reads.now x, ap (λ (xs : List ℤ). length xs) values, c.requires.count_within_max)
 
-pub chain_of-requires-clause-values : goal.chain_of-requires-clause-values
-chain_of-requires-clause-values g c =
+pub chain_of-requires-clause-values_in_range : goal.chain_of-requires-clause-values_in_range
+chain_of-requires-clause-values_in_range g c =
     let x : ℕ = c.loop-x.x in
     let inside : x < length c.in_ok-lists.lists.items = omega (arith, c.loop-x-test.true, c.items.ensures.items, c.items-x-end.ensures.items, c.in_ok-lists.ensures.list_count) in
     let values = c.deref.ensures.value ∙ list_is c.in_ok-lists.lists.items x c.index-values.result.now inside c.index-values.ensures ∙ c.in_ok-lists.ensures.values x (omega (arith, inside, c.in_ok-lists.ensures.list_count)) in
     subst (All IsValue) (sym values)
-    (All-from_recursion IsValue (values_of c.args.reads.now x) (values_in_range c.args.reads.now x (recursion_from_All (λ (r : ItemRead). IsValue r.value) c.args.reads.now c.requires.reads)))
+    (All-from_recursion IsValue (values_of c.args.reads.now x) (values_in_range c.args.reads.now x (recursion_from_All (λ (r : ItemRead). IsValue r.value) c.args.reads.now c.requires.reads_in_range)))
 
 pub loop-x-preserved : goal.loop-x-preserved
 loop-x-preserved g c =

@@ -1,6 +1,6 @@
 use Rattle.std.proofs.Common.{◌≡◌, ℕ, ◌≤◌, map}
 use Rattle.esr_order.specs.Orders.{chain_at}
-use Rattle.esr_cert.specs.Views.{chain_of as chain_view}
+use Rattle.esr_cert.specs.Views.{chain_view}
 use Rattle.esr_audit.specs.Reads.{chain_of_item, items_in}
 use Rattle.esr_audit.proofs.chains.take_chains.Given as goal
 

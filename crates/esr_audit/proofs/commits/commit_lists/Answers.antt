@@ -21,5 +21,5 @@ returns g c =
       updates = ap numbers c.in_ok-lists.ensures.updates ∙ updates_are d h legal txns are;
       queries = queries;
       committed = subst (All (λ (t : TxnId). IsTrue (is_committed_query h t.0))) (sym c.in_ok-lists.ensures.queries) (queries_committed d h legal txns are);
-      within_max = subst (λ n. n ≤ 65535) (sym count ∙ sym lists.queries.ok.0) (bounded_queries d h legal);
+      count_within_max = subst (λ n. n ≤ 65535) (sym count ∙ sym lists.queries.ok.0) (bounded_queries d h legal);
     }

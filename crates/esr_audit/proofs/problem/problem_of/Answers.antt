@@ -9,16 +9,16 @@ use Rattle.esr_audit.proofs.BuiltProblem as built_problem_equals_specified
 use Rattle.esr_audit.proofs.problem.problem_of.Given.{Over}
 use Rattle.esr_audit.proofs.problem.problem_of.Goals as goal
 
-pub take_chains-requires-clause-within_max : goal.take_chains-requires-clause-within_max
-take_chains-requires-clause-within_max g c =
+pub take_chains-requires-clause-count_within_max : goal.take_chains-requires-clause-count_within_max
+take_chains-requires-clause-count_within_max g c =
     built_problem_equals_specified.item_reads_at_most_max g.M.Metric.distance_by c.args.history.now.schedule c.args.q.0 c.log-invariant.ensures.legal c.log-invariant.ensures.range c.deref.result.now (c.deref.ensures.value ∙ c.in_ok-reads.ensures) c.requires.query
 
-pub take_chains-requires-clause-reads : goal.take_chains-requires-clause-reads
-take_chains-requires-clause-reads g c =
+pub take_chains-requires-clause-reads_in_range : goal.take_chains-requires-clause-reads_in_range
+take_chains-requires-clause-reads_in_range g c =
     built_problem_equals_specified.item_reads_in_range g.M.Metric.distance_by c.args.history.now.schedule c.args.q.0 c.log-invariant.ensures.legal c.log-invariant.ensures.range c.deref.result.now (c.deref.ensures.value ∙ c.in_ok-reads.ensures)
 
-pub take_chains-requires-clause-versions : goal.take_chains-requires-clause-versions
-take_chains-requires-clause-versions g c =
+pub take_chains-requires-clause-versions_in_range : goal.take_chains-requires-clause-versions_in_range
+take_chains-requires-clause-versions_in_range g c =
     built_problem_equals_specified.versions_in_range g.M.Metric.distance_by c.args.history.now.schedule c.args.q.0 c.log-invariant.ensures.legal c.log-invariant.ensures.range (map (λ (t : TxnId). t.0) c.args.order.commits) c.requires.relevant c.args.order c.requires.order
 
 -- the parts of the problem are those gathered from the order
@@ -27,18 +27,18 @@ problem_here : (g : Over) (c : goal.After-drop-reads-2 g) → problem_of c.into_
 problem_here g c =
     built_problem_equals_specified.built_problem_equals_specified g.M.Metric.distance_by c.args.history.now.schedule c.args.q.0 c.log-invariant.ensures.legal c.log-invariant.ensures.range (map (λ (t : TxnId). t.0) c.args.order.commits) c.requires.relevant c.args.order c.requires.order c.deref.result.now (c.deref.ensures.value ∙ c.in_ok-reads.ensures)
     _ _ _ _
-    (c.into_parts-updates.ensures.commits ∙ c.in_ok-chains.ensures.commits)
-    (c.into_parts-updates.ensures.before ∙ c.in_ok-chains.ensures.before)
-    (c.into_parts-updates.ensures.must ∙ c.in_ok-chains.ensures.must)
+    (c.into_parts-updates.ensures.commits ∙ c.in_ok-chains.ensures.commits_unchanged)
+    (c.into_parts-updates.ensures.before ∙ c.in_ok-chains.ensures.before_unchanged)
+    (c.into_parts-updates.ensures.must ∙ c.in_ok-chains.ensures.must_unchanged)
     c.in_ok-chains.ensures.chains
 
 pub of_sound-requires : goal.of_sound-requires
 of_sound-requires g c = record {
   sound = ap is_well_formed (built_problem_equals_specified.built_problem_equals_specified g.M.Metric.distance_by c.args.history.now.schedule c.args.q.0 c.log-invariant.ensures.legal c.log-invariant.ensures.range (map (λ (t : TxnId). t.0) c.args.order.commits) c.requires.relevant c.args.order c.requires.order c.deref.result.now (c.deref.ensures.value ∙ c.in_ok-reads.ensures)
       _ _ _ _
-      (c.into_parts-updates.ensures.commits ∙ c.in_ok-chains.ensures.commits)
-      (c.into_parts-updates.ensures.before ∙ c.in_ok-chains.ensures.before)
-      (c.into_parts-updates.ensures.must ∙ c.in_ok-chains.ensures.must)
+      (c.into_parts-updates.ensures.commits ∙ c.in_ok-chains.ensures.commits_unchanged)
+      (c.into_parts-updates.ensures.before ∙ c.in_ok-chains.ensures.before_unchanged)
+      (c.into_parts-updates.ensures.must ∙ c.in_ok-chains.ensures.must_unchanged)
       c.in_ok-chains.ensures.chains)
       ∙ built_problem_equals_specified.problem_is_well_formed g.M.Metric.distance_by c.args.history.now.schedule c.args.q.0 c.log-invariant.ensures.legal c.log-invariant.ensures.range (map (λ (t : TxnId). t.0) c.args.order.commits) c.requires.relevant c.args.order c.requires.order c.log-invariant.ensures.items c.requires.query g.met.M.Metric.bounded;
 }

@@ -22,14 +22,14 @@ pub returns-then-chain-len : goal.returns-then-chain-len
 returns-then-chain-len c =
     let flow = c.args.certificate.now.chain_flow.items in
     let rows : List (List ℕ) = rows_of flow in
-    let within_max : length rows ≡ length flow = length-map flow (λ row. row.items) in
+    let count_within_max : length rows ≡ length flow = length-map flow (λ row. row.items) in
     let l : c.row_at-chain.result < length flow = omega (arith, c.if-chain-len.true, c.len.ensures, c.args.certificate.now.chain_flow.ok.0) in
     let next : c.row_at-chain.result + 1 ≡ suc c.row_at-chain.result = omega arith in
-    let past = c.row_at-chain.ensures.last (omega (arith, c.requires.starts.count, within_max, l)) in
+    let past = c.row_at-chain.ensures.last (omega (arith, c.requires.starts.count, count_within_max, l)) in
     let row : get_or rows c.row_at-chain.result [] ≡ c.deref.result.now =
     get_or-map (λ v. v.items) flow c.row_at-chain.result c.index.result.now [] l ∙ ap (λ v. v.items) (sym c.index.ensures) ∙ sym c.deref.ensures.value in
     c.amount_or_zero.ensures ∙ ap (λ xs. get_or xs (c.args.arc - get_or c.args.starts.now c.row_at-chain.result 0) 0) (sym row)
-    ∙ sym (whole c.args.certificate.now c.args.arc ∙ in_row c.args.starts.now rows c.requires.starts 0 c.args.certificate.now.back_flow.items c.args.certificate.now.must_flow.items c.row_at-chain.result c.args.arc (omega (arith, within_max, l)) c.row_at-chain.ensures.begun (omega (arith, past, ap (λ i. get_or c.args.starts.now i 0) next)))
+    ∙ sym (whole c.args.certificate.now c.args.arc ∙ in_row c.args.starts.now rows c.requires.starts 0 c.args.certificate.now.back_flow.items c.args.certificate.now.must_flow.items c.row_at-chain.result c.args.arc (omega (arith, count_within_max, l)) c.row_at-chain.ensures.begun (omega (arith, past, ap (λ i. get_or c.args.starts.now i 0) next)))
 
 pub returns-then-i-backs : goal.returns-then-i-backs
 returns-then-i-backs c =

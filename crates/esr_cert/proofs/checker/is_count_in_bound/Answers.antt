@@ -2,13 +2,13 @@ use Rattle.std.proofs.Common.{◌≡◌, ◌∙◌, ◌+◌, ◌*◌, nat_le, sy
 use Rattle.std.proofs.lemmas.List.{length-map}
 use Rattle.esr_cert.specs.Network.{network}
 use Rattle.esr_cert.specs.Certificate.{is_count_in_bound}
-use Rattle.esr_cert.specs.Views.{chain_of}
+use Rattle.esr_cert.specs.Views.{chain_view}
 use Rattle.esr_cert.proofs.Sound.{facts, are_bounded}
 use Rattle.esr_cert.proofs.Worth.{arc_count}
 use Rattle.esr_cert.proofs.checker.is_count_in_bound.Goals as goal
 
 pub arc_count-arcs-requires : goal.arc_count-arcs-requires
-arc_count-arcs-requires c = omega (arith, (are_bounded c.args.problem.now c.chains.ensures.sound).chains, ap length c.chains.ensures.list, length-map c.chains.result.now chain_of)
+arc_count-arcs-requires c = omega (arith, (are_bounded c.args.problem.now c.chains.ensures.sound).chains, ap length c.chains.ensures.list, length-map c.chains.result.now chain_view)
 
 pub returns : goal.returns
 returns c =

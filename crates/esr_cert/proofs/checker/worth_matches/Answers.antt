@@ -4,7 +4,7 @@ use Rattle.esr_cert.specs.Problem.{in_set, chain_cost, cost}
 use Rattle.esr_cert.specs.Network.{network}
 use Rattle.esr_cert.specs.Flow.{worth}
 use Rattle.esr_cert.specs.Certificate.{amounts}
-use Rattle.esr_cert.specs.Views.{chain_of, rows_of, certificate_of}
+use Rattle.esr_cert.specs.Views.{chain_view, rows_of, certificate_of}
 use Rattle.esr_cert.proofs.Sound.{facts}
 use Rattle.esr_cert.proofs.Certified.{matched}
 use Rattle.esr_cert.proofs.Worth.{worth_firsts}
@@ -32,7 +32,7 @@ returns c =
     let q = certificate_of c.args.certificate.now in
     let same : q.worth ≡ worth (network p) (amounts q) = sym c.from-worth.ensures ∙ c.if-worth-first_amounts.false ∙ sym (flow_worth (goal.at.returns c).After-total) in
     let costs : c.set_cost.result ≡ cost p (in_set q.set) =
-    c.set_cost.ensures ∙ ap (λ set. sum_by (chain_cost (in_set set)) (map chain_of c.chains-chains.result.now)) c.deref-3.ensures.value ∙ ap (sum_by (chain_cost (in_set q.set))) c.chains-chains.ensures.list in
+    c.set_cost.ensures ∙ ap (λ set. sum_by (chain_cost (in_set set)) (map chain_view c.chains-chains.result.now)) c.deref-3.ensures.value ∙ ap (sum_by (chain_cost (in_set q.set))) c.chains-chains.ensures.list in
     sym (
     ap (λ b. b && eqb q.worth (cost p (in_set q.set))) (eq-eqb q.worth (worth (network p) (amounts q)) same)
     ∙ ap (λ n. eqb n (cost p (in_set q.set))) (sym c.from-worth.ensures)

@@ -1,7 +1,7 @@
 use Rattle.std.proofs.Common.{◌≡◌, take, map}
-use Rattle.esr_cert.specs.Views.{chain_of}
+use Rattle.esr_cert.specs.Views.{chain_view}
 use Rattle.esr_cert.specs.Drafts.{drafted_chain}
 use Rattle.esr_cert.proofs.parts.chain_drafts.Given as goal
 
 abbrev pub invariant-loop-chain : goal.invariant-loop-chain
-invariant-loop-chain l = map drafted_chain l.drafts.items ≡ map chain_of (take l.chain-index l.chains)
+invariant-loop-chain l = map drafted_chain l.drafts.items ≡ map chain_view (take l.chain-index l.chains)

@@ -3,7 +3,7 @@ use Rattle.std.proofs.lemmas.List.{length-map}
 use Rattle.esr_cert.specs.Problem.{Problem}
 use Rattle.esr_cert.specs.Network.{network, EndsAreNodes}
 use Rattle.esr_cert.specs.Starts.{starts_from}
-use Rattle.esr_cert.specs.Views.{chain_of, problem_by}
+use Rattle.esr_cert.specs.Views.{chain_view, problem_by}
 use Rattle.esr_cert.proofs.Sound.{facts, are_bounded}
 use Rattle.esr_cert.proofs.Worth.{arc_count}
 use Rattle.esr_cert.proofs.Least.{is_network}
@@ -13,7 +13,7 @@ use Rattle.esr_cert.proofs.problem.network_of.Goals as goal
 pub arc_count-requires : goal.arc_count-requires
 arc_count-requires c =
     let p : Problem = problem_by c.args.parts.now in
-    omega (arith, (are_bounded p c.requires.sound).chains, length-map c.args.parts.now.chains.items chain_of, ap length c.deref-2.ensures.value)
+    omega (arith, (are_bounded p c.requires.sound).chains, length-map c.args.parts.now.chains.items chain_view, ap length c.deref-2.ensures.value)
 
 pub starts_of-requires : goal.starts_of-requires
 starts_of-requires c =
@@ -23,20 +23,20 @@ starts_of-requires c =
       c.arc_count.ensures.value,
       costs_count c.args.parts.now.chains.items,
       ap (λ list. sum_by (λ chain. length chain.costs.items) list) c.deref-4.ensures.value,
-      ap (λ list. sum_by (λ chain. length chain.costs) (map chain_of list)) c.deref-2.ensures.value,
+      ap (λ list. sum_by (λ chain. length chain.costs) (map chain_view list)) c.deref-2.ensures.value,
     )
 
 pub index-requires : goal.index-requires
 index-requires c =
-    omega (arith, count_is c.args.parts.now.updates.items c.args.parts.now.before.items c.args.parts.now.chains.items c.args.parts.now.must.items c.requires.sound c.in_ok-starts.starts.items (c.in_ok-starts.ensures ∙ ap (λ list. starts_from 0 (map chain_of list)) c.deref-4.ensures.value), c.len.ensures, c.args.parts.now.chains.ok.0, c.in_ok-starts.starts.ok.0)
+    omega (arith, count_is c.args.parts.now.updates.items c.args.parts.now.before.items c.args.parts.now.chains.items c.args.parts.now.must.items c.requires.sound c.in_ok-starts.starts.items (c.in_ok-starts.ensures ∙ ap (λ list. starts_from 0 (map chain_view list)) c.deref-4.ensures.value), c.len.ensures, c.args.parts.now.chains.ok.0, c.in_ok-starts.starts.ok.0)
 
 pub owners_of-requires : goal.owners_of-requires
 owners_of-requires c =
     let p : Problem = problem_by c.args.parts.now in
-    omega (arith, (are_bounded p c.requires.sound).chains, length-map c.args.parts.now.chains.items chain_of, ap length c.deref-5.ensures.value)
+    omega (arith, (are_bounded p c.requires.sound).chains, length-map c.args.parts.now.chains.items chain_view, ap length c.deref-5.ensures.value)
 
-pub rows_of-requires-clause-within_max : goal.rows_of-requires-clause-within_max
-rows_of-requires-clause-within_max c =
+pub rows_of-requires-clause-count_within_max : goal.rows_of-requires-clause-count_within_max
+rows_of-requires-clause-count_within_max c =
     let p : Problem = problem_by c.args.parts.now in
     omega (
       arith,
@@ -44,7 +44,7 @@ rows_of-requires-clause-within_max c =
       arc_count p (facts p c.requires.sound),
       c.if-arc_count.false,
       c.arc_count.ensures.value,
-      ap (λ list. sum_by (λ chain. length chain.costs) (map chain_of list)) c.deref-2.ensures.value,
+      ap (λ list. sum_by (λ chain. length chain.costs) (map chain_view list)) c.deref-2.ensures.value,
       ap length c.deref.ensures.value,
       ap length c.deref-3.ensures.value,
     )

@@ -7,7 +7,7 @@ pub overflow_add-index_mut : goal.overflow_add-index_mut
 overflow_add-index_mut c =
     let l : c.loop-j.j < length c.args.chain.now.costs.items = omega (arith, c.loop-j-test.true, c.len-j-end.ensures, c.args.chain.now.costs.ok.0) in
     let low : c.args._begin + c.loop-j.j < length c.args._arcs.now = omega (arith, l, c.requires.links.inside) in
-    omega (arith, c.requires.within_max, low, along_small (c.args._begin + c.loop-j.j) c.requires.ends low (c.arc_tail-from.ensures ∙ sym (c.requires.links.from c.loop-j.j l)) c.index_mut.ensures.value c.loop-j.invariant)
+    omega (arith, c.requires.count_within_max, low, along_small (c.args._begin + c.loop-j.j) c.requires.ends low (c.arc_tail-from.ensures ∙ sym (c.requires.links.from c.loop-j.j l)) c.index_mut.ensures.value c.loop-j.invariant)
 
 pub overflow_add-index_mut-in-loop-j : goal.overflow_add-index_mut-in-loop-j
 overflow_add-index_mut-in-loop-j c =
@@ -15,7 +15,7 @@ overflow_add-index_mut-in-loop-j c =
     let low : c.args._begin + c.loop-j.j < length c.args._arcs.now = omega (arith, l, c.requires.links.inside) in
     let small = against_small (c.args._begin + c.loop-j.j) c.requires.ends low (c.arc_tail-from.ensures ∙ sym (c.requires.links.from c.loop-j.j l)) c.index_mut.ensures.value c.loop-j.invariant
     (c.arc_head-to.ensures ∙ sym (c.requires.links.to c.loop-j.j l)) c.index_mut-in-loop-j.ensures.value in
-    omega (arith, c.requires.within_max, low, small)
+    omega (arith, c.requires.count_within_max, low, small)
 
 pub loop-j-preserved : goal.loop-j-preserved
 loop-j-preserved c =

@@ -7,12 +7,12 @@ use Rattle.esr_cert.proofs.rows.count_others.Goals as goal
 pub overflow_add-index_mut : goal.overflow_add-index_mut
 overflow_add-index_mut c =
     let l : c.loop-i.i < length c.args.arcs.now = omega (arith, c.loop-i-test.true, c.len-i-end.ensures) in
-    omega (arith, c.requires.within_max, l, along_small c.loop-i.i c.requires.ends l (ap (λ (a : Arc). a.from) c.at-arc.ensures) c.index_mut.ensures.value c.loop-i.invariant)
+    omega (arith, c.requires.count_within_max, l, along_small c.loop-i.i c.requires.ends l (ap (λ (a : Arc). a.from) c.at-arc.ensures) c.index_mut.ensures.value c.loop-i.invariant)
 
 pub overflow_add-index_mut-in-loop-i : goal.overflow_add-index_mut-in-loop-i
 overflow_add-index_mut-in-loop-i c =
     let l : c.loop-i.i < length c.args.arcs.now = omega (arith, c.loop-i-test.true, c.len-i-end.ensures) in
-    omega (arith, c.requires.within_max, l, against_small c.loop-i.i c.requires.ends l (ap (λ (a : Arc). a.from) c.at-arc.ensures) c.index_mut.ensures.value c.loop-i.invariant (ap (λ (a : Arc). a.to) c.at-arc.ensures) c.index_mut-in-loop-i.ensures.value)
+    omega (arith, c.requires.count_within_max, l, against_small c.loop-i.i c.requires.ends l (ap (λ (a : Arc). a.from) c.at-arc.ensures) c.index_mut.ensures.value c.loop-i.invariant (ap (λ (a : Arc). a.to) c.at-arc.ensures) c.index_mut-in-loop-i.ensures.value)
 
 pub loop-i-preserved : goal.loop-i-preserved
 loop-i-preserved c =

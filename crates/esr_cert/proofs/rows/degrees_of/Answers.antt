@@ -1,12 +1,12 @@
 use Rattle.std.proofs.Common.{arith, ◌≡◌, length, map, refl, sym}
-use Rattle.esr_cert.specs.Views.{chain_of}
+use Rattle.esr_cert.specs.Views.{chain_view}
 use Rattle.esr_cert.proofs.LinksLaws.{links_here, links_after, starts_first}
 use Rattle.esr_cert.proofs.RowsLaws.{counted_none, counted_all}
 use Rattle.esr_cert.proofs.rows.degrees_of.Goals as goal
 
 pub loop-chain-init : goal.loop-chain-init
 loop-chain-init c = record {
-  place = sym (starts_first 0 (map chain_of c.chains-source.result.0.now));
+  place = sym (starts_first 0 (map chain_view c.chains-source.result.0.now));
   inside = omega arith;
   counted = counted_none c.in_ok-degrees.degrees.items (c.in_ok-degrees.ensures.items_if_clones_equal (λ y e. e));
 }
@@ -17,7 +17,7 @@ count_links-requires-clause-links c = links_here c.chains-source.result.0.now c.
 pub overflow_add-begin : goal.overflow_add-begin
 overflow_add-begin c =
     let here = links_here c.chains-source.result.0.now c.chains-source.ensures.links c.loop-chain.invariant.place c.loop-chain-test.true c.chain-item.is in
-    omega (arith, here.inside, c.requires.within_max, c.len-begin.ensures, c.chain-item.result.costs.ok.0)
+    omega (arith, here.inside, c.requires.count_within_max, c.len-begin.ensures, c.chain-item.result.costs.ok.0)
 
 pub loop-chain-preserved : goal.loop-chain-preserved
 loop-chain-preserved c =

@@ -9,7 +9,7 @@ lay_links-requires-clause-links c = links_here c.chains-source.result.0.now c.ch
 pub overflow_add-begin : goal.overflow_add-begin
 overflow_add-begin c =
     let here = links_here c.chains-source.result.0.now c.chains-source.ensures.links c.loop-chain.invariant.place c.loop-chain-test.true c.chain-item.is in
-    omega (arith, here.inside, c.requires.within_max, c.len-in-loop-chain.ensures, c.chain-item.result.costs.ok.0)
+    omega (arith, here.inside, c.requires.count_within_max, c.len-in-loop-chain.ensures, c.chain-item.result.costs.ok.0)
 
 pub loop-chain-preserved : goal.loop-chain-preserved
 loop-chain-preserved c =
@@ -21,4 +21,4 @@ pub returns-clause-rows : goal.returns-clause-rows
 returns-clause-rows c = laid_rows refl c.lay_others.ensures
 
 pub returns-clause-steps : goal.returns-clause-steps
-returns-clause-steps c = laid_steps c.requires.within_max refl c.lay_others.ensures
+returns-clause-steps c = laid_steps c.requires.count_within_max refl c.lay_others.ensures

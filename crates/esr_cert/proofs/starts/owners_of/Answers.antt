@@ -1,7 +1,7 @@
 use Rattle.std.proofs.Common.{arith, ◌≡◌, ◌+◌, ◌∙◌, ◌∷◌, ◌++◌, ap, sym, drop, map, length, replicate}
 use Rattle.std.proofs.lemmas.List.{append_assoc, drop_more}
 use Rattle.esr_cert.specs.Starts.{owners_from}
-use Rattle.esr_cert.specs.Views.{chain_of}
+use Rattle.esr_cert.specs.Views.{chain_view}
 use Rattle.esr_cert.proofs.starts.owners_of.Goals as goal
 
 pub loop-k-preserved : goal.loop-k-preserved
@@ -10,11 +10,11 @@ loop-k-preserved c =
     let k = c.loop-k.k in
     let chain = c.index-chains-k.result in
     let owners = c.loop-k.owners.items in
-    let rest = owners_from (k + 1) (map chain_of (drop (k + 1) chains)) in
+    let rest = owners_from (k + 1) (map chain_view (drop (k + 1) chains)) in
     let here : drop k chains ≡ chain ∷ drop (k + 1) chains = drop_more chains k chain c.loop-k-test.true ∙ ap (λ x. x ∷ drop (k + 1) chains) (sym c.index-chains-k.is) in
     let count : c.len.result ≡ length chain.costs.items = omega (arith, c.len.ensures, chain.costs.ok.0) in
     ap (λ xs. xs ++ rest) c.in_ok-push_owner.ensures
     ∙ append_assoc owners (replicate c.len.result k) rest
     ∙ ap (λ n. owners ++ (replicate n k ++ rest)) count
-    ∙ ap (λ ks. owners ++ owners_from k (map chain_of ks)) (sym here)
+    ∙ ap (λ ks. owners ++ owners_from k (map chain_view ks)) (sym here)
     ∙ c.loop-k.invariant

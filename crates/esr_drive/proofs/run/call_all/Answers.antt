@@ -21,8 +21,8 @@ loop-progress-smaller g c =
     let made = c.in_ok-call_several.ensures.receipts in
     let len = ap length inv.0 in
     let lt : length old.replies.items < length c.args.calls.now = search rules in
-    let within_max = bounded_calls new.calls.now new.replies.items new.blocked c.call_several.new.self heard.1 new.within_max in
-    nearer old.calls.now old.replies.items (length c.args.calls.now) c.in_ok-call_several.field-0 c.loop-progress.session made.0 c.call_several.new.self len lt (c.in_ok-call_several.ensures.none c.lines_of_hold-upper_bound.ensures.0) made.1 made.4 (omega (arith, within_max, ap length heard.0, len))
+    let count_within_max = bounded_calls new.calls.now new.replies.items new.blocked c.call_several.new.self heard.1 new.count_within_max in
+    nearer old.calls.now old.replies.items (length c.args.calls.now) c.in_ok-call_several.field-0 c.loop-progress.session made.0 c.call_several.new.self len lt (c.in_ok-call_several.ensures.none c.lines_of_hold-upper_bound.ensures.0) made.1 made.4 (omega (arith, count_within_max, ap length heard.0, len))
 
 pub loop-progress-preserved : goal.loop-progress-preserved
 loop-progress-preserved g c =
@@ -33,8 +33,8 @@ pub returns-in_err-call_several-clause-upper_bound : goal.returns-in_err-call_se
 returns-in_err-call_several-clause-upper_bound g c =
     let new = c.call_several.new.source in
     let heard = c.call_several.ensures.source c.loop-progress.progress (refl, c.loop-progress.invariant.1) in
-    let within_max = bounded_calls new.calls.now new.replies.items new.blocked c.call_several.new.self heard.1 new.within_max in
-    omega (arith, within_max, ap length heard.0, ap length c.loop-progress.invariant.0)
+    let count_within_max = bounded_calls new.calls.now new.replies.items new.blocked c.call_several.new.self heard.1 new.count_within_max in
+    omega (arith, count_within_max, ap length heard.0, ap length c.loop-progress.invariant.0)
 
 pub returns-clause-run : goal.returns-clause-run
 returns-clause-run g c =
@@ -48,4 +48,4 @@ pub returns-clause-upper_bound : goal.returns-clause-upper_bound
 returns-clause-upper_bound g c =
     let inv = c.loop-progress.invariant in
     let at = c.loop-progress.progress in
-    omega (arith, bounded_calls at.calls.now at.replies.items at.blocked c.loop-progress.session inv.1 at.within_max, ap length inv.0)
+    omega (arith, bounded_calls at.calls.now at.replies.items at.blocked c.loop-progress.session inv.1 at.count_within_max, ap length inv.0)

@@ -8,4 +8,4 @@ returns g c =
     let begun = bounded_begun h.entries in
     carried_past c.in_ok-item_table.item_table c.in_ok-transaction_table.transaction_table (g.I.TransactionNames.names c.args.items.now) (g.T.TransactionNames.names c.args.transactions.now)
     _ _ h c.in_ok-text.text.items c.items.ensures.items c.begun_count-begun.ensures c.in_ok-item_table.ensures c.in_ok-transaction_table.ensures
-    (omega (arith, c.items.ensures.upper_bound)) (omega (arith, begun, c.begun_count-begun.ensures, c.requires.within_max)) c.in_ok-text.ensures.again
+    (omega (arith, c.items.ensures.upper_bound)) (omega (arith, begun, c.begun_count-begun.ensures, c.requires.count_within_max)) c.in_ok-text.ensures.again

@@ -2,13 +2,13 @@ use Rattle.std.proofs.Common.{rules, arith, ◌≡◌, ℕ, ◌+◌, ◌∙◌, 
 use Rattle.esr_cert.specs.Network.{arc_at}
 use Rattle.esr_cert.specs.Flow.{within, amount_at}
 use Rattle.esr_flow.specs.Types.{Arc}
-use Rattle.esr_flow.specs.ResidualGraph.{arcs_of}
+use Rattle.esr_flow.specs.ResidualGraph.{network_arcs}
 use Rattle.esr_flow.proofs.SumLaws.{sums_more, sums_same}
 use Rattle.esr_flow.proofs.flow_check.sum_arcs.Goals as goal
 
 pub loop-i-preserved : goal.loop-i-preserved
 loop-i-preserved c =
-    let arcs = arcs_of c.args.graph.now in let flow = c.args.flow.now in let i = c.loop-i.i in let node_count = c.args.graph.now.node_count in
+    let arcs = network_arcs c.args.graph.now in let flow = c.args.flow.now in let i = c.loop-i.i in let node_count = c.args.graph.now.node_count in
     let is : c.arc-arc.result ≡ arc_at arcs i = c.arc-arc.ensures in
     let added : c.add_arc.result ≡ true = search rules in
     let arc_in_range : i < length arcs = omega (arith, c.loop-i-test.true, c.requires.flow) in
@@ -30,7 +30,7 @@ nothing_within (Some limit) = search rules
 
 pub loop-i-preserved-then-amount-eq0 : goal.loop-i-preserved-then-amount-eq0
 loop-i-preserved-then-amount-eq0 c =
-    let arcs = arcs_of c.args.graph.now in let flow = c.args.flow.now in let i = c.loop-i.i in let node_count = c.args.graph.now.node_count in
+    let arcs = network_arcs c.args.graph.now in let flow = c.args.flow.now in let i = c.loop-i.i in let node_count = c.args.graph.now.node_count in
     let arc_in_range : i < length arcs = omega (arith, c.loop-i-test.true, c.requires.flow) in
     let none : amount_at flow i ≡ 0 = c.if-amount-eq0.true in record {
       capacities = below_more _ _ c.loop-i.invariant.capacities (subst (λ n. within n (arc_at arcs i).capacity ≡ true) (sym none) (nothing_within (arc_at arcs i).capacity));

@@ -1,5 +1,5 @@
 use Rattle.std.proofs.Common.{arith, ◌+◌, ◌-◌, ◌*◌, ◌≤◌, length, sym, subst, IfSome}
-use Rattle.esr_flow.specs.ResidualGraph.{arcs_of, network_of}
+use Rattle.esr_flow.specs.ResidualGraph.{network_arcs, network_of}
 use Rattle.esr_flow.specs.Search.{IsGuided}
 use Rattle.esr_flow.specs.Maximum.{InArcs}
 use Rattle.esr_flow.proofs.FlowLaws.{Taken}
@@ -35,8 +35,8 @@ overflow_add-result c =
 
 pub put_back-requires-clause-path : goal.put_back-requires-clause-path
 put_back-requires-clause-path c =
-    subst (λ path. InArcs (arcs_of c.args.graph.now) path) (sym c.deref-in-loop-path.ensures.value)
-    (path_in_arcs (arcs_of c.args.graph.now) c.loop-path.flow c.loop-path.path.items c.args.graph.now.source c.args.graph.now.sink c.loop-path.invariant.1.is_shortest_path.is_path)
+    subst (λ path. InArcs (network_arcs c.args.graph.now) path) (sym c.deref-in-loop-path.ensures.value)
+    (path_in_arcs (network_arcs c.args.graph.now) c.loop-path.flow c.loop-path.path.items c.args.graph.now.source c.args.graph.now.sink c.loop-path.invariant.1.is_shortest_path.is_path)
 
 pub next_path-requires-clause-flow : goal.next_path-requires-clause-flow
 next_path-requires-clause-flow c =
@@ -52,7 +52,7 @@ next_path-requires-clause-guides c =
 pub loop-path-smaller : goal.loop-path-smaller
 loop-path-smaller c =
     let r : Running (network_of c.args.graph.now) c.args.flow.now c.augment-worth.new.flow c.args.labels.now c.args.before.augmentations (c.loop-path.augmentations + 1) (c.loop-path.worth + c.augment-worth.result) = run_more (network_of c.args.graph.now) c.args.flow.now c.loop-path.flow c.augment-worth.new.flow c.args.labels.now c.loop-path.path.items c.args.before.augmentations c.loop-path.augmentations c.loop-path.worth c.augment-worth.result c.loop-path.invariant.0 c.loop-path.invariant.1 c.augment-worth.ensures.augments c.augment-worth.ensures.worth in
-    let within_max : c.loop-path.augmentations + 1 ≤ c.args.graph.now.node_count * length (arcs_of c.args.graph.now) + c.args.before.augmentations = running_bounded (network_of c.args.graph.now) c.args.graph.now.kept.is_network c.args.flow.now c.augment-worth.new.flow c.args.labels.now c.args.before.augmentations (c.loop-path.augmentations + 1) (c.loop-path.worth + c.augment-worth.result) r in
+    let count_within_max : c.loop-path.augmentations + 1 ≤ c.args.graph.now.node_count * length (network_arcs c.args.graph.now) + c.args.before.augmentations = running_bounded (network_of c.args.graph.now) c.args.graph.now.kept.is_network c.args.flow.now c.augment-worth.new.flow c.args.labels.now c.args.before.augmentations (c.loop-path.augmentations + 1) (c.loop-path.worth + c.augment-worth.result) r in
     omega arith
 
 pub loop-path-preserved : goal.loop-path-preserved

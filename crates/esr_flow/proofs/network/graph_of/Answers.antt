@@ -10,4 +10,4 @@ invariant_of-result c =
     let p = c.args.problem.now in
     let n : ℕ = length c.updates-source.result.now in
     let count : n ≡ size p = sym (length-map c.updates-source.result.now (λ t. t.0)) ∙ ap length c.updates-source.ensures.list in
-    record { kept = graph_is p (n + 2) n (n + 1) (omega (arith, count)) count (omega (arith, count)) (facts p c.updates-source.ensures.sound) c.rows.result.now c.rows.ensures.laid_out (omega (arith, count, c.updates-source.ensures.within_max)) }
+    record { kept = graph_is p (n + 2) n (n + 1) (omega (arith, count)) count (omega (arith, count)) (facts p c.updates-source.ensures.sound) c.rows.result.now c.rows.ensures.laid_out (omega (arith, count, c.updates-source.ensures.count_within_max)) }

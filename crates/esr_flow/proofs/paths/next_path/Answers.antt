@@ -6,7 +6,7 @@ use Rattle.esr_cert.specs.Network.{Network}
 use Rattle.esr_flow.specs.ShortEntry.{AdjacencyEntry}
 use Rattle.esr_flow.specs.Residual.{residual_capacity, finish}
 use Rattle.esr_cert.specs.Steps.{arc_of, start, opposite, step_at}
-use Rattle.esr_flow.specs.ResidualGraph.{arcs_of, network_of, IsAdjacencyRow, IsEntry, entry_at}
+use Rattle.esr_flow.specs.ResidualGraph.{network_arcs, network_of, IsAdjacencyRow, IsEntry, entry_at}
 use Rattle.esr_cert.specs.Rows.{span_at}
 use Rattle.esr_flow.specs.Search.{label_at, IsGuided}
 use Rattle.esr_flow.proofs.EntriesLaws.{lists_read}
@@ -14,7 +14,7 @@ use Rattle.esr_flow.proofs.WalkLaws.{Walk, walk_push, walk_pop, walk_end, popped
 use Rattle.esr_flow.proofs.paths.next_path.Goals as goal
 
 pub offset_bounds-labels-graph : goal.offset_bounds-labels-graph
-offset_bounds-labels-graph c = omega (arith, c.args.graph.now.kept.is_network.source_is_node, c.requires.guides.count, c.args.graph.now.kept.within_max)
+offset_bounds-labels-graph c = omega (arith, c.args.graph.now.kept.is_network.source_is_node, c.requires.guides.count, c.args.graph.now.kept.count_within_max)
 
 pub bounds-labels-graph : goal.bounds-labels-graph
 bounds-labels-graph c = omega (arith, c.args.graph.now.kept.is_network.source_is_node, c.requires.guides.count)
@@ -34,7 +34,7 @@ loop-at-smaller-then-i-row c =
 pub loop-at-preserved-then-i-row : goal.loop-at-preserved-then-i-row
 loop-at-preserved-then-i-row c =
     let net : Network = network_of c.args.graph.now in
-    let arcs : List Arc = arcs_of c.args.graph.now in
+    let arcs : List Arc = network_arcs c.args.graph.now in
     let flow : List ℕ = c.args.flow.now in
     let labels : List ℕ = c.args.labels.now in
     let e : AdjacencyEntry = entry_at c.row-row.result.now c.next_back-i.result in
@@ -69,7 +69,7 @@ loop-at-smaller c =
 pub loop-at-preserved : goal.loop-at-preserved
 loop-at-preserved c =
     let w : Walk (network_of c.args.graph.now) c.args.flow.now c.args.labels.now (c.pop.new.self.items ++ c.in-Some.step ∷ []) c.loop-at.at = subst (λ p. Walk (network_of c.args.graph.now) c.args.flow.now c.args.labels.now p c.loop-at.at) c.in-Some.ensures.items c.loop-at.invariant.0 in
-    let finish_is : c.finish_of-at.result ≡ finish (arcs_of c.args.graph.now) c.in-Some.step = c.finish_of-at.ensures in (
+    let finish_is : c.finish_of-at.result ≡ finish (network_arcs c.args.graph.now) c.in-Some.step = c.finish_of-at.ensures in (
       subst (λ n. Walk (network_of c.args.graph.now) c.args.flow.now c.args.labels.now c.pop.new.self.items n) (sym finish_is)
           (walk_pop (network_of c.args.graph.now) c.args.graph.now.kept.is_network c.args.flow.now c.args.labels.now c.pop.new.self.items c.loop-at.at c.in-Some.step c.requires.guides w),
       length-set c.loop-at.next c.loop-at.at c.next_back-i.result ∙ c.loop-at.invariant.1,

@@ -1,6 +1,6 @@
 use Rattle.std.proofs.Common.{arith, ◌≡◌, ℕ, ◌-◌, ◌<◌, ◌≤◌, false, length, inl, inr, sym, ◌∙◌, subst}
 use Rattle.std.proofs.lemmas.Bool.{cases_lt}
-use Rattle.esr_flow.specs.ResidualGraph.{arcs_of, network_of}
+use Rattle.esr_flow.specs.ResidualGraph.{network_arcs, network_of}
 use Rattle.esr_flow.specs.Reached.{AreReached, IsKeptOver}
 use Rattle.esr_flow.proofs.PassLaws.{pair_kept_by}
 use Rattle.esr_flow.proofs.reach.pass_back.Goals as goal
@@ -8,7 +8,7 @@ use Rattle.esr_flow.proofs.reach.pass_back.Goals.{else-not-is_pair_alike-via-the
 
 pub loop-i-preserved : goal.loop-i-preserved
 loop-i-preserved c =
-    let arcs = arcs_of c.args.graph.now in let flow = c.args.flow.now in let marks = c.loop-i.marks in let at : ℕ = c.loop-i.i - 1 in let after = c.else-not-is_pair_alike.marks in
+    let arcs = network_arcs c.args.graph.now in let flow = c.args.flow.now in let marks = c.loop-i.marks in let at : ℕ = c.loop-i.i - 1 in let after = c.else-not-is_pair_alike.marks in
     let kept : after ≡ marks → IsKeptOver arcs flow marks at → c.loop-i.more ≡ false → (k : ℕ) → at ≤ k → k < length arcs → IsKeptOver arcs flow after k =
     λ same here quiet k l m. subst (λ ms. IsKeptOver arcs flow ms k) (sym same) (elim (cases_lt k c.loop-i.i) [
       | inl b ↦ subst (IsKeptOver arcs flow marks) (omega (arith, b, l)) here

@@ -1,6 +1,6 @@
 use Rattle.std.proofs.Common.{arith, ◌≡◌, ℕ, ◌+◌, ◌<◌, true, false, inl, inr, sym, ◌∙◌, subst, true≢false}
 use Rattle.std.proofs.lemmas.Bool.{cases_lt}
-use Rattle.esr_flow.specs.ResidualGraph.{arcs_of, network_of}
+use Rattle.esr_flow.specs.ResidualGraph.{network_arcs, network_of}
 use Rattle.esr_flow.specs.Reached.{AreReached, IsKeptOver}
 use Rattle.esr_flow.proofs.PassLaws.{link_kept}
 use Rattle.esr_flow.proofs.reach.pass_chain.Goals as goal
@@ -8,7 +8,7 @@ use Rattle.esr_flow.proofs.reach.pass_chain.Goals.{then-not-is_link_alike+then-s
 
 pub loop-j-preserved : goal.loop-j-preserved
 loop-j-preserved c =
-    let arcs = arcs_of c.args.graph.now in let flow = c.args.flow.now in let marks = c.loop-j.marks in let begin : ℕ = c.args.begin in let after = c.if-not-is_link_alike.marks in
+    let arcs = network_arcs c.args.graph.now in let flow = c.args.flow.now in let marks = c.loop-j.marks in let begin : ℕ = c.args.begin in let after = c.if-not-is_link_alike.marks in
     let kept : after ≡ marks → c.if-not-is_link_alike.more ≡ c.loop-j.more → IsKeptOver arcs flow marks (begin + c.loop-j.j) → c.if-not-is_link_alike.more ≡ false → (k : ℕ) → k < c.loop-j.j + 1 → IsKeptOver arcs flow after (begin + k) =
     λ same more here quiet k l. subst (λ ms. IsKeptOver arcs flow ms (begin + k)) (sym same) (elim (cases_lt k c.loop-j.j) [
       | inl b ↦ c.loop-j.invariant.kept (sym more ∙ quiet) k b

@@ -1,6 +1,6 @@
 use Rattle.std.proofs.Common.{arith, ◌≡◌, ℕ, ◌+◌, ◌-◌, ◌≤◌, length, get_or, inl, inr, refl, sym, ap, ◌∙◌, subst, true≢false}
 use Rattle.std.proofs.lemmas.Bool.{cases_lt}
-use Rattle.esr_flow.specs.ResidualGraph.{arcs_of}
+use Rattle.esr_flow.specs.ResidualGraph.{network_arcs}
 use Rattle.esr_cert.specs.Starts.{starts_from}
 use Rattle.esr_flow.specs.Reached.{IsKeptOver, first_back}
 use Rattle.esr_cert.proofs.LinksLaws.{starts_first, next_begin, inside_all}
@@ -27,7 +27,7 @@ overflow_add-begin c =
 
 pub loop-chain-preserved : goal.loop-chain-preserved
 loop-chain-preserved c =
-    let arcs = arcs_of c.args.graph.now in let flow = c.args.flow.now in let marks = c.loop-chain.marks in let begin : ℕ = c.loop-chain.begin in let after = c.pass_chain.new.marks in
+    let arcs = network_arcs c.args.graph.now in let flow = c.args.flow.now in let marks = c.loop-chain.marks in let begin : ℕ = c.loop-chain.begin in let after = c.pass_chain.new.marks in
     let size : c.len-begin.result ≡ length c.chain-item.result.costs.items = omega (arith, c.len-begin.ensures, c.chain-item.result.costs.ok.0) in
     let next : begin + c.len-begin.result ≡ get_or (starts_from 0 c.args.graph.now.problem.now.chains) (c.loop-chain.chain-index + 1) 0 =
     ap (λ n. begin + n) size ∙ next_begin c.args.graph.now.problem.now c.chains-chain-items.ensures.sound c.chains-chain-items.result.now c.chains-chain-items.ensures.list c.loop-chain.chain-index begin c.chain-item.result c.loop-chain-test.true c.chain-item.is c.loop-chain.invariant.place in

@@ -25,8 +25,8 @@ overflow_sub-chains_end c =
 pub members-requires-clause-spare_capacity : goal.members-requires-clause-spare_capacity
 members-requires-clause-spare_capacity c = omega (arith, c.requires.marks, length-map c.updates.result.now (λ t. t.0), ap length c.updates.ensures.list, ap length c.deref.ensures.value)
 
-pub members-requires-clause-within_max : goal.members-requires-clause-within_max
-members-requires-clause-within_max c = omega (arith, c.updates.ensures.within_max, length-map c.updates.result.now (λ t. t.0), ap length c.updates.ensures.list)
+pub members-requires-clause-count_within_max : goal.members-requires-clause-count_within_max
+members-requires-clause-count_within_max c = omega (arith, c.updates.ensures.count_within_max, length-map c.updates.result.now (λ t. t.0), ap length c.updates.ensures.list)
 
 pub chain_rows-requires : goal.chain_rows-requires
 chain_rows-requires c =

@@ -4,7 +4,7 @@ use Rattle.std.proofs.lemmas.List.{take_more}
 use Rattle.std.proofs.lemmas.List.Sums.{sum_by_more}
 use Rattle.esr_cert.specs.declared.problem.Chain.{Chain}
 use Rattle.esr_cert.specs.Certificate.{are_rows_matched}
-use Rattle.esr_cert.specs.Views.{chain_of, rows_of}
+use Rattle.esr_cert.specs.Views.{chain_view, rows_of}
 use Rattle.esr_flow.proofs.CertificateLaws.{cut_more, matched_more, sum_take, row_long}
 use Rattle.esr_flow.proofs.solver.chain_rows.Goals as goal
 
@@ -30,7 +30,7 @@ loop-chain-preserved c =
       place = omega (arith, c.loop-chain.invariant.place);
       cut = ap (λ rs. concat (rows_of rs)) c.in_ok-push.ensures.items ∙ cut_more c.loop-chain.rows.items c.in_ok-row.row c.args.flow.now c.loop-chain.at c.len.result c.loop-chain.invariant.cut row;
       matched =
-          ap (λ cs. are_rows_matched (map chain_of cs) (rows_of c.push.new.self.items)) front
-          ∙ ap (λ rs. are_rows_matched (map chain_of (take i c.args.chains.now ++ c.chain-item.result ∷ [])) (rows_of rs)) c.in_ok-push.ensures.items
+          ap (λ cs. are_rows_matched (map chain_view cs) (rows_of c.push.new.self.items)) front
+          ∙ ap (λ rs. are_rows_matched (map chain_view (take i c.args.chains.now ++ c.chain-item.result ∷ [])) (rows_of rs)) c.in_ok-push.ensures.items
           ∙ matched_more (take i c.args.chains.now) c.loop-chain.rows.items c.chain-item.result c.in_ok-row.row c.loop-chain.invariant.matched (long ∙ size);
     }

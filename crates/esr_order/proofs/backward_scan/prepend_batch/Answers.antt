@@ -1,7 +1,7 @@
 use Rattle.std.proofs.Common.{◌≡◌, ◌<◌, ◌-◌, suc, ◌∙◌, [], ◌++◌, append-nil, refl, sym, subst, map, drop, length, get_or, arith}
 use Rattle.std.proofs.lemmas.List.{drop_all, length-set}
 use Rattle.esr_order.specs.Batches.{operation_at}
-use Rattle.esr_order.specs.Chains.{chain_view}
+use Rattle.esr_order.specs.Chains.{links_view}
 use Rattle.esr_order.specs.Later.{batch_conflicts, SummarizeLater}
 use Rattle.esr_order.proofs.Gathering.{no_access, batch_later, batch_conflicting}
 use Rattle.esr_order.proofs.backward_scan.prepend_batch.Goals as goal
@@ -22,9 +22,9 @@ loop-i-preserved c =
       length-set readers x c.prepend_operation.new.readers ∙ c.loop-i.invariant.1,
       λ steps are.
           let now = c.loop-i.invariant.2 steps are in (
-            batch_later chain_view (λ r. r.items) chains readers position i c.loop-i.i next accesses inside linked read steps now.0 c.index-chains-x.result c.index-readers-x.result
+            batch_later links_view (λ r. r.items) chains readers position i c.loop-i.i next accesses inside linked read steps now.0 c.index-chains-x.result c.index-readers-x.result
                 c.prepend_operation.new.links c.in_ok-prepend_operation.ensures.chain c.prepend_operation.new.readers c.in_ok-prepend_operation.ensures.readers,
-            batch_conflicting chain_view (λ r. r.items) chains readers position i c.loop-i.i next accesses inside linked read steps now.0 c.index-chains-x.result c.index-readers-x.result
+            batch_conflicting links_view (λ r. r.items) chains readers position i c.loop-i.i next accesses inside linked read steps now.0 c.index-chains-x.result c.index-readers-x.result
                 c.args.conflicts.now.items c.loop-i.conflicts.items now.1 c.prepend_operation.new.conflicts.items c.in_ok-prepend_operation.ensures.conflicts,
           ),
     )
@@ -36,7 +36,7 @@ loop-i-init c =
       refl,
       refl,
       λ steps are. (
-        subst (λ l. SummarizeLater (map chain_view c.args.chains.now) (map (λ r. r.items) c.args.readers.now) (map (operation_at c.args.position) l ++ steps)) (sym none) are,
+        subst (λ l. SummarizeLater (map links_view c.args.chains.now) (map (λ r. r.items) c.args.readers.now) (map (operation_at c.args.position) l ++ steps)) (sym none) are,
         subst (λ l. c.args.conflicts.now.items ≡ c.args.conflicts.now.items ++ batch_conflicts (map (operation_at c.args.position) l) steps) (sym none) (sym (append-nil c.args.conflicts.now.items)),
       ),
     )
@@ -44,7 +44,7 @@ loop-i-init c =
 pub returns-clause-later : goal.returns-clause-later
 returns-clause-later c operations are =
     let start : c.loop-i.i ≡ 0 = omega (arith, c.loop-i-test.false) in
-    subst (λ i. SummarizeLater (map chain_view c.loop-i.chains) (map (λ r. r.items) c.loop-i.readers) (map (operation_at c.args.position) (drop i c.args.accesses.now) ++ operations)) start (c.loop-i.invariant.2 operations are).0
+    subst (λ i. SummarizeLater (map links_view c.loop-i.chains) (map (λ r. r.items) c.loop-i.readers) (map (operation_at c.args.position) (drop i c.args.accesses.now) ++ operations)) start (c.loop-i.invariant.2 operations are).0
 
 pub returns-clause-conflicts : goal.returns-clause-conflicts
 returns-clause-conflicts c operations are =

@@ -26,8 +26,8 @@ run g c = relevant_run g.M.Metric.distance_by c.args.history.now.schedule c.args
 pub among-requires-clause-once : goal.among-requires-clause-once
 among-requires-clause-once g c = (run g c).once
 
-pub among-requires-clause-within_max : goal.among-requires-clause-within_max
-among-requires-clause-within_max g c = (run g c).within_max
+pub among-requires-clause-count_within_max : goal.among-requires-clause-count_within_max
+among-requires-clause-count_within_max g c = (run g c).count_within_max
 
 pub among-requires-clause-keeps : goal.among-requires-clause-keeps
 among-requires-clause-keeps g c = (run g c).keeps

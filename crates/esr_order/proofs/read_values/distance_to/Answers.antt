@@ -20,7 +20,7 @@ small g c =
     omega (arith, described g c, b)
 
 pub overflow_add-sum : goal.overflow_add-sum
-overflow_add-sum g c = omega (arith, small g c, c.loop-value.invariant.1, c.loop-value-test.true, c.requires.within_max)
+overflow_add-sum g c = omega (arith, small g c, c.loop-value.invariant.1, c.loop-value-test.true, c.requires.count_within_max)
 
 pub loop-value-preserved : goal.loop-value-preserved
 loop-value-preserved g c =

@@ -19,11 +19,11 @@ returns-in_err-length-clause-replay g c = rw (handed_on _ _ c.from_residual.ensu
 pub returns-in_err-answer : goal.returns-in_err-answer
 returns-in_err-answer g c =
     let found = rw c.in_ok-length.ensures.ok.0 at c.requires.next in
-    let within_max = c.in_ok-length.ensures.ok.1 in
+    let count_within_max = c.in_ok-length.ensures.ok.1 in
     let kept = c.in_err-answer.ensures.err in
     let faults = rw c.bytes.ensures at c.in_err-answer.ensures.faults in
     rw (handed_on _ _ c.from_residual-in_err-answer.ensures.1) record {
-      within_max = tt;
+      count_within_max = tt;
       text = tt;
       held = λ input sent left here.
           let at = some_gone sent _ kept.0 _ kept.1 here in (
@@ -31,12 +31,12 @@ returns-in_err-answer g c =
             kept.2,
             elim faults [
               | inl e ↦ rw e (held_memory input left _ _ _ (sent ++ kept.0) _ at left)
-              | inr e ↦ rw e.0 (held_full input left _ _ _ (sent ++ kept.0) _ at c.in_ok-length.length within_max found e.1)
+              | inr e ↦ rw e.0 (held_full input left _ _ _ (sent ++ kept.0) _ at c.in_ok-length.length count_within_max found e.1)
             ],
           );
       replay = λ input written left here. elim faults [
         | inl e ↦ rw e tt
-        | inr e ↦ rw e.0 (replay_full input left _ _ _ written here c.in_ok-length.length within_max found e.1)
+        | inr e ↦ rw e.0 (replay_full input left _ _ _ written here c.in_ok-length.length count_within_max found e.1)
       ];
       read = elim faults [ inl e ↦ rw e refl | inr e ↦ rw e.0 refl ];
       write = elim faults [ inl e ↦ rw e refl | inr e ↦ rw e.0 refl ];

@@ -113,7 +113,7 @@ returns-in_err-take g c =
 pub lines-preserved : goal.lines-preserved
 lines-preserved g c =
     record {
-      bound = omega (arith, c.lines.invariant.bound, c.in_ok-answer_next.ensures.within_max);
+      bound = omega (arith, c.lines.invariant.bound, c.in_ok-answer_next.ensures.count_within_max);
       reader = c.lines.invariant.reader;
       sink = elim c.if-len-ge-OUTPUT_FULL.branch [
         | then-len-ge-OUTPUT_FULL+in_ok-take w ↦ rw w.sink-is (w.in_ok-take.ensures.failed ∙ rw c.lines.invariant.sink refl)

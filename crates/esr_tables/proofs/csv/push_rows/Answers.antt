@@ -12,7 +12,7 @@ loop-place-preserved c =
     let line = named_line c.args.transactions.now (first_of c.args.spans.now) (last_of c.args.spans.now) in
     one_row_more line (row_of weighted c.args.history.now.schedule) c.args.out.now.items c.loop-place.place c.row_at-row.result c.loop-place.out.items _
     c.loop-place.invariant c.row_at-row.ensures
-    (rw (c.name_of_transaction-name.ensures, c.of.ensures.first, c.of.ensures.last) at c.in_ok-row_line.ensures)
+    (rw (c.name_of_transaction-name.ensures, c.of.ensures.first, c.of.ensures.last) at c.in_ok-push_row.ensures)
 
 pub returns : goal.returns
 returns c =

@@ -15,5 +15,5 @@ returns-clause-links c =
     (have_links (problem_of c.self.inside.updates.now c.self.inside.before.now c.self.inside.chains.now c.self.inside.must.now) c.self.invariant.0 c.self.inside.chains.now refl (length c.self.inside.updates.now)
     (sym (length-map c.self.inside.updates.now (λ t. t.0))))
 
-pub returns-clause-within_max : goal.returns-clause-within_max
-returns-clause-within_max c = omega (arith, updates_bounded c.self.inside.updates.now c.self.inside.before.now c.self.inside.chains.now c.self.inside.must.now c.self.invariant.0 c.self.inside.starts.now c.self.invariant.1)
+pub returns-clause-count_within_max : goal.returns-clause-count_within_max
+returns-clause-count_within_max c = omega (arith, updates_bounded c.self.inside.updates.now c.self.inside.before.now c.self.inside.chains.now c.self.inside.must.now c.self.invariant.0 c.self.inside.starts.now c.self.invariant.1)

@@ -8,5 +8,5 @@ invariant_of-result g c =
     let h = c.in_ok-new-2.field-0.schedule in
     let entries : h.entries ≡ [] = ap (λ (s : Schedule). s.entries) c.in_ok-new-2.ensures in
     let opening : h.opening ≡ map (λ (w : Versions). w.committed) c.args.items = ap (λ (s : Schedule). s.opening) c.in_ok-new-2.ensures ∙ c.in_ok-opening.ensures.values in
-    let within_max : length h.entries ≤ 1000000 = rw entries (omega arith) in
-    (c.in_ok-new.ensures g.M.Metric.distance_by h entries opening, within_max)
+    let count_within_max : length h.entries ≤ 1000000 = rw entries (omega arith) in
+    (c.in_ok-new.ensures g.M.Metric.distance_by h entries opening, count_within_max)

@@ -11,8 +11,8 @@ pub invariant_of-self : goal.invariant_of-self
 invariant_of-self g c =
     let h = c.restart.new.self.schedule in
     let entries : h.entries ≡ [] = ap (λ (s : Schedule). s.entries) c.restart.ensures in
-    let within_max : length h.entries ≤ 1000000 = rw entries (omega arith) in
-    (c.in-Ok.ensures.state g.M.Metric.distance_by h entries (ap (λ (s : Schedule). s.opening) c.restart.ensures), within_max)
+    let count_within_max : length h.entries ≤ 1000000 = rw entries (omega arith) in
+    (c.in-Ok.ensures.state g.M.Metric.distance_by h entries (ap (λ (s : Schedule). s.opening) c.restart.ensures), count_within_max)
 
 pub returns-in-Ok-clause-ok : goal.returns-in-Ok-clause-ok
 returns-in-Ok-clause-ok g c = c.restart.ensures ∙ ap (λ (vs : List ℤ). record { opening = vs; weights = g.M.Metric.weights c.args.metric; entries = [] }) c.in-Ok.ensures.opening

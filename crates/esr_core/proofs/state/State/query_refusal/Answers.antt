@@ -31,8 +31,8 @@ returns-in-Some g c = λ h same rep query.
     let is : read_charge (d h.weights c.args.x.0) (versions_at s.items c.args.x.0) (locks_at s.locks.locks c.args.x.0).writer ≡ Some (c.in-Some.u, c.in-Some.amount) = rw same (sym c.in-Some.ensures) in
     let owed = due_some d h s.items s.transactions.items s.locks.locks s.ledgers rep c.args.q c.args.x (c.in-Some.u, c.in-Some.amount) query c.requires.item is in
     let reads : c.transaction.result.reads ≡ total_read_count (accepted_in h) c.args.q.0 = row_reads d h s.items s.transactions.items s.locks.locks s.ledgers rep c.args.q.0 c.transaction.result c.requires.known c.transaction.ensures query in
-    let within_max : total_read_count (accepted_in h) c.args.q.0 < 1000 = rw (← reads) c.if-transaction-ge-MAX_READS.false in
-    c.limit_refusal.ensures ∙ (ap reason_of c.quote.ensures ∙ query_some d h s.items s.transactions.items s.locks.locks s.ledgers rep c.args.q c.in-Some.u c.args.x c.in-Some.amount query owed.1 within_max owed.0)
+    let count_within_max : total_read_count (accepted_in h) c.args.q.0 < 1000 = rw (← reads) c.if-transaction-ge-MAX_READS.false in
+    c.limit_refusal.ensures ∙ (ap reason_of c.quote.ensures ∙ query_some d h s.items s.transactions.items s.locks.locks s.ledgers rep c.args.q c.in-Some.u c.args.x c.in-Some.amount query owed.1 count_within_max owed.0)
 
 pub returns-in-None : goal.returns-in-None
 returns-in-None g c = λ h same rep query.
@@ -40,5 +40,5 @@ returns-in-None g c = λ h same rep query.
     let s = c.args.self.now in
     let is : read_charge (d h.weights c.args.x.0) (versions_at s.items c.args.x.0) (locks_at s.locks.locks c.args.x.0).writer ≡ None = rw same (sym c.in-None.ensures) in
     let reads : c.transaction.result.reads ≡ total_read_count (accepted_in h) c.args.q.0 = row_reads d h s.items s.transactions.items s.locks.locks s.ledgers rep c.args.q.0 c.transaction.result c.requires.known c.transaction.ensures query in
-    let within_max : total_read_count (accepted_in h) c.args.q.0 < 1000 = rw (← reads) c.if-transaction-ge-MAX_READS.false in
-    query_none d h s.items s.transactions.items s.locks.locks s.ledgers rep c.args.q c.args.x within_max (due_none d h s.items s.transactions.items s.locks.locks s.ledgers rep c.args.q c.args.x c.requires.item is)
+    let count_within_max : total_read_count (accepted_in h) c.args.q.0 < 1000 = rw (← reads) c.if-transaction-ge-MAX_READS.false in
+    query_none d h s.items s.transactions.items s.locks.locks s.ledgers rep c.args.q c.args.x count_within_max (due_none d h s.items s.transactions.items s.locks.locks s.ledgers rep c.args.q c.args.x c.requires.item is)

@@ -29,14 +29,14 @@ charge_read-requires g c =
       fits = each c.charge_of_read-charge.result (λ b some. read_fits d h s.items s.transactions.items s.locks.locks s.ledgers c.requires.accepted.2 c.args.q b.0 c.args.x b.1 c.requires.accepted.3 query (owed b some).1 (owed b some).0);
     }
 
-pub add_read_query-requires-clause-within_max : goal.add_read_query-requires-clause-within_max
-add_read_query-requires-clause-within_max g c =
+pub add_read_query-requires-clause-count_within_max : goal.add_read_query-requires-clause-count_within_max
+add_read_query-requires-clause-count_within_max g c =
     let s = c.args.self.now in
     bounded_here g.M.Metric.distance_by c.requires.accepted.0 s.items s.transactions.items s.locks.locks s.ledgers c.requires.accepted.2 c.args.q.0 c.args.x.0 c.requires.item
     (read_bounded g.M.Metric.distance_by c.requires.accepted.0 c.args.q c.args.x c.requires.accepted.3 c.requires.accepted.4)
 
-pub count_read-requires-clause-within_max : goal.count_read-requires-clause-within_max
-count_read-requires-clause-within_max g c = λ k row at.
+pub count_read-requires-clause-count_within_max : goal.count_read-requires-clause-count_within_max
+count_read-requires-clause-count_within_max g c = λ k row at.
     let d = g.M.Metric.distance_by in
     let h = c.requires.accepted.0 in
     let s = c.args.self.now in
@@ -44,8 +44,8 @@ count_read-requires-clause-within_max g c = λ k row at.
     let here : (j : ℕ) → c.args.q.0 ≡ j + 1 → r ≡ get_or s.transactions.items j r =
     λ j n. let same : k ≡ j = omega (arith, at, n) in get_or_default s.transactions.items k row r (omega (arith, c.requires.known, at)) ∙ ap (λ i. get_or s.transactions.items i r) same in
     let reads : r.reads ≡ total_read_count (accepted_in h) c.args.q.0 = row_reads d h s.items s.transactions.items s.locks.locks s.ledgers c.requires.accepted.2 c.args.q.0 r c.requires.known here c.requires.accepted.4 in
-    let within_max : total_read_count (accepted_in h) c.args.q.0 < 1000 = read_bounded d h c.args.q c.args.x c.requires.accepted.3 c.requires.accepted.4 in
-    rw reads within_max
+    let count_within_max : total_read_count (accepted_in h) c.args.q.0 < 1000 = read_bounded d h c.args.q c.args.x c.requires.accepted.3 c.requires.accepted.4 in
+    rw reads count_within_max
 
 pub returns-clause-represents : goal.returns-clause-represents
 returns-clause-represents g c = λ h same rep none query.

@@ -1,7 +1,7 @@
 use Rattle.std.proofs.Common.{◌≡◌, Contains, ◌∙◌, ap, sym, subst}
 use Rattle.esr_cert.specs.Steps.{start}
 use Rattle.esr_cert.specs.Rows.{row_in, span_at}
-use Rattle.esr_flow.specs.ResidualGraph.{arcs_of}
+use Rattle.esr_flow.specs.ResidualGraph.{network_arcs}
 use Rattle.esr_flow.specs.Residual.{finish}
 use Rattle.esr_flow.proofs.WalkLaws.{opposite_finish}
 use Rattle.esr_flow.proofs.EntriesLaws.{in_row}
@@ -9,6 +9,6 @@ use Rattle.esr_flow.proofs.graph.ResidualGraph.place_of.Goals as goal
 
 pub place_of-requires-clause-starts : goal.place_of-requires-clause-starts
 place_of-requires-clause-starts c =
-    let node : c.finish_of-node.result ≡ start (arcs_of c.args.self.now) c.args.step =
-    c.finish_of-node.ensures ∙ ap (finish (arcs_of c.args.self.now)) c.opposite.ensures ∙ opposite_finish (arcs_of c.args.self.now) c.args.step in
+    let node : c.finish_of-node.result ≡ start (network_arcs c.args.self.now) c.args.step =
+    c.finish_of-node.ensures ∙ ap (finish (network_arcs c.args.self.now)) c.opposite.ensures ∙ opposite_finish (network_arcs c.args.self.now) c.args.step in
     subst (λ v. Contains (row_in c.args.self.now.rows.now.steps.items (span_at c.args.self.now.rows.now.spans.items v)) c.args.step) (sym node) (in_row c.args.self.now c.args.step c.requires.arc)

@@ -5,10 +5,10 @@ use Rattle.esr_locks.specs.Tables.{has_query_lock}
 use Rattle.esr_locks.proofs.Least.{All-from_map}
 use Rattle.esr_locks.proofs.entry.LockEntry.add_query_read.Goals as goal
 
-pub count_read-requires-clause-within_max : goal.count_read-requires-clause-within_max
-count_read-requires-clause-within_max c =
+pub count_read-requires-clause-count_within_max : goal.count_read-requires-clause-count_within_max
+count_read-requires-clause-count_within_max c =
     All-from_map query_and_count (λ r. r.0 ≡ c.args.q.0 → r.1 < 1000) c.self.inside.queries.items
-    (subst (λ (v : LockEntryModel). All (λ r. r.0 ≡ c.args.q.0 → r.1 < 1000) v.locks.queries) (sym c.self.view_is) c.requires.within_max)
+    (subst (λ (v : LockEntryModel). All (λ r. r.0 ≡ c.args.q.0 → r.1 < 1000) v.locks.queries) (sym c.self.view_is) c.requires.count_within_max)
 
 pub invariant_of-self : goal.invariant_of-self
 invariant_of-self c = grind (arith, placed_ascends)

@@ -22,6 +22,6 @@ pub extend-requires-clause-committed : goal.extend-requires-clause-committed
 extend-requires-clause-committed g c =
     let h = c.args.history.now.schedule in
     let i : Indexed = record { read = c.entries.self-inside.read; commits = c.entries.self-inside.commits.items; rows = c.entries.self-inside.rows } in
-    let all : i.read ≡ length h.entries = omega (arith, c.entries.invariant.0.within_max, c.entries-test.false, c.len-count.ensures, ap length c.log-log.ensures.entries) in
+    let all : i.read ≡ length h.entries = omega (arith, c.entries.invariant.0.count_within_max, c.entries-test.false, c.len-count.ensures, ap length c.log-log.ensures.entries) in
     let first = c.len-first.result in
     subst (λ l. All (λ (t : TxnId). is_committed (accepted_in h) t.0 ≡ true) (take (length l - first) (drop first l))) (sym c.deref.ensures.value) (index_over h i c.entries.invariant.0 all first)

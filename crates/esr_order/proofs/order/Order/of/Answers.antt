@@ -24,8 +24,8 @@ among-requires-clause-once g c =
     let us = updates_of c.args.history.now.schedule c.args.q.0 in
     subst (AllPairs (λ u v. u ≢ v)) (sym (same g c)) (All-from_pairs (λ u v. u ≢ v) us (in_order g.M.Metric.distance_by c.args.history.now.schedule c.args.q.0 c.log-invariant.ensures.legal).once)
 
-pub among-requires-clause-within_max : goal.among-requires-clause-within_max
-among-requires-clause-within_max g c = commits_bounded g.M.Metric.distance_by c.args.history.now.schedule c.args.q.0 c.log-invariant.ensures.legal c.in_ok-commits.commits.items (same g c)
+pub among-requires-clause-count_within_max : goal.among-requires-clause-count_within_max
+among-requires-clause-count_within_max g c = commits_bounded g.M.Metric.distance_by c.args.history.now.schedule c.args.q.0 c.log-invariant.ensures.legal c.in_ok-commits.commits.items (same g c)
 
 pub among-requires-clause-keeps : goal.among-requires-clause-keeps
 among-requires-clause-keeps g c =

@@ -1,9 +1,9 @@
 //! A reference program to compare with the audit: it lists all placements of small histories.
 ghost use Rattle.std.specs.Prelude.{◌<◌};
 
-use super::Asked::{Commit, Query, Read, Strict, Update, Write};
+use super::Request::{BeginQuery, BeginStrictQuery, BeginUpdate, Commit, Read, Write};
 use super::audits::{audit_of, machine_after};
-use super::{Asked, accepts};
+use super::{Request, step_is_accepted};
 use esr_core::Machine;
 use esr_history::{Entry, Event, Log, Reply};
 use esr_items::{ItemId, Plain};
@@ -29,7 +29,7 @@ impl Draws {
     }
 
     /// Draws an event of this query or of one of three updates, of which this is the first.
-    fn event(&mut self, query: u32, first: u32) -> Asked {
+    fn event(&mut self, query: u32, first: u32) -> Request {
         let kind = self.next(8);
         let item = self.next(2);
         let value = i64::from(self.next(9));
@@ -340,20 +340,25 @@ pub(super) fn least_or_abort(alloc: Global, m: &Machine<Plain>, q: u32) -> Optio
 /// Lets the machine execute drawn events of a query and of three updates.
 fn draw(m: &mut Machine<Plain>, draws: &mut Draws, query: u32, first: u32) {
     for _ in 0..24 {
-        let _ = accepts(m, draws.event(query, first));
+        let _ = step_is_accepted(m, draws.event(query, first));
     }
 }
 
 /// Commits those of four transactions that are active.
 fn commit_all(m: &mut Machine<Plain>) {
     for t in 1..5u32 {
-        let _ = accepts(m, Commit(t));
+        let _ = step_is_accepted(m, Commit(t));
     }
 }
 
 /// Draws a history of query 1 and the updates 2, 3 and 4, which begin at once.
 fn small_history(alloc: Global, seed: u64) -> Option<Machine<Plain>> {
-    let begins = [Query(1000), Update(1000), Update(1000), Update(1000)];
+    let begins = [
+        BeginQuery(1000),
+        BeginUpdate(1000),
+        BeginUpdate(1000),
+        BeginUpdate(1000),
+    ];
     let mut m = machine_after(alloc, &[0, 0], &begins)?;
     draw(&mut m, &mut Draws { state: seed }, 1, 2);
     commit_all(&mut m);
@@ -364,12 +369,16 @@ fn small_history(alloc: Global, seed: u64) -> Option<Machine<Plain>> {
 /// At most one update aborts, which has not committed by then.
 fn strict_history(alloc: Global, seed: u64) -> Option<Machine<Plain>> {
     let mut draws = Draws { state: seed };
-    let mut m = machine_after(alloc, &[0, 0], &[Update(1000), Update(1000), Update(1000)])?;
+    let mut m = machine_after(
+        alloc,
+        &[0, 0],
+        &[BeginUpdate(1000), BeginUpdate(1000), BeginUpdate(1000)],
+    )?;
     draw(&mut m, &mut draws, 4, 1);
-    let _begun = accepts(&mut m, Strict(1000));
+    let _begun = step_is_accepted(&mut m, BeginStrictQuery(1000));
     draw(&mut m, &mut draws, 4, 1);
     let aborted = draws.next(3).saturating_add(1);
-    let _aborted = accepts(&mut m, Asked::Abort(aborted));
+    let _aborted = step_is_accepted(&mut m, Request::Abort(aborted));
     commit_all(&mut m);
     Some(m)
 }

@@ -1,4 +1,4 @@
-use Rattle.esr_tables.proofs.csv.push_amounts.Goals as goal
+use Rattle.esr_tables.proofs.csv.push_amounts_and_counts.Goals as goal
 
 pub returns : goal.returns
 returns c =
