@@ -41,8 +41,26 @@ fn push_range(out: &mut String, magnitude: usize, least: u64) -> Result<(), Allo
     push_number(out, least.saturating_mul(10).saturating_sub(1))
 }
 
-/// Appends a bar with its range and its count, of which the largest is `upper_bound`.
+/// Appends the bar of a count, of which the largest is `upper_bound`, unless the count is 0.
 fn push_bar(
+    out: &mut String,
+    magnitude: usize,
+    count: u64,
+    upper_bound: u64,
+) -> Result<(), AllocError> {
+    if count == 0 {
+        return Ok(());
+    }
+    let share = count
+        .saturating_mul(80)
+        .checked_div(upper_bound)
+        .unwrap_or(0);
+    let class = if magnitude == 0 { "chg" } else { "dis" };
+    write!(out, "<i class='{class}' style='width:{share}%'></i>")
+}
+
+/// Appends a row with the range of a magnitude, its bar and its count.
+fn push_row(
     out: &mut String,
     magnitude: usize,
     least: u64,
@@ -51,15 +69,9 @@ fn push_bar(
 ) -> Result<(), AllocError> {
     out.push_str("<li><span class='bin'>")?;
     push_range(out, magnitude, least)?;
-    let share = count
-        .saturating_mul(80)
-        .checked_div(upper_bound)
-        .unwrap_or(0);
-    let class = if magnitude == 0 { "chg" } else { "dis" };
-    write!(
-        out,
-        "</span><span class='bar'><i class='{class}' style='width:{share}%'></i><b>"
-    )?;
+    out.push_str("</span><span class='bar'>")?;
+    push_bar(out, magnitude, count, upper_bound)?;
+    out.push_str("<b>")?;
     push_number(out, count)?;
     out.push_str("</b></span></li>\n")
 }
@@ -75,12 +87,12 @@ fn count_magnitudes(counts: &[u64]) -> usize {
     last.saturating_add(1)
 }
 
-/// Appends the bars of the magnitudes up to the greatest that occurs.
-fn push_bars(out: &mut String, counts: &[u64]) -> Result<(), AllocError> {
+/// Appends the rows of the magnitudes up to the greatest that occurs.
+fn push_rows(out: &mut String, counts: &[u64]) -> Result<(), AllocError> {
     let upper_bound = counts.iter().copied().max().unwrap_or(0);
     let mut least = 1u64;
     for (magnitude, count) in counts.iter().take(count_magnitudes(counts)).enumerate() {
-        push_bar(out, magnitude, least, *count, upper_bound)?;
+        push_row(out, magnitude, least, *count, upper_bound)?;
         if magnitude > 0 {
             least = least.saturating_mul(10);
         }
@@ -99,6 +111,6 @@ pub fn push_histogram(
     }
     let counts = counts_of(alloc, found)?;
     out.push_str("<h2>How many queries were off</h2>\n<ul class='hist'>\n")?;
-    push_bars(out, &counts)?;
+    push_rows(out, &counts)?;
     out.push_str("</ul>\n")
 }

@@ -1,5 +1,6 @@
-//! The fixed parts of the page: its head with the style, and the script that sorts the table. On paper the buttons of its
-//! head have no boxes: a head that has any is not repeated on each sheet.
+//! The fixed parts of the page: its head with the style, and the script that sorts the table. On a wide screen the
+//! timeline and the picture of the farthest query are next to each other, reduced until one is pressed. On paper the
+//! buttons of the table's head have no boxes: a head that has any is not repeated on each sheet.
 
 /// The head, and the start of the body.
 pub fn head() -> &'static str {
@@ -71,6 +72,7 @@ tr:target,section:target h3{outline:2px solid var(--link)}
 .order{color:var(--dim);max-width:none}
 .origin{color:var(--dim);margin-top:0}
 .errors{border:2px solid var(--off);border-radius:6px;padding:0 12px;color:var(--off)}
+@media (min-width:1200px){main{max-width:1240px}main>section:first-of-type .seen{gap:0 16px}main>section:first-of-type .wide{flex:2 1 0}main>section:first-of-type .wide:first-child{flex:3 1 0}main>section:first-of-type .wide:not(:focus) svg{max-width:100%;max-height:44vh;height:auto;cursor:zoom-in}main>section:first-of-type .wide:focus{flex:1 0 100%}main>section:first-of-type .seen::after{content:'Press a picture to enlarge it.';flex:1 0 100%;color:var(--dim)}}
 @media print{.fold tbody tr:nth-child(n+51):not(:target){display:table-row}th button{display:contents}*{-webkit-print-color-adjust:exact;print-color-adjust:exact}.wide{overflow:visible}.wide svg{max-width:100%;height:auto}.chart li{flex:1 1 0}table{font-size:.7em}th,td{padding:2px 5px}h2,h3{break-after:avoid}section .wide{break-inside:avoid-page}}
 </style>
 </head>

@@ -204,21 +204,34 @@ impl LaneVersions<'_> {
     }
 }
 
-/// Returns the values of the versions that are drawn.
-pub fn values_of(alloc: Global, segments: &[LaneSegment]) -> Result<Vec<i64>, AllocError> {
-    let mut values = Vec::new(alloc);
+/// Returns the values of the versions that are drawn, each with its version.
+pub fn versions_drawn(
+    alloc: Global,
+    segments: &[LaneSegment],
+) -> Result<Vec<(i64, usize)>, AllocError> {
+    let mut drawn = Vec::new(alloc);
+    let mut version = 0usize;
     for segment in segments {
-        push_values(&mut values, &segment.parts)?;
+        version = push_versions(&mut drawn, &segment.parts, version)?;
     }
-    Ok(values)
+    Ok(drawn)
 }
 
-/// Adds the values of the versions among some parts.
-fn push_values(values: &mut Vec<i64>, parts: &[LanePart]) -> Result<(), AllocError> {
+/// Adds the versions among some parts, of which the first begins with `version`, and returns the version after them.
+fn push_versions(
+    drawn: &mut Vec<(i64, usize)>,
+    parts: &[LanePart],
+    version: usize,
+) -> Result<usize, AllocError> {
+    let mut next = version;
     for part in parts {
-        if let LanePart::Version { value, .. } = part {
-            values.push(*value)?;
+        match part {
+            LanePart::Version { value, .. } => {
+                drawn.push((*value, next))?;
+                next = next.saturating_add(1);
+            }
+            LanePart::Several { versions, .. } => next = next.saturating_add(*versions),
         }
     }
-    Ok(())
+    Ok(next)
 }

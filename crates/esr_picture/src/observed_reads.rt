@@ -6,7 +6,7 @@ use crate::versions::Positions;
 use esr_cert::Chain;
 use esr_items::ItemId;
 use esr_report::name_of_transaction;
-use esr_svg::{TransientRead, TransientReads};
+use esr_svg::{SameValue, TransientRead, TransientReads};
 use esr_trace::{Audited, ObservedRead, QueryTrace, WriterEnd};
 use std::alloc::{AllocError, Global};
 
@@ -96,12 +96,34 @@ fn reason_not_installed(
     }
 }
 
+/// Returns the first of these versions of a chain that has a value.
+fn same_value<'a>(
+    audited_query: &Audited<'a>,
+    chain: &Chain,
+    versions: &[(i64, usize)],
+    value: i64,
+) -> Option<SameValue<'a>> {
+    let (_, version) = versions.iter().find(|(other, _)| *other == value)?;
+    let Some(index) = version.checked_sub(1) else {
+        return Some(SameValue::Opening);
+    };
+    let position = *chain.writers.get(index)?;
+    let update = *audited_query
+        .finding
+        .problem
+        .updates()
+        .get(position as usize)?;
+    let name = name_of_transaction(audited_query.transactions, update);
+    Some(SameValue::Update(name))
+}
+
 /// A value that was read of an item, if it did not stay.
 fn transient_read_of<'a>(
     audited_query: &Audited<'a>,
     trace: &QueryTrace,
     observed: &ObservedRead,
-    pieces: &[i64],
+    chain: &Chain,
+    versions: &[(i64, usize)],
 ) -> Option<TransientRead<'a>> {
     let reason = reason_not_installed(audited_query, trace, observed)?;
     let writer = observed.writer?;
@@ -109,28 +131,29 @@ fn transient_read_of<'a>(
         value: observed.value,
         writer: name_of_transaction(audited_query.transactions, writer),
         reason,
-        has_piece: pieces.contains(&observed.value),
+        same: same_value(audited_query, chain, versions, observed.value),
     })
 }
 
-/// The transient reads of an item, whose lane has pieces of these values.
+/// The transient reads of the item of a chain, whose lane has these versions.
 pub fn transient_reads_of<'a>(
     audited_query: &Audited<'a>,
     trace: &QueryTrace,
-    item: ItemId,
-    pieces: &[i64],
+    chain: &Chain,
+    versions: &[(i64, usize)],
 ) -> TransientReads<'a> {
     let mut transient_reads = TransientReads {
         first: None,
         more: 0,
     };
     for observed in &trace.observed_reads {
-        if observed.item == item
+        if observed.item == chain.item
             && let Some(transient_read) = transient_read_of(
                 audited_query,
                 trace,
                 observed,
-                pieces,
+                chain,
+                versions,
             )
         {
             transient_reads.add(transient_read);

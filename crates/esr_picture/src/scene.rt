@@ -4,7 +4,7 @@
 //! So a scene is built with the maximum number of updates, and if it is too wide, again with fewer.
 
 use crate::arrow_reduction::{Slots, arrows};
-use crate::lanes::{LaneVersions, reads_in, reads_of_values, values_of};
+use crate::lanes::{LaneVersions, reads_in, reads_of_values, versions_drawn};
 use crate::observed_reads::{read_counts_by_value, read_flags_by_version, transient_reads_of};
 use crate::selection::{Choice, choose};
 use crate::titles::{arrow_title, update_title};
@@ -176,14 +176,14 @@ impl<'a, 'b> SceneParts<'a, 'b> {
         let versions = self.source.versions(alloc, chain, at_line, self.reads)?;
         let segments = versions.segments(alloc, &self.slots)?;
         let counts = read_counts_by_value(alloc, self.source.trace, chain.item)?;
-        let values = values_of(alloc, &segments)?;
+        let drawn = versions_drawn(alloc, &segments)?;
         Ok(Lane {
             name: audited.items.name_of(chain.item.0).unwrap_or(""),
             weight: audited.history.metric().distance(chain.item, 0, 1),
             read: reads_in(alloc, &counts)?,
             off,
             segments,
-            transient_reads: transient_reads_of(audited, self.source.trace, chain.item, &values),
+            transient_reads: transient_reads_of(audited, self.source.trace, chain, &drawn),
         })
     }
 

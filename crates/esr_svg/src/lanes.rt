@@ -6,7 +6,7 @@ use crate::elements::{
 };
 use crate::frame::{BEFORE_TRANSIENT_READ, EDGE, Frame, TransientReadLines};
 use crate::parts::push_segment;
-use crate::scene::{Lane, LaneReads, Scene, TransientRead, TransientReads};
+use crate::scene::{Lane, LaneReads, SameValue, Scene, TransientRead, TransientReads};
 use crate::slots::slot_after;
 use esr_text::{push_number, push_value};
 use std::alloc::{AllocError, Global};
@@ -186,15 +186,18 @@ fn push_lanes(
     Ok(())
 }
 
-/// Appends the end of the text on a value that is not a version: at most 22 letters.
-fn push_ending(out: &mut String, has_piece: bool, more: usize) -> Result<(), AllocError> {
-    if has_piece {
-        return out.push_str("; it is above as well");
+/// Appends the end of the text on a value that is not a version, of at most as many letters as `ending_letters` says.
+fn push_ending(
+    out: &mut String,
+    same: Option<SameValue<'_>>,
+    more: usize,
+) -> Result<(), AllocError> {
+    match same {
+        Some(SameValue::Opening) => out.push_str("; same as the opening value"),
+        Some(SameValue::Update(update)) => write!(out, "; {update} wrote the same"),
+        None if more > 0 => write!(out, "; and {more} more"),
+        None => Ok(()),
     }
-    if more > 0 {
-        write!(out, "; and {more} more")?;
-    }
-    Ok(())
 }
 
 /// Appends the text on a value that is not a version.
@@ -220,7 +223,7 @@ fn push_transient_read(
     }
     out.push_str("which ")?;
     out.push_str(transient_read.reason)?;
-    push_ending(out, transient_read.has_piece, more)?;
+    push_ending(out, transient_read.same, more)?;
     out.push_str("</text>\n")
 }
 

@@ -20,8 +20,8 @@ mod widths;
 
 pub use frame::fitting_updates;
 pub use scene::{
-    Arrow, Lane, LanePart, LaneReads, LaneSegment, MAX_LANES, MAX_UPDATES, Scene, TransientRead,
-    TransientReads, Update,
+    Arrow, Lane, LanePart, LaneReads, LaneSegment, MAX_LANES, MAX_UPDATES, SameValue, Scene,
+    TransientRead, TransientReads, Update,
 };
 pub use svg::{Parts, parts_of};
 pub use texts::MAX_ERROR_LETTERS;

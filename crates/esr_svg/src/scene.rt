@@ -23,6 +23,15 @@ pub struct LaneReads {
     pub count: u64,
 }
 
+/// The version of an item that has the value of a transient read.
+#[derive(Clone, Copy)]
+pub enum SameValue<'a> {
+    /// The opening value.
+    Opening,
+    /// The version of this update.
+    Update(&'a str),
+}
+
 /// A value that was read and is not a version of its item.
 #[derive(Clone, Copy)]
 pub struct TransientRead<'a> {
@@ -30,8 +39,8 @@ pub struct TransientRead<'a> {
     pub writer: &'a str,
     /// The reason, as text that follows the writer's name.
     pub reason: &'static str,
-    /// True if a part of the lane has that value, written by another update.
-    pub has_piece: bool,
+    /// The first version that is a part of the lane and has that value.
+    pub same: Option<SameValue<'a>>,
 }
 
 /// The transient reads of a lane: the first, of those without a part if there is one, and the number of the others.
@@ -48,7 +57,7 @@ impl<'a> TransientReads<'a> {
             None => self.first = Some(transient_read),
             Some(first) => {
                 self.more = self.more.saturating_add(1);
-                if first.has_piece && !transient_read.has_piece {
+                if first.same.is_some() && transient_read.same.is_none() {
                     self.first = Some(transient_read);
                 }
             }

@@ -1,11 +1,8 @@
 //! The width of each text, which is known without measuring: names and numbers are in a font of one width, none wider
 //! than 0.61 of its height, and sentences in one whose letters are on average not wider than 0.64 of it.
 
-use crate::scene::{Lane, LanePart, LaneReads, LaneSegment, TransientReads, Update};
+use crate::scene::{Lane, LanePart, LaneReads, LaneSegment, SameValue, TransientReads, Update};
 use esr_text::{letters_of, number_letters};
-
-/// The maximum number of letters after the words on a value that is not a version.
-const MAX_ENDING: usize = 22;
 
 /// Returns the width of letters of a name, a value or a sentence.
 pub fn width_of(letters: usize) -> u32 {
@@ -134,6 +131,16 @@ pub struct TransientReadWidths {
     pub reason: u32,
 }
 
+/// Returns the maximum number of letters of the end of the text on a value that is not a version.
+fn ending_letters(same: Option<SameValue<'_>>, more: usize) -> usize {
+    match same {
+        Some(SameValue::Opening) => 27,
+        Some(SameValue::Update(update)) => update.len().saturating_add(17),
+        None if more > 0 => number_letters(more as u64).saturating_add(11),
+        None => 0,
+    }
+}
+
 /// Returns the widths of the text on the values of a lane that are not versions.
 pub fn transient_read_widths(transient_reads: &TransientReads<'_>) -> TransientReadWidths {
     let Some(transient_read) = transient_reads.first else {
@@ -142,11 +149,7 @@ pub fn transient_read_widths(transient_reads: &TransientReads<'_>) -> TransientR
             reason: 0,
         };
     };
-    let ending = if transient_read.has_piece || transient_reads.more > 0 {
-        MAX_ENDING
-    } else {
-        0
-    };
+    let ending = ending_letters(transient_read.same, transient_reads.more);
     let value = letters_of(transient_read.value)
         .saturating_add(transient_read.writer.len())
         .saturating_add(10);

@@ -1,5 +1,6 @@
 //! The charges between lanes, as a machine that replays the history makes them.
 
+use crate::causes::{Causes, ranking};
 use crate::lanes::lane_at;
 use crate::marks::line_at;
 use crate::model::{Arrow, Lane, Source};
@@ -30,6 +31,7 @@ impl Payers {
 /// Returns the arrow of a charge of an entry to the query of a lane.
 fn arrow_of<'a>(
     source: Source<'a>,
+    causes: &Causes,
     lanes: &[Lane<'a>],
     to: usize,
     place: usize,
@@ -44,6 +46,12 @@ fn arrow_of<'a>(
         item: source.items.name_of(charge.item.0).unwrap_or(""),
         weight: source.history.metric().distance(charge.item, 0, 1),
         amount: charge.amount,
+        explained: causes.explained(charge.update, charge.item),
+        writes_nearest: source
+            .history
+            .log()
+            .get(place)
+            .is_some_and(|entry| causes.writes_nearest(charge.update, entry.event)),
     }
 }
 
@@ -51,6 +59,7 @@ fn arrow_of<'a>(
 fn push_charges<'a>(
     arrows: &mut Vec<Arrow<'a>>,
     source: Source<'a>,
+    causes: &Causes,
     lanes: &[Lane<'a>],
     payers: Payers,
     place: usize,
@@ -60,7 +69,7 @@ fn push_charges<'a>(
         if payers.contain(charge.query)
             && let Some(to) = lane_at(lanes, charge.query)
         {
-            arrows.push(arrow_of(source, lanes, to, place, charge))?;
+            arrows.push(arrow_of(source, causes, lanes, to, place, charge))?;
         }
     }
     Ok(())
@@ -80,6 +89,7 @@ fn count_entries(source: Source<'_>, payers: Payers) -> usize {
 pub fn charges_to<'a>(
     alloc: Global,
     source: Source<'a>,
+    causes: &Causes,
     lanes: &[Lane<'a>],
     payers: Payers,
 ) -> Result<Vec<Arrow<'a>>, AllocError> {
@@ -87,7 +97,7 @@ pub fn charges_to<'a>(
     let mut charges = Charges::new(alloc, source.history)?;
     for place in 0..count_entries(source, payers) {
         let charges = charges.step(alloc)?;
-        push_charges(&mut arrows, source, lanes, payers, place, &charges)?;
+        push_charges(&mut arrows, source, causes, lanes, payers, place, &charges)?;
     }
     Ok(arrows)
 }
@@ -133,19 +143,14 @@ pub fn sum_of(arrows: &[Arrow<'_>]) -> u64 {
     sum
 }
 
-/// Returns the greatest of some charges, at most `upper_bound`, in the order of their entries.
+/// Returns the first charges of the ranking, at most `upper_bound`, in the order of their entries.
 pub fn greatest<'a>(
     alloc: Global,
     arrows: &[Arrow<'a>],
     upper_bound: usize,
 ) -> Result<Vec<Arrow<'a>>, AllocError> {
-    let mut ranks = Vec::new(alloc);
-    for (index, arrow) in arrows.iter().enumerate() {
-        ranks.push((u64::MAX.saturating_sub(arrow.amount), index))?;
-    }
-    ranks.sort_unstable();
-    ranks.truncate(upper_bound);
-    let mut kept: Vec<usize> = ranks.iter().map(|rank| rank.1).collect(alloc)?;
+    let mut kept = ranking(alloc, arrows)?;
+    kept.truncate(upper_bound);
     kept.sort_unstable();
     let mut greatest = Vec::new(alloc);
     for index in &kept {

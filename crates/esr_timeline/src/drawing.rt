@@ -11,7 +11,7 @@ use crate::fit::Picture;
 use crate::layout::{Column, EDGE, Layout};
 use crate::legend::{legend_height, push_legend};
 use crate::limits::push_limit;
-use crate::model::{Action, Arrow, Cause, Lane, LaneEnd, Rest, Scene};
+use crate::model::{Action, Arrow, Cause, Lane, LaneEnd, Order, Rest, Scene};
 use crate::titles::{push_charge_title, push_mark_title};
 use esr_history::MAX_LIMIT;
 use esr_text::{first, number_letters, push_count, push_number, push_value, wrap};
@@ -92,6 +92,17 @@ fn push_rest(out: &mut String, rest: Rest) -> Result<(), AllocError> {
     out.push('.')
 }
 
+/// Returns the sentence on the charges that are drawn if there is no space for all.
+fn order_sentence(order: Order) -> &'static str {
+    match order {
+        Order::Explaining => {
+            " Drawn first: the charges that explain the reads that are off, beginning with the farthest read; then the largest others."
+        }
+        Order::Largest => " Drawn: the largest charges.",
+        Order::ByTransaction => "",
+    }
+}
+
 /// Returns a charge of each item with a weight, of the charges that are drawn.
 fn weighted<'a>(alloc: Global, arrows: &[Arrow<'a>]) -> Result<Vec<Arrow<'a>>, AllocError> {
     let mut weighted: Vec<Arrow<'a>> = Vec::new(alloc);
@@ -121,10 +132,34 @@ fn push_weights(out: &mut String, weighted: &[Arrow<'_>]) -> Result<(), AllocErr
     Ok(())
 }
 
+/// Returns whether a read or a write is drawn without a label.
+fn has_unlabelled(columns: &[Column<'_>]) -> bool {
+    columns
+        .iter()
+        .any(|column| !column.has_label && !column.mark.item.is_empty())
+}
+
+/// Appends what is not drawn, which charges are drawn first, and what labels are left out.
+fn push_omissions(
+    out: &mut String,
+    scene: &Scene<'_>,
+    columns: &[Column<'_>],
+) -> Result<(), AllocError> {
+    push_rest(out, scene.rest)?;
+    if scene.rest.charges > 0 {
+        out.push_str(order_sentence(scene.order))?;
+    }
+    if has_unlabelled(columns) {
+        out.push_str(" Reads and writes without a label made none of these charges.")?;
+    }
+    Ok(())
+}
+
 /// Returns the sentences below the heading: the lines with errors, what is not drawn, and the weights.
 fn sentences_of(
     alloc: Global,
     scene: &Scene<'_>,
+    columns: &[Column<'_>],
     errors: u64,
     width: u32,
 ) -> Result<Vec<String>, AllocError> {
@@ -144,7 +179,7 @@ fn sentences_of(
         wrap(alloc, &mut lines, letters, &words)?;
     }
     let mut others = String::new(alloc);
-    push_rest(&mut others, scene.rest)?;
+    push_omissions(&mut others, scene, columns)?;
     if !others.is_empty() {
         wrap(alloc, &mut lines, letters, &others)?;
     }
@@ -564,7 +599,7 @@ fn push_labels(
     if !column.has_label || column.mark.item.is_empty() {
         return Ok(());
     }
-    let y = top.saturating_add(10);
+    let y = top.saturating_add(7);
     push_centred(out, "lb ha", column.x, y, column.mark.item)?;
     push_value_label(out, lane, column, top)
 }
@@ -654,7 +689,8 @@ pub fn parts_of(
     errors: u64,
 ) -> Result<Parts, AllocError> {
     let width = picture.layout.right.saturating_add(EDGE).max(NARROWEST);
-    let sentences = sentences_of(alloc, &picture.scene, errors, width)?;
+    let columns = &picture.layout.columns;
+    let sentences = sentences_of(alloc, &picture.scene, columns, errors, width)?;
     let lines = sentences.len().min(100) as u32;
     picture.layout.heading = lines.saturating_mul(SENTENCE).saturating_add(48);
     let legend = legend_height(&picture.scene, &picture.layout, width);

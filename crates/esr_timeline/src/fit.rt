@@ -1,12 +1,13 @@
 //! Fits a timeline into the maximum width. It is built with all events, and as long as it is too wide, with fewer:
-//! first without the labels of events on which no charge depends, then without these events, then with the largest
-//! charges only.
+//! first without the labels of events on which no charge depends, then without these events, then with the first charges
+//! of a ranking only (`causes`).
 
+use crate::causes::Causes;
 use crate::charges::{Payers, between, charges_to, drawable, greatest, sum_of};
 use crate::lanes::{MAX_LANES, concerned, farthest, first_begun, lanes_of};
 use crate::layout::{Layout, Spacing, layout_of};
-use crate::marks::{keys_of, mark_keys, marks_of, marks_on};
-use crate::model::{Arrow, Lane, Mark, Rest, Scene, Source};
+use crate::marks::{keys_of, mark_keys, mark_query_reads, marks_of, marks_on};
+use crate::model::{Arrow, Lane, Mark, Order, Rest, Scene, Source};
 use esr_history::TxnId;
 use esr_report::name_of_transaction;
 use esr_text::first;
@@ -26,7 +27,7 @@ enum Detail {
     All,
     /// The events that charges depend on, and blocked ones.
     Keys,
-    /// The events that the greatest charges depend on, at most this many.
+    /// The events that the first charges of the ranking depend on, at most this many.
     Greatest(usize),
     /// The first events, at most this many.
     First(usize),
@@ -49,6 +50,11 @@ const CLOSE: Spacing = Spacing {
     pitch: 22,
 };
 
+const SNUG: Spacing = Spacing {
+    has_all_labels: true,
+    pitch: 14,
+};
+
 const LOOSE: Spacing = Spacing {
     has_all_labels: false,
     pitch: 22,
@@ -60,7 +66,7 @@ const TIGHT: Spacing = Spacing {
 };
 
 /// The stages of a whole script.
-static WHOLE: [Stage; 3] = [
+static WHOLE: [Stage; 4] = [
     Stage {
         detail: Detail::All,
         spacing: WIDE,
@@ -68,6 +74,10 @@ static WHOLE: [Stage; 3] = [
     Stage {
         detail: Detail::All,
         spacing: CLOSE,
+    },
+    Stage {
+        detail: Detail::All,
+        spacing: SNUG,
     },
     Stage {
         detail: Detail::All,
@@ -76,7 +86,7 @@ static WHOLE: [Stage; 3] = [
 ];
 
 /// The stages of one query.
-static ONE: [Stage; 14] = [
+static ONE: [Stage; 22] = [
     Stage {
         detail: Detail::All,
         spacing: WIDE,
@@ -84,6 +94,10 @@ static ONE: [Stage; 14] = [
     Stage {
         detail: Detail::All,
         spacing: CLOSE,
+    },
+    Stage {
+        detail: Detail::All,
+        spacing: SNUG,
     },
     Stage {
         detail: Detail::All,
@@ -102,7 +116,15 @@ static ONE: [Stage; 14] = [
         spacing: TIGHT,
     },
     Stage {
+        detail: Detail::Greatest(30),
+        spacing: TIGHT,
+    },
+    Stage {
         detail: Detail::Greatest(24),
+        spacing: TIGHT,
+    },
+    Stage {
+        detail: Detail::Greatest(20),
         spacing: TIGHT,
     },
     Stage {
@@ -110,7 +132,15 @@ static ONE: [Stage; 14] = [
         spacing: TIGHT,
     },
     Stage {
+        detail: Detail::Greatest(13),
+        spacing: TIGHT,
+    },
+    Stage {
         detail: Detail::Greatest(11),
+        spacing: TIGHT,
+    },
+    Stage {
+        detail: Detail::Greatest(9),
         spacing: TIGHT,
     },
     Stage {
@@ -118,7 +148,19 @@ static ONE: [Stage; 14] = [
         spacing: TIGHT,
     },
     Stage {
+        detail: Detail::Greatest(6),
+        spacing: TIGHT,
+    },
+    Stage {
+        detail: Detail::Greatest(5),
+        spacing: TIGHT,
+    },
+    Stage {
         detail: Detail::Greatest(4),
+        spacing: TIGHT,
+    },
+    Stage {
+        detail: Detail::Greatest(3),
         spacing: TIGHT,
     },
     Stage {
@@ -254,6 +296,9 @@ impl<'a> Material<'a> {
         let has_blocked =
             !matches!(stage.detail, Detail::Greatest(upper_bound) if upper_bound < 16);
         mark_keys(&mut all, &arrows, has_blocked);
+        if stage.detail == Detail::All {
+            mark_query_reads(&mut all, &lanes);
+        }
         let marks = drawn_marks(alloc, &all, stage.detail)?;
         let arrows = shown(alloc, &arrows, &marks)?;
         let layout = layout_of(alloc, &lanes, &marks, &arrows, stage.spacing)?;
@@ -265,9 +310,21 @@ impl<'a> Material<'a> {
             lanes,
             arrows,
             all_charges,
+            order: self.order(),
             rest,
         };
         Ok(Picture { scene, layout })
+    }
+
+    /// Returns which charges are drawn first.
+    fn order(&self) -> Order {
+        if self.query.is_none() {
+            Order::ByTransaction
+        } else if self.charges.iter().any(|arrow| arrow.explained > 0) {
+            Order::Explaining
+        } else {
+            Order::Largest
+        }
     }
 
     /// Returns the name of the query that the timeline is about.
@@ -341,9 +398,12 @@ pub fn timeline_of_query<'a>(
     query: TxnId,
     trace: &QueryTrace,
 ) -> Result<Picture<'a>, AllocError> {
-    let chosen = concerned(alloc, source, query, trace)?;
+    let causes = Causes::of(alloc, source, query, trace)?;
+    let own = lanes_of(alloc, source, &[query])?;
+    let all = charges_to(alloc, source, &causes, &own, Payers::One(query))?;
+    let chosen = concerned(alloc, source, query, trace, &all)?;
     let lanes = lanes_of(alloc, source, &chosen)?;
-    let charges = charges_to(alloc, source, &lanes, Payers::One(query))?;
+    let charges = between(alloc, &all, &own, &lanes)?;
     let marks = marks_of(alloc, source, &lanes)?;
     let material = Material {
         source,
@@ -363,7 +423,7 @@ fn timeline_of_first<'a>(
 ) -> Result<Picture<'a>, AllocError> {
     let chosen = first_begun(alloc, source, MAX_LANES)?;
     let lanes = lanes_of(alloc, source, &chosen)?;
-    let charges = charges_to(alloc, source, &lanes, Payers::All)?;
+    let charges = charges_to(alloc, source, &Causes::none(alloc), &lanes, Payers::All)?;
     let marks = marks_of(alloc, source, &lanes)?;
     let material = Material {
         source,

@@ -2,7 +2,8 @@
 
 ghost use Rattle.esr_order.specs.Index.{IsWholeIndexOf};
 
-use crate::model::{Lane, LaneEnd, Source};
+use crate::causes::ranking;
+use crate::model::{Arrow, Lane, LaneEnd, Source};
 use esr_audit::{AuditError, CommitLists, audit_query, audit_query_by_index, commit_lists};
 use esr_history::{Entry, Event, History, Refusal, Reply, TxnId};
 use esr_items::Weighted;
@@ -102,16 +103,35 @@ fn push_charged(
     Ok(())
 }
 
-/// Returns the query and the transactions that concern it, in the order of their begins: the updates that it was charged by, the
-/// transactions that blocked it or that it blocked, and the writers of the values that it read.
+/// Adds the updates whose charges explain the reads that are off, the greatest distance first.
+fn push_causes(
+    alloc: Global,
+    chosen: &mut Vec<TxnId>,
+    arrows: &[Arrow<'_>],
+) -> Result<(), AllocError> {
+    for index in &ranking(alloc, arrows)? {
+        if let Some(arrow) = arrows.get(*index)
+            && arrow.explained > 0
+        {
+            push_new(chosen, arrow.update, MAX_LANES)?;
+        }
+    }
+    Ok(())
+}
+
+/// Returns the query and the transactions that concern it, in the order of their begins: the updates whose charges
+/// explain the reads that are off, the other updates that it was charged by, the transactions that blocked it or that it
+/// blocked, and the writers of the values that it read.
 pub fn concerned(
     alloc: Global,
     source: Source<'_>,
     query: TxnId,
     trace: &QueryTrace,
+    arrows: &[Arrow<'_>],
 ) -> Result<Vec<TxnId>, AllocError> {
     let mut chosen = Vec::new(alloc);
     chosen.push(query)?;
+    push_causes(alloc, &mut chosen, arrows)?;
     push_charged(alloc, &mut chosen, trace)?;
     push_opponents(&mut chosen, source, query)?;
     push_writers(&mut chosen, trace)?;

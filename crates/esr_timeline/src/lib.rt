@@ -6,10 +6,11 @@
 //! execution. Its charges are those of a machine that replays the history (`esr_trace_events`), and its events are the
 //! entries of the history. For a long script it shows one query and the transactions that affect it. The width of each
 //! text is computed in advance, and `layout` places the columns so that no two texts overlap. If the picture becomes too
-//! wide, `fit` omits labels, then events, then charges. The contract specifies only that the result is one well-formed
+//! wide, `fit` omits labels, then events, then charges; those that explain the reads that are off remain longest. The contract specifies only that the result is one well-formed
 //! element; `checks/pictures` compares the drawing with a replay.
 #![tactic(auto)]
 
+mod causes;
 mod charges;
 mod drawing;
 mod elements;

@@ -268,9 +268,65 @@ fn mark_blocked(marks: &mut [Mark<'_>], has_blocked: bool) {
     }
 }
 
-/// Marks the events that these charges depend on, and the blocked ones if they are to be drawn.
+/// Returns the index of the last write of an item before an entry, if it wrote this value.
+fn write_before(marks: &[Mark<'_>], item: &str, place: usize, value: i64) -> Option<usize> {
+    let mut found = None;
+    for (index, mark) in marks.iter().enumerate() {
+        if mark.place < place
+            && mark.item == item
+            && let Action::Write { value: written } = mark.action
+        {
+            found = (written == value).then_some(index);
+        }
+    }
+    found
+}
+
+/// Returns the write of the value of a read that is off.
+fn write_of(marks: &[Mark<'_>], read: &Mark<'_>) -> Option<usize> {
+    match read.action {
+        Action::Read {
+            value,
+            nearest: Some(_),
+        } => write_before(marks, read.item, read.place, value),
+        _ => None,
+    }
+}
+
+/// Marks a read and the write of its value.
+fn mark_pair(marks: &mut [Mark<'_>], read: usize, write: usize) {
+    if let Some(mark) = marks.get_mut(read) {
+        mark.is_key = true;
+    }
+    if let Some(mark) = marks.get_mut(write) {
+        mark.is_key = true;
+    }
+}
+
+/// Marks the reads that are off and whose value was written on a lane that is drawn, with these writes.
+fn mark_off_reads(marks: &mut [Mark<'_>]) {
+    for index in 0..marks.len() {
+        if let Some(write) = marks.get(index).and_then(|read| write_of(marks, read)) {
+            mark_pair(marks, index, write);
+        }
+    }
+}
+
+/// Marks the reads of queries.
+pub fn mark_query_reads(marks: &mut [Mark<'_>], lanes: &[Lane<'_>]) {
+    for mark in marks {
+        let is_query = lanes.get(mark.lane).is_some_and(|lane| lane.is_query);
+        if is_query && matches!(mark.action, Action::Read { .. }) {
+            mark.is_key = true;
+        }
+    }
+}
+
+/// Marks the events that these charges depend on, the reads that are off and whose writers are drawn, and the blocked
+/// events if they are to be drawn.
 pub fn mark_keys(marks: &mut [Mark<'_>], arrows: &[Arrow<'_>], has_blocked: bool) {
     mark_blocked(marks, has_blocked);
+    mark_off_reads(marks);
     for arrow in arrows {
         mark_charge(marks, arrow);
     }

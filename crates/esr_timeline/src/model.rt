@@ -99,6 +99,21 @@ pub struct Arrow<'a> {
     /// The factor of differences of the item.
     pub weight: u64,
     pub amount: u64,
+    /// The greatest distance of an item whose reads the charge explains, or 0.
+    pub explained: u64,
+    /// True if it is for a write of the value that the item has in the nearest placement.
+    pub writes_nearest: bool,
+}
+
+/// Which charges are drawn first if there is no space for all.
+#[derive(Clone, Copy, PartialEq, Eq)]
+pub enum Order {
+    /// Those that explain the reads that are off, and then the largest.
+    Explaining,
+    /// The largest.
+    Largest,
+    /// Those of the transactions that are drawn.
+    ByTransaction,
 }
 
 /// The numbers of transactions, events and charges that are not drawn.
@@ -121,5 +136,6 @@ pub struct Scene<'a> {
     pub arrows: Vec<Arrow<'a>>,
     /// All charges to the queries that are drawn, for the bars of their limits.
     pub all_charges: Vec<Arrow<'a>>,
+    pub order: Order,
     pub rest: Rest,
 }

@@ -152,7 +152,7 @@ fn values_that_were_undone_are_described(rt: HostRuntime) {
         ">read 6 of v,</text>",
         ">which overwrote it</text>",
         ">3 x 2</text>",
-        ">which aborted; it is above as well</text>",
+        ">which aborted; same as the opening value</text>",
     ];
     has(
         &rt,
