@@ -3,7 +3,7 @@
 
 ghost use Rattle.std.specs.Prelude.{◌≡◌};
 ghost use Rattle.esr_audit.specs.declared.finding.AuditError.TheVariants.{NoMemory};
-ghost use Rattle.esr_audit.specs.Findings.{refusal_of, seen_summary, summary};
+ghost use Rattle.esr_audit.specs.Findings.{refusal_of};
 
 use crate::ranges::TxnList;
 use esr_cert::{Certificate, Problem};
@@ -44,30 +44,6 @@ pub struct Summary {
     /// The smallest set of updates before the position of a placement of that
     /// distance, in commit order.
     pub before: TxnList,
-}
-
-impl From<Finding> for Summary {
-    ghost from_gives = { λ f s. seen_summary s ≡ summary f };
-
-    fn from(finding: Finding) -> Summary {
-        let Finding {
-            query,
-            distance,
-            import,
-            before,
-            problem,
-            certificate,
-        } = finding;
-        // the memory of these is reused for the summary
-        drop(problem);
-        drop(certificate);
-        Summary {
-            query,
-            distance,
-            import,
-            before: TxnList::of(before),
-        }
-    }
 }
 
 /// The result of auditing a history.

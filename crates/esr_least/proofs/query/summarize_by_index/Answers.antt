@@ -1,7 +1,6 @@
 use Rattle.std.proofs.Common.{◌∙◌, sym}
 use Rattle.esr_least.proofs.Found.{is_of_finding}
 use Rattle.esr_least.proofs.Stays.{from_now}
-use Rattle.esr_least.proofs.query.summarize_by_index.Given.{Over}
 use Rattle.esr_least.proofs.query.summarize_by_index.Goals as goal
 
 pub returns-in-Ok-Some-clause-stays : goal.returns-in-Ok-Some-clause-stays
