@@ -1,13 +1,14 @@
 //! Draws the execution of a script as a timeline in SVG: a lane for each transaction, a mark for each read, write and
-//! blocked event, an arrow for each charge from the update to the report, and below the lane of the report a bar that
-//! fills up to its limit.
+//! blocked event, an arrow from the update to the report for each charge, and below the lane of the report a bar for the
+//! used part of its limit.
 //!
 //! The picture of an audit (`esr_picture`) shows a serial order and has no time axis. A timeline shows the order of
 //! execution. Its charges are those of a machine that replays the history (`esr_trace_events`), and its events are the
 //! entries of the history. For a long script it shows one query and the transactions that affect it. The width of each
 //! text is computed in advance, and `layout` places the columns so that no two texts overlap. If the picture becomes too
-//! wide, `fit` omits labels, then events, then charges; those that explain the reads that are off remain longest. The contract specifies only that the result is one well-formed
-//! element; `checks/pictures` compares the drawing with a replay.
+//! wide, `fit` omits labels, then events, then charges; the charges that explain the distance are omitted last
+//! (`causes`). The contract specifies only that the result is one well-formed element; `checks/pictures` compares the
+//! drawing with a replay.
 #![tactic(auto)]
 
 mod causes;
