@@ -12,7 +12,7 @@ use crate::layout::{Column, EDGE, Layout};
 use crate::legend::{legend_height, push_legend};
 use crate::limits::push_limit;
 use crate::model::{Action, Arrow, Cause, Lane, LaneEnd, Order, Rest, Scene};
-use crate::titles::{push_charge_title, push_mark_title};
+use crate::titles::{kind_of, push_charge_title, push_mark_title};
 use esr_history::MAX_LIMIT;
 use esr_text::{first, number_letters, push_count, push_number, push_value, wrap};
 use std::alloc::{AllocError, Global};
@@ -299,8 +299,7 @@ fn push_heading(
 /// Appends the name of a transaction with its kind, its limit and its charges, in front of its lane.
 fn push_lane_head(out: &mut String, lane: &Lane<'_>, top: u32) -> Result<(), AllocError> {
     push_text(out, "nm", EDGE, top.saturating_add(20), lane.name)?;
-    let kind = if lane.is_query { "query" } else { "update" };
-    push_text(out, "lb gy", EDGE, top.saturating_add(34), kind)?;
+    push_text(out, "lb gy", EDGE, top.saturating_add(34), kind_of(lane))?;
     open_text(out, "lb gy", EDGE, top.saturating_add(47))?;
     if lane.limit >= MAX_LIMIT {
         out.push_str("no limit")?;

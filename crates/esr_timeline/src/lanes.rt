@@ -265,6 +265,7 @@ fn lane_of<'a>(alloc: Global, source: Source<'a>, txn: TxnId) -> Result<Lane<'a>
         txn,
         name: name_of_transaction(source.transactions, txn),
         is_query,
+        is_strict: false,
         limit: facts.map_or(0, |facts| facts.limit),
         charged: if is_query {
             source.history.import(txn)
@@ -273,6 +274,21 @@ fn lane_of<'a>(alloc: Global, source: Source<'a>, txn: TxnId) -> Result<Lane<'a>
         },
         end: end_of(alloc, source, txn)?,
     })
+}
+
+/// Marks the lanes of strict queries: only the begin of a query shows that it is strict.
+fn mark_strict(source: Source<'_>, lanes: &mut [Lane<'_>]) {
+    let log = source.history.log();
+    for place in 0..log.len() {
+        if let Some(entry) = log.get(place)
+            && let Event::BeginQuery { strict: true, .. } = entry.event
+            && let Reply::Begun(txn) = entry.reply
+            && let Some(index) = lane_at(lanes, txn)
+            && let Some(lane) = lanes.get_mut(index)
+        {
+            lane.is_strict = true;
+        }
+    }
 }
 
 /// Returns the lanes of some transactions.
@@ -285,6 +301,7 @@ pub fn lanes_of<'a>(
     for txn in chosen {
         lanes.push(lane_of(alloc, source, *txn)?)?;
     }
+    mark_strict(source, &mut lanes);
     Ok(lanes)
 }
 

@@ -5,6 +5,7 @@
 //! labels of two lanes cannot overlap.
 
 use crate::model::{Action, Arrow, Lane, LaneEnd, Mark};
+use crate::titles::kind_of;
 use esr_history::MAX_LIMIT;
 use esr_text::{letters_of, number_letters};
 use std::alloc::{AllocError, Global};
@@ -95,7 +96,7 @@ fn head_width(lane: &Lane<'_>) -> u32 {
     };
     let charged = number_letters(lane.charged).saturating_add(8);
     let name = (lane.name.len().min(100) as u32).saturating_mul(NAME_LETTER);
-    width_of(limit.max(charged)).max(name)
+    width_of(limit.max(charged).max(kind_of(lane).len())).max(name)
 }
 
 /// Returns the width of the texts in front of the lanes.

@@ -31,6 +31,7 @@ pub struct Lane<'a> {
     pub txn: TxnId,
     pub name: &'a str,
     pub is_query: bool,
+    pub is_strict: bool,
     pub limit: u64,
     /// The import of a query.
     pub charged: u64,

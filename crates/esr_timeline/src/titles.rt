@@ -43,9 +43,13 @@ fn push_blocked(
     Ok(())
 }
 
-/// Returns what a transaction is.
-fn kind_of(lane: &Lane<'_>) -> &'static str {
-    if lane.is_query { "query" } else { "update" }
+/// Returns the name of the kind of a transaction.
+pub fn kind_of(lane: &Lane<'_>) -> &'static str {
+    match (lane.is_query, lane.is_strict) {
+        (false, _) => "update",
+        (true, false) => "query",
+        (true, true) => "strict query",
+    }
 }
 
 /// Appends the value of the item in the nearest placement, if a read is off.
