@@ -276,6 +276,13 @@ fn lane_of<'a>(alloc: Global, source: Source<'a>, txn: TxnId) -> Result<Lane<'a>
     })
 }
 
+/// Marks the lane at an index as that of a strict query.
+fn mark_strict_at(lanes: &mut [Lane<'_>], index: usize) {
+    if let Some(lane) = lanes.get_mut(index) {
+        lane.is_strict = true;
+    }
+}
+
 /// Marks the lanes of strict queries: only the begin of a query shows that it is strict.
 fn mark_strict(source: Source<'_>, lanes: &mut [Lane<'_>]) {
     let log = source.history.log();
@@ -284,9 +291,8 @@ fn mark_strict(source: Source<'_>, lanes: &mut [Lane<'_>]) {
             && let Event::BeginQuery { strict: true, .. } = entry.event
             && let Reply::Begun(txn) = entry.reply
             && let Some(index) = lane_at(lanes, txn)
-            && let Some(lane) = lanes.get_mut(index)
         {
-            lane.is_strict = true;
+            mark_strict_at(lanes, index);
         }
     }
 }

@@ -293,14 +293,17 @@ fn write_of(marks: &[Mark<'_>], read: &Mark<'_>) -> Option<usize> {
     }
 }
 
+/// Marks the event at an index.
+fn mark_at(marks: &mut [Mark<'_>], index: usize) {
+    if let Some(mark) = marks.get_mut(index) {
+        mark.is_key = true;
+    }
+}
+
 /// Marks a read and the write of its value.
 fn mark_pair(marks: &mut [Mark<'_>], read: usize, write: usize) {
-    if let Some(mark) = marks.get_mut(read) {
-        mark.is_key = true;
-    }
-    if let Some(mark) = marks.get_mut(write) {
-        mark.is_key = true;
-    }
+    mark_at(marks, read);
+    mark_at(marks, write);
 }
 
 /// Marks the reads that are off and whose value was written on a lane that is drawn, with these writes.
@@ -312,12 +315,20 @@ fn mark_off_reads(marks: &mut [Mark<'_>]) {
     }
 }
 
+/// Returns whether a mark is a read of a query.
+fn is_query_read(mark: &Mark<'_>, lanes: &[Lane<'_>]) -> bool {
+    let is_query = lanes.get(mark.lane).is_some_and(|lane| lane.is_query);
+    is_query && matches!(mark.action, Action::Read { .. })
+}
+
 /// Marks the reads of queries.
 pub fn mark_query_reads(marks: &mut [Mark<'_>], lanes: &[Lane<'_>]) {
-    for mark in marks {
-        let is_query = lanes.get(mark.lane).is_some_and(|lane| lane.is_query);
-        if is_query && matches!(mark.action, Action::Read { .. }) {
-            mark.is_key = true;
+    for index in 0..marks.len() {
+        if marks
+            .get(index)
+            .is_some_and(|mark| is_query_read(mark, lanes))
+        {
+            mark_at(marks, index);
         }
     }
 }
