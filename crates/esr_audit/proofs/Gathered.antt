@@ -1,7 +1,6 @@
 -- Costs and chains gathered one after another.
-use Rattle.std.proofs.Common.{◌≡◌, ℕ, ℤ, pos, refl, ◌+◌, ◌<◌, ◌≤◌, Bool, true, false, cond, ◌||◌, List, [], ◌∷◌, ◌++◌, length, take, get_or, map, filter, arith, ap, ◌∙◌, sym, subst, inl, inr, zero, suc, set, Vec, Global, w64, FitsSigned, append-nil, eqb, eq-eqb, ne_eqb, get_or-set_same, get_or-set_other}
+use Rattle.std.proofs.Common.{◌≡◌, ℕ, ℤ, pos, refl, ◌+◌, ◌<◌, ◌≤◌, Bool, true, false, cond, ◌||◌, List, [], ◌∷◌, ◌++◌, length, take, get_or, map, filter, arith, ap, ◌∙◌, sym, subst, inl, inr, set, Vec, Global, append-nil, eqb, eq-eqb, ne_eqb, get_or-set_same, get_or-set_other}
 use Rattle.std.specs.List.{list_any, range_with_len, AllByRecursion}
-use Rattle.std.proofs.lemmas.Int.{ints}
 use Rattle.std.proofs.lemmas.Bool.{cases_eq}
 use Rattle.std.proofs.lemmas.List.{take_more, map-append, map-set, get_or-map, length-map}
 use Rattle.esr_history.proofs.Charges.{range-push}

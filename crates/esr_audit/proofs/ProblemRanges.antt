@@ -1,19 +1,15 @@
 -- The problem gathered from an order of a query of a legal history is within the ranges of problems.
-use Rattle.std.proofs.Common.{◌≡◌, ℕ, zero, suc, ℤ, ◌+◌, ◌*◌, ◌^◌, ◌<◌, ◌≤◌, Bool, true, false, cond, not, ◌&&◌, eqb, List, [], ◌∷◌, ◌++◌, length, filter, map, flat_map, take, sum_by, count_by, refl, sym, ap, ◌∙◌, subst, inl, inr, arith, Option, Some, None, All, Contains, IsTrue, nat_lt, nat_le, is_some, unwrap_or, slice_get, option_map}
-use Rattle.std.specs.List.{list_all, list_any, filter_map, cons_option, range_with_len, AllByRecursion, before_first}
+use Rattle.std.proofs.Common.{◌≡◌, ℕ, zero, suc, ℤ, ◌+◌, ◌*◌, ◌^◌, ◌<◌, ◌≤◌, Bool, true, false, cond, not, ◌&&◌, eqb, List, [], ◌∷◌, ◌++◌, length, filter, map, flat_map, take, sum_by, refl, sym, ap, ◌∙◌, subst, inl, inr, arith, Option, Some, None, All, Contains, IsTrue, nat_lt, nat_le, is_some, unwrap_or, slice_get, option_map}
+use Rattle.std.specs.List.{list_all, list_any, range_with_len, AllByRecursion, before_first}
 use Rattle.std.proofs.lemmas.Bool.{and_from, true≢false, lt-ltb, le-leb, eq-eqb}
 use Rattle.std.proofs.lemmas.List.{length-map}
 use Rattle.std.proofs.lemmas.List.Sums.{sum_by-cons, sum_by-le, sum_by-le-sum_by}
 use Rattle.std.proofs.lemmas.List.Elements.{All-contains, All-from_recursion, recursion_from_All}
 use Rattle.esr_items.specs.Values.{value_at, IsValue}
 use Rattle.esr_base.specs.declared.numbers.TxnId.{TxnId}
-use Rattle.esr_history.specs.declared.event.Event.{Event}
-use Rattle.esr_history.specs.declared.event.Event.TheVariants.{BeginUpdate, BeginQuery, Read, Write, Commit, Abort}
-use Rattle.esr_history.specs.declared.event.Reply.{Reply}
-use Rattle.esr_history.specs.declared.event.Entry.{Entry}
-use Rattle.esr_history.specs.Events.{BeginRecord, begin_records, is_query, is_update, is_refusal, reads_any, total_read_count, last_value}
+use Rattle.esr_history.specs.Events.{BeginRecord, begin_records, is_query, is_update, last_value}
 use Rattle.esr_history.specs.Machine.{DistanceFunction, Schedule, IsLegal, accepted_in, value_distance}
-use Rattle.esr_history.specs.Operations.{Operation, operations, operation_by, operation_of, answer, commit_order}
+use Rattle.esr_history.specs.Operations.{Operation, operations, commit_order}
 use Rattle.esr_history.specs.Ranges.{IsWithinRanges}
 use Rattle.esr_history.specs.Serial.{is_before, state, values_by}
 use Rattle.esr_history.specs.Queries.{updates_of, reads_by}

@@ -1,7 +1,6 @@
 -- The data that an audit gathers: the values that a query read, and their distances from the versions of an item.
-use Rattle.std.specs.Prelude.{ℕ, ℤ, ◌==◌, List, [], ◌∷◌, Option, Some, None, Vec, filter, map, slice_index_or, sum_by}
+use Rattle.std.specs.Prelude.{ℕ, ℤ, ◌==◌, List, [], ◌∷◌, Option, Some, None, filter, map}
 use Rattle.std.specs.List.{list_any, range_with_len}
-use Rattle.std.specs.declared.alloc.Global.{Global}
 use Rattle.esr_items.specs.Values.{value_at}
 use Rattle.esr_history.specs.Operations.{Operation}
 use Rattle.esr_order.specs.declared.accesses.Access.{Access}

@@ -58,7 +58,7 @@ fn certify(alloc: Global, problem: &Problem) -> Result<Certificate, NoMemory>
 
 /// Returns a certificate of the problem, with its smallest closed set of least cost. It contains the number of
 /// augmentations along shortest paths that led to its flow.
-pub fn certify_with_steps(alloc: Global, problem: &Problem) -> Result<Certificate, NoMemory>
+pub fn certify_with_augmentations(alloc: Global, problem: &Problem) -> Result<Certificate, NoMemory>
     ensures certifies { IfOk result (λ c. Certifies problem.now (certificate_of c)) }
     ensures least { IfOk result (λ c. IsSmallestLeast problem.now (in_set c.set.items)) }
     ensures counted { IfOk result (λ c. IsCounted problem.now (certificate_of c)) }
@@ -68,7 +68,7 @@ pub fn certify_with_steps(alloc: Global, problem: &Problem) -> Result<Certificat
 }
 
 /// Returns the finding of a query, given the order of its relevant updates.
-fn find<M: Metric>(
+fn finding_of<M: Metric>(
     alloc: Global,
     history: &History<M>,
     order: Order,
@@ -112,14 +112,14 @@ pub fn audit_query<M: Metric>(
     ensures finding { IfOk result (IsFindingOf M.distance_by history.now.schedule q.0) }
     ensures refused { IsErrOf result AuditError.NotACommittedQuery
         ↔ (is_committed_query history.now.schedule q.0 ≡ false) }
-    ensures workers { ¬ IsErrOf result AuditError.WorkersOutOfRange }
+    ensures no_worker_error { ¬ IsErrOf result AuditError.WorkersOutOfRange }
     ensures stays { IfOk result (λ f. (rest : List Entry) → IsLegal M.distance_by (along history.now.schedule rest)
         → IsAnswer M.distance_by (along history.now.schedule rest) q.0 f.distance f.import
         (map (λ t. t.0) f.before.items)) }
 {
     let _invariant = history.log(); // brings the invariant into the proof
     let order = Order::relevant(alloc, history, q)?;
-    Ok(find(alloc, history, order, q)?)
+    Ok(finding_of(alloc, history, order, q)?)
 }
 
 /// Like `audit_query`, for a caller that has the list of committed transactions in commit order, which can be reused
@@ -127,7 +127,7 @@ pub fn audit_query<M: Metric>(
 ///
 /// # Errors
 /// Those of `audit_query`.
-pub fn audit_query_in<M: Metric>(
+pub fn audit_query_with_commits<M: Metric>(
     alloc: Global,
     history: &History<M>,
     committed: &[TxnId],
@@ -138,10 +138,10 @@ pub fn audit_query_in<M: Metric>(
     ensures finding { IfOk result (IsFindingOf M.distance_by history.now.schedule q.0) }
     ensures refused { IsErrOf result AuditError.NotACommittedQuery
         ↔ (is_committed_query history.now.schedule q.0 ≡ false) }
-    ensures workers { ¬ IsErrOf result AuditError.WorkersOutOfRange }
+    ensures no_worker_error { ¬ IsErrOf result AuditError.WorkersOutOfRange }
 {
     let order = Order::relevant_in(alloc, history, committed, q)?;
-    Ok(find(alloc, history, order, q)?)
+    Ok(finding_of(alloc, history, order, q)?)
 }
 
 /// Like `audit_query`, for a caller that keeps an index of the whole history, so that the accesses of updates are not
@@ -149,7 +149,7 @@ pub fn audit_query_in<M: Metric>(
 ///
 /// # Errors
 /// Those of `audit_query`.
-pub fn audit_query_by_index<M: Metric>(
+pub fn audit_query_with_index<M: Metric>(
     alloc: Global,
     history: &History<M>,
     index: &Index,
@@ -160,27 +160,27 @@ pub fn audit_query_by_index<M: Metric>(
     ensures finding { IfOk result (IsFindingOf M.distance_by history.now.schedule q.0) }
     ensures refused { IsErrOf result AuditError.NotACommittedQuery
         ↔ (is_committed_query history.now.schedule q.0 ≡ false) }
-    ensures workers { ¬ IsErrOf result AuditError.WorkersOutOfRange }
+    ensures no_worker_error { ¬ IsErrOf result AuditError.WorkersOutOfRange }
 {
     let order = Order::relevant_by_index(alloc, history, index, q)?;
-    Ok(find(alloc, history, order, q)?)
+    Ok(finding_of(alloc, history, order, q)?)
 }
 
 /// Audits a committed query, given the list of all committed transactions.
-fn find_committed<M: Metric>(
+fn finding_of_committed<M: Metric>(
     alloc: Global,
     history: &History<M>,
     committed: &[TxnId],
     q: TxnId,
 ) -> Result<Finding, AuditError>
-    requires list { map (λ t. t.0) committed.now ≡ commit_order (accepted_in history.now.schedule) }
-    requires query { IsTrue (is_committed_query history.now.schedule q.0) }
+    requires in_commit_order { map (λ t. t.0) committed.now ≡ commit_order (accepted_in history.now.schedule) }
+    requires committed { IsTrue (is_committed_query history.now.schedule q.0) }
     ensures query { IfOk result (λ f. f.query ≡ q) }
     ensures finding { IfOk result (IsFindingOf M.distance_by history.now.schedule q.0) }
     ensures err { IfErr result (λ e. e ≡ AuditError.NoMemory) }
 {
     let relevant = Order::relevant_in(alloc, history, committed, q)?;
-    Ok(find(alloc, history, relevant, q)?)
+    Ok(finding_of(alloc, history, relevant, q)?)
 }
 
 /// Audits each of these committed queries, given the list of all committed transactions.
@@ -190,15 +190,15 @@ fn findings_of<M: Metric>(
     committed: &[TxnId],
     queries: &[TxnId],
 ) -> Result<Vec<Finding>, AuditError>
-    requires list { map (λ t. t.0) committed.now ≡ commit_order (accepted_in history.now.schedule) }
-    requires queries { All (λ t. IsTrue (is_committed_query history.now.schedule t.0)) queries.now }
+    requires in_commit_order { map (λ t. t.0) committed.now ≡ commit_order (accepted_in history.now.schedule) }
+    requires committed_queries { All (λ t. IsTrue (is_committed_query history.now.schedule t.0)) queries.now }
     ensures queries { IfOk result (λ v. map (λ f. f.query) v.items ≡ queries.now) }
     ensures findings { IfOk result (λ v. All (IsFinding M.distance_by history.now.schedule) v.items) }
     ensures err { IfErr result (λ e. e ≡ AuditError.NoMemory) }
 {
     let mut findings = Vec::new(alloc);
     for q in queries {
-        let finding = find_committed(alloc, history, committed, *q)?;
+        let finding = finding_of_committed(alloc, history, committed, *q)?;
         match findings.push(finding) {
             Ok(()) => {}
             Err(_) => return Err(AuditError::NoMemory),
@@ -225,7 +225,7 @@ fn book_of<M: Metric>(alloc: Global, history: &History<M>) -> Result<Book, Audit
 }
 
 /// States that a history is sound, which its type guarantees. Does nothing.
-pub fn history_is_sound<M: Metric>(history: &History<M>)
+pub fn prove_sound<M: Metric>(history: &History<M>)
     ensures { IsSound M.distance_by history.now.schedule }
 {
     let _invariant = history.log(); // brings the invariant into the proof
@@ -248,6 +248,6 @@ pub fn audit_history<M: Metric>(alloc: Global, history: &History<M>) -> Result<B
         → All (λ f. IsAnswer M.distance_by (along history.now.schedule rest) f.query.0 f.distance f.import
         (map (λ t. t.0) f.before.items)) b.findings.items) }
 {
-    history_is_sound(history);
+    prove_sound(history);
     book_of(alloc, history)
 }

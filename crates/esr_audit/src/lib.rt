@@ -14,8 +14,8 @@ mod ranges;
 mod reads;
 
 pub use audit::{
-    audit_history, audit_query, audit_query_by_index, audit_query_in, certify_with_steps,
-    history_is_sound,
+    audit_history, audit_query, audit_query_with_commits, audit_query_with_index,
+    certify_with_augmentations, prove_sound,
 };
 pub use commits::{CommitLists, commit_lists};
 pub use finding::{AuditError, Book, Finding, Summaries, Summary};

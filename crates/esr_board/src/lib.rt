@@ -1,8 +1,8 @@
 //! The parallel audit: a board assigns each job to exactly one of several worker threads.
 //!
-//! A claim is one `fetch_add` and takes no lock. Its signature has no bound that permits waiting, so the
-//! compiler rejects a body that takes a lock. The findings are proved to equal those of one thread, for any number of
-//! workers and any schedule.
+//! A claim is one `fetch_add` and takes no lock. Its signature lacks the bound `Wait`, so the compiler rejects a body that
+//! waits for a lock. It is proved that a parallel audit returns what an audit by one thread returns, for any number of
+//! workers and any schedule: the same summaries, and findings that differ at most in the flows of their certificates.
 #![tactic(auto)]
 
 mod board;

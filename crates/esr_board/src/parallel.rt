@@ -1,12 +1,12 @@
 //! Audits a whole history with several workers.
 //!
-//! A board hands out one job for each committed query. Each worker keeps a result `T` (`AuditResult`) of each audit: the
-//! finding for a book, or a summary. All functions up to `pages_by` are generic in `T`, and their contracts use the
-//! relation of a result to a finding, `keeps`.
+//! A board assigns one job for each committed query. Each worker stores a result `T` (`AuditResult`) of each audit: a
+//! finding or a summary. All functions up to `pages_by` are generic in `T`, and their contracts use `keeps`, the relation
+//! between a finding and a result that agrees with it.
 //!
-//! Workers share only the history, its index and the word of the board. Each result is stored at the index of its job,
-//! so the book is in the order of the jobs. The workers are joined and return all seats, so the board always closes:
-//! `unreachable!()` states that, and is proved; no fallback audit is needed.
+//! Workers share only the history, its index and the counter of the board. Each result is stored at the index of its job,
+//! so the results are in the order of the jobs. The main thread joins all workers and takes their seats back, so the board
+//! always closes: `unreachable!()` states that, and is proved.
 
 ghost use Rattle.std.specs.Prelude.{◌≡◌, ℕ, ◌<◌, ◌≤◌, ◌↔◌, ◌⊎◌, [], length, map, All, IfOk, IfErr, List, vec_len, slice_index_or, slice_set, Some, None};
 ghost use Rattle.std.specs.List.{AllZip};
@@ -27,7 +27,7 @@ use crate::board::{Board, BoardError, BoardSeat, MAX_SEATS};
 use crate::gate::Gate;
 use crate::result::AuditResult;
 use crate::worker::{Share, Worked, take_turns};
-use esr_audit::{AuditError, Book, CommitLists, Summaries, commit_lists, history_is_sound};
+use esr_audit::{AuditError, Book, CommitLists, Summaries, commit_lists, prove_sound};
 use esr_history::{History, TxnId};
 use esr_items::Metric;
 use esr_order::Index;
@@ -278,7 +278,7 @@ pub fn audit_parallel<M: Metric + Sync, R: Threads + Sync, G: Gate + Sync>(
         → All (λ f. IsAnswer M.distance_by (along history.now.schedule rest) f.query.0 f.distance f.import
         (map (λ t. t.0) f.before.items)) b.findings.items) }
 {
-    history_is_sound(history);
+    prove_sound(history);
     match pages_by(rt, alloc, history, workers, gate) {
         Ok(Pages { order, kept }) => Ok(Book {
             order,
@@ -308,7 +308,7 @@ pub fn summarize_parallel<M: Metric + Sync, R: Threads + Sync, G: Gate + Sync>(
         → All (λ s. IsAnswer M.distance_by (along history.now.schedule rest) s.query.0 s.distance s.import
         (listed s.before)) b.summaries.items) }
 {
-    history_is_sound(history);
+    prove_sound(history);
     match pages_by(rt, alloc, history, workers, gate) {
         Ok(Pages { order, kept }) => Ok(Summaries {
             order,

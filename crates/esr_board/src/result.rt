@@ -1,7 +1,7 @@
-//! The results of audits that workers keep: findings, or summaries.
+//! The results of audits that workers store: findings, or summaries.
 //!
-//! A finding needs the problem of its query. A summary says what a finding says, and may be computed without a problem
-//! (`esr_least`), so a worker that keeps summaries asks for no finding.
+//! A finding contains the problem of its query and a certificate. A summary has the distance, the import and the set
+//! alone, and can be computed without a problem (`esr_least`). So a worker that stores summaries computes no finding.
 
 ghost use Rattle.std.specs.Prelude.{◌≡◌, ◌↔◌, IfOk, IsErrOf, false};
 ghost use Rattle.esr_history.specs.Queries.{is_committed_query};
@@ -9,7 +9,7 @@ ghost use Rattle.esr_order.specs.Index.{IsWholeIndexOf};
 ghost use Rattle.esr_audit.specs.Findings.{seen_summary, summary};
 ghost use Rattle.esr_board.specs.Shares.{IsKeptOf};
 
-use esr_audit::{AuditError, Finding, Summary, audit_query_by_index};
+use esr_audit::{AuditError, Finding, Summary, audit_query_with_index};
 use esr_history::{History, TxnId};
 use esr_items::Metric;
 use esr_least::summarize_by_index;
@@ -39,7 +39,7 @@ pub trait AuditResult<M: Metric>: Drop {
         ensures kept { IfOk result (IsKeptOf keeps M.distance_by history.now.schedule q) }
         ensures refused { IsErrOf result AuditError.NotACommittedQuery
             ↔ (is_committed_query history.now.schedule q.0 ≡ false) }
-        ensures workers { ¬ IsErrOf result AuditError.WorkersOutOfRange };
+        ensures no_worker_error { ¬ IsErrOf result AuditError.WorkersOutOfRange };
 }
 
 impl<M: Metric> AuditResult<M> for Finding {
@@ -51,7 +51,7 @@ impl<M: Metric> AuditResult<M> for Finding {
         index: &Index,
         q: TxnId,
     ) -> Result<Finding, AuditError> {
-        audit_query_by_index(alloc, history, index, q)
+        audit_query_with_index(alloc, history, index, q)
     }
 }
 

@@ -6,8 +6,8 @@ use Rattle.std.proofs.lemmas.List.Elements.{filter-append}
 use Rattle.std.proofs.lemmas.List.Sums.{sum_by-append}
 use Rattle.esr_cert.specs.Network.{arc_at, network, Arc}
 use Rattle.esr_cert.specs.Flow.{amount_at, carried, inflow, outflow, is_conserved_at, is_conserved}
-use Rattle.esr_cert.specs.Steps.{start, ResidualArc, Forward, Backward}
-use Rattle.esr_cert.specs.Rows.{first_steps, steps_from, row_of}
+use Rattle.esr_cert.specs.ResidualArcs.{start, ResidualArc, Forward, Backward}
+use Rattle.esr_cert.specs.Rows.{residual_arcs_below, steps_from, row_of}
 use Rattle.esr_cert.specs.Balance.{amount_in, amount_out, is_balanced}
 use Rattle.esr_cert.proofs.Cut.{pick, pick_zero}
 use Rattle.esr_cert.specs.Problem.{Problem, size}
@@ -29,20 +29,20 @@ module _ (arcs : List Arc) (flow : List ℕ) (same : length flow ≡ length arcs
       go true = omega arith
       go false = refl
 
-  sums : (f : ResidualArc → ℕ) (q : Arc → Bool) → Agree f q → (n : ℕ) → n ≤ length arcs → sum_by f (steps_from arcs v (first_steps n)) ≡ carried q (take n arcs) (take n flow)
+  sums : (f : ResidualArc → ℕ) (q : Arc → Bool) → Agree f q → (n : ℕ) → n ≤ length arcs → sum_by f (steps_from arcs v (residual_arcs_below n)) ≡ carried q (take n arcs) (take n flow)
   sums f q agree zero l = refl
   sums f q agree (suc n) l =
-      let split : steps_from arcs v (first_steps (suc n)) ≡ steps_from arcs v (first_steps n) ++ steps_from arcs v (Forward n ∷ []) ++ steps_from arcs v (Backward n ∷ []) =
-      filter-append (λ step. eqb (start arcs step) v) (first_steps n) (Forward n ∷ Backward n ∷ [])
-      ∙ ap (λ xs. steps_from arcs v (first_steps n) ++ xs) (filter-append (λ step. eqb (start arcs step) v) (Forward n ∷ []) (Backward n ∷ []))
-      ∙ sym (append_assoc (steps_from arcs v (first_steps n)) (steps_from arcs v (Forward n ∷ [])) (steps_from arcs v (Backward n ∷ []))) in
+      let split : steps_from arcs v (residual_arcs_below (suc n)) ≡ steps_from arcs v (residual_arcs_below n) ++ steps_from arcs v (Forward n ∷ []) ++ steps_from arcs v (Backward n ∷ []) =
+      filter-append (λ step. eqb (start arcs step) v) (residual_arcs_below n) (Forward n ∷ Backward n ∷ [])
+      ∙ ap (λ xs. steps_from arcs v (residual_arcs_below n) ++ xs) (filter-append (λ step. eqb (start arcs step) v) (Forward n ∷ []) (Backward n ∷ []))
+      ∙ sym (append_assoc (steps_from arcs v (residual_arcs_below n)) (steps_from arcs v (Forward n ∷ [])) (steps_from arcs v (Backward n ∷ []))) in
       let more_arcs : take (suc n) arcs ≡ take n arcs ++ arc_at arcs n ∷ [] = ap (λ m. take m arcs) (sym (add-one n)) ∙ take_more arcs n (record { from = 0; to = 0; capacity = Some 0 }) (omega arith) in
       let more_flow : take (suc n) flow ≡ take n flow ++ amount_at flow n ∷ [] = ap (λ m. take m flow) (sym (add-one n)) ∙ take_more flow n 0 (omega arith) in
       omega (
         arith,
         ap (sum_by f) split,
-        sum_by-append f (steps_from arcs v (first_steps n) ++ steps_from arcs v (Forward n ∷ [])) (steps_from arcs v (Backward n ∷ [])),
-        sum_by-append f (steps_from arcs v (first_steps n)) (steps_from arcs v (Forward n ∷ [])),
+        sum_by-append f (steps_from arcs v (residual_arcs_below n) ++ steps_from arcs v (Forward n ∷ [])) (steps_from arcs v (Backward n ∷ [])),
+        sum_by-append f (steps_from arcs v (residual_arcs_below n)) (steps_from arcs v (Forward n ∷ [])),
         one_step f (Forward n),
         one_step f (Backward n),
         agree n,

@@ -4,7 +4,7 @@ use Rattle.std.proofs.lemmas.Bool.{and_parts, eqb-true}
 use Rattle.esr_cert.specs.Problem.{Problem, in_set, is_ascending, is_closed, cost, is_well_formed}
 use Rattle.esr_cert.specs.Network.{network}
 use Rattle.esr_cert.specs.Flow.{are_within, is_conserved, worth, IsFlow}
-use Rattle.esr_cert.specs.Certificate.{Certificate, amounts, is_known, are_rows_matched, is_within, worth_matches, is_count_in_bound, Certifies}
+use Rattle.esr_cert.specs.Certificate.{Certificate, amounts, is_set_in_range, are_rows_matched, is_within, worth_matches, is_count_in_bound, Certifies}
 use Rattle.esr_cert.specs.Faults.{Fault}
 use Rattle.esr_cert.proofs.Flows.{flow_facts}
 use Rattle.esr_cert.proofs.Sound.{facts}
@@ -29,7 +29,7 @@ matched p c h = let w : IsWithin p c = within_facts p c h in record { rows = w.r
 
 pub record IsFaultless (p : Problem) (c : Certificate) : Type 0 where
   pub ascending : is_ascending c.set ≡ true
-  pub known : is_known p c.set ≡ true
+  pub known : is_set_in_range p c.set ≡ true
   pub closed : is_closed p (in_set c.set) ≡ true
   pub within : is_within p c ≡ true
   pub conserved : is_conserved (network p) (amounts c) ≡ true
@@ -43,7 +43,7 @@ unless false f o h = cc
 pub faultless : (p : Problem) (c : Certificate) → Certifies p c → IsFaultless p c
 faultless p c h =
     let a = unless (is_ascending c.set) _ _ h in
-    let b = unless (is_known p c.set) _ _ a.1 in
+    let b = unless (is_set_in_range p c.set) _ _ a.1 in
     let d = unless (is_closed p (in_set c.set)) _ _ b.1 in
     let e = unless (is_within p c) _ _ d.1 in
     let f = unless (is_conserved (network p) (amounts c)) _ _ e.1 in

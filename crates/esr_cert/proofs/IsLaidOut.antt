@@ -5,9 +5,9 @@ use Rattle.std.proofs.lemmas.Bool.{cases_lt, ltb-true, ltb-false}
 use Rattle.std.proofs.lemmas.List.{get_or_default}
 use Rattle.esr_cert.specs.declared.rows.TheConstants.{MAX_ARCS}
 use Rattle.esr_cert.specs.Network.{arc_at, EndsAreNodes, Arc}
-use Rattle.esr_cert.specs.Steps.{arc_of, rank_of, start, step_at, AreOnce, ResidualArc, Forward, Backward}
-use Rattle.esr_cert.specs.Rows.{span_at, row_in, first_steps, steps_from, row_of, AreRows, AreSteps, Filled, IsLaidOut, lengthen, Span}
-use Rattle.esr_cert.proofs.StepsLaws.{first_next, has_steps}
+use Rattle.esr_cert.specs.ResidualArcs.{arc_of, rank_of, start, step_at, AreOnce, ResidualArc, Forward, Backward}
+use Rattle.esr_cert.specs.Rows.{span_at, row_in, residual_arcs_below, steps_from, row_of, AreRows, AreSteps, Filled, IsLaidOut, lengthen, Span}
+use Rattle.esr_cert.proofs.ResidualArcsLaws.{first_next, has_steps}
 use Rattle.esr_cert.proofs.RowsLaws.{row_length, at_row, filled_more, place_within, capacity_along, capacity_against, filled_all, step_with}
 
 pub laid_long : {arcs : List Arc} {node_count i : ℕ} {spans : List Span} {steps : List ResidualArc} → IsLaidOut arcs node_count i spans steps → length steps ≡ 2 * length arcs
@@ -27,36 +27,36 @@ module _ {arcs : List Arc} {node_count i : ℕ} {spans : List Span} {steps : Lis
   known_to : to < length h.degrees
   known_to = omega (arith, (ends i l).1, h.are.count)
 
-  capacity_from : length (steps_from arcs from (first_steps i)) < get_or h.degrees from 0
+  capacity_from : length (steps_from arcs from (residual_arcs_below i)) < get_or h.degrees from 0
   capacity_from = capacity_along arcs node_count h.degrees i from h.are l (ends i l).0 refl
 
-  capacity_to : length (steps_from arcs to (first_steps i ++ Forward i ∷ [])) < get_or h.degrees to 0
+  capacity_to : length (steps_from arcs to (residual_arcs_below i ++ Forward i ∷ [])) < get_or h.degrees to 0
   capacity_to = capacity_against arcs node_count h.degrees i to h.are l (ends i l).1 refl
 
   pub within_along : (span_at spans from).end < length steps
-  within_along = place_within arcs h.degrees (first_steps i) spans steps (Forward i) from refl known_from capacity_from h.filled
+  within_along = place_within arcs h.degrees (residual_arcs_below i) spans steps (Forward i) from refl known_from capacity_from h.filled
 
   module _ (spans_along : List Span) (steps_along : List ResidualArc) (e : spans_along ≡ lengthen spans from) (q : steps_along ≡ set steps (span_at spans from).end (Forward i)) where
-    filled_along : Filled arcs h.degrees (first_steps i ++ Forward i ∷ []) spans_along steps_along
+    filled_along : Filled arcs h.degrees (residual_arcs_below i ++ Forward i ∷ []) spans_along steps_along
     filled_along =
-        subst (λ list. Filled arcs h.degrees (first_steps i ++ Forward i ∷ []) list steps_along) (sym e)
-        (subst (Filled arcs h.degrees (first_steps i ++ Forward i ∷ []) (lengthen spans from)) (sym q)
-        (filled_more arcs h.degrees (first_steps i) spans steps (Forward i) from refl known_from capacity_from h.filled))
+        subst (λ list. Filled arcs h.degrees (residual_arcs_below i ++ Forward i ∷ []) list steps_along) (sym e)
+        (subst (Filled arcs h.degrees (residual_arcs_below i ++ Forward i ∷ []) (lengthen spans from)) (sym q)
+        (filled_more arcs h.degrees (residual_arcs_below i) spans steps (Forward i) from refl known_from capacity_from h.filled))
 
     pub within_against : (span_at spans_along to).end < length steps_along
-    within_against = place_within arcs h.degrees (first_steps i ++ Forward i ∷ []) spans_along steps_along (Backward i) to refl known_to capacity_to filled_along
+    within_against = place_within arcs h.degrees (residual_arcs_below i ++ Forward i ∷ []) spans_along steps_along (Backward i) to refl known_to capacity_to filled_along
 
-    filled_against : Filled arcs h.degrees (first_steps (i + 1)) (lengthen spans_along to) (set steps_along (span_at spans_along to).end (Backward i))
+    filled_against : Filled arcs h.degrees (residual_arcs_below (i + 1)) (lengthen spans_along to) (set steps_along (span_at spans_along to).end (Backward i))
     filled_against =
         subst (λ done. Filled arcs h.degrees done (lengthen spans_along to) (set steps_along (span_at spans_along to).end (Backward i))) (first_next i)
-        (filled_more arcs h.degrees (first_steps i ++ Forward i ∷ []) spans_along steps_along (Backward i) to refl known_to capacity_to filled_along)
+        (filled_more arcs h.degrees (residual_arcs_below i ++ Forward i ∷ []) spans_along steps_along (Backward i) to refl known_to capacity_to filled_along)
 
     pub laid_more : (spans_against : List Span) (steps_against : List ResidualArc) → spans_against ≡ lengthen spans_along to → steps_against ≡ set steps_along (span_at spans_along to).end (Backward i) → IsLaidOut arcs node_count (i + 1) spans_against steps_against
     laid_more spans_against steps_against u v = record {
       degrees = h.degrees;
       are = h.are;
-      filled = subst (λ list. Filled arcs h.degrees (first_steps (i + 1)) list steps_against) (sym u)
-          (subst (Filled arcs h.degrees (first_steps (i + 1)) (lengthen spans_along to)) (sym v) filled_against);
+      filled = subst (λ list. Filled arcs h.degrees (residual_arcs_below (i + 1)) list steps_against) (sym u)
+          (subst (Filled arcs h.degrees (residual_arcs_below (i + 1)) (lengthen spans_along to)) (sym v) filled_against);
     }
 
 pub laid_rows : {arcs : List Arc} {node_count i : ℕ} {spans : List Span} {steps : List ResidualArc} → i ≡ length arcs → IsLaidOut arcs node_count i spans steps → AreRows arcs node_count spans steps

@@ -11,11 +11,11 @@ pub mod Certified
 pub mod Steps
 pub mod Search
 pub mod Distinct
-pub mod StepsLaws
+pub mod ResidualArcsLaws
 pub mod RowsLaws
 pub mod IsLaidOut
 pub mod ArcsLaws
-pub mod LinksLaws
+pub mod ChainArcsLaws
 mod StartsLaws
 pub mod Balance
 mod Within

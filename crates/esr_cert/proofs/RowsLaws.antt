@@ -5,9 +5,9 @@ use Rattle.std.proofs.lemmas.List.Folds.{sum_by-replicate}
 use Rattle.std.proofs.lemmas.List.{length-replicate, get_or-replicate, get_or-take, get_or-drop, take-take, ext_get_or, length_push, get_or_read}
 use Rattle.std.proofs.lemmas.List.Sums.{sum_by_more, sum_by-take-le, sum_by-cons, sum_by_more_le, sum_by-set, get_or-le-sum_by}
 use Rattle.esr_cert.specs.Network.{arc_at, EndsAreNodes, Arc}
-use Rattle.esr_cert.specs.Steps.{start, step_at, ResidualArc, Forward, Backward}
-use Rattle.esr_cert.specs.Rows.{row_in, span_at, first_steps, steps_from, row_of, AreDegrees, AreRows, Counted, Filled, longer, Span}
-use Rattle.esr_cert.proofs.StepsLaws.{steps_here, steps_other, room_for, first_within, first_more, first_next, first_count, last_or_not, not_last, at_last}
+use Rattle.esr_cert.specs.ResidualArcs.{start, step_at, ResidualArc, Forward, Backward}
+use Rattle.esr_cert.specs.Rows.{row_in, span_at, residual_arcs_below, steps_from, row_of, AreDegrees, AreRows, Counted, Filled, longer, Span}
+use Rattle.esr_cert.proofs.ResidualArcsLaws.{steps_here, steps_other, room_for, first_within, first_more, first_next, first_count, last_or_not, not_last, at_last}
 
 pub row_length : {X : Type 0} (list : List X) (span : Span) → span.end ≤ length list → length (row_in list span) ≡ span.end - span.begin
 row_length list span l =
@@ -41,26 +41,26 @@ counted_none {arcs} {node_count} counts is = record {
 }
 
 -- the steps of an arc with these ends
-module _ {arcs : List Arc} {node_count : ℕ} (i : ℕ) {counts : List ℕ} {u x : ℕ} (ends : EndsAreNodes arcs node_count) (l : i < length arcs) (from : u ≡ (arc_at arcs i).from) (read : x ≡ get_or counts u x) (h : Counted arcs node_count (first_steps i) counts) where
+module _ {arcs : List Arc} {node_count : ℕ} (i : ℕ) {counts : List ℕ} {u x : ℕ} (ends : EndsAreNodes arcs node_count) (l : i < length arcs) (from : u ≡ (arc_at arcs i).from) (read : x ≡ get_or counts u x) (h : Counted arcs node_count (residual_arcs_below i) counts) where
   pub along_small : x ≤ 2 * i
   along_small = omega (arith, first_count i, counted_at {u = u} (omega (arith, (ends i l).0, from)) read h)
 
-  counted_along : Counted arcs node_count (first_steps i ++ Forward i ∷ []) (set counts u (x + 1))
+  counted_along : Counted arcs node_count (residual_arcs_below i ++ Forward i ∷ []) (set counts u (x + 1))
   counted_along = counted_more (Forward i) (sym from) (omega (arith, (ends i l).0, from)) read h
 
   module _ {w y : ℕ} (to : w ≡ (arc_at arcs i).to) (again : y ≡ get_or (set counts u (x + 1)) w y) where
     pub against_small : y ≤ 2 * i + 1
-    against_small = omega (arith, first_count i, length_push (first_steps i) (Forward i), counted_at {u = w} (omega (arith, (ends i l).1, to)) again counted_along)
+    against_small = omega (arith, first_count i, length_push (residual_arcs_below i) (Forward i), counted_at {u = w} (omega (arith, (ends i l).1, to)) again counted_along)
 
-    pub counted_arc : (k : ℕ) → k ≡ i + 1 → Counted arcs node_count (first_steps k) (set (set counts u (x + 1)) w (y + 1))
+    pub counted_arc : (k : ℕ) → k ≡ i + 1 → Counted arcs node_count (residual_arcs_below k) (set (set counts u (x + 1)) w (y + 1))
     counted_arc k next =
-        subst (λ n. Counted arcs node_count (first_steps n) (set (set counts u (x + 1)) w (y + 1))) (sym next)
+        subst (λ n. Counted arcs node_count (residual_arcs_below n) (set (set counts u (x + 1)) w (y + 1))) (sym next)
         (subst (λ done. Counted arcs node_count done (set (set counts u (x + 1)) w (y + 1))) (first_next i)
         (counted_more (Backward i) (sym to) (omega (arith, (ends i l).1, to)) again counted_along))
 
-pub counted_all : {arcs : List Arc} {node_count : ℕ} (i : ℕ) {counts : List ℕ} → i ≡ length arcs → Counted arcs node_count (first_steps i) counts → AreDegrees arcs node_count counts
+pub counted_all : {arcs : List Arc} {node_count : ℕ} (i : ℕ) {counts : List ℕ} → i ≡ length arcs → Counted arcs node_count (residual_arcs_below i) counts → AreDegrees arcs node_count counts
 counted_all {arcs} {node_count} i {counts} e h =
-    let all : Counted arcs node_count (first_steps (length arcs)) counts = subst (λ n. Counted arcs node_count (first_steps n) counts) e h in
+    let all : Counted arcs node_count (residual_arcs_below (length arcs)) counts = subst (λ n. Counted arcs node_count (residual_arcs_below n) counts) e h in
     record { count = all.count; degree = all.each; both = omega (arith, all.both, first_count (length arcs)) }
 
 -- a row ends before those after it begin
@@ -156,17 +156,17 @@ module _ (arcs : List Arc) (lengths : List ℕ) (done : List ResidualArc) (spans
   }
 
 -- a row has space for the steps of an arc that is not laid yet
-pub capacity_along : (arcs : List Arc) (node_count : ℕ) (degrees : List ℕ) (i u : ℕ) → AreDegrees arcs node_count degrees → i < length arcs → u < node_count → start arcs (Forward i) ≡ u → length (steps_from arcs u (first_steps i)) < get_or degrees u 0
+pub capacity_along : (arcs : List Arc) (node_count : ℕ) (degrees : List ℕ) (i u : ℕ) → AreDegrees arcs node_count degrees → i < length arcs → u < node_count → start arcs (Forward i) ≡ u → length (steps_from arcs u (residual_arcs_below i)) < get_or degrees u 0
 capacity_along arcs node_count degrees i u are l m e =
-    let here : length (steps_from arcs u (first_steps i)) < length (steps_from arcs u (first_steps (suc i))) = room_for arcs u (first_steps i) (Backward i ∷ []) (Forward i) e in
+    let here : length (steps_from arcs u (residual_arcs_below i)) < length (steps_from arcs u (residual_arcs_below (suc i))) = room_for arcs u (residual_arcs_below i) (Backward i ∷ []) (Forward i) e in
     omega (arith, here, first_within arcs u (suc i) (length arcs) (omega arith), are.degree u m)
 
-pub capacity_against : (arcs : List Arc) (node_count : ℕ) (degrees : List ℕ) (i u : ℕ) → AreDegrees arcs node_count degrees → i < length arcs → u < node_count → start arcs (Backward i) ≡ u → length (steps_from arcs u (first_steps i ++ Forward i ∷ [])) < get_or degrees u 0
+pub capacity_against : (arcs : List Arc) (node_count : ℕ) (degrees : List ℕ) (i u : ℕ) → AreDegrees arcs node_count degrees → i < length arcs → u < node_count → start arcs (Backward i) ≡ u → length (steps_from arcs u (residual_arcs_below i ++ Forward i ∷ [])) < get_or degrees u 0
 capacity_against arcs node_count degrees i u are l m e =
-    let here : length (steps_from arcs u (first_steps i ++ Forward i ∷ [])) < length (steps_from arcs u ((first_steps i ++ Forward i ∷ []) ++ Backward i ∷ [])) = room_for arcs u (first_steps i ++ Forward i ∷ []) [] (Backward i) e in
+    let here : length (steps_from arcs u (residual_arcs_below i ++ Forward i ∷ [])) < length (steps_from arcs u ((residual_arcs_below i ++ Forward i ∷ []) ++ Backward i ∷ [])) = room_for arcs u (residual_arcs_below i ++ Forward i ∷ []) [] (Backward i) e in
     omega (arith, here, ap (λ list. length (steps_from arcs u list)) (first_more i), first_within arcs u (suc i) (length arcs) (omega arith), are.degree u m)
 
-pub filled_all : (arcs : List Arc) (node_count : ℕ) (degrees : List ℕ) (spans : List Span) (steps : List ResidualArc) → AreDegrees arcs node_count degrees → Filled arcs degrees (first_steps (length arcs)) spans steps → AreRows arcs node_count spans steps
+pub filled_all : (arcs : List Arc) (node_count : ℕ) (degrees : List ℕ) (spans : List Span) (steps : List ResidualArc) → AreDegrees arcs node_count degrees → Filled arcs degrees (residual_arcs_below (length arcs)) spans steps → AreRows arcs node_count spans steps
 filled_all arcs node_count degrees spans steps are h = record {
   count = h.count ∙ are.count;
   ordered = λ v l. omega (arith, h.begin v (known v l), h.end v (known v l));
@@ -186,7 +186,7 @@ filled_all arcs node_count degrees spans steps are h = record {
     long v l = omega (arith, row_length steps (span_at spans v) (inside v l), h.begin v (known v l), h.end v (known v l))
 
 -- the row of a place of the filled list, and the step there
-pub step_with : (arcs : List Arc) (node_count : ℕ) (degrees : List ℕ) (spans : List Span) (steps : List ResidualArc) → AreDegrees arcs node_count degrees → Filled arcs degrees (first_steps (length arcs)) spans steps → (k : ℕ) → k < length steps
+pub step_with : (arcs : List Arc) (node_count : ℕ) (degrees : List ℕ) (spans : List Span) (steps : List ResidualArc) → AreDegrees arcs node_count degrees → Filled arcs degrees (residual_arcs_below (length arcs)) spans steps → (k : ℕ) → k < length steps
     → (v : ℕ) × (j : ℕ) × (v < length degrees) × (j < length (row_of arcs v)) × (sum (take v degrees) + j ≡ k) × (step_at steps k ≡ step_at (row_of arcs v) j)
 step_with arcs node_count degrees spans steps are h k l =
     let (v, a, b, c) = row_with degrees k (omega (arith, h.total)) in

@@ -9,7 +9,7 @@ use Rattle.esr_cert.specs.declared.problem.Chain as code
 use Rattle.esr_cert.specs.Problem.{Chain, Problem}
 use Rattle.esr_cert.specs.Views.{chain_view}
 use Rattle.esr_cert.specs.Certificate.{Certificate, are_rows_matched}
-use Rattle.esr_cert.specs.Starts.{starts_from, owners_from, joined, AreStarts}
+use Rattle.esr_cert.specs.Starts.{starts_from, arc_chains_from, joined, AreStarts}
 use Rattle.esr_cert.proofs.Sound.{here, there, IsProblem}
 use Rattle.esr_cert.proofs.Matched.{IsMatched, AreWhole, are_whole}
 
@@ -144,31 +144,31 @@ first_start : (m : ℕ) (chains : List Chain) → get_or (starts_from m chains) 
 first_start m [] = refl
 first_start m (chain ∷ chains) = refl
 
-owners_end : (k m : ℕ) (chains : List Chain) → get_or (starts_from m chains) (length chains) 0 ≡ m + length (owners_from k chains)
+owners_end : (k m : ℕ) (chains : List Chain) → get_or (starts_from m chains) (length chains) 0 ≡ m + length (arc_chains_from k chains)
 owners_end k m [] = omega arith
 owners_end k m (chain ∷ chains) =
-    omega (arith, owners_end (k + 1) (m + length chain.costs) chains, length-append (replicate (length chain.costs) k) (owners_from (k + 1) chains), length-replicate (length chain.costs) k)
+    omega (arith, owners_end (k + 1) (m + length chain.costs) chains, length-append (replicate (length chain.costs) k) (arc_chains_from (k + 1) chains), length-replicate (length chain.costs) k)
 
 -- the chain with a number has an arc
 pub record IsOwner (k m : ℕ) (chains : List Chain) (i : ℕ) : Type 0 where
   pub chain : ℕ
   pub inside : chain < length chains
-  pub is : get_or (owners_from k chains) i 0 ≡ k + chain
+  pub is : get_or (arc_chains_from k chains) i 0 ≡ k + chain
   pub begun : get_or (starts_from m chains) chain 0 ≤ m + i
   pub before : m + i < get_or (starts_from m chains) (suc chain) 0
 
-owner : (k m : ℕ) (chains : List Chain) (i : ℕ) → i < length (owners_from k chains) → IsOwner k m chains i
+owner : (k m : ℕ) (chains : List Chain) (i : ℕ) → i < length (arc_chains_from k chains) → IsOwner k m chains i
 owner k m [] i l = absurd (omega arith)
 owner k m (chain ∷ chains) i l =
     let n : ℕ = length chain.costs in
     let long : length (replicate n k) ≡ n = length-replicate n k in
-    let all : length (owners_from k (chain ∷ chains)) ≡ length (replicate n k) + length (owners_from (k + 1) chains) = length-append (replicate n k) (owners_from (k + 1) chains) in
-    let rest : i - n < length (owners_from (k + 1) chains) → IsOwner (k + 1) (m + n) chains (i - n) = owner (k + 1) (m + n) chains (i - n) in
+    let all : length (arc_chains_from k (chain ∷ chains)) ≡ length (replicate n k) + length (arc_chains_from (k + 1) chains) = length-append (replicate n k) (arc_chains_from (k + 1) chains) in
+    let rest : i - n < length (arc_chains_from (k + 1) chains) → IsOwner (k + 1) (m + n) chains (i - n) = owner (k + 1) (m + n) chains (i - n) in
     elim (cases_lt i n) [
       | inl here_is ↦ record {
         chain = 0;
         inside = omega arith;
-        is = omega (arith, get_or_append_left (replicate n k) (owners_from (k + 1) chains) 0 i (omega (arith, long)), get_or-replicate n i k 0 here_is);
+        is = omega (arith, get_or_append_left (replicate n k) (arc_chains_from (k + 1) chains) 0 i (omega (arith, long)), get_or-replicate n i k 0 here_is);
         begun = omega arith;
         before = omega (arith, first_start (m + n) chains);
       }
@@ -177,7 +177,7 @@ owner k m (chain ∷ chains) i l =
           record {
             chain = suc r.chain;
             inside = omega (arith, r.inside);
-            is = omega (arith, get_or-append_right (replicate n k) (owners_from (k + 1) chains) n i 0 long after, r.is);
+            is = omega (arith, get_or-append_right (replicate n k) (arc_chains_from (k + 1) chains) n i 0 long after, r.is);
             begun = omega (arith, r.begun);
             before = omega (arith, r.before);
           }
@@ -193,20 +193,20 @@ pub starts_long : (m : ℕ) (chains : List Chain) → length (starts_from m chai
 starts_long m [] = refl
 starts_long m (chain ∷ chains) = ap suc (starts_long (m + length chain.costs) chains)
 
-module _ (chains : List code.Chain) (starts owners : List ℕ) (number : ℕ) (s : starts ≡ starts_from 0 (map chain_view chains)) (o : owners ≡ owners_from 0 (map chain_view chains)) (early : number < get_or starts (length chains) 0) where
+module _ (chains : List code.Chain) (starts arc_chains : List ℕ) (number : ℕ) (s : starts ≡ starts_from 0 (map chain_view chains)) (o : arc_chains ≡ arc_chains_from 0 (map chain_view chains)) (early : number < get_or starts (length chains) 0) where
   abbrev all : List Chain
   all = map chain_view chains
 
   same_count : length all ≡ length chains
   same_count = length-map chains chain_view
 
-  in_all : number < length (owners_from 0 all)
+  in_all : number < length (arc_chains_from 0 all)
   in_all = omega (arith, owners_end 0 0 all, ap (λ list. get_or list (length chains) 0) s, ap (λ n. get_or (starts_from 0 all) n 0) same_count, early)
 
-  pub has_owner : number < length owners
+  pub has_owner : number < length arc_chains
   has_owner = omega (arith, in_all, ap length o)
 
-  pub owner_row : (k : ℕ) → k ≡ get_or owners number 0 → IsRow starts number k
+  pub owner_row : (k : ℕ) → k ≡ get_or arc_chains number 0 → IsRow starts number k
   owner_row k is =
       let r : IsOwner 0 0 all number = owner 0 0 all number in_all in
       let at : k ≡ r.chain = omega (arith, is, ap (λ list. get_or list number 0) o, r.is) in

@@ -5,7 +5,7 @@ use Rattle.std.proofs.lemmas.List.{drop_more, length-map, get_or-map}
 use Rattle.std.specs.List.{list_all, list_any}
 use Rattle.std.proofs.lemmas.List.Sums.{sum_by_more}
 use Rattle.std.proofs.lemmas.Bool.{or_left, or_right, or_from}
-use Rattle.esr_cert.specs.Parts.{is_row_within, are_rows_within}
+use Rattle.esr_cert.specs.Capacities.{is_row_within, are_rows_within}
 use Rattle.esr_cert.specs.Problem.{Chain, is_ascending, version, pair_lt, are_pairs_ascending, are_linked}
 
 pub ascending_yes : (xs : List ℕ) (i j : ℕ) → j ≡ i + 1 → j < length xs → get_or xs i 0 < get_or xs j 0 → is_ascending (drop i xs) ≡ is_ascending (drop j xs)

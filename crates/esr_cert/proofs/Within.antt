@@ -6,7 +6,7 @@ use Rattle.esr_cert.specs.Problem.{Chain, Problem, size}
 use Rattle.esr_cert.specs.Network.{Arc, path_arcs, arcs_of_chain, predecessor_arc, must_arc, arcs_of_chains, predecessor_arcs, must_arcs, network}
 use Rattle.esr_cert.specs.Flow.{within, are_within}
 use Rattle.esr_cert.specs.Certificate.{Certificate, amounts, are_rows_matched, is_within}
-use Rattle.esr_cert.specs.Parts.{is_row_within, are_rows_within}
+use Rattle.esr_cert.specs.Capacities.{is_row_within, are_rows_within}
 use Rattle.esr_cert.proofs.Sound.{IsProblem}
 use Rattle.esr_cert.proofs.Distinct.{same_tests}
 use Rattle.esr_cert.proofs.Certified.{IsWithin, within_facts}

@@ -8,7 +8,7 @@ use Rattle.esr_cert.specs.Certificate.{Certificate, amounts, fault}
 use Rattle.esr_cert.specs.Rows.{row_of}
 use Rattle.esr_cert.specs.Starts.{starts_from}
 use Rattle.esr_cert.specs.Balance.{is_balanced}
-use Rattle.esr_cert.specs.Steps.{Forward, Backward}
+use Rattle.esr_cert.specs.ResidualArcs.{Forward, Backward}
 use Rattle.esr_cert.specs.Faults.{SetNotAscending, UnknownUpdate, SetNotClosed, OverCapacity, NotConserved, WorthNotCost, TooManyAugmentations}
 
 -- two updates in a row, and two items that a query read: the second wrote both, the first one of them

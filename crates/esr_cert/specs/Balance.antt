@@ -1,6 +1,6 @@
 -- Whether a flow is conserved at a node, by the steps that start there.
 use Rattle.std.specs.Prelude.{ℕ, List, Bool, ◌==◌, sum_by}
-use Rattle.esr_cert.specs.Steps.{ResidualArc, Forward, Backward}
+use Rattle.esr_cert.specs.ResidualArcs.{ResidualArc, Forward, Backward}
 use Rattle.esr_cert.specs.Flow.{amount_at}
 
 -- the amount that enters a node on the arc of a step that starts there

@@ -21,8 +21,8 @@ amounts c = concat c.chain_flow ++ c.back_flow ++ c.must_flow
 
 -- ---- the tests, each the absence of one fault
 
-abbrev pub is_known : Problem → List ℕ → Bool
-is_known p set = list_all (λ u. nat_lt u (size p)) set
+abbrev pub is_set_in_range : Problem → List ℕ → Bool
+is_set_in_range p set = list_all (λ u. nat_lt u (size p)) set
 
 -- one row for each chain, as long as its costs
 abbrev pub are_rows_matched : List Chain → List (List ℕ) → Bool
@@ -49,7 +49,7 @@ is_count_in_bound p (Some count) = nat_le count ((network p).node_count * length
 abbrev pub fault : Problem → Certificate → Option Fault
 fault p c =
     if not (is_ascending c.set) then Some SetNotAscending else (
-    if not (is_known p c.set) then Some UnknownUpdate else (
+    if not (is_set_in_range p c.set) then Some UnknownUpdate else (
     if not (is_closed p (in_set c.set)) then Some SetNotClosed else (
     if not (is_within p c) then Some OverCapacity else (
     if not (is_conserved (network p) (amounts c)) then Some NotConserved else (

@@ -1,5 +1,5 @@
 -- Problems, networks, flows and cuts in the textbook's terms, and the conditions on a certificate. `Views`, `Drafts`,
--- `Rows`, `Starts` and `Links` define how contracts see the lists that contain them.
+-- `Rows`, `Starts` and `ChainArcs` define how contracts see the lists that contain them.
 
 pub mod Problem
 pub mod Network
@@ -8,11 +8,11 @@ pub mod Cut
 pub mod Certificate
 pub mod Views
 pub mod Drafts
-pub mod Steps
+pub mod ResidualArcs
 pub mod PackedArcs
 pub mod Rows
 pub mod Starts
-pub mod Links
+pub mod ChainArcs
 pub mod Balance
 pub mod Faults
-pub mod Parts
+pub mod Capacities

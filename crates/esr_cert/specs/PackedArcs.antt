@@ -1,7 +1,7 @@
 -- Steps as numbers: below 2^31 the arc of a step along it, and from there on that of a step against it.
 use Rattle.std.proofs.Common.{ap, ◌∙◌, inl, inr, arith, cond, ◌≡◌, ℕ, ◌+◌, ◌-◌, nat_lt, if◌then◌else◌}
 use Rattle.std.proofs.lemmas.Bool.{cases_lt, lt-ltb, le-ltb}
-use Rattle.esr_cert.specs.Steps.{ResidualArc, Forward, Backward}
+use Rattle.esr_cert.specs.ResidualArcs.{ResidualArc, Forward, Backward}
 
 abbrev pub step_of : ℕ → ResidualArc
 step_of n = if nat_lt n 2147483648 then Forward n else Backward (n - 2147483648)

@@ -4,7 +4,7 @@ pub use Rattle.esr_cert.specs.declared.rows.Span.{Span}
 use Rattle.esr_cert.specs.declared.rows.Rows.{Rows}
 use Rattle.esr_cert.specs.declared.rows.TheConstants.{MAX_ARCS}
 use Rattle.esr_cert.specs.Network.{Network, Arc}
-use Rattle.esr_cert.specs.Steps.{arc_of, start, step_at, AreOnce, ResidualArc, Forward, Backward}
+use Rattle.esr_cert.specs.ResidualArcs.{arc_of, start, step_at, AreOnce, ResidualArc, Forward, Backward}
 
 abbrev pub span_at : List Span → ℕ → Span
 span_at spans v = get_or spans v (record { begin = 0; end = 0 })
@@ -14,9 +14,9 @@ abbrev pub row_in : {X : Type 0} → List X → Span → List X
 row_in list span = take (span.end - span.begin) (drop span.begin list)
 
 -- both steps of each of the first n arcs
-abbrev pub first_steps : ℕ → List ResidualArc
-first_steps zero = []
-first_steps (suc n) = first_steps n ++ Forward n ∷ Backward n ∷ []
+abbrev pub residual_arcs_below : ℕ → List ResidualArc
+residual_arcs_below zero = []
+residual_arcs_below (suc n) = residual_arcs_below n ++ Forward n ∷ Backward n ∷ []
 
 -- those of some steps that start at a node
 abbrev pub steps_from : List Arc → ℕ → List ResidualArc → List ResidualArc
@@ -24,7 +24,7 @@ steps_from arcs v steps = filter (λ step. start arcs step == v) steps
 
 -- all steps that start at a node, by the numbers of their arcs
 abbrev pub row_of : List Arc → ℕ → List ResidualArc
-row_of arcs v = steps_from arcs v (first_steps (length arcs))
+row_of arcs v = steps_from arcs v (residual_arcs_below (length arcs))
 
 -- how many steps start at each node, and how many there are
 pub record AreDegrees (arcs : List Arc) (node_count : ℕ) (degrees : List ℕ) : Type 0 where
@@ -87,4 +87,4 @@ pub record Filled (arcs : List Arc) (lengths : List ℕ) (done : List ResidualAr
 pub record IsLaidOut (arcs : List Arc) (node_count i : ℕ) (spans : List Span) (steps : List ResidualArc) : Type 0 where
   pub degrees : List ℕ
   pub are : AreDegrees arcs node_count degrees
-  pub filled : Filled arcs degrees (first_steps i) spans steps
+  pub filled : Filled arcs degrees (residual_arcs_below i) spans steps

@@ -8,9 +8,9 @@ starts_from n [] = n ∷ []
 starts_from n (chain ∷ chains) = n ∷ starts_from (n + length chain.costs) chains
 
 -- from the k-th chain on, for each arc of the chains the number of its chain
-abbrev pub owners_from : ℕ → List Chain → List ℕ
-owners_from k [] = []
-owners_from k (chain ∷ chains) = replicate (length chain.costs) k ++ owners_from (k + 1) chains
+abbrev pub arc_chains_from : ℕ → List Chain → List ℕ
+arc_chains_from k [] = []
+arc_chains_from k (chain ∷ chains) = replicate (length chain.costs) k ++ arc_chains_from (k + 1) chains
 
 -- some rows, one after another
 abbrev pub joined : {X : Type 0} → List (List X) → List X

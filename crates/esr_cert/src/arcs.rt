@@ -9,12 +9,12 @@ ghost use Rattle.esr_cert.specs.Views.{chain_view, problem_of};
 ghost use Rattle.esr_cert.specs.Network.{arc_at, arcs_of_chain, network};
 ghost use Rattle.esr_cert.specs.declared.network.Arc.{Arc};
 ghost use Rattle.esr_cert.specs.Problem.{is_well_formed};
-ghost use Rattle.esr_cert.specs.Starts.{starts_from, owners_from};
-ghost use Rattle.esr_cert.specs.Links.{HaveLinks};
+ghost use Rattle.esr_cert.specs.Starts.{starts_from, arc_chains_from};
+ghost use Rattle.esr_cert.specs.ChainArcs.{HaveChainArcs};
 
 use crate::network::Arc;
 use crate::problem::Chain;
-use crate::starts::owner_at;
+use crate::starts::chain_of_arc;
 use esr_base::TxnId;
 use std::marker::Model;
 
@@ -64,7 +64,7 @@ pub struct Arcs<'a> {
     pub chains: &'a [Chain],
     pub must: &'a [u32],
     pub starts: &'a [u32],
-    pub owners: &'a [u16],
+    pub arc_chains: &'a [u16],
 }
 
 impl<'a> Model for Arcs<'a> {
@@ -74,7 +74,7 @@ impl<'a> Model for Arcs<'a> {
 
     ghost invariant = { λ a. (is_well_formed (problem_of a.updates.now a.before.now a.chains.now a.must.now) ≡ true)
         × (a.starts.now ≡ starts_from 0 (map chain_view a.chains.now))
-        × (a.owners.now ≡ owners_from 0 (map chain_view a.chains.now)) };
+        × (a.arc_chains.now ≡ arc_chains_from 0 (map chain_view a.chains.now)) };
 }
 
 impl<'a> Arcs<'a> {
@@ -87,7 +87,7 @@ impl<'a> Arcs<'a> {
 
     /// Returns the chains, whose arcs come first, and the source.
     pub fn chains(&self) -> (&'a [Chain], u32)
-        ensures links { HaveLinks self.now result.1 result.0.now }
+        ensures links { HaveChainArcs self.now result.1 result.0.now }
         ensures count_within_max { result.1 ≤ MAX_TRANSACTIONS }
     {
         let source = self.updates.len() as u32;
@@ -102,7 +102,7 @@ impl<'a> Arcs<'a> {
         let source = self.updates.len() as u32;
         let links = self.starts[self.chains.len()];
         if number < links {
-            let chain = owner_at(self.chains, self.starts, self.owners, number);
+            let chain = chain_of_arc(self.chains, self.starts, self.arc_chains, number);
             let place = number - self.starts[chain];
             return link_at(&self.chains[chain], source, place as usize);
         }

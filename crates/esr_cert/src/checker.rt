@@ -9,10 +9,10 @@ ghost use Rattle.std.specs.List.{list_all, sum, sum_by};
 ghost use Rattle.esr_cert.specs.Problem.{size, in_set, is_ascending, is_closed, version, chain_cost, cost};
 ghost use Rattle.esr_cert.specs.Network.{network};
 ghost use Rattle.esr_cert.specs.Flow.{amount_at, is_conserved_at, is_conserved};
-ghost use Rattle.esr_cert.specs.Certificate.{amounts, is_known, is_within, worth_matches, is_count_in_bound, fault, or_fault};
+ghost use Rattle.esr_cert.specs.Certificate.{amounts, is_set_in_range, is_within, worth_matches, is_count_in_bound, fault, or_fault};
 ghost use Rattle.esr_cert.specs.Balance.{is_balanced};
 ghost use Rattle.esr_cert.specs.Starts.{AreStarts};
-ghost use Rattle.esr_cert.specs.Parts.{is_row_within, are_rows_within};
+ghost use Rattle.esr_cert.specs.Capacities.{is_row_within, are_rows_within};
 ghost use Rattle.esr_cert.specs.Views.{chain_view, rows_of, certificate_of};
 
 use crate::arcs::arc_count;
@@ -23,8 +23,8 @@ use crate::residual::{PackedResidualArc, ResidualArc};
 use crate::starts::row_at;
 
 /// Returns whether there is an update at each position of a set.
-fn is_known(problem: &Problem, set: &[u32]) -> bool
-    ensures { result ≡ is_known problem.now set.now }
+fn is_set_in_range(problem: &Problem, set: &[u32]) -> bool
+    ensures { result ≡ is_set_in_range problem.now set.now }
 {
     are_below(set, problem.updates().len())
 }
@@ -244,7 +244,7 @@ fn first_fault(problem: &Problem, certificate: &Certificate) -> Result<(), Fault
     if !is_ascending(&certificate.set) {
         return Err(Fault::SetNotAscending);
     }
-    if !is_known(problem, &certificate.set) {
+    if !is_set_in_range(problem, &certificate.set) {
         return Err(Fault::UnknownUpdate);
     }
     if !is_closed(problem, &certificate.set) {

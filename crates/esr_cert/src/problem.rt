@@ -12,7 +12,7 @@ ghost use Rattle.esr_cert.specs.Problem.{size, has_shape, is_well_formed};
 ghost use Rattle.esr_cert.specs.Faults.{problem_fault, bundle_fault_number};
 ghost use Rattle.esr_cert.specs.Network.{arc_at, network};
 ghost use Rattle.esr_cert.specs.Rows.{AreLaidOut};
-ghost use Rattle.esr_cert.specs.Starts.{starts_from, owners_from};
+ghost use Rattle.esr_cert.specs.Starts.{starts_from, arc_chains_from};
 ghost use Rattle.esr_cert.specs.Views.{chain_view, problem_by, problem_of};
 ghost use Rattle.esr_cert.specs.Problem as spec;
 
@@ -21,7 +21,7 @@ use crate::network::Arc;
 use crate::parts::have_shape;
 use crate::range::is_in_range;
 use crate::rows::{MAX_ARCS, Rows, rows_of};
-use crate::starts::{owners_of, starts_of};
+use crate::starts::{arc_chains_of, starts_of};
 use esr_base::{ItemId, TxnId};
 use std::alloc::{AllocError, Global};
 use std::marker::Model;
@@ -94,15 +94,15 @@ pub struct ProblemParts {
 pub struct Problem {
     parts: ProblemParts,
     starts: Vec<u32>,
-    owners: Vec<u16>,
+    arc_chains: Vec<u16>,
     rows: Rows,
 }
 
 /// Returns the arcs of the network of valid parts.
-fn arcs_of<'a>(parts: &'a ProblemParts, starts: &'a [u32], owners: &'a [u16]) -> Arcs<'a>
+fn arcs_of<'a>(parts: &'a ProblemParts, starts: &'a [u32], arc_chains: &'a [u16]) -> Arcs<'a>
     requires sound { is_well_formed (problem_by parts.now) ≡ true }
     requires starts { starts.now ≡ starts_from 0 (problem_by parts.now).chains }
-    requires owners { owners.now ≡ owners_from 0 (problem_by parts.now).chains }
+    requires arc_chains { arc_chains.now ≡ arc_chains_from 0 (problem_by parts.now).chains }
     ensures { result ≡ (network (problem_by parts.now)).arcs }
 {
     Arcs {
@@ -111,7 +111,7 @@ fn arcs_of<'a>(parts: &'a ProblemParts, starts: &'a [u32], owners: &'a [u16]) ->
         chains: &parts.chains,
         must: &parts.must,
         starts,
-        owners,
+        arc_chains,
     }
 }
 
@@ -120,20 +120,20 @@ fn arcs_of<'a>(parts: &'a ProblemParts, starts: &'a [u32], owners: &'a [u16]) ->
 fn network_of(alloc: Global, parts: &ProblemParts) -> Result<(Vec<u32>, Vec<u16>, Rows), AllocError>
     requires sound { is_well_formed (problem_by parts.now) ≡ true }
     ensures starts { IfOk result (λ n. n.0.items ≡ starts_from 0 (problem_by parts.now).chains) }
-    ensures owners { IfOk result (λ n. n.1.items ≡ owners_from 0 (problem_by parts.now).chains) }
+    ensures arc_chains { IfOk result (λ n. n.1.items ≡ arc_chains_from 0 (problem_by parts.now).chains) }
     ensures laid_out { IfOk result (λ n. AreLaidOut (network (problem_by parts.now)) n.2) }
 {
     if arc_count(&parts.before, &parts.chains, &parts.must) > MAX_ARCS as u128 {
         return Err(AllocError);
     }
     let starts = starts_of(alloc, &parts.chains)?;
-    let owners = owners_of(alloc, &parts.chains, starts[parts.chains.len()] as usize)?;
+    let arc_chains = arc_chains_of(alloc, &parts.chains, starts[parts.chains.len()] as usize)?;
     let rows = rows_of(
         alloc,
         parts.updates.len() + 2,
-        &arcs_of(parts, &starts, &owners),
+        &arcs_of(parts, &starts, &arc_chains),
     )?;
-    Ok((starts, owners, rows))
+    Ok((starts, arc_chains, rows))
 }
 
 impl Model for Problem {
@@ -143,7 +143,7 @@ impl Model for Problem {
 
     ghost invariant = { λ p. (spec.is_well_formed (problem_by p.parts) ≡ true)
         × (p.starts.items ≡ starts_from 0 (problem_by p.parts).chains)
-        × (p.owners.items ≡ owners_from 0 (problem_by p.parts).chains)
+        × (p.arc_chains.items ≡ arc_chains_from 0 (problem_by p.parts).chains)
         × AreLaidOut (network (problem_by p.parts)) p.rows };
 }
 
@@ -200,11 +200,11 @@ impl Problem {
         requires sound { is_well_formed (problem_by parts) ≡ true }
         ensures { IfOk result (λ p. p ≡ problem_by parts) }
     {
-        let (starts, owners, rows) = network_of(alloc, &parts)?;
+        let (starts, arc_chains, rows) = network_of(alloc, &parts)?;
         Ok(Problem {
             parts,
             starts,
-            owners,
+            arc_chains,
             rows,
         })
     }
@@ -259,7 +259,7 @@ impl Problem {
         requires { number < length (network self.now).arcs }
         ensures { result ≡ arc_at (network self.now).arcs number }
     {
-        arcs_of(&self.parts, &self.starts, &self.owners).at(number)
+        arcs_of(&self.parts, &self.starts, &self.arc_chains).at(number)
     }
 
     /// Returns for each node of the network the steps that start there.

@@ -4,7 +4,7 @@
 ghost use Rattle.std.specs.Prelude.{◌≡◌, ◌<◌};
 ghost use Rattle.std.proofs.Common.{ap};
 ghost use Rattle.esr_cert.specs.declared.residual.ResidualArc.{ResidualArc};
-ghost use Rattle.esr_cert.specs.Steps.{arc_of, rank_of, opposite};
+ghost use Rattle.esr_cert.specs.ResidualArcs.{arc_of, rank_of, opposite};
 ghost use Rattle.esr_cert.specs.PackedArcs.{step_of, packed_arc, packed_arc-step_of};
 
 use std::marker::Model;
@@ -51,17 +51,17 @@ impl ResidualArc {
 /// A residual arc packed into four bytes: the number of its arc, plus 2^31 if it is backward.
 #[derive(Clone, Copy, Debug)]
 pub struct PackedResidualArc {
-    number: u32,
+    encoded: u32,
 }
 
 impl Model for PackedResidualArc {
     ghost Value = { ResidualArc };
 
-    ghost view = { λ s. step_of s.number };
+    ghost view = { λ s. step_of s.encoded };
 
-    ghost inverse = { λ s. record { number = packed_arc s } };
+    ghost inverse = { λ s. record { encoded = packed_arc s } };
 
-    ghost inverse_ok = { λ a h. ap (λ n. record { number = n }) (packed_arc-step_of a.number) };
+    ghost inverse_ok = { λ a h. ap (λ n. record { encoded = n }) (packed_arc-step_of a.number) };
 }
 
 impl PackedResidualArc {
@@ -70,21 +70,21 @@ impl PackedResidualArc {
         requires { arc_of step < 2147483648 }
         ensures { result ≡ step }
     {
-        let number = match step {
+        let encoded = match step {
             ResidualArc::Forward(i) => i,
             ResidualArc::Backward(i) => i + 2_147_483_648,
         };
-        PackedResidualArc { number }
+        PackedResidualArc { encoded }
     }
 
     /// Unpacks the residual arc.
     pub fn unpack(self) -> ResidualArc
         ensures { result ≡ self }
     {
-        if self.number < 2_147_483_648 {
-            ResidualArc::Forward(self.number)
+        if self.encoded < 2_147_483_648 {
+            ResidualArc::Forward(self.encoded)
         } else {
-            ResidualArc::Backward(self.number - 2_147_483_648)
+            ResidualArc::Backward(self.encoded - 2_147_483_648)
         }
     }
 }

@@ -8,10 +8,10 @@
 //! the other arguments of a call, which do not determine the arcs.
 ghost use Rattle.std.specs.Prelude.{◌≡◌, ◌+◌, ◌<◌, ◌≤◌, length, set, sum, Contains, IfOk};
 ghost use Rattle.std.specs.List.Sorted.{IsNonDecreasingBy};
-ghost use Rattle.esr_cert.specs.Steps.{arc_of, rank_of, step_at};
-ghost use Rattle.esr_cert.specs.Rows.{row_in, span_at, lengthen, first_steps, AreDegrees, AreBegun, AreRows, AreSteps, Counted, IsLaidOut};
+ghost use Rattle.esr_cert.specs.ResidualArcs.{arc_of, rank_of, step_at};
+ghost use Rattle.esr_cert.specs.Rows.{row_in, span_at, lengthen, residual_arcs_below, AreDegrees, AreBegun, AreRows, AreSteps, Counted, IsLaidOut};
 ghost use Rattle.esr_cert.specs.Network.{EndsAreNodes};
-ghost use Rattle.esr_cert.specs.Links.{HasLinks};
+ghost use Rattle.esr_cert.specs.ChainArcs.{HasChainArcs};
 ghost use Rattle.esr_base.specs.declared.limits.TheConstants.{MAX_TRANSACTIONS};
 ghost use Rattle.esr_cert.specs.declared.rows.TheConstants.{MAX_ARCS};
 
@@ -42,9 +42,9 @@ fn count_links(
     requires count_within_max { length _arcs.now ≤ MAX_ARCS }
     requires ends { EndsAreNodes _arcs.now _nodes }
     requires source { source ≤ MAX_TRANSACTIONS }
-    requires links { HasLinks _arcs.now source chain.now _begin }
-    requires counted { Counted _arcs.now _nodes (first_steps _begin) degrees.old.items }
-    ensures { Counted _arcs.now _nodes (first_steps (_begin + length chain.now.costs.items)) degrees.new.items }
+    requires links { HasChainArcs _arcs.now source chain.now _begin }
+    requires counted { Counted _arcs.now _nodes (residual_arcs_below _begin) degrees.old.items }
+    ensures { Counted _arcs.now _nodes (residual_arcs_below (_begin + length chain.now.costs.items)) degrees.new.items }
 {
     for j in 0..chain.costs.len() {
         let from = arc_tail(chain, source, j);
@@ -59,8 +59,8 @@ fn count_others(arcs: &Arcs, _nodes: usize, first: usize, degrees: &mut Vec<u32>
     requires count_within_max { length arcs.now ≤ MAX_ARCS }
     requires ends { EndsAreNodes arcs.now _nodes }
     requires first { first ≤ length arcs.now }
-    requires counted { Counted arcs.now _nodes (first_steps first) degrees.old.items }
-    ensures { Counted arcs.now _nodes (first_steps (length arcs.now)) degrees.new.items }
+    requires counted { Counted arcs.now _nodes (residual_arcs_below first) degrees.old.items }
+    ensures { Counted arcs.now _nodes (residual_arcs_below (length arcs.now)) degrees.new.items }
 {
     for i in first..arcs.len() {
         let arc = arcs.at(i as u32);
@@ -157,7 +157,7 @@ fn lay_links(_arcs: &Arcs, _nodes: usize, source: u32, chain: &Chain, begin: usi
     requires count_within_max { length _arcs.now ≤ MAX_ARCS }
     requires ends { EndsAreNodes _arcs.now _nodes }
     requires source { source ≤ MAX_TRANSACTIONS }
-    requires links { HasLinks _arcs.now source chain.now begin }
+    requires links { HasChainArcs _arcs.now source chain.now begin }
     requires laid_out { IsLaidOut _arcs.now _nodes begin rows.old.spans.items rows.old.steps.items }
     ensures { IsLaidOut _arcs.now _nodes (begin + length chain.now.costs.items) rows.new.spans.items rows.new.steps.items }
 {
@@ -187,7 +187,7 @@ fn lay_others(arcs: &Arcs, _nodes: usize, first: usize, rows: &mut Rows)
 }
 
 /// Returns for each node the steps that start at it: counts them, then puts each into its row.
-#[tactic(auto, using(crate::proofs::LinksLaws::starts_first))]
+#[tactic(auto, using(crate::proofs::ChainArcsLaws::starts_first))]
 pub fn rows_of(alloc: Global, node_count: usize, arcs: &Arcs) -> Result<Rows, AllocError>
     requires count_within_max { length arcs.now ≤ MAX_ARCS }
     requires ends { EndsAreNodes arcs.now node_count }

@@ -3,7 +3,7 @@
 ghost use Rattle.std.specs.Prelude.{◌≡◌, ◌+◌, ◌<◌, ◌≤◌, ◌++◌, length, get_or, map, replicate, sum_by, IfOk};
 ghost use Rattle.std.specs.List.Sorted.{IsNonDecreasingBy};
 ghost use Rattle.esr_base.specs.declared.limits.TheConstants.{MAX_ITEMS};
-ghost use Rattle.esr_cert.specs.Starts.{starts_from, owners_from};
+ghost use Rattle.esr_cert.specs.Starts.{starts_from, arc_chains_from};
 ghost use Rattle.esr_cert.specs.Views.{chain_view};
 
 use crate::problem::Chain;
@@ -36,35 +36,35 @@ pub fn row_at(starts: &[u32], number: u32) -> usize
     starts.partition_point(|start| *start <= number) - 1
 }
 
-fn push_owner(owners: &mut Vec<u16>, chain: u16, count: usize) -> Result<(), AllocError>
-    ensures { IfOk result (λ _. owners.new.items ≡ owners.old.items ++ replicate count chain) }
+fn push_chain(arc_chains: &mut Vec<u16>, chain: u16, count: usize) -> Result<(), AllocError>
+    ensures { IfOk result (λ _. arc_chains.new.items ≡ arc_chains.old.items ++ replicate count chain) }
 {
     for _ in 0..count {
-        owners.push(chain)?;
+        arc_chains.push(chain)?;
     }
     Ok(())
 }
 
 /// Returns the chain of each arc of the chains, which have `count` arcs in total.
-pub fn owners_of(alloc: Global, chains: &[Chain], count: usize) -> Result<Vec<u16>, AllocError>
+pub fn arc_chains_of(alloc: Global, chains: &[Chain], count: usize) -> Result<Vec<u16>, AllocError>
     requires { length chains.now ≤ MAX_ITEMS }
-    ensures { IfOk result (λ owners. owners.items ≡ owners_from 0 (map chain_view chains.now)) }
+    ensures { IfOk result (λ arc_chains. arc_chains.items ≡ arc_chains_from 0 (map chain_view chains.now)) }
 {
-    let mut owners = Vec::with_capacity(alloc, count)?;
+    let mut arc_chains = Vec::with_capacity(alloc, count)?;
     for (k, chain) in chains.iter().enumerate() {
-        push_owner(&mut owners, k as u16, chain.costs.len())?;
+        push_chain(&mut arc_chains, k as u16, chain.costs.len())?;
     }
-    Ok(owners)
+    Ok(arc_chains)
 }
 
 /// Returns the chain of an arc of the chains, by the arc's number: the last that begins at or before the number.
-pub fn owner_at(_chains: &[Chain], _starts: &[u32], owners: &[u16], number: u32) -> usize
+pub fn chain_of_arc(_chains: &[Chain], _starts: &[u32], arc_chains: &[u16], number: u32) -> usize
     requires starts { _starts.now ≡ starts_from 0 (map chain_view _chains.now) }
-    requires owners { owners.now ≡ owners_from 0 (map chain_view _chains.now) }
+    requires arc_chains { arc_chains.now ≡ arc_chains_from 0 (map chain_view _chains.now) }
     requires early { number < get_or _starts.now (length _chains.now) 0 }
     ensures bound { result < length _starts.now }
     ensures begun { get_or _starts.now result 0 ≤ number }
     ensures last { result + 1 < length _starts.now → number < get_or _starts.now (result + 1) 0 }
 {
-    usize::from(owners[number as usize])
+    usize::from(arc_chains[number as usize])
 }

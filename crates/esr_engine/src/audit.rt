@@ -8,7 +8,7 @@ ghost use Rattle.esr_history.specs.Queries.{is_committed_query};
 ghost use Rattle.esr_audit.specs.Findings.{IsFindingOf};
 
 use crate::engine::EmbeddedEngine;
-use esr_audit::{AuditError, Finding, audit_query, audit_query_by_index};
+use esr_audit::{AuditError, Finding, audit_query, audit_query_with_index};
 use esr_history::TxnId;
 use std::alloc::Global;
 
@@ -28,6 +28,6 @@ impl EmbeddedEngine {
         if self.index.extend(self.machine.history()).is_err() {
             return audit_query(alloc, self.machine.history(), q); // the index may wait, a refusal may not
         }
-        audit_query_by_index(alloc, self.machine.history(), &self.index, q)
+        audit_query_with_index(alloc, self.machine.history(), &self.index, q)
     }
 }

@@ -18,7 +18,7 @@ use Rattle.esr_report.specs.Names.{name_of_transaction}
 use Rattle.esr_report.specs.Lines.{line, names_line}
 use Rattle.esr_explain.specs.declared.charges.Operation.{Operation}
 use Rattle.esr_explain.specs.declared.charges.Operation.TheVariants as operation
-use Rattle.esr_explain.specs.declared.charges.Meeting.{Meeting}
+use Rattle.esr_explain.specs.declared.charges.Conflict.{Conflict}
 use Rattle.esr_explain.specs.declared.charges.Charge.{Charge}
 use Rattle.esr_explain.specs.declared.reads.ComparedRead.{ComparedRead}
 
@@ -52,39 +52,39 @@ abbrev pub read_line : (items : List (List ℕ)) → ComparedRead → List ℕ
 read_line items r = named_read_line (name_of_item items r.item.0) r
 
 -- the updates of q but for these, in commit order
-abbrev pub others : Schedule → ℕ → List ℕ → List ℕ
-others h q us = filter (λ u. not (is_among us u)) (updates_of h q)
+abbrev pub updates_outside : Schedule → ℕ → List ℕ → List ℕ
+updates_outside h q us = filter (λ u. not (is_among us u)) (updates_of h q)
 
 -- ---- charges
 
 -- the import of q by then, and the export of u
-abbrev pub imported : DistanceFunction → Schedule → ℕ → ℕ → ℕ
-imported d h q i = import_in (charges_in d (until i h)) q
+abbrev pub import_before : DistanceFunction → Schedule → ℕ → ℕ → ℕ
+import_before d h q i = import_in (charges_in d (until i h)) q
 
-abbrev pub exported : DistanceFunction → Schedule → ℕ → ℕ → ℕ
-exported d h u i = export_in (charges_in d (until i h)) u
+abbrev pub export_before : DistanceFunction → Schedule → ℕ → ℕ → ℕ
+export_before d h u i = export_in (charges_in d (until i h)) u
 
 -- a read meets the update that has written the item and has not ended, if there is one
-abbrev pub read_meets : Schedule → ℕ → Option ℕ
-read_meets h x = if nat_lt x (length h.opening) then writer (accepted_in h) x else None
+abbrev pub active_writer : Schedule → ℕ → Option ℕ
+active_writer h x = if nat_lt x (length h.opening) then writer (accepted_in h) x else None
 
 -- the update that an operation on an item meets: for a read the one that has written the item, for a write the one
 -- that writes
-abbrev pub meeting : Schedule → Event → Option Meeting
-meeting h (Read t x) =
-    option_map (λ u. record { operation = operation.Read; update = record { 0 = u }; item = x }) (read_meets h x.0)
-meeting h (Write u x v) = Some (record { operation = operation.Write; update = u; item = x })
-meeting h _ = None
+abbrev pub conflict : Schedule → Event → Option Conflict
+conflict h (Read t x) =
+    option_map (λ u. record { operation = operation.Read; update = record { 0 = u }; item = x }) (active_writer h x.0)
+conflict h (Write u x v) = Some (record { operation = operation.Write; update = u; item = x })
+conflict h _ = None
 
 -- The charge to q of the entry at place i: the amount that q imported by it, and the rest of both limits then.
-abbrev pub charge_of : DistanceFunction → Schedule → ℕ → ℕ → Meeting → Charge
+abbrev pub charge_of : DistanceFunction → Schedule → ℕ → ℕ → Conflict → Charge
 charge_of d h q i m = record {
-  amount = imported d h q (i + 1) - imported d h q i;
+  amount = import_before d h q (i + 1) - import_before d h q i;
   step = i + 1;
-  meeting = m;
-  import_left = limit_of (accepted_in h) q - imported d h q (i + 1);
+  conflict = m;
+  import_left = limit_of (accepted_in h) q - import_before d h q (i + 1);
   import_limit = limit_of (accepted_in h) q;
-  export_left = limit_of (accepted_in h) m.update.0 - exported d h m.update.0 (i + 1);
+  export_left = limit_of (accepted_in h) m.update.0 - export_before d h m.update.0 (i + 1);
   export_limit = limit_of (accepted_in h) m.update.0;
 }
 
@@ -92,30 +92,30 @@ charge_of d h q i m = record {
 abbrev pub charge_at : DistanceFunction → Schedule → ℕ → ℕ → Option Entry → Option Charge
 charge_at d h q i None = None
 charge_at d h q i (Some e) =
-    if imported d h q (i + 1) == imported d h q i then None
-    else option_map (charge_of d h q i) (meeting (until i h) e.event)
+    if import_before d h q (i + 1) == import_before d h q i then None
+    else option_map (charge_of d h q i) (conflict (until i h) e.event)
 
 -- the charges to q, in order
 abbrev pub charges : DistanceFunction → Schedule → ℕ → List Charge
 charges d h q = filter_map (λ i. charge_at d h q i (slice_get h.entries i)) (range_with_len 0 (length h.entries))
 
 -- the first words of the line of a charge
-abbrev pub verb : Operation → List ℕ
-verb operation.Read = codes "charge read"
-verb operation.Write = codes "charge write"
+abbrev pub charge_keyword : Operation → List ℕ
+charge_keyword operation.Read = codes "charge read"
+charge_keyword operation.Write = codes "charge write"
 
 -- the line of a charge with these texts for the operation, the update and the item
-abbrev pub named_charge_line : (verb update item : List ℕ) → Charge → List ℕ
-named_charge_line verb update item c = line (
-    verb ∷ update ∷ item ∷ codes "amount" ∷ decimal c.amount ∷ codes "step" ∷ decimal c.step
+abbrev pub named_charge_line : (charge_keyword update item : List ℕ) → Charge → List ℕ
+named_charge_line charge_keyword update item c = line (
+    charge_keyword ∷ update ∷ item ∷ codes "amount" ∷ decimal c.amount ∷ codes "step" ∷ decimal c.step
     ∷ codes "import left" ∷ decimal c.import_left ∷ codes "of" ∷ decimal c.import_limit
     ∷ codes "export left" ∷ decimal c.export_left ∷ codes "of" ∷ decimal c.export_limit ∷ []
     )
 
 abbrev pub charge_line : (items transactions : List (List ℕ)) → Charge → List ℕ
 charge_line items transactions c =
-    named_charge_line (verb c.meeting.operation) (name_of_transaction transactions c.meeting.update.0)
-    (name_of_item items c.meeting.item.0) c
+    named_charge_line (charge_keyword c.conflict.operation) (name_of_transaction transactions c.conflict.update.0)
+    (name_of_item items c.conflict.item.0) c
 
 -- ---- the whole
 
@@ -137,4 +137,4 @@ explanation_lines items transactions reads charges before after distance import 
 abbrev pub explanation : DistanceFunction → Schedule → (items transactions : List (List ℕ)) → ℕ → List ℕ
 explanation d h items transactions q =
     explanation_lines items transactions (compared_reads d h q (least_set d h q)) (charges d h q) (least_set d h q)
-    (others h q (least_set d h q)) (least_cost d h q) (import_in (charges_in d h) q)
+    (updates_outside h q (least_set d h q)) (least_cost d h q) (import_in (charges_in d h) q)

@@ -8,7 +8,7 @@ ghost use Rattle.std.specs.List.{cons_option};
 ghost use Rattle.esr_history.specs.Events.{limit_of};
 ghost use Rattle.esr_history.specs.Machine.{accepted_in};
 ghost use Rattle.esr_items.specs.Weights.{weighted};
-ghost use Rattle.esr_explain.specs.Explain.{charge_at, charge_line, charges, meeting, name_of_item, named_charge_line, verb};
+ghost use Rattle.esr_explain.specs.Explain.{charge_at, charge_line, charges, conflict, name_of_item, named_charge_line, charge_keyword};
 
 use esr_core::Machine;
 use esr_history::{Event, History, NoMemory, TxnId};
@@ -26,7 +26,7 @@ pub enum Operation {
 
 /// An operation on an item, and the update that it meets there.
 #[derive(Clone, Copy)]
-pub struct Meeting {
+pub struct Conflict {
     pub operation: Operation,
     pub update: TxnId,
     pub item: ItemId,
@@ -37,7 +37,7 @@ pub struct Meeting {
 pub struct Charge {
     pub amount: u64,
     pub step: u64,
-    pub meeting: Meeting,
+    pub conflict: Conflict,
     pub import_left: u64,
     pub import_limit: u64,
     pub export_left: u64,
@@ -55,8 +55,8 @@ pub fn name_of_item(items: &Names, x: ItemId) -> &str
 }
 
 /// Returns the first words of the line of a charge.
-fn verb(operation: Operation) -> &'static str
-    ensures { result.now ≡ verb operation }
+fn charge_keyword(operation: Operation) -> &'static str
+    ensures { result.now ≡ charge_keyword operation }
 {
     match operation {
         Operation::Read => "charge read",
@@ -77,12 +77,12 @@ fn limit(history: &History<Weighted>, t: TxnId) -> u64
 /// Appends the line of a charge, with these texts for the operation, the update and the item.
 fn named_charge_line(
     out: &mut Vec<u8>,
-    verb: &str,
+    charge_keyword: &str,
     update: &str,
     item: &str,
     charge: Charge,
 ) -> Result<(), AllocError>
-    ensures { OnOk result (out.new.items ≡ out.old.items ++ named_charge_line verb.now update.now item.now charge) }
+    ensures { OnOk result (out.new.items ≡ out.old.items ++ named_charge_line charge_keyword.now update.now item.now charge) }
 {
     let mut amount = itoa::Buffer::new();
     let mut step = itoa::Buffer::new();
@@ -92,7 +92,7 @@ fn named_charge_line(
     let mut export_limit = itoa::Buffer::new();
     push_line(
         out,
-        verb,
+        charge_keyword,
         &[
             update,
             item,
@@ -121,14 +121,20 @@ fn charge_line(
 ) -> Result<(), AllocError>
     ensures { OnOk result (out.new.items ≡ out.old.items ++ charge_line items.now transactions.now charge) }
 {
-    let update = name_of_transaction(transactions, charge.meeting.update);
-    let item = name_of_item(items, charge.meeting.item);
-    named_charge_line(out, verb(charge.meeting.operation), update, item, charge)
+    let update = name_of_transaction(transactions, charge.conflict.update);
+    let item = name_of_item(items, charge.conflict.item);
+    named_charge_line(
+        out,
+        charge_keyword(charge.conflict.operation),
+        update,
+        item,
+        charge,
+    )
 }
 
 /// Returns the update that an event meets, if a machine is about to execute it.
-fn met_by(machine: &Machine<MetricRef<'_, Weighted>>, event: Event) -> Option<Meeting>
-    ensures { result ≡ meeting machine.now event }
+fn conflict_of(machine: &Machine<MetricRef<'_, Weighted>>, event: Event) -> Option<Conflict>
+    ensures { result ≡ conflict machine.now event }
 {
     match event {
         Event::Read { txn: _, item } => {
@@ -136,7 +142,7 @@ fn met_by(machine: &Machine<MetricRef<'_, Weighted>>, event: Event) -> Option<Me
                 return None;
             }
             match machine.writer(item) {
-                Some(update) => Some(Meeting {
+                Some(update) => Some(Conflict {
                     operation: Operation::Read,
                     update,
                     item,
@@ -148,7 +154,7 @@ fn met_by(machine: &Machine<MetricRef<'_, Weighted>>, event: Event) -> Option<Me
             txn,
             item,
             value: _,
-        } => Some(Meeting {
+        } => Some(Conflict {
             operation: Operation::Write,
             update: txn,
             item,
@@ -173,10 +179,10 @@ fn next_charge(
     let Some(entry) = replay.next() else {
         unreachable!()
     };
-    let met = met_by(replay.machine(), entry.event);
+    let met = conflict_of(replay.machine(), entry.event);
     replay.step()?;
     let amount = imported(replay.imports(), q);
-    let Some(meeting) = met else {
+    let Some(conflict) = met else {
         return Ok(None);
     };
     if amount == 0 {
@@ -184,14 +190,14 @@ fn next_charge(
     }
     let machine = replay.machine();
     let import_limit = limit(history, q);
-    let export_limit = limit(history, meeting.update);
+    let export_limit = limit(history, conflict.update);
     Ok(Some(Charge {
         amount,
         step: machine.log().len() as u64,
-        meeting,
+        conflict,
         import_left: import_limit.saturating_sub(machine.history().import(q)),
         import_limit,
-        export_left: export_limit.saturating_sub(machine.export(meeting.update)),
+        export_left: export_limit.saturating_sub(machine.export(conflict.update)),
         export_limit,
     }))
 }

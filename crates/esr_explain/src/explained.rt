@@ -1,11 +1,11 @@
 //! An explanation as data, which texts, CSV and JSON render.
 ghost use Rattle.std.specs.Prelude.{◌≡◌, IfOk, map};
 ghost use Rattle.esr_items.specs.Weights.{weighted};
-ghost use Rattle.esr_explain.specs.Explain.{charges, compared_reads, others};
+ghost use Rattle.esr_explain.specs.Explain.{charges, compared_reads, updates_outside};
 
 use crate::charges::{Charge, charges_of};
-use crate::others::others;
 use crate::reads::{ComparedRead, compared_reads};
+use crate::updates_outside::updates_outside;
 use esr_audit::Finding;
 use esr_history::{History, NoMemory, TxnId};
 use esr_items::Weighted;
@@ -37,7 +37,7 @@ impl<'a> Explanation<'a> {
             finding.now.query.0 (map (λ t. t.0) finding.now.before.items)) }
         ensures charges { IfOk result (λ e. e.charges.items ≡ charges weighted history.now.schedule finding.now.query.0) }
         ensures before { IfOk result (λ e. e.before.now ≡ finding.now.before.items) }
-        ensures after { IfOk result (λ e. map (λ t. t.0) e.after.items ≡ others history.now.schedule
+        ensures after { IfOk result (λ e. map (λ t. t.0) e.after.items ≡ updates_outside history.now.schedule
             finding.now.query.0 (map (λ t. t.0) finding.now.before.items)) }
         ensures sums { IfOk result (λ e. (e.distance ≡ finding.now.distance) × (e.import ≡ finding.now.import)) }
     {
@@ -46,7 +46,7 @@ impl<'a> Explanation<'a> {
             reads: compared_reads(alloc, history, finding.query, before)?,
             charges: charges_of(alloc, history, finding.query)?,
             before,
-            after: others(alloc, history, finding.query, before)?,
+            after: updates_outside(alloc, history, finding.query, before)?,
             distance: finding.distance,
             import: finding.import,
         })

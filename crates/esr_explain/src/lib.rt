@@ -7,10 +7,10 @@
 mod accesses;
 mod charges;
 mod explained;
-mod others;
 mod query;
 mod reads;
 mod text;
+mod updates_outside;
 
 pub use charges::{Charge, Operation, name_of_item};
 pub use explained::Explanation;

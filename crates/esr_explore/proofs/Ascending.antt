@@ -114,9 +114,9 @@ rising_last [] up has = absurd (omega (arith, has))
 rising_last (n ∷ ns) up has = ap (λ (k : ℕ). get_or (n ∷ ns) k 0) (omega arith) ∙ last_greatest n ns up
 
 -- the maximum and the median of numbers that were sorted
-pub spread_sorted : (ns sorted : List ℕ) → IsPermutation ns sorted → IsSorted nat_cmp sorted → 0 < length sorted
+pub max_and_median_sorted : (ns sorted : List ℕ) → IsPermutation ns sorted → IsSorted nat_cmp sorted → 0 < length sorted
     → (get_or sorted (length sorted - 1) 0 ≡ greatest ns) × (get_or sorted ((length sorted - 1) / 2) 0 ≡ median ns)
-spread_sorted ns sorted moved up has =
+max_and_median_sorted ns sorted moved up has =
     let is : sorted ≡ ascending ns = sorted_is ns sorted moved up in
     let many : length sorted ≡ length ns = length_permutation ns sorted moved in
     let rising : IsRising sorted = rising_from sorted (λ i j le lt. IsNonDecreasingBy-from_sort (λ k. k) sorted up i j 0 le lt) in (
@@ -125,6 +125,6 @@ spread_sorted ns sorted moved up has =
     )
 
 -- of no number
-pub spread_none : (ns sorted : List ℕ) → IsPermutation ns sorted → length sorted ≡ 0 → (greatest ns ≡ 0) × (median ns ≡ 0)
-spread_none [] sorted moved none = (refl, refl)
-spread_none (n ∷ ns) sorted moved none = absurd (omega (arith, length_permutation (n ∷ ns) sorted moved, none))
+pub max_and_median_none : (ns sorted : List ℕ) → IsPermutation ns sorted → length sorted ≡ 0 → (greatest ns ≡ 0) × (median ns ≡ 0)
+max_and_median_none [] sorted moved none = (refl, refl)
+max_and_median_none (n ∷ ns) sorted moved none = absurd (omega (arith, length_permutation (n ∷ ns) sorted moved, none))

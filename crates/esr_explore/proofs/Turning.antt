@@ -7,7 +7,7 @@ use Rattle.esr_history.specs.declared.event.Reply.{Reply}
 use Rattle.esr_history.specs.Machine.{Schedule}
 use Rattle.esr_plan.specs.declared.call.Call.{Call}
 use Rattle.esr_plan.specs.Calls.{AreAnswered}
-use Rattle.esr_explore.specs.Turns.{AreDone, IsRun, RunnerView, Stage, begun, fresh, stage, turn, turns}
+use Rattle.esr_explore.specs.Turns.{AreDone, IsRun, RunnerView, Stage, begun, new_runner, stage, turn, turns}
 
 -- one turn after others
 pub then_turn : (blocks : List (List Call)) (s : Stage) (rest : List ℕ) (b : ℕ) → turns blocks s (rest ++ b ∷ []) ≡ turn blocks (turns blocks s rest) b
@@ -33,14 +33,14 @@ borrowed_result blocks seen rs replies seen_is replies_is done =
 
 -- one more block before its first line
 pub one_new_runner : (n : ℕ) (rs new : List RunnerView) (r : RunnerView)
-    → rs ≡ map (λ _. fresh) (range_with_len 0 n) → r ≡ fresh → new ≡ rs ++ r ∷ [] → new ≡ map (λ _. fresh) (range_with_len 0 (n + 1))
+    → rs ≡ map (λ _. new_runner) (range_with_len 0 n) → r ≡ new_runner → new ≡ rs ++ r ∷ [] → new ≡ map (λ _. new_runner) (range_with_len 0 (n + 1))
 one_new_runner n rs new r rs_is r_is new_is =
-    new_is ∙ (ap₂ (λ (l : List RunnerView) (one : RunnerView). l ++ one ∷ []) rs_is r_is ∙ sym (map-range_with_len_more (λ _. fresh) 0 n n (omega arith)))
+    new_is ∙ (ap₂ (λ (l : List RunnerView) (one : RunnerView). l ++ one ∷ []) rs_is r_is ∙ sym (map-range_with_len_more (λ _. new_runner) 0 n n (omega arith)))
 
 -- the start of a run
 pub started : (opening : List ℤ) (weights : List ℕ) (blocks : List (List Call)) (h : Schedule) (rs : List RunnerView) (n : ℕ)
-    → h ≡ (begun opening weights blocks).history → rs ≡ map (λ _. fresh) (range_with_len 0 n) → n ≡ length blocks → stage h rs ≡ begun opening weights blocks
-started opening weights blocks h rs n h_is rs_is n_is = ap₂ stage h_is (rs_is ∙ ap (λ (m : ℕ). map (λ _. fresh) (range_with_len 0 m)) n_is)
+    → h ≡ (begun opening weights blocks).history → rs ≡ map (λ _. new_runner) (range_with_len 0 n) → n ≡ length blocks → stage h rs ≡ begun opening weights blocks
+started opening weights blocks h rs n h_is rs_is n_is = ap₂ stage h_is (rs_is ∙ ap (λ (m : ℕ). map (λ _. new_runner) (range_with_len 0 m)) n_is)
 
 -- the turns of an order and those after them are a run, if each block has then executed each of its lines
 pub ran : (opening : List ℤ) (weights : List ℕ) (blocks seen : List (List Call)) (order : List ℕ) (start mid : Stage) (h closed : Schedule) (rs : List RunnerView)

@@ -36,9 +36,9 @@ abbrev pub median : List ℕ → ℕ
 median ns = slice_index (ascending ns) ((length ns - 1) / 2)
 
 -- whether a line of the block was given up
-abbrev pub has_lost : (block : ℕ) → RunSummary → Bool
-has_lost block run_summary = nat_lt 0 (slice_index run_summary.given_up.items block)
+abbrev pub has_given_up : (block : ℕ) → RunSummary → Bool
+has_given_up block run_summary = nat_lt 0 (slice_index run_summary.given_up.items block)
 
 -- in how many runs one was
-abbrev pub lost_in : (block : ℕ) → List RunSummary → ℕ
-lost_in block summaries = count_by (has_lost block) summaries
+abbrev pub runs_given_up : (block : ℕ) → List RunSummary → ℕ
+runs_given_up block summaries = count_by (has_given_up block) summaries

@@ -3,7 +3,7 @@ use Rattle.std.specs.Prelude.{ℕ, List, [], ◌∷◌, ◌++◌, Option, Some, 
 use Rattle.std.specs.List.{enumerate_from, range_with_len}
 use Rattle.esr_explore.specs.declared.run_summary.RunSummary.{RunSummary}
 use Rattle.esr_explore.specs.declared.summary.Column.TheVariants.{Blocked, Import, Distance}
-use Rattle.esr_explore.specs.Columns.{lost_in, median, numbers_of}
+use Rattle.esr_explore.specs.Columns.{runs_given_up, median, numbers_of}
 use Rattle.esr_explore.specs.Queries.{BegunQuery}
 use Rattle.esr_explore.specs.Sizes.{greatest}
 
@@ -12,8 +12,8 @@ abbrev pub count_text : List ℕ → ℕ → List ℕ
 count_text word count = word ++ decimal count
 
 -- a word, and the maximum and the median of numbers
-abbrev pub spread_text : List ℕ → List ℕ → List ℕ
-spread_text word numbers = word ++ count_text (codes " max ") (greatest numbers) ++ count_text (codes " median ") (median numbers)
+abbrev pub max_and_median_text : List ℕ → List ℕ → List ℕ
+max_and_median_text word numbers = word ++ count_text (codes " max ") (greatest numbers) ++ count_text (codes " median ") (median numbers)
 
 -- the number of interleavings, if it is at most 10^18
 abbrev pub total_text : Option ℕ → List ℕ
@@ -26,15 +26,15 @@ head_line runs total = count_text (codes "interleavings ") runs ++ total_text to
 -- the number of times that the lines of a block were blocked, and the number of runs in which one was given up
 abbrev pub block_line : List RunSummary → ℕ → List ℕ
 block_line summaries block =
-    count_text (codes "session ") block ++ spread_text (codes " blocked") (numbers_of (Blocked block) summaries)
-    ++ count_text (codes " gave up ") (lost_in block summaries) ++ codes "\n"
+    count_text (codes "session ") block ++ max_and_median_text (codes " blocked") (numbers_of (Blocked block) summaries)
+    ++ count_text (codes " gave up ") (runs_given_up block summaries) ++ codes "\n"
 
 -- in how many runs a query committed, and its import and its distance in these; with its place among those of the file
 abbrev pub query_line : List RunSummary → ℕ × BegunQuery → List ℕ
 query_line summaries p =
     codes "query " ++ p.1.name ++ count_text (codes " committed ") (length (numbers_of (Import p.0) summaries))
-    ++ spread_text (codes " import") (numbers_of (Import p.0) summaries)
-    ++ spread_text (codes " distance") (numbers_of (Distance p.0) summaries) ++ codes "\n"
+    ++ max_and_median_text (codes " import") (numbers_of (Import p.0) summaries)
+    ++ max_and_median_text (codes " distance") (numbers_of (Distance p.0) summaries) ++ codes "\n"
 
 -- the whole
 abbrev pub report_text : (total : Option ℕ) → (blocks : ℕ) → List BegunQuery → List RunSummary → List ℕ

@@ -1,5 +1,5 @@
 -- The size of a run by a measure, and the worst of many runs.
-use Rattle.std.specs.Prelude.{ℕ, ◌==◌, List, [], ◌∷◌, Option, Some, None, map, max, sum}
+use Rattle.std.specs.Prelude.{ℕ, ◌==◌, List, [], ◌∷◌, Option, Some, map, max, sum}
 use Rattle.std.specs.List.{position_or_len}
 use Rattle.esr_explore.specs.declared.measure.Measure.{Measure}
 use Rattle.esr_explore.specs.declared.measure.Measure.TheVariants.{Import, Distance, Blocked}
@@ -19,10 +19,10 @@ amount_of Distance (Some outcome) = outcome.distance
 amount_of _ _ = 0
 
 -- the maximum over the queries; by blocked lines, the sum over the blocks
-abbrev pub size_of : Measure → RunSummary → ℕ
-size_of Import run_summary = greatest (map (amount_of Import) run_summary.outcomes.items)
-size_of Distance run_summary = greatest (map (amount_of Distance) run_summary.outcomes.items)
-size_of Blocked run_summary = capped (sum run_summary.blocked.items)
+abbrev pub severity_of : Measure → RunSummary → ℕ
+severity_of Import run_summary = greatest (map (amount_of Import) run_summary.outcomes.items)
+severity_of Distance run_summary = greatest (map (amount_of Distance) run_summary.outcomes.items)
+severity_of Blocked run_summary = capped (sum run_summary.blocked.items)
 
 -- the number of the first of the greatest, and 0 if the list is empty
 abbrev pub first_greatest : List ℕ → ℕ
@@ -30,4 +30,4 @@ first_greatest sizes = position_or_len (λ size. size == greatest sizes) sizes
 
 -- the number of the first run whose size is the maximum over the runs
 abbrev pub worst_of : Measure → List RunSummary → ℕ
-worst_of measure summaries = first_greatest (map (size_of measure) summaries)
+worst_of measure summaries = first_greatest (map (severity_of measure) summaries)

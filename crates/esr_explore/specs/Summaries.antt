@@ -9,12 +9,12 @@ use Rattle.esr_plan.specs.declared.call.Call.{Call}
 use Rattle.esr_explore.specs.declared.query.Query.{Query}
 use Rattle.esr_explore.specs.declared.run_summary.QueryOutcome.{QueryOutcome}
 use Rattle.esr_explore.specs.declared.run_summary.RunSummary.{RunSummary}
-use Rattle.esr_explore.specs.Turns.{IsRun, RunnerView, Stage, fresh, is_blocked}
+use Rattle.esr_explore.specs.Turns.{IsRun, RunnerView, Stage, new_runner, is_blocked}
 
 -- the number that the begin at a place of a block got
 abbrev pub number_of : List RunnerView → ℕ → ℕ → ℕ
 number_of runners block place =
-    unwrap_or (option_and_then number_in (slice_get (slice_index_or runners block fresh).replies place)) 0
+    unwrap_or (option_and_then number_in (slice_get (slice_index_or runners block new_runner).replies place)) 0
 
 -- a committed query's import, and its distance as audits find it; nothing of another transaction
 abbrev pub IsOutcome : Schedule → ℕ → Option QueryOutcome → Type 0

@@ -22,8 +22,8 @@ pub record RunnerView : Type 0 where
   pub tries : ℕ
   pub blocked : ℕ
 
-abbrev pub fresh : RunnerView
-fresh = record { replies = []; tries = 0; blocked = 0 }
+abbrev pub new_runner : RunnerView
+new_runner = record { replies = []; tries = 0; blocked = 0 }
 
 -- a number as a counter of 64 bits holds it
 abbrev pub capped : ℕ → ℕ
@@ -34,8 +34,8 @@ abbrev pub is_retried : Reply → RunnerView → Bool
 is_retried reply s = is_blocked reply && nat_lt (s.tries + 1) 100
 
 -- the block after a reply to its next line
-abbrev pub noted : Reply → RunnerView → RunnerView
-noted reply s = record {
+abbrev pub with_reply : Reply → RunnerView → RunnerView
+with_reply reply s = record {
   replies = cond (is_retried reply s) s.replies (s.replies ++ reply ∷ []);
   tries = cond (is_retried reply s) (s.tries + 1) 0;
   blocked = cond (is_blocked reply) (capped (s.blocked + 1)) s.blocked;
@@ -52,7 +52,7 @@ history_after (Some e) h = extended h e (reply_to weighted h e)
 
 abbrev pub runner_after : Option Event → Schedule → RunnerView → RunnerView
 runner_after None h s = s
-runner_after (Some e) h s = noted (reply_to weighted h e) s
+runner_after (Some e) h s = with_reply (reply_to weighted h e) s
 
 -- all blocks, and the history that they make
 pub record Stage : Type 0 where
@@ -75,7 +75,7 @@ turn blocks before block = turn_of (slice_index_or blocks block []) block before
 
 abbrev pub begun : List ℤ → List ℕ → List (List Call) → Stage
 begun opening weights blocks =
-    record { history = schedule_of opening weights []; blocks = map (λ _. fresh) (range_with_len 0 (length blocks)) }
+    record { history = schedule_of opening weights []; blocks = map (λ _. new_runner) (range_with_len 0 (length blocks)) }
 
 -- these turns, one after another
 abbrev pub turns : List (List Call) → Stage → List ℕ → Stage
@@ -85,7 +85,7 @@ turns blocks before order = fold (turn blocks) before order
 abbrev pub AreDone : List (List Call) → List RunnerView → Type 0
 AreDone blocks runners =
     (length runners ≡ length blocks)
-    × ((k : ℕ) → k < length blocks → length (slice_index_or runners k fresh).replies ≡ length (slice_index_or blocks k []))
+    × ((k : ℕ) → k < length blocks → length (slice_index_or runners k new_runner).replies ≡ length (slice_index_or blocks k []))
 
 -- The result of a run in which the blocks took their turns in this order, and then in some other until no block had a
 -- line left.

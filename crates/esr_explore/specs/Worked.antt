@@ -1,5 +1,5 @@
 -- Worked examples: the queries of small blocks, sizes of runs, medians, and the lines about runs.
-use Rattle.std.specs.Prelude.{◌≡◌, ℕ, List, [], ◌∷◌, ◌++◌, Some, None, codes, map, pos, refl}
+use Rattle.std.specs.Prelude.{◌≡◌, ℕ, List, [], ◌∷◌, ◌++◌, Some, None, codes, map, refl}
 use Rattle.std.specs.Fmt.{digits}
 use Rattle.std.proofs.Common.{Bor}
 use Rattle.esr_history.specs.declared.event.Refusal.TheVariants.{BlockedByLock, NoSuchItem}
@@ -7,12 +7,11 @@ use Rattle.esr_history.specs.declared.event.Reply.TheVariants.{Begun, Refused}
 use Rattle.esr_history.specs.Worked.{txn}
 use Rattle.esr_plan.specs.declared.call.Call.TheVariants as call
 use Rattle.esr_plan.specs.declared.call.BeginKind.TheVariants as kind
-use Rattle.esr_explore.specs.declared.measure.Measure.TheVariants.{Import, Distance, Blocked}
-use Rattle.esr_explore.specs.declared.run_summary.QueryOutcome.{QueryOutcome}
-use Rattle.esr_explore.specs.Columns.{ascending, median}
+use Rattle.esr_explore.specs.declared.measure.Measure.TheVariants.{Import}
+use Rattle.esr_explore.specs.Columns.{median}
 use Rattle.esr_explore.specs.Queries.{all_queries, begun_at}
-use Rattle.esr_explore.specs.Report.{head_line, spread_text}
-use Rattle.esr_explore.specs.Sizes.{amount_of, first_greatest, greatest}
+use Rattle.esr_explore.specs.Report.{head_line, max_and_median_text}
+use Rattle.esr_explore.specs.Sizes.{amount_of, first_greatest}
 use Rattle.esr_explore.specs.Summaries.{given_up_in}
 
 abbrev name : List ℕ → Bor (List ℕ)
@@ -62,6 +61,6 @@ head_of_more : head_line 7 None ≡ codes "interleavings 7 of more than 10000000
 unfolding digits
 head_of_more = refl
 
-spread_of_four : spread_text (codes " blocked") (5 ∷ 1 ∷ 9 ∷ 3 ∷ []) ≡ codes " blocked max 9 median 3"
+max_and_median_of_four : max_and_median_text (codes " blocked") (5 ∷ 1 ∷ 9 ∷ 3 ∷ []) ≡ codes " blocked max 9 median 3"
 unfolding digits
-spread_of_four = refl
+max_and_median_of_four = refl

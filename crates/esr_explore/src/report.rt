@@ -3,11 +3,11 @@
 ghost use Rattle.std.specs.Prelude.{◌≡◌, ◌++◌, OnOk, flat_map, map};
 ghost use Rattle.std.specs.List.{enumerate_from, range_with_len};
 ghost use Rattle.esr_explore.specs.Queries.{begun_query};
-ghost use Rattle.esr_explore.specs.Report.{block_line, count_text, head_line, query_line, spread_text, total_text};
+ghost use Rattle.esr_explore.specs.Report.{block_line, count_text, head_line, query_line, max_and_median_text, total_text};
 
 use crate::query::Query;
 use crate::run_summary::RunSummary;
-use crate::summary::{Column, gather, lost_in, spread_of};
+use crate::summary::{Column, gather, max_and_median, runs_given_up};
 use std::alloc::{AllocError, Global};
 
 /// Appends a text.
@@ -28,13 +28,13 @@ fn push_count(out: &mut Vec<u8>, word: &str, count: u64) -> Result<(), AllocErro
 }
 
 /// Appends a word, and the maximum and the median of some numbers, 0 if there are none.
-fn push_spread(out: &mut Vec<u8>, word: &str, numbers: Vec<u64>) -> Result<(), AllocError>
-    ensures { OnOk result (out.new.items ≡ out.old.items ++ spread_text word.now numbers.items) }
+fn push_max_and_median(out: &mut Vec<u8>, word: &str, numbers: Vec<u64>) -> Result<(), AllocError>
+    ensures { OnOk result (out.new.items ≡ out.old.items ++ max_and_median_text word.now numbers.items) }
 {
-    let spread = spread_of(numbers)?;
+    let found = max_and_median(numbers)?;
     push_text(out, word)?;
-    push_count(out, " max ", spread.worst)?;
-    push_count(out, " median ", spread.middle)?;
+    push_count(out, " max ", found.maximum)?;
+    push_count(out, " median ", found.median)?;
     Ok(())
 }
 
@@ -69,8 +69,8 @@ fn push_block(
 {
     let blocked = gather(alloc, summaries, Column::Blocked(block))?;
     push_count(out, "session ", block as u64)?;
-    push_spread(out, " blocked", blocked)?;
-    push_count(out, " gave up ", lost_in(summaries, block))?;
+    push_max_and_median(out, " blocked", blocked)?;
+    push_count(out, " gave up ", runs_given_up(summaries, block))?;
     push_text(out, "\n")?;
     Ok(())
 }
@@ -107,8 +107,8 @@ fn push_query(
     push_text(out, "query ")?;
     push_text(out, query.name)?;
     push_count(out, " committed ", imports.len() as u64)?;
-    push_spread(out, " import", imports)?;
-    push_spread(out, " distance", distances)?;
+    push_max_and_median(out, " import", imports)?;
+    push_max_and_median(out, " distance", distances)?;
     push_text(out, "\n")?;
     Ok(())
 }

@@ -11,7 +11,7 @@ ghost use Rattle.esr_base.specs.declared.limits.TheConstants.{MAX_ENTRIES};
 ghost use Rattle.esr_history.specs.Machine.{IsLegal};
 ghost use Rattle.esr_plan.specs.Plan.{weights_of};
 ghost use Rattle.esr_plan.specs.DrivePlans.{IsSound};
-ghost use Rattle.esr_explore.specs.Turns.{AreDone, IsRun, begun, fresh, history_after, runner_after, next_event, stage, turn, turns};
+ghost use Rattle.esr_explore.specs.Turns.{AreDone, IsRun, begun, new_runner, history_after, runner_after, next_event, stage, turn, turns};
 
 use crate::runner::Runner;
 use esr_core::{Machine, StepError};
@@ -52,7 +52,7 @@ fn take_turn(
         return Ok(());
     };
     match machine.step(event) {
-        Ok(reply) => match runner.note(reply) {
+        Ok(reply) => match runner.add_reply(reply) {
             Ok(()) => Ok(()),
             Err(_) => Err(StepError::NoMemory),
         },
@@ -98,7 +98,7 @@ fn take_turns(
 
 /// Creates the runners of blocks, before their first lines.
 fn new_runners(alloc: Global, count: usize) -> Result<Vec<Runner>, AllocError>
-    ensures { IfOk result (λ runners. runners.items ≡ map (λ _. fresh) (range_with_len 0 count)) }
+    ensures { IfOk result (λ runners. runners.items ≡ map (λ _. new_runner) (range_with_len 0 count)) }
 {
     let mut runners = Vec::new(alloc);
     for _block in 0..count {
@@ -111,7 +111,7 @@ fn new_runners(alloc: Global, count: usize) -> Result<Vec<Runner>, AllocError>
 fn find_unfinished(blocks: &[Vec<Call<'_>>], runners: &[Runner], from: usize) -> Option<usize>
     requires { length runners.now ≡ length blocks.now }
     ensures { IfNone result ((k : ℕ) → from ≤ k → k < length blocks.now
-        → length (slice_index_or runners.now k fresh).replies
+        → length (slice_index_or runners.now k new_runner).replies
         ≡ length (slice_index_or (map (λ b. b.items) blocks.now) k [])) }
 {
     for block in from..runners.len() {

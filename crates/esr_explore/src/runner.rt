@@ -1,7 +1,7 @@
 //! A block that is being run.
 
 ghost use Rattle.std.specs.Prelude.{◌≡◌, OnOk};
-ghost use Rattle.esr_explore.specs.Turns.{fresh, is_blocked, noted};
+ghost use Rattle.esr_explore.specs.Turns.{new_runner, is_blocked, with_reply};
 
 use esr_history::Reply;
 use std::alloc::{AllocError, Global};
@@ -40,7 +40,7 @@ pub fn is_blocked(reply: Reply) -> bool
 impl Runner {
     /// Creates a runner of a block, before its first line.
     pub fn new(alloc: Global) -> Runner
-        ensures { result ≡ fresh }
+        ensures { result ≡ new_runner }
     {
         Runner {
             replies: Vec::new(alloc),
@@ -75,9 +75,9 @@ impl Runner {
         replies
     }
 
-    /// Takes down the reply to the next line.
-    pub fn note(&mut self, reply: Reply) -> Result<(), AllocError>
-        ensures { OnOk result (self.new ≡ noted reply self.old) }
+    /// Adds the reply to the next line.
+    pub fn add_reply(&mut self, reply: Reply) -> Result<(), AllocError>
+        ensures { OnOk result (self.new ≡ with_reply reply self.old) }
     {
         let blocked = is_blocked(reply);
         if blocked {

@@ -2,8 +2,8 @@
 
 ghost use Rattle.std.specs.Prelude.{◌≡◌, ◌++◌, [], IfOk, OnOk, map, sum};
 ghost use Rattle.std.specs.List.{cons_option};
-ghost use Rattle.esr_explore.specs.Columns.{has_lost, lost_in, median, number_in, numbers_of, outcome_at};
-ghost use Rattle.esr_explore.specs.Sizes.{amount_of, greatest, size_of, worst_of};
+ghost use Rattle.esr_explore.specs.Columns.{has_given_up, runs_given_up, median, number_in, numbers_of, outcome_at};
+ghost use Rattle.esr_explore.specs.Sizes.{amount_of, greatest, severity_of, worst_of};
 ghost use Rattle.esr_explore.specs.Turns.{capped};
 
 use crate::measure::Measure;
@@ -12,28 +12,28 @@ use std::alloc::{AllocError, Global};
 
 /// The maximum of some numbers, and the one in the middle of them in ascending order.
 #[derive(Clone, Copy)]
-pub struct Spread {
-    pub worst: u64,
-    pub middle: u64,
+pub struct MaxAndMedian {
+    pub maximum: u64,
+    pub median: u64,
 }
 
 /// Returns the maximum and the median of some numbers, 0 and 0 if there are none.
-pub fn spread_of(numbers: Vec<u64>) -> Result<Spread, AllocError>
-    ensures worst { IfOk result (λ spread. spread.worst ≡ greatest numbers.items) }
-    ensures middle { IfOk result (λ spread. spread.middle ≡ median numbers.items) }
+pub fn max_and_median(numbers: Vec<u64>) -> Result<MaxAndMedian, AllocError>
+    ensures maximum { IfOk result (λ found. found.maximum ≡ greatest numbers.items) }
+    ensures median { IfOk result (λ found. found.median ≡ median numbers.items) }
 {
     let mut numbers = numbers;
     numbers.sort()?;
     let count = numbers.len();
     if count == 0 {
-        return Ok(Spread {
-            worst: 0,
-            middle: 0,
+        return Ok(MaxAndMedian {
+            maximum: 0,
+            median: 0,
         });
     }
-    Ok(Spread {
-        worst: numbers[count - 1],
-        middle: numbers[(count - 1) / 2],
+    Ok(MaxAndMedian {
+        maximum: numbers[count - 1],
+        median: numbers[(count - 1) / 2],
     })
 }
 
@@ -96,19 +96,19 @@ pub fn gather(
 }
 
 /// Returns whether a line of the block was given up.
-fn has_lost(run_summary: &RunSummary, block: usize) -> bool
-    ensures { result ≡ has_lost block run_summary.now }
+fn has_given_up(run_summary: &RunSummary, block: usize) -> bool
+    ensures { result ≡ has_given_up block run_summary.now }
 {
     run_summary.given_up.get(block).copied().unwrap_or(0) > 0
 }
 
 /// Returns in how many runs a line of the block was given up.
-pub fn lost_in(summaries: &[RunSummary], block: usize) -> u64
-    ensures { result ≡ lost_in block summaries.now }
+pub fn runs_given_up(summaries: &[RunSummary], block: usize) -> u64
+    ensures { result ≡ runs_given_up block summaries.now }
 {
     let runs = summaries
         .iter()
-        .filter(|run_summary| has_lost(*run_summary, block));
+        .filter(|run_summary| has_given_up(*run_summary, block));
     runs.count() as u64
 }
 
@@ -149,8 +149,8 @@ fn sum_of(counts: &[u64]) -> u64
 }
 
 /// Returns how bad a run is by a measure.
-fn size_of(run_summary: &RunSummary, measure: Measure) -> u64
-    ensures { result ≡ size_of measure run_summary.now }
+fn severity_of(run_summary: &RunSummary, measure: Measure) -> u64
+    ensures { result ≡ severity_of measure run_summary.now }
 {
     match measure {
         Measure::Blocked => sum_of(&run_summary.blocked),
@@ -165,7 +165,7 @@ pub fn worst_of(summaries: &[RunSummary], measure: Measure) -> u64
     let mut worst = 0u64;
     let mut upper_bound = 0u64;
     for i in 0..summaries.len() {
-        let size = size_of(&summaries[i], measure);
+        let size = severity_of(&summaries[i], measure);
         if size > upper_bound {
             upper_bound = size;
             worst = i as u64;

@@ -4,7 +4,7 @@ use Rattle.std.proofs.Common.{eq-eqb, eqb-true, le-leb, leb-true}
 use Rattle.std.proofs.lemmas.Bool.{or_left, or_right, or_cases, and_parts, and_from, lt-leb}
 use Rattle.esr_flow.specs.Types.{Arc, ResidualArc, Forward, Backward}
 use Rattle.esr_flow.specs.Residual.{Falls, finish, residual_capacity, IsResidual, IsPath}
-use Rattle.esr_cert.specs.Steps.{arc_of, start}
+use Rattle.esr_cert.specs.ResidualArcs.{arc_of, start}
 use Rattle.esr_cert.specs.Flow.{within}
 use Rattle.esr_cert.specs.Network.{Network, IsNetwork}
 use Rattle.esr_flow.proofs.Count.{count_below, count_fewer, first_below, first_le, first_passes, first_least, some_below, some_below_from, some_below_at}

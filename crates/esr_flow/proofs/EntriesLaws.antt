@@ -7,7 +7,7 @@ use Rattle.esr_cert.specs.Network.{arc_at}
 use Rattle.esr_flow.specs.ShortEntry.{AdjacencyEntry}
 use Rattle.esr_cert.specs.declared.rows.Span.{Span}
 use Rattle.esr_cert.specs.Flow.{within, amount_at}
-use Rattle.esr_cert.specs.Steps.{arc_of, start, step_at, same_step, has_step, HasSteps}
+use Rattle.esr_cert.specs.ResidualArcs.{arc_of, start, step_at, same_step, has_step, HasSteps}
 use Rattle.esr_flow.specs.Residual.{residual_capacity, left_of}
 use Rattle.esr_flow.specs.ResidualGraph.{network_arcs, network_of, adjacency_entry, entry_at, AreEntries, IsEntry, IsAdjacencyRow, ResidualGraph}
 use Rattle.esr_cert.specs.Rows.{span_at, row_in}

@@ -7,9 +7,9 @@ use Rattle.std.proofs.lemmas.List.Elements.{Contains-push_cases}
 use Rattle.esr_flow.specs.Types.{Arc, ResidualArc, Forward, Backward}
 use Rattle.esr_cert.specs.Network.{arc_at}
 use Rattle.esr_cert.specs.Flow.{within, amount_at}
-use Rattle.esr_cert.specs.Steps.{start, step_at}
-use Rattle.esr_cert.specs.Rows.{span_at, first_steps, steps_from, row_of, Counted}
-use Rattle.esr_cert.proofs.StepsLaws.{steps_parts, room_for, first_all, first_next}
+use Rattle.esr_cert.specs.ResidualArcs.{start, step_at}
+use Rattle.esr_cert.specs.Rows.{span_at, residual_arcs_below, steps_from, row_of, Counted}
+use Rattle.esr_cert.proofs.ResidualArcsLaws.{steps_parts, room_for, first_all, first_next}
 use Rattle.esr_cert.proofs.RowsLaws.{row_length, at_row, counted_more}
 use Rattle.esr_flow.specs.ShortEntry.{AdjacencyEntry}
 use Rattle.esr_flow.specs.Residual.{left_of}
@@ -17,16 +17,16 @@ use Rattle.esr_flow.specs.ResidualGraph.{network_arcs, adjacency_entry, entry_at
 use Rattle.esr_flow.proofs.EntriesLaws.{along_is, against_is}
 
 -- the first steps are those before an arc, its two, and later ones
-pub first_split : (i n : ℕ) → i < n → (rest : List ResidualArc) × (first_steps n ≡ first_steps i ++ Forward i ∷ Backward i ∷ rest)
+pub first_split : (i n : ℕ) → i < n → (rest : List ResidualArc) × (residual_arcs_below n ≡ residual_arcs_below i ++ Forward i ∷ Backward i ∷ rest)
 first_split i zero l = absurd (omega arith)
 first_split i (suc n) l =
-    let again : i < n → (rest : List ResidualArc) × (first_steps n ≡ first_steps i ++ Forward i ∷ Backward i ∷ rest) = first_split i n in
+    let again : i < n → (rest : List ResidualArc) × (residual_arcs_below n ≡ residual_arcs_below i ++ Forward i ∷ Backward i ∷ rest) = first_split i n in
     let split : (i ≡ n) ⊎ (i < n) = grind arith in
     elim split [
-      | inl e ↦ ([], ap (λ k. first_steps k ++ Forward k ∷ Backward k ∷ []) (sym e))
+      | inl e ↦ ([], ap (λ k. residual_arcs_below k ++ Forward k ∷ Backward k ∷ []) (sym e))
       | inr m ↦
           let (rest, is) = again m in
-          (rest ++ Forward n ∷ Backward n ∷ [], ap (λ xs. xs ++ Forward n ∷ Backward n ∷ []) is ∙ append_assoc (first_steps i) (Forward i ∷ Backward i ∷ rest) (Forward n ∷ Backward n ∷ []))
+          (rest ++ Forward n ∷ Backward n ∷ [], ap (λ xs. xs ++ Forward n ∷ Backward n ∷ []) is ∙ append_assoc (residual_arcs_below i) (Forward i ∷ Backward i ∷ rest) (Forward n ∷ Backward n ∷ []))
     ]
 
 -- the entries of some steps are in their places, and the steps of each node are counted
@@ -44,7 +44,7 @@ module _ (g : ResidualGraph) where
   begin v = (span_at g.rows.now.spans.items v).begin
 
   -- a step comes after the earlier steps of its node
-  module _ (done rest : List ResidualArc) (s : ResidualArc) (v : ℕ) (known : v < g.node_count) (starts : start (network_arcs g) s ≡ v) (all : first_steps (length (network_arcs g)) ≡ done ++ s ∷ rest) where
+  module _ (done rest : List ResidualArc) (s : ResidualArc) (v : ℕ) (known : v < g.node_count) (starts : start (network_arcs g) s ≡ v) (all : residual_arcs_below (length (network_arcs g)) ≡ done ++ s ∷ rest) where
     abbrev place : ℕ
     place = length (steps_from (network_arcs g) v done)
 
@@ -100,7 +100,7 @@ module _ (g : ResidualGraph) where
         ];
       }
 
-  pub all_put : (flow counts : List ℕ) (entries : List AdjacencyEntry) → ArePut g flow (first_steps (length (network_arcs g))) counts entries → AreEntries g flow entries
+  pub all_put : (flow counts : List ℕ) (entries : List AdjacencyEntry) → ArePut g flow (residual_arcs_below (length (network_arcs g))) counts entries → AreEntries g flow entries
   all_put flow counts entries are =
       ext_get_or (entry_at [] 0) entries (map (adjacency_entry (network_arcs g) flow) steps) (are.long ∙ sym (length-map steps (adjacency_entry (network_arcs g) flow))) (λ k l.
       let inside : k < length steps = omega (arith, are.long) in
@@ -108,8 +108,8 @@ module _ (g : ResidualGraph) where
       ∙ sym (get_or-map (adjacency_entry (network_arcs g) flow) steps k (Forward 0) (entry_at [] 0) inside))
 
   -- the two steps of an arc
-  module _ (flow counts : List ℕ) (entries : List AdjacencyEntry) (i : ℕ) (l : i < length (network_arcs g)) (are : ArePut g flow (first_steps i) counts entries) (arc : Arc) (is : arc ≡ arc_at (network_arcs g) i) (x : ℕ) (x_is : x ≡ amount_at flow i) where
-    split : (rest : List ResidualArc) × (first_steps (length (network_arcs g)) ≡ first_steps i ++ Forward i ∷ Backward i ∷ rest)
+  module _ (flow counts : List ℕ) (entries : List AdjacencyEntry) (i : ℕ) (l : i < length (network_arcs g)) (are : ArePut g flow (residual_arcs_below i) counts entries) (arc : Arc) (is : arc ≡ arc_at (network_arcs g) i) (x : ℕ) (x_is : x ≡ amount_at flow i) where
+    split : (rest : List ResidualArc) × (residual_arcs_below (length (network_arcs g)) ≡ residual_arcs_below i ++ Forward i ∷ Backward i ∷ rest)
     split = first_split i (length (network_arcs g)) l
 
     known_from : arc.from < g.node_count
@@ -125,30 +125,30 @@ module _ (g : ResidualGraph) where
     starts_against = ap (λ a. a.to) (sym is)
 
     pub along_within : begin arc.from + get_or counts arc.from 0 < length entries
-    along_within = put_within (first_steps i) (Backward i ∷ split.0) (Forward i) arc.from known_from starts_along split.1 flow counts entries are
+    along_within = put_within (residual_arcs_below i) (Backward i ∷ split.0) (Forward i) arc.from known_from starts_along split.1 flow counts entries are
 
     pub along_bounded : get_or counts arc.from 0 < 4294967296
-    along_bounded = put_bounded (first_steps i) (Backward i ∷ split.0) (Forward i) arc.from known_from starts_along split.1 flow counts entries are
+    along_bounded = put_bounded (residual_arcs_below i) (Backward i ∷ split.0) (Forward i) arc.from known_from starts_along split.1 flow counts entries are
 
     module _ (counts_along : List ℕ) (entries_along : List AdjacencyEntry) (a : AdjacencyEntry) (a_is : a ≡ record { to = arc.to; has_residual = within 1 (left_of arc.capacity x); opposite_has_residual = within 1 (Some x) }) (c : counts_along ≡ set counts arc.from (get_or counts arc.from 0 + 1)) (e : entries_along ≡ set entries (begin arc.from + get_or counts arc.from 0) a) where
-      after_along : ArePut g flow (first_steps i ++ Forward i ∷ []) counts_along entries_along
+      after_along : ArePut g flow (residual_arcs_below i ++ Forward i ∷ []) counts_along entries_along
       after_along =
-          subst (λ cs. ArePut g flow (first_steps i ++ Forward i ∷ []) cs entries_along) (sym c)
-          (subst (ArePut g flow (first_steps i ++ Forward i ∷ []) (set counts arc.from (get_or counts arc.from 0 + 1))) (sym e)
-          (put_more (first_steps i) (Backward i ∷ split.0) (Forward i) arc.from known_from starts_along split.1 flow counts entries are a (a_is ∙ along_is (network_arcs g) flow i x arc is x_is)))
+          subst (λ cs. ArePut g flow (residual_arcs_below i ++ Forward i ∷ []) cs entries_along) (sym c)
+          (subst (ArePut g flow (residual_arcs_below i ++ Forward i ∷ []) (set counts arc.from (get_or counts arc.from 0 + 1))) (sym e)
+          (put_more (residual_arcs_below i) (Backward i ∷ split.0) (Forward i) arc.from known_from starts_along split.1 flow counts entries are a (a_is ∙ along_is (network_arcs g) flow i x arc is x_is)))
 
-      later : first_steps (length (network_arcs g)) ≡ (first_steps i ++ Forward i ∷ []) ++ Backward i ∷ split.0
-      later = split.1 ∙ sym (append_assoc (first_steps i) (Forward i ∷ []) (Backward i ∷ split.0))
+      later : residual_arcs_below (length (network_arcs g)) ≡ (residual_arcs_below i ++ Forward i ∷ []) ++ Backward i ∷ split.0
+      later = split.1 ∙ sym (append_assoc (residual_arcs_below i) (Forward i ∷ []) (Backward i ∷ split.0))
 
       pub against_within : begin arc.to + get_or counts_along arc.to 0 < length entries_along
-      against_within = put_within (first_steps i ++ Forward i ∷ []) split.0 (Backward i) arc.to known_to starts_against later flow counts_along entries_along after_along
+      against_within = put_within (residual_arcs_below i ++ Forward i ∷ []) split.0 (Backward i) arc.to known_to starts_against later flow counts_along entries_along after_along
 
       pub against_bounded : get_or counts_along arc.to 0 < 4294967296
-      against_bounded = put_bounded (first_steps i ++ Forward i ∷ []) split.0 (Backward i) arc.to known_to starts_against later flow counts_along entries_along after_along
+      against_bounded = put_bounded (residual_arcs_below i ++ Forward i ∷ []) split.0 (Backward i) arc.to known_to starts_against later flow counts_along entries_along after_along
 
-      pub put_both : (counts_now : List ℕ) (entries_now : List AdjacencyEntry) (b : AdjacencyEntry) → b ≡ record { to = arc.from; has_residual = within 1 (Some x); opposite_has_residual = within 1 (left_of arc.capacity x) } → counts_now ≡ set counts_along arc.to (get_or counts_along arc.to 0 + 1) → entries_now ≡ set entries_along (begin arc.to + get_or counts_along arc.to 0) b → ArePut g flow (first_steps (i + 1)) counts_now entries_now
+      pub put_both : (counts_now : List ℕ) (entries_now : List AdjacencyEntry) (b : AdjacencyEntry) → b ≡ record { to = arc.from; has_residual = within 1 (Some x); opposite_has_residual = within 1 (left_of arc.capacity x) } → counts_now ≡ set counts_along arc.to (get_or counts_along arc.to 0 + 1) → entries_now ≡ set entries_along (begin arc.to + get_or counts_along arc.to 0) b → ArePut g flow (residual_arcs_below (i + 1)) counts_now entries_now
       put_both counts_now entries_now b b_is d f =
           subst (λ done. ArePut g flow done counts_now entries_now) (first_next i)
-          (subst (λ cs. ArePut g flow ((first_steps i ++ Forward i ∷ []) ++ Backward i ∷ []) cs entries_now) (sym d)
-          (subst (ArePut g flow ((first_steps i ++ Forward i ∷ []) ++ Backward i ∷ []) (set counts_along arc.to (get_or counts_along arc.to 0 + 1))) (sym f)
-          (put_more (first_steps i ++ Forward i ∷ []) split.0 (Backward i) arc.to known_to starts_against later flow counts_along entries_along after_along b (b_is ∙ against_is (network_arcs g) flow i x arc is x_is))))
+          (subst (λ cs. ArePut g flow ((residual_arcs_below i ++ Forward i ∷ []) ++ Backward i ∷ []) cs entries_now) (sym d)
+          (subst (ArePut g flow ((residual_arcs_below i ++ Forward i ∷ []) ++ Backward i ∷ []) (set counts_along arc.to (get_or counts_along arc.to 0 + 1))) (sym f)
+          (put_more (residual_arcs_below i ++ Forward i ∷ []) split.0 (Backward i) arc.to known_to starts_against later flow counts_along entries_along after_along b (b_is ∙ against_is (network_arcs g) flow i x arc is x_is))))

@@ -5,7 +5,7 @@ use Rattle.std.proofs.lemmas.Bool.{cases_eq}
 use Rattle.std.proofs.lemmas.List.{length-replicate, get_or-replicate}
 use Rattle.esr_flow.specs.Types.{Arc, ResidualArc, Forward, Backward}
 use Rattle.esr_flow.specs.Residual.{Falls, left_of, finish, residual_capacity, IsPath, shift, raise}
-use Rattle.esr_cert.specs.Steps.{arc_of, start}
+use Rattle.esr_cert.specs.ResidualArcs.{arc_of, start}
 use Rattle.esr_cert.specs.Flow.{within, amount_at, carried, inflow, outflow, IsFlow, worth}
 use Rattle.esr_cert.specs.Network.{arc_at, Network, IsNetwork}
 use Rattle.esr_cert.proofs.Cut.{pick, pick_add, pick_zero, nothing_into_source}

@@ -7,9 +7,9 @@ use Rattle.esr_cert.proofs.Sound.{IsProblem}
 use Rattle.esr_cert.proofs.Least.{is_network}
 use Rattle.esr_flow.specs.IsLaidOut.{net_with, IsGraphOf}
 use Rattle.std.specs.List.Sorted.{IsNonDecreasingBy}
-use Rattle.esr_cert.specs.Steps.{rank_of, HasSteps}
+use Rattle.esr_cert.specs.ResidualArcs.{rank_of, HasSteps}
 use Rattle.esr_cert.specs.Rows.{AreLaidOut}
-use Rattle.esr_cert.proofs.StepsLaws.{has_steps, row_ascends}
+use Rattle.esr_cert.proofs.ResidualArcsLaws.{has_steps, row_ascends}
 
 module _ (p : Problem) (node_count source sink : ℕ) (a : node_count ≡ size p + 2) (b : source ≡ size p) (c : sink ≡ size p + 1) where
   pub net_is : net_with p node_count source sink ≡ network p

@@ -7,7 +7,7 @@ use Rattle.esr_cert.specs.Cut.{crosses, returns_from, capacity_or_zero, across, 
 use Rattle.esr_cert.proofs.Cut.{cut, carried_at_most, carried_full, full_from, nothing_back, nothing_from}
 use Rattle.esr_flow.specs.Types.{ResidualArc, Forward, Backward}
 use Rattle.esr_flow.specs.Residual.{left_of, finish, IsResidual, IsPath}
-use Rattle.esr_cert.specs.Steps.{start}
+use Rattle.esr_cert.specs.ResidualArcs.{start}
 
 -- a set that residual steps do not leave
 abbrev pub Keeps : Network → List ℕ → (ℕ → Bool) → Type 0

@@ -1,7 +1,7 @@
 -- The labels of a search: by how many levels a node's first visit precedes the sink's.
 use Rattle.std.proofs.Common.{◌≡◌, ℕ, ◌+◌, ◌-◌, ◌<◌, ◌≤◌, ◌⊎◌, max, List, length, set, sym, ap, ◌∙◌, subst, inl, inr, arith, length-set, get_or-set_other, get_or-set_same}
 use Rattle.std.proofs.lemmas.Bool.{cases_eq, cases_lt}
-use Rattle.esr_cert.specs.Steps.{start}
+use Rattle.esr_cert.specs.ResidualArcs.{start}
 use Rattle.esr_flow.specs.Residual.{finish, Falls}
 use Rattle.esr_cert.specs.Network.{Network}
 use Rattle.esr_flow.specs.Search.{visit_at, label_at, EndsVisited, FoundSink, Guides, Visit}

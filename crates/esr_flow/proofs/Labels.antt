@@ -5,7 +5,7 @@ use Rattle.std.proofs.lemmas.Bool.{or_left, or_right, or_cases, and_parts, and_f
 use Rattle.esr_flow.specs.Types.{Arc, ResidualArc, Forward, Backward}
 use Rattle.esr_cert.specs.Flow.{within, amount_at}
 use Rattle.esr_flow.specs.Residual.{left_of, finish, residual_capacity, IsPath, Falls, shift, raise}
-use Rattle.esr_cert.specs.Steps.{arc_of, start}
+use Rattle.esr_cert.specs.ResidualArcs.{arc_of, start}
 use Rattle.esr_cert.specs.Network.{arc_at}
 
 pub label_bound : (arcs : List Arc) (flow : List ℕ) (d : ℕ → ℕ) → Falls arcs flow d → (path : List ResidualArc) (a b : ℕ) → IsPath arcs flow a path b → d a ≤ length path + d b

@@ -7,16 +7,16 @@ use Rattle.esr_cert.specs.Network.{arc_at, predecessor_arc, network}
 use Rattle.esr_cert.specs.Starts.{starts_from}
 use Rattle.esr_cert.specs.Views.{chain_view}
 use Rattle.esr_cert.proofs.Sound.{facts, IsProblem}
-use Rattle.esr_cert.specs.Links as certs
-use Rattle.esr_cert.proofs.LinksLaws as laws
+use Rattle.esr_cert.specs.ChainArcs as certs
+use Rattle.esr_cert.proofs.ChainArcsLaws as laws
 use Rattle.esr_cert.proofs.ArcsLaws.{arcs_long, arc_of_pair, writer_before}
 use Rattle.esr_flow.specs.Types.{Arc}
 use Rattle.esr_flow.specs.Search.{is_marked}
-use Rattle.esr_flow.specs.Reached.{IsKeptOver, HasLinks, first_back}
+use Rattle.esr_flow.specs.Reached.{IsKeptOver, HasChainArcs, first_back}
 use Rattle.esr_flow.proofs.ReachLaws.{kept_equal}
 
 -- an arc between two writers that are both marked, or both not
-pub link_kept : (arcs : List Arc) (flow : List ℕ) (marks : List Bool) (chain : code.Chain) (begin : ℕ) → HasLinks arcs chain begin → (j : ℕ) → 0 < j → j < length chain.writers.items
+pub link_kept : (arcs : List Arc) (flow : List ℕ) (marks : List Bool) (chain : code.Chain) (begin : ℕ) → HasChainArcs arcs chain begin → (j : ℕ) → 0 < j → j < length chain.writers.items
     → is_marked marks (get_or chain.writers.items (j - 1) 0) ≡ is_marked marks (get_or chain.writers.items j 0) → IsKeptOver arcs flow marks (begin + j)
 link_kept arcs flow marks chain begin has j some inside same =
     kept_equal arcs flow marks (begin + j) (ap (is_marked marks) (has.from j some inside) ∙ same ∙ sym (ap (is_marked marks) (has.to j some inside)))
@@ -47,9 +47,9 @@ module _ (p : Problem) (sound : is_well_formed p ≡ true) where
       pair_kept flow marks i (omega (arith, not_before, fs)) (omega (arith, inside, fs, ap length ps)) (ap (λ (e : ℕ × ℕ). is_marked marks e.1) at ∙ (same ∙ sym (ap (λ (e : ℕ × ℕ). is_marked marks e.0) at)))
 
   module _ (chains : List code.Chain) (are : map chain_view chains ≡ p.chains) where
-    pub has_links : (k begin : ℕ) (chain : code.Chain) → k < length chains → chain ≡ get_or chains k chain → begin ≡ get_or starts k 0 → HasLinks (network p).arcs chain begin
+    pub has_links : (k begin : ℕ) (chain : code.Chain) → k < length chains → chain ≡ get_or chains k chain → begin ≡ get_or starts k 0 → HasChainArcs (network p).arcs chain begin
     has_links k begin chain inside is at =
-        let all : certs.HasLinks (network p).arcs (size p) chain begin = laws.has_links p sound chains are k begin chain inside is at in
+        let all : certs.HasChainArcs (network p).arcs (size p) chain begin = laws.has_links p sound chains are k begin chain inside is at in
         record {
           inside = all.inside;
           from = λ j some m. all.from j (omega (arith, all.whole, m)) ∙ writer_before (size p) chain.writers.items j some;

@@ -3,7 +3,7 @@ use Rattle.std.proofs.Common.{◌≡◌, ℕ, ◌<◌, Bool, true, false, List, 
 use Rattle.std.proofs.lemmas.Bool.{cases_eq}
 use Rattle.esr_cert.specs.Network.{Network, IsNetwork, arc_at}
 use Rattle.esr_cert.specs.Flow.{within, amount_at}
-use Rattle.esr_cert.specs.Steps.{arc_of, start}
+use Rattle.esr_cert.specs.ResidualArcs.{arc_of, start}
 use Rattle.esr_flow.specs.Types.{Arc, ResidualArc, Forward, Backward}
 use Rattle.esr_flow.specs.Residual.{finish, left_of, IsResidual, IsPath}
 use Rattle.esr_flow.specs.Search.{is_marked}

@@ -2,7 +2,7 @@
 use Rattle.std.proofs.Common.{◌≡◌, ℕ, suc, ◌+◌, ◌≤◌, Bool, true, leb, ltb, List, [], ◌∷◌, ◌++◌, length, refl, arith, lt-ltb}
 use Rattle.std.proofs.lemmas.Bool.{ltb-true}
 use Rattle.esr_cert.specs.Network.{Network, IsNetwork}
-use Rattle.esr_cert.specs.Steps.{start}
+use Rattle.esr_cert.specs.ResidualArcs.{start}
 use Rattle.esr_flow.specs.Types.{ResidualArc}
 use Rattle.esr_flow.specs.Residual.{finish, IsPath}
 use Rattle.esr_flow.specs.Augmentation.{IsReach}

@@ -4,7 +4,7 @@ use Rattle.std.proofs.lemmas.Bool.{cases_eq}
 use Rattle.std.proofs.lemmas.List.{get_or_append_left, get_or_push, length_push, get_or_default}
 use Rattle.esr_flow.specs.Types.{Arc, ResidualArc, Forward, Backward}
 use Rattle.esr_flow.specs.ShortEntry.{AdjacencyEntry}
-use Rattle.esr_cert.specs.Steps.{arc_of, start, step_at}
+use Rattle.esr_cert.specs.ResidualArcs.{arc_of, start, step_at}
 use Rattle.esr_flow.specs.Residual.{finish, IsResidual}
 use Rattle.esr_cert.specs.Network.{Network, IsNetwork}
 use Rattle.esr_flow.specs.ResidualGraph.{IsEntry, IsAdjacencyRow}

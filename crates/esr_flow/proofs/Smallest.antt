@@ -13,7 +13,7 @@ use Rattle.esr_cert.specs.Cut.{with_source}
 use Rattle.esr_cert.proofs.Sound.{IsClosed, IsProblem, closed_facts, closed_from}
 use Rattle.esr_cert.proofs.Least.{with_the_source, without_sink, is_network, limited, cost_across, worth_le_cost}
 use Rattle.esr_flow.specs.Residual.{left_of, finish, IsPath}
-use Rattle.esr_cert.specs.Steps.{arc_of, start}
+use Rattle.esr_cert.specs.ResidualArcs.{arc_of, start}
 use Rattle.esr_flow.specs.Augmentation.{IsReach}
 use Rattle.esr_flow.proofs.Keeps.{Keeps, strong, keeps_from, keeps_path}
 

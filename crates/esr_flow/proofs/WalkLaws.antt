@@ -2,7 +2,7 @@
 use Rattle.std.proofs.Common.{◌≡◌, ℕ, zero, suc, ◌+◌, ◌-◌, ◌<◌, ◌≤◌, List, [], ◌∷◌, ◌++◌, length, get_or, set, reverse, refl, sym, ap, subst, arith}
 use Rattle.std.proofs.lemmas.List.{length_push, reverse-append, length-reverse}
 use Rattle.esr_flow.specs.Types.{Arc, ResidualArc, Forward, Backward}
-use Rattle.esr_cert.specs.Steps.{arc_of, start, opposite}
+use Rattle.esr_cert.specs.ResidualArcs.{arc_of, start, opposite}
 use Rattle.esr_flow.specs.Residual.{finish, IsResidual, IsPath}
 use Rattle.esr_cert.specs.Network.{Network, IsNetwork}
 use Rattle.esr_cert.specs.declared.rows.Span.{Span}

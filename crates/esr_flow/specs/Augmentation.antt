@@ -3,7 +3,7 @@
 use Rattle.std.specs.Prelude.{◌≡◌, ℕ, zero, suc, ◌≤◌, Bool, true, List, length, replicate, Some}
 use Rattle.esr_cert.specs.Network.{Network}
 use Rattle.esr_flow.specs.Types.{ResidualArc}
-use Rattle.esr_cert.specs.Steps.{start}
+use Rattle.esr_cert.specs.ResidualArcs.{start}
 use Rattle.esr_flow.specs.Residual.{finish, IsResidual, IsPath, bottleneck, raise}
 
 -- one augmentation, along a residual path with fewest arcs, by its bottleneck

@@ -4,7 +4,7 @@ use Rattle.std.specs.List.Sorted.{IsNonDecreasingBy}
 use Rattle.esr_cert.specs.Problem.{Problem}
 use Rattle.esr_cert.specs.declared.rows.Rows.{Rows}
 use Rattle.esr_cert.specs.Network.{Network, IsNetwork, network}
-use Rattle.esr_cert.specs.Steps.{rank_of, HasSteps}
+use Rattle.esr_cert.specs.ResidualArcs.{rank_of, HasSteps}
 use Rattle.esr_cert.specs.Rows.{span_at, row_in, row_of, AreSteps}
 
 -- the arcs of a problem, with this number of nodes

@@ -3,7 +3,7 @@ use Rattle.std.specs.Prelude.{◌≡◌, ℕ, ◌<◌, ◌≤◌, List, length, 
 use Rattle.esr_flow.specs.Types.{Arc, ResidualArc}
 use Rattle.esr_cert.specs.Network.{Network}
 use Rattle.esr_cert.specs.Flow.{amount_at, IsFlow, worth}
-use Rattle.esr_cert.specs.Steps.{arc_of}
+use Rattle.esr_cert.specs.ResidualArcs.{arc_of}
 use Rattle.esr_flow.specs.Residual.{bottleneck, IsPath}
 
 abbrev pub InArcs : List Arc → List ResidualArc → Type 0

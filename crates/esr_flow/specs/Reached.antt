@@ -4,7 +4,7 @@ use Rattle.esr_cert.specs.declared.problem.Chain.{Chain}
 use Rattle.esr_cert.specs.Problem.{Problem}
 use Rattle.esr_cert.specs.Network.{Network, arc_at}
 use Rattle.esr_cert.specs.Starts.{starts_from}
-use Rattle.esr_cert.specs.Steps.{arc_of, start}
+use Rattle.esr_cert.specs.ResidualArcs.{arc_of, start}
 use Rattle.esr_flow.specs.Types.{Arc, ResidualArc}
 use Rattle.esr_flow.specs.Residual.{finish, IsResidual, IsPath}
 use Rattle.esr_flow.specs.Search.{is_marked}
@@ -26,7 +26,7 @@ abbrev pub IsKept : List Arc → List ℕ → List Bool → Type 0
 IsKept arcs flow marks = (i : ℕ) → i < length arcs → IsKeptOver arcs flow marks i
 
 -- the arcs of a chain begin at a number, and those between its writers lead from each to the next
-pub record HasLinks (arcs : List Arc) (chain : Chain) (begin : ℕ) : Type 0 where
+pub record HasChainArcs (arcs : List Arc) (chain : Chain) (begin : ℕ) : Type 0 where
   pub inside : begin + length chain.costs.items ≤ length arcs
   pub from : (j : ℕ) → 0 < j → j < length chain.writers.items
       → (arc_at arcs (begin + j)).from ≡ get_or chain.writers.items (j - 1) 0

@@ -6,7 +6,7 @@ use Rattle.esr_cert.specs.Network.{Network, network}
 use Rattle.esr_flow.specs.ShortEntry.{AdjacencyEntry}
 pub use Rattle.esr_flow.specs.declared.graph.ResidualGraph.{ResidualGraph}
 use Rattle.esr_cert.specs.Flow.{within}
-use Rattle.esr_cert.specs.Steps.{arc_of, start, opposite, step_at}
+use Rattle.esr_cert.specs.ResidualArcs.{arc_of, start, opposite, step_at}
 use Rattle.esr_flow.specs.IsLaidOut.{net_with}
 use Rattle.esr_flow.specs.Residual.{finish, residual_capacity}
 

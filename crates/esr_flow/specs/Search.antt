@@ -5,7 +5,7 @@ pub use Rattle.esr_flow.specs.declared.search.Visit.{Visit}
 use Rattle.esr_flow.specs.declared.search.Found.{Found}
 use Rattle.esr_flow.specs.declared.search.Found.TheVariants.{Path, Reach}
 use Rattle.esr_cert.specs.Network.{Network}
-use Rattle.esr_cert.specs.Steps.{start}
+use Rattle.esr_cert.specs.ResidualArcs.{start}
 use Rattle.esr_flow.specs.Residual.{finish, IsResidual, IsPath, Falls}
 use Rattle.esr_flow.specs.Augmentation.{IsReach}
 

@@ -8,7 +8,7 @@ ghost use Rattle.std.specs.Prelude.{◌≡◌, ◌+◌, ◌<◌, length, get_or,
 ghost use Rattle.esr_cert.specs.Flow.{within};
 ghost use Rattle.esr_cert.specs.Network.{network};
 ghost use Rattle.esr_flow.specs.Residual.{left_of, residual_capacity, finish};
-ghost use Rattle.esr_cert.specs.Steps.{arc_of};
+ghost use Rattle.esr_cert.specs.ResidualArcs.{arc_of};
 ghost use Rattle.esr_cert.specs.Rows.{span_at};
 ghost use Rattle.esr_flow.specs.IsLaidOut.{IsGraphOf};
 
@@ -29,7 +29,7 @@ pub struct ResidualGraph<'a> {
 
 impl<'a> ResidualGraph<'a> {
     ghost use Rattle.std.specs.Prelude.{◌≡◌, ◌<◌, length, set, IfOk};
-    ghost use Rattle.esr_cert.specs.Steps.{arc_of, step_at};
+    ghost use Rattle.esr_cert.specs.ResidualArcs.{arc_of, step_at};
     ghost use Rattle.esr_cert.specs.Rows.{span_at, row_in};
     ghost use Rattle.esr_flow.specs.ResidualGraph.{AreEntries, network_arcs};
 

@@ -7,7 +7,7 @@
 ghost use Rattle.std.specs.Prelude.{◌≡◌, ℕ, ◌+◌, ◌-◌, ◌*◌, ◌^◌, ◌<◌, ◌≤◌, false, length, set, take, IfOk, List};
 ghost use Rattle.esr_cert.specs.declared.range.TheConstants.{MAX_COST};
 ghost use Rattle.esr_cert.specs.Network.{network};
-ghost use Rattle.esr_cert.specs.Steps.{arc_of};
+ghost use Rattle.esr_cert.specs.ResidualArcs.{arc_of};
 ghost use Rattle.esr_flow.specs.Residual.{smaller, bottleneck, shift, raise};
 ghost use Rattle.esr_cert.specs.Flow.{amount_at, IsFlow, worth};
 ghost use Rattle.esr_flow.specs.Augmentation.{IsReach, Augments, AugmentsFromZero, AugmentsFrom};

@@ -7,7 +7,7 @@
 ghost use Rattle.std.specs.Prelude.{◌≡◌, ◌<◌, ◌≤◌, true, length, IfOk, IfSome};
 ghost use Rattle.esr_cert.specs.Flow.{within};
 ghost use Rattle.esr_flow.specs.Residual.{residual_capacity};
-ghost use Rattle.esr_cert.specs.Steps.{opposite, step_at};
+ghost use Rattle.esr_cert.specs.ResidualArcs.{opposite, step_at};
 ghost use Rattle.esr_flow.specs.ResidualGraph.{network_arcs, network_of, AreEntries, IsAdjacencyRow, entry_at};
 ghost use Rattle.esr_flow.specs.Search.{Guides, IsGuided, label_at};
 ghost use Rattle.esr_flow.specs.Maximum.{InArcs};

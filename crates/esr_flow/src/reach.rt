@@ -14,7 +14,7 @@
 //! arcs confirms it. When each pass covered all arcs, the passes took a fifth of an audit's instructions.
 ghost use Rattle.std.specs.Prelude.{◌≡◌, ℕ, ◌+◌, ◌-◌, ◌<◌, ◌≤◌, true, false, length, get_or, IfOk, IfSome};
 ghost use Rattle.esr_flow.specs.ResidualGraph.{network_arcs, network_of};
-ghost use Rattle.esr_flow.specs.Reached.{AreReached, IsKeptOver, IsKept, HasLinks, first_back};
+ghost use Rattle.esr_flow.specs.Reached.{AreReached, IsKeptOver, IsKept, HasChainArcs, first_back};
 ghost use Rattle.esr_flow.specs.Search.{ReachesNoSink, is_marked};
 
 use crate::graph::{ResidualGraph, have_capacity};
@@ -202,7 +202,7 @@ fn pass_chain(
     begin: usize,
 ) -> bool
     requires flow { length flow.now ≡ length (network_arcs graph.now) }
-    requires chain { HasLinks (network_arcs graph.now) chain.now begin }
+    requires chain { HasChainArcs (network_arcs graph.now) chain.now begin }
     requires reached { AreReached (network_of graph.now) flow.now marks.old }
     ensures reached { AreReached (network_of graph.now) flow.now marks.new }
     ensures marks { result ≡ false → marks.new ≡ marks.old }

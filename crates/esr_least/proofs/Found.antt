@@ -6,17 +6,16 @@ use Rattle.esr_items.specs.Values.{IsValue, max_distance}
 use Rattle.esr_history.specs.Machine.{DistanceFunction, Schedule, IsLegal}
 use Rattle.esr_history.specs.Queries.{is_committed_query}
 use Rattle.esr_history.proofs.Traces.{IsMetric}
-use Rattle.esr_audit.specs.declared.finding.Finding.{Finding}
 use Rattle.esr_audit.specs.Findings.{IsFindingOf, IsFinding, summary, summary_of}
 use Rattle.esr_audit.proofs.HasFinding.{auditable, each_committed_query_has_a_finding}
 use Rattle.esr_audit.proofs.SummaryLaws.{summary_is}
-use Rattle.esr_least.specs.Audits.{audited, IsOfFinding}
+use Rattle.esr_least.specs.Audits.{audited, IsSummaryOfFinding}
 use Rattle.esr_least.specs.declared.query.QueryAudit.{QueryAudit}
 
 pub is_of_finding : (d : DistanceFunction) → ((w : List ℕ) → IsMetric (d w))
     → ((w : List ℕ) (x : ℕ) (a b : ℤ) → IsValue a → IsValue b → d w x a b ≤ max_distance)
     → (h : Schedule) → IsLegal d h → All IsValue h.opening → length h.opening ≤ MAX_ITEMS
-    → (q : TxnId) (a : QueryAudit) → is_committed_query h q.0 ≡ true → audited a ≡ summary_of d h q.0 → IsOfFinding d h q a
+    → (q : TxnId) (a : QueryAudit) → is_committed_query h q.0 ≡ true → audited a ≡ summary_of d h q.0 → IsSummaryOfFinding d h q a
 is_of_finding d metric bounded h legal values items q a committed is =
     let f = each_committed_query_has_a_finding d h q.0 (auditable d metric bounded h legal values items) committed in
     let own : IsFinding d h f.0 = subst (λ (n : ℕ). IsFindingOf d h n f.0) (sym f.1) f.2 in

@@ -20,5 +20,5 @@ IsAuditFrom d h a =
     → (is_committed_query (along h rest) a.query.0 ≡ true) × (audited a ≡ summary_of d (along h rest) a.query.0)
 
 -- it says of the query what a finding of it says
-abbrev pub IsOfFinding : DistanceFunction → Schedule → TxnId → QueryAudit → Type 0
-IsOfFinding d h q a = (f : Finding) × (f.query ≡ q) × IsFinding d h f × (audited a ≡ summary f)
+abbrev pub IsSummaryOfFinding : DistanceFunction → Schedule → TxnId → QueryAudit → Type 0
+IsSummaryOfFinding d h q a = (f : Finding) × (f.query ≡ q) × IsFinding d h f × (audited a ≡ summary f)

@@ -1,8 +1,8 @@
-//! The audit of a query without a certificate: by the streaming audit, or else by its problem.
+//! The audit of a query without a certificate: by streaming (`esr_stream`), and if that fails, by the query's problem.
 //!
-//! The summary of a query is fixed by the history, so it does not matter which way computes it. The streaming audit takes a
-//! few passes over the updates and is tried first. If it returns no answer, the audit solves the problem of the query. A
-//! caller that needs a certificate calls `audit_query_by_index` of `esr_audit` instead.
+//! A history determines the summary of each committed query, so both ways return the same one. The streaming audit is tried
+//! first, since it takes only a few passes over the updates. A caller that needs a certificate calls
+//! `audit_query_with_index` of `esr_audit` instead.
 #![tactic(auto)]
 
 mod query;

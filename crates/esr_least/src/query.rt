@@ -4,9 +4,9 @@ ghost use Rattle.esr_history.specs.Queries.{is_committed_query};
 ghost use Rattle.esr_order.specs.Index.{IsWholeIndexOf};
 ghost use Rattle.esr_audit.specs.Findings.{IsFindingOf, seen_summary, summary_of};
 ghost use Rattle.esr_stream.specs.Passes.{IsLeast};
-ghost use Rattle.esr_least.specs.Audits.{audited, IsAuditFrom, IsOfFinding};
+ghost use Rattle.esr_least.specs.Audits.{audited, IsAuditFrom, IsSummaryOfFinding};
 
-use esr_audit::{AuditError, Finding, Summary, TxnList, audit_query_by_index};
+use esr_audit::{AuditError, Finding, Summary, TxnList, audit_query_with_index};
 use esr_history::{History, TxnId};
 use esr_items::Metric;
 use esr_order::{Index, is_committed_query};
@@ -97,9 +97,9 @@ pub fn summarize_by_index<M: Metric>(
     ensures committed { IfOk result (λ a. is_committed_query history.now.schedule q.0 ≡ true) }
     ensures refused { IsErrOf result AuditError.NotACommittedQuery
         ↔ (is_committed_query history.now.schedule q.0 ≡ false) }
-    ensures workers { ¬ IsErrOf result AuditError.WorkersOutOfRange }
+    ensures no_worker_error { ¬ IsErrOf result AuditError.WorkersOutOfRange }
     ensures stays { IfOk result (IsAuditFrom M.distance_by history.now.schedule) }
-    ensures found { IfOk result (IsOfFinding M.distance_by history.now.schedule q) }
+    ensures found { IfOk result (IsSummaryOfFinding M.distance_by history.now.schedule q) }
 {
     let _invariant = history.log(); // brings the invariant into the proof
     if !is_committed_query(history, q) {
@@ -110,6 +110,6 @@ pub fn summarize_by_index<M: Metric>(
         Ok(Some(least)) => return Ok(of_least(history, q, least)),
         Ok(None) => {}
     }
-    let finding = audit_query_by_index(alloc, history, index, q)?;
+    let finding = audit_query_with_index(alloc, history, index, q)?;
     Ok(of_finding(history, q, finding))
 }

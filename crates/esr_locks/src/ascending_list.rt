@@ -1,9 +1,9 @@
 //! A list in ascending order of transaction numbers, searched by binary search.
 //!
-//! Transactions often end in the order of their begins, and then each end removes the first row of a list. In a long
-//! list, this increments the number of rows that are unused, and moves no other row. Once more than half of the rows are
-//! unused, the others are moved to the front. So a removal of the first row of a long list moves at most one row on
-//! average, and at most half of the rows are unused. A list with at most one row has no unused rows.
+//! Transactions often end in the order of their begins, so each end removes the first row of a list. In a list of more than
+//! `MAX_SHORT` rows this removal only increments the count of unused rows. Once more than half of the rows are unused, the
+//! others move to the front. So a removal of the first row moves at most one row on average, and at most half of the rows
+//! are unused. A shorter list moves its rows at each removal.
 
 ghost use Rattle.std.specs.Prelude.{◌≡◌, ℕ, ◌+◌, ◌*◌, ◌<◌, ◌≤◌, ◌==◌, [], ◌∷◌, drop, length, filter, not, IfOk, IfErr, slice_set};
 ghost use Rattle.std.specs.List.{insert, remove};

@@ -1,8 +1,8 @@
 //! The lock table: the locks that each transaction holds on each item.
 //!
 //! Updates follow strict two-phase locking: read locks are shared, write locks are exclusive, and a transaction
-//! releases all its locks when it ends. Queries take locks that block no one. The table records them so that a write
-//! can find the queries to charge.
+//! releases all its locks when it ends. The read locks of queries conflict with no lock of an update. The table stores
+//! them because a write is charged to each active query that has read the item.
 #![tactic(auto)]
 
 mod ascending_list;

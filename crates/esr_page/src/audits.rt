@@ -7,7 +7,7 @@ ghost use Rattle.std.specs.Prelude.{◌≡◌, map};
 ghost use Rattle.esr_history.specs.Machine.{accepted_in};
 ghost use Rattle.esr_history.specs.Operations.{commit_order};
 
-use esr_audit::{CommitLists, Finding, audit_query_in, commit_lists};
+use esr_audit::{CommitLists, Finding, audit_query_with_commits, commit_lists};
 use esr_cert::Certificate;
 use esr_history::{History, TxnId};
 use esr_items::Weighted;
@@ -157,7 +157,7 @@ fn finding_in(
 ) -> Result<Finding, AllocError>
     requires { map (λ t. t.0) committed.now ≡ commit_order (accepted_in history.now.schedule) }
 {
-    match audit_query_in(alloc, history, committed, query) {
+    match audit_query_with_commits(alloc, history, committed, query) {
         Ok(finding) => Ok(finding),
         Err(_) => Err(AllocError),
     }

@@ -64,7 +64,7 @@ fn ancestors(alloc: Global, problem: &Problem, slots: &Slots) -> Result<Vec<u64>
 }
 
 /// Returns the union of the ancestors of the updates in these slots.
-fn above_those(drawn: &[(u8, u64)], those: u64) -> u64 {
+fn union_of_ancestors(drawn: &[(u8, u64)], those: u64) -> u64 {
     let mut all = 0;
     for (slot, above) in drawn {
         if those & bit(*slot) != 0 {
@@ -88,7 +88,7 @@ fn arrows_to(
     to: u8,
     above: u64,
 ) -> Result<(), AllocError> {
-    let implied = above_those(drawn, above);
+    let implied = union_of_ancestors(drawn, above);
     for (from, _) in drawn {
         if above & !implied & bit(*from) != 0 {
             arrows.push(SlotPair { from: *from, to })?;

@@ -16,7 +16,7 @@ ghost use Rattle.esr_audit.specs.Findings.{IsFindingOf, summary_of};
 ghost use Rattle.esr_least.specs.Audits.{audited, IsAuditFrom};
 ghost use Rattle.esr_items.specs.Weights.{weighted};
 
-use esr_audit::{AuditError, Finding, audit_query_by_index};
+use esr_audit::{AuditError, Finding, audit_query_with_index};
 use esr_core::{Machine, StepError, Totals};
 use esr_history::{Event, History, Reply, TxnId};
 use esr_items::Weighted;
@@ -107,13 +107,13 @@ impl IndexedMachine {
         ensures finding { IfOk result (IsFindingOf weighted self.old q.0) }
         ensures committed { IfOk result (λ f. is_committed_query self.old q.0 ≡ true) }
         ensures refused { IsErrOf result AuditError.NotACommittedQuery → is_committed_query self.old q.0 ≡ false }
-        ensures workers { ¬ IsErrOf result AuditError.WorkersOutOfRange }
+        ensures no_worker_error { ¬ IsErrOf result AuditError.WorkersOutOfRange }
     {
         let history = self.machine.history();
         if self.index.extend(history).is_err() {
             return Err(AuditError::NoMemory);
         }
-        audit_query_by_index(alloc, history, &self.index, q)
+        audit_query_with_index(alloc, history, &self.index, q)
     }
 
     /// Audits a transaction, or returns the kept audit if that is of this transaction. None is kept afterwards.
@@ -123,7 +123,7 @@ impl IndexedMachine {
         ensures stays { IfOk result (IsAuditFrom weighted self.old) }
         ensures committed { IfOk result (λ a. is_committed_query self.old q.0 ≡ true) }
         ensures refused { IsErrOf result AuditError.NotACommittedQuery → is_committed_query self.old q.0 ≡ false }
-        ensures workers { ¬ IsErrOf result AuditError.WorkersOutOfRange }
+        ensures no_worker_error { ¬ IsErrOf result AuditError.WorkersOutOfRange }
     {
         if let Some(audit) = self.take_audit(q) {
             return Ok(audit);

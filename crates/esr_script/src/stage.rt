@@ -171,7 +171,7 @@ impl Stage {
         ensures relevant { IfOk result (λ f. AreRelevant (history_of self.old) q.0 f.problem.updates) }
         ensures refused { IsErrOf result AuditError.NotACommittedQuery
             → is_committed_query (history_of self.old) q.0 ≡ false }
-        ensures workers { ¬ IsErrOf result AuditError.WorkersOutOfRange }
+        ensures no_worker_error { ¬ IsErrOf result AuditError.WorkersOutOfRange }
     {
         match self {
             Stage::Running(engine) => engine.audit(alloc, q),
@@ -189,7 +189,7 @@ impl Stage {
         ensures committed { IfOk result (λ a. is_committed_query (history_of self.old) q.0 ≡ true) }
         ensures refused { IsErrOf result AuditError.NotACommittedQuery
             → is_committed_query (history_of self.old) q.0 ≡ false }
-        ensures workers { ¬ IsErrOf result AuditError.WorkersOutOfRange }
+        ensures no_worker_error { ¬ IsErrOf result AuditError.WorkersOutOfRange }
     {
         match self {
             Stage::Running(engine) => engine.summarize(alloc, q),

@@ -1,23 +1,19 @@
 -- The costs of versions by item sum to the cost of a set, plus the offset of each item.
-use Rattle.std.proofs.Common.{◌≡◌, ℕ, zero, suc, ℤ, ◌+◌, ◌*◌, ◌<◌, ◌≤◌, Bool, true, false, not, ◌&&◌, eqb, cond, List, [], ◌∷◌, length, map, filter, sum_by, count_by, refl, sym, ap, ◌∙◌, subst, inl, inr, arith, All, Vec, Global, get_or}
-use Rattle.std.specs.List.{range_with_len, AllByRecursion, filter_map, cons_option}
+use Rattle.std.proofs.Common.{◌≡◌, ℕ, zero, suc, ℤ, ◌+◌, ◌*◌, ◌<◌, ◌≤◌, Bool, true, false, not, ◌&&◌, eqb, cond, List, [], ◌∷◌, length, map, filter, sum_by, refl, sym, ap, ◌∙◌, subst, inl, inr, arith, All, Vec, Global, get_or}
+use Rattle.std.specs.List.{range_with_len, AllByRecursion}
 use Rattle.std.proofs.Math.Nat.{suc-mul}
 use Rattle.std.proofs.lemmas.Bool.{cases_lt, cases_eq, eq-eqb, ne_eqb, and_parts}
 use Rattle.std.proofs.lemmas.List.{length-map}
 use Rattle.std.proofs.lemmas.List.Sums.{sum_by-cons}
-use Rattle.std.proofs.lemmas.List.Elements.{All-from_recursion, recursion_from_All}
+use Rattle.std.proofs.lemmas.List.Elements.{All-from_recursion}
 use Rattle.esr_items.specs.Values.{IsValue}
-use Rattle.esr_history.specs.declared.event.Event.{Event}
-use Rattle.esr_history.specs.declared.event.Event.TheVariants.{BeginUpdate, BeginQuery, Read, Write, Commit, Abort}
-use Rattle.esr_history.specs.declared.event.Reply.{Reply}
-use Rattle.esr_history.specs.declared.event.Entry.{Entry}
-use Rattle.esr_history.specs.Events.{is_query, is_committed, is_refusal, reads_any, total_read_count}
+use Rattle.esr_history.specs.Events.{is_query, is_committed}
 use Rattle.esr_history.specs.Machine.{DistanceFunction, Schedule, IsLegal, accepted_in, value_distance}
-use Rattle.esr_history.specs.Operations.{Operation, operations, operation_by, operation_of, answer}
+use Rattle.esr_history.specs.Operations.{Operation}
 use Rattle.esr_history.specs.Ranges.{IsWithinRanges}
 use Rattle.esr_history.specs.Serial.{state}
 use Rattle.esr_history.specs.Queries.{reads_by, distance_from, members, cost, is_committed_query}
-use Rattle.esr_history.proofs.Membership.{each_in, each_at, In-of_filter}
+use Rattle.esr_history.proofs.Membership.{each_in, each_at}
 use Rattle.esr_history.proofs.WithinRanges.{legal_within_ranges}
 use Rattle.esr_order.specs.declared.accesses.Access.{Access}
 use Rattle.esr_order.specs.Scans.{access_of, accesses_in}

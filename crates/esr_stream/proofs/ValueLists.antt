@@ -1,9 +1,7 @@
 -- Lists of values that were read, one for each item.
-use Rattle.std.proofs.Common.{◌≡◌, ℕ, ℤ, refl, ◌+◌, ◌<◌, Bool, true, false, not, cond, ◌&&◌, List, [], ◌∷◌, ◌++◌, length, take, get_or, map, filter, arith, ap, ◌∙◌, sym, subst, inl, inr, zero, suc, set, Vec, Global, w64, FitsSigned, append-nil, eqb, eq-eqb, ne_eqb, get_or-set_same, get_or-set_other}
-use Rattle.std.proofs.lemmas.Int.{ints}
+use Rattle.std.proofs.Common.{◌≡◌, ℕ, ℤ, refl, ◌+◌, ◌<◌, Bool, true, false, not, cond, ◌&&◌, List, [], ◌∷◌, ◌++◌, length, take, get_or, map, filter, arith, ap, ◌∙◌, sym, subst, inl, inr, set, Vec, Global, append-nil, eqb, eq-eqb, ne_eqb, get_or-set_same, get_or-set_other}
 use Rattle.std.proofs.lemmas.Bool.{cases_eq}
 use Rattle.std.proofs.lemmas.List.{take_more, map-set, get_or-map, length-map}
-use Rattle.esr_items.specs.Values.{IsValue}
 use Rattle.esr_order.specs.declared.accesses.Access.{Access}
 use Rattle.esr_stream.specs.Reads.{values_of, list_at}
 pub use Rattle.esr_order.proofs.ValueLists.{value_fits, list_push, list_is}

@@ -3,15 +3,15 @@
 //!
 //! The method builds neither a closure problem nor a flow network. A draft (`draft`) assigns an amount to each version of
 //! an item. No clause constrains the draft. A pass (`pass`) checks the amounts: it lowers each amount to at most the cost
-//! of its version, and it fails if an update decreases the sum of the amounts. The laws of `esr_bound` then imply that no
-//! closed set costs less than the sum before the first update. The pass also marks the updates that every set of least
-//! cost contains, and `close` adds their predecessors. If the marked set is closed and its cost equals the bound, it is
-//! the result. Otherwise the amounts were too low, the functions return `None`, and the caller solves the closure problem
-//! of the query (`esr_audit`).
+//! of its version, and it fails if an update decreases the sum of the amounts of the current versions. The laws of
+//! `esr_bound` then imply that no closed set costs less than this sum after the updates that the query must see. The pass
+//! also marks updates that every set of least cost contains, and `close` adds their predecessors. Both repeat until `close`
+//! adds none, at most 32 times (`MAX_ROUNDS`). If the cost of the marked set then equals the sum, the marked set is the
+//! result. Otherwise the functions return `None`, and the caller solves the closure problem of the query (`esr_audit`).
 //!
-//! The proof covers the check and not the search, so the draft can change without a new theorem. Costs below zero occur,
-//! so each cost is stored with an offset (`OFFSET`), and amounts are unsigned. A certificate over the records of the log
-//! was rejected: it needs the arcs of the network and their conservation.
+//! The proof covers the check and not the search, so the draft can change without a new theorem. Costs are never negative,
+//! but amounts can be. So the pass adds `OFFSET` to each cost and each amount, and stores both as unsigned integers. A
+//! certificate over the records of the log was rejected: it needs the arcs of the network and their conservation.
 #![tactic(auto)]
 
 mod closing;

@@ -9,7 +9,7 @@ ghost use Rattle.esr_history.specs.Operations.{commit_order};
 ghost use Rattle.esr_items.specs.Weights.{weighted};
 ghost use Rattle.esr_tables.specs.Rows.{distance_of};
 
-use esr_audit::{AuditError, audit_query_in};
+use esr_audit::{AuditError, audit_query_with_commits};
 use esr_history::{History, NoMemory, TxnId};
 use esr_items::Weighted;
 use esr_order::committed;
@@ -35,7 +35,7 @@ fn distance(
     requires { map (λ t. t.0) committed.now ≡ commit_order (accepted_in history.now.schedule) }
     ensures { IfOk result (λ d. d ≡ distance_of weighted history.now.schedule t.0) }
 {
-    match audit_query_in(alloc, history, committed, t) {
+    match audit_query_with_commits(alloc, history, committed, t) {
         Ok(finding) => Ok(Some(finding.distance)),
         Err(AuditError::NotACommittedQuery) => Ok(None),
         Err(_) => Err(NoMemory),

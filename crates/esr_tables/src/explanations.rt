@@ -74,17 +74,17 @@ fn operation_word(operation: Operation) -> &'static str {
 
 /// Returns the fields of a charge.
 fn charge_fields<'a>(names: ScriptNames<'a>, charge: Charge) -> [Field<'a>; 9] {
-    let meeting = charge.meeting;
-    let update = name_of_transaction(names.transactions, meeting.update);
+    let conflict = charge.conflict;
+    let update = name_of_transaction(names.transactions, conflict.update);
     [
         (
             "operation",
-            FieldValue::Word(operation_word(meeting.operation)),
+            FieldValue::Word(operation_word(conflict.operation)),
         ),
         ("update", FieldValue::Word(update)),
         (
             "item",
-            FieldValue::Word(name_of_item(names.items, meeting.item)),
+            FieldValue::Word(name_of_item(names.items, conflict.item)),
         ),
         ("amount", FieldValue::Amount(charge.amount)),
         ("step", FieldValue::Amount(charge.step)),

@@ -2,13 +2,13 @@
 use Rattle.std.specs.Prelude.{◌≡◌, pos, negsuc, List, [], ◌∷◌, true, false, map}
 use Rattle.esr_history.specs.declared.event.Event.TheVariants.{BeginUpdate, BeginQuery, Read, Write, Commit, Abort}
 use Rattle.esr_history.specs.declared.event.Reply.TheVariants.{Begun, Value, Wrote, Committed, Aborted, Refused}
-use Rattle.esr_history.specs.declared.event.Refusal.TheVariants.{NoSuchTransaction, AlreadyEnded, NoSuchItem, QueryMayNotWrite, ValueOutOfRange, LimitOutOfRange, BlockedByLock, BlockedByImport, BlockedByExport}
+use Rattle.esr_history.specs.declared.event.Refusal.TheVariants.{NoSuchTransaction, AlreadyEnded, NoSuchItem, QueryMayNotWrite, ValueOutOfRange, BlockedByLock, BlockedByImport, BlockedByExport}
 use Rattle.esr_history.specs.Worked.{item, txn}
-use Rattle.esr_test_definitions.specs.Outcomes.{Outcome, Play, found, outcome, outcome_of, play}
+use Rattle.esr_test_definitions.specs.Outcomes.{History, Outcome, audit, history, outcome, outcome_of}
 
-abbrev pub inputs : List Play
+abbrev pub inputs : List History
 inputs =
-    (play (pos 4 ∷ []) (2 ∷ [])
+    (history (pos 4 ∷ []) (2 ∷ [])
     (BeginUpdate 3 ∷
     BeginUpdate 3 ∷
     Read (txn 2) (item 0) ∷
@@ -23,7 +23,7 @@ inputs =
     Commit (txn 1) ∷
     Commit (txn 3) ∷
     [])) ∷
-    (play (negsuc 1 ∷ negsuc 0 ∷ negsuc 0 ∷ []) (1 ∷ 7 ∷ 1 ∷ [])
+    (history (negsuc 1 ∷ negsuc 0 ∷ negsuc 0 ∷ []) (1 ∷ 7 ∷ 1 ∷ [])
     (BeginUpdate 1000000000000000000 ∷
     BeginUpdate 3 ∷
     Write (txn 2) (item 1) (pos 1) ∷
@@ -41,7 +41,7 @@ inputs =
     Commit (txn 4) ∷
     Commit (txn 5) ∷
     [])) ∷
-    (play (pos 8 ∷ pos 8 ∷ pos 3 ∷ []) (2 ∷ 1 ∷ 1 ∷ [])
+    (history (pos 8 ∷ pos 8 ∷ pos 3 ∷ []) (2 ∷ 1 ∷ 1 ∷ [])
     (BeginUpdate 20 ∷
     BeginQuery 3 false ∷
     BeginUpdate 1000000000000000000 ∷
@@ -54,7 +54,7 @@ inputs =
     Commit (txn 3) ∷
     Commit (txn 4) ∷
     [])) ∷
-    (play (pos 1 ∷ pos 6 ∷ pos 4 ∷ []) (1 ∷ 1 ∷ 1 ∷ [])
+    (history (pos 1 ∷ pos 6 ∷ pos 4 ∷ []) (1 ∷ 1 ∷ 1 ∷ [])
     (BeginQuery 1000000000000000000 true ∷
     BeginUpdate 0 ∷
     Write (txn 2) (item 0) (pos 5) ∷
@@ -71,7 +71,7 @@ inputs =
     Commit (txn 3) ∷
     Commit (txn 5) ∷
     [])) ∷
-    (play (pos 4 ∷ []) (1 ∷ [])
+    (history (pos 4 ∷ []) (1 ∷ [])
     (BeginUpdate 1000000000000000000 ∷
     BeginUpdate 60 ∷
     Read (txn 1) (item 0) ∷
@@ -92,7 +92,7 @@ inputs =
     Abort (txn 3) ∷
     Commit (txn 5) ∷
     [])) ∷
-    (play (pos 3 ∷ negsuc 1 ∷ []) (7 ∷ 7 ∷ [])
+    (history (pos 3 ∷ negsuc 1 ∷ []) (7 ∷ 7 ∷ [])
     (BeginQuery 60 true ∷
     BeginUpdate 60 ∷
     Read (txn 1) (item 1) ∷
@@ -106,7 +106,7 @@ inputs =
     Commit (txn 2) ∷
     Commit (txn 1) ∷
     [])) ∷
-    (play (negsuc 1 ∷ []) (7 ∷ [])
+    (history (negsuc 1 ∷ []) (7 ∷ [])
     (BeginQuery 1000000000000000000 true ∷
     BeginUpdate 0 ∷
     Abort (txn 1) ∷
@@ -124,7 +124,7 @@ inputs =
     Read (txn 2) (item 0) ∷
     Commit (txn 3) ∷
     [])) ∷
-    (play (negsuc 2 ∷ pos 4 ∷ []) (1 ∷ 1 ∷ [])
+    (history (negsuc 2 ∷ pos 4 ∷ []) (1 ∷ 1 ∷ [])
     (BeginUpdate 0 ∷
     BeginUpdate 9 ∷
     Write (txn 2) (item 1) (pos 4) ∷
@@ -136,7 +136,7 @@ inputs =
     Commit (txn 2) ∷
     Commit (txn 3) ∷
     [])) ∷
-    (play (pos 6 ∷ []) (1 ∷ [])
+    (history (pos 6 ∷ []) (1 ∷ [])
     (BeginQuery 0 false ∷
     BeginUpdate 60 ∷
     Read (txn 1) (item 0) ∷
@@ -151,7 +151,7 @@ inputs =
     Commit (txn 3) ∷
     Commit (txn 5) ∷
     [])) ∷
-    (play (pos 3 ∷ pos 0 ∷ pos 6 ∷ []) (2 ∷ 7 ∷ 7 ∷ [])
+    (history (pos 3 ∷ pos 0 ∷ pos 6 ∷ []) (2 ∷ 7 ∷ 7 ∷ [])
     (BeginQuery 3 false ∷
     BeginUpdate 0 ∷
     Read (txn 2) (item 1) ∷
@@ -206,7 +206,7 @@ outcomes =
     Committed ∷
     Committed ∷
     [])
-    (0 ∷ 0 ∷ 0 ∷ 0 ∷ 0 ∷ []) (found 3 0 ([]) ∷ found 4 0 ([]) ∷ [])) ∷
+    (0 ∷ 0 ∷ 0 ∷ 0 ∷ 0 ∷ []) (audit 3 0 ([]) ∷ audit 4 0 ([]) ∷ [])) ∷
     (outcome (Begun (txn 1) ∷
     Begun (txn 2) ∷
     Begun (txn 3) ∷
@@ -219,7 +219,7 @@ outcomes =
     Committed ∷
     Committed ∷
     [])
-    (0 ∷ 0 ∷ 0 ∷ 0 ∷ 0 ∷ []) (found 2 0 ([]) ∷ [])) ∷
+    (0 ∷ 0 ∷ 0 ∷ 0 ∷ 0 ∷ []) (audit 2 0 ([]) ∷ [])) ∷
     (outcome (Begun (txn 1) ∷
     Begun (txn 2) ∷
     Wrote ∷
@@ -271,7 +271,7 @@ outcomes =
     Committed ∷
     Committed ∷
     [])
-    (42 ∷ 42 ∷ 0 ∷ []) (found 1 0 ([]) ∷ [])) ∷
+    (42 ∷ 42 ∷ 0 ∷ []) (audit 1 0 ([]) ∷ [])) ∷
     (outcome (Begun (txn 1) ∷
     Begun (txn 2) ∷
     Aborted ∷
@@ -316,7 +316,7 @@ outcomes =
     Committed ∷
     Committed ∷
     [])
-    (0 ∷ 0 ∷ 0 ∷ 0 ∷ 0 ∷ []) (found 1 0 ([]) ∷ [])) ∷
+    (0 ∷ 0 ∷ 0 ∷ 0 ∷ 0 ∷ []) (audit 1 0 ([]) ∷ [])) ∷
     (outcome (Begun (txn 1) ∷
     Begun (txn 2) ∷
     Value (pos 0) ∷

@@ -2,13 +2,13 @@
 use Rattle.std.specs.Prelude.{◌≡◌, pos, negsuc, List, [], ◌∷◌, true, false, map}
 use Rattle.esr_history.specs.declared.event.Event.TheVariants.{BeginUpdate, BeginQuery, Read, Write, Commit, Abort}
 use Rattle.esr_history.specs.declared.event.Reply.TheVariants.{Begun, Value, Wrote, Committed, Aborted, Refused}
-use Rattle.esr_history.specs.declared.event.Refusal.TheVariants.{NoSuchTransaction, AlreadyEnded, NoSuchItem, QueryMayNotWrite, ValueOutOfRange, LimitOutOfRange, BlockedByLock, BlockedByImport, BlockedByExport}
+use Rattle.esr_history.specs.declared.event.Refusal.TheVariants.{NoSuchTransaction, AlreadyEnded, ValueOutOfRange, LimitOutOfRange, BlockedByLock}
 use Rattle.esr_history.specs.Worked.{item, txn}
-use Rattle.esr_test_definitions.specs.Outcomes.{Outcome, Play, found, outcome, outcome_of, play}
+use Rattle.esr_test_definitions.specs.Outcomes.{History, Outcome, audit, history, outcome, outcome_of}
 
-abbrev pub inputs : List Play
+abbrev pub inputs : List History
 inputs =
-    (play (pos 9 ∷ pos 4 ∷ []) (7 ∷ 7 ∷ [])
+    (history (pos 9 ∷ pos 4 ∷ []) (7 ∷ 7 ∷ [])
     (BeginUpdate 60 ∷
     BeginQuery 0 true ∷
     BeginUpdate 0 ∷
@@ -18,7 +18,7 @@ inputs =
     Abort (txn 2) ∷
     Commit (txn 1) ∷
     [])) ∷
-    (play (negsuc 3 ∷ pos 7 ∷ []) (2 ∷ 1 ∷ [])
+    (history (negsuc 3 ∷ pos 7 ∷ []) (2 ∷ 1 ∷ [])
     (BeginUpdate 0 ∷
     BeginUpdate 60 ∷
     Write (txn 1) (item 1) (pos 4) ∷
@@ -33,7 +33,7 @@ inputs =
     Commit (txn 1) ∷
     Commit (txn 3) ∷
     [])) ∷
-    (play (pos 5 ∷ pos 5 ∷ negsuc 4 ∷ []) (1 ∷ 7 ∷ 1 ∷ [])
+    (history (pos 5 ∷ pos 5 ∷ negsuc 4 ∷ []) (1 ∷ 7 ∷ 1 ∷ [])
     (BeginQuery 3 false ∷
     BeginUpdate 60 ∷
     Commit (txn 2) ∷
@@ -50,7 +50,7 @@ inputs =
     Commit (txn 4) ∷
     Commit (txn 5) ∷
     [])) ∷
-    (play (pos 5 ∷ negsuc 3 ∷ []) (2 ∷ 1 ∷ [])
+    (history (pos 5 ∷ negsuc 3 ∷ []) (2 ∷ 1 ∷ [])
     (BeginUpdate 1000000000000000001 ∷
     BeginUpdate 20 ∷
     BeginUpdate 60 ∷
@@ -67,7 +67,7 @@ inputs =
     Abort (txn 2) ∷
     Commit (txn 4) ∷
     [])) ∷
-    (play (pos 4 ∷ negsuc 0 ∷ []) (2 ∷ 1 ∷ [])
+    (history (pos 4 ∷ negsuc 0 ∷ []) (2 ∷ 1 ∷ [])
     (BeginUpdate 9 ∷
     BeginUpdate 9 ∷
     Commit (txn 1) ∷
@@ -82,7 +82,7 @@ inputs =
     Write (txn 2) (item 1) (negsuc 3) ∷
     Commit (txn 2) ∷
     [])) ∷
-    (play (negsuc 4 ∷ negsuc 0 ∷ pos 0 ∷ []) (7 ∷ 2 ∷ 1 ∷ [])
+    (history (negsuc 4 ∷ negsuc 0 ∷ pos 0 ∷ []) (7 ∷ 2 ∷ 1 ∷ [])
     (BeginQuery 20 false ∷
     BeginUpdate 1000000000000000001 ∷
     BeginQuery 0 false ∷
@@ -95,7 +95,7 @@ inputs =
     Commit (txn 3) ∷
     Commit (txn 4) ∷
     [])) ∷
-    (play (negsuc 3 ∷ negsuc 3 ∷ pos 9 ∷ []) (1 ∷ 7 ∷ 2 ∷ [])
+    (history (negsuc 3 ∷ negsuc 3 ∷ pos 9 ∷ []) (1 ∷ 7 ∷ 2 ∷ [])
     (BeginUpdate 20 ∷
     BeginUpdate 20 ∷
     Write (txn 2) (item 1) (pos 13) ∷
@@ -107,7 +107,7 @@ inputs =
     Commit (txn 2) ∷
     Commit (txn 3) ∷
     [])) ∷
-    (play (pos 4 ∷ negsuc 2 ∷ pos 8 ∷ []) (2 ∷ 2 ∷ 1 ∷ [])
+    (history (pos 4 ∷ negsuc 2 ∷ pos 8 ∷ []) (2 ∷ 2 ∷ 1 ∷ [])
     (BeginUpdate 9 ∷
     BeginUpdate 0 ∷
     Read (txn 2) (item 1) ∷
@@ -116,7 +116,7 @@ inputs =
     Write (txn 2) (item 1) (pos 6) ∷
     Read (txn 2) (item 2) ∷
     [])) ∷
-    (play (negsuc 1 ∷ pos 4 ∷ []) (1 ∷ 1 ∷ [])
+    (history (negsuc 1 ∷ pos 4 ∷ []) (1 ∷ 1 ∷ [])
     (BeginUpdate 0 ∷
     BeginUpdate 1000000000000000000 ∷
     Read (txn 2) (item 1) ∷
@@ -129,7 +129,7 @@ inputs =
     Write (txn 2) (item 0) (pos 1) ∷
     Commit (txn 2) ∷
     [])) ∷
-    (play (negsuc 3 ∷ pos 8 ∷ []) (7 ∷ 1 ∷ [])
+    (history (negsuc 3 ∷ pos 8 ∷ []) (7 ∷ 1 ∷ [])
     (BeginQuery 3 true ∷
     BeginQuery 9 true ∷
     Read (txn 1) (item 1) ∷
@@ -185,7 +185,7 @@ outcomes =
     Committed ∷
     Committed ∷
     [])
-    (0 ∷ 0 ∷ 0 ∷ 0 ∷ 0 ∷ []) (found 1 0 ([]) ∷ [])) ∷
+    (0 ∷ 0 ∷ 0 ∷ 0 ∷ 0 ∷ []) (audit 1 0 ([]) ∷ [])) ∷
     (outcome (Refused LimitOutOfRange ∷
     Begun (txn 1) ∷
     Begun (txn 2) ∷
@@ -230,7 +230,7 @@ outcomes =
     Committed ∷
     Committed ∷
     [])
-    (0 ∷ 0 ∷ 0 ∷ 0 ∷ []) (found 1 0 ([]) ∷ found 2 0 ([]) ∷ found 4 0 ([]) ∷ [])) ∷
+    (0 ∷ 0 ∷ 0 ∷ 0 ∷ []) (audit 1 0 ([]) ∷ audit 2 0 ([]) ∷ audit 4 0 ([]) ∷ [])) ∷
     (outcome (Begun (txn 1) ∷
     Begun (txn 2) ∷
     Wrote ∷
@@ -275,7 +275,7 @@ outcomes =
     Aborted ∷
     Committed ∷
     [])
-    (0 ∷ 0 ∷ []) (found 2 0 ([]) ∷ [])) ∷
+    (0 ∷ 0 ∷ []) (audit 2 0 ([]) ∷ [])) ∷
     []
 
 -- the definitions find the outcome of each history

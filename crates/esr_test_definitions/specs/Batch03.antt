@@ -2,13 +2,13 @@
 use Rattle.std.specs.Prelude.{◌≡◌, pos, negsuc, List, [], ◌∷◌, true, false, map}
 use Rattle.esr_history.specs.declared.event.Event.TheVariants.{BeginUpdate, BeginQuery, Read, Write, Commit, Abort}
 use Rattle.esr_history.specs.declared.event.Reply.TheVariants.{Begun, Value, Wrote, Committed, Aborted, Refused}
-use Rattle.esr_history.specs.declared.event.Refusal.TheVariants.{NoSuchTransaction, AlreadyEnded, NoSuchItem, QueryMayNotWrite, ValueOutOfRange, LimitOutOfRange, BlockedByLock, BlockedByImport, BlockedByExport}
+use Rattle.esr_history.specs.declared.event.Refusal.TheVariants.{NoSuchTransaction, AlreadyEnded, NoSuchItem, ValueOutOfRange, LimitOutOfRange, BlockedByLock, BlockedByImport}
 use Rattle.esr_history.specs.Worked.{item, txn}
-use Rattle.esr_test_definitions.specs.Outcomes.{Outcome, Play, found, outcome, outcome_of, play}
+use Rattle.esr_test_definitions.specs.Outcomes.{History, Outcome, audit, history, outcome, outcome_of}
 
-abbrev pub inputs : List Play
+abbrev pub inputs : List History
 inputs =
-    (play (negsuc 2 ∷ pos 2 ∷ negsuc 1 ∷ []) (1 ∷ 2 ∷ 1 ∷ [])
+    (history (negsuc 2 ∷ pos 2 ∷ negsuc 1 ∷ []) (1 ∷ 2 ∷ 1 ∷ [])
     (BeginUpdate 20 ∷
     BeginQuery 0 false ∷
     Read (txn 2) (item 3) ∷
@@ -25,7 +25,7 @@ inputs =
     Commit (txn 3) ∷
     Commit (txn 4) ∷
     [])) ∷
-    (play (pos 7 ∷ pos 2 ∷ []) (7 ∷ 7 ∷ [])
+    (history (pos 7 ∷ pos 2 ∷ []) (7 ∷ 7 ∷ [])
     (BeginUpdate 1000000000000000000 ∷
     BeginUpdate 1000000000000000000 ∷
     Commit (txn 1) ∷
@@ -38,7 +38,7 @@ inputs =
     Commit (txn 3) ∷
     Commit (txn 4) ∷
     [])) ∷
-    (play (pos 8 ∷ []) (7 ∷ [])
+    (history (pos 8 ∷ []) (7 ∷ [])
     (BeginUpdate 1000000000000000000 ∷
     BeginUpdate 1000000000000000001 ∷
     BeginUpdate 20 ∷
@@ -57,7 +57,7 @@ inputs =
     Commit (txn 3) ∷
     Commit (txn 4) ∷
     [])) ∷
-    (play (pos 9 ∷ pos 3 ∷ pos 3 ∷ []) (7 ∷ 2 ∷ 2 ∷ [])
+    (history (pos 9 ∷ pos 3 ∷ pos 3 ∷ []) (7 ∷ 2 ∷ 2 ∷ [])
     (BeginUpdate 0 ∷
     BeginUpdate 0 ∷
     Read (txn 2) (item 2) ∷
@@ -75,7 +75,7 @@ inputs =
     Commit (txn 1) ∷
     Commit (txn 2) ∷
     [])) ∷
-    (play (pos 1 ∷ pos 9 ∷ []) (7 ∷ 1 ∷ [])
+    (history (pos 1 ∷ pos 9 ∷ []) (7 ∷ 1 ∷ [])
     (BeginUpdate 1000000000000000000 ∷
     BeginQuery 60 true ∷
     BeginUpdate 3 ∷
@@ -87,7 +87,7 @@ inputs =
     Abort (txn 4) ∷
     Commit (txn 5) ∷
     [])) ∷
-    (play (pos 3 ∷ negsuc 3 ∷ []) (1 ∷ 2 ∷ [])
+    (history (pos 3 ∷ negsuc 3 ∷ []) (1 ∷ 2 ∷ [])
     (BeginQuery 3 false ∷
     BeginUpdate 1000000000000000000 ∷
     Read (txn 1) (item 0) ∷
@@ -101,7 +101,7 @@ inputs =
     Commit (txn 2) ∷
     Commit (txn 4) ∷
     [])) ∷
-    (play (negsuc 2 ∷ pos 6 ∷ []) (1 ∷ 2 ∷ [])
+    (history (negsuc 2 ∷ pos 6 ∷ []) (1 ∷ 2 ∷ [])
     (BeginUpdate 0 ∷
     BeginUpdate 20 ∷
     Read (txn 2) (item 0) ∷
@@ -115,7 +115,7 @@ inputs =
     Commit (txn 1) ∷
     Commit (txn 2) ∷
     [])) ∷
-    (play (negsuc 3 ∷ []) (2 ∷ [])
+    (history (negsuc 3 ∷ []) (2 ∷ [])
     (BeginUpdate 20 ∷
     BeginQuery 20 false ∷
     Write (txn 1) (item 0) (pos 11) ∷
@@ -126,7 +126,7 @@ inputs =
     Write (txn 1) (item 0) (negsuc 1000000000000) ∷
     Commit (txn 1) ∷
     [])) ∷
-    (play (negsuc 2 ∷ negsuc 1 ∷ []) (7 ∷ 1 ∷ [])
+    (history (negsuc 2 ∷ negsuc 1 ∷ []) (7 ∷ 1 ∷ [])
     (BeginUpdate 1000000000000000000 ∷
     BeginUpdate 0 ∷
     BeginQuery 0 false ∷
@@ -140,7 +140,7 @@ inputs =
     Commit (txn 1) ∷
     Commit (txn 3) ∷
     [])) ∷
-    (play (negsuc 3 ∷ pos 7 ∷ []) (1 ∷ 1 ∷ [])
+    (history (negsuc 3 ∷ pos 7 ∷ []) (1 ∷ 1 ∷ [])
     (BeginUpdate 20 ∷
     BeginUpdate 20 ∷
     Abort (txn 1) ∷
@@ -173,7 +173,7 @@ outcomes =
     Committed ∷
     Committed ∷
     [])
-    (0 ∷ 0 ∷ 0 ∷ 0 ∷ []) (found 4 0 ([]) ∷ [])) ∷
+    (0 ∷ 0 ∷ 0 ∷ 0 ∷ []) (audit 4 0 ([]) ∷ [])) ∷
     (outcome (Begun (txn 1) ∷
     Begun (txn 2) ∷
     Committed ∷
@@ -186,7 +186,7 @@ outcomes =
     Committed ∷
     Committed ∷
     [])
-    (0 ∷ 0 ∷ 0 ∷ 0 ∷ []) (found 3 0 (1 ∷ []) ∷ [])) ∷
+    (0 ∷ 0 ∷ 0 ∷ 0 ∷ []) (audit 3 0 (1 ∷ []) ∷ [])) ∷
     (outcome (Begun (txn 1) ∷
     Refused LimitOutOfRange ∷
     Begun (txn 2) ∷
@@ -235,7 +235,7 @@ outcomes =
     Aborted ∷
     Committed ∷
     [])
-    (0 ∷ 0 ∷ 0 ∷ 0 ∷ 0 ∷ []) (found 2 0 ([]) ∷ [])) ∷
+    (0 ∷ 0 ∷ 0 ∷ 0 ∷ 0 ∷ []) (audit 2 0 ([]) ∷ [])) ∷
     (outcome (Begun (txn 1) ∷
     Begun (txn 2) ∷
     Value (pos 3) ∷
@@ -249,7 +249,7 @@ outcomes =
     Committed ∷
     Committed ∷
     [])
-    (0 ∷ 0 ∷ 0 ∷ 0 ∷ []) (found 4 0 ([]) ∷ [])) ∷
+    (0 ∷ 0 ∷ 0 ∷ 0 ∷ []) (audit 4 0 ([]) ∷ [])) ∷
     (outcome (Begun (txn 1) ∷
     Begun (txn 2) ∷
     Value (negsuc 2) ∷
@@ -274,7 +274,7 @@ outcomes =
     Refused ValueOutOfRange ∷
     Committed ∷
     [])
-    (0 ∷ 0 ∷ []) (found 2 0 ([]) ∷ [])) ∷
+    (0 ∷ 0 ∷ []) (audit 2 0 ([]) ∷ [])) ∷
     (outcome (Begun (txn 1) ∷
     Begun (txn 2) ∷
     Begun (txn 3) ∷
@@ -288,7 +288,7 @@ outcomes =
     Committed ∷
     Committed ∷
     [])
-    (0 ∷ 0 ∷ 0 ∷ []) (found 3 0 ([]) ∷ [])) ∷
+    (0 ∷ 0 ∷ 0 ∷ []) (audit 3 0 ([]) ∷ [])) ∷
     (outcome (Begun (txn 1) ∷
     Begun (txn 2) ∷
     Aborted ∷

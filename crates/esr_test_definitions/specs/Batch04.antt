@@ -2,13 +2,13 @@
 use Rattle.std.specs.Prelude.{◌≡◌, pos, negsuc, List, [], ◌∷◌, true, false, map}
 use Rattle.esr_history.specs.declared.event.Event.TheVariants.{BeginUpdate, BeginQuery, Read, Write, Commit, Abort}
 use Rattle.esr_history.specs.declared.event.Reply.TheVariants.{Begun, Value, Wrote, Committed, Aborted, Refused}
-use Rattle.esr_history.specs.declared.event.Refusal.TheVariants.{NoSuchTransaction, AlreadyEnded, NoSuchItem, QueryMayNotWrite, ValueOutOfRange, LimitOutOfRange, BlockedByLock, BlockedByImport, BlockedByExport}
+use Rattle.esr_history.specs.declared.event.Refusal.TheVariants.{NoSuchTransaction, AlreadyEnded, NoSuchItem, QueryMayNotWrite, ValueOutOfRange, LimitOutOfRange, BlockedByLock, BlockedByExport}
 use Rattle.esr_history.specs.Worked.{item, txn}
-use Rattle.esr_test_definitions.specs.Outcomes.{Outcome, Play, found, outcome, outcome_of, play}
+use Rattle.esr_test_definitions.specs.Outcomes.{History, Outcome, audit, history, outcome, outcome_of}
 
-abbrev pub inputs : List Play
+abbrev pub inputs : List History
 inputs =
-    (play (pos 2 ∷ []) (1 ∷ [])
+    (history (pos 2 ∷ []) (1 ∷ [])
     (BeginQuery 9 true ∷
     BeginUpdate 0 ∷
     Read (txn 1) (item 0) ∷
@@ -20,7 +20,7 @@ inputs =
     Read (txn 1) (item 0) ∷
     Commit (txn 1) ∷
     [])) ∷
-    (play (negsuc 4 ∷ pos 7 ∷ pos 9 ∷ []) (7 ∷ 7 ∷ 7 ∷ [])
+    (history (negsuc 4 ∷ pos 7 ∷ pos 9 ∷ []) (7 ∷ 7 ∷ 7 ∷ [])
     (BeginQuery 1000000000000000000 true ∷
     BeginUpdate 9 ∷
     Write (txn 2) (item 0) (negsuc 8) ∷
@@ -35,7 +35,7 @@ inputs =
     Commit (txn 3) ∷
     Abort (txn 4) ∷
     [])) ∷
-    (play (pos 3 ∷ pos 7 ∷ pos 4 ∷ []) (1 ∷ 2 ∷ 1 ∷ [])
+    (history (pos 3 ∷ pos 7 ∷ pos 4 ∷ []) (1 ∷ 2 ∷ 1 ∷ [])
     (BeginQuery 20 false ∷
     BeginUpdate 60 ∷
     BeginUpdate 1000000000000000001 ∷
@@ -54,7 +54,7 @@ inputs =
     Commit (txn 1) ∷
     Abort (txn 2) ∷
     [])) ∷
-    (play (pos 5 ∷ pos 0 ∷ pos 9 ∷ []) (7 ∷ 7 ∷ 1 ∷ [])
+    (history (pos 5 ∷ pos 0 ∷ pos 9 ∷ []) (7 ∷ 7 ∷ 1 ∷ [])
     (BeginQuery 20 false ∷
     BeginUpdate 1000000000000000000 ∷
     Read (txn 1) (item 0) ∷
@@ -75,7 +75,7 @@ inputs =
     Commit (txn 3) ∷
     Commit (txn 4) ∷
     [])) ∷
-    (play (pos 4 ∷ pos 2 ∷ []) (2 ∷ 7 ∷ [])
+    (history (pos 4 ∷ pos 2 ∷ []) (2 ∷ 7 ∷ [])
     (BeginQuery 20 false ∷
     BeginUpdate 1000000000000000000 ∷
     Read (txn 0) (item 0) ∷
@@ -88,7 +88,7 @@ inputs =
     Commit (txn 3) ∷
     Commit (txn 4) ∷
     [])) ∷
-    (play (pos 4 ∷ pos 7 ∷ pos 1 ∷ []) (7 ∷ 7 ∷ 2 ∷ [])
+    (history (pos 4 ∷ pos 7 ∷ pos 1 ∷ []) (7 ∷ 7 ∷ 2 ∷ [])
     (BeginQuery 0 false ∷
     BeginUpdate 1000000000000000000 ∷
     Read (txn 1) (item 1) ∷
@@ -104,7 +104,7 @@ inputs =
     Read (txn 3) (item 0) ∷
     Commit (txn 1) ∷
     [])) ∷
-    (play (pos 8 ∷ []) (1 ∷ [])
+    (history (pos 8 ∷ []) (1 ∷ [])
     (BeginQuery 1000000000000000000 true ∷
     BeginUpdate 1000000000000000000 ∷
     Read (txn 2) (item 0) ∷
@@ -118,7 +118,7 @@ inputs =
     Commit (txn 2) ∷
     Commit (txn 3) ∷
     [])) ∷
-    (play (pos 0 ∷ pos 2 ∷ pos 6 ∷ []) (1 ∷ 1 ∷ 1 ∷ [])
+    (history (pos 0 ∷ pos 2 ∷ pos 6 ∷ []) (1 ∷ 1 ∷ 1 ∷ [])
     (BeginUpdate 3 ∷
     BeginUpdate 1000000000000000000 ∷
     Write (txn 2) (item 0) (negsuc 0) ∷
@@ -132,7 +132,7 @@ inputs =
     Commit (txn 1) ∷
     Commit (txn 2) ∷
     [])) ∷
-    (play (negsuc 4 ∷ pos 2 ∷ pos 8 ∷ []) (1 ∷ 7 ∷ 2 ∷ [])
+    (history (negsuc 4 ∷ pos 2 ∷ pos 8 ∷ []) (1 ∷ 7 ∷ 2 ∷ [])
     (BeginUpdate 20 ∷
     BeginQuery 3 false ∷
     Read (txn 2) (item 2) ∷
@@ -144,7 +144,7 @@ inputs =
     Commit (txn 1) ∷
     Write (txn 1) (item 1) (pos 4) ∷
     [])) ∷
-    (play (pos 1 ∷ []) (7 ∷ [])
+    (history (pos 1 ∷ []) (7 ∷ [])
     (BeginUpdate 3 ∷
     BeginUpdate 0 ∷
     Write (txn 2) (item 0) (pos 13) ∷
@@ -175,7 +175,7 @@ outcomes =
     Value (pos 2) ∷
     Committed ∷
     [])
-    (0 ∷ 0 ∷ []) (found 1 0 ([]) ∷ [])) ∷
+    (0 ∷ 0 ∷ []) (audit 1 0 ([]) ∷ [])) ∷
     (outcome (Begun (txn 1) ∷
     Begun (txn 2) ∷
     Wrote ∷
@@ -190,7 +190,7 @@ outcomes =
     Committed ∷
     Aborted ∷
     [])
-    (0 ∷ 0 ∷ 0 ∷ 0 ∷ []) (found 1 0 ([]) ∷ [])) ∷
+    (0 ∷ 0 ∷ 0 ∷ 0 ∷ []) (audit 1 0 ([]) ∷ [])) ∷
     (outcome (Begun (txn 1) ∷
     Begun (txn 2) ∷
     Refused LimitOutOfRange ∷
@@ -209,7 +209,7 @@ outcomes =
     Committed ∷
     Aborted ∷
     [])
-    (0 ∷ 0 ∷ []) (found 1 0 ([]) ∷ [])) ∷
+    (0 ∷ 0 ∷ []) (audit 1 0 ([]) ∷ [])) ∷
     (outcome (Begun (txn 1) ∷
     Begun (txn 2) ∷
     Value (pos 5) ∷
@@ -230,7 +230,7 @@ outcomes =
     Committed ∷
     Committed ∷
     [])
-    (0 ∷ 0 ∷ 0 ∷ 0 ∷ []) (found 1 0 ([]) ∷ [])) ∷
+    (0 ∷ 0 ∷ 0 ∷ 0 ∷ []) (audit 1 0 ([]) ∷ [])) ∷
     (outcome (Begun (txn 1) ∷
     Begun (txn 2) ∷
     Refused NoSuchTransaction ∷
@@ -243,7 +243,7 @@ outcomes =
     Committed ∷
     Committed ∷
     [])
-    (0 ∷ 0 ∷ 0 ∷ 0 ∷ []) (found 1 0 ([]) ∷ found 3 0 ([]) ∷ [])) ∷
+    (0 ∷ 0 ∷ 0 ∷ 0 ∷ []) (audit 1 0 ([]) ∷ audit 3 0 ([]) ∷ [])) ∷
     (outcome (Begun (txn 1) ∷
     Begun (txn 2) ∷
     Value (pos 7) ∷
@@ -259,7 +259,7 @@ outcomes =
     Refused AlreadyEnded ∷
     Committed ∷
     [])
-    (0 ∷ 0 ∷ 0 ∷ 0 ∷ []) (found 1 0 ([]) ∷ [])) ∷
+    (0 ∷ 0 ∷ 0 ∷ 0 ∷ []) (audit 1 0 ([]) ∷ [])) ∷
     (outcome (Begun (txn 1) ∷
     Begun (txn 2) ∷
     Value (pos 8) ∷
@@ -299,7 +299,7 @@ outcomes =
     Refused AlreadyEnded ∷
     Refused AlreadyEnded ∷
     [])
-    (0 ∷ 0 ∷ []) (found 2 0 ([]) ∷ [])) ∷
+    (0 ∷ 0 ∷ []) (audit 2 0 ([]) ∷ [])) ∷
     (outcome (Begun (txn 1) ∷
     Begun (txn 2) ∷
     Wrote ∷
@@ -315,7 +315,7 @@ outcomes =
     Value (pos 4) ∷
     Committed ∷
     [])
-    (0 ∷ 0 ∷ 0 ∷ []) (found 3 0 (2 ∷ []) ∷ [])) ∷
+    (0 ∷ 0 ∷ 0 ∷ []) (audit 3 0 (2 ∷ []) ∷ [])) ∷
     []
 
 -- the definitions find the outcome of each history

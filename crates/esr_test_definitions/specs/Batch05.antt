@@ -2,13 +2,13 @@
 use Rattle.std.specs.Prelude.{◌≡◌, pos, negsuc, List, [], ◌∷◌, true, false, map}
 use Rattle.esr_history.specs.declared.event.Event.TheVariants.{BeginUpdate, BeginQuery, Read, Write, Commit, Abort}
 use Rattle.esr_history.specs.declared.event.Reply.TheVariants.{Begun, Value, Wrote, Committed, Aborted, Refused}
-use Rattle.esr_history.specs.declared.event.Refusal.TheVariants.{NoSuchTransaction, AlreadyEnded, NoSuchItem, QueryMayNotWrite, ValueOutOfRange, LimitOutOfRange, BlockedByLock, BlockedByImport, BlockedByExport}
+use Rattle.esr_history.specs.declared.event.Refusal.TheVariants.{NoSuchTransaction, NoSuchItem, QueryMayNotWrite, ValueOutOfRange, LimitOutOfRange, BlockedByLock, BlockedByImport}
 use Rattle.esr_history.specs.Worked.{item, txn}
-use Rattle.esr_test_definitions.specs.Outcomes.{Outcome, Play, found, outcome, outcome_of, play}
+use Rattle.esr_test_definitions.specs.Outcomes.{History, Outcome, audit, history, outcome, outcome_of}
 
-abbrev pub inputs : List Play
+abbrev pub inputs : List History
 inputs =
-    (play (pos 1 ∷ pos 6 ∷ negsuc 3 ∷ []) (1 ∷ 1 ∷ 2 ∷ [])
+    (history (pos 1 ∷ pos 6 ∷ negsuc 3 ∷ []) (1 ∷ 1 ∷ 2 ∷ [])
     (BeginUpdate 0 ∷
     BeginUpdate 20 ∷
     BeginUpdate 0 ∷
@@ -18,7 +18,7 @@ inputs =
     Write (txn 2) (item 0) (pos 9) ∷
     Commit (txn 4) ∷
     [])) ∷
-    (play (negsuc 2 ∷ pos 2 ∷ []) (2 ∷ 1 ∷ [])
+    (history (negsuc 2 ∷ pos 2 ∷ []) (2 ∷ 1 ∷ [])
     (BeginQuery 60 false ∷
     BeginUpdate 60 ∷
     BeginQuery 20 true ∷
@@ -38,7 +38,7 @@ inputs =
     Commit (txn 4) ∷
     Commit (txn 5) ∷
     [])) ∷
-    (play (negsuc 3 ∷ []) (7 ∷ [])
+    (history (negsuc 3 ∷ []) (7 ∷ [])
     (BeginUpdate 3 ∷
     BeginUpdate 60 ∷
     BeginUpdate 0 ∷
@@ -56,7 +56,7 @@ inputs =
     Commit (txn 4) ∷
     Commit (txn 5) ∷
     [])) ∷
-    (play (pos 5 ∷ []) (7 ∷ [])
+    (history (pos 5 ∷ []) (7 ∷ [])
     (BeginUpdate 9 ∷
     BeginUpdate 60 ∷
     Read (txn 1) (item 0) ∷
@@ -72,7 +72,7 @@ inputs =
     Abort (txn 2) ∷
     Abort (txn 4) ∷
     [])) ∷
-    (play (pos 7 ∷ []) (7 ∷ [])
+    (history (pos 7 ∷ []) (7 ∷ [])
     (BeginUpdate 20 ∷
     BeginQuery 3 false ∷
     Write (txn 0) (item 1) (negsuc 0) ∷
@@ -87,7 +87,7 @@ inputs =
     Commit (txn 4) ∷
     Commit (txn 5) ∷
     [])) ∷
-    (play (pos 5 ∷ pos 2 ∷ []) (1 ∷ 2 ∷ [])
+    (history (pos 5 ∷ pos 2 ∷ []) (1 ∷ 2 ∷ [])
     (BeginQuery 9 false ∷
     BeginQuery 0 true ∷
     Read (txn 2) (item 0) ∷
@@ -108,7 +108,7 @@ inputs =
     Commit (txn 3) ∷
     Commit (txn 4) ∷
     [])) ∷
-    (play (pos 9 ∷ pos 1 ∷ pos 4 ∷ []) (2 ∷ 1 ∷ 2 ∷ [])
+    (history (pos 9 ∷ pos 1 ∷ pos 4 ∷ []) (2 ∷ 1 ∷ 2 ∷ [])
     (BeginUpdate 1000000000000000000 ∷
     BeginUpdate 9 ∷
     BeginUpdate 3 ∷
@@ -122,7 +122,7 @@ inputs =
     Commit (txn 4) ∷
     Commit (txn 5) ∷
     [])) ∷
-    (play (negsuc 2 ∷ negsuc 4 ∷ pos 5 ∷ []) (7 ∷ 1 ∷ 7 ∷ [])
+    (history (negsuc 2 ∷ negsuc 4 ∷ pos 5 ∷ []) (7 ∷ 1 ∷ 7 ∷ [])
     (BeginUpdate 1000000000000000000 ∷
     BeginUpdate 20 ∷
     Write (txn 3) (item 1) (pos 10) ∷
@@ -141,7 +141,7 @@ inputs =
     Commit (txn 4) ∷
     Commit (txn 5) ∷
     [])) ∷
-    (play (pos 3 ∷ pos 6 ∷ []) (2 ∷ 1 ∷ [])
+    (history (pos 3 ∷ pos 6 ∷ []) (2 ∷ 1 ∷ [])
     (BeginUpdate 3 ∷
     BeginUpdate 20 ∷
     Read (txn 0) (item 1) ∷
@@ -152,7 +152,7 @@ inputs =
     Commit (txn 1) ∷
     Commit (txn 3) ∷
     [])) ∷
-    (play (negsuc 4 ∷ pos 9 ∷ []) (1 ∷ 1 ∷ [])
+    (history (negsuc 4 ∷ pos 9 ∷ []) (1 ∷ 1 ∷ [])
     (BeginUpdate 9 ∷
     BeginQuery 20 false ∷
     Read (txn 1) (item 1) ∷
@@ -180,7 +180,7 @@ outcomes =
     Wrote ∷
     Committed ∷
     [])
-    (0 ∷ 0 ∷ 0 ∷ 0 ∷ []) (found 4 0 ([]) ∷ [])) ∷
+    (0 ∷ 0 ∷ 0 ∷ 0 ∷ []) (audit 4 0 ([]) ∷ [])) ∷
     (outcome (Begun (txn 1) ∷
     Begun (txn 2) ∷
     Begun (txn 3) ∷
@@ -200,7 +200,7 @@ outcomes =
     Committed ∷
     Committed ∷
     [])
-    (0 ∷ 7 ∷ 7 ∷ 0 ∷ 0 ∷ []) (found 3 7 ([]) ∷ [])) ∷
+    (0 ∷ 7 ∷ 7 ∷ 0 ∷ 0 ∷ []) (audit 3 7 ([]) ∷ [])) ∷
     (outcome (Begun (txn 1) ∷
     Begun (txn 2) ∷
     Begun (txn 3) ∷
@@ -249,7 +249,7 @@ outcomes =
     Committed ∷
     Committed ∷
     [])
-    (0 ∷ 0 ∷ 0 ∷ 0 ∷ 0 ∷ []) (found 2 0 ([]) ∷ [])) ∷
+    (0 ∷ 0 ∷ 0 ∷ 0 ∷ 0 ∷ []) (audit 2 0 ([]) ∷ [])) ∷
     (outcome (Begun (txn 1) ∷
     Begun (txn 2) ∷
     Value (pos 5) ∷
@@ -270,7 +270,7 @@ outcomes =
     Committed ∷
     Committed ∷
     [])
-    (0 ∷ 0 ∷ 0 ∷ 0 ∷ []) (found 1 0 ([]) ∷ found 2 0 ([]) ∷ [])) ∷
+    (0 ∷ 0 ∷ 0 ∷ 0 ∷ []) (audit 1 0 ([]) ∷ audit 2 0 ([]) ∷ [])) ∷
     (outcome (Begun (txn 1) ∷
     Begun (txn 2) ∷
     Begun (txn 3) ∷
@@ -284,7 +284,7 @@ outcomes =
     Committed ∷
     Committed ∷
     [])
-    (0 ∷ 0 ∷ 0 ∷ 0 ∷ 0 ∷ []) (found 4 0 ([]) ∷ [])) ∷
+    (0 ∷ 0 ∷ 0 ∷ 0 ∷ 0 ∷ []) (audit 4 0 ([]) ∷ [])) ∷
     (outcome (Begun (txn 1) ∷
     Begun (txn 2) ∷
     Refused NoSuchTransaction ∷
@@ -303,7 +303,7 @@ outcomes =
     Committed ∷
     Committed ∷
     [])
-    (0 ∷ 0 ∷ 0 ∷ 0 ∷ 0 ∷ []) (found 3 0 ([]) ∷ [])) ∷
+    (0 ∷ 0 ∷ 0 ∷ 0 ∷ 0 ∷ []) (audit 3 0 ([]) ∷ [])) ∷
     (outcome (Begun (txn 1) ∷
     Begun (txn 2) ∷
     Refused NoSuchTransaction ∷
@@ -329,7 +329,7 @@ outcomes =
     Committed ∷
     Committed ∷
     [])
-    (0 ∷ 0 ∷ 0 ∷ 0 ∷ 0 ∷ []) (found 2 0 ([]) ∷ found 4 0 ([]) ∷ found 5 0 ([]) ∷ [])) ∷
+    (0 ∷ 0 ∷ 0 ∷ 0 ∷ 0 ∷ []) (audit 2 0 ([]) ∷ audit 4 0 ([]) ∷ audit 5 0 ([]) ∷ [])) ∷
     []
 
 -- the definitions find the outcome of each history

@@ -2,13 +2,13 @@
 use Rattle.std.specs.Prelude.{◌≡◌, pos, negsuc, List, [], ◌∷◌, true, false, map}
 use Rattle.esr_history.specs.declared.event.Event.TheVariants.{BeginUpdate, BeginQuery, Read, Write, Commit, Abort}
 use Rattle.esr_history.specs.declared.event.Reply.TheVariants.{Begun, Value, Wrote, Committed, Aborted, Refused}
-use Rattle.esr_history.specs.declared.event.Refusal.TheVariants.{NoSuchTransaction, AlreadyEnded, NoSuchItem, QueryMayNotWrite, ValueOutOfRange, LimitOutOfRange, BlockedByLock, BlockedByImport, BlockedByExport}
+use Rattle.esr_history.specs.declared.event.Refusal.TheVariants.{NoSuchTransaction, AlreadyEnded, ValueOutOfRange, LimitOutOfRange, BlockedByLock, BlockedByImport, BlockedByExport}
 use Rattle.esr_history.specs.Worked.{item, txn}
-use Rattle.esr_test_definitions.specs.Outcomes.{Outcome, Play, found, outcome, outcome_of, play}
+use Rattle.esr_test_definitions.specs.Outcomes.{History, Outcome, audit, history, outcome, outcome_of}
 
-abbrev pub inputs : List Play
+abbrev pub inputs : List History
 inputs =
-    (play (pos 3 ∷ []) (1 ∷ [])
+    (history (pos 3 ∷ []) (1 ∷ [])
     (BeginQuery 9 false ∷
     BeginUpdate 20 ∷
     Read (txn 1) (item 0) ∷
@@ -19,7 +19,7 @@ inputs =
     Commit (txn 1) ∷
     Commit (txn 2) ∷
     [])) ∷
-    (play (pos 7 ∷ []) (1 ∷ [])
+    (history (pos 7 ∷ []) (1 ∷ [])
     (BeginQuery 0 true ∷
     BeginQuery 9 false ∷
     Abort (txn 1) ∷
@@ -37,7 +37,7 @@ inputs =
     Commit (txn 4) ∷
     Commit (txn 5) ∷
     [])) ∷
-    (play (pos 3 ∷ negsuc 1 ∷ pos 7 ∷ []) (1 ∷ 2 ∷ 7 ∷ [])
+    (history (pos 3 ∷ negsuc 1 ∷ pos 7 ∷ []) (1 ∷ 2 ∷ 7 ∷ [])
     (BeginQuery 0 false ∷
     BeginUpdate 1000000000000000001 ∷
     BeginQuery 9 true ∷
@@ -55,7 +55,7 @@ inputs =
     Write (txn 4) (item 0) (pos 1) ∷
     Commit (txn 4) ∷
     [])) ∷
-    (play (pos 0 ∷ pos 5 ∷ pos 3 ∷ []) (7 ∷ 7 ∷ 1 ∷ [])
+    (history (pos 0 ∷ pos 5 ∷ pos 3 ∷ []) (7 ∷ 7 ∷ 1 ∷ [])
     (BeginUpdate 20 ∷
     BeginUpdate 20 ∷
     Write (txn 2) (item 2) (pos 6) ∷
@@ -68,7 +68,7 @@ inputs =
     Commit (txn 4) ∷
     Commit (txn 5) ∷
     [])) ∷
-    (play (negsuc 4 ∷ pos 8 ∷ pos 5 ∷ []) (7 ∷ 1 ∷ 1 ∷ [])
+    (history (negsuc 4 ∷ pos 8 ∷ pos 5 ∷ []) (7 ∷ 1 ∷ 1 ∷ [])
     (BeginUpdate 0 ∷
     BeginUpdate 20 ∷
     Write (txn 2) (item 2) (negsuc 1) ∷
@@ -81,7 +81,7 @@ inputs =
     Commit (txn 2) ∷
     Abort (txn 4) ∷
     [])) ∷
-    (play (pos 7 ∷ []) (2 ∷ [])
+    (history (pos 7 ∷ []) (2 ∷ [])
     (BeginUpdate 1000000000000000000 ∷
     BeginUpdate 20 ∷
     Abort (txn 2) ∷
@@ -92,7 +92,7 @@ inputs =
     Write (txn 1) (item 0) (pos 13) ∷
     Read (txn 1) (item 0) ∷
     [])) ∷
-    (play (pos 9 ∷ pos 8 ∷ []) (7 ∷ 1 ∷ [])
+    (history (pos 9 ∷ pos 8 ∷ []) (7 ∷ 1 ∷ [])
     (BeginQuery 60 true ∷
     BeginUpdate 9 ∷
     Read (txn 1) (item 1) ∷
@@ -104,7 +104,7 @@ inputs =
     Commit (txn 2) ∷
     Commit (txn 3) ∷
     [])) ∷
-    (play (pos 8 ∷ []) (1 ∷ [])
+    (history (pos 8 ∷ []) (1 ∷ [])
     (BeginQuery 20 false ∷
     BeginUpdate 20 ∷
     Write (txn 2) (item 0) (negsuc 5) ∷
@@ -115,7 +115,7 @@ inputs =
     Write (txn 2) (item 0) (negsuc 1000000000000) ∷
     Abort (txn 2) ∷
     [])) ∷
-    (play (pos 9 ∷ pos 5 ∷ pos 6 ∷ []) (1 ∷ 1 ∷ 1 ∷ [])
+    (history (pos 9 ∷ pos 5 ∷ pos 6 ∷ []) (1 ∷ 1 ∷ 1 ∷ [])
     (BeginUpdate 0 ∷
     BeginUpdate 20 ∷
     BeginQuery 3 false ∷
@@ -129,7 +129,7 @@ inputs =
     Commit (txn 3) ∷
     Commit (txn 4) ∷
     [])) ∷
-    (play (negsuc 2 ∷ []) (1 ∷ [])
+    (history (negsuc 2 ∷ []) (1 ∷ [])
     (BeginUpdate 1000000000000000000 ∷
     BeginUpdate 3 ∷
     Write (txn 2) (item 0) (pos 1000000000001) ∷
@@ -155,7 +155,7 @@ outcomes =
     Committed ∷
     Committed ∷
     [])
-    (0 ∷ 0 ∷ []) (found 1 0 ([]) ∷ [])) ∷
+    (0 ∷ 0 ∷ []) (audit 1 0 ([]) ∷ [])) ∷
     (outcome (Begun (txn 1) ∷
     Begun (txn 2) ∷
     Aborted ∷
@@ -173,7 +173,7 @@ outcomes =
     Committed ∷
     Committed ∷
     [])
-    (0 ∷ 0 ∷ 0 ∷ 0 ∷ 0 ∷ []) (found 2 0 ([]) ∷ [])) ∷
+    (0 ∷ 0 ∷ 0 ∷ 0 ∷ 0 ∷ []) (audit 2 0 ([]) ∷ [])) ∷
     (outcome (Begun (txn 1) ∷
     Refused LimitOutOfRange ∷
     Begun (txn 2) ∷
@@ -191,7 +191,7 @@ outcomes =
     Wrote ∷
     Committed ∷
     [])
-    (0 ∷ 0 ∷ 8 ∷ 0 ∷ 8 ∷ []) (found 1 0 ([]) ∷ [])) ∷
+    (0 ∷ 0 ∷ 8 ∷ 0 ∷ 8 ∷ []) (audit 1 0 ([]) ∷ [])) ∷
     (outcome (Begun (txn 1) ∷
     Begun (txn 2) ∷
     Wrote ∷
@@ -204,7 +204,7 @@ outcomes =
     Committed ∷
     Committed ∷
     [])
-    (0 ∷ 0 ∷ 0 ∷ 0 ∷ 0 ∷ []) (found 3 0 ([]) ∷ [])) ∷
+    (0 ∷ 0 ∷ 0 ∷ 0 ∷ 0 ∷ []) (audit 3 0 ([]) ∷ [])) ∷
     (outcome (Begun (txn 1) ∷
     Begun (txn 2) ∷
     Wrote ∷
@@ -240,7 +240,7 @@ outcomes =
     Committed ∷
     Committed ∷
     [])
-    (0 ∷ 0 ∷ 0 ∷ 0 ∷ []) (found 1 0 ([]) ∷ [])) ∷
+    (0 ∷ 0 ∷ 0 ∷ 0 ∷ []) (audit 1 0 ([]) ∷ [])) ∷
     (outcome (Begun (txn 1) ∷
     Begun (txn 2) ∷
     Wrote ∷
@@ -251,7 +251,7 @@ outcomes =
     Refused ValueOutOfRange ∷
     Aborted ∷
     [])
-    (0 ∷ 0 ∷ []) (found 1 0 ([]) ∷ [])) ∷
+    (0 ∷ 0 ∷ []) (audit 1 0 ([]) ∷ [])) ∷
     (outcome (Begun (txn 1) ∷
     Begun (txn 2) ∷
     Begun (txn 3) ∷
@@ -265,7 +265,7 @@ outcomes =
     Committed ∷
     Committed ∷
     [])
-    (0 ∷ 0 ∷ 0 ∷ 0 ∷ []) (found 3 0 ([]) ∷ [])) ∷
+    (0 ∷ 0 ∷ 0 ∷ 0 ∷ []) (audit 3 0 ([]) ∷ [])) ∷
     (outcome (Begun (txn 1) ∷
     Begun (txn 2) ∷
     Refused ValueOutOfRange ∷
@@ -277,7 +277,7 @@ outcomes =
     Committed ∷
     Committed ∷
     [])
-    (0 ∷ 0 ∷ 0 ∷ 0 ∷ []) (found 3 0 ([]) ∷ [])) ∷
+    (0 ∷ 0 ∷ 0 ∷ 0 ∷ []) (audit 3 0 ([]) ∷ [])) ∷
     []
 
 -- the definitions find the outcome of each history

@@ -2,13 +2,13 @@
 use Rattle.std.specs.Prelude.{◌≡◌, pos, negsuc, List, [], ◌∷◌, true, false, map}
 use Rattle.esr_history.specs.declared.event.Event.TheVariants.{BeginUpdate, BeginQuery, Read, Write, Commit, Abort}
 use Rattle.esr_history.specs.declared.event.Reply.TheVariants.{Begun, Value, Wrote, Committed, Aborted, Refused}
-use Rattle.esr_history.specs.declared.event.Refusal.TheVariants.{NoSuchTransaction, AlreadyEnded, NoSuchItem, QueryMayNotWrite, ValueOutOfRange, LimitOutOfRange, BlockedByLock, BlockedByImport, BlockedByExport}
+use Rattle.esr_history.specs.declared.event.Refusal.TheVariants.{NoSuchTransaction, AlreadyEnded, QueryMayNotWrite, LimitOutOfRange, BlockedByLock, BlockedByExport}
 use Rattle.esr_history.specs.Worked.{item, txn}
-use Rattle.esr_test_definitions.specs.Outcomes.{Outcome, Play, found, outcome, outcome_of, play}
+use Rattle.esr_test_definitions.specs.Outcomes.{History, Outcome, audit, history, outcome, outcome_of}
 
-abbrev pub inputs : List Play
+abbrev pub inputs : List History
 inputs =
-    (play (pos 2 ∷ negsuc 2 ∷ negsuc 1 ∷ []) (1 ∷ 7 ∷ 7 ∷ [])
+    (history (pos 2 ∷ negsuc 2 ∷ negsuc 1 ∷ []) (1 ∷ 7 ∷ 7 ∷ [])
     (BeginUpdate 9 ∷
     BeginUpdate 3 ∷
     BeginQuery 1000000000000000001 true ∷
@@ -23,7 +23,7 @@ inputs =
     Commit (txn 1) ∷
     Abort (txn 5) ∷
     [])) ∷
-    (play (negsuc 2 ∷ []) (2 ∷ [])
+    (history (negsuc 2 ∷ []) (2 ∷ [])
     (BeginQuery 1000000000000000000 false ∷
     BeginUpdate 60 ∷
     Read (txn 2) (item 0) ∷
@@ -41,7 +41,7 @@ inputs =
     Commit (txn 2) ∷
     Commit (txn 3) ∷
     [])) ∷
-    (play (pos 8 ∷ negsuc 0 ∷ pos 5 ∷ []) (1 ∷ 7 ∷ 2 ∷ [])
+    (history (pos 8 ∷ negsuc 0 ∷ pos 5 ∷ []) (1 ∷ 7 ∷ 2 ∷ [])
     (BeginUpdate 9 ∷
     BeginQuery 0 false ∷
     BeginUpdate 20 ∷
@@ -58,7 +58,7 @@ inputs =
     Abort (txn 4) ∷
     Abort (txn 5) ∷
     [])) ∷
-    (play (pos 3 ∷ pos 3 ∷ negsuc 2 ∷ []) (1 ∷ 7 ∷ 2 ∷ [])
+    (history (pos 3 ∷ pos 3 ∷ negsuc 2 ∷ []) (1 ∷ 7 ∷ 2 ∷ [])
     (BeginQuery 1000000000000000000 false ∷
     BeginUpdate 20 ∷
     Abort (txn 1) ∷
@@ -68,7 +68,7 @@ inputs =
     Read (txn 2) (item 0) ∷
     Commit (txn 2) ∷
     [])) ∷
-    (play (pos 5 ∷ pos 5 ∷ pos 1 ∷ []) (1 ∷ 1 ∷ 7 ∷ [])
+    (history (pos 5 ∷ pos 5 ∷ pos 1 ∷ []) (1 ∷ 1 ∷ 7 ∷ [])
     (BeginUpdate 20 ∷
     BeginQuery 9 false ∷
     Commit (txn 2) ∷
@@ -81,7 +81,7 @@ inputs =
     Commit (txn 1) ∷
     Commit (txn 3) ∷
     [])) ∷
-    (play (pos 4 ∷ pos 5 ∷ []) (2 ∷ 1 ∷ [])
+    (history (pos 4 ∷ pos 5 ∷ []) (2 ∷ 1 ∷ [])
     (BeginQuery 60 false ∷
     BeginUpdate 60 ∷
     Read (txn 1) (item 1) ∷
@@ -102,7 +102,7 @@ inputs =
     Commit (txn 4) ∷
     Commit (txn 5) ∷
     [])) ∷
-    (play (pos 9 ∷ negsuc 0 ∷ []) (1 ∷ 2 ∷ [])
+    (history (pos 9 ∷ negsuc 0 ∷ []) (1 ∷ 2 ∷ [])
     (BeginQuery 3 false ∷
     BeginQuery 9 false ∷
     Read (txn 1) (item 0) ∷
@@ -112,7 +112,7 @@ inputs =
     BeginUpdate 3 ∷
     Commit (txn 1) ∷
     [])) ∷
-    (play (negsuc 0 ∷ []) (1 ∷ [])
+    (history (negsuc 0 ∷ []) (1 ∷ [])
     (BeginUpdate 60 ∷
     BeginUpdate 60 ∷
     Write (txn 1) (item 0) (pos 12) ∷
@@ -124,7 +124,7 @@ inputs =
     Write (txn 2) (item 0) (negsuc 1) ∷
     Commit (txn 2) ∷
     [])) ∷
-    (play (pos 0 ∷ pos 9 ∷ pos 7 ∷ []) (7 ∷ 1 ∷ 1 ∷ [])
+    (history (pos 0 ∷ pos 9 ∷ pos 7 ∷ []) (7 ∷ 1 ∷ 1 ∷ [])
     (BeginQuery 60 true ∷
     BeginQuery 0 true ∷
     Read (txn 1) (item 0) ∷
@@ -139,7 +139,7 @@ inputs =
     Abort (txn 4) ∷
     Commit (txn 5) ∷
     [])) ∷
-    (play (pos 8 ∷ []) (7 ∷ [])
+    (history (pos 8 ∷ []) (7 ∷ [])
     (BeginQuery 20 true ∷
     BeginUpdate 1000000000000000000 ∷
     BeginUpdate 3 ∷
@@ -189,7 +189,7 @@ outcomes =
     Committed ∷
     Committed ∷
     [])
-    (0 ∷ 0 ∷ 0 ∷ []) (found 1 0 ([]) ∷ [])) ∷
+    (0 ∷ 0 ∷ 0 ∷ []) (audit 1 0 ([]) ∷ [])) ∷
     (outcome (Begun (txn 1) ∷
     Begun (txn 2) ∷
     Begun (txn 3) ∷
@@ -206,7 +206,7 @@ outcomes =
     Aborted ∷
     Aborted ∷
     [])
-    (0 ∷ 0 ∷ 0 ∷ 0 ∷ 0 ∷ []) (found 2 0 ([]) ∷ [])) ∷
+    (0 ∷ 0 ∷ 0 ∷ 0 ∷ 0 ∷ []) (audit 2 0 ([]) ∷ [])) ∷
     (outcome (Begun (txn 1) ∷
     Begun (txn 2) ∷
     Aborted ∷
@@ -229,7 +229,7 @@ outcomes =
     Committed ∷
     Committed ∷
     [])
-    (0 ∷ 0 ∷ 0 ∷ []) (found 2 0 ([]) ∷ [])) ∷
+    (0 ∷ 0 ∷ 0 ∷ []) (audit 2 0 ([]) ∷ [])) ∷
     (outcome (Begun (txn 1) ∷
     Begun (txn 2) ∷
     Value (pos 5) ∷
@@ -260,7 +260,7 @@ outcomes =
     Begun (txn 3) ∷
     Committed ∷
     [])
-    (0 ∷ 0 ∷ 0 ∷ []) (found 1 0 ([]) ∷ found 2 0 ([]) ∷ [])) ∷
+    (0 ∷ 0 ∷ 0 ∷ []) (audit 1 0 ([]) ∷ audit 2 0 ([]) ∷ [])) ∷
     (outcome (Begun (txn 1) ∷
     Begun (txn 2) ∷
     Wrote ∷
@@ -287,7 +287,7 @@ outcomes =
     Aborted ∷
     Committed ∷
     [])
-    (0 ∷ 0 ∷ 0 ∷ 0 ∷ 0 ∷ []) (found 2 0 ([]) ∷ found 5 0 ([]) ∷ [])) ∷
+    (0 ∷ 0 ∷ 0 ∷ 0 ∷ 0 ∷ []) (audit 2 0 ([]) ∷ audit 5 0 ([]) ∷ [])) ∷
     (outcome (Begun (txn 1) ∷
     Begun (txn 2) ∷
     Begun (txn 3) ∷
@@ -301,7 +301,7 @@ outcomes =
     Aborted ∷
     Committed ∷
     [])
-    (0 ∷ 0 ∷ 0 ∷ 0 ∷ 0 ∷ []) (found 1 0 ([]) ∷ found 5 0 ([]) ∷ [])) ∷
+    (0 ∷ 0 ∷ 0 ∷ 0 ∷ 0 ∷ []) (audit 1 0 ([]) ∷ audit 5 0 ([]) ∷ [])) ∷
     []
 
 -- the definitions find the outcome of each history

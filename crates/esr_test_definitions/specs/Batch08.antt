@@ -2,13 +2,13 @@
 use Rattle.std.specs.Prelude.{◌≡◌, pos, negsuc, List, [], ◌∷◌, true, false, map}
 use Rattle.esr_history.specs.declared.event.Event.TheVariants.{BeginUpdate, BeginQuery, Read, Write, Commit, Abort}
 use Rattle.esr_history.specs.declared.event.Reply.TheVariants.{Begun, Value, Wrote, Committed, Aborted, Refused}
-use Rattle.esr_history.specs.declared.event.Refusal.TheVariants.{NoSuchTransaction, AlreadyEnded, NoSuchItem, QueryMayNotWrite, ValueOutOfRange, LimitOutOfRange, BlockedByLock, BlockedByImport, BlockedByExport}
+use Rattle.esr_history.specs.declared.event.Refusal.TheVariants.{NoSuchTransaction, NoSuchItem, QueryMayNotWrite, ValueOutOfRange, BlockedByLock, BlockedByImport, BlockedByExport}
 use Rattle.esr_history.specs.Worked.{item, txn}
-use Rattle.esr_test_definitions.specs.Outcomes.{Outcome, Play, found, outcome, outcome_of, play}
+use Rattle.esr_test_definitions.specs.Outcomes.{History, Outcome, audit, history, outcome, outcome_of}
 
-abbrev pub inputs : List Play
+abbrev pub inputs : List History
 inputs =
-    (play (pos 4 ∷ []) (2 ∷ [])
+    (history (pos 4 ∷ []) (2 ∷ [])
     (BeginQuery 1000000000000000000 true ∷
     BeginUpdate 3 ∷
     Write (txn 2) (item 0) (negsuc 4) ∷
@@ -24,7 +24,7 @@ inputs =
     Commit (txn 4) ∷
     Commit (txn 5) ∷
     [])) ∷
-    (play (pos 7 ∷ pos 9 ∷ pos 1 ∷ []) (1 ∷ 7 ∷ 1 ∷ [])
+    (history (pos 7 ∷ pos 9 ∷ pos 1 ∷ []) (1 ∷ 7 ∷ 1 ∷ [])
     (BeginUpdate 0 ∷
     BeginQuery 1000000000000000000 true ∷
     Write (txn 1) (item 0) (pos 4) ∷
@@ -44,7 +44,7 @@ inputs =
     Commit (txn 3) ∷
     Commit (txn 4) ∷
     [])) ∷
-    (play (negsuc 0 ∷ []) (2 ∷ [])
+    (history (negsuc 0 ∷ []) (2 ∷ [])
     (BeginUpdate 9 ∷
     BeginUpdate 20 ∷
     Read (txn 1) (item 0) ∷
@@ -63,7 +63,7 @@ inputs =
     Commit (txn 4) ∷
     Commit (txn 5) ∷
     [])) ∷
-    (play (negsuc 0 ∷ pos 6 ∷ []) (7 ∷ 7 ∷ [])
+    (history (negsuc 0 ∷ pos 6 ∷ []) (7 ∷ 7 ∷ [])
     (BeginUpdate 1000000000000000000 ∷
     BeginQuery 0 true ∷
     Write (txn 1) (item 1) (pos 10) ∷
@@ -77,7 +77,7 @@ inputs =
     Read (txn 1) (item 1) ∷
     Commit (txn 4) ∷
     [])) ∷
-    (play (negsuc 1 ∷ pos 9 ∷ negsuc 4 ∷ []) (2 ∷ 7 ∷ 1 ∷ [])
+    (history (negsuc 1 ∷ pos 9 ∷ negsuc 4 ∷ []) (2 ∷ 7 ∷ 1 ∷ [])
     (BeginQuery 1000000000000000000 true ∷
     BeginQuery 60 true ∷
     Read (txn 2) (item 2) ∷
@@ -91,7 +91,7 @@ inputs =
     BeginUpdate 1000000000000000000 ∷
     Commit (txn 3) ∷
     [])) ∷
-    (play (negsuc 4 ∷ pos 6 ∷ []) (1 ∷ 1 ∷ [])
+    (history (negsuc 4 ∷ pos 6 ∷ []) (1 ∷ 1 ∷ [])
     (BeginUpdate 0 ∷
     BeginUpdate 1000000000000000000 ∷
     Write (txn 1) (item 1) (pos 6) ∷
@@ -104,7 +104,7 @@ inputs =
     Commit (txn 3) ∷
     Abort (txn 4) ∷
     [])) ∷
-    (play (pos 5 ∷ negsuc 3 ∷ negsuc 1 ∷ []) (1 ∷ 7 ∷ 7 ∷ [])
+    (history (pos 5 ∷ negsuc 3 ∷ negsuc 1 ∷ []) (1 ∷ 7 ∷ 7 ∷ [])
     (BeginUpdate 1000000000000000000 ∷
     BeginUpdate 9 ∷
     BeginUpdate 0 ∷
@@ -121,7 +121,7 @@ inputs =
     Commit (txn 2) ∷
     Commit (txn 5) ∷
     [])) ∷
-    (play (pos 0 ∷ pos 2 ∷ pos 4 ∷ []) (1 ∷ 1 ∷ 2 ∷ [])
+    (history (pos 0 ∷ pos 2 ∷ pos 4 ∷ []) (1 ∷ 1 ∷ 2 ∷ [])
     (BeginUpdate 3 ∷
     BeginUpdate 20 ∷
     BeginQuery 1000000000000000000 false ∷
@@ -133,7 +133,7 @@ inputs =
     Commit (txn 1) ∷
     Commit (txn 2) ∷
     [])) ∷
-    (play (negsuc 1 ∷ negsuc 2 ∷ []) (7 ∷ 1 ∷ [])
+    (history (negsuc 1 ∷ negsuc 2 ∷ []) (7 ∷ 1 ∷ [])
     (BeginQuery 3 true ∷
     BeginUpdate 1000000000000000000 ∷
     Write (txn 2) (item 1) (pos 6) ∷
@@ -150,7 +150,7 @@ inputs =
     Commit (txn 2) ∷
     Commit (txn 4) ∷
     [])) ∷
-    (play (pos 9 ∷ pos 9 ∷ negsuc 3 ∷ []) (1 ∷ 2 ∷ 1 ∷ [])
+    (history (pos 9 ∷ pos 9 ∷ negsuc 3 ∷ []) (1 ∷ 2 ∷ 1 ∷ [])
     (BeginUpdate 1000000000000000000 ∷
     BeginUpdate 1000000000000000000 ∷
     Write (txn 1) (item 2) (pos 10) ∷
@@ -180,7 +180,7 @@ outcomes =
     Committed ∷
     Committed ∷
     [])
-    (0 ∷ 0 ∷ 0 ∷ 0 ∷ 0 ∷ []) (found 1 0 ([]) ∷ found 3 0 ([]) ∷ found 4 0 ([]) ∷ found 5 0 ([]) ∷ [])) ∷
+    (0 ∷ 0 ∷ 0 ∷ 0 ∷ 0 ∷ []) (audit 1 0 ([]) ∷ audit 3 0 ([]) ∷ audit 4 0 ([]) ∷ audit 5 0 ([]) ∷ [])) ∷
     (outcome (Begun (txn 1) ∷
     Begun (txn 2) ∷
     Wrote ∷
@@ -219,7 +219,7 @@ outcomes =
     Committed ∷
     Committed ∷
     [])
-    (0 ∷ 0 ∷ 0 ∷ 0 ∷ 0 ∷ []) (found 3 0 ([]) ∷ found 4 0 ([]) ∷ [])) ∷
+    (0 ∷ 0 ∷ 0 ∷ 0 ∷ 0 ∷ []) (audit 3 0 ([]) ∷ audit 4 0 ([]) ∷ [])) ∷
     (outcome (Begun (txn 1) ∷
     Begun (txn 2) ∷
     Wrote ∷
@@ -233,7 +233,7 @@ outcomes =
     Value (pos 10) ∷
     Committed ∷
     [])
-    (0 ∷ 0 ∷ 0 ∷ 0 ∷ []) (found 2 0 ([]) ∷ [])) ∷
+    (0 ∷ 0 ∷ 0 ∷ 0 ∷ []) (audit 2 0 ([]) ∷ [])) ∷
     (outcome (Begun (txn 1) ∷
     Begun (txn 2) ∷
     Value (negsuc 4) ∷
@@ -247,7 +247,7 @@ outcomes =
     Begun (txn 3) ∷
     Committed ∷
     [])
-    (0 ∷ 0 ∷ 0 ∷ []) (found 2 0 ([]) ∷ [])) ∷
+    (0 ∷ 0 ∷ 0 ∷ []) (audit 2 0 ([]) ∷ [])) ∷
     (outcome (Begun (txn 1) ∷
     Begun (txn 2) ∷
     Wrote ∷
@@ -289,7 +289,7 @@ outcomes =
     Committed ∷
     Committed ∷
     [])
-    (0 ∷ 0 ∷ 0 ∷ []) (found 3 0 ([]) ∷ [])) ∷
+    (0 ∷ 0 ∷ 0 ∷ []) (audit 3 0 ([]) ∷ [])) ∷
     (outcome (Begun (txn 1) ∷
     Begun (txn 2) ∷
     Wrote ∷
@@ -306,7 +306,7 @@ outcomes =
     Committed ∷
     Committed ∷
     [])
-    (0 ∷ 0 ∷ 0 ∷ 0 ∷ []) (found 4 0 ([]) ∷ [])) ∷
+    (0 ∷ 0 ∷ 0 ∷ 0 ∷ []) (audit 4 0 ([]) ∷ [])) ∷
     (outcome (Begun (txn 1) ∷
     Begun (txn 2) ∷
     Wrote ∷

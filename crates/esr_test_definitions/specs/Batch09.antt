@@ -2,13 +2,13 @@
 use Rattle.std.specs.Prelude.{◌≡◌, pos, negsuc, List, [], ◌∷◌, true, false, map}
 use Rattle.esr_history.specs.declared.event.Event.TheVariants.{BeginUpdate, BeginQuery, Read, Write, Commit, Abort}
 use Rattle.esr_history.specs.declared.event.Reply.TheVariants.{Begun, Value, Wrote, Committed, Aborted, Refused}
-use Rattle.esr_history.specs.declared.event.Refusal.TheVariants.{NoSuchTransaction, AlreadyEnded, NoSuchItem, QueryMayNotWrite, ValueOutOfRange, LimitOutOfRange, BlockedByLock, BlockedByImport, BlockedByExport}
+use Rattle.esr_history.specs.declared.event.Refusal.TheVariants.{AlreadyEnded, NoSuchItem, QueryMayNotWrite, ValueOutOfRange, LimitOutOfRange, BlockedByLock, BlockedByImport}
 use Rattle.esr_history.specs.Worked.{item, txn}
-use Rattle.esr_test_definitions.specs.Outcomes.{Outcome, Play, found, outcome, outcome_of, play}
+use Rattle.esr_test_definitions.specs.Outcomes.{History, Outcome, audit, history, outcome, outcome_of}
 
-abbrev pub inputs : List Play
+abbrev pub inputs : List History
 inputs =
-    (play (negsuc 4 ∷ []) (2 ∷ [])
+    (history (negsuc 4 ∷ []) (2 ∷ [])
     (BeginUpdate 0 ∷
     BeginUpdate 9 ∷
     BeginUpdate 20 ∷
@@ -24,7 +24,7 @@ inputs =
     Commit (txn 3) ∷
     Commit (txn 4) ∷
     [])) ∷
-    (play (pos 3 ∷ pos 8 ∷ []) (7 ∷ 7 ∷ [])
+    (history (pos 3 ∷ pos 8 ∷ []) (7 ∷ 7 ∷ [])
     (BeginQuery 20 false ∷
     BeginUpdate 3 ∷
     Read (txn 1) (item 1) ∷
@@ -34,7 +34,7 @@ inputs =
     Read (txn 2) (item 1) ∷
     Abort (txn 2) ∷
     [])) ∷
-    (play (negsuc 2 ∷ []) (2 ∷ [])
+    (history (negsuc 2 ∷ []) (2 ∷ [])
     (BeginQuery 0 false ∷
     BeginUpdate 9 ∷
     Commit (txn 2) ∷
@@ -51,7 +51,7 @@ inputs =
     Read (txn 1) (item 0) ∷
     Read (txn 1) (item 0) ∷
     [])) ∷
-    (play (pos 3 ∷ []) (2 ∷ [])
+    (history (pos 3 ∷ []) (2 ∷ [])
     (BeginUpdate 60 ∷
     BeginUpdate 0 ∷
     Read (txn 1) (item 0) ∷
@@ -69,7 +69,7 @@ inputs =
     Commit (txn 3) ∷
     Commit (txn 4) ∷
     [])) ∷
-    (play (pos 8 ∷ pos 0 ∷ pos 0 ∷ []) (7 ∷ 1 ∷ 7 ∷ [])
+    (history (pos 8 ∷ pos 0 ∷ pos 0 ∷ []) (7 ∷ 1 ∷ 7 ∷ [])
     (BeginUpdate 3 ∷
     BeginUpdate 3 ∷
     Commit (txn 2) ∷
@@ -85,7 +85,7 @@ inputs =
     Write (txn 1) (item 1) (negsuc 2) ∷
     Write (txn 1) (item 0) (pos 4) ∷
     [])) ∷
-    (play (pos 3 ∷ []) (1 ∷ [])
+    (history (pos 3 ∷ []) (1 ∷ [])
     (BeginUpdate 1000000000000000000 ∷
     BeginUpdate 1000000000000000000 ∷
     Read (txn 1) (item 0) ∷
@@ -101,7 +101,7 @@ inputs =
     Commit (txn 2) ∷
     Abort (txn 4) ∷
     [])) ∷
-    (play (pos 1 ∷ pos 4 ∷ pos 9 ∷ []) (2 ∷ 1 ∷ 1 ∷ [])
+    (history (pos 1 ∷ pos 4 ∷ pos 9 ∷ []) (2 ∷ 1 ∷ 1 ∷ [])
     (BeginUpdate 0 ∷
     BeginQuery 0 false ∷
     Read (txn 2) (item 1) ∷
@@ -119,7 +119,7 @@ inputs =
     Commit (txn 2) ∷
     Commit (txn 5) ∷
     [])) ∷
-    (play (negsuc 1 ∷ negsuc 1 ∷ negsuc 1 ∷ []) (1 ∷ 1 ∷ 1 ∷ [])
+    (history (negsuc 1 ∷ negsuc 1 ∷ negsuc 1 ∷ []) (1 ∷ 1 ∷ 1 ∷ [])
     (BeginUpdate 3 ∷
     BeginQuery 3 false ∷
     Write (txn 1) (item 2) (negsuc 1) ∷
@@ -132,7 +132,7 @@ inputs =
     Commit (txn 2) ∷
     Commit (txn 3) ∷
     [])) ∷
-    (play (pos 9 ∷ pos 0 ∷ pos 4 ∷ []) (2 ∷ 1 ∷ 1 ∷ [])
+    (history (pos 9 ∷ pos 0 ∷ pos 4 ∷ []) (2 ∷ 1 ∷ 1 ∷ [])
     (BeginUpdate 20 ∷
     BeginUpdate 20 ∷
     Write (txn 1) (item 1) (pos 4) ∷
@@ -147,7 +147,7 @@ inputs =
     Commit (txn 3) ∷
     Commit (txn 4) ∷
     [])) ∷
-    (play (negsuc 3 ∷ pos 4 ∷ pos 6 ∷ []) (1 ∷ 2 ∷ 7 ∷ [])
+    (history (negsuc 3 ∷ pos 4 ∷ pos 6 ∷ []) (1 ∷ 2 ∷ 7 ∷ [])
     (BeginUpdate 0 ∷
     BeginUpdate 3 ∷
     Write (txn 1) (item 1) (negsuc 5) ∷
@@ -175,7 +175,7 @@ outcomes =
     Committed ∷
     Committed ∷
     [])
-    (0 ∷ 0 ∷ 0 ∷ 0 ∷ []) (found 4 0 ([]) ∷ [])) ∷
+    (0 ∷ 0 ∷ 0 ∷ 0 ∷ []) (audit 4 0 ([]) ∷ [])) ∷
     (outcome (Begun (txn 1) ∷
     Begun (txn 2) ∷
     Value (pos 8) ∷
@@ -185,7 +185,7 @@ outcomes =
     Value (pos 8) ∷
     Aborted ∷
     [])
-    (0 ∷ 0 ∷ []) (found 1 0 ([]) ∷ [])) ∷
+    (0 ∷ 0 ∷ []) (audit 1 0 ([]) ∷ [])) ∷
     (outcome (Begun (txn 1) ∷
     Begun (txn 2) ∷
     Committed ∷
@@ -202,7 +202,7 @@ outcomes =
     Refused AlreadyEnded ∷
     Refused AlreadyEnded ∷
     [])
-    (0 ∷ 0 ∷ 0 ∷ []) (found 1 0 ([]) ∷ [])) ∷
+    (0 ∷ 0 ∷ 0 ∷ []) (audit 1 0 ([]) ∷ [])) ∷
     (outcome (Begun (txn 1) ∷
     Begun (txn 2) ∷
     Value (pos 3) ∷
@@ -252,7 +252,7 @@ outcomes =
     Committed ∷
     Aborted ∷
     [])
-    (0 ∷ 0 ∷ 0 ∷ 0 ∷ []) (found 3 0 (1 ∷ []) ∷ [])) ∷
+    (0 ∷ 0 ∷ 0 ∷ 0 ∷ []) (audit 3 0 (1 ∷ []) ∷ [])) ∷
     (outcome (Begun (txn 1) ∷
     Begun (txn 2) ∷
     Value (pos 4) ∷
@@ -270,7 +270,7 @@ outcomes =
     Committed ∷
     Committed ∷
     [])
-    (0 ∷ 0 ∷ 0 ∷ 0 ∷ 0 ∷ []) (found 2 0 ([]) ∷ [])) ∷
+    (0 ∷ 0 ∷ 0 ∷ 0 ∷ 0 ∷ []) (audit 2 0 ([]) ∷ [])) ∷
     (outcome (Begun (txn 1) ∷
     Begun (txn 2) ∷
     Wrote ∷
@@ -283,7 +283,7 @@ outcomes =
     Committed ∷
     Committed ∷
     [])
-    (0 ∷ 0 ∷ 0 ∷ 0 ∷ []) (found 2 0 ([]) ∷ found 3 0 ([]) ∷ [])) ∷
+    (0 ∷ 0 ∷ 0 ∷ 0 ∷ []) (audit 2 0 ([]) ∷ audit 3 0 ([]) ∷ [])) ∷
     (outcome (Begun (txn 1) ∷
     Begun (txn 2) ∷
     Wrote ∷
@@ -298,7 +298,7 @@ outcomes =
     Committed ∷
     Committed ∷
     [])
-    (0 ∷ 0 ∷ 0 ∷ 0 ∷ 0 ∷ []) (found 4 0 ([]) ∷ [])) ∷
+    (0 ∷ 0 ∷ 0 ∷ 0 ∷ 0 ∷ []) (audit 4 0 ([]) ∷ [])) ∷
     (outcome (Begun (txn 1) ∷ Begun (txn 2) ∷ Wrote ∷ Committed ∷ Value (negsuc 5) ∷ Wrote ∷ Wrote ∷ [])
     (0 ∷ 0 ∷ []) ([])) ∷
     []

@@ -2,13 +2,13 @@
 use Rattle.std.specs.Prelude.{◌≡◌, pos, negsuc, List, [], ◌∷◌, true, false, map}
 use Rattle.esr_history.specs.declared.event.Event.TheVariants.{BeginUpdate, BeginQuery, Read, Write, Commit, Abort}
 use Rattle.esr_history.specs.declared.event.Reply.TheVariants.{Begun, Value, Wrote, Committed, Aborted, Refused}
-use Rattle.esr_history.specs.declared.event.Refusal.TheVariants.{NoSuchTransaction, AlreadyEnded, NoSuchItem, QueryMayNotWrite, ValueOutOfRange, LimitOutOfRange, BlockedByLock, BlockedByImport, BlockedByExport}
+use Rattle.esr_history.specs.declared.event.Refusal.TheVariants.{NoSuchTransaction, AlreadyEnded, NoSuchItem, QueryMayNotWrite, ValueOutOfRange, LimitOutOfRange, BlockedByLock}
 use Rattle.esr_history.specs.Worked.{item, txn}
-use Rattle.esr_test_definitions.specs.Outcomes.{Outcome, Play, found, outcome, outcome_of, play}
+use Rattle.esr_test_definitions.specs.Outcomes.{History, Outcome, audit, history, outcome, outcome_of}
 
-abbrev pub inputs : List Play
+abbrev pub inputs : List History
 inputs =
-    (play (pos 0 ∷ []) (7 ∷ [])
+    (history (pos 0 ∷ []) (7 ∷ [])
     (BeginUpdate 20 ∷
     BeginUpdate 1000000000000000001 ∷
     BeginUpdate 0 ∷
@@ -22,7 +22,7 @@ inputs =
     Commit (txn 3) ∷
     Commit (txn 4) ∷
     [])) ∷
-    (play (pos 5 ∷ []) (7 ∷ [])
+    (history (pos 5 ∷ []) (7 ∷ [])
     (BeginQuery 20 false ∷
     BeginUpdate 60 ∷
     Read (txn 1) (item 0) ∷
@@ -36,7 +36,7 @@ inputs =
     Commit (txn 4) ∷
     Commit (txn 5) ∷
     [])) ∷
-    (play (negsuc 3 ∷ []) (7 ∷ [])
+    (history (negsuc 3 ∷ []) (7 ∷ [])
     (BeginUpdate 3 ∷
     BeginUpdate 60 ∷
     Write (txn 1) (item 0) (pos 1) ∷
@@ -48,7 +48,7 @@ inputs =
     Abort (txn 1) ∷
     Commit (txn 2) ∷
     [])) ∷
-    (play (pos 0 ∷ pos 7 ∷ negsuc 1 ∷ []) (7 ∷ 7 ∷ 1 ∷ [])
+    (history (pos 0 ∷ pos 7 ∷ negsuc 1 ∷ []) (7 ∷ 7 ∷ 1 ∷ [])
     (BeginUpdate 0 ∷
     BeginUpdate 1000000000000000001 ∷
     BeginUpdate 20 ∷
@@ -68,7 +68,7 @@ inputs =
     Commit (txn 2) ∷
     Commit (txn 3) ∷
     [])) ∷
-    (play (pos 9 ∷ pos 3 ∷ pos 4 ∷ []) (7 ∷ 7 ∷ 7 ∷ [])
+    (history (pos 9 ∷ pos 3 ∷ pos 4 ∷ []) (7 ∷ 7 ∷ 7 ∷ [])
     (BeginUpdate 60 ∷
     BeginUpdate 9 ∷
     Write (txn 1) (item 2) (pos 1000000000001) ∷
@@ -80,7 +80,7 @@ inputs =
     Commit (txn 1) ∷
     Commit (txn 2) ∷
     [])) ∷
-    (play (pos 7 ∷ negsuc 1 ∷ pos 3 ∷ []) (1 ∷ 7 ∷ 1 ∷ [])
+    (history (pos 7 ∷ negsuc 1 ∷ pos 3 ∷ []) (1 ∷ 7 ∷ 1 ∷ [])
     (BeginUpdate 1000000000000000001 ∷
     BeginUpdate 3 ∷
     BeginUpdate 20 ∷
@@ -99,7 +99,7 @@ inputs =
     Commit (txn 2) ∷
     Commit (txn 4) ∷
     [])) ∷
-    (play (negsuc 3 ∷ pos 2 ∷ pos 0 ∷ []) (1 ∷ 2 ∷ 2 ∷ [])
+    (history (negsuc 3 ∷ pos 2 ∷ pos 0 ∷ []) (1 ∷ 2 ∷ 2 ∷ [])
     (BeginUpdate 3 ∷
     BeginUpdate 0 ∷
     BeginQuery 9 false ∷
@@ -117,7 +117,7 @@ inputs =
     Commit (txn 3) ∷
     Commit (txn 5) ∷
     [])) ∷
-    (play (pos 3 ∷ pos 5 ∷ []) (7 ∷ 1 ∷ [])
+    (history (pos 3 ∷ pos 5 ∷ []) (7 ∷ 1 ∷ [])
     (BeginUpdate 1000000000000000000 ∷
     BeginUpdate 0 ∷
     Commit (txn 1) ∷
@@ -126,7 +126,7 @@ inputs =
     Commit (txn 2) ∷
     BeginUpdate 0 ∷
     [])) ∷
-    (play (pos 7 ∷ pos 6 ∷ pos 8 ∷ []) (7 ∷ 7 ∷ 2 ∷ [])
+    (history (pos 7 ∷ pos 6 ∷ pos 8 ∷ []) (7 ∷ 7 ∷ 2 ∷ [])
     (BeginUpdate 1000000000000000000 ∷
     BeginUpdate 1000000000000000000 ∷
     Read (txn 1) (item 1) ∷
@@ -140,7 +140,7 @@ inputs =
     Commit (txn 2) ∷
     Commit (txn 3) ∷
     [])) ∷
-    (play (pos 6 ∷ pos 0 ∷ []) (2 ∷ 1 ∷ [])
+    (history (pos 6 ∷ pos 0 ∷ []) (2 ∷ 1 ∷ [])
     (BeginQuery 3 false ∷
     BeginQuery 0 false ∷
     Read (txn 1) (item 0) ∷
@@ -183,7 +183,7 @@ outcomes =
     Committed ∷
     Committed ∷
     [])
-    (0 ∷ 0 ∷ 0 ∷ 0 ∷ 0 ∷ []) (found 1 0 ([]) ∷ [])) ∷
+    (0 ∷ 0 ∷ 0 ∷ 0 ∷ 0 ∷ []) (audit 1 0 ([]) ∷ [])) ∷
     (outcome (Begun (txn 1) ∷
     Begun (txn 2) ∷
     Wrote ∷
@@ -215,7 +215,7 @@ outcomes =
     Committed ∷
     Committed ∷
     [])
-    (0 ∷ 0 ∷ 0 ∷ []) (found 3 0 ([]) ∷ [])) ∷
+    (0 ∷ 0 ∷ 0 ∷ []) (audit 3 0 ([]) ∷ [])) ∷
     (outcome (Begun (txn 1) ∷
     Begun (txn 2) ∷
     Refused ValueOutOfRange ∷
@@ -246,7 +246,7 @@ outcomes =
     Committed ∷
     Committed ∷
     [])
-    (0 ∷ 0 ∷ 0 ∷ 0 ∷ []) (found 4 0 ([]) ∷ [])) ∷
+    (0 ∷ 0 ∷ 0 ∷ 0 ∷ []) (audit 4 0 ([]) ∷ [])) ∷
     (outcome (Begun (txn 1) ∷
     Begun (txn 2) ∷
     Begun (txn 3) ∷
@@ -264,7 +264,7 @@ outcomes =
     Committed ∷
     Committed ∷
     [])
-    (0 ∷ 0 ∷ 0 ∷ 0 ∷ 0 ∷ []) (found 3 0 ([]) ∷ found 5 0 ([]) ∷ [])) ∷
+    (0 ∷ 0 ∷ 0 ∷ 0 ∷ 0 ∷ []) (audit 3 0 ([]) ∷ audit 5 0 ([]) ∷ [])) ∷
     (outcome (Begun (txn 1) ∷
     Begun (txn 2) ∷
     Committed ∷

@@ -2,13 +2,13 @@
 use Rattle.std.specs.Prelude.{◌≡◌, pos, negsuc, List, [], ◌∷◌, true, false, map}
 use Rattle.esr_history.specs.declared.event.Event.TheVariants.{BeginUpdate, BeginQuery, Read, Write, Commit, Abort}
 use Rattle.esr_history.specs.declared.event.Reply.TheVariants.{Begun, Value, Wrote, Committed, Aborted, Refused}
-use Rattle.esr_history.specs.declared.event.Refusal.TheVariants.{NoSuchTransaction, AlreadyEnded, NoSuchItem, QueryMayNotWrite, ValueOutOfRange, LimitOutOfRange, BlockedByLock, BlockedByImport, BlockedByExport}
+use Rattle.esr_history.specs.declared.event.Refusal.TheVariants.{NoSuchItem, QueryMayNotWrite, ValueOutOfRange, LimitOutOfRange, BlockedByLock, BlockedByImport}
 use Rattle.esr_history.specs.Worked.{item, txn}
-use Rattle.esr_test_definitions.specs.Outcomes.{Outcome, Play, found, outcome, outcome_of, play}
+use Rattle.esr_test_definitions.specs.Outcomes.{History, Outcome, audit, history, outcome, outcome_of}
 
-abbrev pub inputs : List Play
+abbrev pub inputs : List History
 inputs =
-    (play (pos 6 ∷ []) (7 ∷ [])
+    (history (pos 6 ∷ []) (7 ∷ [])
     (BeginUpdate 1000000000000000000 ∷
     BeginUpdate 1000000000000000001 ∷
     BeginQuery 3 false ∷
@@ -28,7 +28,7 @@ inputs =
     Commit (txn 3) ∷
     Commit (txn 4) ∷
     [])) ∷
-    (play (pos 3 ∷ negsuc 3 ∷ negsuc 1 ∷ []) (1 ∷ 7 ∷ 7 ∷ [])
+    (history (pos 3 ∷ negsuc 3 ∷ negsuc 1 ∷ []) (1 ∷ 7 ∷ 7 ∷ [])
     (BeginQuery 20 false ∷
     BeginUpdate 60 ∷
     BeginUpdate 0 ∷
@@ -45,7 +45,7 @@ inputs =
     Read (txn 3) (item 1) ∷
     Commit (txn 1) ∷
     [])) ∷
-    (play (pos 2 ∷ []) (1 ∷ [])
+    (history (pos 2 ∷ []) (1 ∷ [])
     (BeginUpdate 9 ∷
     BeginUpdate 20 ∷
     Read (txn 2) (item 0) ∷
@@ -61,7 +61,7 @@ inputs =
     Commit (txn 2) ∷
     Commit (txn 3) ∷
     [])) ∷
-    (play (negsuc 1 ∷ pos 3 ∷ []) (2 ∷ 1 ∷ [])
+    (history (negsuc 1 ∷ pos 3 ∷ []) (2 ∷ 1 ∷ [])
     (BeginUpdate 60 ∷
     BeginUpdate 60 ∷
     Read (txn 2) (item 0) ∷
@@ -80,7 +80,7 @@ inputs =
     Commit (txn 4) ∷
     Commit (txn 5) ∷
     [])) ∷
-    (play (pos 7 ∷ []) (2 ∷ [])
+    (history (pos 7 ∷ []) (2 ∷ [])
     (BeginUpdate 1000000000000000000 ∷
     BeginUpdate 60 ∷
     Commit (txn 1) ∷
@@ -90,7 +90,7 @@ inputs =
     Read (txn 3) (item 0) ∷
     Commit (txn 3) ∷
     [])) ∷
-    (play (pos 3 ∷ negsuc 0 ∷ pos 1 ∷ []) (2 ∷ 1 ∷ 2 ∷ [])
+    (history (pos 3 ∷ negsuc 0 ∷ pos 1 ∷ []) (2 ∷ 1 ∷ 2 ∷ [])
     (BeginUpdate 60 ∷
     BeginUpdate 9 ∷
     BeginQuery 0 true ∷
@@ -109,7 +109,7 @@ inputs =
     Commit (txn 3) ∷
     Commit (txn 4) ∷
     [])) ∷
-    (play (pos 4 ∷ pos 6 ∷ pos 1 ∷ []) (1 ∷ 7 ∷ 1 ∷ [])
+    (history (pos 4 ∷ pos 6 ∷ pos 1 ∷ []) (1 ∷ 7 ∷ 1 ∷ [])
     (BeginUpdate 1000000000000000001 ∷
     BeginUpdate 9 ∷
     BeginUpdate 20 ∷
@@ -128,7 +128,7 @@ inputs =
     Abort (txn 2) ∷
     Commit (txn 3) ∷
     [])) ∷
-    (play (pos 9 ∷ []) (1 ∷ [])
+    (history (pos 9 ∷ []) (1 ∷ [])
     (BeginQuery 9 false ∷
     BeginUpdate 60 ∷
     Read (txn 1) (item 0) ∷
@@ -139,7 +139,7 @@ inputs =
     Abort (txn 3) ∷
     Commit (txn 1) ∷
     [])) ∷
-    (play (pos 7 ∷ pos 9 ∷ pos 5 ∷ []) (1 ∷ 2 ∷ 7 ∷ [])
+    (history (pos 7 ∷ pos 9 ∷ pos 5 ∷ []) (1 ∷ 2 ∷ 7 ∷ [])
     (BeginUpdate 1000000000000000000 ∷
     BeginUpdate 0 ∷
     Commit (txn 1) ∷
@@ -153,7 +153,7 @@ inputs =
     Write (txn 2) (item 1) (pos 11) ∷
     Commit (txn 2) ∷
     [])) ∷
-    (play (pos 7 ∷ []) (7 ∷ [])
+    (history (pos 7 ∷ []) (7 ∷ [])
     (BeginQuery 60 false ∷
     BeginUpdate 60 ∷
     Read (txn 1) (item 0) ∷
@@ -205,7 +205,7 @@ outcomes =
     Value (negsuc 3) ∷
     Committed ∷
     [])
-    (0 ∷ 0 ∷ 0 ∷ 0 ∷ 0 ∷ []) (found 1 0 ([]) ∷ [])) ∷
+    (0 ∷ 0 ∷ 0 ∷ 0 ∷ 0 ∷ []) (audit 1 0 ([]) ∷ [])) ∷
     (outcome (Begun (txn 1) ∷
     Begun (txn 2) ∷
     Value (pos 2) ∷
@@ -221,7 +221,7 @@ outcomes =
     Committed ∷
     Committed ∷
     [])
-    (0 ∷ 0 ∷ 0 ∷ []) (found 3 0 ([]) ∷ [])) ∷
+    (0 ∷ 0 ∷ 0 ∷ []) (audit 3 0 ([]) ∷ [])) ∷
     (outcome (Begun (txn 1) ∷
     Begun (txn 2) ∷
     Value (negsuc 1) ∷
@@ -250,7 +250,7 @@ outcomes =
     Value (pos 7) ∷
     Committed ∷
     [])
-    (0 ∷ 0 ∷ 0 ∷ []) (found 3 0 (1 ∷ []) ∷ [])) ∷
+    (0 ∷ 0 ∷ 0 ∷ []) (audit 3 0 (1 ∷ []) ∷ [])) ∷
     (outcome (Begun (txn 1) ∷
     Begun (txn 2) ∷
     Begun (txn 3) ∷
@@ -269,7 +269,7 @@ outcomes =
     Committed ∷
     Committed ∷
     [])
-    (0 ∷ 0 ∷ 0 ∷ 0 ∷ []) (found 3 0 ([]) ∷ [])) ∷
+    (0 ∷ 0 ∷ 0 ∷ 0 ∷ []) (audit 3 0 ([]) ∷ [])) ∷
     (outcome (Refused LimitOutOfRange ∷
     Begun (txn 1) ∷
     Begun (txn 2) ∷
@@ -299,7 +299,7 @@ outcomes =
     Aborted ∷
     Committed ∷
     [])
-    (0 ∷ 0 ∷ 0 ∷ []) (found 1 0 ([]) ∷ [])) ∷
+    (0 ∷ 0 ∷ 0 ∷ []) (audit 1 0 ([]) ∷ [])) ∷
     (outcome (Begun (txn 1) ∷
     Begun (txn 2) ∷
     Committed ∷
@@ -325,7 +325,7 @@ outcomes =
     Value (pos 7) ∷
     Committed ∷
     [])
-    (0 ∷ 0 ∷ 0 ∷ []) (found 1 0 ([]) ∷ [])) ∷
+    (0 ∷ 0 ∷ 0 ∷ []) (audit 1 0 ([]) ∷ [])) ∷
     []
 
 -- the definitions find the outcome of each history

@@ -2,13 +2,13 @@
 use Rattle.std.specs.Prelude.{◌≡◌, pos, negsuc, List, [], ◌∷◌, true, false, map}
 use Rattle.esr_history.specs.declared.event.Event.TheVariants.{BeginUpdate, BeginQuery, Read, Write, Commit, Abort}
 use Rattle.esr_history.specs.declared.event.Reply.TheVariants.{Begun, Value, Wrote, Committed, Aborted, Refused}
-use Rattle.esr_history.specs.declared.event.Refusal.TheVariants.{NoSuchTransaction, AlreadyEnded, NoSuchItem, QueryMayNotWrite, ValueOutOfRange, LimitOutOfRange, BlockedByLock, BlockedByImport, BlockedByExport}
+use Rattle.esr_history.specs.declared.event.Refusal.TheVariants.{AlreadyEnded, QueryMayNotWrite, ValueOutOfRange, LimitOutOfRange, BlockedByLock, BlockedByImport}
 use Rattle.esr_history.specs.Worked.{item, txn}
-use Rattle.esr_test_definitions.specs.Outcomes.{Outcome, Play, found, outcome, outcome_of, play}
+use Rattle.esr_test_definitions.specs.Outcomes.{History, Outcome, audit, history, outcome, outcome_of}
 
-abbrev pub inputs : List Play
+abbrev pub inputs : List History
 inputs =
-    (play (pos 5 ∷ []) (1 ∷ [])
+    (history (pos 5 ∷ []) (1 ∷ [])
     (BeginUpdate 1000000000000000000 ∷
     BeginQuery 3 false ∷
     Read (txn 2) (item 0) ∷
@@ -23,7 +23,7 @@ inputs =
     Commit (txn 2) ∷
     Commit (txn 3) ∷
     [])) ∷
-    (play (pos 5 ∷ pos 7 ∷ []) (7 ∷ 2 ∷ [])
+    (history (pos 5 ∷ pos 7 ∷ []) (7 ∷ 2 ∷ [])
     (BeginUpdate 3 ∷
     BeginQuery 9 false ∷
     Read (txn 2) (item 0) ∷
@@ -42,7 +42,7 @@ inputs =
     Commit (txn 3) ∷
     Commit (txn 4) ∷
     [])) ∷
-    (play (pos 8 ∷ negsuc 0 ∷ []) (1 ∷ 1 ∷ [])
+    (history (pos 8 ∷ negsuc 0 ∷ []) (1 ∷ 1 ∷ [])
     (BeginUpdate 3 ∷
     BeginUpdate 60 ∷
     Abort (txn 2) ∷
@@ -62,7 +62,7 @@ inputs =
     Commit (txn 4) ∷
     Commit (txn 5) ∷
     [])) ∷
-    (play (pos 2 ∷ []) (2 ∷ [])
+    (history (pos 2 ∷ []) (2 ∷ [])
     (BeginUpdate 0 ∷
     BeginUpdate 0 ∷
     Read (txn 2) (item 0) ∷
@@ -79,7 +79,7 @@ inputs =
     Commit (txn 1) ∷
     Write (txn 1) (item 0) (pos 1) ∷
     [])) ∷
-    (play (negsuc 0 ∷ []) (7 ∷ [])
+    (history (negsuc 0 ∷ []) (7 ∷ [])
     (BeginUpdate 3 ∷
     BeginUpdate 3 ∷
     Write (txn 1) (item 0) (pos 6) ∷
@@ -94,7 +94,7 @@ inputs =
     Commit (txn 2) ∷
     Abort (txn 4) ∷
     [])) ∷
-    (play (negsuc 1 ∷ negsuc 1 ∷ pos 3 ∷ []) (1 ∷ 7 ∷ 1 ∷ [])
+    (history (negsuc 1 ∷ negsuc 1 ∷ pos 3 ∷ []) (1 ∷ 7 ∷ 1 ∷ [])
     (BeginUpdate 3 ∷
     BeginUpdate 1000000000000000000 ∷
     BeginUpdate 9 ∷
@@ -107,7 +107,7 @@ inputs =
     Commit (txn 2) ∷
     Commit (txn 4) ∷
     [])) ∷
-    (play (pos 0 ∷ pos 2 ∷ []) (1 ∷ 1 ∷ [])
+    (history (pos 0 ∷ pos 2 ∷ []) (1 ∷ 1 ∷ [])
     (BeginQuery 60 false ∷
     BeginQuery 60 true ∷
     Read (txn 2) (item 0) ∷
@@ -124,7 +124,7 @@ inputs =
     Commit (txn 3) ∷
     Abort (txn 4) ∷
     [])) ∷
-    (play (negsuc 4 ∷ negsuc 3 ∷ pos 3 ∷ []) (2 ∷ 1 ∷ 1 ∷ [])
+    (history (negsuc 4 ∷ negsuc 3 ∷ pos 3 ∷ []) (2 ∷ 1 ∷ 1 ∷ [])
     (BeginUpdate 9 ∷
     BeginQuery 1000000000000000000 false ∷
     BeginUpdate 3 ∷
@@ -140,7 +140,7 @@ inputs =
     Commit (txn 4) ∷
     Commit (txn 5) ∷
     [])) ∷
-    (play (pos 6 ∷ pos 5 ∷ pos 7 ∷ []) (1 ∷ 1 ∷ 1 ∷ [])
+    (history (pos 6 ∷ pos 5 ∷ pos 7 ∷ []) (1 ∷ 1 ∷ 1 ∷ [])
     (BeginUpdate 3 ∷
     BeginUpdate 0 ∷
     Abort (txn 1) ∷
@@ -158,7 +158,7 @@ inputs =
     Commit (txn 3) ∷
     Commit (txn 4) ∷
     [])) ∷
-    (play (pos 5 ∷ negsuc 2 ∷ []) (2 ∷ 1 ∷ [])
+    (history (pos 5 ∷ negsuc 2 ∷ []) (2 ∷ 1 ∷ [])
     (BeginUpdate 0 ∷
     BeginUpdate 1000000000000000000 ∷
     Read (txn 2) (item 1) ∷
@@ -192,7 +192,7 @@ outcomes =
     Committed ∷
     Committed ∷
     [])
-    (3 ∷ 3 ∷ 0 ∷ []) (found 2 1 (1 ∷ []) ∷ [])) ∷
+    (3 ∷ 3 ∷ 0 ∷ []) (audit 2 1 (1 ∷ []) ∷ [])) ∷
     (outcome (Begun (txn 1) ∷
     Begun (txn 2) ∷
     Value (pos 5) ∷
@@ -211,7 +211,7 @@ outcomes =
     Committed ∷
     Committed ∷
     [])
-    (0 ∷ 0 ∷ 0 ∷ 0 ∷ []) (found 2 0 ([]) ∷ found 3 0 ([]) ∷ [])) ∷
+    (0 ∷ 0 ∷ 0 ∷ 0 ∷ []) (audit 2 0 ([]) ∷ audit 3 0 ([]) ∷ [])) ∷
     (outcome (Begun (txn 1) ∷
     Begun (txn 2) ∷
     Aborted ∷
@@ -248,7 +248,7 @@ outcomes =
     Refused AlreadyEnded ∷
     Refused AlreadyEnded ∷
     [])
-    (0 ∷ 0 ∷ 0 ∷ []) (found 3 0 (2 ∷ []) ∷ [])) ∷
+    (0 ∷ 0 ∷ 0 ∷ []) (audit 3 0 (2 ∷ []) ∷ [])) ∷
     (outcome (Begun (txn 1) ∷
     Begun (txn 2) ∷
     Wrote ∷
@@ -293,7 +293,7 @@ outcomes =
     Committed ∷
     Aborted ∷
     [])
-    (0 ∷ 0 ∷ 0 ∷ 0 ∷ 0 ∷ []) (found 1 0 ([]) ∷ found 2 0 ([]) ∷ [])) ∷
+    (0 ∷ 0 ∷ 0 ∷ 0 ∷ 0 ∷ []) (audit 1 0 ([]) ∷ audit 2 0 ([]) ∷ [])) ∷
     (outcome (Begun (txn 1) ∷
     Begun (txn 2) ∷
     Begun (txn 3) ∷
@@ -309,7 +309,7 @@ outcomes =
     Committed ∷
     Committed ∷
     [])
-    (0 ∷ 0 ∷ 0 ∷ 0 ∷ 0 ∷ []) (found 2 0 ([]) ∷ [])) ∷
+    (0 ∷ 0 ∷ 0 ∷ 0 ∷ 0 ∷ []) (audit 2 0 ([]) ∷ [])) ∷
     (outcome (Begun (txn 1) ∷
     Begun (txn 2) ∷
     Aborted ∷
@@ -327,7 +327,7 @@ outcomes =
     Committed ∷
     Committed ∷
     [])
-    (0 ∷ 0 ∷ 0 ∷ 0 ∷ 0 ∷ []) (found 4 0 ([]) ∷ [])) ∷
+    (0 ∷ 0 ∷ 0 ∷ 0 ∷ 0 ∷ []) (audit 4 0 ([]) ∷ [])) ∷
     (outcome (Begun (txn 1) ∷
     Begun (txn 2) ∷
     Value (negsuc 2) ∷
@@ -343,7 +343,7 @@ outcomes =
     Committed ∷
     Aborted ∷
     [])
-    (0 ∷ 4 ∷ 4 ∷ 0 ∷ []) (found 3 0 ([]) ∷ [])) ∷
+    (0 ∷ 4 ∷ 4 ∷ 0 ∷ []) (audit 3 0 ([]) ∷ [])) ∷
     []
 
 -- the definitions find the outcome of each history

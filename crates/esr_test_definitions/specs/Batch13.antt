@@ -2,13 +2,13 @@
 use Rattle.std.specs.Prelude.{◌≡◌, pos, negsuc, List, [], ◌∷◌, true, false, map}
 use Rattle.esr_history.specs.declared.event.Event.TheVariants.{BeginUpdate, BeginQuery, Read, Write, Commit, Abort}
 use Rattle.esr_history.specs.declared.event.Reply.TheVariants.{Begun, Value, Wrote, Committed, Aborted, Refused}
-use Rattle.esr_history.specs.declared.event.Refusal.TheVariants.{NoSuchTransaction, AlreadyEnded, NoSuchItem, QueryMayNotWrite, ValueOutOfRange, LimitOutOfRange, BlockedByLock, BlockedByImport, BlockedByExport}
+use Rattle.esr_history.specs.declared.event.Refusal.TheVariants.{NoSuchTransaction, AlreadyEnded, NoSuchItem, QueryMayNotWrite, ValueOutOfRange, LimitOutOfRange}
 use Rattle.esr_history.specs.Worked.{item, txn}
-use Rattle.esr_test_definitions.specs.Outcomes.{Outcome, Play, found, outcome, outcome_of, play}
+use Rattle.esr_test_definitions.specs.Outcomes.{History, Outcome, audit, history, outcome, outcome_of}
 
-abbrev pub inputs : List Play
+abbrev pub inputs : List History
 inputs =
-    (play (pos 4 ∷ []) (2 ∷ [])
+    (history (pos 4 ∷ []) (2 ∷ [])
     (BeginQuery 0 false ∷
     BeginUpdate 0 ∷
     Abort (txn 1) ∷
@@ -25,7 +25,7 @@ inputs =
     Write (txn 4) (item 0) (pos 15) ∷
     Commit (txn 4) ∷
     [])) ∷
-    (play (pos 8 ∷ pos 2 ∷ negsuc 3 ∷ []) (7 ∷ 1 ∷ 7 ∷ [])
+    (history (pos 8 ∷ pos 2 ∷ negsuc 3 ∷ []) (7 ∷ 1 ∷ 7 ∷ [])
     (BeginUpdate 1000000000000000000 ∷
     BeginUpdate 9 ∷
     Write (txn 2) (item 1) (negsuc 7) ∷
@@ -40,7 +40,7 @@ inputs =
     Commit (txn 3) ∷
     Abort (txn 4) ∷
     [])) ∷
-    (play (negsuc 4 ∷ []) (1 ∷ [])
+    (history (negsuc 4 ∷ []) (1 ∷ [])
     (BeginQuery 60 false ∷
     BeginUpdate 3 ∷
     Abort (txn 1) ∷
@@ -53,7 +53,7 @@ inputs =
     Read (txn 1) (item 0) ∷
     Read (txn 1) (item 0) ∷
     [])) ∷
-    (play (negsuc 3 ∷ []) (1 ∷ [])
+    (history (negsuc 3 ∷ []) (1 ∷ [])
     (BeginUpdate 0 ∷
     BeginQuery 20 false ∷
     BeginQuery 1000000000000000000 true ∷
@@ -67,7 +67,7 @@ inputs =
     Commit (txn 3) ∷
     Commit (txn 5) ∷
     [])) ∷
-    (play (pos 9 ∷ negsuc 2 ∷ pos 1 ∷ []) (2 ∷ 7 ∷ 1 ∷ [])
+    (history (pos 9 ∷ negsuc 2 ∷ pos 1 ∷ []) (2 ∷ 7 ∷ 1 ∷ [])
     (BeginUpdate 9 ∷
     BeginUpdate 60 ∷
     BeginQuery 1000000000000000001 false ∷
@@ -83,7 +83,7 @@ inputs =
     Write (txn 1) (item 1) (negsuc 4) ∷
     Read (txn 1) (item 2) ∷
     [])) ∷
-    (play (pos 5 ∷ pos 7 ∷ pos 3 ∷ []) (1 ∷ 7 ∷ 1 ∷ [])
+    (history (pos 5 ∷ pos 7 ∷ pos 3 ∷ []) (1 ∷ 7 ∷ 1 ∷ [])
     (BeginQuery 1000000000000000000 false ∷
     BeginQuery 0 false ∷
     Read (txn 1) (item 2) ∷
@@ -95,7 +95,7 @@ inputs =
     Abort (txn 2) ∷
     Commit (txn 3) ∷
     [])) ∷
-    (play (pos 5 ∷ pos 7 ∷ []) (1 ∷ 1 ∷ [])
+    (history (pos 5 ∷ pos 7 ∷ []) (1 ∷ 1 ∷ [])
     (BeginUpdate 0 ∷
     BeginUpdate 60 ∷
     Abort (txn 2) ∷
@@ -110,7 +110,7 @@ inputs =
     Abort (txn 3) ∷
     Abort (txn 5) ∷
     [])) ∷
-    (play (pos 5 ∷ pos 5 ∷ negsuc 1 ∷ []) (7 ∷ 7 ∷ 7 ∷ [])
+    (history (pos 5 ∷ pos 5 ∷ negsuc 1 ∷ []) (7 ∷ 7 ∷ 7 ∷ [])
     (BeginUpdate 1000000000000000001 ∷
     BeginQuery 20 false ∷
     BeginQuery 60 false ∷
@@ -128,7 +128,7 @@ inputs =
     Commit (txn 1) ∷
     Commit (txn 3) ∷
     [])) ∷
-    (play (pos 4 ∷ pos 1 ∷ []) (2 ∷ 1 ∷ [])
+    (history (pos 4 ∷ pos 1 ∷ []) (2 ∷ 1 ∷ [])
     (BeginQuery 1000000000000000000 false ∷
     BeginUpdate 60 ∷
     Read (txn 1) (item 0) ∷
@@ -143,7 +143,7 @@ inputs =
     Commit (txn 3) ∷
     Read (txn 1) (item 1) ∷
     [])) ∷
-    (play (negsuc 1 ∷ pos 1 ∷ []) (1 ∷ 1 ∷ [])
+    (history (negsuc 1 ∷ pos 1 ∷ []) (1 ∷ 1 ∷ [])
     (BeginUpdate 9 ∷
     BeginQuery 20 false ∷
     Commit (txn 2) ∷
@@ -190,7 +190,7 @@ outcomes =
     Committed ∷
     Aborted ∷
     [])
-    (70 ∷ 0 ∷ 70 ∷ 0 ∷ []) (found 3 0 ([]) ∷ [])) ∷
+    (70 ∷ 0 ∷ 70 ∷ 0 ∷ []) (audit 3 0 ([]) ∷ [])) ∷
     (outcome (Begun (txn 1) ∷
     Begun (txn 2) ∷
     Aborted ∷
@@ -217,7 +217,7 @@ outcomes =
     Committed ∷
     Committed ∷
     [])
-    (0 ∷ 0 ∷ 0 ∷ 0 ∷ 0 ∷ []) (found 2 0 ([]) ∷ found 3 0 ([]) ∷ [])) ∷
+    (0 ∷ 0 ∷ 0 ∷ 0 ∷ 0 ∷ []) (audit 2 0 ([]) ∷ audit 3 0 ([]) ∷ [])) ∷
     (outcome (Begun (txn 1) ∷
     Begun (txn 2) ∷
     Refused LimitOutOfRange ∷
@@ -245,7 +245,7 @@ outcomes =
     Aborted ∷
     Committed ∷
     [])
-    (0 ∷ 0 ∷ 0 ∷ []) (found 1 0 ([]) ∷ found 3 0 ([]) ∷ [])) ∷
+    (0 ∷ 0 ∷ 0 ∷ []) (audit 1 0 ([]) ∷ audit 3 0 ([]) ∷ [])) ∷
     (outcome (Begun (txn 1) ∷
     Begun (txn 2) ∷
     Aborted ∷
@@ -278,7 +278,7 @@ outcomes =
     Committed ∷
     Committed ∷
     [])
-    (0 ∷ 0 ∷ 0 ∷ 0 ∷ 0 ∷ []) (found 1 0 ([]) ∷ found 2 0 ([]) ∷ [])) ∷
+    (0 ∷ 0 ∷ 0 ∷ 0 ∷ 0 ∷ []) (audit 1 0 ([]) ∷ audit 2 0 ([]) ∷ [])) ∷
     (outcome (Begun (txn 1) ∷
     Begun (txn 2) ∷
     Value (pos 4) ∷
@@ -293,7 +293,7 @@ outcomes =
     Committed ∷
     Refused AlreadyEnded ∷
     [])
-    (0 ∷ 0 ∷ 0 ∷ []) (found 1 0 ([]) ∷ [])) ∷
+    (0 ∷ 0 ∷ 0 ∷ []) (audit 1 0 ([]) ∷ [])) ∷
     (outcome (Begun (txn 1) ∷
     Begun (txn 2) ∷
     Committed ∷
@@ -305,7 +305,7 @@ outcomes =
     Refused AlreadyEnded ∷
     Refused AlreadyEnded ∷
     [])
-    (0 ∷ 0 ∷ []) (found 2 0 ([]) ∷ [])) ∷
+    (0 ∷ 0 ∷ []) (audit 2 0 ([]) ∷ [])) ∷
     []
 
 -- the definitions find the outcome of each history

@@ -2,13 +2,13 @@
 use Rattle.std.specs.Prelude.{◌≡◌, pos, negsuc, List, [], ◌∷◌, true, false, map}
 use Rattle.esr_history.specs.declared.event.Event.TheVariants.{BeginUpdate, BeginQuery, Read, Write, Commit, Abort}
 use Rattle.esr_history.specs.declared.event.Reply.TheVariants.{Begun, Value, Wrote, Committed, Aborted, Refused}
-use Rattle.esr_history.specs.declared.event.Refusal.TheVariants.{NoSuchTransaction, AlreadyEnded, NoSuchItem, QueryMayNotWrite, ValueOutOfRange, LimitOutOfRange, BlockedByLock, BlockedByImport, BlockedByExport}
+use Rattle.esr_history.specs.declared.event.Refusal.TheVariants.{NoSuchTransaction, AlreadyEnded, NoSuchItem, QueryMayNotWrite, ValueOutOfRange, LimitOutOfRange, BlockedByLock, BlockedByImport}
 use Rattle.esr_history.specs.Worked.{item, txn}
-use Rattle.esr_test_definitions.specs.Outcomes.{Outcome, Play, found, outcome, outcome_of, play}
+use Rattle.esr_test_definitions.specs.Outcomes.{History, Outcome, audit, history, outcome, outcome_of}
 
-abbrev pub inputs : List Play
+abbrev pub inputs : List History
 inputs =
-    (play (pos 5 ∷ pos 3 ∷ pos 4 ∷ []) (1 ∷ 1 ∷ 2 ∷ [])
+    (history (pos 5 ∷ pos 3 ∷ pos 4 ∷ []) (1 ∷ 1 ∷ 2 ∷ [])
     (BeginQuery 0 false ∷
     BeginUpdate 0 ∷
     Read (txn 2) (item 1) ∷
@@ -27,7 +27,7 @@ inputs =
     Commit (txn 4) ∷
     Commit (txn 5) ∷
     [])) ∷
-    (play (pos 8 ∷ pos 3 ∷ []) (7 ∷ 1 ∷ [])
+    (history (pos 8 ∷ pos 3 ∷ []) (7 ∷ 1 ∷ [])
     (BeginUpdate 1000000000000000000 ∷
     BeginUpdate 1000000000000000000 ∷
     Read (txn 2) (item 0) ∷
@@ -46,7 +46,7 @@ inputs =
     Commit (txn 2) ∷
     Commit (txn 3) ∷
     [])) ∷
-    (play (negsuc 3 ∷ negsuc 1 ∷ []) (1 ∷ 1 ∷ [])
+    (history (negsuc 3 ∷ negsuc 1 ∷ []) (1 ∷ 1 ∷ [])
     (BeginUpdate 3 ∷
     BeginUpdate 20 ∷
     Read (txn 2) (item 0) ∷
@@ -60,7 +60,7 @@ inputs =
     Commit (txn 2) ∷
     Commit (txn 3) ∷
     [])) ∷
-    (play (pos 1 ∷ []) (2 ∷ [])
+    (history (pos 1 ∷ []) (2 ∷ [])
     (BeginUpdate 1000000000000000000 ∷
     BeginQuery 1000000000000000000 true ∷
     Read (txn 2) (item 0) ∷
@@ -73,7 +73,7 @@ inputs =
     Write (txn 1) (item 1) (pos 14) ∷
     Commit (txn 1) ∷
     [])) ∷
-    (play (pos 0 ∷ pos 2 ∷ pos 3 ∷ []) (2 ∷ 7 ∷ 2 ∷ [])
+    (history (pos 0 ∷ pos 2 ∷ pos 3 ∷ []) (2 ∷ 7 ∷ 2 ∷ [])
     (BeginQuery 20 false ∷
     BeginQuery 0 false ∷
     BeginUpdate 20 ∷
@@ -88,7 +88,7 @@ inputs =
     Commit (txn 3) ∷
     Commit (txn 5) ∷
     [])) ∷
-    (play (negsuc 2 ∷ negsuc 2 ∷ pos 1 ∷ []) (1 ∷ 2 ∷ 7 ∷ [])
+    (history (negsuc 2 ∷ negsuc 2 ∷ pos 1 ∷ []) (1 ∷ 2 ∷ 7 ∷ [])
     (BeginUpdate 3 ∷
     BeginQuery 60 false ∷
     Commit (txn 1) ∷
@@ -99,7 +99,7 @@ inputs =
     Write (txn 2) (item 0) (negsuc 5) ∷
     Commit (txn 2) ∷
     [])) ∷
-    (play (pos 6 ∷ []) (1 ∷ [])
+    (history (pos 6 ∷ []) (1 ∷ [])
     (BeginUpdate 3 ∷
     BeginUpdate 1000000000000000001 ∷
     BeginUpdate 9 ∷
@@ -115,7 +115,7 @@ inputs =
     Commit (txn 1) ∷
     Abort (txn 2) ∷
     [])) ∷
-    (play (pos 2 ∷ negsuc 0 ∷ []) (1 ∷ 2 ∷ [])
+    (history (pos 2 ∷ negsuc 0 ∷ []) (1 ∷ 2 ∷ [])
     (BeginQuery 0 false ∷
     BeginUpdate 0 ∷
     Abort (txn 2) ∷
@@ -128,7 +128,7 @@ inputs =
     Commit (txn 1) ∷
     Commit (txn 4) ∷
     [])) ∷
-    (play (pos 9 ∷ negsuc 0 ∷ []) (1 ∷ 2 ∷ [])
+    (history (pos 9 ∷ negsuc 0 ∷ []) (1 ∷ 2 ∷ [])
     (BeginQuery 60 false ∷
     BeginUpdate 9 ∷
     Abort (txn 1) ∷
@@ -141,7 +141,7 @@ inputs =
     Write (txn 2) (item 0) (negsuc 5) ∷
     Commit (txn 2) ∷
     [])) ∷
-    (play (pos 6 ∷ negsuc 1 ∷ []) (1 ∷ 2 ∷ [])
+    (history (pos 6 ∷ negsuc 1 ∷ []) (1 ∷ 2 ∷ [])
     (BeginQuery 9 false ∷
     BeginUpdate 20 ∷
     Read (txn 1) (item 1) ∷
@@ -178,7 +178,7 @@ outcomes =
     Committed ∷
     Committed ∷
     [])
-    (0 ∷ 0 ∷ 0 ∷ 0 ∷ 0 ∷ []) (found 1 0 ([]) ∷ [])) ∷
+    (0 ∷ 0 ∷ 0 ∷ 0 ∷ 0 ∷ []) (audit 1 0 ([]) ∷ [])) ∷
     (outcome (Begun (txn 1) ∷
     Begun (txn 2) ∷
     Value (pos 8) ∷
@@ -211,7 +211,7 @@ outcomes =
     Committed ∷
     Committed ∷
     [])
-    (0 ∷ 0 ∷ 0 ∷ []) (found 3 0 ([]) ∷ [])) ∷
+    (0 ∷ 0 ∷ 0 ∷ []) (audit 3 0 ([]) ∷ [])) ∷
     (outcome (Begun (txn 1) ∷
     Begun (txn 2) ∷
     Value (pos 1) ∷
@@ -250,7 +250,7 @@ outcomes =
     Refused QueryMayNotWrite ∷
     Committed ∷
     [])
-    (0 ∷ 0 ∷ []) (found 2 0 ([]) ∷ [])) ∷
+    (0 ∷ 0 ∷ []) (audit 2 0 ([]) ∷ [])) ∷
     (outcome (Begun (txn 1) ∷
     Refused LimitOutOfRange ∷
     Begun (txn 2) ∷
@@ -266,7 +266,7 @@ outcomes =
     Committed ∷
     Aborted ∷
     [])
-    (0 ∷ 0 ∷ 0 ∷ []) (found 3 0 ([]) ∷ [])) ∷
+    (0 ∷ 0 ∷ 0 ∷ []) (audit 3 0 ([]) ∷ [])) ∷
     (outcome (Begun (txn 1) ∷
     Begun (txn 2) ∷
     Aborted ∷
@@ -279,7 +279,7 @@ outcomes =
     Committed ∷
     Committed ∷
     [])
-    (0 ∷ 0 ∷ 0 ∷ 0 ∷ []) (found 1 0 ([]) ∷ found 4 0 ([]) ∷ [])) ∷
+    (0 ∷ 0 ∷ 0 ∷ 0 ∷ []) (audit 1 0 ([]) ∷ audit 4 0 ([]) ∷ [])) ∷
     (outcome (Begun (txn 1) ∷
     Begun (txn 2) ∷
     Aborted ∷
@@ -307,7 +307,7 @@ outcomes =
     Wrote ∷
     Committed ∷
     [])
-    (1 ∷ 1 ∷ 0 ∷ []) (found 1 1 ([]) ∷ [])) ∷
+    (1 ∷ 1 ∷ 0 ∷ []) (audit 1 1 ([]) ∷ [])) ∷
     []
 
 -- the definitions find the outcome of each history

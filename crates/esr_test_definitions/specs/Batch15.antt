@@ -2,13 +2,13 @@
 use Rattle.std.specs.Prelude.{◌≡◌, pos, negsuc, List, [], ◌∷◌, true, false, map}
 use Rattle.esr_history.specs.declared.event.Event.TheVariants.{BeginUpdate, BeginQuery, Read, Write, Commit, Abort}
 use Rattle.esr_history.specs.declared.event.Reply.TheVariants.{Begun, Value, Wrote, Committed, Aborted, Refused}
-use Rattle.esr_history.specs.declared.event.Refusal.TheVariants.{NoSuchTransaction, AlreadyEnded, NoSuchItem, QueryMayNotWrite, ValueOutOfRange, LimitOutOfRange, BlockedByLock, BlockedByImport, BlockedByExport}
+use Rattle.esr_history.specs.declared.event.Refusal.TheVariants.{NoSuchTransaction, AlreadyEnded, NoSuchItem, QueryMayNotWrite, ValueOutOfRange, LimitOutOfRange, BlockedByLock, BlockedByImport}
 use Rattle.esr_history.specs.Worked.{item, txn}
-use Rattle.esr_test_definitions.specs.Outcomes.{Outcome, Play, found, outcome, outcome_of, play}
+use Rattle.esr_test_definitions.specs.Outcomes.{History, Outcome, audit, history, outcome, outcome_of}
 
-abbrev pub inputs : List Play
+abbrev pub inputs : List History
 inputs =
-    (play (pos 8 ∷ []) (1 ∷ [])
+    (history (pos 8 ∷ []) (1 ∷ [])
     (BeginQuery 3 false ∷
     BeginUpdate 20 ∷
     Write (txn 3) (item 0) (pos 8) ∷
@@ -24,7 +24,7 @@ inputs =
     BeginUpdate 20 ∷
     Commit (txn 1) ∷
     [])) ∷
-    (play (pos 9 ∷ negsuc 3 ∷ negsuc 4 ∷ []) (2 ∷ 2 ∷ 1 ∷ [])
+    (history (pos 9 ∷ negsuc 3 ∷ negsuc 4 ∷ []) (2 ∷ 2 ∷ 1 ∷ [])
     (BeginUpdate 0 ∷
     BeginUpdate 3 ∷
     Read (txn 2) (item 0) ∷
@@ -42,7 +42,7 @@ inputs =
     Abort (txn 3) ∷
     Commit (txn 5) ∷
     [])) ∷
-    (play (pos 1 ∷ pos 7 ∷ pos 1 ∷ []) (2 ∷ 1 ∷ 1 ∷ [])
+    (history (pos 1 ∷ pos 7 ∷ pos 1 ∷ []) (2 ∷ 1 ∷ 1 ∷ [])
     (BeginUpdate 20 ∷
     BeginUpdate 1000000000000000000 ∷
     BeginQuery 20 false ∷
@@ -57,7 +57,7 @@ inputs =
     Commit (txn 2) ∷
     Abort (txn 4) ∷
     [])) ∷
-    (play (pos 5 ∷ pos 5 ∷ []) (1 ∷ 2 ∷ [])
+    (history (pos 5 ∷ pos 5 ∷ []) (1 ∷ 2 ∷ [])
     (BeginUpdate 1000000000000000000 ∷
     BeginQuery 20 false ∷
     Read (txn 2) (item 0) ∷
@@ -71,7 +71,7 @@ inputs =
     Abort (txn 1) ∷
     Abort (txn 2) ∷
     [])) ∷
-    (play (pos 5 ∷ pos 0 ∷ []) (2 ∷ 7 ∷ [])
+    (history (pos 5 ∷ pos 0 ∷ []) (2 ∷ 7 ∷ [])
     (BeginUpdate 3 ∷
     BeginUpdate 9 ∷
     Write (txn 1) (item 0) (pos 13) ∷
@@ -88,7 +88,7 @@ inputs =
     Commit (txn 4) ∷
     Commit (txn 5) ∷
     [])) ∷
-    (play (negsuc 3 ∷ negsuc 1 ∷ pos 6 ∷ []) (1 ∷ 7 ∷ 2 ∷ [])
+    (history (negsuc 3 ∷ negsuc 1 ∷ pos 6 ∷ []) (1 ∷ 7 ∷ 2 ∷ [])
     (BeginQuery 9 false ∷
     BeginQuery 3 false ∷
     Read (txn 2) (item 2) ∷
@@ -100,7 +100,7 @@ inputs =
     Abort (txn 1) ∷
     Commit (txn 3) ∷
     [])) ∷
-    (play (pos 0 ∷ negsuc 4 ∷ []) (1 ∷ 1 ∷ [])
+    (history (pos 0 ∷ negsuc 4 ∷ []) (1 ∷ 1 ∷ [])
     (BeginUpdate 3 ∷
     BeginUpdate 20 ∷
     Write (txn 1) (item 1) (negsuc 7) ∷
@@ -118,7 +118,7 @@ inputs =
     Commit (txn 3) ∷
     Commit (txn 4) ∷
     [])) ∷
-    (play (pos 7 ∷ []) (7 ∷ [])
+    (history (pos 7 ∷ []) (7 ∷ [])
     (BeginUpdate 20 ∷
     BeginUpdate 0 ∷
     Commit (txn 1) ∷
@@ -135,7 +135,7 @@ inputs =
     BeginUpdate 3 ∷
     Commit (txn 3) ∷
     [])) ∷
-    (play (pos 1 ∷ pos 0 ∷ []) (1 ∷ 7 ∷ [])
+    (history (pos 1 ∷ pos 0 ∷ []) (1 ∷ 7 ∷ [])
     (BeginUpdate 9 ∷
     BeginUpdate 20 ∷
     Read (txn 2) (item 1) ∷
@@ -153,7 +153,7 @@ inputs =
     Commit (txn 4) ∷
     Abort (txn 5) ∷
     [])) ∷
-    (play (pos 4 ∷ negsuc 1 ∷ pos 7 ∷ []) (1 ∷ 1 ∷ 2 ∷ [])
+    (history (pos 4 ∷ negsuc 1 ∷ pos 7 ∷ []) (1 ∷ 1 ∷ 2 ∷ [])
     (BeginUpdate 1000000000000000001 ∷
     BeginUpdate 0 ∷
     BeginQuery 9 false ∷
@@ -186,7 +186,7 @@ outcomes =
     Begun (txn 3) ∷
     Committed ∷
     [])
-    (0 ∷ 0 ∷ 0 ∷ []) (found 1 0 ([]) ∷ [])) ∷
+    (0 ∷ 0 ∷ 0 ∷ []) (audit 1 0 ([]) ∷ [])) ∷
     (outcome (Begun (txn 1) ∷
     Begun (txn 2) ∷
     Value (pos 9) ∷
@@ -204,7 +204,7 @@ outcomes =
     Aborted ∷
     Committed ∷
     [])
-    (0 ∷ 0 ∷ 0 ∷ 0 ∷ 0 ∷ []) (found 4 0 ([]) ∷ [])) ∷
+    (0 ∷ 0 ∷ 0 ∷ 0 ∷ 0 ∷ []) (audit 4 0 ([]) ∷ [])) ∷
     (outcome (Begun (txn 1) ∷
     Begun (txn 2) ∷
     Begun (txn 3) ∷
@@ -250,7 +250,7 @@ outcomes =
     Committed ∷
     Committed ∷
     [])
-    (0 ∷ 0 ∷ 0 ∷ 0 ∷ 0 ∷ []) (found 4 0 ([]) ∷ [])) ∷
+    (0 ∷ 0 ∷ 0 ∷ 0 ∷ 0 ∷ []) (audit 4 0 ([]) ∷ [])) ∷
     (outcome (Begun (txn 1) ∷
     Begun (txn 2) ∷
     Value (pos 6) ∷
@@ -262,7 +262,7 @@ outcomes =
     Aborted ∷
     Committed ∷
     [])
-    (0 ∷ 0 ∷ 0 ∷ []) (found 3 0 ([]) ∷ [])) ∷
+    (0 ∷ 0 ∷ 0 ∷ []) (audit 3 0 ([]) ∷ [])) ∷
     (outcome (Begun (txn 1) ∷
     Begun (txn 2) ∷
     Wrote ∷
@@ -280,7 +280,7 @@ outcomes =
     Committed ∷
     Committed ∷
     [])
-    (0 ∷ 13 ∷ 13 ∷ 0 ∷ []) (found 3 0 ([]) ∷ [])) ∷
+    (0 ∷ 13 ∷ 13 ∷ 0 ∷ []) (audit 3 0 ([]) ∷ [])) ∷
     (outcome (Begun (txn 1) ∷
     Begun (txn 2) ∷
     Committed ∷
@@ -329,7 +329,7 @@ outcomes =
     Committed ∷
     Committed ∷
     [])
-    (0 ∷ 0 ∷ 0 ∷ 0 ∷ []) (found 2 0 ([]) ∷ found 4 0 ([]) ∷ [])) ∷
+    (0 ∷ 0 ∷ 0 ∷ 0 ∷ []) (audit 2 0 ([]) ∷ audit 4 0 ([]) ∷ [])) ∷
     []
 
 -- the definitions find the outcome of each history

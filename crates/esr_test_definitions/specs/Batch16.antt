@@ -2,13 +2,13 @@
 use Rattle.std.specs.Prelude.{◌≡◌, pos, negsuc, List, [], ◌∷◌, true, false, map}
 use Rattle.esr_history.specs.declared.event.Event.TheVariants.{BeginUpdate, BeginQuery, Read, Write, Commit, Abort}
 use Rattle.esr_history.specs.declared.event.Reply.TheVariants.{Begun, Value, Wrote, Committed, Aborted, Refused}
-use Rattle.esr_history.specs.declared.event.Refusal.TheVariants.{NoSuchTransaction, AlreadyEnded, NoSuchItem, QueryMayNotWrite, ValueOutOfRange, LimitOutOfRange, BlockedByLock, BlockedByImport, BlockedByExport}
+use Rattle.esr_history.specs.declared.event.Refusal.TheVariants.{NoSuchTransaction, AlreadyEnded, NoSuchItem, QueryMayNotWrite, LimitOutOfRange, BlockedByLock, BlockedByImport}
 use Rattle.esr_history.specs.Worked.{item, txn}
-use Rattle.esr_test_definitions.specs.Outcomes.{Outcome, Play, found, outcome, outcome_of, play}
+use Rattle.esr_test_definitions.specs.Outcomes.{History, Outcome, audit, history, outcome, outcome_of}
 
-abbrev pub inputs : List Play
+abbrev pub inputs : List History
 inputs =
-    (play (pos 8 ∷ []) (2 ∷ [])
+    (history (pos 8 ∷ []) (2 ∷ [])
     (BeginQuery 20 false ∷
     BeginUpdate 3 ∷
     Read (txn 1) (item 0) ∷
@@ -26,7 +26,7 @@ inputs =
     Commit (txn 3) ∷
     Commit (txn 4) ∷
     [])) ∷
-    (play (pos 5 ∷ []) (7 ∷ [])
+    (history (pos 5 ∷ []) (7 ∷ [])
     (BeginUpdate 3 ∷
     BeginUpdate 20 ∷
     Read (txn 2) (item 0) ∷
@@ -43,7 +43,7 @@ inputs =
     Commit (txn 4) ∷
     Commit (txn 5) ∷
     [])) ∷
-    (play (pos 5 ∷ pos 9 ∷ negsuc 1 ∷ []) (2 ∷ 1 ∷ 7 ∷ [])
+    (history (pos 5 ∷ pos 9 ∷ negsuc 1 ∷ []) (2 ∷ 1 ∷ 7 ∷ [])
     (BeginUpdate 20 ∷
     BeginUpdate 1000000000000000000 ∷
     BeginQuery 3 false ∷
@@ -61,7 +61,7 @@ inputs =
     Abort (txn 3) ∷
     Abort (txn 5) ∷
     [])) ∷
-    (play (negsuc 3 ∷ negsuc 0 ∷ negsuc 4 ∷ []) (1 ∷ 1 ∷ 2 ∷ [])
+    (history (negsuc 3 ∷ negsuc 0 ∷ negsuc 4 ∷ []) (1 ∷ 1 ∷ 2 ∷ [])
     (BeginQuery 3 false ∷
     BeginUpdate 1000000000000000000 ∷
     Write (txn 2) (item 0) (pos 3) ∷
@@ -78,7 +78,7 @@ inputs =
     Read (txn 2) (item 0) ∷
     Commit (txn 1) ∷
     [])) ∷
-    (play (negsuc 1 ∷ pos 4 ∷ []) (1 ∷ 2 ∷ [])
+    (history (negsuc 1 ∷ pos 4 ∷ []) (1 ∷ 2 ∷ [])
     (BeginUpdate 60 ∷
     BeginUpdate 1000000000000000000 ∷
     Write (txn 2) (item 2) (pos 2) ∷
@@ -98,7 +98,7 @@ inputs =
     Commit (txn 3) ∷
     Commit (txn 4) ∷
     [])) ∷
-    (play (negsuc 0 ∷ pos 8 ∷ []) (1 ∷ 1 ∷ [])
+    (history (negsuc 0 ∷ pos 8 ∷ []) (1 ∷ 1 ∷ [])
     (BeginQuery 1000000000000000001 false ∷
     BeginUpdate 60 ∷
     BeginUpdate 60 ∷
@@ -113,7 +113,7 @@ inputs =
     Read (txn 2) (item 1) ∷
     Commit (txn 2) ∷
     [])) ∷
-    (play (pos 4 ∷ pos 2 ∷ pos 6 ∷ []) (2 ∷ 2 ∷ 7 ∷ [])
+    (history (pos 4 ∷ pos 2 ∷ pos 6 ∷ []) (2 ∷ 2 ∷ 7 ∷ [])
     (BeginUpdate 0 ∷
     BeginUpdate 20 ∷
     Write (txn 1) (item 2) (negsuc 4) ∷
@@ -129,7 +129,7 @@ inputs =
     BeginUpdate 60 ∷
     Abort (txn 2) ∷
     [])) ∷
-    (play (pos 5 ∷ []) (1 ∷ [])
+    (history (pos 5 ∷ []) (1 ∷ [])
     (BeginQuery 3 false ∷
     BeginQuery 3 true ∷
     Read (txn 2) (item 0) ∷
@@ -148,7 +148,7 @@ inputs =
     Commit (txn 3) ∷
     Commit (txn 4) ∷
     [])) ∷
-    (play (pos 8 ∷ []) (7 ∷ [])
+    (history (pos 8 ∷ []) (7 ∷ [])
     (BeginUpdate 1000000000000000000 ∷
     BeginUpdate 60 ∷
     Abort (txn 2) ∷
@@ -161,7 +161,7 @@ inputs =
     Read (txn 3) (item 0) ∷
     Commit (txn 3) ∷
     [])) ∷
-    (play (pos 5 ∷ pos 2 ∷ []) (1 ∷ 7 ∷ [])
+    (history (pos 5 ∷ pos 2 ∷ []) (1 ∷ 7 ∷ [])
     (BeginUpdate 20 ∷
     BeginUpdate 9 ∷
     Read (txn 2) (item 0) ∷
@@ -192,7 +192,7 @@ outcomes =
     Committed ∷
     Committed ∷
     [])
-    (0 ∷ 0 ∷ 0 ∷ 0 ∷ []) (found 1 0 ([]) ∷ found 3 0 ([]) ∷ found 4 0 ([]) ∷ [])) ∷
+    (0 ∷ 0 ∷ 0 ∷ 0 ∷ []) (audit 1 0 ([]) ∷ audit 3 0 ([]) ∷ audit 4 0 ([]) ∷ [])) ∷
     (outcome (Begun (txn 1) ∷
     Begun (txn 2) ∷
     Value (pos 5) ∷
@@ -227,7 +227,7 @@ outcomes =
     Aborted ∷
     Aborted ∷
     [])
-    (0 ∷ 0 ∷ 0 ∷ 0 ∷ 0 ∷ []) (found 4 0 ([]) ∷ [])) ∷
+    (0 ∷ 0 ∷ 0 ∷ 0 ∷ 0 ∷ []) (audit 4 0 ([]) ∷ [])) ∷
     (outcome (Begun (txn 1) ∷
     Begun (txn 2) ∷
     Wrote ∷
@@ -244,7 +244,7 @@ outcomes =
     Value (pos 3) ∷
     Committed ∷
     [])
-    (0 ∷ 0 ∷ 0 ∷ 0 ∷ []) (found 1 0 ([]) ∷ [])) ∷
+    (0 ∷ 0 ∷ 0 ∷ 0 ∷ []) (audit 1 0 ([]) ∷ [])) ∷
     (outcome (Begun (txn 1) ∷
     Begun (txn 2) ∷
     Refused NoSuchItem ∷
@@ -264,7 +264,7 @@ outcomes =
     Committed ∷
     Committed ∷
     [])
-    (0 ∷ 0 ∷ 0 ∷ 0 ∷ []) (found 3 0 ([]) ∷ [])) ∷
+    (0 ∷ 0 ∷ 0 ∷ 0 ∷ []) (audit 3 0 ([]) ∷ [])) ∷
     (outcome (Refused LimitOutOfRange ∷
     Begun (txn 1) ∷
     Begun (txn 2) ∷
@@ -314,7 +314,7 @@ outcomes =
     Committed ∷
     Committed ∷
     [])
-    (0 ∷ 0 ∷ 0 ∷ 0 ∷ []) (found 1 0 ([]) ∷ found 2 0 ([]) ∷ [])) ∷
+    (0 ∷ 0 ∷ 0 ∷ 0 ∷ []) (audit 1 0 ([]) ∷ audit 2 0 ([]) ∷ [])) ∷
     (outcome (Begun (txn 1) ∷
     Begun (txn 2) ∷
     Aborted ∷

@@ -2,13 +2,13 @@
 use Rattle.std.specs.Prelude.{◌≡◌, pos, negsuc, List, [], ◌∷◌, true, false, map}
 use Rattle.esr_history.specs.declared.event.Event.TheVariants.{BeginUpdate, BeginQuery, Read, Write, Commit, Abort}
 use Rattle.esr_history.specs.declared.event.Reply.TheVariants.{Begun, Value, Wrote, Committed, Aborted, Refused}
-use Rattle.esr_history.specs.declared.event.Refusal.TheVariants.{NoSuchTransaction, AlreadyEnded, NoSuchItem, QueryMayNotWrite, ValueOutOfRange, LimitOutOfRange, BlockedByLock, BlockedByImport, BlockedByExport}
+use Rattle.esr_history.specs.declared.event.Refusal.TheVariants.{NoSuchTransaction, AlreadyEnded, NoSuchItem, QueryMayNotWrite, LimitOutOfRange, BlockedByLock, BlockedByExport}
 use Rattle.esr_history.specs.Worked.{item, txn}
-use Rattle.esr_test_definitions.specs.Outcomes.{Outcome, Play, found, outcome, outcome_of, play}
+use Rattle.esr_test_definitions.specs.Outcomes.{History, Outcome, audit, history, outcome, outcome_of}
 
-abbrev pub inputs : List Play
+abbrev pub inputs : List History
 inputs =
-    (play (pos 6 ∷ []) (7 ∷ [])
+    (history (pos 6 ∷ []) (7 ∷ [])
     (BeginQuery 0 false ∷
     BeginUpdate 20 ∷
     Read (txn 2) (item 0) ∷
@@ -25,7 +25,7 @@ inputs =
     Commit (txn 3) ∷
     Commit (txn 4) ∷
     [])) ∷
-    (play (pos 6 ∷ pos 2 ∷ []) (2 ∷ 7 ∷ [])
+    (history (pos 6 ∷ pos 2 ∷ []) (2 ∷ 7 ∷ [])
     (BeginUpdate 0 ∷
     BeginQuery 0 false ∷
     Read (txn 2) (item 1) ∷
@@ -36,7 +36,7 @@ inputs =
     Abort (txn 2) ∷
     Abort (txn 1) ∷
     [])) ∷
-    (play (pos 7 ∷ []) (1 ∷ [])
+    (history (pos 7 ∷ []) (1 ∷ [])
     (BeginQuery 20 false ∷
     BeginUpdate 9 ∷
     Write (txn 2) (item 0) (pos 12) ∷
@@ -48,7 +48,7 @@ inputs =
     Commit (txn 3) ∷
     Commit (txn 1) ∷
     [])) ∷
-    (play (pos 9 ∷ []) (2 ∷ [])
+    (history (pos 9 ∷ []) (2 ∷ [])
     (BeginUpdate 1000000000000000001 ∷
     BeginUpdate 3 ∷
     BeginUpdate 1000000000000000000 ∷
@@ -64,7 +64,7 @@ inputs =
     Commit (txn 4) ∷
     Commit (txn 2) ∷
     [])) ∷
-    (play (pos 5 ∷ []) (2 ∷ [])
+    (history (pos 5 ∷ []) (2 ∷ [])
     (BeginUpdate 20 ∷
     BeginUpdate 1000000000000000001 ∷
     BeginUpdate 60 ∷
@@ -84,7 +84,7 @@ inputs =
     Commit (txn 4) ∷
     Abort (txn 5) ∷
     [])) ∷
-    (play (pos 8 ∷ pos 3 ∷ []) (7 ∷ 1 ∷ [])
+    (history (pos 8 ∷ pos 3 ∷ []) (7 ∷ 1 ∷ [])
     (BeginUpdate 60 ∷
     BeginQuery 60 false ∷
     Read (txn 2) (item 1) ∷
@@ -100,7 +100,7 @@ inputs =
     Commit (txn 1) ∷
     Commit (txn 4) ∷
     [])) ∷
-    (play (pos 7 ∷ pos 3 ∷ []) (7 ∷ 2 ∷ [])
+    (history (pos 7 ∷ pos 3 ∷ []) (7 ∷ 2 ∷ [])
     (BeginUpdate 0 ∷
     BeginQuery 20 false ∷
     Write (txn 1) (item 1) (pos 6) ∷
@@ -111,7 +111,7 @@ inputs =
     BeginQuery 20 true ∷
     Commit (txn 2) ∷
     [])) ∷
-    (play (pos 7 ∷ pos 1 ∷ pos 0 ∷ []) (7 ∷ 2 ∷ 2 ∷ [])
+    (history (pos 7 ∷ pos 1 ∷ pos 0 ∷ []) (7 ∷ 2 ∷ 2 ∷ [])
     (BeginUpdate 20 ∷
     BeginUpdate 20 ∷
     BeginUpdate 9 ∷
@@ -125,7 +125,7 @@ inputs =
     Commit (txn 2) ∷
     Commit (txn 4) ∷
     [])) ∷
-    (play (negsuc 4 ∷ negsuc 2 ∷ []) (7 ∷ 1 ∷ [])
+    (history (negsuc 4 ∷ negsuc 2 ∷ []) (7 ∷ 1 ∷ [])
     (BeginUpdate 1000000000000000000 ∷
     BeginUpdate 3 ∷
     Read (txn 1) (item 1) ∷
@@ -137,7 +137,7 @@ inputs =
     Abort (txn 2) ∷
     Commit (txn 5) ∷
     [])) ∷
-    (play (pos 0 ∷ []) (1 ∷ [])
+    (history (pos 0 ∷ []) (1 ∷ [])
     (BeginUpdate 0 ∷
     BeginQuery 0 false ∷
     BeginUpdate 1000000000000000000 ∷
@@ -172,7 +172,7 @@ outcomes =
     Committed ∷
     Committed ∷
     [])
-    (0 ∷ 0 ∷ 0 ∷ 0 ∷ []) (found 1 0 ([]) ∷ [])) ∷
+    (0 ∷ 0 ∷ 0 ∷ 0 ∷ []) (audit 1 0 ([]) ∷ [])) ∷
     (outcome (Begun (txn 1) ∷
     Begun (txn 2) ∷
     Value (pos 2) ∷
@@ -195,7 +195,7 @@ outcomes =
     Committed ∷
     Committed ∷
     [])
-    (6 ∷ 6 ∷ 0 ∷ []) (found 1 5 ([]) ∷ found 3 0 ([]) ∷ [])) ∷
+    (6 ∷ 6 ∷ 0 ∷ []) (audit 1 5 ([]) ∷ audit 3 0 ([]) ∷ [])) ∷
     (outcome (Refused LimitOutOfRange ∷
     Begun (txn 1) ∷
     Begun (txn 2) ∷
@@ -211,7 +211,7 @@ outcomes =
     Committed ∷
     Committed ∷
     [])
-    (0 ∷ 0 ∷ 0 ∷ 0 ∷ []) (found 4 0 (1 ∷ []) ∷ [])) ∷
+    (0 ∷ 0 ∷ 0 ∷ 0 ∷ []) (audit 4 0 (1 ∷ []) ∷ [])) ∷
     (outcome (Begun (txn 1) ∷
     Refused LimitOutOfRange ∷
     Begun (txn 2) ∷
@@ -258,7 +258,7 @@ outcomes =
     Begun (txn 3) ∷
     Committed ∷
     [])
-    (0 ∷ 0 ∷ 0 ∷ []) (found 2 0 ([]) ∷ [])) ∷
+    (0 ∷ 0 ∷ 0 ∷ []) (audit 2 0 ([]) ∷ [])) ∷
     (outcome (Begun (txn 1) ∷
     Begun (txn 2) ∷
     Begun (txn 3) ∷
@@ -284,7 +284,7 @@ outcomes =
     Aborted ∷
     Committed ∷
     [])
-    (0 ∷ 0 ∷ 0 ∷ 0 ∷ 0 ∷ []) (found 4 0 ([]) ∷ [])) ∷
+    (0 ∷ 0 ∷ 0 ∷ 0 ∷ 0 ∷ []) (audit 4 0 ([]) ∷ [])) ∷
     (outcome (Begun (txn 1) ∷
     Begun (txn 2) ∷
     Begun (txn 3) ∷
@@ -299,7 +299,7 @@ outcomes =
     Aborted ∷
     Committed ∷
     [])
-    (0 ∷ 0 ∷ 0 ∷ 0 ∷ []) (found 2 0 ([]) ∷ [])) ∷
+    (0 ∷ 0 ∷ 0 ∷ 0 ∷ []) (audit 2 0 ([]) ∷ [])) ∷
     []
 
 -- the definitions find the outcome of each history

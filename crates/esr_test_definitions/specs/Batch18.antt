@@ -2,13 +2,13 @@
 use Rattle.std.specs.Prelude.{◌≡◌, pos, negsuc, List, [], ◌∷◌, true, false, map}
 use Rattle.esr_history.specs.declared.event.Event.TheVariants.{BeginUpdate, BeginQuery, Read, Write, Commit, Abort}
 use Rattle.esr_history.specs.declared.event.Reply.TheVariants.{Begun, Value, Wrote, Committed, Aborted, Refused}
-use Rattle.esr_history.specs.declared.event.Refusal.TheVariants.{NoSuchTransaction, AlreadyEnded, NoSuchItem, QueryMayNotWrite, ValueOutOfRange, LimitOutOfRange, BlockedByLock, BlockedByImport, BlockedByExport}
+use Rattle.esr_history.specs.declared.event.Refusal.TheVariants.{NoSuchTransaction, NoSuchItem, QueryMayNotWrite, LimitOutOfRange, BlockedByLock, BlockedByImport}
 use Rattle.esr_history.specs.Worked.{item, txn}
-use Rattle.esr_test_definitions.specs.Outcomes.{Outcome, Play, found, outcome, outcome_of, play}
+use Rattle.esr_test_definitions.specs.Outcomes.{History, Outcome, audit, history, outcome, outcome_of}
 
-abbrev pub inputs : List Play
+abbrev pub inputs : List History
 inputs =
-    (play (pos 2 ∷ pos 1 ∷ pos 4 ∷ []) (7 ∷ 1 ∷ 1 ∷ [])
+    (history (pos 2 ∷ pos 1 ∷ pos 4 ∷ []) (7 ∷ 1 ∷ 1 ∷ [])
     (BeginUpdate 3 ∷
     BeginQuery 1000000000000000001 false ∷
     BeginUpdate 60 ∷
@@ -18,7 +18,7 @@ inputs =
     Write (txn 1) (item 1) (pos 6) ∷
     Commit (txn 1) ∷
     [])) ∷
-    (play (pos 5 ∷ pos 6 ∷ []) (7 ∷ 1 ∷ [])
+    (history (pos 5 ∷ pos 6 ∷ []) (7 ∷ 1 ∷ [])
     (BeginUpdate 60 ∷
     BeginUpdate 1000000000000000000 ∷
     Abort (txn 1) ∷
@@ -32,7 +32,7 @@ inputs =
     Write (txn 2) (item 2) (negsuc 8) ∷
     Write (txn 2) (item 0) (negsuc 6) ∷
     [])) ∷
-    (play (pos 7 ∷ pos 0 ∷ negsuc 3 ∷ []) (7 ∷ 1 ∷ 1 ∷ [])
+    (history (pos 7 ∷ pos 0 ∷ negsuc 3 ∷ []) (7 ∷ 1 ∷ 1 ∷ [])
     (BeginUpdate 20 ∷
     BeginUpdate 1000000000000000000 ∷
     Write (txn 1) (item 0) (pos 14) ∷
@@ -50,7 +50,7 @@ inputs =
     Abort (txn 4) ∷
     Commit (txn 5) ∷
     [])) ∷
-    (play (negsuc 2 ∷ pos 5 ∷ []) (1 ∷ 2 ∷ [])
+    (history (negsuc 2 ∷ pos 5 ∷ []) (1 ∷ 2 ∷ [])
     (BeginUpdate 60 ∷
     BeginQuery 3 false ∷
     Abort (txn 2) ∷
@@ -70,7 +70,7 @@ inputs =
     Commit (txn 4) ∷
     Commit (txn 5) ∷
     [])) ∷
-    (play (negsuc 0 ∷ pos 4 ∷ negsuc 3 ∷ []) (1 ∷ 2 ∷ 2 ∷ [])
+    (history (negsuc 0 ∷ pos 4 ∷ negsuc 3 ∷ []) (1 ∷ 2 ∷ 2 ∷ [])
     (BeginUpdate 3 ∷
     BeginUpdate 1000000000000000000 ∷
     Write (txn 1) (item 2) (pos 2) ∷
@@ -81,7 +81,7 @@ inputs =
     Read (txn 0) (item 0) ∷
     Abort (txn 3) ∷
     [])) ∷
-    (play (pos 6 ∷ pos 1 ∷ pos 6 ∷ []) (2 ∷ 2 ∷ 7 ∷ [])
+    (history (pos 6 ∷ pos 1 ∷ pos 6 ∷ []) (2 ∷ 2 ∷ 7 ∷ [])
     (BeginQuery 60 false ∷
     BeginUpdate 3 ∷
     Write (txn 3) (item 2) (pos 2) ∷
@@ -95,7 +95,7 @@ inputs =
     Commit (txn 1) ∷
     Commit (txn 4) ∷
     [])) ∷
-    (play (pos 3 ∷ negsuc 3 ∷ []) (1 ∷ 7 ∷ [])
+    (history (pos 3 ∷ negsuc 3 ∷ []) (1 ∷ 7 ∷ [])
     (BeginUpdate 20 ∷
     BeginUpdate 20 ∷
     Write (txn 1) (item 0) (negsuc 1) ∷
@@ -114,7 +114,7 @@ inputs =
     Commit (txn 1) ∷
     Commit (txn 4) ∷
     [])) ∷
-    (play (negsuc 3 ∷ pos 2 ∷ pos 8 ∷ []) (2 ∷ 2 ∷ 2 ∷ [])
+    (history (negsuc 3 ∷ pos 2 ∷ pos 8 ∷ []) (2 ∷ 2 ∷ 2 ∷ [])
     (BeginUpdate 0 ∷
     BeginUpdate 0 ∷
     Abort (txn 1) ∷
@@ -133,7 +133,7 @@ inputs =
     Commit (txn 3) ∷
     Commit (txn 5) ∷
     [])) ∷
-    (play (negsuc 0 ∷ []) (1 ∷ [])
+    (history (negsuc 0 ∷ []) (1 ∷ [])
     (BeginQuery 9 false ∷
     BeginUpdate 60 ∷
     Abort (txn 2) ∷
@@ -148,7 +148,7 @@ inputs =
     Commit (txn 4) ∷
     Commit (txn 5) ∷
     [])) ∷
-    (play (pos 8 ∷ pos 9 ∷ negsuc 0 ∷ []) (1 ∷ 7 ∷ 1 ∷ [])
+    (history (pos 8 ∷ pos 9 ∷ negsuc 0 ∷ []) (1 ∷ 7 ∷ 1 ∷ [])
     (BeginUpdate 1000000000000000000 ∷
     BeginUpdate 0 ∷
     Read (txn 1) (item 2) ∷
@@ -226,7 +226,7 @@ outcomes =
     Committed ∷
     Committed ∷
     [])
-    (0 ∷ 0 ∷ 0 ∷ 0 ∷ 0 ∷ []) (found 4 0 ([]) ∷ [])) ∷
+    (0 ∷ 0 ∷ 0 ∷ 0 ∷ 0 ∷ []) (audit 4 0 ([]) ∷ [])) ∷
     (outcome (Begun (txn 1) ∷
     Begun (txn 2) ∷
     Wrote ∷
@@ -251,7 +251,7 @@ outcomes =
     Committed ∷
     Committed ∷
     [])
-    (0 ∷ 0 ∷ 0 ∷ 0 ∷ []) (found 1 0 ([]) ∷ [])) ∷
+    (0 ∷ 0 ∷ 0 ∷ 0 ∷ []) (audit 1 0 ([]) ∷ [])) ∷
     (outcome (Begun (txn 1) ∷
     Begun (txn 2) ∷
     Wrote ∷
@@ -270,7 +270,7 @@ outcomes =
     Committed ∷
     Committed ∷
     [])
-    (0 ∷ 0 ∷ 0 ∷ 0 ∷ []) (found 4 0 (2 ∷ []) ∷ [])) ∷
+    (0 ∷ 0 ∷ 0 ∷ 0 ∷ []) (audit 4 0 (2 ∷ []) ∷ [])) ∷
     (outcome (Begun (txn 1) ∷
     Begun (txn 2) ∷
     Aborted ∷
@@ -289,7 +289,7 @@ outcomes =
     Committed ∷
     Committed ∷
     [])
-    (0 ∷ 0 ∷ 0 ∷ 0 ∷ 0 ∷ []) (found 5 0 ([]) ∷ [])) ∷
+    (0 ∷ 0 ∷ 0 ∷ 0 ∷ 0 ∷ []) (audit 5 0 ([]) ∷ [])) ∷
     (outcome (Begun (txn 1) ∷
     Begun (txn 2) ∷
     Aborted ∷
@@ -304,7 +304,7 @@ outcomes =
     Committed ∷
     Committed ∷
     [])
-    (0 ∷ 0 ∷ 0 ∷ 0 ∷ 0 ∷ []) (found 1 0 ([]) ∷ found 4 0 ([]) ∷ [])) ∷
+    (0 ∷ 0 ∷ 0 ∷ 0 ∷ 0 ∷ []) (audit 1 0 ([]) ∷ audit 4 0 ([]) ∷ [])) ∷
     (outcome (Begun (txn 1) ∷
     Begun (txn 2) ∷
     Value (negsuc 0) ∷

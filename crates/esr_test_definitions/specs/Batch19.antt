@@ -2,13 +2,13 @@
 use Rattle.std.specs.Prelude.{◌≡◌, pos, negsuc, List, [], ◌∷◌, true, false, map}
 use Rattle.esr_history.specs.declared.event.Event.TheVariants.{BeginUpdate, BeginQuery, Read, Write, Commit, Abort}
 use Rattle.esr_history.specs.declared.event.Reply.TheVariants.{Begun, Value, Wrote, Committed, Aborted, Refused}
-use Rattle.esr_history.specs.declared.event.Refusal.TheVariants.{NoSuchTransaction, AlreadyEnded, NoSuchItem, QueryMayNotWrite, ValueOutOfRange, LimitOutOfRange, BlockedByLock, BlockedByImport, BlockedByExport}
+use Rattle.esr_history.specs.declared.event.Refusal.TheVariants.{NoSuchTransaction, AlreadyEnded, NoSuchItem, ValueOutOfRange, LimitOutOfRange, BlockedByLock, BlockedByImport}
 use Rattle.esr_history.specs.Worked.{item, txn}
-use Rattle.esr_test_definitions.specs.Outcomes.{Outcome, Play, found, outcome, outcome_of, play}
+use Rattle.esr_test_definitions.specs.Outcomes.{History, Outcome, audit, history, outcome, outcome_of}
 
-abbrev pub inputs : List Play
+abbrev pub inputs : List History
 inputs =
-    (play (pos 6 ∷ pos 7 ∷ []) (2 ∷ 2 ∷ [])
+    (history (pos 6 ∷ pos 7 ∷ []) (2 ∷ 2 ∷ [])
     (BeginQuery 9 true ∷
     BeginUpdate 1000000000000000001 ∷
     BeginUpdate 60 ∷
@@ -26,7 +26,7 @@ inputs =
     Read (txn 3) (item 0) ∷
     Commit (txn 3) ∷
     [])) ∷
-    (play (pos 5 ∷ negsuc 0 ∷ []) (1 ∷ 2 ∷ [])
+    (history (pos 5 ∷ negsuc 0 ∷ []) (1 ∷ 2 ∷ [])
     (BeginUpdate 60 ∷
     BeginQuery 0 false ∷
     BeginUpdate 60 ∷
@@ -39,7 +39,7 @@ inputs =
     Abort (txn 2) ∷
     Commit (txn 4) ∷
     [])) ∷
-    (play (pos 4 ∷ pos 1 ∷ []) (7 ∷ 1 ∷ [])
+    (history (pos 4 ∷ pos 1 ∷ []) (7 ∷ 1 ∷ [])
     (BeginUpdate 3 ∷
     BeginQuery 9 false ∷
     Write (txn 1) (item 0) (negsuc 8) ∷
@@ -56,7 +56,7 @@ inputs =
     Commit (txn 1) ∷
     Read (txn 1) (item 1) ∷
     [])) ∷
-    (play (negsuc 1 ∷ pos 2 ∷ []) (1 ∷ 1 ∷ [])
+    (history (negsuc 1 ∷ pos 2 ∷ []) (1 ∷ 1 ∷ [])
     (BeginUpdate 3 ∷
     BeginQuery 9 false ∷
     BeginUpdate 9 ∷
@@ -67,7 +67,7 @@ inputs =
     Commit (txn 3) ∷
     Commit (txn 4) ∷
     [])) ∷
-    (play (negsuc 3 ∷ pos 1 ∷ []) (7 ∷ 1 ∷ [])
+    (history (negsuc 3 ∷ pos 1 ∷ []) (7 ∷ 1 ∷ [])
     (BeginUpdate 0 ∷
     BeginUpdate 0 ∷
     BeginQuery 60 false ∷
@@ -86,7 +86,7 @@ inputs =
     Commit (txn 3) ∷
     Commit (txn 5) ∷
     [])) ∷
-    (play (pos 2 ∷ pos 2 ∷ pos 9 ∷ []) (1 ∷ 1 ∷ 1 ∷ [])
+    (history (pos 2 ∷ pos 2 ∷ pos 9 ∷ []) (1 ∷ 1 ∷ 1 ∷ [])
     (BeginUpdate 0 ∷
     BeginQuery 20 false ∷
     Read (txn 1) (item 2) ∷
@@ -102,7 +102,7 @@ inputs =
     Read (txn 2) (item 0) ∷
     Commit (txn 2) ∷
     [])) ∷
-    (play (pos 9 ∷ pos 1 ∷ []) (1 ∷ 1 ∷ [])
+    (history (pos 9 ∷ pos 1 ∷ []) (1 ∷ 1 ∷ [])
     (BeginQuery 0 true ∷
     BeginQuery 60 true ∷
     Read (txn 2) (item 1) ∷
@@ -122,7 +122,7 @@ inputs =
     Abort (txn 4) ∷
     Commit (txn 5) ∷
     [])) ∷
-    (play (pos 8 ∷ pos 4 ∷ pos 7 ∷ []) (1 ∷ 1 ∷ 1 ∷ [])
+    (history (pos 8 ∷ pos 4 ∷ pos 7 ∷ []) (1 ∷ 1 ∷ 1 ∷ [])
     (BeginUpdate 0 ∷
     BeginUpdate 1000000000000000000 ∷
     Read (txn 1) (item 0) ∷
@@ -141,7 +141,7 @@ inputs =
     Commit (txn 1) ∷
     Commit (txn 5) ∷
     [])) ∷
-    (play (negsuc 2 ∷ []) (1 ∷ [])
+    (history (negsuc 2 ∷ []) (1 ∷ [])
     (BeginUpdate 20 ∷
     BeginUpdate 9 ∷
     Read (txn 1) (item 0) ∷
@@ -161,7 +161,7 @@ inputs =
     Commit (txn 3) ∷
     Commit (txn 4) ∷
     [])) ∷
-    (play (pos 1 ∷ []) (1 ∷ [])
+    (history (pos 1 ∷ []) (1 ∷ [])
     (BeginUpdate 3 ∷
     BeginUpdate 9 ∷
     Read (txn 1) (item 0) ∷
@@ -193,7 +193,7 @@ outcomes =
     Value (pos 6) ∷
     Committed ∷
     [])
-    (0 ∷ 0 ∷ 0 ∷ []) (found 1 0 ([]) ∷ [])) ∷
+    (0 ∷ 0 ∷ 0 ∷ []) (audit 1 0 ([]) ∷ [])) ∷
     (outcome (Begun (txn 1) ∷
     Begun (txn 2) ∷
     Begun (txn 3) ∷
@@ -223,7 +223,7 @@ outcomes =
     Refused AlreadyEnded ∷
     Refused AlreadyEnded ∷
     [])
-    (0 ∷ 0 ∷ 0 ∷ []) (found 2 0 ([]) ∷ [])) ∷
+    (0 ∷ 0 ∷ 0 ∷ []) (audit 2 0 ([]) ∷ [])) ∷
     (outcome (Begun (txn 1) ∷
     Begun (txn 2) ∷
     Begun (txn 3) ∷
@@ -234,7 +234,7 @@ outcomes =
     Committed ∷
     Committed ∷
     [])
-    (0 ∷ 0 ∷ 0 ∷ 0 ∷ []) (found 2 0 ([]) ∷ found 4 0 ([]) ∷ [])) ∷
+    (0 ∷ 0 ∷ 0 ∷ 0 ∷ []) (audit 2 0 ([]) ∷ audit 4 0 ([]) ∷ [])) ∷
     (outcome (Begun (txn 1) ∷
     Begun (txn 2) ∷
     Begun (txn 3) ∷
@@ -253,7 +253,7 @@ outcomes =
     Committed ∷
     Committed ∷
     [])
-    (0 ∷ 0 ∷ 0 ∷ 0 ∷ 0 ∷ []) (found 3 0 ([]) ∷ found 5 0 (2 ∷ []) ∷ [])) ∷
+    (0 ∷ 0 ∷ 0 ∷ 0 ∷ 0 ∷ []) (audit 3 0 ([]) ∷ audit 5 0 (2 ∷ []) ∷ [])) ∷
     (outcome (Begun (txn 1) ∷
     Begun (txn 2) ∷
     Value (pos 9) ∷
@@ -269,7 +269,7 @@ outcomes =
     Value (pos 2) ∷
     Committed ∷
     [])
-    (0 ∷ 0 ∷ []) (found 2 0 ([]) ∷ [])) ∷
+    (0 ∷ 0 ∷ []) (audit 2 0 ([]) ∷ [])) ∷
     (outcome (Begun (txn 1) ∷
     Begun (txn 2) ∷
     Value (pos 1) ∷
@@ -289,7 +289,7 @@ outcomes =
     Aborted ∷
     Committed ∷
     [])
-    (0 ∷ 0 ∷ 0 ∷ 0 ∷ 0 ∷ []) (found 1 0 ([]) ∷ found 2 0 ([]) ∷ [])) ∷
+    (0 ∷ 0 ∷ 0 ∷ 0 ∷ 0 ∷ []) (audit 1 0 ([]) ∷ audit 2 0 ([]) ∷ [])) ∷
     (outcome (Begun (txn 1) ∷
     Begun (txn 2) ∷
     Value (pos 8) ∷
@@ -308,7 +308,7 @@ outcomes =
     Committed ∷
     Committed ∷
     [])
-    (0 ∷ 0 ∷ 0 ∷ 0 ∷ 0 ∷ []) (found 4 0 ([]) ∷ [])) ∷
+    (0 ∷ 0 ∷ 0 ∷ 0 ∷ 0 ∷ []) (audit 4 0 ([]) ∷ [])) ∷
     (outcome (Begun (txn 1) ∷
     Begun (txn 2) ∷
     Value (negsuc 2) ∷
@@ -328,7 +328,7 @@ outcomes =
     Committed ∷
     Committed ∷
     [])
-    (0 ∷ 0 ∷ 0 ∷ 0 ∷ []) (found 3 0 ([]) ∷ found 4 0 ([]) ∷ [])) ∷
+    (0 ∷ 0 ∷ 0 ∷ 0 ∷ []) (audit 3 0 ([]) ∷ audit 4 0 ([]) ∷ [])) ∷
     (outcome (Begun (txn 1) ∷
     Begun (txn 2) ∷
     Value (pos 1) ∷

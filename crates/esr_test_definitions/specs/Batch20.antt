@@ -2,13 +2,13 @@
 use Rattle.std.specs.Prelude.{◌≡◌, pos, negsuc, List, [], ◌∷◌, true, false, map}
 use Rattle.esr_history.specs.declared.event.Event.TheVariants.{BeginUpdate, BeginQuery, Read, Write, Commit, Abort}
 use Rattle.esr_history.specs.declared.event.Reply.TheVariants.{Begun, Value, Wrote, Committed, Aborted, Refused}
-use Rattle.esr_history.specs.declared.event.Refusal.TheVariants.{NoSuchTransaction, AlreadyEnded, NoSuchItem, QueryMayNotWrite, ValueOutOfRange, LimitOutOfRange, BlockedByLock, BlockedByImport, BlockedByExport}
+use Rattle.esr_history.specs.declared.event.Refusal.TheVariants.{NoSuchTransaction, AlreadyEnded, NoSuchItem, QueryMayNotWrite, LimitOutOfRange, BlockedByLock, BlockedByImport, BlockedByExport}
 use Rattle.esr_history.specs.Worked.{item, txn}
-use Rattle.esr_test_definitions.specs.Outcomes.{Outcome, Play, found, outcome, outcome_of, play}
+use Rattle.esr_test_definitions.specs.Outcomes.{History, Outcome, audit, history, outcome, outcome_of}
 
-abbrev pub inputs : List Play
+abbrev pub inputs : List History
 inputs =
-    (play (pos 5 ∷ pos 3 ∷ pos 9 ∷ []) (2 ∷ 2 ∷ 1 ∷ [])
+    (history (pos 5 ∷ pos 3 ∷ pos 9 ∷ []) (2 ∷ 2 ∷ 1 ∷ [])
     (BeginUpdate 60 ∷
     BeginQuery 3 false ∷
     Read (txn 2) (item 2) ∷
@@ -20,7 +20,7 @@ inputs =
     Commit (txn 2) ∷
     Commit (txn 3) ∷
     [])) ∷
-    (play (pos 0 ∷ []) (2 ∷ [])
+    (history (pos 0 ∷ []) (2 ∷ [])
     (BeginQuery 20 false ∷
     BeginUpdate 0 ∷
     Write (txn 2) (item 0) (pos 4) ∷
@@ -38,7 +38,7 @@ inputs =
     Commit (txn 3) ∷
     Commit (txn 4) ∷
     [])) ∷
-    (play (pos 2 ∷ pos 1 ∷ []) (1 ∷ 2 ∷ [])
+    (history (pos 2 ∷ pos 1 ∷ []) (1 ∷ 2 ∷ [])
     (BeginUpdate 9 ∷
     BeginQuery 3 false ∷
     Write (txn 1) (item 1) (pos 2) ∷
@@ -48,7 +48,7 @@ inputs =
     Read (txn 2) (item 0) ∷
     Commit (txn 1) ∷
     [])) ∷
-    (play (negsuc 1 ∷ pos 9 ∷ []) (1 ∷ 1 ∷ [])
+    (history (negsuc 1 ∷ pos 9 ∷ []) (1 ∷ 1 ∷ [])
     (BeginUpdate 9 ∷
     BeginUpdate 60 ∷
     BeginQuery 0 true ∷
@@ -68,7 +68,7 @@ inputs =
     Commit (txn 2) ∷
     Commit (txn 5) ∷
     [])) ∷
-    (play (pos 0 ∷ pos 0 ∷ []) (7 ∷ 2 ∷ [])
+    (history (pos 0 ∷ pos 0 ∷ []) (7 ∷ 2 ∷ [])
     (BeginUpdate 9 ∷
     BeginUpdate 3 ∷
     Read (txn 2) (item 1) ∷
@@ -86,7 +86,7 @@ inputs =
     Write (txn 2) (item 0) (pos 2) ∷
     Commit (txn 2) ∷
     [])) ∷
-    (play (pos 0 ∷ negsuc 0 ∷ negsuc 3 ∷ []) (7 ∷ 7 ∷ 7 ∷ [])
+    (history (pos 0 ∷ negsuc 0 ∷ negsuc 3 ∷ []) (7 ∷ 7 ∷ 7 ∷ [])
     (BeginUpdate 3 ∷
     BeginUpdate 0 ∷
     Write (txn 2) (item 2) (pos 5) ∷
@@ -97,7 +97,7 @@ inputs =
     Commit (txn 1) ∷
     Commit (txn 4) ∷
     [])) ∷
-    (play (pos 1 ∷ pos 4 ∷ pos 1 ∷ []) (7 ∷ 7 ∷ 2 ∷ [])
+    (history (pos 1 ∷ pos 4 ∷ pos 1 ∷ []) (7 ∷ 7 ∷ 2 ∷ [])
     (BeginUpdate 3 ∷
     BeginUpdate 60 ∷
     Read (txn 2) (item 0) ∷
@@ -111,7 +111,7 @@ inputs =
     Read (txn 1) (item 0) ∷
     Commit (txn 1) ∷
     [])) ∷
-    (play (negsuc 3 ∷ []) (1 ∷ [])
+    (history (negsuc 3 ∷ []) (1 ∷ [])
     (BeginUpdate 60 ∷
     BeginUpdate 1000000000000000000 ∷
     Read (txn 1) (item 0) ∷
@@ -126,7 +126,7 @@ inputs =
     Commit (txn 1) ∷
     Commit (txn 2) ∷
     [])) ∷
-    (play (pos 1 ∷ pos 2 ∷ []) (7 ∷ 1 ∷ [])
+    (history (pos 1 ∷ pos 2 ∷ []) (7 ∷ 1 ∷ [])
     (BeginUpdate 9 ∷
     BeginUpdate 1000000000000000000 ∷
     Write (txn 1) (item 1) (pos 0) ∷
@@ -139,7 +139,7 @@ inputs =
     Read (txn 1) (item 0) ∷
     Commit (txn 1) ∷
     [])) ∷
-    (play (pos 6 ∷ negsuc 0 ∷ []) (1 ∷ 1 ∷ [])
+    (history (pos 6 ∷ negsuc 0 ∷ []) (1 ∷ 1 ∷ [])
     (BeginQuery 20 false ∷
     BeginQuery 1000000000000000000 false ∷
     Commit (txn 1) ∷
@@ -165,7 +165,7 @@ outcomes =
     Committed ∷
     Committed ∷
     [])
-    (0 ∷ 0 ∷ 0 ∷ []) (found 2 0 ([]) ∷ found 3 0 ([]) ∷ [])) ∷
+    (0 ∷ 0 ∷ 0 ∷ []) (audit 2 0 ([]) ∷ audit 3 0 ([]) ∷ [])) ∷
     (outcome (Begun (txn 1) ∷
     Begun (txn 2) ∷
     Wrote ∷
@@ -183,7 +183,7 @@ outcomes =
     Committed ∷
     Committed ∷
     [])
-    (0 ∷ 0 ∷ 0 ∷ 0 ∷ []) (found 1 0 ([]) ∷ [])) ∷
+    (0 ∷ 0 ∷ 0 ∷ 0 ∷ []) (audit 1 0 ([]) ∷ [])) ∷
     (outcome (Begun (txn 1) ∷
     Begun (txn 2) ∷
     Wrote ∷
@@ -213,7 +213,7 @@ outcomes =
     Committed ∷
     Committed ∷
     [])
-    (0 ∷ 0 ∷ 0 ∷ 0 ∷ 0 ∷ []) (found 5 0 ([]) ∷ [])) ∷
+    (0 ∷ 0 ∷ 0 ∷ 0 ∷ 0 ∷ []) (audit 5 0 ([]) ∷ [])) ∷
     (outcome (Begun (txn 1) ∷
     Begun (txn 2) ∷
     Value (pos 0) ∷
@@ -231,7 +231,7 @@ outcomes =
     Wrote ∷
     Committed ∷
     [])
-    (0 ∷ 0 ∷ 0 ∷ 0 ∷ []) (found 3 0 ([]) ∷ [])) ∷
+    (0 ∷ 0 ∷ 0 ∷ 0 ∷ []) (audit 3 0 ([]) ∷ [])) ∷
     (outcome (Begun (txn 1) ∷
     Begun (txn 2) ∷
     Wrote ∷
@@ -295,7 +295,7 @@ outcomes =
     Refused AlreadyEnded ∷
     Refused AlreadyEnded ∷
     [])
-    (0 ∷ 0 ∷ []) (found 1 0 ([]) ∷ [])) ∷
+    (0 ∷ 0 ∷ []) (audit 1 0 ([]) ∷ [])) ∷
     []
 
 -- the definitions find the outcome of each history

@@ -2,13 +2,13 @@
 use Rattle.std.specs.Prelude.{◌≡◌, pos, negsuc, List, [], ◌∷◌, true, false, map}
 use Rattle.esr_history.specs.declared.event.Event.TheVariants.{BeginUpdate, BeginQuery, Read, Write, Commit, Abort}
 use Rattle.esr_history.specs.declared.event.Reply.TheVariants.{Begun, Value, Wrote, Committed, Aborted, Refused}
-use Rattle.esr_history.specs.declared.event.Refusal.TheVariants.{NoSuchTransaction, AlreadyEnded, NoSuchItem, QueryMayNotWrite, ValueOutOfRange, LimitOutOfRange, BlockedByLock, BlockedByImport, BlockedByExport}
+use Rattle.esr_history.specs.declared.event.Refusal.TheVariants.{NoSuchTransaction, AlreadyEnded, NoSuchItem, QueryMayNotWrite, ValueOutOfRange, LimitOutOfRange, BlockedByLock, BlockedByExport}
 use Rattle.esr_history.specs.Worked.{item, txn}
-use Rattle.esr_test_definitions.specs.Outcomes.{Outcome, Play, found, outcome, outcome_of, play}
+use Rattle.esr_test_definitions.specs.Outcomes.{History, Outcome, audit, history, outcome, outcome_of}
 
-abbrev pub inputs : List Play
+abbrev pub inputs : List History
 inputs =
-    (play (pos 7 ∷ []) (1 ∷ [])
+    (history (pos 7 ∷ []) (1 ∷ [])
     (BeginUpdate 60 ∷
     BeginUpdate 20 ∷
     BeginUpdate 1000000000000000000 ∷
@@ -23,7 +23,7 @@ inputs =
     Commit (txn 2) ∷
     Commit (txn 3) ∷
     [])) ∷
-    (play (pos 4 ∷ []) (1 ∷ [])
+    (history (pos 4 ∷ []) (1 ∷ [])
     (BeginUpdate 1000000000000000001 ∷
     BeginUpdate 1000000000000000000 ∷
     BeginUpdate 0 ∷
@@ -35,7 +35,7 @@ inputs =
     Commit (txn 2) ∷
     Commit (txn 3) ∷
     [])) ∷
-    (play (pos 7 ∷ []) (1 ∷ [])
+    (history (pos 7 ∷ []) (1 ∷ [])
     (BeginQuery 60 true ∷
     BeginUpdate 1000000000000000000 ∷
     Read (txn 2) (item 0) ∷
@@ -49,7 +49,7 @@ inputs =
     Commit (txn 1) ∷
     Commit (txn 2) ∷
     [])) ∷
-    (play (negsuc 3 ∷ pos 0 ∷ pos 4 ∷ []) (1 ∷ 1 ∷ 1 ∷ [])
+    (history (negsuc 3 ∷ pos 0 ∷ pos 4 ∷ []) (1 ∷ 1 ∷ 1 ∷ [])
     (BeginQuery 1000000000000000001 false ∷
     BeginQuery 20 false ∷
     BeginQuery 20 true ∷
@@ -61,7 +61,7 @@ inputs =
     Commit (txn 1) ∷
     Commit (txn 2) ∷
     [])) ∷
-    (play (pos 9 ∷ []) (1 ∷ [])
+    (history (pos 9 ∷ []) (1 ∷ [])
     (BeginUpdate 1000000000000000000 ∷
     BeginUpdate 1000000000000000000 ∷
     Write (txn 2) (item 0) (negsuc 6) ∷
@@ -75,7 +75,7 @@ inputs =
     Write (txn 1) (item 0) (negsuc 1000000000000) ∷
     Commit (txn 1) ∷
     [])) ∷
-    (play (pos 4 ∷ []) (1 ∷ [])
+    (history (pos 4 ∷ []) (1 ∷ [])
     (BeginUpdate 20 ∷
     BeginUpdate 20 ∷
     Write (txn 2) (item 0) (negsuc 4) ∷
@@ -88,7 +88,7 @@ inputs =
     Commit (txn 1) ∷
     Commit (txn 2) ∷
     [])) ∷
-    (play (pos 6 ∷ []) (2 ∷ [])
+    (history (pos 6 ∷ []) (2 ∷ [])
     (BeginUpdate 9 ∷
     BeginQuery 60 false ∷
     Write (txn 1) (item 0) (pos 9) ∷
@@ -107,7 +107,7 @@ inputs =
     Commit (txn 4) ∷
     Commit (txn 5) ∷
     [])) ∷
-    (play (negsuc 4 ∷ negsuc 2 ∷ pos 2 ∷ []) (7 ∷ 7 ∷ 1 ∷ [])
+    (history (negsuc 4 ∷ negsuc 2 ∷ pos 2 ∷ []) (7 ∷ 7 ∷ 1 ∷ [])
     (BeginUpdate 60 ∷
     BeginQuery 60 true ∷
     Commit (txn 1) ∷
@@ -126,7 +126,7 @@ inputs =
     Commit (txn 3) ∷
     Commit (txn 4) ∷
     [])) ∷
-    (play (pos 1 ∷ []) (1 ∷ [])
+    (history (pos 1 ∷ []) (1 ∷ [])
     (BeginUpdate 20 ∷
     BeginUpdate 20 ∷
     Read (txn 3) (item 0) ∷
@@ -142,7 +142,7 @@ inputs =
     Commit (txn 1) ∷
     Commit (txn 2) ∷
     [])) ∷
-    (play (pos 6 ∷ []) (2 ∷ [])
+    (history (pos 6 ∷ []) (2 ∷ [])
     (BeginUpdate 9 ∷
     BeginUpdate 0 ∷
     Read (txn 2) (item 0) ∷
@@ -199,7 +199,7 @@ outcomes =
     Committed ∷
     Committed ∷
     [])
-    (0 ∷ 0 ∷ 0 ∷ []) (found 1 0 ([]) ∷ [])) ∷
+    (0 ∷ 0 ∷ 0 ∷ []) (audit 1 0 ([]) ∷ [])) ∷
     (outcome (Refused LimitOutOfRange ∷
     Begun (txn 1) ∷
     Begun (txn 2) ∷
@@ -211,7 +211,7 @@ outcomes =
     Committed ∷
     Committed ∷
     [])
-    (0 ∷ 0 ∷ 0 ∷ []) (found 1 0 ([]) ∷ found 2 0 ([]) ∷ [])) ∷
+    (0 ∷ 0 ∷ 0 ∷ []) (audit 1 0 ([]) ∷ audit 2 0 ([]) ∷ [])) ∷
     (outcome (Begun (txn 1) ∷
     Begun (txn 2) ∷
     Wrote ∷
@@ -257,7 +257,7 @@ outcomes =
     Committed ∷
     Committed ∷
     [])
-    (0 ∷ 0 ∷ 0 ∷ 0 ∷ 0 ∷ []) (found 5 0 ([]) ∷ [])) ∷
+    (0 ∷ 0 ∷ 0 ∷ 0 ∷ 0 ∷ []) (audit 5 0 ([]) ∷ [])) ∷
     (outcome (Begun (txn 1) ∷
     Begun (txn 2) ∷
     Committed ∷
@@ -276,7 +276,7 @@ outcomes =
     Committed ∷
     Committed ∷
     [])
-    (0 ∷ 0 ∷ 0 ∷ 0 ∷ []) (found 3 0 ([]) ∷ found 4 0 ([]) ∷ [])) ∷
+    (0 ∷ 0 ∷ 0 ∷ 0 ∷ []) (audit 3 0 ([]) ∷ audit 4 0 ([]) ∷ [])) ∷
     (outcome (Begun (txn 1) ∷
     Begun (txn 2) ∷
     Refused NoSuchTransaction ∷
@@ -292,7 +292,7 @@ outcomes =
     Committed ∷
     Committed ∷
     [])
-    (9 ∷ 0 ∷ 9 ∷ []) (found 3 9 ([]) ∷ [])) ∷
+    (9 ∷ 0 ∷ 9 ∷ []) (audit 3 9 ([]) ∷ [])) ∷
     (outcome (Begun (txn 1) ∷
     Begun (txn 2) ∷
     Value (pos 6) ∷

@@ -2,13 +2,13 @@
 use Rattle.std.specs.Prelude.{◌≡◌, pos, negsuc, List, [], ◌∷◌, true, false, map}
 use Rattle.esr_history.specs.declared.event.Event.TheVariants.{BeginUpdate, BeginQuery, Read, Write, Commit, Abort}
 use Rattle.esr_history.specs.declared.event.Reply.TheVariants.{Begun, Value, Wrote, Committed, Aborted, Refused}
-use Rattle.esr_history.specs.declared.event.Refusal.TheVariants.{NoSuchTransaction, AlreadyEnded, NoSuchItem, QueryMayNotWrite, ValueOutOfRange, LimitOutOfRange, BlockedByLock, BlockedByImport, BlockedByExport}
+use Rattle.esr_history.specs.declared.event.Refusal.TheVariants.{NoSuchTransaction, AlreadyEnded, QueryMayNotWrite, LimitOutOfRange, BlockedByLock, BlockedByImport, BlockedByExport}
 use Rattle.esr_history.specs.Worked.{item, txn}
-use Rattle.esr_test_definitions.specs.Outcomes.{Outcome, Play, found, outcome, outcome_of, play}
+use Rattle.esr_test_definitions.specs.Outcomes.{History, Outcome, audit, history, outcome, outcome_of}
 
-abbrev pub inputs : List Play
+abbrev pub inputs : List History
 inputs =
-    (play (pos 9 ∷ negsuc 3 ∷ negsuc 1 ∷ []) (7 ∷ 1 ∷ 1 ∷ [])
+    (history (pos 9 ∷ negsuc 3 ∷ negsuc 1 ∷ []) (7 ∷ 1 ∷ 1 ∷ [])
     (BeginUpdate 0 ∷
     BeginUpdate 1000000000000000001 ∷
     BeginQuery 1000000000000000000 true ∷
@@ -22,7 +22,7 @@ inputs =
     Read (txn 3) (item 0) ∷
     Commit (txn 4) ∷
     [])) ∷
-    (play (pos 7 ∷ []) (7 ∷ [])
+    (history (pos 7 ∷ []) (7 ∷ [])
     (BeginQuery 20 false ∷
     BeginQuery 1000000000000000000 false ∷
     Abort (txn 1) ∷
@@ -37,7 +37,7 @@ inputs =
     Read (txn 3) (item 0) ∷
     Commit (txn 3) ∷
     [])) ∷
-    (play (pos 7 ∷ []) (1 ∷ [])
+    (history (pos 7 ∷ []) (1 ∷ [])
     (BeginQuery 20 true ∷
     BeginQuery 60 false ∷
     Read (txn 1) (item 0) ∷
@@ -56,7 +56,7 @@ inputs =
     Commit (txn 3) ∷
     Commit (txn 4) ∷
     [])) ∷
-    (play (pos 4 ∷ pos 5 ∷ negsuc 0 ∷ []) (1 ∷ 1 ∷ 1 ∷ [])
+    (history (pos 4 ∷ pos 5 ∷ negsuc 0 ∷ []) (1 ∷ 1 ∷ 1 ∷ [])
     (BeginUpdate 9 ∷
     BeginUpdate 3 ∷
     Write (txn 1) (item 2) (negsuc 4) ∷
@@ -78,7 +78,7 @@ inputs =
     Commit (txn 4) ∷
     Commit (txn 5) ∷
     [])) ∷
-    (play (pos 3 ∷ []) (7 ∷ [])
+    (history (pos 3 ∷ []) (7 ∷ [])
     (BeginQuery 3 false ∷
     BeginUpdate 60 ∷
     Read (txn 2) (item 0) ∷
@@ -89,7 +89,7 @@ inputs =
     Abort (txn 1) ∷
     Commit (txn 2) ∷
     [])) ∷
-    (play (pos 2 ∷ pos 6 ∷ []) (7 ∷ 2 ∷ [])
+    (history (pos 2 ∷ pos 6 ∷ []) (7 ∷ 2 ∷ [])
     (BeginUpdate 1000000000000000001 ∷
     BeginUpdate 0 ∷
     BeginQuery 3 false ∷
@@ -105,7 +105,7 @@ inputs =
     Write (txn 1) (item 0) (pos 14) ∷
     Read (txn 1) (item 0) ∷
     [])) ∷
-    (play (pos 0 ∷ []) (7 ∷ [])
+    (history (pos 0 ∷ []) (7 ∷ [])
     (BeginUpdate 0 ∷
     BeginUpdate 20 ∷
     Read (txn 1) (item 0) ∷
@@ -121,7 +121,7 @@ inputs =
     Commit (txn 1) ∷
     Write (txn 1) (item 0) (pos 0) ∷
     [])) ∷
-    (play (pos 1 ∷ negsuc 3 ∷ []) (7 ∷ 7 ∷ [])
+    (history (pos 1 ∷ negsuc 3 ∷ []) (7 ∷ 7 ∷ [])
     (BeginQuery 9 false ∷
     BeginQuery 0 false ∷
     Read (txn 1) (item 1) ∷
@@ -141,7 +141,7 @@ inputs =
     Commit (txn 4) ∷
     Commit (txn 5) ∷
     [])) ∷
-    (play (pos 3 ∷ []) (1 ∷ [])
+    (history (pos 3 ∷ []) (1 ∷ [])
     (BeginQuery 0 false ∷
     BeginUpdate 0 ∷
     Commit (txn 2) ∷
@@ -151,7 +151,7 @@ inputs =
     Write (txn 1) (item 0) (pos 11) ∷
     Read (txn 1) (item 0) ∷
     [])) ∷
-    (play (pos 4 ∷ []) (7 ∷ [])
+    (history (pos 4 ∷ []) (7 ∷ [])
     (BeginUpdate 3 ∷
     BeginQuery 60 false ∷
     Read (txn 1) (item 0) ∷
@@ -185,7 +185,7 @@ outcomes =
     Value (pos 9) ∷
     Committed ∷
     [])
-    (0 ∷ 0 ∷ 0 ∷ 0 ∷ []) (found 2 0 ([]) ∷ found 4 0 ([]) ∷ [])) ∷
+    (0 ∷ 0 ∷ 0 ∷ 0 ∷ []) (audit 2 0 ([]) ∷ audit 4 0 ([]) ∷ [])) ∷
     (outcome (Begun (txn 1) ∷
     Begun (txn 2) ∷
     Aborted ∷
@@ -200,7 +200,7 @@ outcomes =
     Value (pos 12) ∷
     Committed ∷
     [])
-    (0 ∷ 0 ∷ 0 ∷ 0 ∷ []) (found 2 0 ([]) ∷ found 4 0 ([]) ∷ [])) ∷
+    (0 ∷ 0 ∷ 0 ∷ 0 ∷ []) (audit 2 0 ([]) ∷ audit 4 0 ([]) ∷ [])) ∷
     (outcome (Begun (txn 1) ∷
     Begun (txn 2) ∷
     Value (pos 7) ∷
@@ -219,7 +219,7 @@ outcomes =
     Committed ∷
     Committed ∷
     [])
-    (0 ∷ 0 ∷ 0 ∷ 0 ∷ []) (found 1 0 ([]) ∷ found 2 0 ([]) ∷ found 3 0 ([]) ∷ [])) ∷
+    (0 ∷ 0 ∷ 0 ∷ 0 ∷ []) (audit 1 0 ([]) ∷ audit 2 0 ([]) ∷ audit 3 0 ([]) ∷ [])) ∷
     (outcome (Begun (txn 1) ∷
     Begun (txn 2) ∷
     Wrote ∷
@@ -241,7 +241,7 @@ outcomes =
     Committed ∷
     Committed ∷
     [])
-    (4 ∷ 0 ∷ 4 ∷ 0 ∷ 0 ∷ []) (found 3 0 (1 ∷ []) ∷ [])) ∷
+    (4 ∷ 0 ∷ 4 ∷ 0 ∷ 0 ∷ []) (audit 3 0 (1 ∷ []) ∷ [])) ∷
     (outcome (Begun (txn 1) ∷
     Begun (txn 2) ∷
     Value (pos 3) ∷
@@ -304,7 +304,7 @@ outcomes =
     Committed ∷
     Committed ∷
     [])
-    (7 ∷ 0 ∷ 7 ∷ 0 ∷ 0 ∷ []) (found 1 7 ([]) ∷ found 2 0 ([]) ∷ found 5 0 ([]) ∷ [])) ∷
+    (7 ∷ 0 ∷ 7 ∷ 0 ∷ 0 ∷ []) (audit 1 7 ([]) ∷ audit 2 0 ([]) ∷ audit 5 0 ([]) ∷ [])) ∷
     (outcome (Begun (txn 1) ∷
     Begun (txn 2) ∷
     Committed ∷
@@ -331,7 +331,7 @@ outcomes =
     Wrote ∷
     Committed ∷
     [])
-    (0 ∷ 0 ∷ 0 ∷ []) (found 2 0 ([]) ∷ [])) ∷
+    (0 ∷ 0 ∷ 0 ∷ []) (audit 2 0 ([]) ∷ [])) ∷
     []
 
 -- the definitions find the outcome of each history

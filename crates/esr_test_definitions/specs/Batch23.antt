@@ -2,13 +2,13 @@
 use Rattle.std.specs.Prelude.{◌≡◌, pos, negsuc, List, [], ◌∷◌, true, false, map}
 use Rattle.esr_history.specs.declared.event.Event.TheVariants.{BeginUpdate, BeginQuery, Read, Write, Commit, Abort}
 use Rattle.esr_history.specs.declared.event.Reply.TheVariants.{Begun, Value, Wrote, Committed, Aborted, Refused}
-use Rattle.esr_history.specs.declared.event.Refusal.TheVariants.{NoSuchTransaction, AlreadyEnded, NoSuchItem, QueryMayNotWrite, ValueOutOfRange, LimitOutOfRange, BlockedByLock, BlockedByImport, BlockedByExport}
+use Rattle.esr_history.specs.declared.event.Refusal.TheVariants.{NoSuchTransaction, AlreadyEnded, QueryMayNotWrite, ValueOutOfRange, LimitOutOfRange, BlockedByLock, BlockedByImport, BlockedByExport}
 use Rattle.esr_history.specs.Worked.{item, txn}
-use Rattle.esr_test_definitions.specs.Outcomes.{Outcome, Play, found, outcome, outcome_of, play}
+use Rattle.esr_test_definitions.specs.Outcomes.{History, Outcome, audit, history, outcome, outcome_of}
 
-abbrev pub inputs : List Play
+abbrev pub inputs : List History
 inputs =
-    (play (negsuc 2 ∷ pos 0 ∷ pos 6 ∷ []) (1 ∷ 7 ∷ 7 ∷ [])
+    (history (negsuc 2 ∷ pos 0 ∷ pos 6 ∷ []) (1 ∷ 7 ∷ 7 ∷ [])
     (BeginUpdate 9 ∷
     BeginQuery 20 false ∷
     Write (txn 1) (item 0) (negsuc 4) ∷
@@ -22,7 +22,7 @@ inputs =
     Read (txn 3) (item 2) ∷
     Commit (txn 2) ∷
     [])) ∷
-    (play (negsuc 2 ∷ negsuc 3 ∷ []) (7 ∷ 1 ∷ [])
+    (history (negsuc 2 ∷ negsuc 3 ∷ []) (7 ∷ 1 ∷ [])
     (BeginQuery 9 false ∷
     BeginUpdate 0 ∷
     Write (txn 2) (item 0) (negsuc 4) ∷
@@ -33,7 +33,7 @@ inputs =
     Read (txn 2) (item 0) ∷
     Commit (txn 1) ∷
     [])) ∷
-    (play (negsuc 0 ∷ pos 4 ∷ []) (1 ∷ 2 ∷ [])
+    (history (negsuc 0 ∷ pos 4 ∷ []) (1 ∷ 2 ∷ [])
     (BeginQuery 1000000000000000001 false ∷
     BeginUpdate 1000000000000000000 ∷
     BeginUpdate 20 ∷
@@ -44,7 +44,7 @@ inputs =
     Commit (txn 2) ∷
     Commit (txn 1) ∷
     [])) ∷
-    (play (pos 3 ∷ negsuc 3 ∷ []) (2 ∷ 1 ∷ [])
+    (history (pos 3 ∷ negsuc 3 ∷ []) (2 ∷ 1 ∷ [])
     (BeginUpdate 0 ∷
     BeginQuery 20 false ∷
     Read (txn 1) (item 1) ∷
@@ -61,7 +61,7 @@ inputs =
     Commit (txn 1) ∷
     Commit (txn 3) ∷
     [])) ∷
-    (play (pos 2 ∷ negsuc 1 ∷ negsuc 2 ∷ []) (2 ∷ 1 ∷ 7 ∷ [])
+    (history (pos 2 ∷ negsuc 1 ∷ negsuc 2 ∷ []) (2 ∷ 1 ∷ 7 ∷ [])
     (BeginQuery 9 false ∷
     BeginQuery 20 false ∷
     Read (txn 2) (item 0) ∷
@@ -78,7 +78,7 @@ inputs =
     Commit (txn 4) ∷
     Commit (txn 5) ∷
     [])) ∷
-    (play (pos 6 ∷ []) (1 ∷ [])
+    (history (pos 6 ∷ []) (1 ∷ [])
     (BeginUpdate 0 ∷
     BeginQuery 9 true ∷
     Read (txn 2) (item 0) ∷
@@ -87,7 +87,7 @@ inputs =
     Commit (txn 1) ∷
     Write (txn 1) (item 0) (pos 6) ∷
     [])) ∷
-    (play (pos 9 ∷ negsuc 0 ∷ []) (1 ∷ 2 ∷ [])
+    (history (pos 9 ∷ negsuc 0 ∷ []) (1 ∷ 2 ∷ [])
     (BeginUpdate 1000000000000000000 ∷
     BeginUpdate 0 ∷
     BeginUpdate 20 ∷
@@ -106,7 +106,7 @@ inputs =
     Commit (txn 4) ∷
     Commit (txn 5) ∷
     [])) ∷
-    (play (pos 5 ∷ pos 2 ∷ []) (1 ∷ 1 ∷ [])
+    (history (pos 5 ∷ pos 2 ∷ []) (1 ∷ 1 ∷ [])
     (BeginQuery 20 false ∷
     BeginUpdate 3 ∷
     Read (txn 2) (item 1) ∷
@@ -122,7 +122,7 @@ inputs =
     Read (txn 1) (item 0) ∷
     Read (txn 1) (item 0) ∷
     [])) ∷
-    (play (negsuc 4 ∷ pos 4 ∷ pos 3 ∷ []) (2 ∷ 1 ∷ 1 ∷ [])
+    (history (negsuc 4 ∷ pos 4 ∷ pos 3 ∷ []) (2 ∷ 1 ∷ 1 ∷ [])
     (BeginQuery 0 false ∷
     BeginUpdate 0 ∷
     Read (txn 1) (item 1) ∷
@@ -137,7 +137,7 @@ inputs =
     Commit (txn 2) ∷
     Commit (txn 1) ∷
     [])) ∷
-    (play (negsuc 0 ∷ pos 9 ∷ []) (1 ∷ 1 ∷ [])
+    (history (negsuc 0 ∷ pos 9 ∷ []) (1 ∷ 1 ∷ [])
     (BeginUpdate 3 ∷
     BeginUpdate 3 ∷
     Read (txn 1) (item 1) ∷
@@ -166,7 +166,7 @@ outcomes =
     Value (pos 6) ∷
     Committed ∷
     [])
-    (0 ∷ 0 ∷ 0 ∷ 0 ∷ 0 ∷ []) (found 2 0 ([]) ∷ [])) ∷
+    (0 ∷ 0 ∷ 0 ∷ 0 ∷ 0 ∷ []) (audit 2 0 ([]) ∷ [])) ∷
     (outcome (Begun (txn 1) ∷
     Begun (txn 2) ∷
     Wrote ∷
@@ -177,7 +177,7 @@ outcomes =
     Value (negsuc 4) ∷
     Committed ∷
     [])
-    (0 ∷ 0 ∷ 0 ∷ []) (found 1 0 ([]) ∷ [])) ∷
+    (0 ∷ 0 ∷ 0 ∷ []) (audit 1 0 ([]) ∷ [])) ∷
     (outcome (Refused LimitOutOfRange ∷
     Begun (txn 1) ∷
     Begun (txn 2) ∷
@@ -188,7 +188,7 @@ outcomes =
     Committed ∷
     Committed ∷
     [])
-    (0 ∷ 0 ∷ 0 ∷ []) (found 3 0 ([]) ∷ [])) ∷
+    (0 ∷ 0 ∷ 0 ∷ []) (audit 3 0 ([]) ∷ [])) ∷
     (outcome (Begun (txn 1) ∷
     Begun (txn 2) ∷
     Value (negsuc 3) ∷
@@ -205,7 +205,7 @@ outcomes =
     Committed ∷
     Committed ∷
     [])
-    (0 ∷ 0 ∷ 0 ∷ []) (found 2 0 ([]) ∷ [])) ∷
+    (0 ∷ 0 ∷ 0 ∷ []) (audit 2 0 ([]) ∷ [])) ∷
     (outcome (Begun (txn 1) ∷
     Begun (txn 2) ∷
     Value (pos 2) ∷
@@ -231,7 +231,7 @@ outcomes =
     Committed ∷
     Refused AlreadyEnded ∷
     [])
-    (0 ∷ 0 ∷ []) (found 2 0 ([]) ∷ [])) ∷
+    (0 ∷ 0 ∷ []) (audit 2 0 ([]) ∷ [])) ∷
     (outcome (Begun (txn 1) ∷
     Begun (txn 2) ∷
     Begun (txn 3) ∷
@@ -250,7 +250,7 @@ outcomes =
     Committed ∷
     Committed ∷
     [])
-    (0 ∷ 0 ∷ 14 ∷ 0 ∷ 14 ∷ []) (found 5 0 (3 ∷ []) ∷ [])) ∷
+    (0 ∷ 0 ∷ 14 ∷ 0 ∷ 14 ∷ []) (audit 5 0 (3 ∷ []) ∷ [])) ∷
     (outcome (Begun (txn 1) ∷
     Begun (txn 2) ∷
     Value (pos 2) ∷
@@ -266,7 +266,7 @@ outcomes =
     Refused AlreadyEnded ∷
     Refused AlreadyEnded ∷
     [])
-    (0 ∷ 0 ∷ 0 ∷ []) (found 1 0 ([]) ∷ [])) ∷
+    (0 ∷ 0 ∷ 0 ∷ []) (audit 1 0 ([]) ∷ [])) ∷
     (outcome (Begun (txn 1) ∷
     Begun (txn 2) ∷
     Value (pos 4) ∷
@@ -281,7 +281,7 @@ outcomes =
     Committed ∷
     Committed ∷
     [])
-    (0 ∷ 0 ∷ 0 ∷ []) (found 1 0 ([]) ∷ [])) ∷
+    (0 ∷ 0 ∷ 0 ∷ []) (audit 1 0 ([]) ∷ [])) ∷
     (outcome (Begun (txn 1) ∷
     Begun (txn 2) ∷
     Value (pos 9) ∷
@@ -293,7 +293,7 @@ outcomes =
     Committed ∷
     Committed ∷
     [])
-    (0 ∷ 0 ∷ 0 ∷ []) (found 3 0 ([]) ∷ [])) ∷
+    (0 ∷ 0 ∷ 0 ∷ []) (audit 3 0 ([]) ∷ [])) ∷
     []
 
 -- the definitions find the outcome of each history

@@ -2,13 +2,13 @@
 use Rattle.std.specs.Prelude.{◌≡◌, pos, negsuc, List, [], ◌∷◌, true, false, map}
 use Rattle.esr_history.specs.declared.event.Event.TheVariants.{BeginUpdate, BeginQuery, Read, Write, Commit, Abort}
 use Rattle.esr_history.specs.declared.event.Reply.TheVariants.{Begun, Value, Wrote, Committed, Aborted, Refused}
-use Rattle.esr_history.specs.declared.event.Refusal.TheVariants.{NoSuchTransaction, AlreadyEnded, NoSuchItem, QueryMayNotWrite, ValueOutOfRange, LimitOutOfRange, BlockedByLock, BlockedByImport, BlockedByExport}
+use Rattle.esr_history.specs.declared.event.Refusal.TheVariants.{NoSuchTransaction, NoSuchItem, QueryMayNotWrite, ValueOutOfRange, LimitOutOfRange, BlockedByLock, BlockedByImport, BlockedByExport}
 use Rattle.esr_history.specs.Worked.{item, txn}
-use Rattle.esr_test_definitions.specs.Outcomes.{Outcome, Play, found, outcome, outcome_of, play}
+use Rattle.esr_test_definitions.specs.Outcomes.{History, Outcome, audit, history, outcome, outcome_of}
 
-abbrev pub inputs : List Play
+abbrev pub inputs : List History
 inputs =
-    (play (negsuc 4 ∷ pos 7 ∷ negsuc 4 ∷ []) (2 ∷ 7 ∷ 7 ∷ [])
+    (history (negsuc 4 ∷ pos 7 ∷ negsuc 4 ∷ []) (2 ∷ 7 ∷ 7 ∷ [])
     (BeginQuery 20 true ∷
     BeginQuery 9 false ∷
     Write (txn 1) (item 0) (negsuc 1000000000000) ∷
@@ -20,7 +20,7 @@ inputs =
     Commit (txn 2) ∷
     Abort (txn 3) ∷
     [])) ∷
-    (play (pos 0 ∷ pos 4 ∷ negsuc 4 ∷ []) (7 ∷ 1 ∷ 1 ∷ [])
+    (history (pos 0 ∷ pos 4 ∷ negsuc 4 ∷ []) (7 ∷ 1 ∷ 1 ∷ [])
     (BeginQuery 60 false ∷
     BeginUpdate 20 ∷
     Read (txn 1) (item 1) ∷
@@ -35,7 +35,7 @@ inputs =
     Commit (txn 3) ∷
     Commit (txn 4) ∷
     [])) ∷
-    (play (pos 8 ∷ negsuc 1 ∷ []) (7 ∷ 1 ∷ [])
+    (history (pos 8 ∷ negsuc 1 ∷ []) (7 ∷ 1 ∷ [])
     (BeginUpdate 9 ∷
     BeginUpdate 3 ∷
     Read (txn 1) (item 0) ∷
@@ -48,7 +48,7 @@ inputs =
     Abort (txn 2) ∷
     Commit (txn 4) ∷
     [])) ∷
-    (play (pos 4 ∷ []) (1 ∷ [])
+    (history (pos 4 ∷ []) (1 ∷ [])
     (BeginUpdate 9 ∷
     BeginUpdate 3 ∷
     Read (txn 2) (item 0) ∷
@@ -61,7 +61,7 @@ inputs =
     Commit (txn 2) ∷
     Commit (txn 3) ∷
     [])) ∷
-    (play (pos 9 ∷ pos 9 ∷ []) (7 ∷ 7 ∷ [])
+    (history (pos 9 ∷ pos 9 ∷ []) (7 ∷ 7 ∷ [])
     (BeginUpdate 1000000000000000001 ∷
     BeginQuery 0 false ∷
     BeginQuery 3 false ∷
@@ -73,7 +73,7 @@ inputs =
     Commit (txn 3) ∷
     Commit (txn 4) ∷
     [])) ∷
-    (play (negsuc 3 ∷ []) (1 ∷ [])
+    (history (negsuc 3 ∷ []) (1 ∷ [])
     (BeginUpdate 60 ∷
     BeginUpdate 1000000000000000000 ∷
     BeginUpdate 20 ∷
@@ -84,7 +84,7 @@ inputs =
     Commit (txn 1) ∷
     Commit (txn 3) ∷
     [])) ∷
-    (play (pos 5 ∷ pos 3 ∷ []) (2 ∷ 1 ∷ [])
+    (history (pos 5 ∷ pos 3 ∷ []) (2 ∷ 1 ∷ [])
     (BeginUpdate 20 ∷
     BeginUpdate 1000000000000000001 ∷
     BeginUpdate 0 ∷
@@ -102,7 +102,7 @@ inputs =
     Abort (txn 3) ∷
     Commit (txn 4) ∷
     [])) ∷
-    (play (negsuc 0 ∷ negsuc 3 ∷ []) (7 ∷ 7 ∷ [])
+    (history (negsuc 0 ∷ negsuc 3 ∷ []) (7 ∷ 7 ∷ [])
     (BeginUpdate 3 ∷
     BeginQuery 9 false ∷
     Commit (txn 2) ∷
@@ -119,7 +119,7 @@ inputs =
     Read (txn 3) (item 1) ∷
     Commit (txn 3) ∷
     [])) ∷
-    (play (pos 2 ∷ pos 1 ∷ pos 5 ∷ []) (7 ∷ 1 ∷ 1 ∷ [])
+    (history (pos 2 ∷ pos 1 ∷ pos 5 ∷ []) (7 ∷ 1 ∷ 1 ∷ [])
     (BeginQuery 1000000000000000000 false ∷
     BeginUpdate 0 ∷
     Write (txn 2) (item 0) (pos 13) ∷
@@ -135,7 +135,7 @@ inputs =
     Commit (txn 3) ∷
     Commit (txn 2) ∷
     [])) ∷
-    (play (pos 9 ∷ []) (7 ∷ [])
+    (history (pos 9 ∷ []) (7 ∷ [])
     (BeginUpdate 1000000000000000000 ∷
     BeginQuery 3 false ∷
     BeginQuery 9 true ∷
@@ -167,7 +167,7 @@ outcomes =
     Committed ∷
     Aborted ∷
     [])
-    (0 ∷ 0 ∷ 0 ∷ []) (found 1 0 ([]) ∷ found 2 0 ([]) ∷ [])) ∷
+    (0 ∷ 0 ∷ 0 ∷ []) (audit 1 0 ([]) ∷ audit 2 0 ([]) ∷ [])) ∷
     (outcome (Begun (txn 1) ∷
     Begun (txn 2) ∷
     Value (pos 4) ∷
@@ -182,7 +182,7 @@ outcomes =
     Committed ∷
     Committed ∷
     [])
-    (3 ∷ 0 ∷ 3 ∷ 0 ∷ []) (found 1 0 ([]) ∷ found 4 0 ([]) ∷ [])) ∷
+    (3 ∷ 0 ∷ 3 ∷ 0 ∷ []) (audit 1 0 ([]) ∷ audit 4 0 ([]) ∷ [])) ∷
     (outcome (Begun (txn 1) ∷
     Begun (txn 2) ∷
     Value (pos 8) ∷
@@ -220,7 +220,7 @@ outcomes =
     Committed ∷
     Committed ∷
     [])
-    (0 ∷ 0 ∷ 0 ∷ 0 ∷ []) (found 2 0 ([]) ∷ found 3 0 ([]) ∷ [])) ∷
+    (0 ∷ 0 ∷ 0 ∷ 0 ∷ []) (audit 2 0 ([]) ∷ audit 3 0 ([]) ∷ [])) ∷
     (outcome (Begun (txn 1) ∷
     Begun (txn 2) ∷
     Begun (txn 3) ∷
@@ -266,7 +266,7 @@ outcomes =
     Value (negsuc 3) ∷
     Committed ∷
     [])
-    (0 ∷ 0 ∷ 0 ∷ []) (found 2 0 ([]) ∷ found 3 0 (1 ∷ []) ∷ [])) ∷
+    (0 ∷ 0 ∷ 0 ∷ []) (audit 2 0 ([]) ∷ audit 3 0 (1 ∷ []) ∷ [])) ∷
     (outcome (Begun (txn 1) ∷
     Begun (txn 2) ∷
     Wrote ∷
@@ -282,7 +282,7 @@ outcomes =
     Committed ∷
     Committed ∷
     [])
-    (0 ∷ 0 ∷ 0 ∷ []) (found 1 0 ([]) ∷ found 3 0 ([]) ∷ [])) ∷
+    (0 ∷ 0 ∷ 0 ∷ []) (audit 1 0 ([]) ∷ audit 3 0 ([]) ∷ [])) ∷
     (outcome (Begun (txn 1) ∷
     Begun (txn 2) ∷
     Begun (txn 3) ∷
@@ -299,7 +299,7 @@ outcomes =
     Committed ∷
     Committed ∷
     [])
-    (0 ∷ 0 ∷ 0 ∷ 0 ∷ 0 ∷ []) (found 4 0 ([]) ∷ [])) ∷
+    (0 ∷ 0 ∷ 0 ∷ 0 ∷ 0 ∷ []) (audit 4 0 ([]) ∷ [])) ∷
     []
 
 -- the definitions find the outcome of each history

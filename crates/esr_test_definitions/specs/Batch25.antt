@@ -2,13 +2,13 @@
 use Rattle.std.specs.Prelude.{◌≡◌, pos, negsuc, List, [], ◌∷◌, true, false, map}
 use Rattle.esr_history.specs.declared.event.Event.TheVariants.{BeginUpdate, BeginQuery, Read, Write, Commit, Abort}
 use Rattle.esr_history.specs.declared.event.Reply.TheVariants.{Begun, Value, Wrote, Committed, Aborted, Refused}
-use Rattle.esr_history.specs.declared.event.Refusal.TheVariants.{NoSuchTransaction, AlreadyEnded, NoSuchItem, QueryMayNotWrite, ValueOutOfRange, LimitOutOfRange, BlockedByLock, BlockedByImport, BlockedByExport}
+use Rattle.esr_history.specs.declared.event.Refusal.TheVariants.{NoSuchTransaction, AlreadyEnded, NoSuchItem, QueryMayNotWrite, ValueOutOfRange, LimitOutOfRange, BlockedByLock, BlockedByImport}
 use Rattle.esr_history.specs.Worked.{item, txn}
-use Rattle.esr_test_definitions.specs.Outcomes.{Outcome, Play, found, outcome, outcome_of, play}
+use Rattle.esr_test_definitions.specs.Outcomes.{History, Outcome, audit, history, outcome, outcome_of}
 
-abbrev pub inputs : List Play
+abbrev pub inputs : List History
 inputs =
-    (play (negsuc 4 ∷ pos 3 ∷ pos 0 ∷ []) (7 ∷ 7 ∷ 1 ∷ [])
+    (history (negsuc 4 ∷ pos 3 ∷ pos 0 ∷ []) (7 ∷ 7 ∷ 1 ∷ [])
     (BeginUpdate 60 ∷
     BeginQuery 9 true ∷
     Read (txn 1) (item 1) ∷
@@ -21,7 +21,7 @@ inputs =
     Commit (txn 2) ∷
     Commit (txn 3) ∷
     [])) ∷
-    (play (pos 5 ∷ pos 9 ∷ []) (7 ∷ 2 ∷ [])
+    (history (pos 5 ∷ pos 9 ∷ []) (7 ∷ 2 ∷ [])
     (BeginUpdate 0 ∷
     BeginUpdate 9 ∷
     Write (txn 2) (item 0) (negsuc 1) ∷
@@ -42,7 +42,7 @@ inputs =
     Commit (txn 3) ∷
     Abort (txn 4) ∷
     [])) ∷
-    (play (pos 1 ∷ pos 7 ∷ []) (7 ∷ 1 ∷ [])
+    (history (pos 1 ∷ pos 7 ∷ []) (7 ∷ 1 ∷ [])
     (BeginUpdate 3 ∷
     BeginUpdate 9 ∷
     Read (txn 1) (item 0) ∷
@@ -55,7 +55,7 @@ inputs =
     Read (txn 3) (item 1) ∷
     Commit (txn 3) ∷
     [])) ∷
-    (play (pos 7 ∷ pos 6 ∷ pos 6 ∷ []) (7 ∷ 2 ∷ 1 ∷ [])
+    (history (pos 7 ∷ pos 6 ∷ pos 6 ∷ []) (7 ∷ 2 ∷ 1 ∷ [])
     (BeginUpdate 20 ∷
     BeginUpdate 9 ∷
     Write (txn 2) (item 2) (pos 7) ∷
@@ -68,7 +68,7 @@ inputs =
     Commit (txn 4) ∷
     Commit (txn 5) ∷
     [])) ∷
-    (play (negsuc 3 ∷ pos 1 ∷ []) (7 ∷ 1 ∷ [])
+    (history (negsuc 3 ∷ pos 1 ∷ []) (7 ∷ 1 ∷ [])
     (BeginUpdate 60 ∷
     BeginUpdate 9 ∷
     Write (txn 2) (item 0) (pos 13) ∷
@@ -83,7 +83,7 @@ inputs =
     Commit (txn 3) ∷
     Commit (txn 4) ∷
     [])) ∷
-    (play (negsuc 0 ∷ pos 7 ∷ []) (7 ∷ 7 ∷ [])
+    (history (negsuc 0 ∷ pos 7 ∷ []) (7 ∷ 7 ∷ [])
     (BeginQuery 20 false ∷
     BeginQuery 60 false ∷
     Abort (txn 2) ∷
@@ -100,7 +100,7 @@ inputs =
     Read (txn 3) (item 0) ∷
     Commit (txn 3) ∷
     [])) ∷
-    (play (negsuc 1 ∷ negsuc 3 ∷ []) (1 ∷ 7 ∷ [])
+    (history (negsuc 1 ∷ negsuc 3 ∷ []) (1 ∷ 7 ∷ [])
     (BeginQuery 0 false ∷
     BeginUpdate 3 ∷
     Read (txn 1) (item 1) ∷
@@ -116,7 +116,7 @@ inputs =
     Read (txn 1) (item 2) ∷
     Read (txn 1) (item 1) ∷
     [])) ∷
-    (play (pos 9 ∷ []) (1 ∷ [])
+    (history (pos 9 ∷ []) (1 ∷ [])
     (BeginQuery 1000000000000000000 false ∷
     BeginUpdate 1000000000000000000 ∷
     BeginUpdate 3 ∷
@@ -127,7 +127,7 @@ inputs =
     Commit (txn 2) ∷
     Commit (txn 3) ∷
     [])) ∷
-    (play (negsuc 2 ∷ pos 1 ∷ []) (2 ∷ 7 ∷ [])
+    (history (negsuc 2 ∷ pos 1 ∷ []) (2 ∷ 7 ∷ [])
     (BeginQuery 3 true ∷
     BeginUpdate 0 ∷
     Read (txn 1) (item 0) ∷
@@ -148,7 +148,7 @@ inputs =
     Commit (txn 4) ∷
     Commit (txn 5) ∷
     [])) ∷
-    (play (pos 1 ∷ pos 3 ∷ pos 0 ∷ []) (1 ∷ 1 ∷ 1 ∷ [])
+    (history (pos 1 ∷ pos 3 ∷ pos 0 ∷ []) (1 ∷ 1 ∷ 1 ∷ [])
     (BeginQuery 0 false ∷
     BeginUpdate 1000000000000000000 ∷
     BeginUpdate 3 ∷
@@ -182,7 +182,7 @@ outcomes =
     Committed ∷
     Committed ∷
     [])
-    (0 ∷ 0 ∷ 0 ∷ []) (found 2 0 ([]) ∷ [])) ∷
+    (0 ∷ 0 ∷ 0 ∷ []) (audit 2 0 ([]) ∷ [])) ∷
     (outcome (Begun (txn 1) ∷
     Begun (txn 2) ∷
     Wrote ∷
@@ -261,7 +261,7 @@ outcomes =
     Value (negsuc 0) ∷
     Committed ∷
     [])
-    (0 ∷ 0 ∷ 0 ∷ []) (found 1 0 ([]) ∷ found 3 0 ([]) ∷ [])) ∷
+    (0 ∷ 0 ∷ 0 ∷ []) (audit 1 0 ([]) ∷ audit 3 0 ([]) ∷ [])) ∷
     (outcome (Begun (txn 1) ∷
     Begun (txn 2) ∷
     Value (negsuc 3) ∷
@@ -309,7 +309,7 @@ outcomes =
     Committed ∷
     Committed ∷
     [])
-    (0 ∷ 0 ∷ 0 ∷ 0 ∷ 0 ∷ []) (found 1 0 ([]) ∷ found 3 0 ([]) ∷ found 4 0 ([]) ∷ [])) ∷
+    (0 ∷ 0 ∷ 0 ∷ 0 ∷ 0 ∷ []) (audit 1 0 ([]) ∷ audit 3 0 ([]) ∷ audit 4 0 ([]) ∷ [])) ∷
     (outcome (Begun (txn 1) ∷
     Begun (txn 2) ∷
     Begun (txn 3) ∷
@@ -327,7 +327,7 @@ outcomes =
     Committed ∷
     Committed ∷
     [])
-    (0 ∷ 0 ∷ 0 ∷ 0 ∷ 0 ∷ []) (found 1 0 ([]) ∷ [])) ∷
+    (0 ∷ 0 ∷ 0 ∷ 0 ∷ 0 ∷ []) (audit 1 0 ([]) ∷ [])) ∷
     []
 
 -- the definitions find the outcome of each history

@@ -2,13 +2,13 @@
 use Rattle.std.specs.Prelude.{◌≡◌, pos, negsuc, List, [], ◌∷◌, true, false, map}
 use Rattle.esr_history.specs.declared.event.Event.TheVariants.{BeginUpdate, BeginQuery, Read, Write, Commit, Abort}
 use Rattle.esr_history.specs.declared.event.Reply.TheVariants.{Begun, Value, Wrote, Committed, Aborted, Refused}
-use Rattle.esr_history.specs.declared.event.Refusal.TheVariants.{NoSuchTransaction, AlreadyEnded, NoSuchItem, QueryMayNotWrite, ValueOutOfRange, LimitOutOfRange, BlockedByLock, BlockedByImport, BlockedByExport}
+use Rattle.esr_history.specs.declared.event.Refusal.TheVariants.{NoSuchTransaction, AlreadyEnded, NoSuchItem, QueryMayNotWrite, BlockedByLock, BlockedByImport, BlockedByExport}
 use Rattle.esr_history.specs.Worked.{item, txn}
-use Rattle.esr_test_definitions.specs.Outcomes.{Outcome, Play, found, outcome, outcome_of, play}
+use Rattle.esr_test_definitions.specs.Outcomes.{History, Outcome, audit, history, outcome, outcome_of}
 
-abbrev pub inputs : List Play
+abbrev pub inputs : List History
 inputs =
-    (play (pos 5 ∷ []) (7 ∷ [])
+    (history (pos 5 ∷ []) (7 ∷ [])
     (BeginUpdate 20 ∷
     BeginUpdate 1000000000000000000 ∷
     Write (txn 2) (item 0) (negsuc 3) ∷
@@ -19,7 +19,7 @@ inputs =
     Read (txn 3) (item 0) ∷
     Commit (txn 1) ∷
     [])) ∷
-    (play (pos 5 ∷ pos 4 ∷ pos 6 ∷ []) (7 ∷ 7 ∷ 1 ∷ [])
+    (history (pos 5 ∷ pos 4 ∷ pos 6 ∷ []) (7 ∷ 7 ∷ 1 ∷ [])
     (BeginUpdate 60 ∷
     BeginUpdate 1000000000000000000 ∷
     Read (txn 1) (item 0) ∷
@@ -36,7 +36,7 @@ inputs =
     Commit (txn 1) ∷
     Commit (txn 4) ∷
     [])) ∷
-    (play (negsuc 1 ∷ []) (1 ∷ [])
+    (history (negsuc 1 ∷ []) (1 ∷ [])
     (BeginUpdate 0 ∷
     BeginUpdate 0 ∷
     Write (txn 1) (item 0) (pos 6) ∷
@@ -50,7 +50,7 @@ inputs =
     Commit (txn 2) ∷
     Commit (txn 4) ∷
     [])) ∷
-    (play (pos 5 ∷ negsuc 0 ∷ pos 8 ∷ []) (2 ∷ 1 ∷ 7 ∷ [])
+    (history (pos 5 ∷ negsuc 0 ∷ pos 8 ∷ []) (2 ∷ 1 ∷ 7 ∷ [])
     (BeginQuery 60 true ∷
     BeginUpdate 3 ∷
     Write (txn 2) (item 1) (negsuc 2) ∷
@@ -61,7 +61,7 @@ inputs =
     Commit (txn 2) ∷
     Commit (txn 3) ∷
     [])) ∷
-    (play (negsuc 4 ∷ []) (2 ∷ [])
+    (history (negsuc 4 ∷ []) (2 ∷ [])
     (BeginUpdate 9 ∷
     BeginUpdate 0 ∷
     Write (txn 2) (item 0) (pos 8) ∷
@@ -77,7 +77,7 @@ inputs =
     Commit (txn 2) ∷
     Commit (txn 4) ∷
     [])) ∷
-    (play (pos 8 ∷ negsuc 4 ∷ pos 4 ∷ []) (2 ∷ 7 ∷ 1 ∷ [])
+    (history (pos 8 ∷ negsuc 4 ∷ pos 4 ∷ []) (2 ∷ 7 ∷ 1 ∷ [])
     (BeginUpdate 60 ∷
     BeginUpdate 0 ∷
     Write (txn 1) (item 2) (pos 2) ∷
@@ -92,7 +92,7 @@ inputs =
     Commit (txn 1) ∷
     Commit (txn 2) ∷
     [])) ∷
-    (play (pos 6 ∷ []) (1 ∷ [])
+    (history (pos 6 ∷ []) (1 ∷ [])
     (BeginUpdate 0 ∷
     BeginQuery 60 false ∷
     Commit (txn 2) ∷
@@ -110,7 +110,7 @@ inputs =
     Commit (txn 3) ∷
     Commit (txn 4) ∷
     [])) ∷
-    (play (negsuc 3 ∷ []) (2 ∷ [])
+    (history (negsuc 3 ∷ []) (2 ∷ [])
     (BeginUpdate 0 ∷
     BeginQuery 20 false ∷
     Read (txn 2) (item 0) ∷
@@ -126,7 +126,7 @@ inputs =
     Commit (txn 1) ∷
     Commit (txn 4) ∷
     [])) ∷
-    (play (negsuc 1 ∷ negsuc 4 ∷ pos 7 ∷ []) (1 ∷ 2 ∷ 7 ∷ [])
+    (history (negsuc 1 ∷ negsuc 4 ∷ pos 7 ∷ []) (1 ∷ 2 ∷ 7 ∷ [])
     (BeginUpdate 60 ∷
     BeginUpdate 0 ∷
     Read (txn 2) (item 1) ∷
@@ -138,7 +138,7 @@ inputs =
     Commit (txn 2) ∷
     Commit (txn 3) ∷
     [])) ∷
-    (play (negsuc 0 ∷ negsuc 1 ∷ negsuc 1 ∷ []) (2 ∷ 1 ∷ 1 ∷ [])
+    (history (negsuc 0 ∷ negsuc 1 ∷ negsuc 1 ∷ []) (2 ∷ 1 ∷ 1 ∷ [])
     (BeginUpdate 9 ∷
     BeginUpdate 9 ∷
     Write (txn 2) (item 2) (pos 7) ∷
@@ -183,7 +183,7 @@ outcomes =
     Committed ∷
     Committed ∷
     [])
-    (11 ∷ 0 ∷ 11 ∷ 0 ∷ []) (found 4 0 ([]) ∷ [])) ∷
+    (11 ∷ 0 ∷ 11 ∷ 0 ∷ []) (audit 4 0 ([]) ∷ [])) ∷
     (outcome (Begun (txn 1) ∷
     Begun (txn 2) ∷
     Wrote ∷
@@ -197,7 +197,7 @@ outcomes =
     Committed ∷
     Committed ∷
     [])
-    (0 ∷ 0 ∷ 0 ∷ 0 ∷ []) (found 4 0 ([]) ∷ [])) ∷
+    (0 ∷ 0 ∷ 0 ∷ 0 ∷ []) (audit 4 0 ([]) ∷ [])) ∷
     (outcome (Begun (txn 1) ∷
     Begun (txn 2) ∷
     Wrote ∷
@@ -208,7 +208,7 @@ outcomes =
     Committed ∷
     Committed ∷
     [])
-    (0 ∷ 0 ∷ 0 ∷ []) (found 1 0 ([]) ∷ [])) ∷
+    (0 ∷ 0 ∷ 0 ∷ []) (audit 1 0 ([]) ∷ [])) ∷
     (outcome (Begun (txn 1) ∷
     Begun (txn 2) ∷
     Wrote ∷
@@ -224,7 +224,7 @@ outcomes =
     Committed ∷
     Committed ∷
     [])
-    (0 ∷ 0 ∷ 0 ∷ 0 ∷ []) (found 4 0 ([]) ∷ [])) ∷
+    (0 ∷ 0 ∷ 0 ∷ 0 ∷ []) (audit 4 0 ([]) ∷ [])) ∷
     (outcome (Begun (txn 1) ∷
     Begun (txn 2) ∷
     Wrote ∷
@@ -257,7 +257,7 @@ outcomes =
     Committed ∷
     Committed ∷
     [])
-    (0 ∷ 0 ∷ 0 ∷ 0 ∷ []) (found 2 0 ([]) ∷ found 3 0 (1 ∷ []) ∷ [])) ∷
+    (0 ∷ 0 ∷ 0 ∷ 0 ∷ []) (audit 2 0 ([]) ∷ audit 3 0 (1 ∷ []) ∷ [])) ∷
     (outcome (Begun (txn 1) ∷
     Begun (txn 2) ∷
     Value (negsuc 3) ∷
@@ -273,7 +273,7 @@ outcomes =
     Committed ∷
     Committed ∷
     [])
-    (0 ∷ 0 ∷ 0 ∷ 0 ∷ 0 ∷ []) (found 3 0 ([]) ∷ [])) ∷
+    (0 ∷ 0 ∷ 0 ∷ 0 ∷ 0 ∷ []) (audit 3 0 ([]) ∷ [])) ∷
     (outcome (Begun (txn 1) ∷
     Begun (txn 2) ∷
     Value (negsuc 4) ∷

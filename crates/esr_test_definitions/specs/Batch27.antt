@@ -2,13 +2,13 @@
 use Rattle.std.specs.Prelude.{◌≡◌, pos, negsuc, List, [], ◌∷◌, true, false, map}
 use Rattle.esr_history.specs.declared.event.Event.TheVariants.{BeginUpdate, BeginQuery, Read, Write, Commit, Abort}
 use Rattle.esr_history.specs.declared.event.Reply.TheVariants.{Begun, Value, Wrote, Committed, Aborted, Refused}
-use Rattle.esr_history.specs.declared.event.Refusal.TheVariants.{NoSuchTransaction, AlreadyEnded, NoSuchItem, QueryMayNotWrite, ValueOutOfRange, LimitOutOfRange, BlockedByLock, BlockedByImport, BlockedByExport}
+use Rattle.esr_history.specs.declared.event.Refusal.TheVariants.{NoSuchTransaction, AlreadyEnded, NoSuchItem, QueryMayNotWrite, BlockedByLock, BlockedByImport}
 use Rattle.esr_history.specs.Worked.{item, txn}
-use Rattle.esr_test_definitions.specs.Outcomes.{Outcome, Play, found, outcome, outcome_of, play}
+use Rattle.esr_test_definitions.specs.Outcomes.{History, Outcome, audit, history, outcome, outcome_of}
 
-abbrev pub inputs : List Play
+abbrev pub inputs : List History
 inputs =
-    (play (pos 4 ∷ pos 1 ∷ pos 2 ∷ []) (1 ∷ 2 ∷ 1 ∷ [])
+    (history (pos 4 ∷ pos 1 ∷ pos 2 ∷ []) (1 ∷ 2 ∷ 1 ∷ [])
     (BeginQuery 60 false ∷
     BeginUpdate 0 ∷
     Read (txn 2) (item 2) ∷
@@ -20,7 +20,7 @@ inputs =
     Write (txn 3) (item 0) (pos 1) ∷
     Commit (txn 4) ∷
     [])) ∷
-    (play (pos 4 ∷ negsuc 2 ∷ negsuc 1 ∷ []) (1 ∷ 1 ∷ 2 ∷ [])
+    (history (pos 4 ∷ negsuc 2 ∷ negsuc 1 ∷ []) (1 ∷ 1 ∷ 2 ∷ [])
     (BeginQuery 0 false ∷
     BeginUpdate 20 ∷
     BeginQuery 9 true ∷
@@ -34,7 +34,7 @@ inputs =
     Read (txn 1) (item 0) ∷
     Commit (txn 1) ∷
     [])) ∷
-    (play (negsuc 2 ∷ pos 9 ∷ pos 1 ∷ []) (1 ∷ 1 ∷ 2 ∷ [])
+    (history (negsuc 2 ∷ pos 9 ∷ pos 1 ∷ []) (1 ∷ 1 ∷ 2 ∷ [])
     (BeginUpdate 0 ∷
     BeginQuery 9 false ∷
     Write (txn 1) (item 2) (negsuc 7) ∷
@@ -55,7 +55,7 @@ inputs =
     Commit (txn 4) ∷
     Abort (txn 5) ∷
     [])) ∷
-    (play (pos 0 ∷ negsuc 1 ∷ negsuc 0 ∷ []) (7 ∷ 1 ∷ 7 ∷ [])
+    (history (pos 0 ∷ negsuc 1 ∷ negsuc 0 ∷ []) (7 ∷ 1 ∷ 7 ∷ [])
     (BeginUpdate 60 ∷
     BeginQuery 3 true ∷
     BeginQuery 3 false ∷
@@ -70,7 +70,7 @@ inputs =
     Commit (txn 4) ∷
     Abort (txn 5) ∷
     [])) ∷
-    (play (negsuc 3 ∷ []) (7 ∷ [])
+    (history (negsuc 3 ∷ []) (7 ∷ [])
     (BeginQuery 3 false ∷
     BeginUpdate 0 ∷
     Write (txn 2) (item 0) (negsuc 5) ∷
@@ -84,7 +84,7 @@ inputs =
     Commit (txn 2) ∷
     Commit (txn 3) ∷
     [])) ∷
-    (play (pos 8 ∷ pos 6 ∷ []) (1 ∷ 2 ∷ [])
+    (history (pos 8 ∷ pos 6 ∷ []) (1 ∷ 2 ∷ [])
     (BeginUpdate 20 ∷
     BeginQuery 20 false ∷
     Read (txn 1) (item 0) ∷
@@ -96,7 +96,7 @@ inputs =
     Abort (txn 1) ∷
     Commit (txn 3) ∷
     [])) ∷
-    (play (pos 2 ∷ pos 3 ∷ []) (1 ∷ 7 ∷ [])
+    (history (pos 2 ∷ pos 3 ∷ []) (1 ∷ 7 ∷ [])
     (BeginQuery 9 false ∷
     BeginQuery 9 true ∷
     Commit (txn 2) ∷
@@ -111,7 +111,7 @@ inputs =
     Commit (txn 3) ∷
     Abort (txn 4) ∷
     [])) ∷
-    (play (pos 6 ∷ pos 1 ∷ pos 8 ∷ []) (7 ∷ 1 ∷ 7 ∷ [])
+    (history (pos 6 ∷ pos 1 ∷ pos 8 ∷ []) (7 ∷ 1 ∷ 7 ∷ [])
     (BeginUpdate 1000000000000000000 ∷
     BeginUpdate 60 ∷
     Abort (txn 1) ∷
@@ -126,7 +126,7 @@ inputs =
     Read (txn 1) (item 1) ∷
     Read (txn 1) (item 2) ∷
     [])) ∷
-    (play (negsuc 0 ∷ []) (7 ∷ [])
+    (history (negsuc 0 ∷ []) (7 ∷ [])
     (BeginQuery 9 false ∷
     BeginUpdate 1000000000000000000 ∷
     Read (txn 2) (item 0) ∷
@@ -146,7 +146,7 @@ inputs =
     Commit (txn 3) ∷
     Commit (txn 4) ∷
     [])) ∷
-    (play (negsuc 4 ∷ pos 6 ∷ pos 8 ∷ []) (1 ∷ 1 ∷ 7 ∷ [])
+    (history (negsuc 4 ∷ pos 6 ∷ pos 8 ∷ []) (1 ∷ 1 ∷ 7 ∷ [])
     (BeginQuery 0 true ∷
     BeginUpdate 0 ∷
     Read (txn 2) (item 0) ∷
@@ -174,7 +174,7 @@ outcomes =
     Wrote ∷
     Committed ∷
     [])
-    (0 ∷ 0 ∷ 0 ∷ 0 ∷ []) (found 1 0 ([]) ∷ [])) ∷
+    (0 ∷ 0 ∷ 0 ∷ 0 ∷ []) (audit 1 0 ([]) ∷ [])) ∷
     (outcome (Begun (txn 1) ∷
     Begun (txn 2) ∷
     Begun (txn 3) ∷
@@ -188,7 +188,7 @@ outcomes =
     Value (pos 4) ∷
     Committed ∷
     [])
-    (0 ∷ 0 ∷ 0 ∷ []) (found 1 0 ([]) ∷ found 3 0 ([]) ∷ [])) ∷
+    (0 ∷ 0 ∷ 0 ∷ []) (audit 1 0 ([]) ∷ audit 3 0 ([]) ∷ [])) ∷
     (outcome (Begun (txn 1) ∷
     Begun (txn 2) ∷
     Wrote ∷
@@ -209,7 +209,7 @@ outcomes =
     Committed ∷
     Aborted ∷
     [])
-    (0 ∷ 4 ∷ 0 ∷ 4 ∷ 0 ∷ []) (found 2 1 ([]) ∷ [])) ∷
+    (0 ∷ 4 ∷ 0 ∷ 4 ∷ 0 ∷ []) (audit 2 1 ([]) ∷ [])) ∷
     (outcome (Begun (txn 1) ∷
     Begun (txn 2) ∷
     Begun (txn 3) ∷
@@ -238,7 +238,7 @@ outcomes =
     Committed ∷
     Committed ∷
     [])
-    (0 ∷ 0 ∷ 0 ∷ []) (found 1 0 ([]) ∷ found 3 0 ([]) ∷ [])) ∷
+    (0 ∷ 0 ∷ 0 ∷ []) (audit 1 0 ([]) ∷ audit 3 0 ([]) ∷ [])) ∷
     (outcome (Begun (txn 1) ∷
     Begun (txn 2) ∷
     Value (pos 8) ∷
@@ -250,7 +250,7 @@ outcomes =
     Aborted ∷
     Committed ∷
     [])
-    (0 ∷ 0 ∷ 0 ∷ []) (found 3 0 ([]) ∷ [])) ∷
+    (0 ∷ 0 ∷ 0 ∷ []) (audit 3 0 ([]) ∷ [])) ∷
     (outcome (Begun (txn 1) ∷
     Begun (txn 2) ∷
     Committed ∷
@@ -265,7 +265,7 @@ outcomes =
     Committed ∷
     Aborted ∷
     [])
-    (0 ∷ 0 ∷ 0 ∷ 0 ∷ []) (found 1 0 ([]) ∷ found 2 0 ([]) ∷ found 3 0 ([]) ∷ [])) ∷
+    (0 ∷ 0 ∷ 0 ∷ 0 ∷ []) (audit 1 0 ([]) ∷ audit 2 0 ([]) ∷ audit 3 0 ([]) ∷ [])) ∷
     (outcome (Begun (txn 1) ∷
     Begun (txn 2) ∷
     Aborted ∷
@@ -300,7 +300,7 @@ outcomes =
     Committed ∷
     Committed ∷
     [])
-    (0 ∷ 0 ∷ 0 ∷ 0 ∷ 0 ∷ []) (found 1 0 ([]) ∷ [])) ∷
+    (0 ∷ 0 ∷ 0 ∷ 0 ∷ 0 ∷ []) (audit 1 0 ([]) ∷ [])) ∷
     (outcome (Begun (txn 1) ∷
     Begun (txn 2) ∷
     Value (negsuc 4) ∷
@@ -313,7 +313,7 @@ outcomes =
     Committed ∷
     Committed ∷
     [])
-    (0 ∷ 0 ∷ 0 ∷ 0 ∷ []) (found 1 0 ([]) ∷ [])) ∷
+    (0 ∷ 0 ∷ 0 ∷ 0 ∷ []) (audit 1 0 ([]) ∷ [])) ∷
     []
 
 -- the definitions find the outcome of each history

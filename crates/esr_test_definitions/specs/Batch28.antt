@@ -4,11 +4,11 @@ use Rattle.esr_history.specs.declared.event.Event.TheVariants.{BeginUpdate, Begi
 use Rattle.esr_history.specs.declared.event.Reply.TheVariants.{Begun, Value, Wrote, Committed, Aborted, Refused}
 use Rattle.esr_history.specs.declared.event.Refusal.TheVariants.{NoSuchTransaction, AlreadyEnded, NoSuchItem, QueryMayNotWrite, ValueOutOfRange, LimitOutOfRange, BlockedByLock, BlockedByImport, BlockedByExport}
 use Rattle.esr_history.specs.Worked.{item, txn}
-use Rattle.esr_test_definitions.specs.Outcomes.{Outcome, Play, found, outcome, outcome_of, play}
+use Rattle.esr_test_definitions.specs.Outcomes.{History, Outcome, audit, history, outcome, outcome_of}
 
-abbrev pub inputs : List Play
+abbrev pub inputs : List History
 inputs =
-    (play (negsuc 0 ∷ []) (1 ∷ [])
+    (history (negsuc 0 ∷ []) (1 ∷ [])
     (BeginQuery 3 false ∷
     BeginUpdate 0 ∷
     Read (txn 1) (item 0) ∷
@@ -27,7 +27,7 @@ inputs =
     Abort (txn 3) ∷
     Commit (txn 4) ∷
     [])) ∷
-    (play (pos 8 ∷ []) (1 ∷ [])
+    (history (pos 8 ∷ []) (1 ∷ [])
     (BeginQuery 60 false ∷
     BeginQuery 3 false ∷
     Read (txn 2) (item 0) ∷
@@ -44,7 +44,7 @@ inputs =
     Commit (txn 3) ∷
     Read (txn 3) (item 0) ∷
     [])) ∷
-    (play (negsuc 0 ∷ pos 7 ∷ negsuc 2 ∷ []) (7 ∷ 1 ∷ 7 ∷ [])
+    (history (negsuc 0 ∷ pos 7 ∷ negsuc 2 ∷ []) (7 ∷ 1 ∷ 7 ∷ [])
     (BeginQuery 1000000000000000000 true ∷
     BeginUpdate 20 ∷
     Read (txn 1) (item 2) ∷
@@ -63,7 +63,7 @@ inputs =
     Commit (txn 3) ∷
     Commit (txn 4) ∷
     [])) ∷
-    (play (pos 7 ∷ pos 0 ∷ negsuc 3 ∷ []) (1 ∷ 1 ∷ 2 ∷ [])
+    (history (pos 7 ∷ pos 0 ∷ negsuc 3 ∷ []) (1 ∷ 1 ∷ 2 ∷ [])
     (BeginQuery 3 false ∷
     BeginQuery 60 true ∷
     Commit (txn 1) ∷
@@ -78,7 +78,7 @@ inputs =
     Read (txn 4) (item 0) ∷
     BeginUpdate 1000000000000000000 ∷
     [])) ∷
-    (play (pos 5 ∷ negsuc 3 ∷ []) (1 ∷ 2 ∷ [])
+    (history (pos 5 ∷ negsuc 3 ∷ []) (1 ∷ 2 ∷ [])
     (BeginUpdate 20 ∷
     BeginQuery 3 true ∷
     Read (txn 1) (item 0) ∷
@@ -90,7 +90,7 @@ inputs =
     Commit (txn 1) ∷
     Commit (txn 3) ∷
     [])) ∷
-    (play (pos 1 ∷ []) (7 ∷ [])
+    (history (pos 1 ∷ []) (7 ∷ [])
     (BeginUpdate 20 ∷
     BeginQuery 20 true ∷
     Write (txn 1) (item 0) (pos 1) ∷
@@ -107,7 +107,7 @@ inputs =
     Commit (txn 4) ∷
     Commit (txn 5) ∷
     [])) ∷
-    (play (negsuc 4 ∷ negsuc 0 ∷ pos 9 ∷ []) (1 ∷ 2 ∷ 7 ∷ [])
+    (history (negsuc 4 ∷ negsuc 0 ∷ pos 9 ∷ []) (1 ∷ 2 ∷ 7 ∷ [])
     (BeginQuery 1000000000000000000 false ∷
     BeginUpdate 60 ∷
     Read (txn 2) (item 1) ∷
@@ -121,7 +121,7 @@ inputs =
     Commit (txn 1) ∷
     Commit (txn 3) ∷
     [])) ∷
-    (play (pos 7 ∷ []) (7 ∷ [])
+    (history (pos 7 ∷ []) (7 ∷ [])
     (BeginQuery 3 false ∷
     BeginUpdate 3 ∷
     BeginQuery 0 false ∷
@@ -132,7 +132,7 @@ inputs =
     Commit (txn 2) ∷
     Commit (txn 3) ∷
     [])) ∷
-    (play (negsuc 1 ∷ negsuc 2 ∷ pos 9 ∷ []) (1 ∷ 1 ∷ 1 ∷ [])
+    (history (negsuc 1 ∷ negsuc 2 ∷ pos 9 ∷ []) (1 ∷ 1 ∷ 1 ∷ [])
     (BeginUpdate 0 ∷
     BeginUpdate 0 ∷
     Abort (txn 0) ∷
@@ -150,7 +150,7 @@ inputs =
     Commit (txn 2) ∷
     Commit (txn 3) ∷
     [])) ∷
-    (play (negsuc 0 ∷ []) (2 ∷ [])
+    (history (negsuc 0 ∷ []) (2 ∷ [])
     (BeginUpdate 0 ∷
     BeginQuery 60 false ∷
     BeginUpdate 3 ∷
@@ -186,7 +186,7 @@ outcomes =
     Aborted ∷
     Committed ∷
     [])
-    (0 ∷ 0 ∷ 0 ∷ 0 ∷ []) (found 1 0 ([]) ∷ [])) ∷
+    (0 ∷ 0 ∷ 0 ∷ 0 ∷ []) (audit 1 0 ([]) ∷ [])) ∷
     (outcome (Begun (txn 1) ∷
     Begun (txn 2) ∷
     Value (pos 8) ∷
@@ -203,7 +203,7 @@ outcomes =
     Committed ∷
     Refused AlreadyEnded ∷
     [])
-    (0 ∷ 0 ∷ 0 ∷ []) (found 1 0 ([]) ∷ found 3 0 ([]) ∷ [])) ∷
+    (0 ∷ 0 ∷ 0 ∷ []) (audit 1 0 ([]) ∷ audit 3 0 ([]) ∷ [])) ∷
     (outcome (Begun (txn 1) ∷
     Begun (txn 2) ∷
     Value (negsuc 2) ∷
@@ -222,7 +222,7 @@ outcomes =
     Committed ∷
     Committed ∷
     [])
-    (0 ∷ 0 ∷ 0 ∷ 0 ∷ []) (found 1 0 ([]) ∷ found 4 0 ([]) ∷ [])) ∷
+    (0 ∷ 0 ∷ 0 ∷ 0 ∷ []) (audit 1 0 ([]) ∷ audit 4 0 ([]) ∷ [])) ∷
     (outcome (Begun (txn 1) ∷
     Begun (txn 2) ∷
     Committed ∷
@@ -237,7 +237,7 @@ outcomes =
     Value (pos 7) ∷
     Begun (txn 5) ∷
     [])
-    (0 ∷ 0 ∷ 0 ∷ 0 ∷ 0 ∷ []) (found 1 0 ([]) ∷ found 2 0 ([]) ∷ [])) ∷
+    (0 ∷ 0 ∷ 0 ∷ 0 ∷ 0 ∷ []) (audit 1 0 ([]) ∷ audit 2 0 ([]) ∷ [])) ∷
     (outcome (Begun (txn 1) ∷
     Begun (txn 2) ∷
     Value (pos 5) ∷
@@ -266,7 +266,7 @@ outcomes =
     Committed ∷
     Committed ∷
     [])
-    (0 ∷ 0 ∷ 0 ∷ 0 ∷ 0 ∷ []) (found 3 0 ([]) ∷ found 5 0 ([]) ∷ [])) ∷
+    (0 ∷ 0 ∷ 0 ∷ 0 ∷ 0 ∷ []) (audit 3 0 ([]) ∷ audit 5 0 ([]) ∷ [])) ∷
     (outcome (Begun (txn 1) ∷
     Begun (txn 2) ∷
     Value (negsuc 0) ∷
@@ -280,7 +280,7 @@ outcomes =
     Committed ∷
     Committed ∷
     [])
-    (0 ∷ 0 ∷ 0 ∷ []) (found 1 0 ([]) ∷ found 3 0 ([]) ∷ [])) ∷
+    (0 ∷ 0 ∷ 0 ∷ []) (audit 1 0 ([]) ∷ audit 3 0 ([]) ∷ [])) ∷
     (outcome (Begun (txn 1) ∷
     Begun (txn 2) ∷
     Begun (txn 3) ∷
@@ -291,7 +291,7 @@ outcomes =
     Committed ∷
     Committed ∷
     [])
-    (0 ∷ 0 ∷ 0 ∷ []) (found 1 0 ([]) ∷ found 3 0 ([]) ∷ [])) ∷
+    (0 ∷ 0 ∷ 0 ∷ []) (audit 1 0 ([]) ∷ audit 3 0 ([]) ∷ [])) ∷
     (outcome (Begun (txn 1) ∷
     Begun (txn 2) ∷
     Refused NoSuchTransaction ∷
@@ -323,7 +323,7 @@ outcomes =
     Committed ∷
     Aborted ∷
     [])
-    (0 ∷ 0 ∷ 0 ∷ []) (found 2 0 ([]) ∷ [])) ∷
+    (0 ∷ 0 ∷ 0 ∷ []) (audit 2 0 ([]) ∷ [])) ∷
     []
 
 -- the definitions find the outcome of each history

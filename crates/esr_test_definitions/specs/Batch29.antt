@@ -2,13 +2,13 @@
 use Rattle.std.specs.Prelude.{◌≡◌, pos, negsuc, List, [], ◌∷◌, true, false, map}
 use Rattle.esr_history.specs.declared.event.Event.TheVariants.{BeginUpdate, BeginQuery, Read, Write, Commit, Abort}
 use Rattle.esr_history.specs.declared.event.Reply.TheVariants.{Begun, Value, Wrote, Committed, Aborted, Refused}
-use Rattle.esr_history.specs.declared.event.Refusal.TheVariants.{NoSuchTransaction, AlreadyEnded, NoSuchItem, QueryMayNotWrite, ValueOutOfRange, LimitOutOfRange, BlockedByLock, BlockedByImport, BlockedByExport}
+use Rattle.esr_history.specs.declared.event.Refusal.TheVariants.{NoSuchTransaction, AlreadyEnded, NoSuchItem, LimitOutOfRange, BlockedByLock, BlockedByImport, BlockedByExport}
 use Rattle.esr_history.specs.Worked.{item, txn}
-use Rattle.esr_test_definitions.specs.Outcomes.{Outcome, Play, found, outcome, outcome_of, play}
+use Rattle.esr_test_definitions.specs.Outcomes.{History, Outcome, audit, history, outcome, outcome_of}
 
-abbrev pub inputs : List Play
+abbrev pub inputs : List History
 inputs =
-    (play (negsuc 2 ∷ []) (7 ∷ [])
+    (history (negsuc 2 ∷ []) (7 ∷ [])
     (BeginUpdate 1000000000000000001 ∷
     BeginQuery 60 false ∷
     BeginQuery 1000000000000000001 true ∷
@@ -18,7 +18,7 @@ inputs =
     Commit (txn 1) ∷
     Commit (txn 2) ∷
     [])) ∷
-    (play (negsuc 3 ∷ pos 6 ∷ []) (2 ∷ 1 ∷ [])
+    (history (negsuc 3 ∷ pos 6 ∷ []) (2 ∷ 1 ∷ [])
     (BeginQuery 1000000000000000001 false ∷
     BeginQuery 20 false ∷
     BeginUpdate 20 ∷
@@ -30,7 +30,7 @@ inputs =
     Commit (txn 1) ∷
     Commit (txn 3) ∷
     [])) ∷
-    (play (pos 0 ∷ []) (2 ∷ [])
+    (history (pos 0 ∷ []) (2 ∷ [])
     (BeginUpdate 1000000000000000001 ∷
     BeginQuery 20 false ∷
     BeginUpdate 3 ∷
@@ -48,7 +48,7 @@ inputs =
     Read (txn 2) (item 1) ∷
     Commit (txn 3) ∷
     [])) ∷
-    (play (pos 4 ∷ negsuc 4 ∷ pos 3 ∷ []) (1 ∷ 1 ∷ 1 ∷ [])
+    (history (pos 4 ∷ negsuc 4 ∷ pos 3 ∷ []) (1 ∷ 1 ∷ 1 ∷ [])
     (BeginQuery 60 false ∷
     BeginQuery 20 false ∷
     Read (txn 2) (item 2) ∷
@@ -64,7 +64,7 @@ inputs =
     Commit (txn 1) ∷
     Read (txn 1) (item 1) ∷
     [])) ∷
-    (play (pos 2 ∷ negsuc 3 ∷ []) (1 ∷ 2 ∷ [])
+    (history (pos 2 ∷ negsuc 3 ∷ []) (1 ∷ 2 ∷ [])
     (BeginQuery 0 true ∷
     BeginUpdate 60 ∷
     Read (txn 2) (item 1) ∷
@@ -75,7 +75,7 @@ inputs =
     Read (txn 1) (item 1) ∷
     Commit (txn 3) ∷
     [])) ∷
-    (play (pos 3 ∷ negsuc 1 ∷ pos 6 ∷ []) (2 ∷ 2 ∷ 2 ∷ [])
+    (history (pos 3 ∷ negsuc 1 ∷ pos 6 ∷ []) (2 ∷ 2 ∷ 2 ∷ [])
     (BeginUpdate 1000000000000000000 ∷
     BeginQuery 9 false ∷
     Abort (txn 1) ∷
@@ -90,7 +90,7 @@ inputs =
     Abort (txn 4) ∷
     Abort (txn 5) ∷
     [])) ∷
-    (play (pos 3 ∷ pos 2 ∷ []) (2 ∷ 1 ∷ [])
+    (history (pos 3 ∷ pos 2 ∷ []) (2 ∷ 1 ∷ [])
     (BeginUpdate 20 ∷
     BeginUpdate 20 ∷
     Write (txn 1) (item 0) (pos 5) ∷
@@ -102,7 +102,7 @@ inputs =
     Commit (txn 1) ∷
     Commit (txn 2) ∷
     [])) ∷
-    (play (pos 5 ∷ []) (1 ∷ [])
+    (history (pos 5 ∷ []) (1 ∷ [])
     (BeginUpdate 3 ∷
     BeginUpdate 1000000000000000000 ∷
     Read (txn 1) (item 0) ∷
@@ -115,7 +115,7 @@ inputs =
     Commit (txn 1) ∷
     Commit (txn 3) ∷
     [])) ∷
-    (play (negsuc 4 ∷ []) (1 ∷ [])
+    (history (negsuc 4 ∷ []) (1 ∷ [])
     (BeginQuery 1000000000000000000 false ∷
     BeginUpdate 20 ∷
     Abort (txn 1) ∷
@@ -134,7 +134,7 @@ inputs =
     Commit (txn 2) ∷
     Commit (txn 5) ∷
     [])) ∷
-    (play (pos 6 ∷ []) (7 ∷ [])
+    (history (pos 6 ∷ []) (7 ∷ [])
     (BeginUpdate 60 ∷
     BeginUpdate 9 ∷
     Write (txn 2) (item 0) (pos 10) ∷
@@ -160,7 +160,7 @@ outcomes =
     Committed ∷
     Committed ∷
     [])
-    (0 ∷ 0 ∷ []) (found 1 0 ([]) ∷ [])) ∷
+    (0 ∷ 0 ∷ []) (audit 1 0 ([]) ∷ [])) ∷
     (outcome (Refused LimitOutOfRange ∷
     Begun (txn 1) ∷
     Begun (txn 2) ∷
@@ -172,7 +172,7 @@ outcomes =
     Committed ∷
     Committed ∷
     [])
-    (0 ∷ 0 ∷ 0 ∷ 0 ∷ []) (found 1 0 ([]) ∷ found 3 0 ([]) ∷ [])) ∷
+    (0 ∷ 0 ∷ 0 ∷ 0 ∷ []) (audit 1 0 ([]) ∷ audit 3 0 ([]) ∷ [])) ∷
     (outcome (Refused LimitOutOfRange ∷
     Begun (txn 1) ∷
     Begun (txn 2) ∷
@@ -190,7 +190,7 @@ outcomes =
     Refused NoSuchItem ∷
     Committed ∷
     [])
-    (0 ∷ 0 ∷ 0 ∷ []) (found 1 0 ([]) ∷ found 3 0 ([]) ∷ [])) ∷
+    (0 ∷ 0 ∷ 0 ∷ []) (audit 1 0 ([]) ∷ audit 3 0 ([]) ∷ [])) ∷
     (outcome (Begun (txn 1) ∷
     Begun (txn 2) ∷
     Value (pos 3) ∷
@@ -206,7 +206,7 @@ outcomes =
     Refused AlreadyEnded ∷
     Refused AlreadyEnded ∷
     [])
-    (0 ∷ 0 ∷ []) (found 1 0 ([]) ∷ found 2 0 ([]) ∷ [])) ∷
+    (0 ∷ 0 ∷ []) (audit 1 0 ([]) ∷ audit 2 0 ([]) ∷ [])) ∷
     (outcome (Begun (txn 1) ∷
     Begun (txn 2) ∷
     Value (negsuc 3) ∷
@@ -257,7 +257,7 @@ outcomes =
     Committed ∷
     Committed ∷
     [])
-    (0 ∷ 0 ∷ 0 ∷ []) (found 3 0 ([]) ∷ [])) ∷
+    (0 ∷ 0 ∷ 0 ∷ []) (audit 3 0 ([]) ∷ [])) ∷
     (outcome (Begun (txn 1) ∷
     Begun (txn 2) ∷
     Aborted ∷

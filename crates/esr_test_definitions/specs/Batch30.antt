@@ -2,13 +2,13 @@
 use Rattle.std.specs.Prelude.{◌≡◌, pos, negsuc, List, [], ◌∷◌, true, false, map}
 use Rattle.esr_history.specs.declared.event.Event.TheVariants.{BeginUpdate, BeginQuery, Read, Write, Commit, Abort}
 use Rattle.esr_history.specs.declared.event.Reply.TheVariants.{Begun, Value, Wrote, Committed, Aborted, Refused}
-use Rattle.esr_history.specs.declared.event.Refusal.TheVariants.{NoSuchTransaction, AlreadyEnded, NoSuchItem, QueryMayNotWrite, ValueOutOfRange, LimitOutOfRange, BlockedByLock, BlockedByImport, BlockedByExport}
+use Rattle.esr_history.specs.declared.event.Refusal.TheVariants.{NoSuchTransaction, AlreadyEnded, NoSuchItem, QueryMayNotWrite, LimitOutOfRange, BlockedByLock, BlockedByExport}
 use Rattle.esr_history.specs.Worked.{item, txn}
-use Rattle.esr_test_definitions.specs.Outcomes.{Outcome, Play, found, outcome, outcome_of, play}
+use Rattle.esr_test_definitions.specs.Outcomes.{History, Outcome, audit, history, outcome, outcome_of}
 
-abbrev pub inputs : List Play
+abbrev pub inputs : List History
 inputs =
-    (play (pos 8 ∷ []) (1 ∷ [])
+    (history (pos 8 ∷ []) (1 ∷ [])
     (BeginQuery 3 true ∷
     BeginUpdate 1000000000000000001 ∷
     BeginUpdate 60 ∷
@@ -25,7 +25,7 @@ inputs =
     Commit (txn 4) ∷
     Commit (txn 5) ∷
     [])) ∷
-    (play (pos 6 ∷ pos 1 ∷ []) (1 ∷ 2 ∷ [])
+    (history (pos 6 ∷ pos 1 ∷ []) (1 ∷ 2 ∷ [])
     (BeginQuery 60 false ∷
     BeginUpdate 1000000000000000000 ∷
     Read (txn 2) (item 0) ∷
@@ -44,7 +44,7 @@ inputs =
     Commit (txn 2) ∷
     Commit (txn 4) ∷
     [])) ∷
-    (play (negsuc 4 ∷ pos 3 ∷ []) (1 ∷ 7 ∷ [])
+    (history (negsuc 4 ∷ pos 3 ∷ []) (1 ∷ 7 ∷ [])
     (BeginUpdate 9 ∷
     BeginUpdate 9 ∷
     Read (txn 1) (item 0) ∷
@@ -62,7 +62,7 @@ inputs =
     Read (txn 4) (item 1) ∷
     Commit (txn 4) ∷
     [])) ∷
-    (play (pos 8 ∷ []) (2 ∷ [])
+    (history (pos 8 ∷ []) (2 ∷ [])
     (BeginUpdate 1000000000000000000 ∷
     BeginUpdate 9 ∷
     Write (txn 2) (item 0) (negsuc 7) ∷
@@ -80,7 +80,7 @@ inputs =
     Abort (txn 3) ∷
     Abort (txn 4) ∷
     [])) ∷
-    (play (pos 4 ∷ negsuc 2 ∷ pos 8 ∷ []) (1 ∷ 7 ∷ 2 ∷ [])
+    (history (pos 4 ∷ negsuc 2 ∷ pos 8 ∷ []) (1 ∷ 7 ∷ 2 ∷ [])
     (BeginUpdate 1000000000000000000 ∷
     BeginUpdate 1000000000000000000 ∷
     BeginUpdate 20 ∷
@@ -96,7 +96,7 @@ inputs =
     Commit (txn 3) ∷
     Commit (txn 4) ∷
     [])) ∷
-    (play (pos 1 ∷ []) (1 ∷ [])
+    (history (pos 1 ∷ []) (1 ∷ [])
     (BeginUpdate 0 ∷
     BeginUpdate 9 ∷
     Read (txn 1) (item 0) ∷
@@ -114,7 +114,7 @@ inputs =
     Read (txn 1) (item 0) ∷
     Commit (txn 3) ∷
     [])) ∷
-    (play (pos 3 ∷ pos 0 ∷ pos 4 ∷ []) (1 ∷ 1 ∷ 1 ∷ [])
+    (history (pos 3 ∷ pos 0 ∷ pos 4 ∷ []) (1 ∷ 1 ∷ 1 ∷ [])
     (BeginUpdate 0 ∷
     BeginQuery 1000000000000000000 true ∷
     Commit (txn 2) ∷
@@ -125,7 +125,7 @@ inputs =
     Commit (txn 3) ∷
     Commit (txn 4) ∷
     [])) ∷
-    (play (pos 3 ∷ pos 3 ∷ pos 9 ∷ []) (1 ∷ 2 ∷ 1 ∷ [])
+    (history (pos 3 ∷ pos 3 ∷ pos 9 ∷ []) (1 ∷ 2 ∷ 1 ∷ [])
     (BeginUpdate 1000000000000000001 ∷
     BeginUpdate 60 ∷
     BeginUpdate 1000000000000000001 ∷
@@ -136,7 +136,7 @@ inputs =
     Commit (txn 1) ∷
     Abort (txn 2) ∷
     [])) ∷
-    (play (pos 0 ∷ pos 1 ∷ []) (1 ∷ 1 ∷ [])
+    (history (pos 0 ∷ pos 1 ∷ []) (1 ∷ 1 ∷ [])
     (BeginUpdate 1000000000000000000 ∷
     BeginUpdate 20 ∷
     Read (txn 2) (item 1) ∷
@@ -150,7 +150,7 @@ inputs =
     Commit (txn 1) ∷
     Commit (txn 3) ∷
     [])) ∷
-    (play (negsuc 0 ∷ []) (1 ∷ [])
+    (history (negsuc 0 ∷ []) (1 ∷ [])
     (BeginUpdate 3 ∷
     BeginQuery 9 false ∷
     Write (txn 1) (item 0) (pos 10) ∷
@@ -188,7 +188,7 @@ outcomes =
     Committed ∷
     Committed ∷
     [])
-    (0 ∷ 0 ∷ 0 ∷ 0 ∷ 0 ∷ []) (found 1 0 ([]) ∷ [])) ∷
+    (0 ∷ 0 ∷ 0 ∷ 0 ∷ 0 ∷ []) (audit 1 0 ([]) ∷ [])) ∷
     (outcome (Begun (txn 1) ∷
     Begun (txn 2) ∷
     Value (pos 6) ∷
@@ -207,7 +207,7 @@ outcomes =
     Committed ∷
     Committed ∷
     [])
-    (0 ∷ 0 ∷ 0 ∷ 0 ∷ []) (found 1 0 ([]) ∷ found 3 0 ([]) ∷ [])) ∷
+    (0 ∷ 0 ∷ 0 ∷ 0 ∷ []) (audit 1 0 ([]) ∷ audit 3 0 ([]) ∷ [])) ∷
     (outcome (Begun (txn 1) ∷
     Begun (txn 2) ∷
     Value (negsuc 4) ∷
@@ -225,7 +225,7 @@ outcomes =
     Value (pos 3) ∷
     Committed ∷
     [])
-    (0 ∷ 0 ∷ 0 ∷ 0 ∷ 0 ∷ []) (found 4 0 (1 ∷ []) ∷ [])) ∷
+    (0 ∷ 0 ∷ 0 ∷ 0 ∷ 0 ∷ []) (audit 4 0 (1 ∷ []) ∷ [])) ∷
     (outcome (Begun (txn 1) ∷
     Begun (txn 2) ∷
     Wrote ∷
@@ -259,7 +259,7 @@ outcomes =
     Committed ∷
     Committed ∷
     [])
-    (0 ∷ 0 ∷ 0 ∷ 0 ∷ []) (found 4 0 ([]) ∷ [])) ∷
+    (0 ∷ 0 ∷ 0 ∷ 0 ∷ []) (audit 4 0 ([]) ∷ [])) ∷
     (outcome (Begun (txn 1) ∷
     Begun (txn 2) ∷
     Value (pos 1) ∷
@@ -288,7 +288,7 @@ outcomes =
     Committed ∷
     Committed ∷
     [])
-    (0 ∷ 0 ∷ 0 ∷ 0 ∷ []) (found 2 0 ([]) ∷ found 4 0 ([]) ∷ [])) ∷
+    (0 ∷ 0 ∷ 0 ∷ 0 ∷ []) (audit 2 0 ([]) ∷ audit 4 0 ([]) ∷ [])) ∷
     (outcome (Refused LimitOutOfRange ∷
     Begun (txn 1) ∷
     Refused LimitOutOfRange ∷
@@ -313,7 +313,7 @@ outcomes =
     Committed ∷
     Committed ∷
     [])
-    (0 ∷ 0 ∷ 0 ∷ []) (found 3 0 ([]) ∷ [])) ∷
+    (0 ∷ 0 ∷ 0 ∷ []) (audit 3 0 ([]) ∷ [])) ∷
     (outcome (Begun (txn 1) ∷
     Begun (txn 2) ∷
     Wrote ∷
@@ -331,7 +331,7 @@ outcomes =
     Committed ∷
     Committed ∷
     [])
-    (3 ∷ 3 ∷ 0 ∷ 0 ∷ []) (found 2 3 ([]) ∷ [])) ∷
+    (3 ∷ 3 ∷ 0 ∷ 0 ∷ []) (audit 2 3 ([]) ∷ [])) ∷
     []
 
 -- the definitions find the outcome of each history

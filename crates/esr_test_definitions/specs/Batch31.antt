@@ -2,13 +2,13 @@
 use Rattle.std.specs.Prelude.{◌≡◌, pos, negsuc, List, [], ◌∷◌, true, false, map}
 use Rattle.esr_history.specs.declared.event.Event.TheVariants.{BeginUpdate, BeginQuery, Read, Write, Commit, Abort}
 use Rattle.esr_history.specs.declared.event.Reply.TheVariants.{Begun, Value, Wrote, Committed, Aborted, Refused}
-use Rattle.esr_history.specs.declared.event.Refusal.TheVariants.{NoSuchTransaction, AlreadyEnded, NoSuchItem, QueryMayNotWrite, ValueOutOfRange, LimitOutOfRange, BlockedByLock, BlockedByImport, BlockedByExport}
+use Rattle.esr_history.specs.declared.event.Refusal.TheVariants.{NoSuchTransaction, NoSuchItem, QueryMayNotWrite, ValueOutOfRange, LimitOutOfRange, BlockedByLock, BlockedByImport}
 use Rattle.esr_history.specs.Worked.{item, txn}
-use Rattle.esr_test_definitions.specs.Outcomes.{Outcome, Play, found, outcome, outcome_of, play}
+use Rattle.esr_test_definitions.specs.Outcomes.{History, Outcome, audit, history, outcome, outcome_of}
 
-abbrev pub inputs : List Play
+abbrev pub inputs : List History
 inputs =
-    (play (negsuc 2 ∷ pos 3 ∷ []) (2 ∷ 1 ∷ [])
+    (history (negsuc 2 ∷ pos 3 ∷ []) (2 ∷ 1 ∷ [])
     (BeginUpdate 60 ∷
     BeginUpdate 0 ∷
     Abort (txn 2) ∷
@@ -23,7 +23,7 @@ inputs =
     Commit (txn 3) ∷
     Commit (txn 4) ∷
     [])) ∷
-    (play (negsuc 0 ∷ negsuc 2 ∷ negsuc 3 ∷ []) (7 ∷ 1 ∷ 1 ∷ [])
+    (history (negsuc 0 ∷ negsuc 2 ∷ negsuc 3 ∷ []) (7 ∷ 1 ∷ 1 ∷ [])
     (BeginQuery 3 false ∷
     BeginUpdate 60 ∷
     Read (txn 1) (item 3) ∷
@@ -34,7 +34,7 @@ inputs =
     Read (txn 1) (item 1) ∷
     Abort (txn 1) ∷
     [])) ∷
-    (play (pos 4 ∷ negsuc 4 ∷ negsuc 0 ∷ []) (1 ∷ 7 ∷ 1 ∷ [])
+    (history (pos 4 ∷ negsuc 4 ∷ negsuc 0 ∷ []) (1 ∷ 7 ∷ 1 ∷ [])
     (BeginUpdate 9 ∷
     BeginUpdate 20 ∷
     BeginUpdate 1000000000000000000 ∷
@@ -46,7 +46,7 @@ inputs =
     Commit (txn 3) ∷
     Commit (txn 4) ∷
     [])) ∷
-    (play (pos 4 ∷ pos 8 ∷ []) (2 ∷ 7 ∷ [])
+    (history (pos 4 ∷ pos 8 ∷ []) (2 ∷ 7 ∷ [])
     (BeginQuery 3 false ∷
     BeginQuery 1000000000000000000 true ∷
     Abort (txn 2) ∷
@@ -58,7 +58,7 @@ inputs =
     Commit (txn 1) ∷
     Abort (txn 3) ∷
     [])) ∷
-    (play (pos 0 ∷ negsuc 2 ∷ pos 7 ∷ []) (7 ∷ 1 ∷ 7 ∷ [])
+    (history (pos 0 ∷ negsuc 2 ∷ pos 7 ∷ []) (7 ∷ 1 ∷ 7 ∷ [])
     (BeginUpdate 20 ∷
     BeginQuery 3 true ∷
     Read (txn 1) (item 1) ∷
@@ -73,7 +73,7 @@ inputs =
     Commit (txn 2) ∷
     Commit (txn 3) ∷
     [])) ∷
-    (play (pos 0 ∷ pos 3 ∷ negsuc 3 ∷ []) (7 ∷ 7 ∷ 1 ∷ [])
+    (history (pos 0 ∷ pos 3 ∷ negsuc 3 ∷ []) (7 ∷ 7 ∷ 1 ∷ [])
     (BeginUpdate 9 ∷
     BeginQuery 0 false ∷
     Read (txn 1) (item 2) ∷
@@ -87,7 +87,7 @@ inputs =
     Commit (txn 1) ∷
     Commit (txn 4) ∷
     [])) ∷
-    (play (pos 1 ∷ negsuc 2 ∷ pos 6 ∷ []) (2 ∷ 7 ∷ 1 ∷ [])
+    (history (pos 1 ∷ negsuc 2 ∷ pos 6 ∷ []) (2 ∷ 7 ∷ 1 ∷ [])
     (BeginUpdate 60 ∷
     BeginUpdate 3 ∷
     Read (txn 2) (item 1) ∷
@@ -103,7 +103,7 @@ inputs =
     Commit (txn 2) ∷
     Commit (txn 3) ∷
     [])) ∷
-    (play (pos 6 ∷ pos 6 ∷ []) (1 ∷ 1 ∷ [])
+    (history (pos 6 ∷ pos 6 ∷ []) (1 ∷ 1 ∷ [])
     (BeginUpdate 3 ∷
     BeginUpdate 0 ∷
     Write (txn 1) (item 1) (pos 14) ∷
@@ -117,7 +117,7 @@ inputs =
     Commit (txn 3) ∷
     Abort (txn 4) ∷
     [])) ∷
-    (play (negsuc 0 ∷ pos 5 ∷ pos 8 ∷ []) (1 ∷ 1 ∷ 1 ∷ [])
+    (history (negsuc 0 ∷ pos 5 ∷ pos 8 ∷ []) (1 ∷ 1 ∷ 1 ∷ [])
     (BeginUpdate 9 ∷
     BeginQuery 0 true ∷
     BeginQuery 3 false ∷
@@ -134,7 +134,7 @@ inputs =
     Commit (txn 4) ∷
     Commit (txn 5) ∷
     [])) ∷
-    (play (pos 8 ∷ negsuc 2 ∷ []) (1 ∷ 1 ∷ [])
+    (history (pos 8 ∷ negsuc 2 ∷ []) (1 ∷ 1 ∷ [])
     (BeginUpdate 0 ∷
     BeginUpdate 1000000000000000000 ∷
     Commit (txn 2) ∷
@@ -161,7 +161,7 @@ outcomes =
     Committed ∷
     Committed ∷
     [])
-    (0 ∷ 0 ∷ 0 ∷ 0 ∷ 0 ∷ []) (found 4 0 ([]) ∷ [])) ∷
+    (0 ∷ 0 ∷ 0 ∷ 0 ∷ 0 ∷ []) (audit 4 0 ([]) ∷ [])) ∷
     (outcome (Begun (txn 1) ∷
     Begun (txn 2) ∷
     Refused NoSuchItem ∷
@@ -196,7 +196,7 @@ outcomes =
     Committed ∷
     Aborted ∷
     [])
-    (0 ∷ 0 ∷ 0 ∷ []) (found 1 0 ([]) ∷ [])) ∷
+    (0 ∷ 0 ∷ 0 ∷ []) (audit 1 0 ([]) ∷ [])) ∷
     (outcome (Begun (txn 1) ∷
     Begun (txn 2) ∷
     Value (negsuc 2) ∷
@@ -211,7 +211,7 @@ outcomes =
     Committed ∷
     Committed ∷
     [])
-    (0 ∷ 0 ∷ 0 ∷ []) (found 2 0 ([]) ∷ [])) ∷
+    (0 ∷ 0 ∷ 0 ∷ []) (audit 2 0 ([]) ∷ [])) ∷
     (outcome (Begun (txn 1) ∷
     Begun (txn 2) ∷
     Value (negsuc 3) ∷
@@ -241,7 +241,7 @@ outcomes =
     Committed ∷
     Committed ∷
     [])
-    (0 ∷ 0 ∷ 0 ∷ 0 ∷ []) (found 3 0 ([]) ∷ [])) ∷
+    (0 ∷ 0 ∷ 0 ∷ 0 ∷ []) (audit 3 0 ([]) ∷ [])) ∷
     (outcome (Begun (txn 1) ∷
     Begun (txn 2) ∷
     Wrote ∷
@@ -272,7 +272,7 @@ outcomes =
     Committed ∷
     Committed ∷
     [])
-    (0 ∷ 0 ∷ 0 ∷ 0 ∷ 0 ∷ []) (found 2 0 ([]) ∷ found 3 0 ([]) ∷ found 4 0 ([]) ∷ [])) ∷
+    (0 ∷ 0 ∷ 0 ∷ 0 ∷ 0 ∷ []) (audit 2 0 ([]) ∷ audit 3 0 ([]) ∷ audit 4 0 ([]) ∷ [])) ∷
     (outcome (Begun (txn 1) ∷
     Begun (txn 2) ∷
     Committed ∷

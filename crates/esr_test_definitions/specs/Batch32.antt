@@ -2,13 +2,13 @@
 use Rattle.std.specs.Prelude.{◌≡◌, pos, negsuc, List, [], ◌∷◌, true, false, map}
 use Rattle.esr_history.specs.declared.event.Event.TheVariants.{BeginUpdate, BeginQuery, Read, Write, Commit, Abort}
 use Rattle.esr_history.specs.declared.event.Reply.TheVariants.{Begun, Value, Wrote, Committed, Aborted, Refused}
-use Rattle.esr_history.specs.declared.event.Refusal.TheVariants.{NoSuchTransaction, AlreadyEnded, NoSuchItem, QueryMayNotWrite, ValueOutOfRange, LimitOutOfRange, BlockedByLock, BlockedByImport, BlockedByExport}
+use Rattle.esr_history.specs.declared.event.Refusal.TheVariants.{NoSuchTransaction, AlreadyEnded, NoSuchItem, QueryMayNotWrite, ValueOutOfRange, LimitOutOfRange, BlockedByLock, BlockedByImport}
 use Rattle.esr_history.specs.Worked.{item, txn}
-use Rattle.esr_test_definitions.specs.Outcomes.{Outcome, Play, found, outcome, outcome_of, play}
+use Rattle.esr_test_definitions.specs.Outcomes.{History, Outcome, audit, history, outcome, outcome_of}
 
-abbrev pub inputs : List Play
+abbrev pub inputs : List History
 inputs =
-    (play (negsuc 2 ∷ []) (1 ∷ [])
+    (history (negsuc 2 ∷ []) (1 ∷ [])
     (BeginUpdate 20 ∷
     BeginUpdate 0 ∷
     Write (txn 2) (item 0) (negsuc 3) ∷
@@ -27,7 +27,7 @@ inputs =
     Commit (txn 3) ∷
     Abort (txn 5) ∷
     [])) ∷
-    (play (negsuc 4 ∷ []) (7 ∷ [])
+    (history (negsuc 4 ∷ []) (7 ∷ [])
     (BeginUpdate 1000000000000000001 ∷
     BeginUpdate 9 ∷
     BeginUpdate 20 ∷
@@ -42,7 +42,7 @@ inputs =
     Commit (txn 3) ∷
     Commit (txn 4) ∷
     [])) ∷
-    (play (pos 7 ∷ pos 5 ∷ pos 6 ∷ []) (1 ∷ 2 ∷ 7 ∷ [])
+    (history (pos 7 ∷ pos 5 ∷ pos 6 ∷ []) (1 ∷ 2 ∷ 7 ∷ [])
     (BeginUpdate 0 ∷
     BeginQuery 9 true ∷
     BeginQuery 9 false ∷
@@ -58,7 +58,7 @@ inputs =
     Commit (txn 1) ∷
     Commit (txn 4) ∷
     [])) ∷
-    (play (negsuc 3 ∷ []) (1 ∷ [])
+    (history (negsuc 3 ∷ []) (1 ∷ [])
     (BeginQuery 1000000000000000001 false ∷
     BeginQuery 0 true ∷
     BeginUpdate 20 ∷
@@ -69,7 +69,7 @@ inputs =
     Read (txn 3) (item 1) ∷
     Commit (txn 1) ∷
     [])) ∷
-    (play (negsuc 2 ∷ negsuc 2 ∷ pos 2 ∷ []) (1 ∷ 2 ∷ 7 ∷ [])
+    (history (negsuc 2 ∷ negsuc 2 ∷ pos 2 ∷ []) (1 ∷ 2 ∷ 7 ∷ [])
     (BeginUpdate 1000000000000000000 ∷
     BeginUpdate 0 ∷
     Write (txn 2) (item 1) (negsuc 8) ∷
@@ -82,7 +82,7 @@ inputs =
     Abort (txn 2) ∷
     Abort (txn 3) ∷
     [])) ∷
-    (play (pos 7 ∷ pos 9 ∷ []) (1 ∷ 7 ∷ [])
+    (history (pos 7 ∷ pos 9 ∷ []) (1 ∷ 7 ∷ [])
     (BeginUpdate 0 ∷
     BeginQuery 60 false ∷
     Commit (txn 1) ∷
@@ -96,7 +96,7 @@ inputs =
     BeginUpdate 1000000000000000000 ∷
     Read (txn 3) (item 1) ∷
     [])) ∷
-    (play (pos 4 ∷ []) (1 ∷ [])
+    (history (pos 4 ∷ []) (1 ∷ [])
     (BeginUpdate 60 ∷
     BeginQuery 1000000000000000000 true ∷
     Read (txn 1) (item 0) ∷
@@ -114,7 +114,7 @@ inputs =
     Abort (txn 1) ∷
     Commit (txn 3) ∷
     [])) ∷
-    (play (negsuc 1 ∷ pos 6 ∷ pos 1 ∷ []) (1 ∷ 2 ∷ 1 ∷ [])
+    (history (negsuc 1 ∷ pos 6 ∷ pos 1 ∷ []) (1 ∷ 2 ∷ 1 ∷ [])
     (BeginUpdate 9 ∷
     BeginQuery 3 false ∷
     BeginUpdate 3 ∷
@@ -129,7 +129,7 @@ inputs =
     Commit (txn 3) ∷
     Commit (txn 4) ∷
     [])) ∷
-    (play (negsuc 4 ∷ negsuc 2 ∷ negsuc 4 ∷ []) (1 ∷ 1 ∷ 1 ∷ [])
+    (history (negsuc 4 ∷ negsuc 2 ∷ negsuc 4 ∷ []) (1 ∷ 1 ∷ 1 ∷ [])
     (BeginQuery 3 true ∷
     BeginUpdate 20 ∷
     Read (txn 2) (item 1) ∷
@@ -142,7 +142,7 @@ inputs =
     Read (txn 2) (item 2) ∷
     Abort (txn 2) ∷
     [])) ∷
-    (play (negsuc 4 ∷ []) (1 ∷ [])
+    (history (negsuc 4 ∷ []) (1 ∷ [])
     (BeginQuery 60 false ∷
     BeginUpdate 60 ∷
     BeginQuery 9 false ∷
@@ -198,7 +198,7 @@ outcomes =
     Committed ∷
     Committed ∷
     [])
-    (0 ∷ 0 ∷ 0 ∷ 0 ∷ []) (found 3 0 ([]) ∷ found 4 0 ([]) ∷ [])) ∷
+    (0 ∷ 0 ∷ 0 ∷ 0 ∷ []) (audit 3 0 ([]) ∷ audit 4 0 ([]) ∷ [])) ∷
     (outcome (Begun (txn 1) ∷
     Begun (txn 2) ∷
     Begun (txn 3) ∷
@@ -214,7 +214,7 @@ outcomes =
     Committed ∷
     Committed ∷
     [])
-    (0 ∷ 0 ∷ 0 ∷ 0 ∷ []) (found 3 0 ([]) ∷ found 4 0 ([]) ∷ [])) ∷
+    (0 ∷ 0 ∷ 0 ∷ 0 ∷ []) (audit 3 0 ([]) ∷ audit 4 0 ([]) ∷ [])) ∷
     (outcome (Refused LimitOutOfRange ∷
     Begun (txn 1) ∷
     Begun (txn 2) ∷
@@ -225,7 +225,7 @@ outcomes =
     Refused NoSuchItem ∷
     Committed ∷
     [])
-    (0 ∷ 0 ∷ 0 ∷ []) (found 1 0 ([]) ∷ [])) ∷
+    (0 ∷ 0 ∷ 0 ∷ []) (audit 1 0 ([]) ∷ [])) ∷
     (outcome (Begun (txn 1) ∷
     Begun (txn 2) ∷
     Wrote ∷
@@ -252,7 +252,7 @@ outcomes =
     Begun (txn 3) ∷
     Value (pos 9) ∷
     [])
-    (0 ∷ 0 ∷ 0 ∷ []) (found 2 0 ([]) ∷ [])) ∷
+    (0 ∷ 0 ∷ 0 ∷ []) (audit 2 0 ([]) ∷ [])) ∷
     (outcome (Begun (txn 1) ∷
     Begun (txn 2) ∷
     Value (pos 4) ∷
@@ -285,7 +285,7 @@ outcomes =
     Committed ∷
     Committed ∷
     [])
-    (0 ∷ 0 ∷ 0 ∷ 0 ∷ []) (found 2 0 ([]) ∷ found 4 0 ([]) ∷ [])) ∷
+    (0 ∷ 0 ∷ 0 ∷ 0 ∷ []) (audit 2 0 ([]) ∷ audit 4 0 ([]) ∷ [])) ∷
     (outcome (Begun (txn 1) ∷
     Begun (txn 2) ∷
     Value (negsuc 2) ∷
@@ -298,7 +298,7 @@ outcomes =
     Value (negsuc 4) ∷
     Aborted ∷
     [])
-    (0 ∷ 0 ∷ []) (found 1 0 ([]) ∷ [])) ∷
+    (0 ∷ 0 ∷ []) (audit 1 0 ([]) ∷ [])) ∷
     (outcome (Begun (txn 1) ∷
     Begun (txn 2) ∷
     Begun (txn 3) ∷
@@ -317,7 +317,7 @@ outcomes =
     Committed ∷
     Committed ∷
     [])
-    (0 ∷ 0 ∷ 0 ∷ 0 ∷ 0 ∷ []) (found 1 0 ([]) ∷ found 3 0 ([]) ∷ [])) ∷
+    (0 ∷ 0 ∷ 0 ∷ 0 ∷ 0 ∷ []) (audit 1 0 ([]) ∷ audit 3 0 ([]) ∷ [])) ∷
     []
 
 -- the definitions find the outcome of each history

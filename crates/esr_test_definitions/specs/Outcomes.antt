@@ -9,13 +9,13 @@ use Rattle.esr_history.specs.Queries.{is_committed_query}
 use Rattle.esr_order.specs.Least.{least_cost, least_set}
 
 -- the opening values, the weights and the events of a history
-pub record Play : Type 0 where
+pub record History : Type 0 where
   pub opening : List ℤ
   pub weights : List ℕ
   pub events : List Event
 
-abbrev pub play : List ℤ → List ℕ → List Event → Play
-play opening weights events = record { opening = opening; weights = weights; events = events }
+abbrev pub history : List ℤ → List ℕ → List Event → History
+history opening weights events = record { opening = opening; weights = weights; events = events }
 
 -- the audit of a committed query
 pub record Audit : Type 0 where
@@ -23,8 +23,8 @@ pub record Audit : Type 0 where
   pub cost : ℕ
   pub set : List ℕ
 
-abbrev pub found : ℕ → ℕ → List ℕ → Audit
-found query cost set = record { query = query; cost = cost; set = set }
+abbrev pub audit : ℕ → ℕ → List ℕ → Audit
+audit query cost set = record { query = query; cost = cost; set = set }
 
 -- the replies in order; the import or export of each transaction, and the audit of each committed query, by ascending numbers
 pub record Outcome : Type 0 where
@@ -45,12 +45,12 @@ charge_of h t =
     if is_query (accepted_in h) t then import_in (charges_in weighted h) t else export_in (charges_in weighted h) t
 
 abbrev pub audit_of : Schedule → ℕ → Audit
-audit_of h q = found q (least_cost weighted h q) (least_set weighted h q)
+audit_of h q = audit q (least_cost weighted h q) (least_set weighted h q)
 
 abbrev pub outcome_in : Schedule → Outcome
 outcome_in h =
     outcome (map (λ e. e.reply) h.entries) (map (charge_of h) (txn_numbers (accepted_in h)))
     (map (audit_of h) (filter (is_committed_query h) (txn_numbers (accepted_in h))))
 
-abbrev pub outcome_of : Play → Outcome
+abbrev pub outcome_of : History → Outcome
 outcome_of p = outcome_in (after (schedule_of p.opening p.weights []) p.events)

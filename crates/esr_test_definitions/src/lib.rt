@@ -8,7 +8,7 @@
 #![tactic(auto)]
 
 ghost use Rattle.esr_test_definitions.specs.All.{AllDefinitionsMatchReference};
-ghost use Rattle.esr_test_definitions.specs.Edges.{LongHistoriesRefuse};
+ghost use Rattle.esr_test_definitions.specs.LongHistories.{LongHistoriesRefuse};
 
 /// States that the definitions find the outcome of each generated history.
 pub fn definitions_agree()

@@ -4,7 +4,7 @@ ghost use Rattle.esr_order.specs.Index.{IsWholeIndexOf};
 
 use crate::causes::ranking;
 use crate::model::{Arrow, Lane, LaneEnd, Source};
-use esr_audit::{AuditError, CommitLists, audit_query, audit_query_by_index, commit_lists};
+use esr_audit::{AuditError, CommitLists, audit_query, audit_query_with_index, commit_lists};
 use esr_history::{Entry, Event, History, Refusal, Reply, TxnId};
 use esr_items::Weighted;
 use esr_order::Index;
@@ -186,7 +186,7 @@ fn measure_of(
 ) -> Result<(u64, u64), AllocError>
     requires { IsWholeIndexOf history.now.schedule.entries index.now }
 {
-    match audit_query_by_index(alloc, history, index, query) {
+    match audit_query_with_index(alloc, history, index, query) {
         Ok(finding) => Ok((finding.distance, finding.import)),
         Err(_) => Err(AllocError),
     }

@@ -10,9 +10,9 @@ use Rattle.esr_audit.proofs.audit.audit_query.Goals as goal
 pub returns-clause-stays : goal.returns-clause-stays
 returns-clause-stays g c =
     let h = c.args.history.now.schedule in
-    let f = c.in_ok-find.field-0 in
+    let f = c.in_ok-finding_of.field-0 in
     let both : is_committed_query h c.args.q.0 ≡ true = elim (cases_Bool (is_committed_query h c.args.q.0)) [
       | inl is ↦ is
       | inr isnt ↦ let none = c.in_ok-order.ensures.refused.1 isnt in absurd (cc)
     ] in
-    answer.stays g.M.Metric.distance_by h c.args.q.0 f.distance f.import (map (λ (t : TxnId). t.0) f.before.items) (and_parts (is_query (accepted_in h) c.args.q.0) (is_committed (accepted_in h) c.args.q.0) both).1 c.in_ok-find.ensures.finding.answer
+    answer.stays g.M.Metric.distance_by h c.args.q.0 f.distance f.import (map (λ (t : TxnId). t.0) f.before.items) (and_parts (is_query (accepted_in h) c.args.q.0) (is_committed (accepted_in h) c.args.q.0) both).1 c.in_ok-finding_of.ensures.finding.answer

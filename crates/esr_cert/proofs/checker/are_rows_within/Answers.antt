@@ -1,6 +1,6 @@
 use Rattle.std.proofs.Common.{◌≡◌, ◌+◌, ◌&&◌, ◌≢◌, false, true, map, drop, length, sym, ap, ◌∙◌, arith}
 use Rattle.std.proofs.lemmas.List.{length-map}
-use Rattle.esr_cert.specs.Parts.{is_row_within, are_rows_within}
+use Rattle.esr_cert.specs.Capacities.{is_row_within, are_rows_within}
 use Rattle.esr_cert.specs.Views.{chain_view, rows_of}
 use Rattle.esr_cert.proofs.Steps.{drop_map_more, rows_within_step, rows_within_apart}
 use Rattle.esr_cert.proofs.checker.are_rows_within.Goals as goal

@@ -1,5 +1,5 @@
 use Rattle.std.proofs.Common.{◌≡◌, drop, map}
-use Rattle.esr_cert.specs.Parts.{are_rows_within}
+use Rattle.esr_cert.specs.Capacities.{are_rows_within}
 use Rattle.esr_cert.specs.Views.{chain_view, rows_of}
 use Rattle.esr_cert.proofs.checker.are_rows_within.Given as goal
 

@@ -1,5 +1,5 @@
 use Rattle.std.proofs.Common.{◌≡◌, drop}
-use Rattle.esr_cert.specs.Parts.{is_row_within}
+use Rattle.esr_cert.specs.Capacities.{is_row_within}
 use Rattle.esr_cert.proofs.checker.is_row_within.Given as goal
 
 abbrev pub invariant-loop-i : goal.invariant-loop-i

@@ -1,5 +1,5 @@
 use Rattle.std.proofs.Common.{◌≡◌, ◌∙◌, ◌&&◌, eqb, sym, ap, length, arith, eq-eqb}
-use Rattle.esr_cert.specs.Parts.{are_rows_within}
+use Rattle.esr_cert.specs.Capacities.{are_rows_within}
 use Rattle.esr_cert.specs.Views.{rows_of, certificate_of}
 use Rattle.esr_cert.proofs.Sound.{facts}
 use Rattle.esr_cert.proofs.Within.{within_rows}

@@ -30,8 +30,8 @@ pub index-requires : goal.index-requires
 index-requires c =
     omega (arith, count_is c.args.parts.now.updates.items c.args.parts.now.before.items c.args.parts.now.chains.items c.args.parts.now.must.items c.requires.sound c.in_ok-starts.starts.items (c.in_ok-starts.ensures ∙ ap (λ list. starts_from 0 (map chain_view list)) c.deref-4.ensures.value), c.len.ensures, c.args.parts.now.chains.ok.0, c.in_ok-starts.starts.ok.0)
 
-pub owners_of-requires : goal.owners_of-requires
-owners_of-requires c =
+pub arc_chains_of-requires : goal.arc_chains_of-requires
+arc_chains_of-requires c =
     let p : Problem = problem_by c.args.parts.now in
     omega (arith, (are_bounded p c.requires.sound).chains, length-map c.args.parts.now.chains.items chain_view, ap length c.deref-5.ensures.value)
 

@@ -1,5 +1,5 @@
 use Rattle.std.proofs.Common.{arith, ◌≡◌, ◌+◌, ◌<◌, ◌∙◌, length, sym, subst}
-use Rattle.esr_cert.specs.Rows.{first_steps, Counted}
+use Rattle.esr_cert.specs.Rows.{residual_arcs_below, Counted}
 use Rattle.esr_cert.proofs.RowsLaws.{along_small, against_small, counted_arc}
 use Rattle.esr_cert.proofs.rows.count_links.Goals as goal
 
@@ -26,4 +26,4 @@ loop-j-preserved c =
 pub returns : goal.returns
 returns c =
     let all : c.loop-j.j ≡ length c.args.chain.now.costs.items = omega (arith, c.loop-j-test.false, c.loop-j.auto.j-end, c.len-j-end.ensures, c.args.chain.now.costs.ok.0) in
-    subst (λ n. Counted c.args._arcs.now c.args._nodes (first_steps (c.args._begin + n)) c.loop-j.degrees.items) all c.loop-j.invariant
+    subst (λ n. Counted c.args._arcs.now c.args._nodes (residual_arcs_below (c.args._begin + n)) c.loop-j.degrees.items) all c.loop-j.invariant

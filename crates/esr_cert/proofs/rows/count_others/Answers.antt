@@ -1,6 +1,6 @@
 use Rattle.std.proofs.Common.{arith, ◌≡◌, ◌+◌, ◌<◌, length, refl, ap, subst}
 use Rattle.esr_cert.specs.Network.{Arc}
-use Rattle.esr_cert.specs.Rows.{first_steps, Counted}
+use Rattle.esr_cert.specs.Rows.{residual_arcs_below, Counted}
 use Rattle.esr_cert.proofs.RowsLaws.{along_small, against_small, counted_arc}
 use Rattle.esr_cert.proofs.rows.count_others.Goals as goal
 
@@ -22,4 +22,4 @@ loop-i-preserved c =
 pub returns : goal.returns
 returns c =
     let all : c.loop-i.i ≡ length c.args.arcs.now = omega (arith, c.loop-i-test.false, c.loop-i.auto.i-end, c.requires.first, c.len-i-end.ensures) in
-    subst (λ n. Counted c.args.arcs.now c.args._nodes (first_steps n) c.loop-i.degrees.items) all c.loop-i.invariant
+    subst (λ n. Counted c.args.arcs.now c.args._nodes (residual_arcs_below n) c.loop-i.degrees.items) all c.loop-i.invariant

@@ -1,6 +1,6 @@
 use Rattle.std.proofs.Common.{arith, ◌≡◌, length, map, refl, sym}
 use Rattle.esr_cert.specs.Views.{chain_view}
-use Rattle.esr_cert.proofs.LinksLaws.{links_here, links_after, starts_first}
+use Rattle.esr_cert.proofs.ChainArcsLaws.{links_here, links_after, starts_first}
 use Rattle.esr_cert.proofs.RowsLaws.{counted_none, counted_all}
 use Rattle.esr_cert.proofs.rows.degrees_of.Goals as goal
 

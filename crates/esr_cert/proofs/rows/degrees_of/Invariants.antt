@@ -1,5 +1,5 @@
 use Rattle.std.proofs.Common.{◌≡◌, ◌≤◌, length, get_or, map}
-use Rattle.esr_cert.specs.Rows.{first_steps, Counted}
+use Rattle.esr_cert.specs.Rows.{residual_arcs_below, Counted}
 use Rattle.esr_cert.specs.Starts.{starts_from}
 use Rattle.esr_cert.specs.Views.{chain_view}
 use Rattle.esr_cert.proofs.rows.degrees_of.Given as goal
@@ -8,5 +8,5 @@ abbrev pub invariant-loop-chain : goal.invariant-loop-chain
 invariant-loop-chain l = record {
   place : l.begin ≡ get_or (starts_from 0 (map chain_view l.chains)) l.chain-index 0;
   inside : l.begin ≤ length l.arcs;
-  counted : Counted l.arcs l.node_count (first_steps l.begin) l.degrees.items;
+  counted : Counted l.arcs l.node_count (residual_arcs_below l.begin) l.degrees.items;
 }

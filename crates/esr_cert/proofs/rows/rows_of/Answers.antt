@@ -1,5 +1,5 @@
 use Rattle.std.proofs.Common.{arith, ◌≡◌, length, refl}
-use Rattle.esr_cert.proofs.LinksLaws.{links_here, links_after}
+use Rattle.esr_cert.proofs.ChainArcsLaws.{links_here, links_after}
 use Rattle.esr_cert.proofs.IsLaidOut.{laid_rows, laid_steps}
 use Rattle.esr_cert.proofs.rows.rows_of.Goals as goal
 

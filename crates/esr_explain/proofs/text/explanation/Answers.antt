@@ -5,7 +5,7 @@ use Rattle.esr_history.specs.Machine.{charges_in, import_in}
 use Rattle.esr_order.specs.Least.{least_set, least_cost}
 use Rattle.esr_explain.specs.declared.charges.Charge.{Charge}
 use Rattle.esr_explain.specs.declared.reads.ComparedRead.{ComparedRead}
-use Rattle.esr_explain.specs.Explain.{charges, compared_reads, explanation_lines, others}
+use Rattle.esr_explain.specs.Explain.{charges, compared_reads, explanation_lines, updates_outside}
 use Rattle.esr_explain.proofs.text.explanation.Goals as goal
 
 pub returns : goal.returns
@@ -21,6 +21,6 @@ returns c = λ same.
     ∙ ap (λ rs. lines rs e.charges.items (map (λ (t : TxnId). t.0) e.before.now) (map (λ (t : TxnId). t.0) e.after.items) e.distance e.import) (c.in_ok-explained.ensures.reads ∙ ap (compared_reads weighted h q) set)
     ∙ ap (λ cs. lines (compared_reads weighted h q least) cs (map (λ (t : TxnId). t.0) e.before.now) (map (λ (t : TxnId). t.0) e.after.items) e.distance e.import) c.in_ok-explained.ensures.charges
     ∙ ap (λ ts. lines (compared_reads weighted h q least) (charges weighted h q) ts (map (λ (t : TxnId). t.0) e.after.items) e.distance e.import) (ap (map (λ (t : TxnId). t.0)) c.in_ok-explained.ensures.before ∙ set)
-    ∙ ap (λ ts. lines (compared_reads weighted h q least) (charges weighted h q) least ts e.distance e.import) (c.in_ok-explained.ensures.after ∙ ap (others h q) set)
-    ∙ ap (λ n. lines (compared_reads weighted h q least) (charges weighted h q) least (others h q least) n e.import) (c.in_ok-explained.ensures.sums.0 ∙ ap (λ (t : ℕ × ℕ × ℕ × List ℕ). t.1) same)
-    ∙ ap (λ n. lines (compared_reads weighted h q least) (charges weighted h q) least (others h q least) (least_cost weighted h q) n) (c.in_ok-explained.ensures.sums.1 ∙ ap (λ (t : ℕ × ℕ × ℕ × List ℕ). t.2) same)
+    ∙ ap (λ ts. lines (compared_reads weighted h q least) (charges weighted h q) least ts e.distance e.import) (c.in_ok-explained.ensures.after ∙ ap (updates_outside h q) set)
+    ∙ ap (λ n. lines (compared_reads weighted h q least) (charges weighted h q) least (updates_outside h q least) n e.import) (c.in_ok-explained.ensures.sums.0 ∙ ap (λ (t : ℕ × ℕ × ℕ × List ℕ). t.1) same)
+    ∙ ap (λ n. lines (compared_reads weighted h q least) (charges weighted h q) least (updates_outside h q least) (least_cost weighted h q) n) (c.in_ok-explained.ensures.sums.1 ∙ ap (λ (t : ℕ × ℕ × ℕ × List ℕ). t.2) same)

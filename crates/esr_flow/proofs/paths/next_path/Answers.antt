@@ -5,7 +5,7 @@ use Rattle.esr_cert.specs.Flow.{within}
 use Rattle.esr_cert.specs.Network.{Network}
 use Rattle.esr_flow.specs.ShortEntry.{AdjacencyEntry}
 use Rattle.esr_flow.specs.Residual.{residual_capacity, finish}
-use Rattle.esr_cert.specs.Steps.{arc_of, start, opposite, step_at}
+use Rattle.esr_cert.specs.ResidualArcs.{arc_of, start, opposite, step_at}
 use Rattle.esr_flow.specs.ResidualGraph.{network_arcs, network_of, IsAdjacencyRow, IsEntry, entry_at}
 use Rattle.esr_cert.specs.Rows.{span_at}
 use Rattle.esr_flow.specs.Search.{label_at, IsGuided}

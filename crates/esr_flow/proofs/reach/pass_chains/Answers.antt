@@ -3,7 +3,7 @@ use Rattle.std.proofs.lemmas.Bool.{cases_lt}
 use Rattle.esr_flow.specs.ResidualGraph.{network_arcs}
 use Rattle.esr_cert.specs.Starts.{starts_from}
 use Rattle.esr_flow.specs.Reached.{IsKeptOver, first_back}
-use Rattle.esr_cert.proofs.LinksLaws.{starts_first, next_begin, inside_all}
+use Rattle.esr_cert.proofs.ChainArcsLaws.{starts_first, next_begin, inside_all}
 use Rattle.esr_flow.proofs.PassLaws.{count_is, has_links}
 use Rattle.esr_flow.proofs.reach.pass_chains.Goals as goal
 use Rattle.esr_flow.proofs.reach.pass_chains.Goals.{then-pass_chain, else-pass_chain}

@@ -3,7 +3,7 @@ use Rattle.std.proofs.lemmas.List.{get_or_read}
 use Rattle.esr_flow.specs.ShortEntry.{AdjacencyEntry}
 use Rattle.esr_flow.specs.Types.{Forward}
 use Rattle.esr_flow.specs.ResidualGraph.{network_of}
-use Rattle.esr_cert.specs.Steps.{step_at}
+use Rattle.esr_cert.specs.ResidualArcs.{step_at}
 use Rattle.esr_flow.specs.Search.{is_marked, FoundSink}
 use Rattle.esr_flow.proofs.ScanLaws.{Scanning, none_at, visit_of, entry_marked, scan_skip, scan_marked, scan_visit, scan_found, scan_end}
 use Rattle.esr_flow.proofs.search.scan.Goals as goal

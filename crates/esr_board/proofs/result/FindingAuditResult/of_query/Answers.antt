@@ -3,4 +3,4 @@ use Rattle.esr_board.proofs.result.FindingAuditResult.of_query.Goals as goal
 
 pub returns-clause-kept : goal.returns-clause-kept
 returns-clause-kept g c =
-    finding_kept g.M.Metric.distance_by c.args.history.now.schedule c.args.q c.audit_query_by_index.result c.audit_query_by_index.ensures.query c.audit_query_by_index.ensures.finding
+    finding_kept g.M.Metric.distance_by c.args.history.now.schedule c.args.q c.audit_query_with_index.result c.audit_query_with_index.ensures.query c.audit_query_with_index.ensures.finding

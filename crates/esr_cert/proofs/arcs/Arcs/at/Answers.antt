@@ -13,21 +13,21 @@ pub offset_bounds-self-inside-chain-then-number-links : goal.offset_bounds-self-
 offset_bounds-self-inside-chain-then-number-links c =
     omega (
       arith,
-      row_in_chains c.self.inside.updates.now c.self.inside.before.now c.self.inside.chains.now c.self.inside.must.now c.self.invariant.0 c.self.inside.starts.now c.self.invariant.1 c.args.number c.owner_at-chain.result c.if-number-links.true c.owner_at-chain.ensures.bound c.owner_at-chain.ensures.begun c.owner_at-chain.ensures.last,
+      row_in_chains c.self.inside.updates.now c.self.inside.before.now c.self.inside.chains.now c.self.inside.must.now c.self.invariant.0 c.self.inside.starts.now c.self.invariant.1 c.args.number c.chain_of_arc-chain.result c.if-number-links.true c.chain_of_arc-chain.ensures.bound c.chain_of_arc-chain.ensures.begun c.chain_of_arc-chain.ensures.last,
       chains_bounded c.self.inside.updates.now c.self.inside.before.now c.self.inside.chains.now c.self.inside.must.now c.self.invariant.0 c.self.inside.starts.now c.self.invariant.1,
     )
 
 pub bounds-self-inside-chain-then-number-links : goal.bounds-self-inside-chain-then-number-links
 bounds-self-inside-chain-then-number-links c =
-    row_in_chains c.self.inside.updates.now c.self.inside.before.now c.self.inside.chains.now c.self.inside.must.now c.self.invariant.0 c.self.inside.starts.now c.self.invariant.1 c.args.number c.owner_at-chain.result c.if-number-links.true c.owner_at-chain.ensures.bound c.owner_at-chain.ensures.begun c.owner_at-chain.ensures.last
+    row_in_chains c.self.inside.updates.now c.self.inside.before.now c.self.inside.chains.now c.self.inside.must.now c.self.invariant.0 c.self.inside.starts.now c.self.invariant.1 c.args.number c.chain_of_arc-chain.result c.if-number-links.true c.chain_of_arc-chain.ensures.bound c.chain_of_arc-chain.ensures.begun c.chain_of_arc-chain.ensures.last
 
 pub link_at-requires-clause-count : goal.link_at-requires-clause-count
 link_at-requires-clause-count c =
-    chain_whole c.self.inside.updates.now c.self.inside.before.now c.self.inside.chains.now c.self.inside.must.now c.self.invariant.0 c.self.inside.starts.now c.self.invariant.1 c.args.number c.owner_at-chain.result c.if-number-links.true c.owner_at-chain.ensures.bound c.owner_at-chain.ensures.begun c.owner_at-chain.ensures.last (get_or c.self.inside.chains.now c.owner_at-chain.result c.index-self-chain.result) (ap (get_or c.self.inside.chains.now c.owner_at-chain.result) c.index-self-chain.is)
+    chain_whole c.self.inside.updates.now c.self.inside.before.now c.self.inside.chains.now c.self.inside.must.now c.self.invariant.0 c.self.inside.starts.now c.self.invariant.1 c.args.number c.chain_of_arc-chain.result c.if-number-links.true c.chain_of_arc-chain.ensures.bound c.chain_of_arc-chain.ensures.begun c.chain_of_arc-chain.ensures.last (get_or c.self.inside.chains.now c.chain_of_arc-chain.result c.index-self-chain.result) (ap (get_or c.self.inside.chains.now c.chain_of_arc-chain.result) c.index-self-chain.is)
 
 pub link_at-requires-clause-place : goal.link_at-requires-clause-place
 link_at-requires-clause-place c =
-    place_in_chain c.self.inside.updates.now c.self.inside.before.now c.self.inside.chains.now c.self.inside.must.now c.self.invariant.0 c.self.inside.starts.now c.self.invariant.1 c.args.number c.owner_at-chain.result c.if-number-links.true c.owner_at-chain.ensures.bound c.owner_at-chain.ensures.begun c.owner_at-chain.ensures.last (get_or c.self.inside.chains.now c.owner_at-chain.result c.index-self-chain.result) (ap (get_or c.self.inside.chains.now c.owner_at-chain.result) c.index-self-chain.is)
+    place_in_chain c.self.inside.updates.now c.self.inside.before.now c.self.inside.chains.now c.self.inside.must.now c.self.invariant.0 c.self.inside.starts.now c.self.invariant.1 c.args.number c.chain_of_arc-chain.result c.if-number-links.true c.chain_of_arc-chain.ensures.bound c.chain_of_arc-chain.ensures.begun c.chain_of_arc-chain.ensures.last (get_or c.self.inside.chains.now c.chain_of_arc-chain.result c.index-self-chain.result) (ap (get_or c.self.inside.chains.now c.chain_of_arc-chain.result) c.index-self-chain.is)
 
 pub link_at-requires-clause-source : goal.link_at-requires-clause-source
 link_at-requires-clause-source c = updates_bounded c.self.inside.updates.now c.self.inside.before.now c.self.inside.chains.now c.self.inside.must.now c.self.invariant.0 c.self.inside.starts.now c.self.invariant.1
@@ -35,7 +35,7 @@ link_at-requires-clause-source c = updates_bounded c.self.inside.updates.now c.s
 pub returns-then-number-links : goal.returns-then-number-links
 returns-then-number-links c =
     c.link_at.ensures
-    ∙ link_of c.self.inside.updates.now c.self.inside.before.now c.self.inside.chains.now c.self.inside.must.now c.self.invariant.0 c.self.inside.starts.now c.self.invariant.1 c.args.number c.owner_at-chain.result c.if-number-links.true c.owner_at-chain.ensures.bound c.owner_at-chain.ensures.begun c.owner_at-chain.ensures.last (get_or c.self.inside.chains.now c.owner_at-chain.result c.index-self-chain.result) (ap (get_or c.self.inside.chains.now c.owner_at-chain.result) c.index-self-chain.is)
+    ∙ link_of c.self.inside.updates.now c.self.inside.before.now c.self.inside.chains.now c.self.inside.must.now c.self.invariant.0 c.self.inside.starts.now c.self.invariant.1 c.args.number c.chain_of_arc-chain.result c.if-number-links.true c.chain_of_arc-chain.ensures.bound c.chain_of_arc-chain.ensures.begun c.chain_of_arc-chain.ensures.last (get_or c.self.inside.chains.now c.chain_of_arc-chain.result c.index-self-chain.result) (ap (get_or c.self.inside.chains.now c.chain_of_arc-chain.result) c.index-self-chain.is)
     ∙ ap (λ arcs. arc_at arcs c.args.number) c.self.view_is
 
 pub bounds-self-inside-i-else-i-self : goal.bounds-self-inside-i-else-i-self

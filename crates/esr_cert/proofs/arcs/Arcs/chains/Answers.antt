@@ -1,9 +1,9 @@
 use Rattle.std.proofs.Common.{arith, sym, subst, refl, length}
 use Rattle.std.proofs.lemmas.List.{length-map}
-use Rattle.esr_cert.specs.Links.{HaveLinks}
+use Rattle.esr_cert.specs.ChainArcs.{HaveChainArcs}
 use Rattle.esr_cert.specs.Views.{problem_of}
 use Rattle.esr_cert.proofs.ArcsLaws.{updates_bounded}
-use Rattle.esr_cert.proofs.LinksLaws.{have_links}
+use Rattle.esr_cert.proofs.ChainArcsLaws.{have_links}
 use Rattle.esr_cert.proofs.arcs.Arcs.chains.Goals as goal
 
 pub overflow_cast-source : goal.overflow_cast-source
@@ -11,7 +11,7 @@ overflow_cast-source c = omega (arith, updates_bounded c.self.inside.updates.now
 
 pub returns-clause-links : goal.returns-clause-links
 returns-clause-links c =
-    subst (λ arcs. HaveLinks arcs (length c.self.inside.updates.now) c.self.inside.chains.now) c.self.view_is
+    subst (λ arcs. HaveChainArcs arcs (length c.self.inside.updates.now) c.self.inside.chains.now) c.self.view_is
     (have_links (problem_of c.self.inside.updates.now c.self.inside.before.now c.self.inside.chains.now c.self.inside.must.now) c.self.invariant.0 c.self.inside.chains.now refl (length c.self.inside.updates.now)
     (sym (length-map c.self.inside.updates.now (λ t. t.0))))
 

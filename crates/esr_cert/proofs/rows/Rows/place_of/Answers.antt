@@ -2,7 +2,7 @@ use Rattle.std.proofs.Common.{rules, ltb, ◌≡◌, ◌+◌, ◌<◌, ◌∙◌
 use Rattle.std.specs.List.Sorted.{IsNonDecreasingBy}
 use Rattle.std.proofs.lemmas.List.{get_or_read}
 use Rattle.std.proofs.lemmas.List.Sorted.{IsPartitionedBy-ltb, IsPartitionPoint-from_clause}
-use Rattle.esr_cert.specs.Steps.{rank_of, step_at}
+use Rattle.esr_cert.specs.ResidualArcs.{rank_of, step_at}
 use Rattle.esr_cert.specs.Rows.{row_in, span_at, Span}
 use Rattle.esr_cert.proofs.IsLaidOut.{found_place}
 use Rattle.esr_cert.proofs.rows.Rows.place_of.Goals as goal

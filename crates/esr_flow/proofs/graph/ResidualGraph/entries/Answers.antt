@@ -1,5 +1,5 @@
 use Rattle.std.proofs.Common.{◌≡◌, arith, get_or, length, refl, subst}
-use Rattle.esr_cert.specs.Rows.{first_steps}
+use Rattle.esr_cert.specs.Rows.{residual_arcs_below}
 use Rattle.esr_flow.specs.ResidualGraph.{network_arcs}
 use Rattle.esr_flow.proofs.FillLaws.{ArePut, along_within, along_bounded, against_within, against_bounded, put_both, all_put}
 use Rattle.esr_flow.proofs.graph.ResidualGraph.entries.Goals as goal
@@ -35,4 +35,4 @@ pub returns : goal.returns
 returns c =
     let all : c.loop-i.i ≡ length (network_arcs c.args.self.now) = omega (arith, c.loop-i-test.false, c.requires.flow) in
     all_put c.args.self.now c.args.flow.now c.loop-i.counts.items c.loop-i.entries.items
-    (subst (λ n. ArePut c.args.self.now c.args.flow.now (first_steps n) c.loop-i.counts.items c.loop-i.entries.items) all c.loop-i.invariant)
+    (subst (λ n. ArePut c.args.self.now c.args.flow.now (residual_arcs_below n) c.loop-i.counts.items c.loop-i.entries.items) all c.loop-i.invariant)

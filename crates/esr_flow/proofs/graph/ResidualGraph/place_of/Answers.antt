@@ -1,5 +1,5 @@
 use Rattle.std.proofs.Common.{◌≡◌, Contains, ◌∙◌, ap, sym, subst}
-use Rattle.esr_cert.specs.Steps.{start}
+use Rattle.esr_cert.specs.ResidualArcs.{start}
 use Rattle.esr_cert.specs.Rows.{row_in, span_at}
 use Rattle.esr_flow.specs.ResidualGraph.{network_arcs}
 use Rattle.esr_flow.specs.Residual.{finish}

@@ -5,8 +5,8 @@ given : {T E : Type 0} (r : Result T E) (P : Type 0) → is_err r ≡ false → 
 given (Ok x) P ok p = p
 given (Err e) P ok p = cc
 
-pub audit_query_by_index-requires : goal.audit_query_by_index-requires
-audit_query_by_index-requires c = (
+pub audit_query_with_index-requires : goal.audit_query_with_index-requires
+audit_query_with_index-requires c = (
   c.extend.ensures.index,
   given c.extend.result (c.extend.new.self.read ≡ length c.history-history.result.now.schedule.entries) (sym c.is_err.ensures.value ∙ c.if-is_err.false) c.extend.ensures.whole,
 )

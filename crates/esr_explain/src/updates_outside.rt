@@ -4,7 +4,7 @@
 ghost use Rattle.std.specs.Prelude.{◌≡◌, ℕ, not, IfOk, map, filter};
 ghost use Rattle.std.specs.List.Sorted.{IsNonDecreasing};
 ghost use Rattle.esr_order.specs.Placements.{is_among};
-ghost use Rattle.esr_explain.specs.Explain.{others};
+ghost use Rattle.esr_explain.specs.Explain.{updates_outside};
 
 use esr_history::{History, TxnId};
 use esr_items::Weighted;
@@ -53,13 +53,13 @@ fn without(alloc: Global, updates: &[TxnId], numbers: &[u32]) -> Result<Vec<TxnI
 }
 
 /// Returns the updates that committed before the query did, except these.
-pub fn others(
+pub fn updates_outside(
     alloc: Global,
     history: &History<Weighted>,
     q: TxnId,
     before: &[TxnId],
 ) -> Result<Vec<TxnId>, AllocError>
-    ensures { IfOk result (λ v. map (λ t. t.0) v.items ≡ others history.now.schedule q.0 (map (λ t. t.0) before.now)) }
+    ensures { IfOk result (λ v. map (λ t. t.0) v.items ≡ updates_outside history.now.schedule q.0 (map (λ t. t.0) before.now)) }
 {
     let committed = committed(alloc, history)?;
     let updates = updates_before(alloc, history, &committed, q)?;

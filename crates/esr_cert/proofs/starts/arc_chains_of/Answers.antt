@@ -1,20 +1,20 @@
 use Rattle.std.proofs.Common.{arith, ◌≡◌, ◌+◌, ◌∙◌, ◌∷◌, ◌++◌, ap, sym, drop, map, length, replicate}
 use Rattle.std.proofs.lemmas.List.{append_assoc, drop_more}
-use Rattle.esr_cert.specs.Starts.{owners_from}
+use Rattle.esr_cert.specs.Starts.{arc_chains_from}
 use Rattle.esr_cert.specs.Views.{chain_view}
-use Rattle.esr_cert.proofs.starts.owners_of.Goals as goal
+use Rattle.esr_cert.proofs.starts.arc_chains_of.Goals as goal
 
 pub loop-k-preserved : goal.loop-k-preserved
 loop-k-preserved c =
     let chains = c.args.chains.now in
     let k = c.loop-k.k in
     let chain = c.index-chains-k.result in
-    let owners = c.loop-k.owners.items in
-    let rest = owners_from (k + 1) (map chain_view (drop (k + 1) chains)) in
+    let arc_chains = c.loop-k.arc_chains.items in
+    let rest = arc_chains_from (k + 1) (map chain_view (drop (k + 1) chains)) in
     let here : drop k chains ≡ chain ∷ drop (k + 1) chains = drop_more chains k chain c.loop-k-test.true ∙ ap (λ x. x ∷ drop (k + 1) chains) (sym c.index-chains-k.is) in
     let count : c.len.result ≡ length chain.costs.items = omega (arith, c.len.ensures, chain.costs.ok.0) in
-    ap (λ xs. xs ++ rest) c.in_ok-push_owner.ensures
-    ∙ append_assoc owners (replicate c.len.result k) rest
-    ∙ ap (λ n. owners ++ (replicate n k ++ rest)) count
-    ∙ ap (λ ks. owners ++ owners_from k (map chain_view ks)) (sym here)
+    ap (λ xs. xs ++ rest) c.in_ok-push_chain.ensures
+    ∙ append_assoc arc_chains (replicate c.len.result k) rest
+    ∙ ap (λ n. arc_chains ++ (replicate n k ++ rest)) count
+    ∙ ap (λ ks. arc_chains ++ arc_chains_from k (map chain_view ks)) (sym here)
     ∙ c.loop-k.invariant

@@ -1,6 +1,6 @@
 use Rattle.std.proofs.Common.{◌≡◌, filter, not, take}
 use Rattle.esr_order.specs.Placements.{is_among}
-use Rattle.esr_explain.proofs.others.without.Given as goal
+use Rattle.esr_explain.proofs.updates_outside.without.Given as goal
 
 -- those so far
 abbrev pub invariant-loop-t : goal.invariant-loop-t

@@ -7,8 +7,8 @@ use Rattle.std.proofs.lemmas.List.Kept.{IsNonDecreasingBy-filter}
 use Rattle.std.proofs.lemmas.List.Sorted.{IsNonDecreasingBy-short, IsNonDecreasingBy-push}
 use Rattle.std.proofs.lemmas.List.Elements.{filter-append, Contains-append_left, Contains-push, Contains-push_cases}
 use Rattle.esr_cert.specs.Network.{Arc}
-use Rattle.esr_cert.specs.Steps.{arc_of, rank_of, start, HasSteps, AreOnce, step_at, same_step, has_step, ResidualArc, Forward, Backward}
-use Rattle.esr_cert.specs.Rows.{first_steps, steps_from, row_of}
+use Rattle.esr_cert.specs.ResidualArcs.{arc_of, rank_of, start, HasSteps, AreOnce, step_at, same_step, has_step, ResidualArc, Forward, Backward}
+use Rattle.esr_cert.specs.Rows.{residual_arcs_below, steps_from, row_of}
 
 -- one more step, at the node where it starts and at another
 pub steps_here : (arcs : List Arc) (v : ℕ) (done : List ResidualArc) (s : ResidualArc) → start arcs s ≡ v → steps_from arcs v (done ++ s ∷ []) ≡ steps_from arcs v done ++ s ∷ []
@@ -28,54 +28,54 @@ pub room_for : (arcs : List Arc) (v : ℕ) (done rest : List ResidualArc) (s : R
 room_for arcs v done rest s e =
     omega (arith, ap length (steps_parts arcs v done rest s e), length-append (steps_from arcs v done) (s ∷ steps_from arcs v rest))
 
-pub first_within : (arcs : List Arc) (v i n : ℕ) → i ≤ n → length (steps_from arcs v (first_steps i)) ≤ length (steps_from arcs v (first_steps n))
-first_within arcs v i zero l = let e : i ≡ 0 = omega arith in omega (arith, ap (λ m. length (steps_from arcs v (first_steps m))) e)
+pub first_within : (arcs : List Arc) (v i n : ℕ) → i ≤ n → length (steps_from arcs v (residual_arcs_below i)) ≤ length (steps_from arcs v (residual_arcs_below n))
+first_within arcs v i zero l = let e : i ≡ 0 = omega arith in omega (arith, ap (λ m. length (steps_from arcs v (residual_arcs_below m))) e)
 first_within arcs v i (suc n) l =
     let split : (i ≡ suc n) ⊎ (i ≤ n) = grind arith in
-    let rest : i ≤ n → length (steps_from arcs v (first_steps i)) ≤ length (steps_from arcs v (first_steps n)) = first_within arcs v i n in
-    let more : steps_from arcs v (first_steps (suc n)) ≡ steps_from arcs v (first_steps n) ++ steps_from arcs v (Forward n ∷ Backward n ∷ []) = filter-append (λ step. eqb (start arcs step) v) (first_steps n) (Forward n ∷ Backward n ∷ []) in
+    let rest : i ≤ n → length (steps_from arcs v (residual_arcs_below i)) ≤ length (steps_from arcs v (residual_arcs_below n)) = first_within arcs v i n in
+    let more : steps_from arcs v (residual_arcs_below (suc n)) ≡ steps_from arcs v (residual_arcs_below n) ++ steps_from arcs v (Forward n ∷ Backward n ∷ []) = filter-append (λ step. eqb (start arcs step) v) (residual_arcs_below n) (Forward n ∷ Backward n ∷ []) in
     elim split [
-      | inl e ↦ omega (arith, ap (λ m. length (steps_from arcs v (first_steps m))) e)
-      | inr m ↦ omega (arith, rest m, ap length more, length-append (steps_from arcs v (first_steps n)) (steps_from arcs v (Forward n ∷ Backward n ∷ [])))
+      | inl e ↦ omega (arith, ap (λ m. length (steps_from arcs v (residual_arcs_below m))) e)
+      | inr m ↦ omega (arith, rest m, ap length more, length-append (steps_from arcs v (residual_arcs_below n)) (steps_from arcs v (Forward n ∷ Backward n ∷ [])))
     ]
 
-pub first_more : (n : ℕ) → (first_steps n ++ Forward n ∷ []) ++ Backward n ∷ [] ≡ first_steps (suc n)
-first_more n = append_assoc (first_steps n) (Forward n ∷ []) (Backward n ∷ [])
+pub first_more : (n : ℕ) → (residual_arcs_below n ++ Forward n ∷ []) ++ Backward n ∷ [] ≡ residual_arcs_below (suc n)
+first_more n = append_assoc (residual_arcs_below n) (Forward n ∷ []) (Backward n ∷ [])
 
-pub first_next : (n : ℕ) → (first_steps n ++ Forward n ∷ []) ++ Backward n ∷ [] ≡ first_steps (n + 1)
-first_next n = first_more n ∙ ap first_steps (sym (add-one n))
+pub first_next : (n : ℕ) → (residual_arcs_below n ++ Forward n ∷ []) ++ Backward n ∷ [] ≡ residual_arcs_below (n + 1)
+first_next n = first_more n ∙ ap residual_arcs_below (sym (add-one n))
 
-pub first_count : (n : ℕ) → length (first_steps n) ≡ n + n
+pub first_count : (n : ℕ) → length (residual_arcs_below n) ≡ n + n
 first_count zero = refl
-first_count (suc n) = omega (arith, first_count n, length-append (first_steps n) (Forward n ∷ Backward n ∷ []))
+first_count (suc n) = omega (arith, first_count n, length-append (residual_arcs_below n) (Forward n ∷ Backward n ∷ []))
 
-first_known : (n : ℕ) (s : ResidualArc) → Contains (first_steps n) s → arc_of s < n
+first_known : (n : ℕ) (s : ResidualArc) → Contains (residual_arcs_below n) s → arc_of s < n
 first_known zero s c = absurd (omega (arith, c.1))
 first_known (suc n) s c =
-    elim (Contains-push_cases (first_steps n ++ Forward n ∷ []) (Backward n) s (subst (λ steps. Contains steps s) (sym (first_more n)) c)) [
-      | inl before ↦ elim (Contains-push_cases (first_steps n) (Forward n) s before) [
+    elim (Contains-push_cases (residual_arcs_below n ++ Forward n ∷ []) (Backward n) s (subst (λ steps. Contains steps s) (sym (first_more n)) c)) [
+      | inl before ↦ elim (Contains-push_cases (residual_arcs_below n) (Forward n) s before) [
         | inl old ↦ let l : arc_of s < n = first_known n s old in omega arith
         | inr here ↦ let e : n ≡ arc_of s = ap arc_of here in omega arith
       ]
       | inr here ↦ let e : n ≡ arc_of s = ap arc_of here in omega arith
     ]
 
-pub first_all : (n : ℕ) (s : ResidualArc) → arc_of s < n → Contains (first_steps n) s
+pub first_all : (n : ℕ) (s : ResidualArc) → arc_of s < n → Contains (residual_arcs_below n) s
 first_all zero s l = absurd (omega arith)
 first_all (suc n) s l = subst (λ steps. Contains steps s) (first_more n) (at s l (first_all n s))
   where
-    at : (s : ResidualArc) → arc_of s < suc n → (arc_of s < n → Contains (first_steps n) s) → Contains ((first_steps n ++ Forward n ∷ []) ++ Backward n ∷ []) s
+    at : (s : ResidualArc) → arc_of s < suc n → (arc_of s < n → Contains (residual_arcs_below n) s) → Contains ((residual_arcs_below n ++ Forward n ∷ []) ++ Backward n ∷ []) s
     at (Forward i) l old =
         let split : (i < n) ⊎ (i ≡ n) = grind arith in
-        Contains-append_left (first_steps n ++ Forward n ∷ []) (Backward n ∷ []) (Forward i) (elim split [
-          | inl m ↦ Contains-append_left (first_steps n) (Forward n ∷ []) (Forward i) (old m)
-          | inr e ↦ subst (λ j. Contains (first_steps n ++ Forward n ∷ []) (Forward j)) (sym e) (Contains-push (first_steps n) (Forward n))
+        Contains-append_left (residual_arcs_below n ++ Forward n ∷ []) (Backward n ∷ []) (Forward i) (elim split [
+          | inl m ↦ Contains-append_left (residual_arcs_below n) (Forward n ∷ []) (Forward i) (old m)
+          | inr e ↦ subst (λ j. Contains (residual_arcs_below n ++ Forward n ∷ []) (Forward j)) (sym e) (Contains-push (residual_arcs_below n) (Forward n))
         ])
     at (Backward i) l old =
         let split : (i < n) ⊎ (i ≡ n) = grind arith in
         elim split [
-          | inl m ↦ Contains-append_left (first_steps n ++ Forward n ∷ []) (Backward n ∷ []) (Backward i) (Contains-append_left (first_steps n) (Forward n ∷ []) (Backward i) (old m))
-          | inr e ↦ subst (λ j. Contains ((first_steps n ++ Forward n ∷ []) ++ Backward n ∷ []) (Backward j)) (sym e) (Contains-push (first_steps n ++ Forward n ∷ []) (Backward n))
+          | inl m ↦ Contains-append_left (residual_arcs_below n ++ Forward n ∷ []) (Backward n ∷ []) (Backward i) (Contains-append_left (residual_arcs_below n) (Forward n ∷ []) (Backward i) (old m))
+          | inr e ↦ subst (λ j. Contains ((residual_arcs_below n ++ Forward n ∷ []) ++ Backward n ∷ []) (Backward j)) (sym e) (Contains-push (residual_arcs_below n ++ Forward n ∷ []) (Backward n))
         ]
 
 -- a row has those of some steps that start at its node, each once, and no others
@@ -138,7 +138,7 @@ row_more arcs done v s new old =
       })
     ]
 
-first_row : (arcs : List Arc) (n v : ℕ) → Row arcs (first_steps n) v (steps_from arcs v (first_steps n))
+first_row : (arcs : List Arc) (n v : ℕ) → Row arcs (residual_arcs_below n) v (steps_from arcs v (residual_arcs_below n))
 first_row arcs zero v = record {
   starts = λ k l. absurd (omega arith);
   known = λ k l. absurd (omega arith);
@@ -147,21 +147,21 @@ first_row arcs zero v = record {
 }
 first_row arcs (suc n) v =
     subst (λ done. Row arcs done v (steps_from arcs v done)) (first_more n)
-    (row_more arcs (first_steps n ++ Forward n ∷ []) v (Backward n) apart (row_more arcs (first_steps n) v (Forward n) (λ c. let l : n < n = first_known n (Forward n) c in omega arith) (first_row arcs n v)))
+    (row_more arcs (residual_arcs_below n ++ Forward n ∷ []) v (Backward n) apart (row_more arcs (residual_arcs_below n) v (Forward n) (λ c. let l : n < n = first_known n (Forward n) c in omega arith) (first_row arcs n v)))
   where
     other : Forward n ≡ Backward n → ⊥
     other e = cc
 
-    apart : Contains (first_steps n ++ Forward n ∷ []) (Backward n) → ⊥
+    apart : Contains (residual_arcs_below n ++ Forward n ∷ []) (Backward n) → ⊥
     apart c =
-        elim (Contains-push_cases (first_steps n) (Forward n) (Backward n) c) [
+        elim (Contains-push_cases (residual_arcs_below n) (Forward n) (Backward n) c) [
           | inl old ↦ let l : n < n = first_known n (Backward n) old in omega arith
           | inr same ↦ other same
         ]
 
 -- each step of the first n arcs is of one of them
-pub row_known : (arcs : List Arc) (n v k : ℕ) → k < length (steps_from arcs v (first_steps n)) → arc_of (step_at (steps_from arcs v (first_steps n)) k) < n
-row_known arcs n v k l = first_known n (step_at (steps_from arcs v (first_steps n)) k) ((first_row arcs n v).known k l)
+pub row_known : (arcs : List Arc) (n v k : ℕ) → k < length (steps_from arcs v (residual_arcs_below n)) → arc_of (step_at (steps_from arcs v (residual_arcs_below n)) k) < n
+row_known arcs n v k l = first_known n (step_at (steps_from arcs v (residual_arcs_below n)) k) ((first_row arcs n v).known k l)
 
 same_itself : (s : ResidualArc) → same_step s s ≡ true
 same_itself (Forward i) = eq-eqb i i refl
@@ -177,7 +177,7 @@ has_from (t ∷ steps) s c = at (has_from steps s) c.0 c.1 c.2
 
 pub has_steps : (arcs : List Arc) (v : ℕ) → HasSteps arcs v (row_of arcs v)
 has_steps arcs v =
-    let row : Row arcs (first_steps (length arcs)) v (row_of arcs v) = first_row arcs (length arcs) v in
+    let row : Row arcs (residual_arcs_below (length arcs)) v (row_of arcs v) = first_row arcs (length arcs) v in
     record {
       starts = λ k l. (row_known arcs (length arcs) v k l, row.starts k l);
       once = row.once;
@@ -188,20 +188,20 @@ below : (n : ℕ) (s : ResidualArc) → arc_of s < n → rank_of s ≤ rank_of (
 below n (Forward i) l = omega arith
 below n (Backward i) l = omega arith
 
-first_ascend : (n : ℕ) → IsNonDecreasingBy rank_of (first_steps n)
+first_ascend : (n : ℕ) → IsNonDecreasingBy rank_of (residual_arcs_below n)
 first_ascend zero = IsNonDecreasingBy-short rank_of [] (omega arith)
 first_ascend (suc n) =
     subst (IsNonDecreasingBy rank_of) (first_more n)
-    (IsNonDecreasingBy-push rank_of (first_steps n ++ Forward n ∷ []) (Backward n) (IsNonDecreasingBy-push rank_of (first_steps n) (Forward n) (first_ascend n) (λ d l. low d l)) (λ d l. last d l))
+    (IsNonDecreasingBy-push rank_of (residual_arcs_below n ++ Forward n ∷ []) (Backward n) (IsNonDecreasingBy-push rank_of (residual_arcs_below n) (Forward n) (first_ascend n) (λ d l. low d l)) (λ d l. last d l))
   where
-    low : (d : ResidualArc) → 0 < length (first_steps n) → rank_of (get_or (first_steps n) (length (first_steps n) - 1) d) ≤ rank_of (Forward n)
+    low : (d : ResidualArc) → 0 < length (residual_arcs_below n) → rank_of (get_or (residual_arcs_below n) (length (residual_arcs_below n) - 1) d) ≤ rank_of (Forward n)
     low d l =
-        let s : ResidualArc = get_or (first_steps n) (length (first_steps n) - 1) d in
-        below n s (first_known n s (length (first_steps n) - 1, omega arith, get_or_default (first_steps n) (length (first_steps n) - 1) s d (omega arith)))
+        let s : ResidualArc = get_or (residual_arcs_below n) (length (residual_arcs_below n) - 1) d in
+        below n s (first_known n s (length (residual_arcs_below n) - 1, omega arith, get_or_default (residual_arcs_below n) (length (residual_arcs_below n) - 1) s d (omega arith)))
 
-    last : (d : ResidualArc) → 0 < length (first_steps n ++ Forward n ∷ []) → rank_of (get_or (first_steps n ++ Forward n ∷ []) (length (first_steps n ++ Forward n ∷ []) - 1) d) ≤ rank_of (Backward n)
-    last d l = omega (arith, ap rank_of (get_or_push (first_steps n) (Forward n) d (length (first_steps n ++ Forward n ∷ []) - 1) (omega (arith, length_push (first_steps n) (Forward n)))))
+    last : (d : ResidualArc) → 0 < length (residual_arcs_below n ++ Forward n ∷ []) → rank_of (get_or (residual_arcs_below n ++ Forward n ∷ []) (length (residual_arcs_below n ++ Forward n ∷ []) - 1) d) ≤ rank_of (Backward n)
+    last d l = omega (arith, ap rank_of (get_or_push (residual_arcs_below n) (Forward n) d (length (residual_arcs_below n ++ Forward n ∷ []) - 1) (omega (arith, length_push (residual_arcs_below n) (Forward n)))))
 
 -- the steps of a row ascend
 pub row_ascends : (arcs : List Arc) (v : ℕ) → IsNonDecreasingBy rank_of (row_of arcs v)
-row_ascends arcs v = IsNonDecreasingBy-filter rank_of (λ step. eqb (start arcs step) v) (first_steps (length arcs)) (first_ascend (length arcs))
+row_ascends arcs v = IsNonDecreasingBy-filter rank_of (λ step. eqb (start arcs step) v) (residual_arcs_below (length arcs)) (first_ascend (length arcs))

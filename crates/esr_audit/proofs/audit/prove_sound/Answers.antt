@@ -1,5 +1,5 @@
 use Rattle.esr_history.proofs.Sound.{legal_sound}
-use Rattle.esr_audit.proofs.audit.history_is_sound.Goals as goal
+use Rattle.esr_audit.proofs.audit.prove_sound.Goals as goal
 
 pub returns : goal.returns
 returns g c =

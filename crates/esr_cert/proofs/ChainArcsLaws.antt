@@ -5,7 +5,7 @@ use Rattle.esr_cert.specs.declared.problem.Chain as code
 use Rattle.esr_cert.specs.Problem.{Chain, Problem, size, is_well_formed}
 use Rattle.esr_cert.specs.Network.{arc_at, arcs_of_chain, network, Arc}
 use Rattle.esr_cert.specs.Starts.{starts_from}
-use Rattle.esr_cert.specs.Links.{HasLinks, HaveLinks}
+use Rattle.esr_cert.specs.ChainArcs.{HasChainArcs, HaveChainArcs}
 use Rattle.esr_cert.specs.Views.{chain_view}
 use Rattle.esr_cert.proofs.Sound.{facts, IsProblem}
 use Rattle.esr_cert.proofs.ArcsLaws.{arcs_long, arc_in_chain, link_is}
@@ -36,9 +36,9 @@ begin_next chains k chain inside is =
     omega (arith, starts_next 0 (map chain_view chains) k (chain_view chain) (omega (arith, length-map chains chain_view, inside)), ap (λ (c : Chain). length c.costs) here, ap (λ n. get_or (starts_from 0 (map chain_view chains)) n 0) next)
 
 -- a loop over the chains reaches the next one, whose arcs begin at the end of those before it
-module _ {arcs : List Arc} {source : ℕ} (chains : List code.Chain) {k begin : ℕ} {chain : code.Chain} (links : HaveLinks arcs source chains) (at : begin ≡ get_or (starts_from 0 (map chain_view chains)) k 0) (inside : k < length chains) (is : chain ≡ get_or chains k chain) where
-  pub links_here : HasLinks arcs source chain begin
-  links_here = subst (HasLinks arcs source chain) (sym at) (links k chain inside is)
+module _ {arcs : List Arc} {source : ℕ} (chains : List code.Chain) {k begin : ℕ} {chain : code.Chain} (links : HaveChainArcs arcs source chains) (at : begin ≡ get_or (starts_from 0 (map chain_view chains)) k 0) (inside : k < length chains) (is : chain ≡ get_or chains k chain) where
+  pub links_here : HasChainArcs arcs source chain begin
+  links_here = subst (HasChainArcs arcs source chain) (sym at) (links k chain inside is)
 
   pub links_after : (n : ℕ) → n ≡ length chain.costs.items → (begin + n ≡ get_or (starts_from 0 (map chain_view chains)) (k + 1) 0) × (begin + n ≤ length arcs)
   links_after n count = (omega (arith, at, count, begin_next chains k chain inside is), omega (arith, links_here.inside, count))
@@ -84,7 +84,7 @@ module _ (p : Problem) (sound : is_well_formed p ≡ true) where
       link : (j : ℕ) → j < length chain.costs.items → arc_at (network p).arcs (begin + j) ≡ record { from = get_or (size p ∷ chain.writers.items) j 0; to = get_or (chain.writers.items ++ (size p + 1) ∷ []) j 0; capacity = Some (get_or chain.costs.items j 0) }
       link j m = arc_is j m ∙ link_is (size p) (size p + 1) chain.writers.items chain.costs.items j whole m
 
-      pub has_links : HasLinks (network p).arcs (size p) chain begin
+      pub has_links : HasChainArcs (network p).arcs (size p) chain begin
       has_links = record {
         whole = whole;
         inside = omega (arith, inside_all, arcs_long p ok);
@@ -93,7 +93,7 @@ module _ (p : Problem) (sound : is_well_formed p ≡ true) where
       }
 
     -- the links of all of them
-    pub have_links : (source : ℕ) → source ≡ size p → HaveLinks (network p).arcs source chains
+    pub have_links : (source : ℕ) → source ≡ size p → HaveChainArcs (network p).arcs source chains
     have_links source same k chain inside is =
-        subst (λ n. HasLinks (network p).arcs n chain (get_or (starts_from 0 (map chain_view chains)) k 0)) (sym same)
+        subst (λ n. HasChainArcs (network p).arcs n chain (get_or (starts_from 0 (map chain_view chains)) k 0)) (sym same)
         (has_links k (get_or (starts_from 0 (map chain_view chains)) k 0) chain inside is (ap (λ list. get_or (starts_from 0 list) k 0) are))

@@ -6,7 +6,7 @@ use Rattle.esr_history.proofs.Membership.{filter_agree_in}
 use Rattle.esr_order.specs.Placements.{is_among}
 use Rattle.esr_order.proofs.Commits.{updates_are}
 use Rattle.esr_explain.proofs.Amongst.{numbers_kept}
-use Rattle.esr_explain.proofs.others.others.Goals as goal
+use Rattle.esr_explain.proofs.updates_outside.updates_outside.Goals as goal
 
 pub returns : goal.returns
 returns c =

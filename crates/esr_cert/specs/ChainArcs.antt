@@ -6,7 +6,7 @@ use Rattle.esr_cert.specs.Starts.{starts_from}
 use Rattle.esr_cert.specs.Views.{chain_view}
 
 -- the arcs of a chain begin at a number, and lead from the source through its writers to the sink
-pub record HasLinks (arcs : List Arc) (source : ℕ) (chain : Chain) (begin : ℕ) : Type 0 where
+pub record HasChainArcs (arcs : List Arc) (source : ℕ) (chain : Chain) (begin : ℕ) : Type 0 where
   pub whole : length chain.costs.items ≡ length chain.writers.items + 1
   pub inside : begin + length chain.costs.items ≤ length arcs
   pub from : (j : ℕ) → j < length chain.costs.items
@@ -15,6 +15,6 @@ pub record HasLinks (arcs : List Arc) (source : ℕ) (chain : Chain) (begin : �
       → (arc_at arcs (begin + j)).to ≡ get_or (chain.writers.items ++ (source + 1) ∷ []) j 0
 
 -- so do those of each of some chains
-abbrev pub HaveLinks : List Arc → ℕ → List Chain → Type 0
-HaveLinks arcs source chains = (k : ℕ) (chain : Chain) → k < length chains → chain ≡ get_or chains k chain
-    → HasLinks arcs source chain (get_or (starts_from 0 (map chain_view chains)) k 0)
+abbrev pub HaveChainArcs : List Arc → ℕ → List Chain → Type 0
+HaveChainArcs arcs source chains = (k : ℕ) (chain : Chain) → k < length chains → chain ≡ get_or chains k chain
+    → HasChainArcs arcs source chain (get_or (starts_from 0 (map chain_view chains)) k 0)

@@ -4,8 +4,8 @@ use Rattle.esr_history.proofs.Laws.{import_bounds_distance}
 use Rattle.esr_cert.specs.Views.{certificate_of}
 use Rattle.esr_audit.specs.Findings.{IsAnswer}
 use Rattle.esr_audit.proofs.Found.{answer_from, found_of}
-use Rattle.esr_audit.proofs.audit.find.Given.{Over}
-use Rattle.esr_audit.proofs.audit.find.Goals as goal
+use Rattle.esr_audit.proofs.audit.finding_of.Given.{Over}
+use Rattle.esr_audit.proofs.audit.finding_of.Goals as goal
 
 found : (g : Over) (c : goal.In_ok-before g) → map (λ (t : TxnId). t.0) c.in_ok-before.before.items ≡ filter_map (slice_get c.in_ok-problem.problem.updates) c.in_ok-certificate.certificate.set.items
 found g c = found_of c.in_ok-problem.problem c.updates.result.now c.in_ok-before.before.items c.updates.ensures.list c.in_ok-certificate.certificate.set.items (c.in_ok-before.ensures ∙ ap (filter_map (slice_get c.updates.result.now)) c.deref.ensures.value)

@@ -1,7 +1,0 @@
-use Rattle.std.proofs.Common.{◌≡◌, ◌++◌, drop, map}
-use Rattle.esr_cert.specs.Starts.{owners_from}
-use Rattle.esr_cert.specs.Views.{chain_view}
-use Rattle.esr_cert.proofs.starts.owners_of.Given as goal
-
-abbrev pub invariant-loop-k : goal.invariant-loop-k
-invariant-loop-k l = l.owners.items ++ owners_from l.k (map chain_view (drop l.k l.chains)) ≡ owners_from 0 (map chain_view l.chains)
