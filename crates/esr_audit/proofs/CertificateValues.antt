@@ -7,7 +7,7 @@ use Rattle.std.proofs.lemmas.List.{length-map}
 use denote.RawPtr.{null_ptr}
 use Rattle.esr_base.specs.declared.limits.TheConstants.{MAX_ITEMS, MAX_TRANSACTIONS}
 use Rattle.esr_cert.specs.declared.certificate.Certificate as code
-use Rattle.esr_cert.specs.Problem.{Chain, Problem, size, is_ascending, pair_lt, are_pairs_ascending, chain_has_shape, has_shape, chain_is_in_range, is_in_range, is_well_formed}
+use Rattle.esr_cert.specs.Problem.{Chain, Problem, update_count, is_ascending, pair_lt, are_pairs_ascending, chain_has_shape, has_valid_shape, chain_is_in_range, is_in_range, is_well_formed}
 use Rattle.esr_cert.specs.Certificate.{Certificate, are_rows_matched, Certifies}
 use Rattle.esr_cert.specs.Views.{rows_of, certificate_of}
 use Rattle.esr_cert.proofs.Sound.{HasShape, shape_facts, InRange, range_facts}
@@ -129,22 +129,22 @@ pub record IsShort (c : Certificate) : Type 0 where
 
 pub certificate_is_short : (p : Problem) (c : Certificate) → is_well_formed p ≡ true → Certifies p c → IsShort c
 certificate_is_short p c sound certified =
-    let both : (has_shape p ≡ true) × (is_in_range p ≡ true) = and_parts (has_shape p) (is_in_range p) sound in
+    let both : (has_valid_shape p ≡ true) × (is_in_range p ≡ true) = and_parts (has_valid_shape p) (is_in_range p) sound in
     let s : HasShape p = shape_facts p both.0 in
     let r : InRange p = range_facts p both.1 in
     let f : IsFaultless p c = faultless p c certified in
     let w : IsWithin p c = within_facts p c f.within in
-    let updates : size p ≤ 65535 = distinct_bounded MAX_TRANSACTIONS p.updates s.distinct r.numbers in
-    let set : length c.set ≤ size p = ascending_bounded (size p) c.set f.ascending f.known in
-    let musts : length p.must ≤ size p = ascending_bounded (size p) p.must s.must r.must in
+    let updates : update_count p ≤ 65535 = distinct_bounded MAX_TRANSACTIONS p.updates s.distinct r.numbers in
+    let set : length c.set ≤ update_count p = ascending_bounded (update_count p) c.set f.ascending f.known in
+    let musts : length p.must ≤ update_count p = ascending_bounded (update_count p) p.must s.must r.must in
     let chains : length p.chains ≤ 4096 =
-    omega (arith, length-map p.chains (λ (c : Chain). c.item), ascending_bounded MAX_ITEMS (map (λ (c : Chain). c.item) p.chains) s.items (items_below (size p) p.chains r.chains)) in
-    let pairs : length p.before ≤ size p * size p = pairs_bounded (size p) p.before s.pairs r.pairs in
-    let square : size p * size p ≤ 65535 * size p = mul-le-mul_right (size p) updates in
+    omega (arith, length-map p.chains (λ (c : Chain). c.item), ascending_bounded MAX_ITEMS (map (λ (c : Chain). c.item) p.chains) s.items (items_below (update_count p) p.chains r.chains)) in
+    let pairs : length p.before ≤ update_count p * update_count p = pairs_bounded (update_count p) p.before s.pairs r.pairs in
+    let square : update_count p * update_count p ≤ 65535 * update_count p = mul-le-mul_right (update_count p) updates in
     record {
       set = omega arith;
       rows = omega (arith, rows_count p.chains c.chain_flow w.rows);
-      each_row = rows_short (size p) p.before p.chains c.chain_flow updates s.chains r.chains w.rows;
+      each_row = rows_short (update_count p) p.before p.chains c.chain_flow updates s.chains r.chains w.rows;
       back_flow = omega (arith, w.backs);
       must_flow = omega (arith, w.musts);
     }

@@ -9,7 +9,7 @@ use mathlib.Core.Bool.{or-true}
 use Rattle.esr_history.specs.Machine.{DistanceFunction, Schedule, value_distance}
 use Rattle.esr_history.specs.Operations.{Operation}
 use Rattle.esr_history.specs.Serial.{state}
-use Rattle.esr_history.specs.Queries.{updates_of, reads_by, distance_from, members, cost}
+use Rattle.esr_history.specs.Queries.{updates_committed_before, reads_by, distance_from, members, cost}
 use Rattle.esr_history.proofs.Membership.{In, each_in, each_at}
 use Rattle.esr_cert.specs.Problem as problems
 use Rattle.esr_cert.specs.Problem.{Problem, version, chain_cost}
@@ -95,7 +95,7 @@ module _ (d : DistanceFunction) (h : Schedule) (q : ℕ) (p : Problem) (is_probl
       let v : version (passes_at p.updates S) (places p.updates (has_written h x)) ≡ version S (writers_of h q x) = places_version p.updates S (has_written h x) ∙ ap (version S) all in
       ap (λ j. get_or (map (version_cost d h q x) (range_with_len 0 (suc (length (writers_of h q x))))) j 0) v
       ∙ get_or-map-range_with_len (version_cost d h q x) 0 (suc (length (writers_of h q x))) (version S (writers_of h q x)) (version S (writers_of h q x)) 0 (let l = version_le S (writers_of h q x) in omega arith) (omega arith)
-      ∙ ap (read_distance d h q x) (state_by_version h x S (updates_of h q))
+      ∙ ap (read_distance d h q x) (state_by_version h x S (updates_committed_before h q))
 
   -- the cost of a set of positions is that of the transactions there
   pub cost_is_distance : (S : ℕ → Bool) → problems.cost p (passes_at p.updates S) ≡ cost d h q S

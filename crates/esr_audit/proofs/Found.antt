@@ -7,13 +7,13 @@ use Rattle.std.proofs.lemmas.List.Elements.{recursion_from_All}
 use Rattle.esr_items.specs.Values.{IsValue}
 use Rattle.esr_history.specs.Machine.{DistanceFunction, Schedule, IsLegal, charges_in, import_in}
 use Rattle.esr_history.specs.Operations.{Operation, operations}
-use Rattle.esr_history.specs.Queries.{is_committed_query, updates_of, reads_by, cost, ImportBoundsDistance}
+use Rattle.esr_history.specs.Queries.{is_committed_query, updates_committed_before, reads_by, cost, ImportBoundsDistance}
 use Rattle.esr_history.proofs.Membership.{Each-filter}
 use Rattle.esr_history.proofs.WithinRanges.{legal_within_ranges}
 use Rattle.esr_order.specs.Placements.{is_among, IsClosed, IsLeastSet, IsSmallestLeastSet, IsLeastDistance}
 use Rattle.esr_order.specs.Statements.{ClosedSetsAreParts}
 use Rattle.esr_order.proofs.ConflictOrder.{law_of_placements}
-use Rattle.esr_cert.specs.Problem.{Problem, size, is_well_formed, in_set, is_distinct, IsSmallestLeast}
+use Rattle.esr_cert.specs.Problem.{Problem, update_count, is_well_formed, in_set, is_distinct, IsSmallestLeastCostSet}
 use Rattle.esr_cert.specs.Problem as problems
 use Rattle.esr_cert.specs.Certificate.{Certificate, Certifies}
 use Rattle.esr_cert.proofs.Sound.{IsProblem, facts, shape_facts}
@@ -48,7 +48,7 @@ module _ (d : DistanceFunction) (h : Schedule) (q : ℕ) (opening_values_in_rang
   inside : AllByRecursion (λ (o : Operation). o.item < length h.opening) (reads_by h q)
   inside = reads_inside d h q opening_values_in_range legal
 
-  same : (u : ℕ) → u < size p → in_set c.set u ≡ passes_at p.updates (is_among members) u
+  same : (u : ℕ) → u < update_count p → in_set c.set u ≡ passes_at p.updates (is_among members) u
   same u l = sym (passes_as_set p.updates distinct c.set faults.ascending faults.known u l)
 
   costs : problems.cost p (in_set c.set) ≡ problems.cost p (passes_at p.updates (is_among members))
@@ -68,7 +68,7 @@ module _ (d : DistanceFunction) (h : Schedule) (q : ℕ) (opening_values_in_rang
   certified_is_least = let parts : ClosedSetsAreParts d h q = law_of_placements d h q legal in (parts.least c.worth).1 (is_among members, least, sym distance)
 
   -- A certificate with the smallest set of least cost gives the audit's answer.
-  pub answer_from : ImportBoundsDistance d h → IsTrue (is_committed_query h q) → IsSmallestLeast p (in_set c.set) → IsAnswer d h q c.worth (import_in (charges_in d h) q) members
+  pub answer_from : ImportBoundsDistance d h → IsTrue (is_committed_query h q) → IsSmallestLeastCostSet p (in_set c.set) → IsAnswer d h q c.worth (import_in (charges_in d h) q) members
   answer_from bound committed s =
       let smallest : IsSmallestLeastSet d h q (is_among members) =
       smallest_is_least d h q p built problem inside (is_among members) (known_at p.updates c.set) (smallest_same p problem (in_set c.set) (passes_at p.updates (is_among members)) same s) in
@@ -76,7 +76,7 @@ module _ (d : DistanceFunction) (h : Schedule) (q : ℕ) (opening_values_in_rang
       record {
         committed = committed;
         least = certified_is_least;
-        in_order = before_members p.updates distinct c.set faults.ascending faults.known (updates_of h q) built.updates;
+        in_order = before_members p.updates distinct c.set faults.ascending faults.known (updates_committed_before h q) built.updates;
         smallest = smallest;
         distance_is = distance;
         import_is = refl;

@@ -17,7 +17,7 @@ use Rattle.esr_history.proofs.Laws.{import_bounds_distance}
 use Rattle.esr_history.proofs.Membership.{In, In-of_filter}
 use Rattle.esr_history.proofs.Traces.{IsMetric}
 use Rattle.esr_order.specs.Relevant.{AreRelevant}
-use Rattle.esr_cert.specs.Problem.{Problem, in_set, is_well_formed, IsSmallestLeast}
+use Rattle.esr_cert.specs.Problem.{Problem, in_set, is_well_formed, IsSmallestLeastCostSet}
 use Rattle.esr_cert.specs.Certificate.{Certificate, Certifies}
 use Rattle.esr_cert.specs.declared.certificate.Certificate as code
 use Rattle.esr_cert.specs.Views.{certificate_of}
@@ -51,7 +51,7 @@ txns_of us short =
 module _ (d : DistanceFunction) (h : Schedule) (a : IsAuditable d h) where
   -- a certificate of the query's problem makes a finding
   finding_of : (q : ℕ) → IsTrue (is_committed_query h q) → (p : Problem) → IsProblemOf d h q p → AreRelevant h q p.updates → is_well_formed p ≡ true
-      → (c : Certificate) → Certifies p c → IsSmallestLeast p (in_set c.set) → c.augmentations ≡ None → (f : Finding) × (f.query.0 ≡ q) × IsFindingOf d h q f
+      → (c : Certificate) → Certifies p c → IsSmallestLeastCostSet p (in_set c.set) → c.augmentations ≡ None → (f : Finding) × (f.query.0 ≡ q) × IsFindingOf d h q f
   finding_of q committed p built relevant sound c certified smallest without_count =
       let members : List ℕ = filter_map (slice_get p.updates) c.set in
       let few : length members ≤ 65535 = omega (arith, given_at_most p.updates c.set, (certificate_is_short p c sound certified).set) in
@@ -76,7 +76,7 @@ module _ (d : DistanceFunction) (h : Schedule) (a : IsAuditable d h) where
       let us : List ℕ = map (λ (t : TxnId). t.0) o.order.commits in
       let p : Problem = problem_of_order d h q o.order in
       let sound : is_well_formed p ≡ true = problem_is_well_formed d h q a.legal a.opening_values_in_range us o.relevant o.order o.is_order a.items query a.bounded in
-      let c : (c : Certificate) × Certifies p c × IsSmallestLeast p (in_set c.set) × (c.augmentations ≡ None) = each_problem_has_a_certificate p sound in
+      let c : (c : Certificate) × Certifies p c × IsSmallestLeastCostSet p (in_set c.set) × (c.augmentations ≡ None) = each_problem_has_a_certificate p sound in
       finding_of q committed p (is_problem d h q a.legal us o.relevant o.order o.is_order) o.relevant sound c.0 c.1 c.2 c.3
 
   -- a finding of each of some committed queries

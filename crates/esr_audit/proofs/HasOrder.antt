@@ -6,7 +6,7 @@ use Rattle.std.specs.List.{list_any, range_with_len}
 use Rattle.std.proofs.lemmas.Bool.{true≢false, cases_Bool, cases_lt, cond_both, or_from, ltb-true, ltb-false, eqb-true, eqb-false, false_from_ne_true}
 use Rattle.esr_base.specs.declared.numbers.TxnId.{TxnId}
 use Rattle.esr_history.specs.Machine.{DistanceFunction, Schedule, IsLegal}
-use Rattle.esr_history.specs.Queries.{updates_of, must}
+use Rattle.esr_history.specs.Queries.{updates_committed_before, must}
 use Rattle.esr_history.proofs.Membership.{In, In-Contains, Contains-In, Pairs, All-from_pairs, each_in, each_at}
 use Rattle.esr_history.proofs.WithinRanges.{legal_items}
 use Rattle.esr_order.specs.Batches.{batches, operation_at}
@@ -86,9 +86,9 @@ module _ (d : DistanceFunction) (h : Schedule) (q : ℕ) (legal : IsLegal d h) w
       written x = list_any (did h true x) us
 
   -- whether an update is relevant is decided by its position and its accesses
-  relevant_from : (k i : ℕ) → i + k ≡ length (updates_of h q) → (us : List ℕ) × IsRelevantFrom h q i us
+  relevant_from : (k i : ℕ) → i + k ≡ length (updates_committed_before h q) → (us : List ℕ) × IsRelevantFrom h q i us
   relevant_from zero i e =
-      let none : drop i (updates_of h q) ≡ [] = nothing_left (updates_of h q) i (omega arith) in (
+      let none : drop i (updates_committed_before h q) ≡ [] = nothing_left (updates_committed_before h q) i (omega arith) in (
         [],
         record {
           in_order = sym (ap (filter (is_among [])) none);
@@ -97,7 +97,7 @@ module _ (d : DistanceFunction) (h : Schedule) (q : ℕ) (legal : IsLegal d h) w
       )
   relevant_from (suc k) i e =
       let later : (us : List ℕ) × IsRelevantFrom h q (suc i) us = relevant_from k (suc i) (omega arith) in
-      let inside : i < length (updates_of h q) = omega arith in
+      let inside : i < length (updates_committed_before h q) = omega arith in
       let s : Seen = seen_by later.0 in
       let seen : AreSeen h q later.0 s = are_seen later.0 in
       elim (cases_lt i (length (must h q))) [
@@ -113,7 +113,7 @@ module _ (d : DistanceFunction) (h : Schedule) (q : ℕ) (legal : IsLegal d h) w
       ]
 
   pub relevant_exist : (us : List ℕ) × AreRelevant h q us
-  relevant_exist = let r = relevant_from (length (updates_of h q)) 0 (omega arith) in (r.0, relevant_all h q r.0 r.1)
+  relevant_exist = let r = relevant_from (length (updates_committed_before h q)) 0 (omega arith) in (r.0, relevant_all h q r.0 r.1)
 
 -- ---- numbers in ascending order, each once
 

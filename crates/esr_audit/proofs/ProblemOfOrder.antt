@@ -9,7 +9,7 @@ use Rattle.esr_base.specs.declared.numbers.TxnId.{TxnId}
 use Rattle.esr_history.specs.Machine.{DistanceFunction, Schedule, IsLegal, value_distance}
 use Rattle.esr_history.specs.Operations.{Operation}
 use Rattle.esr_history.specs.Serial.{is_before}
-use Rattle.esr_history.specs.Queries.{updates_of, must, reads_by}
+use Rattle.esr_history.specs.Queries.{updates_committed_before, must, reads_by}
 use Rattle.esr_history.proofs.Membership.{In, In-any, In-of_filter, Pairs, each_in, each_at, In-Contains, Contains-In, Pairs-from_all}
 use Rattle.esr_order.specs.Placements.{is_among, IsClosed}
 use Rattle.esr_order.specs.Chains.{nth}
@@ -148,7 +148,7 @@ module _ (d : DistanceFunction) (h : Schedule) (q : ℕ) (legal : IsLegal d h) (
 
   pub is_problem : IsProblemOf d h q (problem_of_order d h q o)
   is_problem = record {
-    updates = good.commits ∙ relevant.in_order ∙ ap (λ vs. filter (is_among vs) (updates_of h q)) (sym good.commits);
+    updates = good.commits ∙ relevant.in_order ∙ ap (λ vs. filter (is_among vs) (updates_committed_before h q)) (sym good.commits);
     writers = All-from_recursion (λ x. filter (has_written h x) (map (λ (t : TxnId). t.0) o.commits) ≡ writers_of h q x) (items_read h q) (each_in (λ x. filter (has_written h x) (map (λ (t : TxnId). t.0) o.commits) ≡ writers_of h q x) (items_read h q) (λ x i. ap (filter (has_written h x)) good.commits ∙ all_writers x i));
     must = must_places ∙ ap (λ vs. places vs (is_among (must h q))) (sym good.commits);
     chains = ap (map (chain_of_item (value_distance d h) h.opening o (map item_read_of (reads_by h q)))) items_same ∙ chains_same (items_read h q) (λ x i. i) ∙ ap (λ vs. map (chain_for d h q vs) (items_read h q)) (sym good.commits);

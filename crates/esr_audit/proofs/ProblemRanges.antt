@@ -12,7 +12,7 @@ use Rattle.esr_history.specs.Machine.{DistanceFunction, Schedule, IsLegal, accep
 use Rattle.esr_history.specs.Operations.{Operation, operations, commit_order}
 use Rattle.esr_history.specs.Ranges.{IsWithinRanges}
 use Rattle.esr_history.specs.Serial.{is_before, state, values_by}
-use Rattle.esr_history.specs.Queries.{updates_of, reads_by}
+use Rattle.esr_history.specs.Queries.{updates_committed_before, reads_by}
 use Rattle.esr_history.proofs.Membership.{In, each_in, each_at, In-of_filter, Contains-In, any-from_In}
 use Rattle.esr_history.proofs.Versions.{wrote_by}
 use Rattle.esr_history.proofs.TraceAgreement.{values_trace}
@@ -23,7 +23,7 @@ use Rattle.esr_order.proofs.RelevantLaws.{relevant_updates}
 use Rattle.esr_order.proofs.QueryReads.{reads_counted, reads_in_range}
 use Rattle.esr_base.specs.declared.limits.TheConstants.{MAX_ITEMS, MAX_TRANSACTIONS}
 use Rattle.esr_cert.specs.declared.range.TheConstants.{MAX_COST}
-use Rattle.esr_cert.specs.Problem.{Chain, Problem, size, greatest, chain_is_in_range, is_in_range, is_well_formed}
+use Rattle.esr_cert.specs.Problem.{Chain, Problem, update_count, greatest, chain_is_in_range, is_in_range, is_well_formed}
 use Rattle.esr_cert.proofs.Sound.{all_from}
 use Rattle.esr_audit.specs.Problems.{passes_at, places, items_read, writers_of, version_cost, chain_for}
 use Rattle.esr_audit.proofs.Costs.{by_item, sum_mapped}
@@ -128,31 +128,31 @@ module _ (d : DistanceFunction) (h : Schedule) (q : ℕ) (range : IsWithinRanges
     abbrev p : Problem
     p = problem_of_order d h q o
 
-    sized : size p ≡ length o.commits
+    sized : update_count p ≡ length o.commits
     sized = length-map o.commits (λ (t : TxnId). t.0)
 
     numbers : list_all (λ t. nat_lt 0 t && nat_le t MAX_TRANSACTIONS) p.updates ≡ true
     numbers = all_from (λ t. nat_lt 0 t && nat_le t MAX_TRANSACTIONS) p.updates (λ t c.
-        let i : In t (updates_of h q) = Contains-In (updates_of h q) t (relevant_updates d h q legal us relevant t (subst (λ vs. Contains vs t) is_order.commits c)) in
+        let i : In t (updates_committed_before h q) = Contains-In (updates_committed_before h q) t (relevant_updates d h q legal us relevant t (subst (λ vs. Contains vs t) is_order.commits c)) in
         let r = number_in_range h range opening_values_in_range t (In-of_filter (is_update (accepted_in h)) (before_first (λ t. eqb t q) (commit_order (accepted_in h))) t i).1 in
         and_from (nat_lt 0 t) (nat_le t MAX_TRANSACTIONS) (lt-ltb 0 t r.0) (le-leb t MAX_TRANSACTIONS r.1))
 
-    before : list_all (λ (e : ℕ × ℕ). nat_lt e.0 (size p) && nat_lt e.1 (size p)) o.before ≡ true
-    before = all_from (λ (e : ℕ × ℕ). nat_lt e.0 (size p) && nat_lt e.1 (size p)) o.before (λ e c.
+    before : list_all (λ (e : ℕ × ℕ). nat_lt e.0 (update_count p) && nat_lt e.1 (update_count p)) o.before ≡ true
+    before = all_from (λ (e : ℕ × ℕ). nat_lt e.0 (update_count p) && nat_lt e.1 (update_count p)) o.before (λ e c.
         let r = All-contains (λ (p : ℕ × ℕ). (p.0 < p.1) × (p.1 < length o.commits) × IsTrue (is_before h (nth us p.0) (nth us p.1))) o.before e is_order.pairs c in
-        and_from (nat_lt e.0 (size p)) (nat_lt e.1 (size p)) (lt-ltb e.0 (size p) (omega (arith, r.0, r.1, sized))) (lt-ltb e.1 (size p) (omega (arith, r.1, sized))))
+        and_from (nat_lt e.0 (update_count p)) (nat_lt e.1 (update_count p)) (lt-ltb e.0 (update_count p) (omega (arith, r.0, r.1, sized))) (lt-ltb e.1 (update_count p) (omega (arith, r.1, sized))))
 
-    must_within : list_all (λ u. nat_lt u (size p)) o.must ≡ true
-    must_within = all_from (λ u. nat_lt u (size p)) o.must (λ u c. lt-ltb u (size p) (omega (arith, All-contains (λ i. i < length o.commits) o.must u is_order.within c, sized)))
+    must_within : list_all (λ u. nat_lt u (update_count p)) o.must ≡ true
+    must_within = all_from (λ u. nat_lt u (update_count p)) o.must (λ u c. lt-ltb u (update_count p) (omega (arith, All-contains (λ i. i < length o.commits) o.must u is_order.within c, sized)))
 
-    chain_within : (x : ℕ) → In x (items_read h q) → chain_is_in_range (size p) (chain_for d h q us x) ≡ true
+    chain_within : (x : ℕ) → In x (items_read h q) → chain_is_in_range (update_count p) (chain_for d h q us x) ≡ true
     chain_within x i =
         let l = below (λ x. list_any (λ (o : Operation). eqb o.item x) (reads_by h q)) 0 (length h.opening) x i in
-        and_from (nat_lt x MAX_ITEMS) (list_all (λ w. nat_lt w (size p)) (places us (has_written h x)))
+        and_from (nat_lt x MAX_ITEMS) (list_all (λ w. nat_lt w (update_count p)) (places us (has_written h x)))
         (lt-ltb x MAX_ITEMS (omega arith))
-        (all_from (λ w. nat_lt w (size p)) (places us (has_written h x)) (λ w c.
+        (all_from (λ w. nat_lt w (update_count p)) (places us (has_written h x)) (λ w c.
         let k = below (passes_at us (has_written h x)) 0 (length us) w (Contains-In (places us (has_written h x)) w c) in
-        lt-ltb w (size p) (omega (arith, k, ap length is_order.commits))))
+        lt-ltb w (update_count p) (omega (arith, k, ap length is_order.commits))))
       where
         in_row : (a n x : ℕ) → In x (range_with_len a n) → x < a + n
         in_row a zero x i = absurd i
@@ -162,9 +162,9 @@ module _ (d : DistanceFunction) (h : Schedule) (q : ℕ) (range : IsWithinRanges
         below : (P : ℕ → Bool) (a n x : ℕ) → In x (filter P (range_with_len a n)) → x < a + n
         below P a n x i = in_row a n x (In-of_filter P (range_with_len a n) x i).0
 
-    chains_within : (xs : List ℕ) → ((x : ℕ) → In x xs → In x (items_read h q)) → list_all (chain_is_in_range (size p)) (map (chain_for d h q us) xs) ≡ true
+    chains_within : (xs : List ℕ) → ((x : ℕ) → In x xs → In x (items_read h q)) → list_all (chain_is_in_range (update_count p)) (map (chain_for d h q us) xs) ≡ true
     chains_within [] all = refl
-    chains_within (x ∷ xs) all = and_from (chain_is_in_range (size p) (chain_for d h q us x)) (list_all (chain_is_in_range (size p)) (map (chain_for d h q us) xs)) (chain_within x (all x (inl refl))) (chains_within xs (λ y i. all y (inr i)))
+    chains_within (x ∷ xs) all = and_from (chain_is_in_range (update_count p) (chain_for d h q us x)) (list_all (chain_is_in_range (update_count p)) (map (chain_for d h q us) xs)) (chain_within x (all x (inl refl))) (chains_within xs (λ y i. all y (inr i)))
 
     costs : nat_le (sum_by (λ (c : Chain). greatest c.costs) p.chains) MAX_COST ≡ true
     costs =
@@ -175,7 +175,7 @@ module _ (d : DistanceFunction) (h : Schedule) (q : ℕ) (range : IsWithinRanges
 
     pub within : is_in_range p ≡ true
     within =
-        and_from _ _ (and_from _ _ (and_from _ _ (and_from _ _ numbers (ap (list_all (chain_is_in_range (size p))) (shape.chains_of d h q legal us relevant o is_order) ∙ chains_within (items_read h q) (λ x i. i))) before) must_within) costs
+        and_from _ _ (and_from _ _ (and_from _ _ (and_from _ _ numbers (ap (list_all (chain_is_in_range (update_count p))) (shape.chains_of d h q legal us relevant o is_order) ∙ chains_within (items_read h q) (λ x i. i))) before) must_within) costs
 
     pub gathered_problem_is_well_formed : is_well_formed p ≡ true
     gathered_problem_is_well_formed = and_from _ _ (shape.shaped d h q legal us relevant o is_order) within

@@ -2,7 +2,7 @@
 use Rattle.std.proofs.Common.{◌≡◌, ℕ, ◌<◌, ◌≤◌, true, eqb, ltb, List, [], ◌∷◌, inl, inr, refl, sym, ap, ◌∙◌, arith, true≢false, eq-eqb}
 use Rattle.std.specs.List.{list_all}
 use Rattle.std.proofs.lemmas.Bool.{or_left, or_right, or_cases, and_parts, eqb-true, ltb-true}
-use Rattle.esr_cert.specs.Problem.{Problem, size, in_set, is_ascending, IsSmallestLeast}
+use Rattle.esr_cert.specs.Problem.{Problem, update_count, in_set, is_ascending, IsSmallestLeastCostSet}
 use Rattle.esr_cert.specs.Certificate.{Certificate, Certifies}
 use Rattle.esr_cert.proofs.Certified.{IsFaultless, faultless}
 
@@ -64,10 +64,10 @@ known n (x ∷ xs) h u t =
       | inr k ↦ known n xs both.1 u k
     ]
 
-pub same_set : (p : Problem) (c d : Certificate) → Certifies p c → Certifies p d → IsSmallestLeast p (in_set c.set) → IsSmallestLeast p (in_set d.set) → c.set ≡ d.set
+pub same_set : (p : Problem) (c d : Certificate) → Certifies p c → Certifies p d → IsSmallestLeastCostSet p (in_set c.set) → IsSmallestLeastCostSet p (in_set d.set) → c.set ≡ d.set
 same_set p c d a b s t =
     let f : IsFaultless p c = faultless p c a in
     let g : IsFaultless p d = faultless p d b in
     same_lists c.set d.set f.ascending g.ascending
-    (λ u m. s.smallest (in_set d.set) t.closed (t.least (in_set c.set) s.closed) u (known (size p) c.set f.known u m) m)
-    (λ u m. t.smallest (in_set c.set) s.closed (s.least (in_set d.set) t.closed) u (known (size p) d.set g.known u m) m)
+    (λ u m. s.smallest (in_set d.set) t.closed (t.least (in_set c.set) s.closed) u (known (update_count p) c.set f.known u m) m)
+    (λ u m. t.smallest (in_set c.set) s.closed (s.least (in_set d.set) t.closed) u (known (update_count p) d.set g.known u m) m)

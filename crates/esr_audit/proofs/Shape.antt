@@ -14,7 +14,7 @@ use Rattle.esr_order.specs.Chains as orders
 use Rattle.esr_order.specs.Chains.{nth, chain_from, if_written, last_among}
 use Rattle.esr_order.specs.Orders.{ConflictOrder, IsConflictOrderOn}
 use Rattle.esr_order.specs.Relevant.{AreRelevant, has_written}
-use Rattle.esr_cert.specs.Problem.{Chain, in_set, is_ascending, pair_lt, are_pairs_ascending, has_pair, are_linked, is_distinct, chain_has_shape, has_shape}
+use Rattle.esr_cert.specs.Problem.{Chain, in_set, is_ascending, pair_lt, are_pairs_ascending, has_pair, are_linked, is_distinct, chain_has_shape, has_valid_shape}
 use Rattle.esr_cert.proofs.Sound.{all_from}
 use Rattle.esr_audit.specs.Problems.{places, items_read, writers_of, passes_at, version_cost, chain_for}
 use Rattle.esr_audit.proofs.Places.{length-places}
@@ -116,6 +116,6 @@ module _ (d : DistanceFunction) (h : Schedule) (q : ℕ) (legal : IsLegal d h) (
   chains : list_all (chain_has_shape o.before) (problem_of_order d h q o).chains ≡ true
   chains = ap (list_all (chain_has_shape o.before)) chains_of ∙ all_shaped (items_read h q) (λ x i. i)
 
-  pub shaped : has_shape (problem_of_order d h q o) ≡ true
+  pub shaped : has_valid_shape (problem_of_order d h q o) ≡ true
   shaped =
       and_from _ _ (and_from _ _ (and_from _ _ (and_from _ _ (and_from _ _ distinct (pairs_ascend o.before (Pairs-from_all IsLexLess o.before good.ascending))) forward) items) chains) (must_ascends d h q legal us relevant o good)

@@ -8,11 +8,11 @@ use Rattle.std.proofs.lemmas.List.Elements.{All-from_recursion}
 use mathlib.Core.Bool.{and-true}
 use Rattle.esr_history.specs.Machine.{DistanceFunction, Schedule}
 use Rattle.esr_history.specs.Operations.{Operation}
-use Rattle.esr_history.specs.Queries.{updates_of, reads_by, cost}
+use Rattle.esr_history.specs.Queries.{updates_committed_before, reads_by, cost}
 use Rattle.esr_history.proofs.Membership.{each_in}
 use Rattle.esr_order.specs.Placements.{is_among, IsClosed, IsLeastSet, IsSmallestLeastSet}
 use Rattle.esr_cert.specs.Problem as problems
-use Rattle.esr_cert.specs.Problem.{Problem, size, is_closed, IsSmallestLeast}
+use Rattle.esr_cert.specs.Problem.{Problem, update_count, is_closed, IsSmallestLeastCostSet}
 use Rattle.esr_cert.proofs.Sound as sound
 use Rattle.esr_cert.proofs.Sound.{IsProblem}
 use Rattle.esr_audit.specs.Problems.{passes_at, IsProblemOf}
@@ -37,7 +37,7 @@ element (u ∷ us) zero l = (u, refl)
 element (u ∷ us) (suc i) l = element us i (omega arith)
 
 module _ (d : DistanceFunction) (h : Schedule) (q : ℕ) (p : Problem) (is_problem : IsProblemOf d h q p) (ok : IsProblem p) (inside : AllByRecursion (λ (o : Operation). o.item < length h.opening) (reads_by h q)) where
-  whole_passes : (i : ℕ) → i < size p → passes_at p.updates (λ u. true) i ≡ true
+  whole_passes : (i : ℕ) → i < update_count p → passes_at p.updates (λ u. true) i ≡ true
   whole_passes i l = let e = element p.updates i l in passes_here p.updates (λ u. true) i e.0 e.1
 
   whole_closed : is_closed p (passes_at p.updates (λ u. true)) ≡ true
@@ -77,10 +77,10 @@ module _ (d : DistanceFunction) (h : Schedule) (q : ℕ) (p : Problem) (is_probl
         omega (arith, l, cost_is_distance d h q p is_problem inside S, cost_is_distance d h q p is_problem inside T);
   }
 
-  pub smallest_is_least : (S : ℕ → Bool) → ((u : ℕ) → S u ≡ true → is_among p.updates u ≡ true) → IsSmallestLeast p (passes_at p.updates S) → IsSmallestLeastSet d h q S
+  pub smallest_is_least : (S : ℕ → Bool) → ((u : ℕ) → S u ≡ true → is_among p.updates u ≡ true) → IsSmallestLeastCostSet p (passes_at p.updates S) → IsSmallestLeastSet d h q S
   smallest_is_least S known s = record {
     least = least;
-    smallest = λ T t. All-from_recursion (λ u. IsTrue (S u) → IsTrue (T u)) (updates_of h q) (each_in (λ u. IsTrue (S u) → IsTrue (T u)) (updates_of h q) (λ u i su. contained T t u su));
+    smallest = λ T t. All-from_recursion (λ u. IsTrue (S u) → IsTrue (T u)) (updates_committed_before h q) (each_in (λ u. IsTrue (S u) → IsTrue (T u)) (updates_committed_before h q) (λ u i su. contained T t u su));
   }
     where
       least : IsLeastSet d h q S

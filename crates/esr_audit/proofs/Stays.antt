@@ -4,11 +4,11 @@ use Rattle.std.proofs.lemmas.List.Elements.{All-from_recursion, recursion_from_A
 use Rattle.esr_base.specs.declared.numbers.TxnId.{TxnId}
 use Rattle.esr_history.specs.declared.event.Entry.{Entry}
 use Rattle.esr_history.specs.Events.{is_committed}
-use Rattle.esr_history.specs.Legal.{along}
+use Rattle.esr_history.specs.Legal.{continued}
 use Rattle.esr_history.specs.Machine.{DistanceFunction, Schedule, accepted_in, IsLegal}
 use Rattle.esr_history.proofs.Laws.{audit_stays}
 use Rattle.esr_history.proofs.Membership.{In, each_in, each_at}
-use Rattle.esr_history.specs.Queries.{updates_of, cost, HasSameAudit}
+use Rattle.esr_history.specs.Queries.{updates_committed_before, cost, HasSameAudit}
 use Rattle.esr_order.specs.Placements.{is_among, IsClosed, IsLeastSet, IsSmallestLeastSet}
 use Rattle.esr_order.specs.Statements.{ClosedSetsAreParts}
 use Rattle.esr_order.proofs.ConflictOrder.{law_of_placements}
@@ -23,8 +23,8 @@ module _ (d : DistanceFunction) (h longer : Schedule) (q : ℕ) (alike : HasSame
   closed_then : (S : ℕ → Bool) → IsClosed h q S → IsClosed longer q S
   closed_then S c = record {
     downward = λ u v cu cv b t.
-        let iu : Contains (updates_of h q) u = subst (λ us. Contains us u) alike.updates cu in
-        let iv : Contains (updates_of h q) v = subst (λ us. Contains us v) alike.updates cv in
+        let iu : Contains (updates_committed_before h q) u = subst (λ us. Contains us u) alike.updates cu in
+        let iv : Contains (updates_committed_before h q) v = subst (λ us. Contains us v) alike.updates cv in
         c.downward u v iu iv (sym (alike.order u v iu iv) ∙ b) t;
     holds_must = λ u m. c.holds_must u (subst (λ us. Contains us u) alike.musts m);
   }
@@ -69,18 +69,18 @@ module _ (d : DistanceFunction) (h longer : Schedule) (q : ℕ) (alike : HasSame
       }
 
 -- the result for a query that has committed
-pub stays : (d : DistanceFunction) (h : Schedule) (q distance import : ℕ) (before : List ℕ) → is_committed (accepted_in h) q ≡ true → IsAnswer d h q distance import before
-    → (rest : List Entry) → IsLegal d (along h rest) → IsAnswer d (along h rest) q distance import before
-stays d h q distance import before committed a = λ rest legal. answer_stays d h (along h rest) q (audit_stays d h rest q legal committed) legal distance import before a
+pub stable : (d : DistanceFunction) (h : Schedule) (q distance import : ℕ) (before : List ℕ) → is_committed (accepted_in h) q ≡ true → IsAnswer d h q distance import before
+    → (rest : List Entry) → IsLegal d (continued h rest) → IsAnswer d (continued h rest) q distance import before
+stable d h q distance import before committed a = λ rest legal. answer_stays d h (continued h rest) q (audit_stays d h rest q legal committed) legal distance import before a
 
 -- and to each query of which there is a finding
 findings_answer : (d : DistanceFunction) (h : Schedule) (fs : List Finding) → map (λ (f : Finding). f.query.0) fs ≡ committed_queries h → All (IsFinding d h) fs
-    → (rest : List Entry) → IsLegal d (along h rest) → All (λ (f : Finding). IsAnswer d (along h rest) f.query.0 f.distance f.import (map (λ (t : TxnId). t.0) f.before.items)) fs
+    → (rest : List Entry) → IsLegal d (continued h rest) → All (λ (f : Finding). IsAnswer d (continued h rest) f.query.0 f.distance f.import (map (λ (t : TxnId). t.0) f.before.items)) fs
 findings_answer d h fs queries found rest legal =
-    All-from_recursion (λ (f : Finding). IsAnswer d (along h rest) f.query.0 f.distance f.import (map (λ (t : TxnId). t.0) f.before.items)) fs
-    (each_in (λ (f : Finding). IsAnswer d (along h rest) f.query.0 f.distance f.import (map (λ (t : TxnId). t.0) f.before.items)) fs (λ f i.
+    All-from_recursion (λ (f : Finding). IsAnswer d (continued h rest) f.query.0 f.distance f.import (map (λ (t : TxnId). t.0) f.before.items)) fs
+    (each_in (λ (f : Finding). IsAnswer d (continued h rest) f.query.0 f.distance f.import (map (λ (t : TxnId). t.0) f.before.items)) fs (λ f i.
     let finding : IsFinding d h f = each_at (IsFinding d h) fs f (recursion_from_All (IsFinding d h) fs found) i in
-    stays d h f.query.0 f.distance f.import (map (λ (t : TxnId). t.0) f.before.items) (query_committed h f.query.0 (subst (In f.query.0) queries (asked fs f i))) finding.answer rest legal))
+    stable d h f.query.0 f.distance f.import (map (λ (t : TxnId). t.0) f.before.items) (query_committed h f.query.0 (subst (In f.query.0) queries (asked fs f i))) finding.answer rest legal))
   where
     asked : (fs : List Finding) (f : Finding) → In f fs → In f.query.0 (map (λ (f : Finding). f.query.0) fs)
     asked [] f i = absurd i
@@ -88,7 +88,7 @@ findings_answer d h fs queries found rest legal =
 
 pub findings_stay : (d : DistanceFunction) (h : Schedule) (r : Result Book AuditError)
     → IfOk r (IsBook d h)
-    → IfOk r (λ b. (rest : List Entry) → IsLegal d (along h rest) → All (λ (f : Finding). IsAnswer d (along h rest) f.query.0 f.distance f.import (map (λ (t : TxnId). t.0) f.before.items)) b.findings.items)
+    → IfOk r (λ b. (rest : List Entry) → IsLegal d (continued h rest) → All (λ (f : Finding). IsAnswer d (continued h rest) f.query.0 f.distance f.import (map (λ (t : TxnId). t.0) f.before.items)) b.findings.items)
 findings_stay d h (Err e) book = tt
 findings_stay d h (Ok b) book = findings_answer d h b.findings.items book.queries book.found
 
@@ -98,12 +98,12 @@ IsAnswerIn d h t = IsAnswer d h t.0 t.1 t.2 t.3
 
 pub summaries_stay : (d : DistanceFunction) (h : Schedule) (r : Result Summaries AuditError)
     → IfOk r (AreSummaries d h)
-    → IfOk r (λ b. (rest : List Entry) → IsLegal d (along h rest) → All (λ (s : Summary). IsAnswer d (along h rest) s.query.0 s.distance s.import (listed s.before)) b.summaries.items)
+    → IfOk r (λ b. (rest : List Entry) → IsLegal d (continued h rest) → All (λ (s : Summary). IsAnswer d (continued h rest) s.query.0 s.distance s.import (listed s.before)) b.summaries.items)
 summaries_stay d h (Err e) are = tt
 summaries_stay d h (Ok b) are = λ rest legal.
-    each_of (IsAnswerIn d (along h rest)) b.summaries.items
-    (All-same (IsAnswerIn d (along h rest)) (map seen_summary b.summaries.items) (map summary are.0) are.1.of_findings
-    (All-map (IsAnswerIn d (along h rest)) summary are.0 (findings_answer d h are.0 are.1.queries are.1.found rest legal)))
+    each_of (IsAnswerIn d (continued h rest)) b.summaries.items
+    (All-same (IsAnswerIn d (continued h rest)) (map seen_summary b.summaries.items) (map summary are.0) are.1.of_findings
+    (All-map (IsAnswerIn d (continued h rest)) summary are.0 (findings_answer d h are.0 are.1.queries are.1.found rest legal)))
   where
     each_of : (P : ℕ × ℕ × ℕ × List ℕ → Type 0) (ss : List Summary) → All P (map seen_summary ss) → All (λ (s : Summary). P (seen_summary s)) ss
     each_of P [] a = All-nil (λ (s : Summary). P (seen_summary s))

@@ -7,8 +7,8 @@ use Rattle.esr_history.specs.Queries.{is_committed_query, members, cost}
 use Rattle.esr_history.specs.Serial.{committed_updates}
 use Rattle.esr_order.specs.Placements.{is_among, IsLeastDistance, IsSmallestLeastSet}
 use Rattle.esr_order.specs.Relevant.{AreRelevant}
-use Rattle.esr_order.specs.Least.{least_set, least_cost}
-use Rattle.esr_cert.specs.Problem.{Problem, in_set, IsSmallestLeast}
+use Rattle.esr_order.specs.Least.{nearest_placement, least_distance}
+use Rattle.esr_cert.specs.Problem.{Problem, in_set, IsSmallestLeastCostSet}
 use Rattle.esr_cert.specs.Certificate.{Certificate, Certifies, amounts}
 use Rattle.esr_cert.specs.Network.{network}
 use Rattle.esr_flow.specs.Augmentation.{AugmentsFromZero}
@@ -42,8 +42,8 @@ pub record IsAnswer (d : DistanceFunction) (h : Schedule) (q distance import : �
   pub bounded : distance ≤ import
 
 -- the certificate contains the number of augmentations that led to its flow, each along a shortest path
-abbrev pub IsCounted : Problem → Certificate → Type 0
-IsCounted p c = (n : ℕ) × (c.augmentations ≡ Some n) × AugmentsFromZero (network p) n (amounts c)
+abbrev pub HasAugmentationCount : Problem → Certificate → Type 0
+HasAugmentationCount p c = (n : ℕ) × (c.augmentations ≡ Some n) × AugmentsFromZero (network p) n (amounts c)
 
 -- A closed set and a flow of equal worth, of a problem that represents q, prove the distance. The set is the smallest
 -- of those of least cost.
@@ -53,7 +53,7 @@ pub record IsShown (d : DistanceFunction) (h : Schedule) (q distance : ℕ) (bef
   pub certified : Certifies problem certificate
   pub set_is : before ≡ filter_map (slice_get problem.updates) certificate.set
   pub worth_is : certificate.worth ≡ distance
-  pub smallest : IsSmallestLeast problem (in_set certificate.set)
+  pub smallest : IsSmallestLeastCostSet problem (in_set certificate.set)
   pub without_count : certificate.augmentations ≡ None
 
 -- the finding of query q
@@ -80,7 +80,7 @@ seen_summary s = (s.query.0, s.distance, s.import, listed s.before)
 
 -- the summary of a committed query: all of it is fixed by the history
 abbrev pub summary_of : DistanceFunction → Schedule → ℕ → ℕ × ℕ × ℕ × List ℕ
-summary_of d h q = (q, least_cost d h q, import_in (charges_in d h) q, least_set d h q)
+summary_of d h q = (q, least_distance d h q, import_in (charges_in d h) q, nearest_placement d h q)
 
 -- The audits of a history: its committed updates in commit order, a finding of each committed query in commit order, and
 -- the results in short, which the history determines.

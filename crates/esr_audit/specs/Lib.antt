@@ -5,4 +5,4 @@ pub mod Findings
 pub mod Existence
 pub mod Reads
 pub mod Ranges
-pub mod Worked
+pub mod WorkedExamples

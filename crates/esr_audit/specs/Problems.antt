@@ -3,7 +3,7 @@ use Rattle.std.specs.Prelude.{◌≡◌, ◌↔◌, ℕ, ℤ, suc, Bool, true, f
 use Rattle.std.specs.List.{list_any, range_with_len}
 use Rattle.esr_history.specs.Machine.{DistanceFunction, Schedule, value_distance}
 use Rattle.esr_history.specs.Serial.{state}
-use Rattle.esr_history.specs.Queries.{updates_of, must, reads_by}
+use Rattle.esr_history.specs.Queries.{updates_committed_before, must, reads_by}
 use Rattle.esr_order.specs.Placements.{is_among, IsClosed}
 use Rattle.esr_order.specs.Relevant.{has_written}
 use Rattle.esr_cert.specs.Problem.{Chain, Problem, is_closed}
@@ -21,7 +21,7 @@ items_read h q = filter (λ x. list_any (λ o. o.item == x) (reads_by h q)) (ran
 
 -- the updates of q that wrote item x, in commit order
 abbrev pub writers_of : Schedule → ℕ → ℕ → List ℕ
-writers_of h q x = filter (has_written h x) (updates_of h q)
+writers_of h q x = filter (has_written h x) (updates_committed_before h q)
 
 -- the sum of the distances between a value and the values that q read of item x
 abbrev pub read_distance : DistanceFunction → Schedule → ℕ → ℕ → ℤ → ℕ
@@ -42,7 +42,7 @@ chain_for d h q us x = record {
 -- The problem represents query q: its updates are some of the query's, in commit order, with all writers of the items
 -- that q read; its chains are those of these items; and it has the same closed sets among its updates.
 pub record IsProblemOf (d : DistanceFunction) (h : Schedule) (q : ℕ) (p : Problem) : Type 0 where
-  pub updates : p.updates ≡ filter (is_among p.updates) (updates_of h q)
+  pub updates : p.updates ≡ filter (is_among p.updates) (updates_committed_before h q)
   pub writers : All (λ x. filter (has_written h x) p.updates ≡ writers_of h q x) (items_read h q)
   pub must : p.must ≡ places p.updates (is_among (must h q))
   pub chains : p.chains ≡ map (chain_for d h q p.updates) (items_read h q)

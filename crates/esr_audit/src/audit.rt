@@ -1,22 +1,21 @@
 //! Audits of one committed query, and of every committed query of a history.
 //!
-//! A finding contains its problem, so anyone can check the certificate. An audit fails only if the transaction is not a
-//! committed query or if an allocation fails: that the problem satisfies the rules of shape and range follows from the limits
-//! of the engine.
+//! A finding contains the closure problem that was solved, so anyone can check its certificate. An audit fails only if the
+//! transaction is not a committed query or if an allocation fails: the engine's limits guarantee that the problem is valid.
 ghost use Rattle.std.specs.Prelude.{◌≡◌, ◌↔◌, false, List, None, map, All, IfOk, IfErr, IsErrOf, IsTrue, filter_map, slice_get};
 ghost use Rattle.esr_history.specs.declared.event.Entry.{Entry};
-ghost use Rattle.esr_history.specs.Legal.{along};
+ghost use Rattle.esr_history.specs.Legal.{continued};
 ghost use Rattle.esr_history.specs.Machine.{IsLegal, accepted_in};
 ghost use Rattle.esr_history.specs.Operations.{commit_order};
 ghost use Rattle.esr_history.specs.Queries.{is_committed_query};
 ghost use Rattle.esr_history.specs.Sound.{IsSound};
 ghost use Rattle.esr_cert.specs.Certificate.{Certifies};
-ghost use Rattle.esr_cert.specs.Problem.{in_set, IsSmallestLeast};
+ghost use Rattle.esr_cert.specs.Problem.{in_set, IsSmallestLeastCostSet};
 ghost use Rattle.esr_cert.specs.Views.{certificate_of};
 ghost use Rattle.esr_order.specs.Orders.{IsConflictOrderOn};
 ghost use Rattle.esr_order.specs.Index.{IsWholeIndexOf};
 ghost use Rattle.esr_order.specs.Relevant.{AreRelevant};
-ghost use Rattle.esr_audit.specs.Findings.{IsAnswer, IsCounted, IsFinding, IsFindingOf, IsBook};
+ghost use Rattle.esr_audit.specs.Findings.{IsAnswer, HasAugmentationCount, IsFinding, IsFindingOf, IsBook};
 
 use crate::commits::{CommitLists, commit_lists};
 use crate::finding::{AuditError, Book, Finding};
@@ -48,7 +47,7 @@ fn updates_at(alloc: Global, updates: &[TxnId], set: &[u32]) -> Result<Vec<TxnId
 /// augmentations.
 fn certify(alloc: Global, problem: &Problem) -> Result<Certificate, NoMemory>
     ensures certifies { IfOk result (λ c. Certifies problem.now (certificate_of c)) }
-    ensures least { IfOk result (λ c. IsSmallestLeast problem.now (in_set c.set.items)) }
+    ensures least { IfOk result (λ c. IsSmallestLeastCostSet problem.now (in_set c.set.items)) }
     ensures without_count { IfOk result (λ c. c.augmentations ≡ None) }
 {
     let network = Network::build(alloc, problem)?;
@@ -57,11 +56,11 @@ fn certify(alloc: Global, problem: &Problem) -> Result<Certificate, NoMemory>
 }
 
 /// Returns a certificate of the problem, with its smallest closed set of least cost. It contains the number of
-/// augmentations along shortest paths that led to its flow.
+/// shortest-path augmentations that produced its flow.
 pub fn certify_with_augmentations(alloc: Global, problem: &Problem) -> Result<Certificate, NoMemory>
     ensures certifies { IfOk result (λ c. Certifies problem.now (certificate_of c)) }
-    ensures least { IfOk result (λ c. IsSmallestLeast problem.now (in_set c.set.items)) }
-    ensures counted { IfOk result (λ c. IsCounted problem.now (certificate_of c)) }
+    ensures least { IfOk result (λ c. IsSmallestLeastCostSet problem.now (in_set c.set.items)) }
+    ensures counted { IfOk result (λ c. HasAugmentationCount problem.now (certificate_of c)) }
 {
     let network = Network::build(alloc, problem)?;
     Ok(solve(alloc, &network)?.certificate)
@@ -95,8 +94,8 @@ fn finding_of<M: Metric>(
     })
 }
 
-/// Returns the least distance between the values that a committed query read and those of any serial placement of it,
-/// with a certificate. The result holds for every continuation of the history. The problem has exactly the relevant updates
+/// Returns the minimum, over all serial placements of a committed query, of the distance between the values that it read
+/// and those at the placement, with a certificate. The result holds for every continuation of the history. The problem has exactly the relevant updates
 /// of the query: those that wrote an item that it read, those from which a chain of conflicts leads to such an update,
 /// and those that it must have seen.
 ///
@@ -113,8 +112,8 @@ pub fn audit_query<M: Metric>(
     ensures refused { IsErrOf result AuditError.NotACommittedQuery
         ↔ (is_committed_query history.now.schedule q.0 ≡ false) }
     ensures no_worker_error { ¬ IsErrOf result AuditError.WorkersOutOfRange }
-    ensures stays { IfOk result (λ f. (rest : List Entry) → IsLegal M.distance_by (along history.now.schedule rest)
-        → IsAnswer M.distance_by (along history.now.schedule rest) q.0 f.distance f.import
+    ensures stable { IfOk result (λ f. (rest : List Entry) → IsLegal M.distance_by (continued history.now.schedule rest)
+        → IsAnswer M.distance_by (continued history.now.schedule rest) q.0 f.distance f.import
         (map (λ t. t.0) f.before.items)) }
 {
     let _invariant = history.log(); // brings the invariant into the proof
@@ -167,7 +166,7 @@ pub fn audit_query_with_index<M: Metric>(
 }
 
 /// Audits a committed query, given the list of all committed transactions.
-fn finding_of_committed<M: Metric>(
+fn finding_from_commits<M: Metric>(
     alloc: Global,
     history: &History<M>,
     committed: &[TxnId],
@@ -198,7 +197,7 @@ fn findings_of<M: Metric>(
 {
     let mut findings = Vec::new(alloc);
     for q in queries {
-        let finding = finding_of_committed(alloc, history, committed, *q)?;
+        let finding = finding_from_commits(alloc, history, committed, *q)?;
         match findings.push(finding) {
             Ok(()) => {}
             Err(_) => return Err(AuditError::NoMemory),
@@ -224,7 +223,7 @@ fn book_of<M: Metric>(alloc: Global, history: &History<M>) -> Result<Book, Audit
     })
 }
 
-/// States that a history is sound, which its type guarantees. Does nothing.
+/// Gives proofs the guarantee of the type that a history is sound. Does nothing at run time.
 pub fn prove_sound<M: Metric>(history: &History<M>)
     ensures { IsSound M.distance_by history.now.schedule }
 {
@@ -233,10 +232,10 @@ pub fn prove_sound<M: Metric>(history: &History<M>)
 
 /// Audits a history: returns a serial order of its committed updates, and the finding of each committed query.
 ///
-/// Each reply of the history is the machine's. Its committed updates are conflict-serializable in commit order. No
+/// Each reply is the one that the machine gives. Its committed updates are conflict-serializable in commit order. No
 /// import and no export has exceeded its limit. For each committed query the result has the least distance between the
-/// values that it read and those of any serial placement, proved by a closed set and a flow of equal worth; it is at
-/// most the import charged. The findings hold for every continuation of the history.
+/// values that it read and those of any serial placement, proved by a closed set and a flow of equal worth. This distance
+/// is at most the import charged. The findings hold for every continuation of the history.
 ///
 /// # Errors
 /// `NoMemory` if an allocation failed.
@@ -244,8 +243,8 @@ pub fn audit_history<M: Metric>(alloc: Global, history: &History<M>) -> Result<B
     ensures sound { IsSound M.distance_by history.now.schedule }
     ensures book { IfOk result (IsBook M.distance_by history.now.schedule) }
     ensures err { IfErr result (λ e. e ≡ AuditError.NoMemory) }
-    ensures stays { IfOk result (λ b. (rest : List Entry) → IsLegal M.distance_by (along history.now.schedule rest)
-        → All (λ f. IsAnswer M.distance_by (along history.now.schedule rest) f.query.0 f.distance f.import
+    ensures stable { IfOk result (λ b. (rest : List Entry) → IsLegal M.distance_by (continued history.now.schedule rest)
+        → All (λ f. IsAnswer M.distance_by (continued history.now.schedule rest) f.query.0 f.distance f.import
         (map (λ t. t.0) f.before.items)) b.findings.items) }
 {
     prove_sound(history);

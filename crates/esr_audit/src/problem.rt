@@ -1,5 +1,5 @@
 //! Builds the problem of a committed query: relevant updates, pairs, required updates (of a strict query), and the chains of the
-//! items that it read. `Problem::of_sound` constructs it without validation, because it is proved to satisfy every rule.
+//! items that it read. `Problem::from_valid_parts` constructs it without validation, because it is proved to satisfy every rule.
 ghost use Rattle.std.specs.Prelude.{map, IfOk, IsTrue};
 ghost use Rattle.esr_history.specs.Events.{is_query};
 ghost use Rattle.esr_history.specs.Machine.{accepted_in};
@@ -38,6 +38,6 @@ pub fn problem_of<M: Metric>(
         chains,
         must,
     };
-    let problem = Problem::of_sound(alloc, parts)?;
+    let problem = Problem::from_valid_parts(alloc, parts)?;
     Ok(problem)
 }

@@ -1,8 +1,9 @@
 //! The parallel audit: a board assigns each job to exactly one of several worker threads.
 //!
-//! A claim is one `fetch_add` and takes no lock. Its signature lacks the bound `Wait`, so the compiler rejects a body that
-//! waits for a lock. It is proved that a parallel audit returns what an audit by one thread returns, for any number of
-//! workers and any schedule: the same summaries, and findings that differ at most in the flows of their certificates.
+//! A claim is one `fetch_add` and takes no lock. In Rattle, a function that may wait has the bound `Wait`. A claim does not
+//! have it, so the compiler rejects a body that waits for a lock. It is proved that a parallel audit returns what an audit by
+//! one thread returns, for any number of workers and any schedule: the same summaries (distance, import and set of each
+//! query), and findings that differ at most in the flows of their certificates.
 #![tactic(auto)]
 
 mod board;

@@ -11,7 +11,7 @@
 ghost use Rattle.std.specs.Prelude.{◌≡◌, ℕ, ◌<◌, ◌≤◌, ◌↔◌, ◌⊎◌, [], length, map, All, IfOk, IfErr, List, vec_len, slice_index_or, slice_set, Some, None};
 ghost use Rattle.std.specs.List.{AllZip};
 ghost use Rattle.esr_history.specs.declared.event.Entry.{Entry};
-ghost use Rattle.esr_history.specs.Legal.{along};
+ghost use Rattle.esr_history.specs.Legal.{continued};
 ghost use Rattle.esr_history.specs.Machine.{IsLegal};
 ghost use Rattle.esr_history.specs.Serial.{committed_updates};
 ghost use Rattle.esr_history.specs.Sound.{IsSound};
@@ -274,8 +274,8 @@ pub fn audit_parallel<M: Metric + Sync, R: Threads + Sync, G: Gate + Sync>(
     ensures book { IfOk result (IsBook M.distance_by history.now.schedule) }
     ensures workers { (result ≡ Err AuditError.WorkersOutOfRange) ↔ ((workers ≡ 0) ⊎ (MAX_SEATS < workers)) }
     ensures err { IfErr result (λ e. (e ≡ AuditError.NoMemory) ⊎ (e ≡ AuditError.WorkersOutOfRange)) }
-    ensures stays { IfOk result (λ b. (rest : List Entry) → IsLegal M.distance_by (along history.now.schedule rest)
-        → All (λ f. IsAnswer M.distance_by (along history.now.schedule rest) f.query.0 f.distance f.import
+    ensures stable { IfOk result (λ b. (rest : List Entry) → IsLegal M.distance_by (continued history.now.schedule rest)
+        → All (λ f. IsAnswer M.distance_by (continued history.now.schedule rest) f.query.0 f.distance f.import
         (map (λ t. t.0) f.before.items)) b.findings.items) }
 {
     prove_sound(history);
@@ -304,8 +304,8 @@ pub fn summarize_parallel<M: Metric + Sync, R: Threads + Sync, G: Gate + Sync>(
     ensures summaries { IfOk result (AreSummaries M.distance_by history.now.schedule) }
     ensures workers { (result ≡ Err AuditError.WorkersOutOfRange) ↔ ((workers ≡ 0) ⊎ (MAX_SEATS < workers)) }
     ensures err { IfErr result (λ e. (e ≡ AuditError.NoMemory) ⊎ (e ≡ AuditError.WorkersOutOfRange)) }
-    ensures stays { IfOk result (λ b. (rest : List Entry) → IsLegal M.distance_by (along history.now.schedule rest)
-        → All (λ s. IsAnswer M.distance_by (along history.now.schedule rest) s.query.0 s.distance s.import
+    ensures stable { IfOk result (λ b. (rest : List Entry) → IsLegal M.distance_by (continued history.now.schedule rest)
+        → All (λ s. IsAnswer M.distance_by (continued history.now.schedule rest) s.query.0 s.distance s.import
         (listed s.before)) b.summaries.items) }
 {
     prove_sound(history);

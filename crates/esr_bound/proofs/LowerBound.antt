@@ -9,7 +9,7 @@ use Rattle.esr_items.specs.Values.{value_at}
 use Rattle.esr_history.specs.Events.{last_value}
 use Rattle.esr_history.specs.Machine.{Schedule}
 use Rattle.esr_history.specs.Serial.{is_before, values_by, state}
-use Rattle.esr_history.specs.Queries.{updates_of, members, must}
+use Rattle.esr_history.specs.Queries.{updates_committed_before, members, must}
 use Rattle.esr_history.proofs.Membership.{In, In-Contains, Pairs, each_at}
 use Rattle.esr_history.proofs.LastWriter.{empty_or_not, last_value-append, last_value-some}
 use Rattle.esr_order.specs.Placements.{IsClosed}
@@ -106,53 +106,53 @@ flat_one_more w (x ∷ xs) u = ap (λ l. w x ++ l) (flat_one_more w xs u) ∙ as
 
 module _ (h : Schedule) (q : ℕ) (good : InOrder h q) where
   abbrev us : List ℕ
-  us = updates_of h q
+  us = updates_committed_before h q
 
   -- the value after one more update, for a member and for a non-member
-  pub left_with : (T : ℕ → Bool) (k x : ℕ) → k < length (updates_of h q) → T (nth (updates_of h q) k) ≡ true → left_by h q T (k + 1) x ≡ last_value (left_by h q T k x) (values_by h x (nth (updates_of h q) k))
+  pub left_with : (T : ℕ → Bool) (k x : ℕ) → k < length (updates_committed_before h q) → T (nth (updates_committed_before h q) k) ≡ true → left_by h q T (k + 1) x ≡ last_value (left_by h q T k x) (values_by h x (nth (updates_committed_before h q) k))
   left_with T k x l t =
-      let u : ℕ = nth (updates_of h q) k in
-      let more : filter T (take (k + 1) (updates_of h q)) ≡ filter T (take k (updates_of h q)) ++ u ∷ [] =
-      ap (filter T) (take_more (updates_of h q) k 0 l) ∙ filter-append T (take k (updates_of h q)) (u ∷ []) ∙ ap (λ b. filter T (take k (updates_of h q)) ++ cond b (u ∷ []) []) t in
+      let u : ℕ = nth (updates_committed_before h q) k in
+      let more : filter T (take (k + 1) (updates_committed_before h q)) ≡ filter T (take k (updates_committed_before h q)) ++ u ∷ [] =
+      ap (filter T) (take_more (updates_committed_before h q) k 0 l) ∙ filter-append T (take k (updates_committed_before h q)) (u ∷ []) ∙ ap (λ b. filter T (take k (updates_committed_before h q)) ++ cond b (u ∷ []) []) t in
       ap (λ vs. last_value (value_at h.opening x) (flat_map (values_by h x) vs)) more
-      ∙ ap (last_value (value_at h.opening x)) (flat_one_more (values_by h x) (filter T (take k (updates_of h q))) u)
-      ∙ last_value-append (value_at h.opening x) (flat_map (values_by h x) (filter T (take k (updates_of h q)))) (values_by h x u)
+      ∙ ap (last_value (value_at h.opening x)) (flat_one_more (values_by h x) (filter T (take k (updates_committed_before h q))) u)
+      ∙ last_value-append (value_at h.opening x) (flat_map (values_by h x) (filter T (take k (updates_committed_before h q)))) (values_by h x u)
 
-  pub left_without : (T : ℕ → Bool) (k x : ℕ) → k < length (updates_of h q) → T (nth (updates_of h q) k) ≡ false → left_by h q T (k + 1) x ≡ left_by h q T k x
+  pub left_without : (T : ℕ → Bool) (k x : ℕ) → k < length (updates_committed_before h q) → T (nth (updates_committed_before h q) k) ≡ false → left_by h q T (k + 1) x ≡ left_by h q T k x
   left_without T k x l t =
-      let u : ℕ = nth (updates_of h q) k in
-      let more : filter T (take (k + 1) (updates_of h q)) ≡ filter T (take k (updates_of h q)) =
-      ap (filter T) (take_more (updates_of h q) k 0 l) ∙ filter-append T (take k (updates_of h q)) (u ∷ []) ∙ ap (λ b. filter T (take k (updates_of h q)) ++ cond b (u ∷ []) []) t ∙ append-nil (filter T (take k (updates_of h q))) in
+      let u : ℕ = nth (updates_committed_before h q) k in
+      let more : filter T (take (k + 1) (updates_committed_before h q)) ≡ filter T (take k (updates_committed_before h q)) =
+      ap (filter T) (take_more (updates_committed_before h q) k 0 l) ∙ filter-append T (take k (updates_committed_before h q)) (u ∷ []) ∙ ap (λ b. filter T (take k (updates_committed_before h q)) ++ cond b (u ∷ []) []) t ∙ append-nil (filter T (take k (updates_committed_before h q))) in
       ap (λ vs. last_value (value_at h.opening x) (flat_map (values_by h x) vs)) more
 
   -- if T contains all writers of x so far, it leaves the value that the full order leaves
-  pub left_all : (T : ℕ → Bool) (k x : ℕ) → ((i : ℕ) → i < k → i < length (updates_of h q) → Wrote h x (nth (updates_of h q) i) → T (nth (updates_of h q) i) ≡ true) → left_by h q T k x ≡ state h (take k (updates_of h q)) x
+  pub left_all : (T : ℕ → Bool) (k x : ℕ) → ((i : ℕ) → i < k → i < length (updates_committed_before h q) → Wrote h x (nth (updates_committed_before h q) i) → T (nth (updates_committed_before h q) i) ≡ true) → left_by h q T k x ≡ state h (take k (updates_committed_before h q)) x
   left_all T k x all =
-      ap (last_value (value_at h.opening x)) (all_kept T (values_by h x) (take k (updates_of h q)) (λ u i ne.
-      let r = in_take (updates_of h q) k u i in
+      ap (last_value (value_at h.opening x)) (all_kept T (values_by h x) (take k (updates_committed_before h q)) (λ u i ne.
+      let r = in_take (updates_committed_before h q) k u i in
       ap T (sym r.3) ∙ all r.0 r.1 r.2 (λ e. ne (sym (ap (values_by h x) r.3) ∙ e))))
 
   -- the value after one more update in the full order
-  pub all_more : (k x : ℕ) → k < length (updates_of h q) → left_by_all h q (k + 1) x ≡ last_value (left_by_all h q k x) (values_by h x (nth (updates_of h q) k))
+  pub all_more : (k x : ℕ) → k < length (updates_committed_before h q) → left_by_all h q (k + 1) x ≡ last_value (left_by_all h q k x) (values_by h x (nth (updates_committed_before h q) k))
   all_more k x l =
       sym (left_all (λ u. true) (k + 1) x (λ i m n w. refl))
       ∙ left_with (λ u. true) k x l refl
-      ∙ ap (λ v. last_value v (values_by h x (nth (updates_of h q) k))) (left_all (λ u. true) k x (λ i m n w. refl))
+      ∙ ap (λ v. last_value v (values_by h x (nth (updates_committed_before h q) k))) (left_all (λ u. true) k x (λ i m n w. refl))
 
   -- a closed set contains, with a writer of an item, the earlier writers of that item
-  pub earlier_in : (T : ℕ → Bool) → IsClosed h q T → (x i k : ℕ) → i < k → k < length (updates_of h q) → Wrote h x (nth (updates_of h q) i) → Wrote h x (nth (updates_of h q) k) → T (nth (updates_of h q) k) ≡ true → T (nth (updates_of h q) i) ≡ true
+  pub earlier_in : (T : ℕ → Bool) → IsClosed h q T → (x i k : ℕ) → i < k → k < length (updates_committed_before h q) → Wrote h x (nth (updates_committed_before h q) i) → Wrote h x (nth (updates_committed_before h q) k) → T (nth (updates_committed_before h q) k) ≡ true → T (nth (updates_committed_before h q) i) ≡ true
   earlier_in T closed x i k l m wi wk t =
-      let apart : nth (updates_of h q) i ≡ nth (updates_of h q) k → ⊥ = pairs_at (λ u v. u ≡ v → ⊥) (updates_of h q) good.once i k l m in
-      let back : is_before h (nth (updates_of h q) k) (nth (updates_of h q) i) ≡ false = pairs_at (λ u v. is_before h v u ≡ false) (updates_of h q) good.keeps i k l m in
-      elim (writers_in_order h x (nth (updates_of h q) i) (nth (updates_of h q) k) wi wk apart) [
-        | inl b ↦ closed.downward (nth (updates_of h q) i) (nth (updates_of h q) k) (In-Contains (updates_of h q) (nth (updates_of h q) i) (nth_in (updates_of h q) i (omega arith))) (In-Contains (updates_of h q) (nth (updates_of h q) k) (nth_in (updates_of h q) k m)) b t
+      let apart : nth (updates_committed_before h q) i ≡ nth (updates_committed_before h q) k → ⊥ = pairs_at (λ u v. u ≡ v → ⊥) (updates_committed_before h q) good.once i k l m in
+      let back : is_before h (nth (updates_committed_before h q) k) (nth (updates_committed_before h q) i) ≡ false = pairs_at (λ u v. is_before h v u ≡ false) (updates_committed_before h q) good.keeps i k l m in
+      elim (writers_in_order h x (nth (updates_committed_before h q) i) (nth (updates_committed_before h q) k) wi wk apart) [
+        | inl b ↦ closed.downward (nth (updates_committed_before h q) i) (nth (updates_committed_before h q) k) (In-Contains (updates_committed_before h q) (nth (updates_committed_before h q) i) (nth_in (updates_committed_before h q) i (omega arith))) (In-Contains (updates_committed_before h q) (nth (updates_committed_before h q) k) (nth_in (updates_committed_before h q) k m)) b t
         | inr b ↦ absurd (true≢false (sym b ∙ back))
       ]
 
-module _ (h : Schedule) (q : ℕ) (good : InOrder h q) (n : ℕ) (C : ℕ → ℤ → ℕ) (worth k : ℕ) (inside : k < length (updates_of h q)) (amounts after : ℕ → ℕ) (seed : Bool) (marks marked : List Bool) (step : IsStep n C h q k amounts after seed marks marked)
-    (S : ℕ → Bool) (closed : IsClosed h q S) (seeded : seed ≡ true → S (nth (updates_of h q) k) ≡ true) (so_far : Carries n C h q worth k amounts marks S) where
+module _ (h : Schedule) (q : ℕ) (good : InOrder h q) (n : ℕ) (C : ℕ → ℤ → ℕ) (worth k : ℕ) (inside : k < length (updates_committed_before h q)) (amounts after : ℕ → ℕ) (seed : Bool) (marks marked : List Bool) (step : IsStep n C h q k amounts after seed marks marked)
+    (S : ℕ → Bool) (closed : IsClosed h q S) (seeded : seed ≡ true → S (nth (updates_committed_before h q) k) ≡ true) (so_far : Carries n C h q worth k amounts marks S) where
   abbrev here : ℕ
-  here = nth (updates_of h q) k
+  here = nth (updates_committed_before h q) k
 
   -- a member of S overwrites the same versions as in the full order, so their amounts are the same
   overwrites : S here ≡ true → (x : ℕ) → x < n → Wrote h x here → so_far.own x ≡ amounts x
@@ -186,12 +186,12 @@ module _ (h : Schedule) (q : ℕ) (good : InOrder h q) (n : ℕ) (C : ℕ → �
       ∙ sym (all_more h q good k x inside)
 
   abbrev Marked : ℕ → List Bool → Type 0
-  Marked m bs = (i : ℕ) → i < m → mark_at bs i ≡ true → S (nth (updates_of h q) i) ≡ true
+  Marked m bs = (i : ℕ) → i < m → mark_at bs i ≡ true → S (nth (updates_committed_before h q) i) ≡ true
 
   one_more : Marked k marks → (mark_at marked k ≡ true → S here ≡ true) → Marked (k + 1) marked
   one_more all now i l m =
       elim (cases_eq i k) [
-        | inl e ↦ subst (λ j. S (nth (updates_of h q) j) ≡ true) (sym e) (now (subst (λ j. mark_at marked j ≡ true) e m))
+        | inl e ↦ subst (λ j. S (nth (updates_committed_before h q) j) ≡ true) (sym e) (now (subst (λ j. mark_at marked j ≡ true) e m))
         | inr ne ↦ let low : i < k = omega arith in all i low (sym (step.earlier i low) ∙ m)
       ]
 
@@ -240,7 +240,7 @@ module _ (h : Schedule) (q : ℕ) (good : InOrder h q) (n : ℕ) (C : ℕ → �
         | inl m ↦ elim (step.mark m) [
           | inl s ↦ absurd (true≢false (sym (seeded s) ∙ f))
           | inr r ↦
-              let every : (i : ℕ) → i < k → Wrote h r.item (nth (updates_of h q) i) → S (nth (updates_of h q) i) ≡ true = λ i l w.
+              let every : (i : ℕ) → i < k → Wrote h r.item (nth (updates_committed_before h q) i) → S (nth (updates_committed_before h q) i) ≡ true = λ i l w.
               elim (r.writers i l w) [
                 | inl m ↦ all i l m
                 | inr j ↦ earlier_in h q good S closed r.item i j.0 j.1 (let low : j.0 < k = j.2 in omega (arith, low, inside)) w j.3 (all j.0 j.2 j.4)
@@ -270,8 +270,8 @@ pub law_of_start : LawOfStart
 law_of_start d h q n C worth k amounts marks S legal start closed =
     let good : InOrder h q = in_order d h q legal in
     let musts : map (update_at h q) (range_with_len 0 k) ≡ must h q = must_positions d h q legal k start.seen in
-    let every : (i : ℕ) → i < k → S (nth (updates_of h q) i) ≡ true = λ i l.
-    closed.holds_must (nth (updates_of h q) i) (In-Contains (must h q) (nth (updates_of h q) i) (subst (In (nth (updates_of h q) i)) musts (in_map (update_at h q) (range_with_len 0 k) i (in_range 0 k i (omega arith) (omega arith))))) in record {
+    let every : (i : ℕ) → i < k → S (nth (updates_committed_before h q) i) ≡ true = λ i l.
+    closed.holds_must (nth (updates_committed_before h q) i) (In-Contains (must h q) (nth (updates_committed_before h q) i) (subst (In (nth (updates_committed_before h q) i)) musts (in_map (update_at h q) (range_with_len 0 k) i (in_range 0 k i (omega arith) (omega arith))))) in record {
       own = amounts;
       under = λ x l. let u = start.under x l in let v = ap (C x) (left_all h q good S k x (λ i m _ w. every i m)) in omega (arith, u, v);
       same = λ x l all. refl;
@@ -281,9 +281,9 @@ law_of_start d h q n C worth k amounts marks S legal start closed =
 
 -- ---- the end
 
-module _ (h : Schedule) (q n : ℕ) (C : ℕ → ℤ → ℕ) (worth : ℕ) (amounts : ℕ → ℕ) (S : ℕ → Bool) (marks : List Bool) (below : Carries n C h q worth (length (updates_of h q)) amounts marks S) where
-  at_end : (x : ℕ) → left_by h q S (length (updates_of h q)) x ≡ state h (members h q S) x
-  at_end x = ap (λ vs. state h (filter S vs) x) (take_all (length (updates_of h q)) (updates_of h q) (omega arith))
+module _ (h : Schedule) (q n : ℕ) (C : ℕ → ℤ → ℕ) (worth : ℕ) (amounts : ℕ → ℕ) (S : ℕ → Bool) (marks : List Bool) (below : Carries n C h q worth (length (updates_committed_before h q)) amounts marks S) where
+  at_end : (x : ℕ) → left_by h q S (length (updates_committed_before h q)) x ≡ state h (members h q S) x
+  at_end x = ap (λ vs. state h (filter S vs) x) (take_all (length (updates_committed_before h q)) (updates_committed_before h q) (omega arith))
 
   under_cost : (x : ℕ) → In x (range_with_len 0 n) → below.own x ≤ C x (state h (members h q S) x)
   under_cost x i =

@@ -4,7 +4,7 @@ use Rattle.std.specs.Prelude.{◌≡◌, ◌≤◌, ◌<◌, ◌+◌, ◌⊎◌,
 use Rattle.std.specs.List.{range_with_len, list_any}
 use Rattle.esr_history.specs.Machine.{DistanceFunction, Schedule, IsLegal}
 use Rattle.esr_history.specs.Serial.{state, values_by}
-use Rattle.esr_history.specs.Queries.{updates_of, members, must, cost}
+use Rattle.esr_history.specs.Queries.{updates_committed_before, members, must, cost}
 use Rattle.esr_order.specs.Placements.{IsClosed, IsSmallestLeastSet}
 use Rattle.esr_order.specs.Chains.{nth}
 
@@ -26,7 +26,7 @@ among_marked us marks u = list_any (λ i. mark_at marks i && (nth us i == u)) (r
 
 -- S contains all marked updates of q
 abbrev pub HasMarked : Schedule → ℕ → List Bool → (ℕ → Bool) → Type 0
-HasMarked h q marks S = (i : ℕ) → i < length (updates_of h q) → mark_at marks i ≡ true → S (nth (updates_of h q) i) ≡ true
+HasMarked h q marks S = (i : ℕ) → i < length (updates_committed_before h q) → mark_at marks i ≡ true → S (nth (updates_committed_before h q) i) ≡ true
 
 -- each closed set that costs at most `worth` contains all marked updates
 abbrev pub AreForced : ℕ → (ℕ → ℤ → ℕ) → Schedule → ℕ → ℕ → List Bool → Type 0
@@ -44,11 +44,11 @@ Wrote h x u = values_by h x u ≡ [] → ⊥
 
 -- the value of item x after the members of S among the first k updates of q
 abbrev pub left_by : Schedule → ℕ → (ℕ → Bool) → ℕ → ℕ → ℤ
-left_by h q S k x = state h (filter S (take k (updates_of h q))) x
+left_by h q S k x = state h (filter S (take k (updates_committed_before h q))) x
 
 -- the value of item x after the first k updates of q
 abbrev pub left_by_all : Schedule → ℕ → ℕ → ℕ → ℤ
-left_by_all h q k x = state h (take k (updates_of h q)) x
+left_by_all h q k x = state h (take k (updates_committed_before h q)) x
 
 -- After the first k updates, the versions that the closed set S leaves carry the worth. Each of these versions has an
 -- amount `own` that is at most its cost, and these amounts sum to at least `worth`. An item whose writers are all in S has
@@ -57,30 +57,30 @@ left_by_all h q k x = state h (take k (updates_of h q)) x
 pub record Carries (n : ℕ) (C : ℕ → ℤ → ℕ) (h : Schedule) (q worth k : ℕ) (amounts : ℕ → ℕ) (marks : List Bool) (S : ℕ → Bool) : Type 0 where
   pub own : ℕ → ℕ
   pub under : (x : ℕ) → x < n → own x ≤ C x (left_by h q S k x)
-  pub same : (x : ℕ) → x < n → ((i : ℕ) → i < k → Wrote h x (nth (updates_of h q) i) → S (nth (updates_of h q) i) ≡ true) → own x ≡ amounts x
+  pub same : (x : ℕ) → x < n → ((i : ℕ) → i < k → Wrote h x (nth (updates_committed_before h q) i) → S (nth (updates_committed_before h q) i) ≡ true) → own x ≡ amounts x
   pub sum : worth ≤ total n own
-  pub marked : ((i : ℕ) → i < k → mark_at marks i ≡ true → S (nth (updates_of h q) i) ≡ true)
-      ⊎ ((x : ℕ) × (x < n) × (own x < C x (left_by h q S k x)) × ((i : ℕ) × (i < k) × Wrote h x (nth (updates_of h q) i) × (S (nth (updates_of h q) i) ≡ false)))
+  pub marked : ((i : ℕ) → i < k → mark_at marks i ≡ true → S (nth (updates_committed_before h q) i) ≡ true)
+      ⊎ ((x : ℕ) × (x < n) × (own x < C x (left_by h q S k x)) × ((i : ℕ) × (i < k) × Wrote h x (nth (updates_committed_before h q) i) × (S (nth (updates_committed_before h q) i) ≡ false)))
 
 -- each writer of item x among the first k updates is marked, or a later writer among them is
 abbrev pub AreCovered : Schedule → ℕ → ℕ → List Bool → ℕ → Type 0
-AreCovered h q k marks x = (i : ℕ) → i < k → Wrote h x (nth (updates_of h q) i) → (mark_at marks i ≡ true)
-    ⊎ ((j : ℕ) × (i < j) × (j < k) × Wrote h x (nth (updates_of h q) j) × (mark_at marks j ≡ true))
+AreCovered h q k marks x = (i : ℕ) → i < k → Wrote h x (nth (updates_committed_before h q) i) → (mark_at marks i ≡ true)
+    ⊎ ((j : ℕ) × (i < j) × (j < k) × Wrote h x (nth (updates_committed_before h q) j) × (mark_at marks j ≡ true))
 
 -- The reason to mark the update at position k: it overwrites a version whose amount is below its cost, of an item whose
 -- earlier writers are covered by marks. A closed set without this update keeps that version, so it costs more.
 pub record HasSlack (n : ℕ) (C : ℕ → ℤ → ℕ) (h : Schedule) (q k : ℕ) (amounts : ℕ → ℕ) (marks : List Bool) : Type 0 where
   pub item : ℕ
   pub known : item < n
-  pub wrote : Wrote h item (nth (updates_of h q) k)
+  pub wrote : Wrote h item (nth (updates_committed_before h q) k)
   pub writers : AreCovered h q k marks item
   pub slack : amounts item < C item (left_by_all h q k item)
 
 -- The update at position k, which does not decrease the sum of the amounts: the amounts of the versions that it overwrites
 -- move to the versions that it leaves.
 pub record IsStep (n : ℕ) (C : ℕ → ℤ → ℕ) (h : Schedule) (q k : ℕ) (amounts after : ℕ → ℕ) (seed : Bool) (marks marked : List Bool) : Type 0 where
-  pub others : (x : ℕ) → x < n → values_by h x (nth (updates_of h q) k) ≡ [] → after x ≡ amounts x
-  pub under : (x : ℕ) → x < n → Wrote h x (nth (updates_of h q) k) → after x ≤ C x (left_by_all h q (k + 1) x)
+  pub others : (x : ℕ) → x < n → values_by h x (nth (updates_committed_before h q) k) ≡ [] → after x ≡ amounts x
+  pub under : (x : ℕ) → x < n → Wrote h x (nth (updates_committed_before h q) k) → after x ≤ C x (left_by_all h q (k + 1) x)
   pub sum : total n amounts ≤ total n after
   pub earlier : (i : ℕ) → i < k → mark_at marked i ≡ mark_at marks i
   pub mark : mark_at marked k ≡ true → (seed ≡ true) ⊎ HasSlack n C h q k amounts marks
@@ -98,13 +98,13 @@ LawOfStart = (d : DistanceFunction) (h : Schedule) (q n : ℕ) (C : ℕ → ℤ 
 
 abbrev pub LawOfUpdates : Type 0
 LawOfUpdates = (d : DistanceFunction) (h : Schedule) (q n : ℕ) (C : ℕ → ℤ → ℕ) (worth k : ℕ) (amounts after : ℕ → ℕ) (seed : Bool) (marks marked : List Bool) (S : ℕ → Bool)
-    → IsLegal d h → k < length (updates_of h q) → IsStep n C h q k amounts after seed marks marked
-    → IsClosed h q S → (seed ≡ true → S (nth (updates_of h q) k) ≡ true)
+    → IsLegal d h → k < length (updates_committed_before h q) → IsStep n C h q k amounts after seed marks marked
+    → IsClosed h q S → (seed ≡ true → S (nth (updates_committed_before h q) k) ≡ true)
     → Carries n C h q worth k amounts marks S → Carries n C h q worth (k + 1) after marked S
 
 abbrev pub LawOfEnd : Type 0
 LawOfEnd = (h : Schedule) (q n : ℕ) (C : ℕ → ℤ → ℕ) (worth : ℕ) (amounts : ℕ → ℕ) (seeds marks : List Bool)
-    → ((S : ℕ → Bool) → IsClosed h q S → HasMarked h q seeds S → Carries n C h q worth (length (updates_of h q)) amounts marks S)
+    → ((S : ℕ → Bool) → IsClosed h q S → HasMarked h q seeds S → Carries n C h q worth (length (updates_committed_before h q)) amounts marks S)
     → Shows n C h q worth seeds marks
 
 -- A marked set that is closed and forced, and whose cost is a lower bound for all closed sets, is the smallest set of
@@ -114,7 +114,7 @@ LawOfSet = (d : DistanceFunction) (h : Schedule) (q n : ℕ) (C : ℕ → ℤ �
     → ((S : ℕ → Bool) → cost_by n C h q S ≡ extra + cost d h q S)
     → ((S : ℕ → Bool) → IsClosed h q S → worth ≤ cost_by n C h q S)
     → AreForced n C h q worth marks
-    → IsClosed h q (among_marked (updates_of h q) marks)
-    → cost_by n C h q (among_marked (updates_of h q) marks) ≡ worth
-    → IsSmallestLeastSet d h q (among_marked (updates_of h q) marks)
-    × (worth ≡ extra + cost d h q (among_marked (updates_of h q) marks))
+    → IsClosed h q (among_marked (updates_committed_before h q) marks)
+    → cost_by n C h q (among_marked (updates_committed_before h q) marks) ≡ worth
+    → IsSmallestLeastSet d h q (among_marked (updates_committed_before h q) marks)
+    × (worth ≡ extra + cost d h q (among_marked (updates_committed_before h q) marks))

@@ -1,4 +1,4 @@
 -- Lower bounds on the costs of closed sets, from one amount for each version of an item.
 
 pub mod Amounts
-pub mod Worked
+pub mod WorkedExamples

@@ -3,7 +3,7 @@ use Rattle.std.proofs.Common.{◌≡◌, ◌≢◌, ℕ, List, Bool, true, false
 use Rattle.std.specs.List.{list_all}
 use Rattle.std.proofs.lemmas.Bool.{and_parts}
 use Rattle.serde_json.specs.Data.{Data}
-use Rattle.esr_cert.specs.Problem.{Problem, has_shape, is_in_range, is_well_formed}
+use Rattle.esr_cert.specs.Problem.{Problem, has_valid_shape, is_in_range, is_well_formed}
 use Rattle.esr_cert.specs.Certificate.{Certificate}
 use Rattle.esr_cert.specs.Faults.{problem_fault}
 use Rattle.esr_cert.specs.Views.{certificate_of}
@@ -31,7 +31,7 @@ tests_not_json true false b h = cc
 tests_not_json true true b h = last_not_json (list_all is_position b.1.set) b h
 
 not_json : (b : Problem × Certificate) → judged b ≡ Err Json → ⊥
-not_json b h = tests_not_json (has_shape b.0) (is_in_range b.0) b h
+not_json b h = tests_not_json (has_valid_shape b.0) (is_in_range b.0) b h
 
 encodes : (d : Data) (b : Problem × Certificate) → parts_of d ≡ Some b → problem_in d ≡ judged b
 encodes d b h = ap judged_parts h
@@ -46,7 +46,7 @@ reading_from bytes d t b h _ ok err = (d, t, encodes d b h ∙ err (λ e. cc))
 
 pub not_faulty : (p : Problem) → is_well_formed p ≡ true → problem_fault p ≡ None
 not_faulty p h =
-    let both = and_parts (has_shape p) (is_in_range p) h in
+    let both = and_parts (has_valid_shape p) (is_in_range p) h in
     let F : Bool → Option BundleFault = λ b. cond (not b) (Some Shape) (cond (not (is_in_range p)) (Some Range) None) in
     let G : Bool → Option BundleFault = λ b. cond (not b) (Some Range) None in
     ap F both.0 ∙ ap G both.1

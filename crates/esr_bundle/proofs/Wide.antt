@@ -4,7 +4,7 @@ use Rattle.std.specs.List.{list_all}
 use Rattle.std.proofs.lemmas.Bool.{and_parts, and_from, cases_Bool}
 use Rattle.std.proofs.lemmas.Bool.Decides.{nat_tests}
 use Rattle.esr_base.specs.declared.limits.TheConstants.{MAX_ITEMS, MAX_TRANSACTIONS}
-use Rattle.esr_cert.specs.Problem.{Problem, size, has_shape, is_in_range, is_well_formed, chain_is_in_range}
+use Rattle.esr_cert.specs.Problem.{Problem, update_count, has_valid_shape, is_in_range, is_well_formed, chain_is_in_range}
 use Rattle.esr_cert.specs.Faults.{problem_fault}
 use Rattle.esr_cert.specs.declared.problem.BundleFault.TheVariants.{Range}
 use Rattle.esr_cert.proofs.Sound.{all_in, all_from, count_within_max, range_facts, InRange}
@@ -23,29 +23,29 @@ pub positions : (p : Problem) → is_well_formed p ≡ true → ArePositions p
 positions p h = record {
   updates = all_from is_position p.updates (λ t k. let b : (ltb 0 t ≡ true) × (leb t MAX_TRANSACTIONS ≡ true) = and_parts _ _ (all_in (λ t. ltb 0 t && leb t MAX_TRANSACTIONS) p.updates t r.numbers k) in is_small t (leb-true _ _ b.1));
   before = all_from is_pair_of_positions p.before (λ e k.
-      let b : (ltb e.0 (size p) ≡ true) × (ltb e.1 (size p) ≡ true) = and_parts _ _ (all_in (λ (e : ℕ × ℕ). ltb e.0 (size p) && ltb e.1 (size p)) p.before e r.pairs k) in
+      let b : (ltb e.0 (update_count p) ≡ true) × (ltb e.1 (update_count p) ≡ true) = and_parts _ _ (all_in (λ (e : ℕ × ℕ). ltb e.0 (update_count p) && ltb e.1 (update_count p)) p.before e r.pairs k) in
       and_from (is_position e.0) (is_position e.1) (below e.0 b.0) (below e.1 b.1));
   chains = all_from is_chain_of_positions p.chains (λ chain k.
-      let b : (ltb chain.item MAX_ITEMS ≡ true) × (list_all (λ w. ltb w (size p)) chain.writers ≡ true) = and_parts _ _ (all_in (chain_is_in_range (size p)) p.chains chain r.chains k) in
+      let b : (ltb chain.item MAX_ITEMS ≡ true) × (list_all (λ w. ltb w (update_count p)) chain.writers ≡ true) = and_parts _ _ (all_in (chain_is_in_range (update_count p)) p.chains chain r.chains k) in
       and_from (is_position chain.item) (list_all is_position chain.writers)
       (is_small chain.item (omega (arith, ltb-true _ _ b.0)))
-      (all_from is_position chain.writers (λ w l. below w (all_in (λ w. ltb w (size p)) chain.writers w b.1 l))));
-  must = all_from is_position p.must (λ u k. below u (all_in (λ u. ltb u (size p)) p.must u r.must k));
+      (all_from is_position chain.writers (λ w l. below w (all_in (λ w. ltb w (update_count p)) chain.writers w b.1 l))));
+  must = all_from is_position p.must (λ u k. below u (all_in (λ u. ltb u (update_count p)) p.must u r.must k));
 }
   where
     r : InRange p
-    r = range_facts p (and_parts (has_shape p) (is_in_range p) h).1
+    r = range_facts p (and_parts (has_valid_shape p) (is_in_range p) h).1
 
-    below : (u : ℕ) → ltb u (size p) ≡ true → is_position u ≡ true
+    below : (u : ℕ) → ltb u (update_count p) ≡ true → is_position u ≡ true
     below u l = is_small u (omega (arith, ltb-true _ _ l, count_within_max p h))
 
-pub out_of_range : (p : Problem) → has_shape p ≡ true → (is_well_formed p ≡ true → ⊥) → problem_fault p ≡ Some Range
+pub out_of_range : (p : Problem) → has_valid_shape p ≡ true → (is_well_formed p ≡ true → ⊥) → problem_fault p ≡ Some Range
 out_of_range p s unsound = elim (cases_Bool (is_in_range p)) [
-  | inl r ↦ absurd (unsound (and_from (has_shape p) (is_in_range p) s r))
+  | inl r ↦ absurd (unsound (and_from (has_valid_shape p) (is_in_range p) s r))
   | inr r ↦ rw (s, r) refl
 ]
 
-pub wide : (p : Problem) (fits : Bool) → (ArePositions p → fits ≡ true) → has_shape p ≡ true → fits ≡ false → problem_fault p ≡ Some Range
+pub wide : (p : Problem) (fits : Bool) → (ArePositions p → fits ≡ true) → has_valid_shape p ≡ true → fits ≡ false → problem_fault p ≡ Some Range
 wide p fits all s n = out_of_range p s (λ h. true≢false (sym (all (positions p h)) ∙ n))
 
 fits_position : (n : ℕ) → Fits w32 n → is_position n ≡ true

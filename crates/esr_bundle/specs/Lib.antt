@@ -6,4 +6,4 @@ pub mod Members
 pub mod Drafts
 pub mod Reading
 pub mod Judge
-pub mod Worked
+pub mod WorkedExamples

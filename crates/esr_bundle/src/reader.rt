@@ -5,7 +5,7 @@ ghost use Rattle.serde_json.specs.View.{view};
 ghost use Rattle.esr_bundle.specs.Bundle.{chain_of, problem_of, certificate_of, parts_of};
 ghost use Rattle.esr_cert.specs.Problem.{Chain, Problem};
 ghost use Rattle.esr_cert.specs.Certificate.{Certificate};
-ghost use Rattle.esr_cert.specs.Drafts.{drafted_chain, drafted_problem};
+ghost use Rattle.esr_cert.specs.ProblemDrafts.{drafted_chain, drafted_problem};
 ghost use Rattle.esr_bundle.specs.Drafts.{drafted_certificate};
 ghost use Rattle.esr_bundle.specs.Reading.{IsTree, HasNoTree, IsReadingOf};
 

@@ -5,13 +5,14 @@ ghost use Rattle.esr_cert.specs.Problem as spec;
 ghost use Rattle.esr_cert.specs.Faults.{problem_fault};
 ghost use Rattle.esr_cert.specs.Views as views;
 ghost use Rattle.esr_bundle.specs.Bundle.{is_position, is_pair_of_positions, is_chain_of_positions, judged};
-ghost use Rattle.esr_cert.specs.Drafts.{drafted_chain, drafted_problem};
+ghost use Rattle.esr_cert.specs.ProblemDrafts.{drafted_chain, drafted_problem};
 ghost use Rattle.esr_bundle.specs.Drafts.{drafted_certificate};
 
 use crate::draft::CertificateDraft;
 use esr_base::{ItemId, TxnId};
 use esr_cert::{
-    BundleFault, Certificate, Chain, ChainDraft, Problem, ProblemDraft, ProblemParts, has_shape,
+    BundleFault, Certificate, Chain, ChainDraft, Problem, ProblemDraft, ProblemParts,
+    has_valid_shape,
 };
 use std::alloc::Global;
 
@@ -148,8 +149,8 @@ fn fit_positions(alloc: Global, numbers: &[u64]) -> Result<Vec<u32>, BundleFault
 /// Converts the draft of a problem, which satisfies the rules of shape, to parts. A number that does not fit its type
 /// is out of range, since a problem in range has at most 65,535 updates.
 fn parts_of(alloc: Global, draft: &ProblemDraft) -> Result<ProblemParts, BundleFault>
-    requires { spec.has_shape (drafted_problem draft.now) ≡ true }
-    ensures ok { IfOk result (λ parts. views.problem_by parts ≡ drafted_problem draft.now) }
+    requires { spec.has_valid_shape (drafted_problem draft.now) ≡ true }
+    ensures ok { IfOk result (λ parts. views.problem_of_parts parts ≡ drafted_problem draft.now) }
     ensures err { IfErr result (λ e. e ≢ BundleFault.NoMemory → problem_fault (drafted_problem draft.now) ≡ Some e) }
 {
     let updates = fit_list(alloc, &draft.updates)?;
@@ -170,11 +171,11 @@ fn problem(alloc: Global, draft: &ProblemDraft) -> Result<Problem, BundleFault>
     ensures sound { IsOk result → problem_fault (drafted_problem draft.now) ≡ None }
     ensures err { IfErr result (λ e. e ≢ BundleFault.NoMemory → problem_fault (drafted_problem draft.now) ≡ Some e) }
 {
-    if !has_shape(alloc, draft)? {
+    if !has_valid_shape(alloc, draft)? {
         return Err(BundleFault::Shape);
     }
     let parts = parts_of(alloc, draft)?;
-    Problem::of_shape(alloc, parts)
+    Problem::from_shaped_parts(alloc, parts)
 }
 
 /// Converts the numbers of a bundle to a problem and a certificate.

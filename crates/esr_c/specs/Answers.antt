@@ -12,7 +12,7 @@ use Rattle.esr_history.specs.declared.event.Reply.TheVariants.{Begun, Value, Wro
 use Rattle.esr_history.specs.declared.event.Refusal.{Refusal}
 use Rattle.esr_history.specs.declared.event.Refusal.TheVariants.{BlockedByLock, BlockedByImport, BlockedByExport}
 use Rattle.esr_history.specs.Events.{is_query_kind}
-use Rattle.esr_history.specs.Legal.{along}
+use Rattle.esr_history.specs.Legal.{continued}
 use Rattle.esr_history.specs.Machine.{Schedule, IsLegal, extended, reply_to}
 use Rattle.esr_history.specs.Refusals.{refusal_number}
 use Rattle.esr_history.specs.Totals.{all_imports}
@@ -82,8 +82,8 @@ abbrev pub IsFound : Schedule → ℕ → EsrFinding → List ℕ → Type 0
 IsFound h q f buffer = IsFinding h q f (take f.count buffer)
 
 -- a finding whose updates do not fit into the caller's buffer
-abbrev pub IsCounted : Schedule → ℕ → EsrFinding → Type 0
-IsCounted h q f = (before : List ℕ) × IsFinding h q f before
+abbrev pub HasAugmentationCount : Schedule → ℕ → EsrFinding → Type 0
+HasAugmentationCount h q f = (before : List ℕ) × IsFinding h q f before
 
 -- a certificate without the number of augmentations that lead to its flow
 abbrev pub unreported : Certificate → Certificate
@@ -109,8 +109,8 @@ AreValuesIn h count buffer = (take count buffer ≡ committed_values h) × (coun
 
 -- the history before a renewal and every history after it are serializable as one
 pub record IsRenewed (h : Schedule) : Type 0 where
-  pub as_one : (later : List Entry) → IsLegal weighted (along (renewed h h.weights) later)
-      → AreSerializableAsOne h (along (renewed h h.weights) later)
+  pub as_one : (later : List Entry) → IsLegal weighted (continued (renewed h h.weights) later)
+      → AreSerializableAsOne h (continued (renewed h h.weights) later)
 
 -- the number of each status
 abbrev pub status_number : Status → ℕ

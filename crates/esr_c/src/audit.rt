@@ -6,7 +6,7 @@ ghost use Rattle.esr_items.specs.Weights.{weighted};
 ghost use Rattle.esr_history.specs.Queries.{is_committed_query};
 ghost use Rattle.esr_history.specs.Totals.{IsWithinLimits};
 ghost use Rattle.esr_audit.specs.Findings.{IsFindingOf};
-ghost use Rattle.esr_c.specs.Answers.{IsTotal, IsFound, IsCounted, IsBundleOf, IsBundleIn, IsBundleLong, AreValuesIn, IsAuditStatus, IsValuesStatus, status_number};
+ghost use Rattle.esr_c.specs.Answers.{IsTotal, IsFound, HasAugmentationCount, IsBundleOf, IsBundleIn, IsBundleLong, AreValuesIn, IsAuditStatus, IsValuesStatus, status_number};
 
 use crate::engine::Status;
 use esr_audit::{AuditError, Finding};
@@ -139,7 +139,7 @@ pub(crate) fn show_finding(
     ensures refused { (result ≡ Status.NotACommittedQuery) ↔ (is_committed_query engine.old query ≡ false) }
     ensures found { result ≡ Status.Done → IsFound engine.old query finding.new before.new }
     ensures small { result ≡ Status.TooSmall → (length before.old < finding.new.count)
-        × IsCounted engine.old query finding.new }
+        × HasAugmentationCount engine.old query finding.new }
     ensures kept { result ≢ Status.Done → before.new ≡ before.old }
     ensures rest { drop finding.new.count before.new ≡ drop finding.new.count before.old }
     ensures unreported { result ≢ Status.Done → result ≢ Status.TooSmall → finding.new ≡ finding.old }

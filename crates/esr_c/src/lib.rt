@@ -23,7 +23,7 @@ ghost use Rattle.esr_engine.specs.Capacity.{NeverStuck, counts_of};
 ghost use Rattle.esr_c.specs.Many.{AreAnswered, IsAnsweredStatus, IsEnd};
 ghost use Rattle.esr_picture.specs.Picture.{IsSvg};
 ghost use Rattle.esr_c.specs.HistoryTexts.{HasNameForEachItem, IsExplanationOf, IsLedgerOf, IsScriptOf, IsTextStatus, IsQueryTextStatus, IsTextInBuffer, IsTextLength, parsed_item_names};
-ghost use Rattle.esr_c.specs.Answers.{opened, IsEventCall, IsForUpdateCall, IsTotal, IsAccount, IsFound, IsCounted, IsBundleIn, IsBundleLong, AreValuesIn, IsRenewed, IsOpenStatus, IsWeightedOpenStatus, IsRenewStatus, IsValuesStatus, IsAuditStatus, IsVerdictIn};
+ghost use Rattle.esr_c.specs.Answers.{opened, IsEventCall, IsForUpdateCall, IsTotal, IsAccount, IsFound, HasAugmentationCount, IsBundleIn, IsBundleLong, AreValuesIn, IsRenewed, IsOpenStatus, IsWeightedOpenStatus, IsRenewStatus, IsValuesStatus, IsAuditStatus, IsVerdictIn};
 
 mod account;
 mod audit;
@@ -358,7 +358,7 @@ pub extern "C" fn esr_audit(
     ensures same { engine.new.held.history ≡ engine.old.held.history }
     ensures found { result ≡ 0 → IfSome engine.old.held.history (λ h. IsFound h query finding.new before.new) }
     ensures small { result ≡ 7 → (length before.old < finding.new.count)
-        × IfSome engine.old.held.history (λ h. IsCounted h query finding.new) }
+        × IfSome engine.old.held.history (λ h. HasAugmentationCount h query finding.new) }
     ensures kept { result ≢ 0 → before.new ≡ before.old }
     ensures rest { drop finding.new.count before.new ≡ drop finding.new.count before.old }
     ensures unreported { result ≢ 0 → result ≢ 7 → finding.new ≡ finding.old }

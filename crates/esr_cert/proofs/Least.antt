@@ -4,7 +4,7 @@ use Rattle.std.proofs.Common.{◌≡◌, ◌≢◌, ℕ, zero, suc, ◌+◌, ◌
 use Rattle.std.specs.List.{list_any}
 use Rattle.std.proofs.lemmas.Bool.{cases_Bool, and_left, or_left, or_from, cond-true, cond-false}
 use Rattle.std.proofs.lemmas.List.Sums.{sum_by-cons}
-use Rattle.esr_cert.specs.Problem.{Chain, Problem, size, is_closed, version, chain_cost, cost}
+use Rattle.esr_cert.specs.Problem.{Chain, Problem, update_count, is_closed, version, chain_cost, cost}
 use Rattle.esr_cert.specs.Network.{Arc, arc_at, IsNetwork, path_arcs, arcs_of_chain, predecessor_arc, must_arc, arcs_of_chains, predecessor_arcs, must_arcs, network}
 use Rattle.esr_cert.specs.Flow.{IsFlow, worth}
 use Rattle.esr_cert.specs.Cut.{crosses, across, IsLimited, AreLimited, with_source}
@@ -127,7 +127,7 @@ version_same f g (w ∷ writers) h =
 
 module _ (p : Problem) (ok : IsProblem p) where
   abbrev count : ℕ
-  count = size p
+  count = update_count p
 
   -- no arc of a chain is unlimited, and the ends are nodes
   abbrev Good : Arc → Type 0

@@ -1,7 +1,7 @@
 -- A certificate proves the least cost (`Least`, `Cut`), and the tests of lists agree with the definitions. Solver,
 -- audits and bundles use `Sound`, `Least` and `Certified`.
 
-mod Worked
+mod WorkedExamples
 pub mod Sound
 pub mod Flows
 pub mod Cut
@@ -12,11 +12,11 @@ pub mod Steps
 pub mod Search
 pub mod Distinct
 pub mod ResidualArcsLaws
-pub mod RowsLaws
-pub mod IsLaidOut
+pub mod AdjacencyLaws
+pub mod IsAdjacencyUpTo
 pub mod ArcsLaws
 pub mod ChainArcsLaws
-mod StartsLaws
-pub mod Balance
+mod ChainStartsLaws
+pub mod FlowConservation
 mod Within
 pub mod Worth

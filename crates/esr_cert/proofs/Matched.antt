@@ -3,7 +3,7 @@ use Rattle.std.proofs.Common.{Contains, ◌≡◌, ℕ, ◌+◌, List, [], ◌�
 use Rattle.std.specs.List.{flat_map, concat}
 use Rattle.std.proofs.lemmas.Bool.{and_parts, eqb-true}
 use Rattle.std.proofs.lemmas.List.{length-append, length-map}
-use Rattle.esr_cert.specs.Problem.{Chain, Problem, size}
+use Rattle.esr_cert.specs.Problem.{Chain, Problem, update_count}
 use Rattle.esr_cert.specs.Network.{Arc, path_arcs, arcs_of_chain, predecessor_arc, must_arc, arcs_of_chains, predecessor_arcs, must_arcs, network}
 use Rattle.esr_cert.specs.Flow.{carried}
 use Rattle.esr_cert.specs.Certificate.{Certificate, amounts, are_rows_matched}
@@ -58,7 +58,7 @@ module _ (p : Problem) (ok : IsProblem p) (c : Certificate) (m : IsMatched p c) 
   are_whole chain k = (ok.chains chain k).one_more
 
   pub chains_length : length (concat c.chain_flow) ≡ length (arcs_of_chains p)
-  chains_length = rows_length (size p) p.chains c.chain_flow are_whole m.rows
+  chains_length = rows_length (update_count p) p.chains c.chain_flow are_whole m.rows
 
   pub first_two_length : length (concat c.chain_flow ++ c.back_flow) ≡ length (arcs_of_chains p ++ predecessor_arcs p)
   first_two_length =
@@ -66,7 +66,7 @@ module _ (p : Problem) (ok : IsProblem p) (c : Certificate) (m : IsMatched p c) 
 
   pub amounts_length : length (amounts c) ≡ length (network p).arcs
   amounts_length =
-      omega (arith, first_two_length, m.musts, length-map {B = Arc} p.must (must_arc (size p)), length-append (concat c.chain_flow ++ c.back_flow) c.must_flow, length-append (arcs_of_chains p ++ predecessor_arcs p) (must_arcs p))
+      omega (arith, first_two_length, m.musts, length-map {B = Arc} p.must (must_arc (update_count p)), length-append (concat c.chain_flow ++ c.back_flow) c.must_flow, length-append (arcs_of_chains p ++ predecessor_arcs p) (must_arcs p))
 
   -- a sum over all arcs, by the parts
   pub carried_parts : (q : Arc → Bool) → carried q (network p).arcs (amounts c) ≡ carried q (arcs_of_chains p) (concat c.chain_flow) + carried q (predecessor_arcs p) c.back_flow + carried q (must_arcs p) c.must_flow

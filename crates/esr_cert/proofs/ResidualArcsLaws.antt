@@ -8,7 +8,7 @@ use Rattle.std.proofs.lemmas.List.Sorted.{IsNonDecreasingBy-short, IsNonDecreasi
 use Rattle.std.proofs.lemmas.List.Elements.{filter-append, Contains-append_left, Contains-push, Contains-push_cases}
 use Rattle.esr_cert.specs.Network.{Arc}
 use Rattle.esr_cert.specs.ResidualArcs.{arc_of, rank_of, start, HasSteps, AreOnce, step_at, same_step, has_step, ResidualArc, Forward, Backward}
-use Rattle.esr_cert.specs.Rows.{residual_arcs_below, steps_from, row_of}
+use Rattle.esr_cert.specs.Adjacency.{residual_arcs_below, steps_from, row_of}
 
 -- one more step, at the node where it starts and at another
 pub steps_here : (arcs : List Arc) (v : ℕ) (done : List ResidualArc) (s : ResidualArc) → start arcs s ≡ v → steps_from arcs v (done ++ s ∷ []) ≡ steps_from arcs v done ++ s ∷ []

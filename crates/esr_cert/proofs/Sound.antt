@@ -5,7 +5,7 @@ use Rattle.std.proofs.lemmas.Bool.{and_parts, and_from, or_cases, ltb-true, leb-
 use Rattle.std.proofs.lemmas.List.{length-map}
 use Rattle.esr_base.specs.declared.limits.TheConstants.{MAX_ITEMS, MAX_TRANSACTIONS}
 use Rattle.esr_cert.specs.declared.range.TheConstants.{MAX_COST}
-use Rattle.esr_cert.specs.Problem.{Chain, Problem, size, is_closed, is_ascending, pair_lt, are_pairs_ascending, has_pair, are_linked, is_distinct, chain_has_shape, has_shape, greatest, chain_is_in_range, is_in_range, is_well_formed}
+use Rattle.esr_cert.specs.Problem.{Chain, Problem, update_count, is_closed, is_ascending, pair_lt, are_pairs_ascending, has_pair, are_linked, is_distinct, chain_has_shape, has_valid_shape, greatest, chain_is_in_range, is_in_range, is_well_formed}
 use Rattle.esr_cert.proofs.Distinct.{distinct_bounded, ascending_bounded, all_at}
 
 pub here : {X : Type 0} → (x : X) (xs : List X) → Contains (x ∷ xs) x
@@ -68,7 +68,7 @@ pub record HasShape (p : Problem) : Type 0 where
   pub chains : list_all (chain_has_shape p.before) p.chains ≡ true
   pub must : is_ascending p.must ≡ true
 
-pub shape_facts : (p : Problem) → has_shape p ≡ true → HasShape p
+pub shape_facts : (p : Problem) → has_valid_shape p ≡ true → HasShape p
 shape_facts p h =
     let a : ((is_distinct p.updates && are_pairs_ascending p.before && list_all (λ (e : ℕ × ℕ). ltb e.0 e.1) p.before && is_ascending (map (λ (chain : Chain). chain.item) p.chains) && list_all (chain_has_shape p.before) p.chains) ≡ true) × (is_ascending p.must ≡ true) = and_parts _ _ h in
     let b : ((is_distinct p.updates && are_pairs_ascending p.before && list_all (λ (e : ℕ × ℕ). ltb e.0 e.1) p.before && is_ascending (map (λ (chain : Chain). chain.item) p.chains)) ≡ true) × (list_all (chain_has_shape p.before) p.chains ≡ true) = and_parts _ _ a.0 in
@@ -79,17 +79,17 @@ shape_facts p h =
 
 pub record InRange (p : Problem) : Type 0 where
   pub numbers : list_all (λ t. ltb 0 t && leb t MAX_TRANSACTIONS) p.updates ≡ true
-  pub chains : list_all (chain_is_in_range (size p)) p.chains ≡ true
-  pub pairs : list_all (λ (e : ℕ × ℕ). ltb e.0 (size p) && ltb e.1 (size p)) p.before ≡ true
-  pub must : list_all (λ u. ltb u (size p)) p.must ≡ true
+  pub chains : list_all (chain_is_in_range (update_count p)) p.chains ≡ true
+  pub pairs : list_all (λ (e : ℕ × ℕ). ltb e.0 (update_count p) && ltb e.1 (update_count p)) p.before ≡ true
+  pub must : list_all (λ u. ltb u (update_count p)) p.must ≡ true
   pub costs : leb (sum_by (λ (chain : Chain). greatest chain.costs) p.chains) MAX_COST ≡ true
 
 pub range_facts : (p : Problem) → is_in_range p ≡ true → InRange p
 range_facts p h =
-    let a : ((list_all (λ t. ltb 0 t && leb t MAX_TRANSACTIONS) p.updates && list_all (chain_is_in_range (size p)) p.chains && list_all (λ (e : ℕ × ℕ). ltb e.0 (size p) && ltb e.1 (size p)) p.before && list_all (λ u. ltb u (size p)) p.must) ≡ true) × (leb (sum_by (λ (chain : Chain). greatest chain.costs) p.chains) MAX_COST ≡ true) = and_parts _ _ h in
-    let b : ((list_all (λ t. ltb 0 t && leb t MAX_TRANSACTIONS) p.updates && list_all (chain_is_in_range (size p)) p.chains && list_all (λ (e : ℕ × ℕ). ltb e.0 (size p) && ltb e.1 (size p)) p.before) ≡ true) × (list_all (λ u. ltb u (size p)) p.must ≡ true) = and_parts _ _ a.0 in
-    let c : ((list_all (λ t. ltb 0 t && leb t MAX_TRANSACTIONS) p.updates && list_all (chain_is_in_range (size p)) p.chains) ≡ true) × (list_all (λ (e : ℕ × ℕ). ltb e.0 (size p) && ltb e.1 (size p)) p.before ≡ true) = and_parts _ _ b.0 in
-    let d : (list_all (λ t. ltb 0 t && leb t MAX_TRANSACTIONS) p.updates ≡ true) × (list_all (chain_is_in_range (size p)) p.chains ≡ true) = and_parts _ _ c.0 in
+    let a : ((list_all (λ t. ltb 0 t && leb t MAX_TRANSACTIONS) p.updates && list_all (chain_is_in_range (update_count p)) p.chains && list_all (λ (e : ℕ × ℕ). ltb e.0 (update_count p) && ltb e.1 (update_count p)) p.before && list_all (λ u. ltb u (update_count p)) p.must) ≡ true) × (leb (sum_by (λ (chain : Chain). greatest chain.costs) p.chains) MAX_COST ≡ true) = and_parts _ _ h in
+    let b : ((list_all (λ t. ltb 0 t && leb t MAX_TRANSACTIONS) p.updates && list_all (chain_is_in_range (update_count p)) p.chains && list_all (λ (e : ℕ × ℕ). ltb e.0 (update_count p) && ltb e.1 (update_count p)) p.before) ≡ true) × (list_all (λ u. ltb u (update_count p)) p.must ≡ true) = and_parts _ _ a.0 in
+    let c : ((list_all (λ t. ltb 0 t && leb t MAX_TRANSACTIONS) p.updates && list_all (chain_is_in_range (update_count p)) p.chains) ≡ true) × (list_all (λ (e : ℕ × ℕ). ltb e.0 (update_count p) && ltb e.1 (update_count p)) p.before ≡ true) = and_parts _ _ b.0 in
+    let d : (list_all (λ t. ltb 0 t && leb t MAX_TRANSACTIONS) p.updates ≡ true) × (list_all (chain_is_in_range (update_count p)) p.chains ≡ true) = and_parts _ _ c.0 in
     record { numbers = d.0; chains = d.1; pairs = c.1; must = b.1; costs = a.1 }
 
 -- each two neighbours are a pair
@@ -115,44 +115,44 @@ neighbours_from before (u ∷ v ∷ writers) h =
 pub record IsChain (p : Problem) (chain : Chain) : Type 0 where
   pub one_more : length chain.costs ≡ length chain.writers + 1
   pub ascending : is_ascending chain.writers ≡ true
-  pub writers : (u : ℕ) → Contains chain.writers u → u < size p
+  pub writers : (u : ℕ) → Contains chain.writers u → u < update_count p
   pub neighbours : Neighbours p.before chain.writers
 
 -- the invariant of the type of problems
 pub record IsProblem (p : Problem) : Type 0 where
-  pub pairs : (u v : ℕ) → Contains p.before (u, v) → (u < size p) × (v < size p)
-  pub musts : (u : ℕ) → Contains p.must u → u < size p
+  pub pairs : (u v : ℕ) → Contains p.before (u, v) → (u < update_count p) × (v < update_count p)
+  pub musts : (u : ℕ) → Contains p.must u → u < update_count p
   pub chains : (chain : Chain) → Contains p.chains chain → IsChain p chain
   pub small : sum_by (λ chain. greatest chain.costs) p.chains ≤ MAX_COST
 
-chain_facts : (p : Problem) (chain : Chain) → chain_has_shape p.before chain ≡ true → chain_is_in_range (size p) chain ≡ true → IsChain p chain
+chain_facts : (p : Problem) (chain : Chain) → chain_has_shape p.before chain ≡ true → chain_is_in_range (update_count p) chain ≡ true → IsChain p chain
 chain_facts p chain h r =
     let a : ((eqb (length chain.costs) (suc (length chain.writers)) && is_ascending chain.writers) ≡ true) × (are_linked p.before chain.writers ≡ true) = and_parts _ _ h in
     let b : (eqb (length chain.costs) (suc (length chain.writers)) ≡ true) × (is_ascending chain.writers ≡ true) = and_parts _ _ a.0 in
-    let c : (ltb chain.item MAX_ITEMS ≡ true) × (list_all (λ w. ltb w (size p)) chain.writers ≡ true) = and_parts _ _ r in
+    let c : (ltb chain.item MAX_ITEMS ≡ true) × (list_all (λ w. ltb w (update_count p)) chain.writers ≡ true) = and_parts _ _ r in
     record {
       one_more = omega (arith, eqb-true _ _ b.0);
       ascending = b.1;
-      writers = λ u k. ltb-true _ _ (all_in (λ w. ltb w (size p)) chain.writers u c.1 k);
+      writers = λ u k. ltb-true _ _ (all_in (λ w. ltb w (update_count p)) chain.writers u c.1 k);
       neighbours = neighbours_from p.before chain.writers a.1;
     }
 
 pub facts : (p : Problem) → is_well_formed p ≡ true → IsProblem p
 facts p h =
-    let both : (has_shape p ≡ true) × (is_in_range p ≡ true) = and_parts _ _ h in
+    let both : (has_valid_shape p ≡ true) × (is_in_range p ≡ true) = and_parts _ _ h in
     let s : HasShape p = shape_facts p both.0 in
     let r : InRange p = range_facts p both.1 in
     record {
-      pairs = λ u v k. let e : (ltb u (size p) ≡ true) × (ltb v (size p) ≡ true) = and_parts _ _ (all_in (λ (e : ℕ × ℕ). ltb e.0 (size p) && ltb e.1 (size p)) p.before (u, v) r.pairs k) in (ltb-true _ _ e.0, ltb-true _ _ e.1);
-      musts = λ u k. ltb-true _ _ (all_in (λ u. ltb u (size p)) p.must u r.must k);
-      chains = λ chain k. chain_facts p chain (all_in (chain_has_shape p.before) p.chains chain s.chains k) (all_in (chain_is_in_range (size p)) p.chains chain r.chains k);
+      pairs = λ u v k. let e : (ltb u (update_count p) ≡ true) × (ltb v (update_count p) ≡ true) = and_parts _ _ (all_in (λ (e : ℕ × ℕ). ltb e.0 (update_count p) && ltb e.1 (update_count p)) p.before (u, v) r.pairs k) in (ltb-true _ _ e.0, ltb-true _ _ e.1);
+      musts = λ u k. ltb-true _ _ (all_in (λ u. ltb u (update_count p)) p.must u r.must k);
+      chains = λ chain k. chain_facts p chain (all_in (chain_has_shape p.before) p.chains chain s.chains k) (all_in (chain_is_in_range (update_count p)) p.chains chain r.chains k);
       small = leb-true _ _ r.costs;
     }
 
 -- positions fit 16 bits
-pub count_within_max : (p : Problem) → is_well_formed p ≡ true → size p ≤ 65535
+pub count_within_max : (p : Problem) → is_well_formed p ≡ true → update_count p ≤ 65535
 count_within_max p h =
-    let both : (has_shape p ≡ true) × (is_in_range p ≡ true) = and_parts _ _ h in
+    let both : (has_valid_shape p ≡ true) × (is_in_range p ≡ true) = and_parts _ _ h in
     distinct_bounded MAX_TRANSACTIONS p.updates (shape_facts p both.0).distinct (range_facts p both.1).numbers
 
 -- how many parts there are, so that their places fit 32 bits
@@ -183,22 +183,22 @@ codes_ascend (a ∷ b ∷ pairs) h r =
 
 pub are_bounded : (p : Problem) → is_well_formed p ≡ true → AreFew p
 are_bounded p h =
-    let both : (has_shape p ≡ true) × (is_in_range p ≡ true) = and_parts _ _ h in
+    let both : (has_valid_shape p ≡ true) × (is_in_range p ≡ true) = and_parts _ _ h in
     let s : HasShape p = shape_facts p both.0 in
     let r : InRange p = range_facts p both.1 in
-    let n : size p ≤ 65535 = count_within_max p h in
+    let n : update_count p ≤ 65535 = count_within_max p h in
     let small : (e : ℕ × ℕ) → Contains p.before e → (ltb e.0 65536 && ltb e.1 65536) ≡ true =
-    λ e k. let f : (ltb e.0 (size p) ≡ true) × (ltb e.1 (size p) ≡ true) = and_parts _ _ (all_in (λ (e : ℕ × ℕ). ltb e.0 (size p) && ltb e.1 (size p)) p.before e r.pairs k) in
-    and_from (ltb e.0 65536) (ltb e.1 65536) (lt-ltb e.0 65536 (omega (arith, ltb-true e.0 (size p) f.0))) (lt-ltb e.1 65536 (omega (arith, ltb-true e.1 (size p) f.1))) in
+    λ e k. let f : (ltb e.0 (update_count p) ≡ true) × (ltb e.1 (update_count p) ≡ true) = and_parts _ _ (all_in (λ (e : ℕ × ℕ). ltb e.0 (update_count p) && ltb e.1 (update_count p)) p.before e r.pairs k) in
+    and_from (ltb e.0 65536) (ltb e.1 65536) (lt-ltb e.0 65536 (omega (arith, ltb-true e.0 (update_count p) f.0))) (lt-ltb e.1 65536 (omega (arith, ltb-true e.1 (update_count p) f.1))) in
     let in_bounds : list_all (λ (e : ℕ × ℕ). ltb e.0 65536 && ltb e.1 65536) p.before ≡ true = all_from (λ (e : ℕ × ℕ). ltb e.0 65536 && ltb e.1 65536) p.before small in
     record {
       pairs = omega (arith, ascending_bounded 4294967296 (map coded p.before) (codes_ascend p.before s.pairs in_bounds) (codes_small p.before in_bounds), length-map p.before coded);
       chains = omega (arith, ascending_bounded 4096 (map (λ (chain : Chain). chain.item) p.chains) s.items (items_small p.chains r.chains), length-map p.chains (λ (chain : Chain). chain.item));
       writers = λ i d l.
           let shape : chain_has_shape p.before (get_or p.chains i d) ≡ true = all_at (chain_has_shape p.before) p.chains s.chains i d l in
-          let range : chain_is_in_range (size p) (get_or p.chains i d) ≡ true = all_at (chain_is_in_range (size p)) p.chains r.chains i d l in
-          omega (arith, ascending_bounded (size p) (get_or p.chains i d).writers (chain_facts p (get_or p.chains i d) shape range).ascending (and_parts (ltb (get_or p.chains i d).item MAX_ITEMS) (list_all (λ w. ltb w (size p)) (get_or p.chains i d).writers) range).1);
-      must = omega (arith, ascending_bounded (size p) p.must s.must r.must);
+          let range : chain_is_in_range (update_count p) (get_or p.chains i d) ≡ true = all_at (chain_is_in_range (update_count p)) p.chains r.chains i d l in
+          omega (arith, ascending_bounded (update_count p) (get_or p.chains i d).writers (chain_facts p (get_or p.chains i d) shape range).ascending (and_parts (ltb (get_or p.chains i d).item MAX_ITEMS) (list_all (λ w. ltb w (update_count p)) (get_or p.chains i d).writers) range).1);
+      must = omega (arith, ascending_bounded (update_count p) p.must s.must r.must);
     }
   where
     codes_small : (pairs : List (ℕ × ℕ)) → list_all (λ (e : ℕ × ℕ). ltb e.0 65536 && ltb e.1 65536) pairs ≡ true → list_all (λ t. ltb t 4294967296) (map coded pairs) ≡ true
@@ -208,11 +208,11 @@ are_bounded p h =
         let f : (ltb e.0 65536 ≡ true) × (ltb e.1 65536 ≡ true) = and_parts (ltb e.0 65536) (ltb e.1 65536) b.0 in
         and_from (ltb (coded e) 4294967296) (list_all (λ t. ltb t 4294967296) (map coded pairs)) (lt-ltb (coded e) 4294967296 (omega (arith, ltb-true e.0 65536 f.0, ltb-true e.1 65536 f.1))) (codes_small pairs b.1)
 
-    items_small : (chains : List Chain) → list_all (chain_is_in_range (size p)) chains ≡ true → list_all (λ t. ltb t 4096) (map (λ (chain : Chain). chain.item) chains) ≡ true
+    items_small : (chains : List Chain) → list_all (chain_is_in_range (update_count p)) chains ≡ true → list_all (λ t. ltb t 4096) (map (λ (chain : Chain). chain.item) chains) ≡ true
     items_small [] k = refl
     items_small (chain ∷ chains) k =
-        let b : (chain_is_in_range (size p) chain ≡ true) × (list_all (chain_is_in_range (size p)) chains ≡ true) = and_parts (chain_is_in_range (size p) chain) (list_all (chain_is_in_range (size p)) chains) k in
-        let f : (ltb chain.item MAX_ITEMS ≡ true) × (list_all (λ w. ltb w (size p)) chain.writers ≡ true) = and_parts (ltb chain.item MAX_ITEMS) (list_all (λ w. ltb w (size p)) chain.writers) b.0 in
+        let b : (chain_is_in_range (update_count p) chain ≡ true) × (list_all (chain_is_in_range (update_count p)) chains ≡ true) = and_parts (chain_is_in_range (update_count p) chain) (list_all (chain_is_in_range (update_count p)) chains) k in
+        let f : (ltb chain.item MAX_ITEMS ≡ true) × (list_all (λ w. ltb w (update_count p)) chain.writers ≡ true) = and_parts (ltb chain.item MAX_ITEMS) (list_all (λ w. ltb w (update_count p)) chain.writers) b.0 in
         and_from (ltb chain.item 4096) (list_all (λ t. ltb t 4096) (map (λ (chain : Chain). chain.item) chains)) (lt-ltb chain.item 4096 (omega (arith, ltb-true chain.item MAX_ITEMS f.0))) (items_small chains b.1)
 
 -- ---- positions are below the count of updates, read from the lists of the code

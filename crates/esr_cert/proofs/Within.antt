@@ -2,7 +2,7 @@
 use Rattle.std.proofs.Common.{◌≡◌, ℕ, suc, ◌+◌, ◌≤◌, List, [], ◌∷◌, ◌++◌, Bool, true, false, ◌&&◌, nat_le, eqb, refl, sym, ap, ◌∙◌, arith, length, map, true≢false, eq-eqb}
 use Rattle.std.specs.List.{flat_map, concat}
 use Rattle.std.proofs.lemmas.Bool.{and_parts, and_from, eqb-true}
-use Rattle.esr_cert.specs.Problem.{Chain, Problem, size}
+use Rattle.esr_cert.specs.Problem.{Chain, Problem, update_count}
 use Rattle.esr_cert.specs.Network.{Arc, path_arcs, arcs_of_chain, predecessor_arc, must_arc, arcs_of_chains, predecessor_arcs, must_arcs, network}
 use Rattle.esr_cert.specs.Flow.{within, are_within}
 use Rattle.esr_cert.specs.Certificate.{Certificate, amounts, are_rows_matched, is_within}
@@ -72,12 +72,12 @@ unlimited_must n (u ∷ must) (a ∷ flow) h = unlimited_must n must flow (omega
 arcs_within : (p : Problem) → IsProblem p → (c : Certificate) → IsMatched p c → are_within (network p).arcs (amounts c) ≡ are_rows_within p.chains c.chain_flow
 arcs_within p ok c m =
     within_append (arcs_of_chains p ++ predecessor_arcs p) (must_arcs p) (concat c.chain_flow ++ c.back_flow) c.must_flow (first_two_length p ok c m)
-    ∙ ap (λ x. are_within (arcs_of_chains p ++ predecessor_arcs p) (concat c.chain_flow ++ c.back_flow) && x) (unlimited_must (size p) p.must c.must_flow m.musts)
+    ∙ ap (λ x. are_within (arcs_of_chains p ++ predecessor_arcs p) (concat c.chain_flow ++ c.back_flow) && x) (unlimited_must (update_count p) p.must c.must_flow m.musts)
     ∙ and_true (are_within (arcs_of_chains p ++ predecessor_arcs p) (concat c.chain_flow ++ c.back_flow))
     ∙ within_append (arcs_of_chains p) (predecessor_arcs p) (concat c.chain_flow) c.back_flow (chains_length p ok c m)
     ∙ ap (λ x. are_within (arcs_of_chains p) (concat c.chain_flow) && x) (unlimited_pairs p.before c.back_flow m.backs)
     ∙ and_true (are_within (arcs_of_chains p) (concat c.chain_flow))
-    ∙ rows_are_within (size p) p.chains c.chain_flow (are_whole p ok c m) m.rows
+    ∙ rows_are_within (update_count p) p.chains c.chain_flow (are_whole p ok c m) m.rows
   where
     and_true : (x : Bool) → (x && true) ≡ x
     and_true true = refl

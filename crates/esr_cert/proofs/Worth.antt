@@ -4,7 +4,7 @@ use Rattle.std.proofs.Common.{Contains, ◌≡◌, ◌≢◌, ℕ, ◌+◌, ◌<
 use Rattle.std.specs.List.{flat_map, concat}
 use Rattle.std.proofs.lemmas.List.{length-append, length-map}
 use Rattle.std.proofs.lemmas.List.Sums.{sum_by-cons}
-use Rattle.esr_cert.specs.Problem.{Chain, Problem, size}
+use Rattle.esr_cert.specs.Problem.{Chain, Problem, update_count}
 use Rattle.esr_cert.specs.Network.{Arc, path_arcs, arcs_of_chain, predecessor_arc, must_arc, arcs_of_chains, predecessor_arcs, must_arcs, network}
 use Rattle.esr_cert.specs.Flow.{carried, worth}
 use Rattle.esr_cert.specs.Certificate.{Certificate, amounts, are_rows_matched}
@@ -70,10 +70,10 @@ pub worth_firsts : (p : Problem) → IsProblem p → (c : Certificate) → IsMat
 worth_firsts p ok c m =
     omega (
       arith,
-      carried_parts p ok c m (leaves (size p)),
-      chains_first (size p) p.chains c.chain_flow (are_whole p ok c m) (λ chain k. (ok.chains chain k).writers) m.rows,
-      pairs_none (size p) p.before c.back_flow ok.pairs,
-      must_all (size p) p.must c.must_flow m.musts,
+      carried_parts p ok c m (leaves (update_count p)),
+      chains_first (update_count p) p.chains c.chain_flow (are_whole p ok c m) (λ chain k. (ok.chains chain k).writers) m.rows,
+      pairs_none (update_count p) p.before c.back_flow ok.pairs,
+      must_all (update_count p) p.must c.must_flow m.musts,
     )
 
 -- ---- how many arcs there are
@@ -95,7 +95,7 @@ arc_count p ok =
       arith,
       length-append (arcs_of_chains p ++ predecessor_arcs p) (must_arcs p),
       length-append (arcs_of_chains p) (predecessor_arcs p),
-      chain_count (size p) p.chains (λ chain k. (ok.chains chain k).one_more),
+      chain_count (update_count p) p.chains (λ chain k. (ok.chains chain k).one_more),
       length-map {B = Arc} p.before predecessor_arc,
-      length-map {B = Arc} p.must (must_arc (size p)),
+      length-map {B = Arc} p.must (must_arc (update_count p)),
     )

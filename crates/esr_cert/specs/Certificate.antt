@@ -1,7 +1,7 @@
 -- A certificate of the least cost of a problem, and the first fault of one.
 use Rattle.std.specs.Prelude.{◌≡◌, ℕ, ◌*◌, List, [], ◌∷◌, ◌++◌, length, Bool, true, false, not, ◌&&◌, ◌==◌, nat_lt, nat_le, if◌then◌else◌, Option, Some, None, Result, Ok, Err}
 use Rattle.std.specs.List.{list_all, concat}
-use Rattle.esr_cert.specs.Problem.{Chain, Problem, size, in_set, is_ascending, is_closed, cost}
+use Rattle.esr_cert.specs.Problem.{Chain, Problem, update_count, in_set, is_ascending, is_closed, cost}
 use Rattle.esr_cert.specs.Network.{network}
 use Rattle.esr_cert.specs.Flow.{are_within, is_conserved, worth}
 use Rattle.esr_cert.specs.Faults.{Fault, SetNotAscending, UnknownUpdate, SetNotClosed, OverCapacity, NotConserved, WorthNotCost, TooManyAugmentations}
@@ -22,7 +22,7 @@ amounts c = concat c.chain_flow ++ c.back_flow ++ c.must_flow
 -- ---- the tests, each the absence of one fault
 
 abbrev pub is_set_in_range : Problem → List ℕ → Bool
-is_set_in_range p set = list_all (λ u. nat_lt u (size p)) set
+is_set_in_range p set = list_all (λ u. nat_lt u (update_count p)) set
 
 -- one row for each chain, as long as its costs
 abbrev pub are_rows_matched : List Chain → List (List ℕ) → Bool

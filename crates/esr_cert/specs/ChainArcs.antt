@@ -2,7 +2,7 @@
 use Rattle.std.specs.Prelude.{◌≡◌, ℕ, ◌+◌, ◌<◌, ◌≤◌, List, [], ◌∷◌, ◌++◌, length, get_or, map}
 use Rattle.esr_cert.specs.declared.problem.Chain.{Chain}
 use Rattle.esr_cert.specs.Network.{arc_at, Arc}
-use Rattle.esr_cert.specs.Starts.{starts_from}
+use Rattle.esr_cert.specs.ChainStarts.{chain_starts_from}
 use Rattle.esr_cert.specs.Views.{chain_view}
 
 -- the arcs of a chain begin at a number, and lead from the source through its writers to the sink
@@ -17,4 +17,4 @@ pub record HasChainArcs (arcs : List Arc) (source : ℕ) (chain : Chain) (begin 
 -- so do those of each of some chains
 abbrev pub HaveChainArcs : List Arc → ℕ → List Chain → Type 0
 HaveChainArcs arcs source chains = (k : ℕ) (chain : Chain) → k < length chains → chain ≡ get_or chains k chain
-    → HasChainArcs arcs source chain (get_or (starts_from 0 (map chain_view chains)) k 0)
+    → HasChainArcs arcs source chain (get_or (chain_starts_from 0 (map chain_view chains)) k 0)

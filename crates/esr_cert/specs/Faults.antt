@@ -1,6 +1,6 @@
 -- The numbers of the faults, and the fault of parts that make no problem.
 use Rattle.std.specs.Prelude.{ℕ, not, if◌then◌else◌, Option, Some, None}
-use Rattle.esr_cert.specs.Problem.{Problem, has_shape, is_in_range}
+use Rattle.esr_cert.specs.Problem.{Problem, has_valid_shape, is_in_range}
 pub use Rattle.esr_cert.specs.declared.certificate.Fault.{Fault}
 pub use Rattle.esr_cert.specs.declared.certificate.Fault.TheVariants.{SetNotAscending, UnknownUpdate, SetNotClosed, OverCapacity, NotConserved, WorthNotCost, TooManyAugmentations}
 use Rattle.esr_cert.specs.declared.problem.BundleFault.{BundleFault}
@@ -8,7 +8,7 @@ use Rattle.esr_cert.specs.declared.problem.BundleFault.TheVariants.{Json, Shape,
 
 -- shape precedes range
 abbrev pub problem_fault : Problem → Option BundleFault
-problem_fault p = if not (has_shape p) then Some Shape else (if not (is_in_range p) then Some Range else None)
+problem_fault p = if not (has_valid_shape p) then Some Shape else (if not (is_in_range p) then Some Range else None)
 
 abbrev pub fault_number : Fault → ℕ
 fault_number SetNotAscending = 1

@@ -1,7 +1,7 @@
 -- Networks with one source and one sink, and the network of a problem.
 use Rattle.std.specs.Prelude.{◌≢◌, ℕ, ◌+◌, ◌<◌, List, [], ◌∷◌, ◌++◌, length, get_or, map, Some, None, flat_map}
 pub use Rattle.esr_cert.specs.declared.network.Arc.{Arc}
-use Rattle.esr_cert.specs.Problem.{Chain, Problem, size}
+use Rattle.esr_cert.specs.Problem.{Chain, Problem, update_count}
 
 -- nodes are numbered from 0
 pub record Network : Type 0 where
@@ -43,19 +43,19 @@ abbrev pub must_arc : ℕ → ℕ → Arc
 must_arc source u = record { from = source; to = u; capacity = None }
 
 abbrev pub arcs_of_chains : Problem → List Arc
-arcs_of_chains p = flat_map (arcs_of_chain (size p)) p.chains
+arcs_of_chains p = flat_map (arcs_of_chain (update_count p)) p.chains
 
 abbrev pub predecessor_arcs : Problem → List Arc
 predecessor_arcs p = map predecessor_arc p.before
 
 abbrev pub must_arcs : Problem → List Arc
-must_arcs p = map (must_arc (size p)) p.must
+must_arcs p = map (must_arc (update_count p)) p.must
 
 -- updates are nodes by their positions, followed by the source and the sink
 abbrev pub network : Problem → Network
 network p = record {
-  node_count = size p + 2;
+  node_count = update_count p + 2;
   arcs = arcs_of_chains p ++ predecessor_arcs p ++ must_arcs p;
-  source = size p;
-  sink = size p + 1;
+  source = update_count p;
+  sink = update_count p + 1;
 }

@@ -20,8 +20,8 @@ pub record Problem : Type 0 where
   pub must : List ℕ
 
 -- how many updates there are
-abbrev pub size : Problem → ℕ
-size p = length p.updates
+abbrev pub update_count : Problem → ℕ
+update_count p = length p.updates
 
 -- the set of the positions in a list
 abbrev pub in_set : List ℕ → ℕ → Bool
@@ -44,10 +44,10 @@ abbrev pub cost : Problem → (ℕ → Bool) → ℕ
 cost p has = sum_by (chain_cost has) p.chains
 
 -- a closed set of least cost that is within every closed set of least cost
-pub record IsSmallestLeast (p : Problem) (has : ℕ → Bool) : Type 0 where
+pub record IsSmallestLeastCostSet (p : Problem) (has : ℕ → Bool) : Type 0 where
   pub closed : is_closed p has ≡ true
   pub least : (other : ℕ → Bool) → is_closed p other ≡ true → cost p has ≤ cost p other
-  pub smallest : (other : ℕ → Bool) → is_closed p other ≡ true → cost p other ≤ cost p has → (u : ℕ) → u < size p
+  pub smallest : (other : ℕ → Bool) → is_closed p other ≡ true → cost p other ≤ cost p has → (u : ℕ) → u < update_count p
       → has u ≡ true → other u ≡ true
 
 -- ---- the rules of shape
@@ -84,8 +84,8 @@ abbrev pub chain_has_shape : List (ℕ × ℕ) → Chain → Bool
 chain_has_shape before chain =
     (length chain.costs == suc (length chain.writers)) && is_ascending chain.writers && are_linked before chain.writers
 
-abbrev pub has_shape : Problem → Bool
-has_shape p =
+abbrev pub has_valid_shape : Problem → Bool
+has_valid_shape p =
     is_distinct p.updates && are_pairs_ascending p.before && list_all (λ e. nat_lt e.0 e.1) p.before
     && is_ascending (map (λ chain. chain.item) p.chains) && list_all (chain_has_shape p.before) p.chains
     && is_ascending p.must
@@ -101,10 +101,10 @@ chain_is_in_range n chain = nat_lt chain.item MAX_ITEMS && list_all (λ w. nat_l
 
 abbrev pub is_in_range : Problem → Bool
 is_in_range p =
-    list_all (λ t. nat_lt 0 t && nat_le t MAX_TRANSACTIONS) p.updates && list_all (chain_is_in_range (size p)) p.chains
-    && list_all (λ e. nat_lt e.0 (size p) && nat_lt e.1 (size p)) p.before
-    && list_all (λ u. nat_lt u (size p)) p.must && nat_le (sum_by (λ chain. greatest chain.costs) p.chains) MAX_COST
+    list_all (λ t. nat_lt 0 t && nat_le t MAX_TRANSACTIONS) p.updates && list_all (chain_is_in_range (update_count p)) p.chains
+    && list_all (λ e. nat_lt e.0 (update_count p) && nat_lt e.1 (update_count p)) p.before
+    && list_all (λ u. nat_lt u (update_count p)) p.must && nat_le (sum_by (λ chain. greatest chain.costs) p.chains) MAX_COST
 
 -- no rule of shape or range is broken
 abbrev pub is_well_formed : Problem → Bool
-is_well_formed p = has_shape p && is_in_range p
+is_well_formed p = has_valid_shape p && is_in_range p

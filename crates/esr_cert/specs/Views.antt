@@ -18,8 +18,8 @@ abbrev pub problem_of : List TxnId → List (ℕ × ℕ) → List Chain → List
 problem_of updates before chains must =
     record { updates = map (λ t. t.0) updates; before = before; chains = map chain_view chains; must = must }
 
-abbrev pub problem_by : ProblemParts → spec.Problem
-problem_by p = problem_of p.updates.items p.before.items p.chains.items p.must.items
+abbrev pub problem_of_parts : ProblemParts → spec.Problem
+problem_of_parts p = problem_of p.updates.items p.before.items p.chains.items p.must.items
 
 abbrev pub certificate_from : List ℕ → List (Vec ℕ Global) → List ℕ → List ℕ → ℕ → Option ℕ → certificates.Certificate
 certificate_from set chain_flow back_flow must_flow worth augmentations =

@@ -9,12 +9,12 @@ ghost use Rattle.esr_cert.specs.Views.{chain_view, problem_of};
 ghost use Rattle.esr_cert.specs.Network.{arc_at, arcs_of_chain, network};
 ghost use Rattle.esr_cert.specs.declared.network.Arc.{Arc};
 ghost use Rattle.esr_cert.specs.Problem.{is_well_formed};
-ghost use Rattle.esr_cert.specs.Starts.{starts_from, arc_chains_from};
+ghost use Rattle.esr_cert.specs.ChainStarts.{chain_starts_from, chain_by_arc_from};
 ghost use Rattle.esr_cert.specs.ChainArcs.{HaveChainArcs};
 
+use crate::chain_starts::chain_of_arc;
 use crate::network::Arc;
 use crate::problem::Chain;
-use crate::starts::chain_of_arc;
 use esr_base::TxnId;
 use std::marker::Model;
 
@@ -63,8 +63,8 @@ pub struct Arcs<'a> {
     pub before: &'a [(u32, u32)],
     pub chains: &'a [Chain],
     pub must: &'a [u32],
-    pub starts: &'a [u32],
-    pub arc_chains: &'a [u16],
+    pub chain_starts: &'a [u32],
+    pub chain_by_arc: &'a [u16],
 }
 
 impl<'a> Model for Arcs<'a> {
@@ -73,8 +73,8 @@ impl<'a> Model for Arcs<'a> {
     ghost view = { λ a. (network (problem_of a.updates.now a.before.now a.chains.now a.must.now)).arcs };
 
     ghost invariant = { λ a. (is_well_formed (problem_of a.updates.now a.before.now a.chains.now a.must.now) ≡ true)
-        × (a.starts.now ≡ starts_from 0 (map chain_view a.chains.now))
-        × (a.arc_chains.now ≡ arc_chains_from 0 (map chain_view a.chains.now)) };
+        × (a.chain_starts.now ≡ chain_starts_from 0 (map chain_view a.chains.now))
+        × (a.chain_by_arc.now ≡ chain_by_arc_from 0 (map chain_view a.chains.now)) };
 }
 
 impl<'a> Arcs<'a> {
@@ -82,7 +82,7 @@ impl<'a> Arcs<'a> {
     pub fn len(&self) -> usize
         ensures { result ≡ length self.now }
     {
-        self.starts[self.chains.len()] as usize + self.before.len() + self.must.len()
+        self.chain_starts[self.chains.len()] as usize + self.before.len() + self.must.len()
     }
 
     /// Returns the chains, whose arcs come first, and the source.
@@ -100,10 +100,10 @@ impl<'a> Arcs<'a> {
         ensures { result ≡ arc_at self.now number }
     {
         let source = self.updates.len() as u32;
-        let links = self.starts[self.chains.len()];
+        let links = self.chain_starts[self.chains.len()];
         if number < links {
-            let chain = chain_of_arc(self.chains, self.starts, self.arc_chains, number);
-            let place = number - self.starts[chain];
+            let chain = chain_of_arc(self.chains, self.chain_starts, self.chain_by_arc, number);
+            let place = number - self.chain_starts[chain];
             return link_at(&self.chains[chain], source, place as usize);
         }
         let i = (number - links) as usize;

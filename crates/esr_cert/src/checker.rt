@@ -6,21 +6,21 @@
 //! the problem contains. Sums have 128 bits.
 ghost use Rattle.std.specs.Prelude.{◌≡◌, ℕ, ◌*◌, ◌<◌, ◌≤◌, ◌||◌, not, length, get_or, map, Bool, true, IsOk};
 ghost use Rattle.std.specs.List.{list_all, sum, sum_by};
-ghost use Rattle.esr_cert.specs.Problem.{size, in_set, is_ascending, is_closed, version, chain_cost, cost};
+ghost use Rattle.esr_cert.specs.Problem.{update_count, in_set, is_ascending, is_closed, version, chain_cost, cost};
 ghost use Rattle.esr_cert.specs.Network.{network};
 ghost use Rattle.esr_cert.specs.Flow.{amount_at, is_conserved_at, is_conserved};
 ghost use Rattle.esr_cert.specs.Certificate.{amounts, is_set_in_range, is_within, worth_matches, is_count_in_bound, fault, or_fault};
-ghost use Rattle.esr_cert.specs.Balance.{is_balanced};
-ghost use Rattle.esr_cert.specs.Starts.{AreStarts};
+ghost use Rattle.esr_cert.specs.FlowConservation.{is_balanced};
+ghost use Rattle.esr_cert.specs.ChainStarts.{AreChainStarts};
 ghost use Rattle.esr_cert.specs.Capacities.{is_row_within, are_rows_within};
 ghost use Rattle.esr_cert.specs.Views.{chain_view, rows_of, certificate_of};
 
 use crate::arcs::arc_count;
 use crate::certificate::{Certificate, Fault};
+use crate::chain_starts::row_at;
 use crate::lists::{are_below, contains, is_ascending};
 use crate::problem::{Chain, Problem};
 use crate::residual::{PackedResidualArc, ResidualArc};
-use crate::starts::row_at;
 
 /// Returns whether there is an update at each position of a set.
 fn is_set_in_range(problem: &Problem, set: &[u32]) -> bool
@@ -108,12 +108,12 @@ fn amount_or_zero(amounts: &[u64], i: usize) -> u64
 
 /// Returns the amount on an arc, by its number: first the arcs of the chains, then those of the pairs, then those to
 /// the updates that a set must contain.
-fn amount_on(certificate: &Certificate, starts: &[u32], arc: u32) -> u64
-    requires starts { AreStarts starts.now (rows_of certificate.now.chain_flow.items) }
+fn amount_on(certificate: &Certificate, chain_starts: &[u32], arc: u32) -> u64
+    requires chain_starts { AreChainStarts chain_starts.now (rows_of certificate.now.chain_flow.items) }
     ensures { result ≡ amount_at (amounts (certificate_of certificate.now)) arc }
 {
-    let chain = row_at(starts, arc);
-    let i = (arc - starts[chain]) as usize;
+    let chain = row_at(chain_starts, arc);
+    let i = (arc - chain_starts[chain]) as usize;
     if chain < certificate.chain_flow.len() {
         return amount_or_zero(&certificate.chain_flow[chain], i);
     }
@@ -126,16 +126,24 @@ fn amount_on(certificate: &Certificate, starts: &[u32], arc: u32) -> u64
 }
 
 /// Returns whether inflow and outflow of a node are equal, by the steps that start there.
-fn is_balanced(certificate: &Certificate, starts: &[u32], steps: &[PackedResidualArc]) -> bool
-    requires starts { AreStarts starts.now (rows_of certificate.now.chain_flow.items) }
+fn is_balanced(certificate: &Certificate, chain_starts: &[u32], steps: &[PackedResidualArc]) -> bool
+    requires chain_starts { AreChainStarts chain_starts.now (rows_of certificate.now.chain_flow.items) }
     ensures { result ≡ is_balanced (amounts (certificate_of certificate.now)) steps.now }
 {
     let mut into: u128 = 0;
     let mut from: u128 = 0;
     for step in steps {
         match step.unpack() {
-            ResidualArc::Forward(arc) => from += u128::from(amount_on(certificate, starts, arc)),
-            ResidualArc::Backward(arc) => into += u128::from(amount_on(certificate, starts, arc)),
+            ResidualArc::Forward(arc) => from += u128::from(amount_on(
+                certificate,
+                chain_starts,
+                arc,
+            )),
+            ResidualArc::Backward(arc) => into += u128::from(amount_on(
+                certificate,
+                chain_starts,
+                arc,
+            )),
         }
     }
     into == from
@@ -144,11 +152,15 @@ fn is_balanced(certificate: &Certificate, starts: &[u32], steps: &[PackedResidua
 /// Returns whether inflow and outflow of an update are equal.
 fn is_conserved_at(problem: &Problem, certificate: &Certificate, v: usize) -> bool
     requires within { is_within problem.now (certificate_of certificate.now) ≡ true }
-    requires update { v < size problem.now }
+    requires update { v < update_count problem.now }
     ensures { result ≡ is_conserved_at (network problem.now).arcs (amounts (certificate_of certificate.now)) v }
 {
-    let rows = problem.rows();
-    is_balanced(certificate, problem.starts(), rows.row(&rows.steps, v))
+    let adjacency = problem.adjacency();
+    is_balanced(
+        certificate,
+        problem.chain_starts(),
+        adjacency.row(&adjacency.steps, v),
+    )
 }
 
 fn is_conserved(problem: &Problem, certificate: &Certificate) -> bool

@@ -10,8 +10,10 @@
 //! check and for the solver.
 #![tactic(auto)]
 
+mod adjacency;
 mod arcs;
 mod certificate;
+mod chain_starts;
 mod checker;
 mod draft;
 mod lists;
@@ -20,15 +22,13 @@ mod parts;
 mod problem;
 mod range;
 mod residual;
-mod rows;
 mod shape;
-mod starts;
 
+pub use adjacency::{Adjacency, Span};
 pub use certificate::{Certificate, Fault};
 pub use checker::check;
 pub use draft::{ChainDraft, ProblemDraft};
 pub use network::Arc;
 pub use problem::{BundleFault, Chain, Problem, ProblemParts};
 pub use residual::{PackedResidualArc, ResidualArc};
-pub use rows::{Rows, Span};
-pub use shape::has_shape;
+pub use shape::has_valid_shape;

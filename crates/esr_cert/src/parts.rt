@@ -1,12 +1,12 @@
 //! Checks the shape of parts, as numbers of any size, for `Problem::new`.
 ghost use Rattle.std.specs.Prelude.{◌≡◌, map, IfOk};
-ghost use Rattle.esr_cert.specs.Problem.{has_shape};
-ghost use Rattle.esr_cert.specs.Views.{chain_view, problem_by};
-ghost use Rattle.esr_cert.specs.Drafts.{drafted_chain, drafted_problem};
+ghost use Rattle.esr_cert.specs.Problem.{has_valid_shape};
+ghost use Rattle.esr_cert.specs.Views.{chain_view, problem_of_parts};
+ghost use Rattle.esr_cert.specs.ProblemDrafts.{drafted_chain, drafted_problem};
 
 use crate::draft::{ChainDraft, ProblemDraft};
 use crate::problem::{Chain, ProblemParts};
-use crate::shape::has_shape;
+use crate::shape::has_valid_shape;
 use esr_base::TxnId;
 use std::alloc::{AllocError, Global};
 
@@ -60,7 +60,7 @@ fn chain_drafts(alloc: Global, chains: &[Chain]) -> Result<Vec<ChainDraft>, Allo
 
 /// Returns the numbers of parts.
 fn draft_of(alloc: Global, parts: &ProblemParts) -> Result<ProblemDraft, AllocError>
-    ensures { IfOk result (λ d. drafted_problem d ≡ problem_by parts.now) }
+    ensures { IfOk result (λ d. drafted_problem d ≡ problem_of_parts parts.now) }
 {
     Ok(ProblemDraft {
         updates: numbers_of(alloc, &parts.updates)?,
@@ -71,9 +71,9 @@ fn draft_of(alloc: Global, parts: &ProblemParts) -> Result<ProblemDraft, AllocEr
 }
 
 /// Returns whether parts satisfy the rules of shape.
-pub fn have_shape(alloc: Global, parts: &ProblemParts) -> Result<bool, AllocError>
-    ensures { IfOk result (λ b. b ≡ has_shape (problem_by parts.now)) }
+pub fn have_valid_shape(alloc: Global, parts: &ProblemParts) -> Result<bool, AllocError>
+    ensures { IfOk result (λ b. b ≡ has_valid_shape (problem_of_parts parts.now)) }
 {
     let draft = draft_of(alloc, parts)?;
-    has_shape(alloc, &draft)
+    has_valid_shape(alloc, &draft)
 }

@@ -3,7 +3,7 @@
 ghost use Rattle.std.specs.Prelude.{◌≡◌, ◌&&◌, map, nat_lt, nat_le};
 ghost use Rattle.std.specs.List.{list_all, sum_by};
 ghost use Rattle.esr_cert.specs.Problem.{greatest, chain_is_in_range, is_in_range};
-ghost use Rattle.esr_cert.specs.Views.{chain_view, problem_by};
+ghost use Rattle.esr_cert.specs.Views.{chain_view, problem_of_parts};
 
 use crate::lists::are_below;
 use crate::problem::{Chain, ProblemParts};
@@ -82,7 +82,7 @@ fn greatest_costs(chains: &[Chain]) -> u128
 
 /// Returns whether the rules of range are satisfied.
 pub fn is_in_range(parts: &ProblemParts) -> bool
-    ensures { result ≡ is_in_range (problem_by parts.now) }
+    ensures { result ≡ is_in_range (problem_of_parts parts.now) }
 {
     let n = parts.updates.len();
     if !are_updates_in_range(&parts.updates) {

@@ -61,7 +61,7 @@ impl Model for PackedResidualArc {
 
     ghost inverse = { λ s. record { encoded = packed_arc s } };
 
-    ghost inverse_ok = { λ a h. ap (λ n. record { encoded = n }) (packed_arc-step_of a.number) };
+    ghost inverse_ok = { λ a h. ap (λ n. record { encoded = n }) (packed_arc-step_of a.encoded) };
 }
 
 impl PackedResidualArc {

@@ -1,8 +1,8 @@
 //! The rules of shape, over the numbers of a draft: lists ascend, pairs go forward, neighbours of a chain are a pair.
 ghost use Rattle.std.specs.Prelude.{◌≡◌, map, nat_lt, true, IfOk};
 ghost use Rattle.std.specs.List.{list_all};
-ghost use Rattle.esr_cert.specs.Problem.{pair_lt, is_ascending, is_distinct, are_pairs_ascending, has_pair, are_linked, chain_has_shape, has_shape};
-ghost use Rattle.esr_cert.specs.Drafts.{drafted_chain, drafted_problem};
+ghost use Rattle.esr_cert.specs.Problem.{pair_lt, is_ascending, is_distinct, are_pairs_ascending, has_pair, are_linked, chain_has_shape, has_valid_shape};
+ghost use Rattle.esr_cert.specs.ProblemDrafts.{drafted_chain, drafted_problem};
 
 use crate::draft::{ChainDraft, ProblemDraft};
 use std::alloc::{AllocError, Global};
@@ -110,8 +110,8 @@ fn chains_have_shape(before: &[(u64, u64)], chains: &[ChainDraft]) -> bool
 }
 
 /// Returns whether the rules of shape are satisfied.
-pub fn has_shape(alloc: Global, draft: &ProblemDraft) -> Result<bool, AllocError>
-    ensures { IfOk result (λ b. b ≡ has_shape (drafted_problem draft.now)) }
+pub fn has_valid_shape(alloc: Global, draft: &ProblemDraft) -> Result<bool, AllocError>
+    ensures { IfOk result (λ b. b ≡ has_valid_shape (drafted_problem draft.now)) }
 {
     if !is_distinct(alloc, &draft.updates)? {
         return Ok(false);

@@ -5,10 +5,10 @@ use Rattle.esr_core.specs.Types.{Entry}
 use Rattle.esr_core.specs.Carried.{new_number, settled, charged_in, IsCarriedOver, IsReport, IsReport.reads, IsReport.continues, IsReport.is_carried, ReportsAreBounded, ReportsAreBoundedAtCommit, LawOfActiveQueries, LawOfReports}
 use Rattle.esr_history.specs.Events.{is_query, is_active, limit_of}
 use Rattle.esr_history.specs.Machine.{DistanceFunction, Schedule, accepted_in, charges_in, import_in, export_in, IsLegal}
-use Rattle.esr_history.specs.Legal.{along}
+use Rattle.esr_history.specs.Legal.{continued}
 use Rattle.esr_history.specs.Operations.{Operation}
 use Rattle.esr_history.specs.Serial.{state}
-use Rattle.esr_history.specs.Queries.{updates_of, reads_by}
+use Rattle.esr_history.specs.Queries.{updates_committed_before, reads_by}
 use Rattle.esr_history.specs.ReportBounds.{AreDistances, AreReadsWithinBound, distance_of_reads, reads_in}
 use Rattle.esr_history.proofs.Traces.{IsMetric}
 use Rattle.esr_history.proofs.WellFormed.{active_parts}
@@ -37,7 +37,7 @@ module _ (d : DistanceFunction) (metric : (w : List ℕ) → IsMetric (d w)) whe
             (is.within w (λ x. ⊎_elim (λ s. inl (s ∙ c.committed x)) (λ s. inr (s ∙ c.current x)) (mix x)));
       }
 
-  limit_stays : (h : Schedule) (later : List Entry) (t : ℕ) → IsLegal d (along h later) → is_active (accepted_in h) t ≡ true → limit_of (accepted_in (along h later)) t ≡ limit_of (accepted_in h) t
+  limit_stays : (h : Schedule) (later : List Entry) (t : ℕ) → IsLegal d (continued h later) → is_active (accepted_in h) t ≡ true → limit_of (accepted_in (continued h later)) t ≡ limit_of (accepted_in h) t
   limit_stays h later t legal act = ap (λ o. unwrap_or (option_map (λ b. b.limit) o) 0) (begin_stays d h later t legal (active_parts (accepted_in h) t act).0)
 
   reached : {limit : ℕ} {h : Schedule} {q : ℕ} {read_before : List Operation} {part : ℕ} → IsReport d limit h q read_before part → IsBounded d limit h q read_before part
@@ -50,11 +50,11 @@ module _ (d : DistanceFunction) (metric : (w : List ℕ) → IsMetric (d w)) whe
       let b = reached r in
       let act = and_parts (is_query (accepted_in g) q) (is_active (accepted_in g) q) b.is_within.active in
       let more = import_grows d metric g q before (part + import_in (charges_in d g) q) b.is_within later legal in
-      let sum : part + import_in (charges_in d g) q + more.0 ≡ part + import_in (charges_in d (along g later)) q = let s = more.1 in omega (arith, s) in
+      let sum : part + import_in (charges_in d g) q + more.0 ≡ part + import_in (charges_in d (continued g later)) q = let s = more.1 in omega (arith, s) in
       record {
         legal = legal;
         is_within =
-            subst (λ n. AreReadsWithinBound d (along g later) q (before ++ reads_in later q) n) sum
+            subst (λ n. AreReadsWithinBound d (continued g later) q (before ++ reads_in later q) n) sum
             (bound_grows d metric g q before (part + import_in (charges_in d g) q) b.is_within later legal is more.0 more.1);
         limits = ap (λ n. part + n) (limit_stays g later q legal act.1) ∙ b.limits;
       }
@@ -82,7 +82,7 @@ module _ (d : DistanceFunction) (metric : (w : List ℕ) → IsMetric (d w)) whe
 
   pub reports_bounded_at_commit : ReportsAreBoundedAtCommit d
   reports_bounded_at_commit limit h q read_before part r later legal over =
-      let k : Schedule = along h later in
+      let k : Schedule = continued h later in
       let b = reached r in
       let act = and_parts (is_query (accepted_in h) q) (is_active (accepted_in h) q) b.is_within.active in
       let more = import_grows d metric h q read_before (part + import_in (charges_in d h) q) b.is_within later legal in
@@ -90,7 +90,7 @@ module _ (d : DistanceFunction) (metric : (w : List ℕ) → IsMetric (d w)) whe
       let low : import_in (charges_in d k) q ≤ limit_of (accepted_in k) q = (legal_within_limits d k legal).imports q in
       let same : limit_of (accepted_in k) q ≡ limit_of (accepted_in h) q = limit_stays h later q legal act.1 in
       let all : part + limit_of (accepted_in h) q ≡ limit = b.limits in (
-        subst (λ n. distance_of_reads d h (read_before ++ reads_in later q) (state k (updates_of k q)) ≤ n) sum
+        subst (λ n. distance_of_reads d h (read_before ++ reads_in later q) (state k (updates_committed_before k q)) ≤ n) sum
             (bound_at_commit d metric h q read_before (part + import_in (charges_in d h) q) b.is_within later legal over more.0 more.1),
         omega (arith, low, same, all),
       )

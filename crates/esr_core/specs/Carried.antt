@@ -5,10 +5,10 @@ use Rattle.esr_core.specs.States.{begin_event}
 use Rattle.esr_core.specs.Renewed.{committed_values, renewed}
 use Rattle.esr_history.specs.Events.{is_refusal, txn_numbers, is_active, is_query, is_update, holds_read, holds_write, read_count, limit_of, accepted, written, last_value, committed_value, current_value}
 use Rattle.esr_history.specs.Machine.{DistanceFunction, Schedule, Charge, accepted_in, value_distance, charges_in, charge_of_read, import_in, export_in, writer, IsLegal}
-use Rattle.esr_history.specs.Legal.{along}
+use Rattle.esr_history.specs.Legal.{continued}
 use Rattle.esr_history.specs.Operations.{Operation}
 use Rattle.esr_history.specs.Serial.{state}
-use Rattle.esr_history.specs.Queries.{is_strict, is_committed_query, updates_of, reads_by}
+use Rattle.esr_history.specs.Queries.{is_strict, is_committed_query, updates_committed_before, reads_by}
 use Rattle.esr_history.specs.ReportBounds.{AreDistances, is_active_query, IsMixture, ImportBoundsActive, OpenIsImported, distance_of_reads, reads_in}
 
 -- the active transactions, ascending, and the number that each has then: its place among them, from 1
@@ -94,8 +94,8 @@ pub data IsReport (d : DistanceFunction) (limit : ℕ) : Schedule → ℕ → Li
   reads : (h : Schedule) (q : ℕ) → IsLegal d h → IsTrue (is_active_query h q) → limit_of (accepted_in h) q ≡ limit
       → IsReport d limit h q (reads_by h q) 0
   continues : {h : Schedule} {q : ℕ} {read_before : List Operation} {part : ℕ} → IsReport d limit h q read_before part
-      → (later : List Entry) → IsLegal d (along h later) → IsTrue (is_active_query (along h later) q)
-      → IsReport d limit (along h later) q (read_before ++ reads_in later q) part
+      → (later : List Entry) → IsLegal d (continued h later) → IsTrue (is_active_query (continued h later) q)
+      → IsReport d limit (continued h later) q (read_before ++ reads_in later q) part
   is_carried : {h : Schedule} {q : ℕ} {read_before : List Operation} {part : ℕ} → IsReport d limit h q read_before part
       → (k : Schedule) → IsCarriedOver d h k
       → IsReport d limit k (new_number h q).0 read_before (part + settled d h q)
@@ -113,10 +113,10 @@ ReportsAreBounded d =
 abbrev pub ReportsAreBoundedAtCommit : DistanceFunction → Type 0
 ReportsAreBoundedAtCommit d =
     (limit : ℕ) (h : Schedule) (q : ℕ) (read_before : List Operation) (part : ℕ) → IsReport d limit h q read_before part
-    → (later : List Entry) → IsLegal d (along h later) → IsTrue (is_committed_query (along h later) q)
-    → (distance_of_reads d h (read_before ++ reads_in later q) (state (along h later) (updates_of (along h later) q))
-    ≤ part + import_in (charges_in d (along h later)) q)
-    × (part + import_in (charges_in d (along h later)) q ≤ limit)
+    → (later : List Entry) → IsLegal d (continued h later) → IsTrue (is_committed_query (continued h later) q)
+    → (distance_of_reads d h (read_before ++ reads_in later q) (state (continued h later) (updates_committed_before (continued h later) q))
+    ≤ part + import_in (charges_in d (continued h later)) q)
+    × (part + import_in (charges_in d (continued h later)) q ≤ limit)
 
 -- The laws, as statements.
 abbrev pub LawOfActiveQueries : Type 0

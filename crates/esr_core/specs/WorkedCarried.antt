@@ -2,7 +2,7 @@
 use Rattle.std.specs.Prelude.{◌≡◌, pos, [], ◌∷◌, false, refl, map}
 use Rattle.esr_core.specs.Types.{BeginUpdate, BeginQuery, Read, Write, Commit, Begun, Value, Wrote, Committed, Refused, BlockedByImport}
 use Rattle.esr_history.specs.Machine.{Schedule, charges_in, import_in}
-use Rattle.esr_history.specs.Worked.{plain, started_from, played, replies, txn, item}
+use Rattle.esr_history.specs.WorkedExamples.{plain, started_from, played, replies, txn, item}
 use Rattle.esr_core.specs.Carried.{new_number, open_charges, settled, carried}
 
 -- The report (1) reads item 0, and an update (2) writes that by 3 and commits. Another (3) writes item 1 by 7, then the

@@ -4,4 +4,4 @@ pub mod Calling
 pub mod Pieced
 pub mod Tasks
 pub mod Texts
-pub mod Worked
+pub mod WorkedExamples

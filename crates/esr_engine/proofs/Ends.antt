@@ -6,7 +6,7 @@ use Rattle.std.proofs.lemmas.List.{take-append-le}
 use Rattle.esr_order.specs.Index.{Indexed, IsIndexOf}
 use Rattle.esr_order.specs.AccessRows.{AreRowsOf}
 use Rattle.esr_order.specs.Scans.{commit_in}
-use Rattle.esr_history.specs.BackLinks.{accepted_end, ender, is_key, places_from, last_place}
+use Rattle.esr_history.specs.BackLinks.{ended_txn, ender, is_some_eq, places_from, last_place}
 use Rattle.esr_history.specs.declared.event.Event.{Event}
 use Rattle.esr_history.specs.declared.event.Entry.{Entry}
 use Rattle.esr_history.specs.declared.event.Event.TheVariants.{BeginUpdate, BeginQuery, Read, Write, Commit, Abort}
@@ -36,12 +36,12 @@ place_ended : (t n : ℕ) (o : Option ℕ) (rest : List ℕ) (later : List Event
 place_ended t n o rest later some same true = some ∙ sym (or_true (is_some o))
 place_ended t n o rest later some same false = same
 
-places_ended : (t : ℕ) (o : Option ℕ) (n : ℕ) (es : List Entry) → is_some (last_or o (places_from accepted_end t n es)) ≡ (is_some o || ended_in t (accepted es))
+places_ended : (t : ℕ) (o : Option ℕ) (n : ℕ) (es : List Entry) → is_some (last_or o (places_from ended_txn t n es)) ≡ (is_some o || ended_in t (accepted es))
 places_ended t o n [] = sym (or_false (is_some o))
-places_ended t o n (e ∷ es) = at (is_refusal e.reply) e.event (places_from accepted_end t (n + 1) es) (places_ended t (Some n) (n + 1) es) (places_ended t o (n + 1) es)
+places_ended t o n (e ∷ es) = at (is_refusal e.reply) e.event (places_from ended_txn t (n + 1) es) (places_ended t (Some n) (n + 1) es) (places_ended t o (n + 1) es)
   where
     at : (b : Bool) (ev : Event) (rest : List ℕ) → is_some (last_or (Some n) rest) ≡ true → is_some (last_or o rest) ≡ (is_some o || ended_in t (accepted es))
-        → is_some (last_or o (if is_key (if b then None else ender ev) t then n ∷ rest else rest)) ≡ (is_some o || ended_in t (map (λ (m : Entry). m.event) (if not b then record { event = ev; reply = e.reply } ∷ filter (λ (m : Entry). not (is_refusal m.reply)) es else filter (λ (m : Entry). not (is_refusal m.reply)) es)))
+        → is_some (last_or o (if is_some_eq (if b then None else ender ev) t then n ∷ rest else rest)) ≡ (is_some o || ended_in t (map (λ (m : Entry). m.event) (if not b then record { event = ev; reply = e.reply } ∷ filter (λ (m : Entry). not (is_refusal m.reply)) es else filter (λ (m : Entry). not (is_refusal m.reply)) es)))
     at true ev rest some same = same
     at false (Commit u) rest some same =
         place_ended t n o rest (accepted es) some same (u.0 == t) ∙ ap (λ b. is_some o || b) (grouped (u.0 == t) (list_any (commits t) (accepted es)) (list_any (aborts t) (accepted es)))
@@ -53,7 +53,7 @@ places_ended t o n (e ∷ es) = at (is_refusal e.reply) e.event (places_from acc
     at false (Write u x v) rest some same = same
 
 -- a transaction is active that has begun, and has no end
-pub active_is : (es : List Entry) (t : ℕ) → is_active (accepted es) t ≡ (is_begun (accepted es) t && not (is_some (last_place accepted_end t es)))
+pub active_is : (es : List Entry) (t : ℕ) → is_active (accepted es) t ≡ (is_begun (accepted es) t && not (is_some (last_place ended_txn t es)))
 active_is es t =
     ap (λ b. is_begun (accepted es) t && b) (neither (is_committed (accepted es) t) (is_aborted (accepted es) t))
     ∙ ap (λ b. is_begun (accepted es) t && not b) (sym (places_ended t None 0 es))

@@ -4,4 +4,4 @@ pub mod Capacity
 pub mod Accounts
 pub mod Statuses
 pub mod ForUpdate
-pub mod Worked
+pub mod WorkedExamples

@@ -6,7 +6,7 @@
 ghost use Rattle.std.specs.Prelude.{◌≡◌, ◌↔◌, true, List, IfOk, OnOk, OnErr, IsErrOf};
 ghost use Rattle.esr_items.specs.Weights.{weighted};
 ghost use Rattle.esr_history.specs.declared.event.Entry.{Entry};
-ghost use Rattle.esr_history.specs.Legal.{along};
+ghost use Rattle.esr_history.specs.Legal.{continued};
 ghost use Rattle.esr_history.specs.Machine.{IsLegal};
 ghost use Rattle.esr_core.specs.Renewed.{AreSerializableAsOne, committed_values, has_active, renewed};
 
@@ -34,8 +34,8 @@ impl EmbeddedEngine {
     /// both cases nothing has changed.
     pub fn renew(&mut self, alloc: Global) -> Result<(), RenewError>
         ensures ok { OnOk result (self.new ≡ renewed self.old self.old.weights) }
-        ensures serializable { OnOk result ((later : List Entry) → IsLegal weighted (along self.new later)
-            → AreSerializableAsOne self.old (along self.new later)) }
+        ensures serializable { OnOk result ((later : List Entry) → IsLegal weighted (continued self.new later)
+            → AreSerializableAsOne self.old (continued self.new later)) }
         ensures active { IsErrOf result RenewError.TransactionActive ↔ (has_active self.old ≡ true) }
         ensures err { OnErr result (self.new ≡ self.old) }
     {
@@ -56,8 +56,8 @@ impl EmbeddedEngine {
     /// `NoMemory` if an allocation failed. Then nothing has changed, and active transactions stay active.
     pub fn renew_aborting(&mut self, alloc: Global) -> Result<(), NoMemory>
         ensures ok { OnOk result (self.new ≡ renewed self.old self.old.weights) }
-        ensures serializable { OnOk result ((later : List Entry) → IsLegal weighted (along self.new later)
-            → AreSerializableAsOne self.old (along self.new later)) }
+        ensures serializable { OnOk result ((later : List Entry) → IsLegal weighted (continued self.new later)
+            → AreSerializableAsOne self.old (continued self.new later)) }
         ensures err { OnErr result (self.new ≡ self.old) }
     {
         if self.active == 0 {
@@ -72,8 +72,8 @@ impl EmbeddedEngine {
     /// Replaces this engine by a new one over the committed values.
     fn restart(&mut self, alloc: Global) -> Result<(), NoMemory>
         ensures ok { OnOk result (self.new ≡ renewed self.old self.old.weights) }
-        ensures serializable { OnOk result ((later : List Entry) → IsLegal weighted (along self.new later)
-            → AreSerializableAsOne self.old (along self.new later)) }
+        ensures serializable { OnOk result ((later : List Entry) → IsLegal weighted (continued self.new later)
+            → AreSerializableAsOne self.old (continued self.new later)) }
         ensures err { OnErr result (self.new ≡ self.old) }
     {
         let _invariant = self.machine.log(); // brings the invariant into the proof

@@ -19,7 +19,7 @@ use std::alloc::{AllocError, Global};
 
 /// The operations that charge a query: its own reads, and writes of items that it has read.
 #[derive(Clone, Copy)]
-pub enum Operation {
+pub enum OperationKind {
     Read,
     Write,
 }
@@ -27,7 +27,7 @@ pub enum Operation {
 /// An operation on an item, and the update that it meets there.
 #[derive(Clone, Copy)]
 pub struct Conflict {
-    pub operation: Operation,
+    pub operation: OperationKind,
     pub update: TxnId,
     pub item: ItemId,
 }
@@ -55,12 +55,12 @@ pub fn name_of_item(items: &Names, x: ItemId) -> &str
 }
 
 /// Returns the first words of the line of a charge.
-fn charge_keyword(operation: Operation) -> &'static str
+fn charge_keyword(operation: OperationKind) -> &'static str
     ensures { result.now ≡ charge_keyword operation }
 {
     match operation {
-        Operation::Read => "charge read",
-        Operation::Write => "charge write",
+        OperationKind::Read => "charge read",
+        OperationKind::Write => "charge write",
     }
 }
 
@@ -143,7 +143,7 @@ fn conflict_of(machine: &Machine<MetricRef<'_, Weighted>>, event: Event) -> Opti
             }
             match machine.writer(item) {
                 Some(update) => Some(Conflict {
-                    operation: Operation::Read,
+                    operation: OperationKind::Read,
                     update,
                     item,
                 }),
@@ -155,7 +155,7 @@ fn conflict_of(machine: &Machine<MetricRef<'_, Weighted>>, event: Event) -> Opti
             item,
             value: _,
         } => Some(Conflict {
-            operation: Operation::Write,
+            operation: OperationKind::Write,
             update: txn,
             item,
         }),

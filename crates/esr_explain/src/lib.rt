@@ -12,7 +12,7 @@ mod reads;
 mod text;
 mod updates_outside;
 
-pub use charges::{Charge, Operation, name_of_item};
+pub use charges::{Charge, OperationKind, name_of_item};
 pub use explained::Explanation;
 pub use query::Explaining;
 pub use reads::ComparedRead;

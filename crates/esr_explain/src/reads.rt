@@ -17,8 +17,8 @@ use std::alloc::{AllocError, Global};
 pub struct ComparedRead {
     pub item: ItemId,
     pub value: i64,
-    pub nearest: i64,
-    pub off: u64,
+    pub nearest_value: i64,
+    pub distance: u64,
 }
 
 /// Returns the value of an item among the values of all.
@@ -29,16 +29,16 @@ fn value_of(values: &[i64], x: ItemId) -> i64
 }
 
 /// Compares a read with the value of its item at the nearest placement.
-fn compared_read(metric: &Weighted, read: Access, nearest: i64) -> ComparedRead
+fn compared_read(metric: &Weighted, read: Access, nearest_value: i64) -> ComparedRead
     requires read { IsValue read.value }
-    requires nearest { IsValue nearest }
-    ensures { result ≡ compared_read (weighted metric.now) read.item read.value nearest }
+    requires nearest_value { IsValue nearest_value }
+    ensures { result ≡ compared_read (weighted metric.now) read.item read.value nearest_value }
 {
     ComparedRead {
         item: read.item,
         value: read.value,
-        nearest,
-        off: metric.distance(read.item, read.value, nearest),
+        nearest_value,
+        distance: metric.distance(read.item, read.value, nearest_value),
     }
 }
 
@@ -57,8 +57,8 @@ fn compare_all(
     let mut reads = Vec::new(alloc);
     for access in accesses {
         if !access.writes {
-            let nearest = value_of(values, access.item);
-            reads.push(compared_read(metric, *access, nearest))?;
+            let nearest_value = value_of(values, access.item);
+            reads.push(compared_read(metric, *access, nearest_value))?;
         }
     }
     Ok(reads)
@@ -85,8 +85,8 @@ fn named_read_line(out: &mut Vec<u8>, item: &str, read: ComparedRead) -> Result<
     ensures { OnOk result (out.new.items ≡ out.old.items ++ named_read_line item.now read) }
 {
     let mut value = itoa::Buffer::new();
-    let mut nearest = itoa::Buffer::new();
-    let mut off = itoa::Buffer::new();
+    let mut nearest_value = itoa::Buffer::new();
+    let mut distance = itoa::Buffer::new();
     push_line(
         out,
         "read",
@@ -94,9 +94,9 @@ fn named_read_line(out: &mut Vec<u8>, item: &str, read: ComparedRead) -> Result<
             item,
             value.format(read.value),
             "nearest",
-            nearest.format(read.nearest),
+            nearest_value.format(read.nearest_value),
             "off",
-            off.format(read.off),
+            distance.format(read.distance),
         ],
     )
 }

@@ -2,7 +2,7 @@
 ghost use Rattle.std.specs.Prelude.{◌≡◌, ◌++◌, IfOk, OnOk, map};
 ghost use Rattle.esr_items.specs.Weights.{weighted};
 ghost use Rattle.esr_audit.specs.Findings.{summary, summary_of};
-ghost use Rattle.esr_explain.specs.Explain.{explanation, explanation_lines, sums_line};
+ghost use Rattle.esr_explain.specs.Explain.{explanation, explanation_lines, distance_and_import_line};
 
 use crate::charges::push_charges;
 use crate::explained::Explanation;
@@ -14,8 +14,8 @@ use esr_report::{Names, names_line, push_line};
 use std::alloc::{AllocError, Global};
 
 /// Appends the line of the distance and of the import.
-fn sums_line(out: &mut Vec<u8>, distance: u64, import: u64) -> Result<(), AllocError>
-    ensures { OnOk result (out.new.items ≡ out.old.items ++ sums_line distance import) }
+fn distance_and_import_line(out: &mut Vec<u8>, distance: u64, import: u64) -> Result<(), AllocError>
+    ensures { OnOk result (out.new.items ≡ out.old.items ++ distance_and_import_line distance import) }
 {
     let mut distance_digits = itoa::Buffer::new();
     let mut import_digits = itoa::Buffer::new();
@@ -43,7 +43,7 @@ fn text_of(
     push_charges(&mut out, items, transactions, &explained.charges)?;
     names_line(&mut out, "before", transactions, explained.before)?;
     names_line(&mut out, "after", transactions, &explained.after)?;
-    sums_line(&mut out, explained.distance, explained.import)?;
+    distance_and_import_line(&mut out, explained.distance, explained.import)?;
     Ok(out)
 }
 

@@ -7,7 +7,7 @@ use Rattle.std.proofs.lemmas.Bool.{cases_Bool, cases_lt, leb-false, leb-true}
 use Rattle.std.proofs.lemmas.List.Sorted.{IsNonDecreasingBy-from_sort, length_permutation, sum_by-IsPermutation}
 use Rattle.std.proofs.lemmas.List.Sums.{sum_by-cons}
 use Rattle.esr_explore.specs.Columns.{ascending, median, placed}
-use Rattle.esr_explore.specs.Sizes.{greatest}
+use Rattle.esr_explore.specs.Severity.{greatest}
 
 -- no number of the list is below this one
 abbrev pub AtLeast : ℕ → List ℕ → Type 0

@@ -5,7 +5,7 @@ use Rattle.std.proofs.lemmas.Bool.Decides.{nat_tests}
 use Rattle.std.proofs.lemmas.List.{get_or_append_left, get_or_push, length-map, length_push, map_more}
 use Rattle.std.proofs.lemmas.List.Recursion.{max_bounds, max_push}
 use Rattle.std.proofs.lemmas.List.Sums.{position_or_len_is}
-use Rattle.esr_explore.specs.Sizes.{first_greatest, greatest}
+use Rattle.esr_explore.specs.Severity.{first_greatest, greatest}
 
 pub greatest_push : (ns : List ℕ) (n : ℕ) → greatest (ns ++ n ∷ []) ≡ max (greatest ns) n
 greatest_push ns n = max_push greatest (λ x. x) refl (λ _ _. refl) ns n

@@ -4,7 +4,7 @@ pub mod Turns
 pub mod Summaries
 pub mod Searches
 pub mod Queries
-pub mod Sizes
+pub mod Severity
 pub mod Columns
 pub mod Report
-pub mod Worked
+pub mod WorkedExamples

@@ -5,7 +5,7 @@ use Rattle.esr_explore.specs.declared.run_summary.RunSummary.{RunSummary}
 use Rattle.esr_explore.specs.declared.summary.Column.TheVariants.{Blocked, Import, Distance}
 use Rattle.esr_explore.specs.Columns.{runs_given_up, median, numbers_of}
 use Rattle.esr_explore.specs.Queries.{BegunQuery}
-use Rattle.esr_explore.specs.Sizes.{greatest}
+use Rattle.esr_explore.specs.Severity.{greatest}
 
 -- a word and a number
 abbrev pub count_text : List ℕ → ℕ → List ℕ

@@ -9,12 +9,12 @@ use Rattle.esr_plan.specs.declared.call.Call.{Call}
 use Rattle.esr_explore.specs.declared.query.Query.{Query}
 use Rattle.esr_explore.specs.declared.run_summary.QueryOutcome.{QueryOutcome}
 use Rattle.esr_explore.specs.declared.run_summary.RunSummary.{RunSummary}
-use Rattle.esr_explore.specs.Turns.{IsRun, RunnerView, Stage, new_runner, is_blocked}
+use Rattle.esr_explore.specs.Turns.{IsRun, BlockProgressView, Stage, no_progress, is_blocked}
 
 -- the number that the begin at a place of a block got
-abbrev pub number_of : List RunnerView → ℕ → ℕ → ℕ
+abbrev pub number_of : List BlockProgressView → ℕ → ℕ → ℕ
 number_of runners block place =
-    unwrap_or (option_and_then number_in (slice_get (slice_index_or runners block new_runner).replies place)) 0
+    unwrap_or (option_and_then number_in (slice_get (slice_index_or runners block no_progress).replies place)) 0
 
 -- a committed query's import, and its distance as audits find it; nothing of another transaction
 abbrev pub IsOutcome : Schedule → ℕ → Option QueryOutcome → Type 0
@@ -22,14 +22,14 @@ IsOutcome h number None = is_committed_query h number ≡ false
 IsOutcome h number (Some outcomes) = (before : List ℕ) × IsAnswer weighted h number outcomes.distance outcomes.import before
 
 -- query by query
-abbrev pub AreOutcomes : Schedule → List RunnerView → List Query → List (Option QueryOutcome) → Type 0
+abbrev pub AreOutcomes : Schedule → List BlockProgressView → List Query → List (Option QueryOutcome) → Type 0
 AreOutcomes h runners [] [] = Unit {0}
 AreOutcomes h runners (q ∷ queries) (outcomes ∷ more) = IsOutcome h (number_of runners q.block q.place) outcomes × AreOutcomes h runners queries more
 AreOutcomes h runners _ _ = ⊥
 
 -- the number of lines of a block that were given up: their last reply is that they are blocked
-abbrev pub given_up_in : RunnerView → ℕ
-given_up_in runner = count_by is_blocked runner.replies
+abbrev pub given_up_in : BlockProgressView → ℕ
+given_up_in progress = count_by is_blocked progress.replies
 
 -- the summary of a run that ended so
 pub record IsSummaryOf (end : Stage) (queries : List Query) (run_summary : RunSummary) : Type 0 where

@@ -17,32 +17,32 @@ is_blocked _ = false
 
 -- a running block: the last replies to its lines, the number of tries of the next line, and the number of times that
 -- a line was blocked
-pub record RunnerView : Type 0 where
+pub record BlockProgressView : Type 0 where
   pub replies : List Reply
   pub tries : ℕ
   pub blocked : ℕ
 
-abbrev pub new_runner : RunnerView
-new_runner = record { replies = []; tries = 0; blocked = 0 }
+abbrev pub no_progress : BlockProgressView
+no_progress = record { replies = []; tries = 0; blocked = 0 }
 
 -- a number as a counter of 64 bits holds it
-abbrev pub capped : ℕ → ℕ
-capped n = min n (2 ^ 64 - 1)
+abbrev pub saturated_u64 : ℕ → ℕ
+saturated_u64 n = min n (2 ^ 64 - 1)
 
 -- whether the line is retried: it was blocked, and tried fewer than 100 times
-abbrev pub is_retried : Reply → RunnerView → Bool
+abbrev pub is_retried : Reply → BlockProgressView → Bool
 is_retried reply s = is_blocked reply && nat_lt (s.tries + 1) 100
 
 -- the block after a reply to its next line
-abbrev pub with_reply : Reply → RunnerView → RunnerView
+abbrev pub with_reply : Reply → BlockProgressView → BlockProgressView
 with_reply reply s = record {
   replies = cond (is_retried reply s) s.replies (s.replies ++ reply ∷ []);
   tries = cond (is_retried reply s) (s.tries + 1) 0;
-  blocked = cond (is_blocked reply) (capped (s.blocked + 1)) s.blocked;
+  blocked = cond (is_blocked reply) (saturated_u64 (s.blocked + 1)) s.blocked;
 }
 
 -- the event of the next line, if one is left
-abbrev pub next_event : List Call → RunnerView → Option Event
+abbrev pub next_event : List Call → BlockProgressView → Option Event
 next_event calls s = option_map (event_by s.replies) (slice_get calls (length s.replies))
 
 -- the history and the block after its turn
@@ -50,19 +50,19 @@ abbrev pub history_after : Option Event → Schedule → Schedule
 history_after None h = h
 history_after (Some e) h = extended h e (reply_to weighted h e)
 
-abbrev pub runner_after : Option Event → Schedule → RunnerView → RunnerView
+abbrev pub runner_after : Option Event → Schedule → BlockProgressView → BlockProgressView
 runner_after None h s = s
 runner_after (Some e) h s = with_reply (reply_to weighted h e) s
 
 -- all blocks, and the history that they make
 pub record Stage : Type 0 where
   pub history : Schedule
-  pub blocks : List RunnerView
+  pub blocks : List BlockProgressView
 
-abbrev pub stage : Schedule → List RunnerView → Stage
+abbrev pub stage : Schedule → List BlockProgressView → Stage
 stage h runners = record { history = h; blocks = runners }
 
-abbrev pub turn_of : List Call → ℕ → Stage → Option RunnerView → Stage
+abbrev pub turn_of : List Call → ℕ → Stage → Option BlockProgressView → Stage
 turn_of calls block before None = before
 turn_of calls block before (Some s) = record {
   history = history_after (next_event calls s) before.history;
@@ -75,17 +75,17 @@ turn blocks before block = turn_of (slice_index_or blocks block []) block before
 
 abbrev pub begun : List ℤ → List ℕ → List (List Call) → Stage
 begun opening weights blocks =
-    record { history = schedule_of opening weights []; blocks = map (λ _. new_runner) (range_with_len 0 (length blocks)) }
+    record { history = schedule_of opening weights []; blocks = map (λ _. no_progress) (range_with_len 0 (length blocks)) }
 
 -- these turns, one after another
 abbrev pub turns : List (List Call) → Stage → List ℕ → Stage
 turns blocks before order = fold (turn blocks) before order
 
 -- no block has a line left
-abbrev pub AreDone : List (List Call) → List RunnerView → Type 0
+abbrev pub AreDone : List (List Call) → List BlockProgressView → Type 0
 AreDone blocks runners =
     (length runners ≡ length blocks)
-    × ((k : ℕ) → k < length blocks → length (slice_index_or runners k new_runner).replies ≡ length (slice_index_or blocks k []))
+    × ((k : ℕ) → k < length blocks → length (slice_index_or runners k no_progress).replies ≡ length (slice_index_or blocks k []))
 
 -- The result of a run in which the blocks took their turns in this order, and then in some other until no block had a
 -- line left.

@@ -16,11 +16,11 @@ mod draws;
 mod measure;
 mod orders;
 mod pipeline;
+mod progress;
 mod query;
 mod report;
 mod run;
 mod run_summary;
-mod runner;
 mod summary;
 mod ways;
 

@@ -19,12 +19,12 @@ ghost use Rattle.esr_plan.specs.DrivePlans.{IsSound};
 use crate::count::count_orders;
 use crate::draws::draw_order;
 use crate::measure::Measure;
+use crate::progress::BlockProgress;
 use crate::query::{Query, queries_of};
 use crate::report::{push_blocks, push_head, push_queries};
 use crate::run::{Run, run_order};
 use crate::run_summary::{RunSummary, summarize};
-use crate::runner::Runner;
-use crate::summary::worst_of;
+use crate::summary::worst_run;
 use crate::ways::{ExploreFault, Ways, all_ways, line_counts};
 use esr_dump::named_script;
 use esr_history::{Reply, Watched};
@@ -223,12 +223,12 @@ fn report_of(
 }
 
 /// Returns the replies of each block.
-fn replies_of(alloc: Global, runners: Vec<Runner>) -> Result<Vec<Vec<Reply>>, AllocError>
+fn replies_of(alloc: Global, runners: Vec<BlockProgress>) -> Result<Vec<Vec<Reply>>, AllocError>
     ensures { IfOk result (λ replies. map (λ r. r.items) replies.items ≡ map (λ r. r.replies) runners.items) }
 {
     let mut replies = Vec::new(alloc);
-    for runner in runners {
-        replies.push(runner.into_replies())?;
+    for progress in runners {
+        replies.push(progress.into_replies())?;
     }
     Ok(replies)
 }
@@ -272,7 +272,7 @@ fn text_of(
     match search.worst {
         None => Ok(report_of(alloc, &queries, &summaries, &counts)?),
         Some(measure) => {
-            let order = ways.order(alloc, &counts, worst_of(&summaries, measure))?;
+            let order = ways.order(alloc, &counts, worst_run(&summaries, measure))?;
             Ok(script_of(alloc, drive_plan, run_order(alloc, drive_plan, &order)?)?)
         }
     }

@@ -7,7 +7,7 @@ ghost use Rattle.esr_explore.specs.Report.{block_line, count_text, head_line, qu
 
 use crate::query::Query;
 use crate::run_summary::RunSummary;
-use crate::summary::{Column, gather, max_and_median, runs_given_up};
+use crate::summary::{Column, column_values, max_and_median, runs_given_up};
 use std::alloc::{AllocError, Global};
 
 /// Appends a text.
@@ -67,7 +67,7 @@ fn push_block(
 ) -> Result<(), AllocError>
     ensures { OnOk result (out.new.items ≡ out.old.items ++ block_line summaries.now block) }
 {
-    let blocked = gather(alloc, summaries, Column::Blocked(block))?;
+    let blocked = column_values(alloc, summaries, Column::Blocked(block))?;
     push_count(out, "session ", block as u64)?;
     push_max_and_median(out, " blocked", blocked)?;
     push_count(out, " gave up ", runs_given_up(summaries, block))?;
@@ -102,8 +102,8 @@ fn push_query(
     ensures { OnOk result (out.new.items
         ≡ out.old.items ++ query_line summaries.now (place, begun_query query.entry)) }
 {
-    let imports = gather(alloc, summaries, Column::Import(place))?;
-    let distances = gather(alloc, summaries, Column::Distance(place))?;
+    let imports = column_values(alloc, summaries, Column::Import(place))?;
+    let distances = column_values(alloc, summaries, Column::Distance(place))?;
     push_text(out, "query ")?;
     push_text(out, query.name)?;
     push_count(out, " committed ", imports.len() as u64)?;

@@ -11,9 +11,9 @@ ghost use Rattle.esr_base.specs.declared.limits.TheConstants.{MAX_ENTRIES};
 ghost use Rattle.esr_history.specs.Machine.{IsLegal};
 ghost use Rattle.esr_plan.specs.Plan.{weights_of};
 ghost use Rattle.esr_plan.specs.DrivePlans.{IsSound};
-ghost use Rattle.esr_explore.specs.Turns.{AreDone, IsRun, begun, new_runner, history_after, runner_after, next_event, stage, turn, turns};
+ghost use Rattle.esr_explore.specs.Turns.{AreDone, IsRun, begun, no_progress, history_after, runner_after, next_event, stage, turn, turns};
 
-use crate::runner::Runner;
+use crate::progress::BlockProgress;
 use esr_core::{Machine, StepError};
 use esr_history::{Event, History};
 use esr_items::{Store, Weighted};
@@ -24,14 +24,14 @@ use std::alloc::{AllocError, Global};
 #[derive(Drop)]
 pub struct Run {
     pub history: History<Weighted>,
-    pub runners: Vec<Runner>,
+    pub runners: Vec<BlockProgress>,
 }
 
 /// Returns the event of the next line of a block, if one is left.
-fn next_event(calls: &[Call<'_>], runner: &Runner) -> Option<Event>
-    ensures { result ≡ next_event calls.now runner.now }
+fn next_event(calls: &[Call<'_>], progress: &BlockProgress) -> Option<Event>
+    ensures { result ≡ next_event calls.now progress.now }
 {
-    let replies = runner.replies();
+    let replies = progress.replies();
     match calls.get(replies.len()) {
         Some(call) => Some(event_of(replies, *call)),
         None => None,
@@ -42,17 +42,17 @@ fn next_event(calls: &[Call<'_>], runner: &Runner) -> Option<Event>
 fn take_turn(
     machine: &mut Machine<Weighted>,
     calls: &[Call<'_>],
-    runner: &mut Runner,
+    progress: &mut BlockProgress,
 ) -> Result<(), StepError>
-    ensures machine { OnOk result (machine.new ≡ history_after (next_event calls.now runner.old) machine.old) }
-    ensures runner { OnOk result
-        (runner.new ≡ runner_after (next_event calls.now runner.old) machine.old runner.old) }
+    ensures machine { OnOk result (machine.new ≡ history_after (next_event calls.now progress.old) machine.old) }
+    ensures progress { OnOk result
+        (progress.new ≡ runner_after (next_event calls.now progress.old) machine.old progress.old) }
 {
-    let Some(event) = next_event(calls, runner) else {
+    let Some(event) = next_event(calls, progress) else {
         return Ok(());
     };
     match machine.step(event) {
-        Ok(reply) => match runner.add_reply(reply) {
+        Ok(reply) => match progress.add_reply(reply) {
             Ok(()) => Ok(()),
             Err(_) => Err(StepError::NoMemory),
         },
@@ -64,7 +64,7 @@ fn take_turn(
 fn turn(
     machine: &mut Machine<Weighted>,
     blocks: &[Vec<Call<'_>>],
-    runners: &mut Vec<Runner>,
+    runners: &mut Vec<BlockProgress>,
     block: usize,
 ) -> Result<(), StepError>
     requires { length runners.old.items ≤ length blocks.now }
@@ -82,7 +82,7 @@ fn turn(
 fn take_turns(
     machine: &mut Machine<Weighted>,
     blocks: &[Vec<Call<'_>>],
-    runners: &mut Vec<Runner>,
+    runners: &mut Vec<BlockProgress>,
     order: &[u8],
 ) -> Result<(), StepError>
     requires { length runners.old.items ≤ length blocks.now }
@@ -97,21 +97,25 @@ fn take_turns(
 }
 
 /// Creates the runners of blocks, before their first lines.
-fn new_runners(alloc: Global, count: usize) -> Result<Vec<Runner>, AllocError>
-    ensures { IfOk result (λ runners. runners.items ≡ map (λ _. new_runner) (range_with_len 0 count)) }
+fn new_runners(alloc: Global, count: usize) -> Result<Vec<BlockProgress>, AllocError>
+    ensures { IfOk result (λ runners. runners.items ≡ map (λ _. no_progress) (range_with_len 0 count)) }
 {
     let mut runners = Vec::new(alloc);
     for _block in 0..count {
-        runners.push(Runner::new(alloc))?;
+        runners.push(BlockProgress::new(alloc))?;
     }
     Ok(runners)
 }
 
 /// Returns the first block with a line left, from a number on.
-fn find_unfinished(blocks: &[Vec<Call<'_>>], runners: &[Runner], from: usize) -> Option<usize>
+fn find_unfinished(
+    blocks: &[Vec<Call<'_>>],
+    runners: &[BlockProgress],
+    from: usize,
+) -> Option<usize>
     requires { length runners.now ≡ length blocks.now }
     ensures { IfNone result ((k : ℕ) → from ≤ k → k < length blocks.now
-        → length (slice_index_or runners.now k new_runner).replies
+        → length (slice_index_or runners.now k no_progress).replies
         ≡ length (slice_index_or (map (λ b. b.items) blocks.now) k [])) }
 {
     for block in from..runners.len() {
@@ -124,7 +128,7 @@ fn find_unfinished(blocks: &[Vec<Call<'_>>], runners: &[Runner], from: usize) ->
 
 /// Returns the block with the next turn of a round: the first with a line left, from a number on, or else the first
 /// of all.
-fn next_in_round(blocks: &[Vec<Call<'_>>], runners: &[Runner], from: usize) -> Option<usize>
+fn next_in_round(blocks: &[Vec<Call<'_>>], runners: &[BlockProgress], from: usize) -> Option<usize>
     requires { length runners.now ≡ length blocks.now }
     ensures { IfNone result (AreDone (map (λ b. b.items) blocks.now) runners.now) }
 {
@@ -138,7 +142,7 @@ fn next_in_round(blocks: &[Vec<Call<'_>>], runners: &[Runner], from: usize) -> O
 fn finish(
     machine: &mut Machine<Weighted>,
     blocks: &[Vec<Call<'_>>],
-    runners: &mut Vec<Runner>,
+    runners: &mut Vec<BlockProgress>,
 ) -> Result<(), StepError>
     requires { length runners.old.items ≡ length blocks.now }
     ensures stage { OnOk result ((rest : List ℕ) × (stage machine.new runners.new.items

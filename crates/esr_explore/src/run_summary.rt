@@ -5,9 +5,9 @@ ghost use Rattle.std.specs.Prelude.{◌≡◌, IfOk, map};
 ghost use Rattle.esr_explore.specs.Turns.{stage};
 ghost use Rattle.esr_explore.specs.Summaries.{AreOutcomes, IsOutcome, IsSummaryOf, given_up_in, number_of};
 
+use crate::progress::{BlockProgress, is_blocked};
 use crate::query::Query;
 use crate::run::Run;
-use crate::runner::{Runner, is_blocked};
 use esr_audit::{AuditError, audit_query};
 use esr_history::{History, Reply, TxnId};
 use esr_items::Weighted;
@@ -32,13 +32,13 @@ pub struct RunSummary {
 }
 
 /// Returns the number of the transaction that a query's begin created, or 0 if it was refused.
-fn number_of(runners: &[Runner], query: Query<'_>) -> TxnId
+fn number_of(runners: &[BlockProgress], query: Query<'_>) -> TxnId
     ensures { result.0 ≡ number_of runners.now query.entry.block query.entry.place }
 {
-    let Some(runner) = runners.get(query.block) else {
+    let Some(progress) = runners.get(query.block) else {
         return TxnId(0);
     };
-    match runner.replies().get(query.place) {
+    match progress.replies().get(query.place) {
         Some(Reply::Begun(number)) => *number,
         _ => TxnId(0),
     }
@@ -79,31 +79,34 @@ fn all_outcomes(
 }
 
 /// Returns, for each block, the number of times that its lines were blocked.
-fn count_blocked(alloc: Global, runners: &[Runner]) -> Result<Vec<u64>, AllocError>
+fn count_blocked(alloc: Global, runners: &[BlockProgress]) -> Result<Vec<u64>, AllocError>
     ensures { IfOk result (λ v. v.items ≡ map (λ r. r.blocked) runners.now) }
 {
     let mut counts = Vec::new(alloc);
-    for runner in runners {
-        counts.push(runner.blocked_count())?;
+    for progress in runners {
+        counts.push(progress.blocked_count())?;
     }
     Ok(counts)
 }
 
 /// Returns how many lines of a block were given up: their last reply is that they are blocked.
-fn given_up_in(runner: &Runner) -> u64
-    ensures { result ≡ given_up_in runner.now }
+fn given_up_in(progress: &BlockProgress) -> u64
+    ensures { result ≡ given_up_in progress.now }
 {
-    let lost = runner.replies().iter().filter(|reply| is_blocked(**reply));
+    let lost = progress
+        .replies()
+        .iter()
+        .filter(|reply| is_blocked(**reply));
     lost.count() as u64
 }
 
 /// Returns how many lines of each block were given up.
-fn all_given_up(alloc: Global, runners: &[Runner]) -> Result<Vec<u64>, AllocError>
+fn all_given_up(alloc: Global, runners: &[BlockProgress]) -> Result<Vec<u64>, AllocError>
     ensures { IfOk result (λ v. v.items ≡ map given_up_in runners.now) }
 {
     let mut counts = Vec::new(alloc);
-    for runner in runners {
-        counts.push(given_up_in(runner))?;
+    for progress in runners {
+        counts.push(given_up_in(progress))?;
     }
     Ok(counts)
 }

@@ -3,14 +3,14 @@
 ghost use Rattle.std.specs.Prelude.{◌≡◌, ◌++◌, [], IfOk, OnOk, map, sum};
 ghost use Rattle.std.specs.List.{cons_option};
 ghost use Rattle.esr_explore.specs.Columns.{has_given_up, runs_given_up, median, number_in, numbers_of, outcome_at};
-ghost use Rattle.esr_explore.specs.Sizes.{amount_of, greatest, severity_of, worst_of};
-ghost use Rattle.esr_explore.specs.Turns.{capped};
+ghost use Rattle.esr_explore.specs.Severity.{amount_of, greatest, severity_of, worst_run};
+ghost use Rattle.esr_explore.specs.Turns.{saturated_u64};
 
 use crate::measure::Measure;
 use crate::run_summary::{QueryOutcome, RunSummary};
 use std::alloc::{AllocError, Global};
 
-/// The maximum of some numbers, and the one in the middle of them in ascending order.
+/// The maximum and the lower median of some numbers.
 #[derive(Clone, Copy)]
 pub struct MaxAndMedian {
     pub maximum: u64,
@@ -37,7 +37,7 @@ pub fn max_and_median(numbers: Vec<u64>) -> Result<MaxAndMedian, AllocError>
     })
 }
 
-/// A number that a run may have: how often a block was blocked, or the import or the distance of a query.
+/// A statistic of a run: how often a session was blocked, or the import or the distance of a query if it committed.
 #[derive(Clone, Copy)]
 pub enum Column {
     Blocked(usize),
@@ -52,12 +52,12 @@ fn outcome_at(run_summary: &RunSummary, query: usize) -> Option<QueryOutcome>
     run_summary.outcomes.get(query).copied().flatten()
 }
 
-/// Returns the number of a run in a column, if it has one.
+/// Returns the value of a run in a column, if it has one.
 fn number_in(run_summary: &RunSummary, column: Column) -> Option<u64>
     ensures { result ≡ number_in column run_summary.now }
 {
     match column {
-        Column::Blocked(block) => run_summary.blocked.get(block).copied(),
+        Column::Blocked(session) => run_summary.blocked.get(session).copied(),
         Column::Import(query) => match outcome_at(run_summary, query) {
             Some(outcome) => Some(outcome.import),
             None => None,
@@ -81,7 +81,7 @@ fn push_some(numbers: &mut Vec<u64>, number: Option<u64>) -> Result<(), AllocErr
 }
 
 /// Returns the numbers of a column, of the runs that have one.
-pub fn gather(
+pub fn column_values(
     alloc: Global,
     summaries: &[RunSummary],
     column: Column,
@@ -96,19 +96,19 @@ pub fn gather(
 }
 
 /// Returns whether a line of the block was given up.
-fn has_given_up(run_summary: &RunSummary, block: usize) -> bool
-    ensures { result ≡ has_given_up block run_summary.now }
+fn has_given_up(run_summary: &RunSummary, session: usize) -> bool
+    ensures { result ≡ has_given_up session run_summary.now }
 {
-    run_summary.given_up.get(block).copied().unwrap_or(0) > 0
+    run_summary.given_up.get(session).copied().unwrap_or(0) > 0
 }
 
 /// Returns in how many runs a line of the block was given up.
-pub fn runs_given_up(summaries: &[RunSummary], block: usize) -> u64
-    ensures { result ≡ runs_given_up block summaries.now }
+pub fn runs_given_up(summaries: &[RunSummary], session: usize) -> u64
+    ensures { result ≡ runs_given_up session summaries.now }
 {
     let runs = summaries
         .iter()
-        .filter(|run_summary| has_given_up(*run_summary, block));
+        .filter(|run_summary| has_given_up(*run_summary, session));
     runs.count() as u64
 }
 
@@ -139,7 +139,7 @@ fn greatest(outcomes: &[Option<QueryOutcome>], measure: Measure) -> u64
 
 /// Returns the sum of some counts, at most the maximum of 64 bits.
 fn sum_of(counts: &[u64]) -> u64
-    ensures { result ≡ capped (sum counts.now) }
+    ensures { result ≡ saturated_u64 (sum counts.now) }
 {
     let mut sum = 0u64;
     for count in counts {
@@ -148,7 +148,7 @@ fn sum_of(counts: &[u64]) -> u64
     sum
 }
 
-/// Returns how bad a run is by a measure.
+/// Returns the severity of a run by a measure.
 fn severity_of(run_summary: &RunSummary, measure: Measure) -> u64
     ensures { result ≡ severity_of measure run_summary.now }
 {
@@ -158,16 +158,16 @@ fn severity_of(run_summary: &RunSummary, measure: Measure) -> u64
     }
 }
 
-/// Returns the number of the first run whose size is the maximum over the runs.
-pub fn worst_of(summaries: &[RunSummary], measure: Measure) -> u64
-    ensures { result ≡ worst_of measure summaries.now }
+/// Returns the index of the first run of the greatest severity, 0 if there are no runs.
+pub fn worst_run(summaries: &[RunSummary], measure: Measure) -> u64
+    ensures { result ≡ worst_run measure summaries.now }
 {
     let mut worst = 0u64;
-    let mut upper_bound = 0u64;
+    let mut greatest_severity = 0u64;
     for i in 0..summaries.len() {
-        let size = severity_of(&summaries[i], measure);
-        if size > upper_bound {
-            upper_bound = size;
+        let severity = severity_of(&summaries[i], measure);
+        if severity > greatest_severity {
+            greatest_severity = severity;
             worst = i as u64;
         }
     }

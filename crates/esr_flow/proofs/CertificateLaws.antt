@@ -7,7 +7,7 @@ use Rattle.std.proofs.lemmas.List.Folds.{concat-append}
 use Rattle.std.proofs.lemmas.List.Sums.{sum_by-cons, sum_by-append}
 use Rattle.esr_flow.specs.Types.{Arc}
 use Rattle.esr_cert.specs.declared.problem.Chain as code
-use Rattle.esr_cert.specs.Problem.{Chain, Problem, size, in_set, is_ascending, cost, IsSmallestLeast}
+use Rattle.esr_cert.specs.Problem.{Chain, Problem, update_count, in_set, is_ascending, cost, IsSmallestLeastCostSet}
 use Rattle.esr_cert.specs.Network.{path_arcs, arcs_of_chain, arcs_of_chains, predecessor_arcs, must_arcs, predecessor_arc, must_arc, network}
 use Rattle.esr_cert.specs.Flow.{are_within, IsFlow, worth}
 use Rattle.esr_cert.specs.Certificate.{Certificate, amounts, are_rows_matched, is_count_in_bound, Certifies}
@@ -44,9 +44,9 @@ flow_length p ok flow f =
       f.same_length,
       length-append (arcs_of_chains p ++ predecessor_arcs p) (must_arcs p),
       length-append (arcs_of_chains p) (predecessor_arcs p),
-      chains_length p (size p) p.chains ok.chains,
+      chains_length p (update_count p) p.chains ok.chains,
       length-map {B = Arc} p.before predecessor_arc,
-      length-map {B = Arc} p.must (must_arc (size p)),
+      length-map {B = Arc} p.must (must_arc (update_count p)),
     )
 
 pub costs_mapped : (chains : List code.Chain) → sum_by (λ (chain : Chain). length chain.costs) (map chain_view chains) ≡ sum_by (λ (chain : code.Chain). length chain.costs.items) chains
@@ -101,26 +101,26 @@ pub record Parts (p : Problem) (flow xs bs ms : List ℕ) : Type 0 where
   pub musts : length ms ≡ length p.must
   pub whole : (xs ++ bs) ++ ms ≡ flow
 
-pub least_set : (p : Problem) → IsProblem p → (flow : List ℕ) → IsFlow (network p) flow → (has : ℕ → Bool) → IsReach (network p) flow has → has (size p + 1) ≡ false → (set : List ℕ) → set ≡ members_below has (size p) → IsSmallestLeast p (in_set set)
+pub least_set : (p : Problem) → IsProblem p → (flow : List ℕ) → IsFlow (network p) flow → (has : ℕ → Bool) → IsReach (network p) flow has → has (update_count p + 1) ≡ false → (set : List ℕ) → set ≡ members_below has (update_count p) → IsSmallestLeastCostSet p (in_set set)
 least_set p ok flow f has r s set e =
     smallest_same p ok has (in_set set)
-    (λ u l. sym (positions_at has (size p) u l) ∙ ap (λ xs. in_set xs u) (sym e))
+    (λ u l. sym (positions_at has (update_count p) u l) ∙ ap (λ xs. in_set xs u) (sym e))
     (smallest_least p ok flow has f r s)
 
-pub certified : (p : Problem) → IsProblem p → (flow : List ℕ) → IsFlow (network p) flow → (has : ℕ → Bool) → IsReach (network p) flow has → has (size p + 1) ≡ false
-    → (c : Certificate) → c.set ≡ members_below has (size p) → Parts p flow (concat c.chain_flow) c.back_flow c.must_flow → are_rows_matched p.chains c.chain_flow ≡ true
+pub certified : (p : Problem) → IsProblem p → (flow : List ℕ) → IsFlow (network p) flow → (has : ℕ → Bool) → IsReach (network p) flow has → has (update_count p + 1) ≡ false
+    → (c : Certificate) → c.set ≡ members_below has (update_count p) → Parts p flow (concat c.chain_flow) c.back_flow c.must_flow → are_rows_matched p.chains c.chain_flow ≡ true
     → c.worth ≡ worth (network p) flow → is_count_in_bound p c.augmentations ≡ true → Certifies p c
 certified p ok flow f has r s c set_is parts rows worth_is short =
-    let smallest : IsSmallestLeast p (in_set c.set) = least_set p ok flow f has r s c.set set_is in
+    let smallest : IsSmallestLeastCostSet p (in_set c.set) = least_set p ok flow f has r s c.set set_is in
     let same : cost p has ≡ cost p (in_set c.set) =
-    same_cost p ok has (in_set c.set) (λ u l. sym (positions_at has (size p) u l) ∙ ap (λ xs. in_set xs u) (sym set_is)) in
+    same_cost p ok has (in_set c.set) (λ u l. sym (positions_at has (update_count p) u l) ∙ ap (λ xs. in_set xs u) (sym set_is)) in
     let g : IsFlow (network p) (amounts c) = subst (IsFlow (network p)) (sym parts.whole) f in
     let inside : are_within (network p).arcs (amounts c) ≡ true = within_from (network p).arcs (amounts c) g.same_length g.within_capacity in
     let tight : c.worth ≡ worth (network p) (amounts c) = worth_is ∙ ap (worth (network p)) (sym parts.whole) in
     let dear : c.worth ≡ cost p (in_set c.set) = worth_is ∙ reach_cost p ok flow has f r s ∙ same in
     certifies_from p c (record {
-      ascending = ap is_ascending set_is ∙ positions_ascend has (size p);
-      known = ap (list_all (λ u. nat_lt u (size p))) set_is ∙ positions_below has (size p);
+      ascending = ap is_ascending set_is ∙ positions_ascend has (update_count p);
+      known = ap (list_all (λ u. nat_lt u (update_count p))) set_is ∙ positions_below has (update_count p);
       closed = smallest.closed;
       within = and_from _ _ (and_from _ _ (and_from _ _ rows (eq-eqb _ _ parts.backs)) (eq-eqb _ _ parts.musts)) inside;
       conserved = conserved_from (network p) (amounts c) g.conserved;

@@ -5,12 +5,12 @@ use Rattle.std.proofs.lemmas.List.{ext_get_or, get_or-map, length-map, take-map,
 use Rattle.esr_flow.specs.Types.{Arc, ResidualArc, Forward, Backward}
 use Rattle.esr_cert.specs.Network.{arc_at}
 use Rattle.esr_flow.specs.ShortEntry.{AdjacencyEntry}
-use Rattle.esr_cert.specs.declared.rows.Span.{Span}
+use Rattle.esr_cert.specs.declared.adjacency.Span.{Span}
 use Rattle.esr_cert.specs.Flow.{within, amount_at}
 use Rattle.esr_cert.specs.ResidualArcs.{arc_of, start, step_at, same_step, has_step, HasSteps}
 use Rattle.esr_flow.specs.Residual.{residual_capacity, left_of}
 use Rattle.esr_flow.specs.ResidualGraph.{network_arcs, network_of, adjacency_entry, entry_at, AreEntries, IsEntry, IsAdjacencyRow, ResidualGraph}
-use Rattle.esr_cert.specs.Rows.{span_at, row_in}
+use Rattle.esr_cert.specs.Adjacency.{span_at, row_in}
 use Rattle.esr_flow.proofs.WalkLaws.{start_in}
 
 same_is : (t s : ResidualArc) → same_step t s ≡ true → t ≡ s
@@ -94,39 +94,39 @@ map_same f h e (s ∷ steps) = ap (λ x. x ∷ map f steps) (e s) ∙ ap (λ xs.
 
 module _ (g : ResidualGraph) where
   -- a step is in the row of the node where it starts
-  pub in_row : (s : ResidualArc) → arc_of s < length (network_arcs g) → Contains (row_in g.rows.now.steps.items (span_at g.rows.now.spans.items (start (network_arcs g) s))) s
+  pub in_row : (s : ResidualArc) → arc_of s < length (network_arcs g) → Contains (row_in g.adjacency.now.steps.items (span_at g.adjacency.now.spans.items (start (network_arcs g) s))) s
   in_row s l =
-      contains_from (row_in g.rows.now.steps.items (span_at g.rows.now.spans.items (start (network_arcs g) s))) s
+      contains_from (row_in g.adjacency.now.steps.items (span_at g.adjacency.now.spans.items (start (network_arcs g) s))) s
       ((g.kept.lists (start (network_arcs g) s) (start_in (network_of g) g.kept.is_network s l)).all s l refl)
 
-  row_lists : (flow : List ℕ) (entries : List AdjacencyEntry) → AreEntries g flow entries → (v : ℕ) → v < g.node_count → IsAdjacencyRow (network_arcs g) flow v (row_in g.rows.now.steps.items (span_at g.rows.now.spans.items v)) (row_in entries (span_at g.rows.now.spans.items v))
+  row_lists : (flow : List ℕ) (entries : List AdjacencyEntry) → AreEntries g flow entries → (v : ℕ) → v < g.node_count → IsAdjacencyRow (network_arcs g) flow v (row_in g.adjacency.now.steps.items (span_at g.adjacency.now.spans.items v)) (row_in entries (span_at g.adjacency.now.spans.items v))
   row_lists flow entries are v l =
-      let span : Span = span_at g.rows.now.spans.items v in
-      let same : row_in entries span ≡ map (adjacency_entry (network_arcs g) flow) (row_in g.rows.now.steps.items span) =
-      ap (λ es. row_in es span) are ∙ ap (take (span.end - span.begin)) (drop-map (adjacency_entry (network_arcs g) flow) span.begin g.rows.now.steps.items) ∙ take-map (adjacency_entry (network_arcs g) flow) (span.end - span.begin) (drop span.begin g.rows.now.steps.items) in
-      subst (IsAdjacencyRow (network_arcs g) flow v (row_in g.rows.now.steps.items span)) (sym same) (lists_from (network_arcs g) flow v (row_in g.rows.now.steps.items span) (g.kept.lists v l))
+      let span : Span = span_at g.adjacency.now.spans.items v in
+      let same : row_in entries span ≡ map (adjacency_entry (network_arcs g) flow) (row_in g.adjacency.now.steps.items span) =
+      ap (λ es. row_in es span) are ∙ ap (take (span.end - span.begin)) (drop-map (adjacency_entry (network_arcs g) flow) span.begin g.adjacency.now.steps.items) ∙ take-map (adjacency_entry (network_arcs g) flow) (span.end - span.begin) (drop span.begin g.adjacency.now.steps.items) in
+      subst (IsAdjacencyRow (network_arcs g) flow v (row_in g.adjacency.now.steps.items span)) (sym same) (lists_from (network_arcs g) flow v (row_in g.adjacency.now.steps.items span) (g.kept.lists v l))
 
   -- the steps and the entries of a node as they were read
-  pub lists_read : (flow : List ℕ) (entries : List AdjacencyEntry) → AreEntries g flow entries → (v : ℕ) → v < g.node_count → (steps : List ResidualArc) (row : List AdjacencyEntry) → steps ≡ row_in g.rows.now.steps.items (span_at g.rows.now.spans.items v) → row ≡ row_in entries (span_at g.rows.now.spans.items v) → IsAdjacencyRow (network_arcs g) flow v steps row
+  pub lists_read : (flow : List ℕ) (entries : List AdjacencyEntry) → AreEntries g flow entries → (v : ℕ) → v < g.node_count → (steps : List ResidualArc) (row : List AdjacencyEntry) → steps ≡ row_in g.adjacency.now.steps.items (span_at g.adjacency.now.spans.items v) → row ≡ row_in entries (span_at g.adjacency.now.spans.items v) → IsAdjacencyRow (network_arcs g) flow v steps row
   lists_read flow entries are v l steps row steps_are row_is =
       subst (λ list. IsAdjacencyRow (network_arcs g) flow v list row) (sym steps_are)
-      (subst (IsAdjacencyRow (network_arcs g) flow v (row_in g.rows.now.steps.items (span_at g.rows.now.spans.items v))) (sym row_is) (row_lists flow entries are v l))
+      (subst (IsAdjacencyRow (network_arcs g) flow v (row_in g.adjacency.now.steps.items (span_at g.adjacency.now.spans.items v))) (sym row_is) (row_lists flow entries are v l))
 
   -- a step at neither index of an arc's two steps belongs to another arc
-  other_arc : (i k p q : ℕ) → k < length g.rows.now.steps.items → p < length g.rows.now.steps.items → q < length g.rows.now.steps.items → step_at g.rows.now.steps.items p ≡ Forward i → step_at g.rows.now.steps.items q ≡ Backward i → k ≢ p → k ≢ q
-      → (t : ResidualArc) → step_at g.rows.now.steps.items k ≡ t → arc_of t ≢ i
+  other_arc : (i k p q : ℕ) → k < length g.adjacency.now.steps.items → p < length g.adjacency.now.steps.items → q < length g.adjacency.now.steps.items → step_at g.adjacency.now.steps.items p ≡ Forward i → step_at g.adjacency.now.steps.items q ≡ Backward i → k ≢ p → k ≢ q
+      → (t : ResidualArc) → step_at g.adjacency.now.steps.items k ≡ t → arc_of t ≢ i
   other_arc i k p q l lp lq at_p at_q np nq (Forward j) is e = np (g.kept.steps.once k p l lp (is ∙ ap (λ n. Forward n) e ∙ sym at_p))
   other_arc i k p q l lp lq at_p at_q np nq (Backward j) is e = nq (g.kept.steps.once k q l lq (is ∙ ap (λ n. Backward n) e ∙ sym at_q))
 
   pub renewed : (flow : List ℕ) (entries : List AdjacencyEntry) (i x p q : ℕ) (a b : AdjacencyEntry) → AreEntries g flow entries
-      → p < length g.rows.now.steps.items → step_at g.rows.now.steps.items p ≡ Forward i → q < length g.rows.now.steps.items → step_at g.rows.now.steps.items q ≡ Backward i
+      → p < length g.adjacency.now.steps.items → step_at g.adjacency.now.steps.items p ≡ Forward i → q < length g.adjacency.now.steps.items → step_at g.adjacency.now.steps.items q ≡ Backward i
       → a ≡ adjacency_entry (network_arcs g) (set flow i x) (Forward i) → b ≡ adjacency_entry (network_arcs g) (set flow i x) (Backward i) → AreEntries g (set flow i x) (set (set entries p a) q b)
   renewed flow entries i x p q a b are lp at_p lq at_q along against =
       let f : ResidualArc → AdjacencyEntry = adjacency_entry (network_arcs g) flow in
       let h : ResidualArc → AdjacencyEntry = adjacency_entry (network_arcs g) (set flow i x) in
       ap (λ e. set (set entries p e) q b) along ∙ ap (λ e. set (set entries p (h (Forward i))) q e) against
-      ∙ written f h g.rows.now.steps.items entries p q (Forward i) (Backward i) (Forward 0) (entry_at [] 0) are lp lq at_p at_q
-      (λ k l np nq. same_entry (network_arcs g) flow i x (step_at g.rows.now.steps.items k) (other_arc i k p q l lp lq at_p at_q np nq (step_at g.rows.now.steps.items k) refl))
+      ∙ written f h g.adjacency.now.steps.items entries p q (Forward i) (Backward i) (Forward 0) (entry_at [] 0) are lp lq at_p at_q
+      (λ k l np nq. same_entry (network_arcs g) flow i x (step_at g.adjacency.now.steps.items k) (other_arc i k p q l lp lq at_p at_q np nq (step_at g.adjacency.now.steps.items k) refl))
 
   -- if the same steps of an arc have residual capacity as before, so do all steps
   pub unchanged : (flow : List ℕ) (entries : List AdjacencyEntry) (i x : ℕ) (arc : Arc) → i < length flow → arc ≡ arc_at (network_arcs g) i → AreEntries g flow entries
@@ -135,7 +135,7 @@ module _ (g : ResidualGraph) where
       are ∙ map_same (adjacency_entry (network_arcs g) flow) (adjacency_entry (network_arcs g) (set flow i x)) (λ s. elim (cases_eq (arc_of s) i) [
         | inl e ↦ here s e
         | inr ne ↦ sym (same_entry (network_arcs g) flow i x s ne)
-      ]) g.rows.now.steps.items
+      ]) g.adjacency.now.steps.items
     where
       now : x ≡ amount_at (set flow i x) i
       now = sym (get_or-set_same flow i x 0 l)

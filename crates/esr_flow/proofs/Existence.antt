@@ -6,7 +6,7 @@ use Rattle.std.specs.List.{concat}
 use Rattle.std.proofs.lemmas.Bool.{cases_Bool, and_from}
 use Rattle.std.proofs.lemmas.List.Sums.{sum_by-cons}
 use Rattle.esr_cert.specs.declared.range.TheConstants.{MAX_COST}
-use Rattle.esr_cert.specs.Problem.{Chain, Problem, size, in_set, IsSmallestLeast}
+use Rattle.esr_cert.specs.Problem.{Chain, Problem, update_count, in_set, IsSmallestLeastCostSet}
 use Rattle.esr_cert.specs.Network.{network}
 use Rattle.esr_cert.specs.Flow.{IsFlow, worth}
 use Rattle.esr_cert.specs.Certificate.{Certificate, are_rows_matched, Certifies}
@@ -42,10 +42,10 @@ raised_flow p ok flow f path s =
     (raise flow x.0 path, a.is_flow, omega (arith, a.raised, a.positive))
 
 maximum_from : (p : Problem) → IsProblem p → (fuel : ℕ) (flow : List ℕ) → IsFlow (network p) flow → MAX_COST < worth (network p) flow + fuel
-    → (last : List ℕ) × IsFlow (network p) last × (is_reached (network p) last (size p + 1) ≡ false)
+    → (last : List ℕ) × IsFlow (network p) last × (is_reached (network p) last (update_count p + 1) ≡ false)
 maximum_from p ok zero flow f l = absurd (omega (arith, worth_small p ok flow f))
 maximum_from p ok (suc fuel) flow f l =
-    elim (cases_Bool (is_reached (network p) flow (size p + 1))) [
+    elim (cases_Bool (is_reached (network p) flow (update_count p + 1))) [
       | inl t ↦
           let path = reached_sink (network p) flow t in
           let after = raised_flow p ok flow f path.0 path.1 in
@@ -54,7 +54,7 @@ maximum_from p ok (suc fuel) flow f l =
     ]
 
 -- a maximum flow of a problem's network
-pub maximum_flow : (p : Problem) → IsProblem p → (flow : List ℕ) × IsFlow (network p) flow × (is_reached (network p) flow (size p + 1) ≡ false)
+pub maximum_flow : (p : Problem) → IsProblem p → (flow : List ℕ) × IsFlow (network p) flow × (is_reached (network p) flow (update_count p + 1) ≡ false)
 maximum_flow p ok = maximum_from p ok (suc MAX_COST) (replicate (length (network p).arcs) 0) (zero_start (network p)).is_flow (omega arith)
 
 -- ---- its certificate
@@ -89,7 +89,7 @@ pairs_end p = costs_of p + length p.before
 -- the certificate of a flow and the nodes that the source reaches
 abbrev certificate_from : Problem → List ℕ → (ℕ → Bool) → Certificate
 certificate_from p flow has = record {
-  set = members_below has (size p);
+  set = members_below has (update_count p);
   chain_flow = chain_rows p.chains (take (pairs_end p) flow);
   back_flow = drop (costs_of p) (take (pairs_end p) flow);
   must_flow = drop (pairs_end p) flow;
@@ -112,17 +112,17 @@ module _ (p : Problem) (ok : IsProblem p) (flow : List ℕ) (f : IsFlow (network
   rows : are_rows_matched p.chains (chain_rows p.chains (take (pairs_end p) flow)) ≡ true
   rows = rows_match p.chains (take (pairs_end p) flow) (omega (arith, length-take (pairs_end p) flow, all_amounts))
 
-  flow_certifies : (has : ℕ → Bool) → IsReach (network p) flow has → has (size p + 1) ≡ false → Certifies p (certificate_from p flow has)
+  flow_certifies : (has : ℕ → Bool) → IsReach (network p) flow has → has (update_count p + 1) ≡ false → Certifies p (certificate_from p flow has)
   flow_certifies has r s = certified p ok flow f has r s (certificate_from p flow has) refl parts rows refl refl
 
-pub has_certificate : (p : Problem) → IsProblem p → (c : Certificate) × Certifies p c × IsSmallestLeast p (in_set c.set) × (c.augmentations ≡ None)
+pub has_certificate : (p : Problem) → IsProblem p → (c : Certificate) × Certifies p c × IsSmallestLeastCostSet p (in_set c.set) × (c.augmentations ≡ None)
 has_certificate p ok =
     let m = maximum_flow p ok in
     let has : ℕ → Bool = is_reached (network p) m.0 in
     let r : IsReach (network p) m.0 has = reached_is_reach (network p) (is_network p ok) m.0 in (
       certificate_from p m.0 has,
       flow_certifies p ok m.0 m.1 has r m.2,
-      least_set p ok m.0 m.1 has r m.2 (members_below has (size p)) refl,
+      least_set p ok m.0 m.1 has r m.2 (members_below has (update_count p)) refl,
       refl,
     )
 

@@ -8,9 +8,9 @@ use Rattle.esr_flow.specs.Types.{Arc, ResidualArc, Forward, Backward}
 use Rattle.esr_cert.specs.Network.{arc_at}
 use Rattle.esr_cert.specs.Flow.{within, amount_at}
 use Rattle.esr_cert.specs.ResidualArcs.{start, step_at}
-use Rattle.esr_cert.specs.Rows.{span_at, residual_arcs_below, steps_from, row_of, Counted}
+use Rattle.esr_cert.specs.Adjacency.{span_at, residual_arcs_below, steps_from, row_of, Counted}
 use Rattle.esr_cert.proofs.ResidualArcsLaws.{steps_parts, room_for, first_all, first_next}
-use Rattle.esr_cert.proofs.RowsLaws.{row_length, at_row, counted_more}
+use Rattle.esr_cert.proofs.AdjacencyLaws.{row_length, at_row, counted_more}
 use Rattle.esr_flow.specs.ShortEntry.{AdjacencyEntry}
 use Rattle.esr_flow.specs.Residual.{left_of}
 use Rattle.esr_flow.specs.ResidualGraph.{network_arcs, adjacency_entry, entry_at, AreEntries, ResidualGraph}
@@ -32,16 +32,16 @@ first_split i (suc n) l =
 -- the entries of some steps are in their places, and the steps of each node are counted
 pub record ArePut (g : ResidualGraph) (flow : List ℕ) (done : List ResidualArc) (counts : List ℕ) (entries : List AdjacencyEntry) : Type 0 where
   pub counted : Counted (network_arcs g) g.node_count done counts
-  pub long : length entries ≡ length g.rows.now.steps.items
-  pub put : (k : ℕ) → k < length g.rows.now.steps.items → Contains done (step_at g.rows.now.steps.items k)
-      → entry_at entries k ≡ adjacency_entry (network_arcs g) flow (step_at g.rows.now.steps.items k)
+  pub long : length entries ≡ length g.adjacency.now.steps.items
+  pub put : (k : ℕ) → k < length g.adjacency.now.steps.items → Contains done (step_at g.adjacency.now.steps.items k)
+      → entry_at entries k ≡ adjacency_entry (network_arcs g) flow (step_at g.adjacency.now.steps.items k)
 
 module _ (g : ResidualGraph) where
   abbrev steps : List ResidualArc
-  steps = g.rows.now.steps.items
+  steps = g.adjacency.now.steps.items
 
   abbrev begin : ℕ → ℕ
-  begin v = (span_at g.rows.now.spans.items v).begin
+  begin v = (span_at g.adjacency.now.spans.items v).begin
 
   -- a step comes after the earlier steps of its node
   module _ (done rest : List ResidualArc) (s : ResidualArc) (v : ℕ) (known : v < g.node_count) (starts : start (network_arcs g) s ≡ v) (all : residual_arcs_below (length (network_arcs g)) ≡ done ++ s ∷ rest) where
@@ -54,21 +54,21 @@ module _ (g : ResidualGraph) where
         ∙ ap (λ list. step_at list place) (steps_parts (network_arcs g) v done rest s starts)
         ∙ get_or-append_seam (steps_from (network_arcs g) v done) s (steps_from (network_arcs g) v rest) (Forward 0)
 
-    early : place < (span_at g.rows.now.spans.items v).end - begin v
+    early : place < (span_at g.adjacency.now.spans.items v).end - begin v
     early =
         omega (
           arith,
           room_for (network_arcs g) v done rest s starts,
           ap (λ list. length (steps_from (network_arcs g) v list)) all,
           ap (λ (list : List ResidualArc). length list) (g.kept.row v known),
-          row_length steps (span_at g.rows.now.spans.items v) (g.kept.inside v known),
+          row_length steps (span_at g.adjacency.now.spans.items v) (g.kept.inside v known),
         )
 
     pub lies_within : begin v + place < length steps
     lies_within = omega (arith, early, g.kept.inside v known)
 
     pub lies : step_at steps (begin v + place) ≡ s
-    lies = sym (at_row steps (span_at g.rows.now.spans.items v) place (Forward 0) early) ∙ ap (λ list. step_at list place) (g.kept.row v known) ∙ here
+    lies = sym (at_row steps (span_at g.adjacency.now.spans.items v) place (Forward 0) early) ∙ ap (λ list. step_at list place) (g.kept.row v known) ∙ here
 
     module _ (flow counts : List ℕ) (entries : List AdjacencyEntry) (are : ArePut g flow done counts entries) where
       abbrev at : ℕ

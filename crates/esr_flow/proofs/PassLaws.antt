@@ -2,9 +2,9 @@
 use Rattle.std.proofs.Common.{◌≡◌, ℕ, ◌+◌, ◌-◌, ◌<◌, ◌≤◌, Bool, true, List, [], ◌∷◌, length, get_or, map, sym, ap, ◌∙◌, arith}
 use Rattle.std.proofs.lemmas.List.{get_or_append_left}
 use Rattle.esr_cert.specs.declared.problem.Chain as code
-use Rattle.esr_cert.specs.Problem.{Problem, size, is_well_formed}
+use Rattle.esr_cert.specs.Problem.{Problem, update_count, is_well_formed}
 use Rattle.esr_cert.specs.Network.{arc_at, predecessor_arc, network}
-use Rattle.esr_cert.specs.Starts.{starts_from}
+use Rattle.esr_cert.specs.ChainStarts.{chain_starts_from}
 use Rattle.esr_cert.specs.Views.{chain_view}
 use Rattle.esr_cert.proofs.Sound.{facts, IsProblem}
 use Rattle.esr_cert.specs.ChainArcs as certs
@@ -23,7 +23,7 @@ link_kept arcs flow marks chain begin has j some inside same =
 
 module _ (p : Problem) (sound : is_well_formed p ≡ true) where
   abbrev starts : List ℕ
-  starts = starts_from 0 p.chains
+  starts = chain_starts_from 0 p.chains
 
   ok : IsProblem p
   ok = facts p sound
@@ -49,9 +49,9 @@ module _ (p : Problem) (sound : is_well_formed p ≡ true) where
   module _ (chains : List code.Chain) (are : map chain_view chains ≡ p.chains) where
     pub has_links : (k begin : ℕ) (chain : code.Chain) → k < length chains → chain ≡ get_or chains k chain → begin ≡ get_or starts k 0 → HasChainArcs (network p).arcs chain begin
     has_links k begin chain inside is at =
-        let all : certs.HasChainArcs (network p).arcs (size p) chain begin = laws.has_links p sound chains are k begin chain inside is at in
+        let all : certs.HasChainArcs (network p).arcs (update_count p) chain begin = laws.has_links p sound chains are k begin chain inside is at in
         record {
           inside = all.inside;
-          from = λ j some m. all.from j (omega (arith, all.whole, m)) ∙ writer_before (size p) chain.writers.items j some;
-          to = λ j some m. all.to j (omega (arith, all.whole, m)) ∙ get_or_append_left chain.writers.items ((size p + 1) ∷ []) 0 j m;
+          from = λ j some m. all.from j (omega (arith, all.whole, m)) ∙ writer_before (update_count p) chain.writers.items j some;
+          to = λ j some m. all.to j (omega (arith, all.whole, m)) ∙ get_or_append_left chain.writers.items ((update_count p + 1) ∷ []) 0 j m;
         }

@@ -6,7 +6,7 @@ use Rattle.std.proofs.lemmas.List.{get_or_append_left, length-map, get_or-map}
 use Rattle.std.proofs.lemmas.List.Sums.{sum_by-cons}
 use Rattle.esr_cert.specs.declared.range.TheConstants.{MAX_COST}
 use Rattle.esr_flow.specs.Types.{Arc, ResidualArc, Forward, Backward}
-use Rattle.esr_cert.specs.Problem.{Chain, Problem, size, version, chain_cost, cost, greatest, IsSmallestLeast}
+use Rattle.esr_cert.specs.Problem.{Chain, Problem, update_count, version, chain_cost, cost, greatest, IsSmallestLeastCostSet}
 use Rattle.esr_cert.specs.Network.{arc_at, Network, predecessor_arc, must_arc, arcs_of_chains, predecessor_arcs, must_arcs, network}
 use Rattle.esr_cert.specs.Flow.{within, amount_at, IsFlow, worth}
 use Rattle.esr_cert.specs.Cut.{with_source}
@@ -25,7 +25,7 @@ follow net flow has r i a l e free h =
 
 module _ (p : Problem) (ok : IsProblem p) (flow : List ℕ) (has : ℕ → Bool) where
   abbrev count : ℕ
-  count = size p
+  count = update_count p
 
   back_place : (k : ℕ) (q : ℕ × ℕ) → k < length p.before → get_or p.before k q ≡ q → (i : ℕ) × (i < length (network p).arcs) × (arc_at (network p).arcs i ≡ record { from = q.1; to = q.0; capacity = None })
   back_place k q l e =
@@ -34,7 +34,7 @@ module _ (p : Problem) (ok : IsProblem p) (flow : List ℕ) (has : ℕ → Bool)
       let in_backs : get_or (predecessor_arcs p) k none ≡ record { from = q.1; to = q.0; capacity = None } =
       get_or-map predecessor_arc p.before k q none l ∙ ap predecessor_arc e in
       let in_both : get_or (arcs_of_chains p ++ predecessor_arcs p) (length (arcs_of_chains p) + k) none ≡ get_or (predecessor_arcs p) k none = get_or-append-add (arcs_of_chains p) (predecessor_arcs p) k none in
-      let size : length (arcs_of_chains p ++ predecessor_arcs p) ≡ length (arcs_of_chains p) + length (predecessor_arcs p) = length-append (arcs_of_chains p) (predecessor_arcs p) in
+      let update_count : length (arcs_of_chains p ++ predecessor_arcs p) ≡ length (arcs_of_chains p) + length (predecessor_arcs p) = length-append (arcs_of_chains p) (predecessor_arcs p) in
       let all : get_or (arcs_of_chains p ++ predecessor_arcs p ++ must_arcs p) (length (arcs_of_chains p) + k) none ≡ get_or (arcs_of_chains p ++ predecessor_arcs p) (length (arcs_of_chains p) + k) none =
       get_or_append_left (arcs_of_chains p ++ predecessor_arcs p) (must_arcs p) none (length (arcs_of_chains p) + k) (omega arith) in
       (length (arcs_of_chains p) + k, omega (arith, length-append (arcs_of_chains p ++ predecessor_arcs p) (must_arcs p)), all ∙ in_both ∙ in_backs)
@@ -97,7 +97,7 @@ module _ (p : Problem) (ok : IsProblem p) (flow : List ℕ) (has : ℕ → Bool)
       let at : with_source count other u ≡ true = keeps_path (network p) (is_network p ok) flow f (with_source count other) keeps path.0 count u path.1 (with_the_source count other) in
       sym (ap (λ b. cond b (other u) (eqb u count)) (lt-ltb u count m)) ∙ at
 
-  pub smallest_least : IsFlow (network p) flow → IsReach (network p) flow has → has (count + 1) ≡ false → IsSmallestLeast p has
+  pub smallest_least : IsFlow (network p) flow → IsReach (network p) flow has → has (count + 1) ≡ false → IsSmallestLeastCostSet p has
   smallest_least f r s = record {
     closed = closed_from p has (reach_closed r);
     least = λ other c. omega (arith, reach_cost f r s, worth_le_cost p ok other flow f c);

@@ -4,7 +4,7 @@ use Rattle.std.specs.List.{list_all}
 use Rattle.std.proofs.lemmas.Bool.{cases_eq, cases_Bool, or_left, or_from, and_parts, and_from, ltb-true}
 use Rattle.std.proofs.lemmas.List.Sums.{sum_by-cons}
 use Rattle.esr_flow.specs.Types.{Arc, ResidualArc, Forward, Backward}
-use Rattle.esr_cert.specs.Problem.{Chain, Problem, size, in_set, is_ascending, is_closed, chain_cost, cost, IsSmallestLeast}
+use Rattle.esr_cert.specs.Problem.{Chain, Problem, update_count, in_set, is_ascending, is_closed, chain_cost, cost, IsSmallestLeastCostSet}
 use Rattle.esr_cert.specs.Network.{arc_at, network}
 use Rattle.esr_cert.specs.Flow.{amount_at}
 use Rattle.esr_cert.specs.Cut.{with_source, IsLimited, AreLimited}
@@ -47,31 +47,31 @@ unlimited_path arcs flow has limited (s ∷ path) a b h e t =
 pub has_limit : (p : Problem) → IsProblem p → HasLimit (network p)
 has_limit p ok flow path h e =
     let all : IsClosed p (λ u. true) = record { before = λ u v c t. refl; must = λ u c. refl } in
-    let at : with_source (size p) (λ u. true) (size p + 1) ≡ true =
-    unlimited_path (network p).arcs flow (with_source (size p) (λ u. true)) (limited p ok (λ u. true) all) path (size p) (size p + 1) h e (with_the_source (size p) (λ u. true)) in
-    true≢false (sym at ∙ without_sink (size p) (λ u. true))
+    let at : with_source (update_count p) (λ u. true) (update_count p + 1) ≡ true =
+    unlimited_path (network p).arcs flow (with_source (update_count p) (λ u. true)) (limited p ok (λ u. true) all) path (update_count p) (update_count p + 1) h e (with_the_source (update_count p) (λ u. true)) in
+    true≢false (sym at ∙ without_sink (update_count p) (λ u. true))
 
 -- two tests that agree on the updates
-cost_same : (p : Problem) → IsProblem p → (f g : ℕ → Bool) → ((u : ℕ) → u < size p → f u ≡ g u) → (chains : List Chain) → ((chain : Chain) → Contains chains chain → IsChain p chain) → sum_by (chain_cost f) chains ≡ sum_by (chain_cost g) chains
+cost_same : (p : Problem) → IsProblem p → (f g : ℕ → Bool) → ((u : ℕ) → u < update_count p → f u ≡ g u) → (chains : List Chain) → ((chain : Chain) → Contains chains chain → IsChain p chain) → sum_by (chain_cost f) chains ≡ sum_by (chain_cost g) chains
 cost_same p ok f g e [] h = refl
 cost_same p ok f g e (c ∷ chains) h =
     let this : chain_cost f c ≡ chain_cost g c = ap (λ n. get_or c.costs n 0) (version_same f g c.writers (λ u k. e u ((h c (here c chains)).writers u k))) in
     omega (arith, sum_by-cons (chain_cost f) c chains, sum_by-cons (chain_cost g) c chains, cost_same p ok f g e chains (λ d k. h d (there c d chains k)))
 
-pub same_cost : (p : Problem) → IsProblem p → (f g : ℕ → Bool) → ((u : ℕ) → u < size p → f u ≡ g u) → cost p f ≡ cost p g
+pub same_cost : (p : Problem) → IsProblem p → (f g : ℕ → Bool) → ((u : ℕ) → u < update_count p → f u ≡ g u) → cost p f ≡ cost p g
 same_cost p ok f g e = cost_same p ok f g e p.chains ok.chains
 
-pub closed_same : (p : Problem) → IsProblem p → (f g : ℕ → Bool) → ((u : ℕ) → u < size p → f u ≡ g u) → is_closed p f ≡ true → is_closed p g ≡ true
+pub closed_same : (p : Problem) → IsProblem p → (f g : ℕ → Bool) → ((u : ℕ) → u < update_count p → f u ≡ g u) → is_closed p f ≡ true → is_closed p g ≡ true
 closed_same p ok f g e closed =
     let was : IsClosed p f = closed_facts p f closed in
     closed_from p g (record {
       before = λ u v c h.
-          let ends : (u < size p) × (v < size p) = ok.pairs u v c in
+          let ends : (u < update_count p) × (v < update_count p) = ok.pairs u v c in
           sym (e u ends.0) ∙ was.before u v c (e v ends.1 ∙ h);
       must = λ u c. sym (e u (ok.musts u c)) ∙ was.must u c;
     })
 
-pub smallest_same : (p : Problem) → IsProblem p → (f g : ℕ → Bool) → ((u : ℕ) → u < size p → f u ≡ g u) → IsSmallestLeast p f → IsSmallestLeast p g
+pub smallest_same : (p : Problem) → IsProblem p → (f g : ℕ → Bool) → ((u : ℕ) → u < update_count p → f u ≡ g u) → IsSmallestLeastCostSet p f → IsSmallestLeastCostSet p g
 smallest_same p ok f g e s =
     let same : cost p f ≡ cost p g = same_cost p ok f g e in
     record {

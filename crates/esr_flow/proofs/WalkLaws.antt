@@ -5,8 +5,8 @@ use Rattle.esr_flow.specs.Types.{Arc, ResidualArc, Forward, Backward}
 use Rattle.esr_cert.specs.ResidualArcs.{arc_of, start, opposite}
 use Rattle.esr_flow.specs.Residual.{finish, IsResidual, IsPath}
 use Rattle.esr_cert.specs.Network.{Network, IsNetwork}
-use Rattle.esr_cert.specs.declared.rows.Span.{Span}
-use Rattle.esr_cert.specs.Rows.{span_at}
+use Rattle.esr_cert.specs.declared.adjacency.Span.{Span}
+use Rattle.esr_cert.specs.Adjacency.{span_at}
 use Rattle.esr_flow.specs.Search.{label_at, Guides, IsGuided}
 use Rattle.esr_flow.proofs.Labels.{label_bound}
 

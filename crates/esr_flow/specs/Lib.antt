@@ -4,7 +4,7 @@
 pub mod Types
 pub mod Residual
 pub mod Augmentation
-pub mod IsLaidOut
+pub mod Graphs
 pub mod ResidualGraph
 pub mod ShortEntry
 pub mod Search

@@ -3,7 +3,7 @@ use Rattle.std.specs.Prelude.{◌≡◌, ℕ, ◌+◌, ◌-◌, ◌<◌, ◌≤�
 use Rattle.esr_cert.specs.declared.problem.Chain.{Chain}
 use Rattle.esr_cert.specs.Problem.{Problem}
 use Rattle.esr_cert.specs.Network.{Network, arc_at}
-use Rattle.esr_cert.specs.Starts.{starts_from}
+use Rattle.esr_cert.specs.ChainStarts.{chain_starts_from}
 use Rattle.esr_cert.specs.ResidualArcs.{arc_of, start}
 use Rattle.esr_flow.specs.Types.{Arc, ResidualArc}
 use Rattle.esr_flow.specs.Residual.{finish, IsResidual, IsPath}
@@ -35,4 +35,4 @@ pub record HasChainArcs (arcs : List Arc) (chain : Chain) (begin : ℕ) : Type 0
 
 -- the number of the first arc that is not one of a chain
 abbrev pub first_back : Problem → ℕ
-first_back p = get_or (starts_from 0 p.chains) (length p.chains) 0
+first_back p = get_or (chain_starts_from 0 p.chains) (length p.chains) 0

@@ -7,7 +7,7 @@ use Rattle.esr_flow.specs.ShortEntry.{AdjacencyEntry}
 pub use Rattle.esr_flow.specs.declared.graph.ResidualGraph.{ResidualGraph}
 use Rattle.esr_cert.specs.Flow.{within}
 use Rattle.esr_cert.specs.ResidualArcs.{arc_of, start, opposite, step_at}
-use Rattle.esr_flow.specs.IsLaidOut.{net_with}
+use Rattle.esr_flow.specs.Graphs.{net_with}
 use Rattle.esr_flow.specs.Residual.{finish, residual_capacity}
 
 abbrev pub network_arcs : ResidualGraph → List Arc
@@ -29,7 +29,7 @@ entry_at entries k = get_or entries k (record { to = 0; has_residual = false; op
 
 -- the entries of a graph's steps, with the residual capacities of a flow
 abbrev pub AreEntries : ResidualGraph → List ℕ → List AdjacencyEntry → Type 0
-AreEntries g flow entries = entries ≡ map (adjacency_entry (network_arcs g) flow) g.rows.now.steps.items
+AreEntries g flow entries = entries ≡ map (adjacency_entry (network_arcs g) flow) g.adjacency.now.steps.items
 
 -- a step that starts at a node, and its entry: the end of the step, and whether it and its opposite have residual
 -- capacity

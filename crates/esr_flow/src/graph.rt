@@ -9,45 +9,45 @@ ghost use Rattle.esr_cert.specs.Flow.{within};
 ghost use Rattle.esr_cert.specs.Network.{network};
 ghost use Rattle.esr_flow.specs.Residual.{left_of, residual_capacity, finish};
 ghost use Rattle.esr_cert.specs.ResidualArcs.{arc_of};
-ghost use Rattle.esr_cert.specs.Rows.{span_at};
-ghost use Rattle.esr_flow.specs.IsLaidOut.{IsGraphOf};
+ghost use Rattle.esr_cert.specs.Adjacency.{span_at};
+ghost use Rattle.esr_flow.specs.Graphs.{IsGraphOf};
 
 use crate::entry::{AdjacencyEntry, ShortEntry};
-use esr_cert::{Arc, PackedResidualArc, Problem, ResidualArc, Rows};
+use esr_cert::{Adjacency, Arc, PackedResidualArc, Problem, ResidualArc};
 use std::alloc::{AllocError, Global};
 
 /// The network of a problem, and for each node the steps that start at it.
 #[derive(Drop)]
 pub struct ResidualGraph<'a> {
     pub problem: &'a Problem,
-    pub rows: &'a Rows,
+    pub adjacency: &'a Adjacency,
     pub node_count: usize,
     pub source: usize,
     pub sink: usize,
-    ghost kept: { IsGraphOf problem.now rows.now node_count source sink },
+    ghost kept: { IsGraphOf problem.now adjacency.now node_count source sink },
 }
 
 impl<'a> ResidualGraph<'a> {
     ghost use Rattle.std.specs.Prelude.{◌≡◌, ◌<◌, length, set, IfOk};
     ghost use Rattle.esr_cert.specs.ResidualArcs.{arc_of, step_at};
-    ghost use Rattle.esr_cert.specs.Rows.{span_at, row_in};
+    ghost use Rattle.esr_cert.specs.Adjacency.{span_at, row_in};
     ghost use Rattle.esr_flow.specs.ResidualGraph.{AreEntries, network_arcs};
 
     /// Returns the steps that start at a node.
     pub fn steps_at(&self, v: usize) -> &[PackedResidualArc]
         requires node { v < self.now.node_count }
-        ensures { result.now ≡ row_in self.now.rows.now.steps.items (span_at self.now.rows.now.spans.items v) }
+        ensures { result.now ≡ row_in self.now.adjacency.now.steps.items (span_at self.now.adjacency.now.spans.items v) }
     {
-        self.rows.row(&self.rows.steps, v)
+        self.adjacency.row(&self.adjacency.steps, v)
     }
 
     /// Returns the entries of a node.
     pub fn row<'b>(&self, entries: &'b [ShortEntry], v: usize) -> &'b [ShortEntry]
-        requires entries { length entries.now ≡ length self.now.rows.now.steps.items }
+        requires entries { length entries.now ≡ length self.now.adjacency.now.steps.items }
         requires node { v < self.now.node_count }
-        ensures { result.now ≡ row_in entries.now (span_at self.now.rows.now.spans.items v) }
+        ensures { result.now ≡ row_in entries.now (span_at self.now.adjacency.now.spans.items v) }
     {
-        self.rows.row(entries, v)
+        self.adjacency.row(entries, v)
     }
 
     /// Returns the entries of all steps, with the residual capacities of a flow. They are put into their rows arc by
@@ -61,13 +61,13 @@ impl<'a> ResidualGraph<'a> {
             has_residual: false,
             opposite_has_residual: false,
         });
-        let mut entries = vec![in alloc; none; self.rows.steps.len()]?;
+        let mut entries = vec![in alloc; none; self.adjacency.steps.len()]?;
         let mut counts = vec![in alloc; 0usize; self.node_count]?;
         for i in 0..flow.len() {
             let arc = self.problem.arc(i as u32);
             let (along, against) = entries_of(arc, flow[i]);
-            put_next(self.rows, &mut counts, &mut entries, arc.from, along);
-            put_next(self.rows, &mut counts, &mut entries, arc.to, against);
+            put_next(self.adjacency, &mut counts, &mut entries, arc.from, along);
+            put_next(self.adjacency, &mut counts, &mut entries, arc.to, against);
         }
         Ok(entries)
     }
@@ -75,11 +75,11 @@ impl<'a> ResidualGraph<'a> {
     /// Returns the index of a step's entry.
     fn place_of(&self, step: ResidualArc) -> usize
         requires arc { arc_of step < length (network_arcs self.now) }
-        ensures inside { result < length self.now.rows.now.steps.items }
-        ensures place { step_at self.now.rows.now.steps.items result ≡ step }
+        ensures inside { result < length self.now.adjacency.now.steps.items }
+        ensures place { step_at self.now.adjacency.now.steps.items result ≡ step }
     {
         let node = finish_of(self.problem, step.opposite());
-        self.rows.place_of(node as usize, step)
+        self.adjacency.place_of(node as usize, step)
     }
 
     /// Sets the amount on an arc. Rewrites the entries of its two steps if this changes which of them have residual
@@ -167,24 +167,24 @@ fn entries_of(arc: Arc, amount: u64) -> (ShortEntry, ShortEntry)
 
 /// Puts an entry at the next free index of a node's row, after the `counts[node]` entries that it has.
 fn put_next(
-    rows: &Rows,
+    adjacency: &Adjacency,
     counts: &mut Vec<usize>,
     entries: &mut Vec<ShortEntry>,
     node: u32,
     entry: ShortEntry,
 )
-    requires span { node < length rows.now.spans.items }
+    requires span { node < length adjacency.now.spans.items }
     requires count { node < length counts.old.items }
     requires count_within_max { get_or counts.old.items node 0 < 4294967296 }
-    requires place { (span_at rows.now.spans.items node).begin + get_or counts.old.items node 0
+    requires place { (span_at adjacency.now.spans.items node).begin + get_or counts.old.items node 0
         < length entries.old.items }
     ensures counts { counts.new.items ≡ set counts.old.items node (get_or counts.old.items node 0 + 1) }
     ensures entries { entries.new.items
-        ≡ set entries.old.items ((span_at rows.now.spans.items node).begin + get_or counts.old.items node 0) entry }
+        ≡ set entries.old.items ((span_at adjacency.now.spans.items node).begin + get_or counts.old.items node 0) entry }
 {
     let node = node as usize;
     let count = counts[node];
-    entries[rows.spans[node].begin as usize + count] = entry;
+    entries[adjacency.spans[node].begin as usize + count] = entry;
     counts[node] = count + 1;
 }
 

@@ -253,7 +253,7 @@ pub fn find_maximum(alloc: Global, graph: &ResidualGraph) -> Result<MaximumFlow,
     ensures end { IfOk result (λ m. (is_marked m.marks.items graph.now.sink ≡ false)
         × (length m.marks.items ≡ graph.now.node_count)) }
 {
-    let none = vec![in alloc; 0u64; graph.rows.steps.len() / 2]?;
+    let none = vec![in alloc; 0u64; graph.adjacency.steps.len() / 2]?;
     let maximum = maximum_from(alloc, graph, none, 0)?;
     Ok(maximum)
 }

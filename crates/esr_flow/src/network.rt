@@ -16,7 +16,7 @@ fn graph_of<'a>(problem: &'a Problem) -> ResidualGraph<'a>
     let source = problem.updates().len();
     ResidualGraph {
         problem,
-        rows: problem.rows(),
+        adjacency: problem.adjacency(),
         node_count: source + 2,
         source,
         sink: source + 1,
@@ -30,7 +30,7 @@ fn graph_of<'a>(problem: &'a Problem) -> ResidualGraph<'a>
 pub struct Network<'a> {
     pub problem: &'a Problem,
     pub(crate) graph: ResidualGraph<'a>,
-    ghost sound: { is_well_formed problem.now ≡ true },
+    ghost well_formed: { is_well_formed problem.now ≡ true },
     ghost same: { network_of graph ≡ networks.network problem.now },
 }
 

@@ -5,7 +5,7 @@
 ghost use Rattle.std.specs.Prelude.{◌≡◌, ℕ, ◌+◌, ◌*◌, ◌≤◌, true, false, Some, None, length, vec_len, map, take, drop, sum_by, get_or, IfOk, OnOk};
 ghost use Rattle.std.specs.List.{concat};
 ghost use Rattle.esr_base.specs.declared.limits.TheConstants.{MAX_TRANSACTIONS};
-ghost use Rattle.esr_cert.specs.Problem.{size, in_set, IsSmallestLeast};
+ghost use Rattle.esr_cert.specs.Problem.{update_count, in_set, IsSmallestLeastCostSet};
 ghost use Rattle.esr_cert.specs.Network.{network};
 ghost use Rattle.esr_cert.specs.Flow as flow_check;
 ghost use Rattle.esr_cert.specs.Certificate.{amounts, are_rows_matched, is_count_in_bound, Certifies};
@@ -75,15 +75,15 @@ fn certify(
 ) -> Result<Certificate, AllocError>
     requires flow { flow_check.IsFlow (network problem.now) maximum.flow.items }
     requires reach { IsReach (network problem.now) maximum.flow.items (is_marked maximum.marks.items) }
-    requires sink { is_marked maximum.marks.items (size problem.now + 1) ≡ false }
-    requires marks { length maximum.marks.items ≡ size problem.now + 2 }
+    requires sink { is_marked maximum.marks.items (update_count problem.now + 1) ≡ false }
+    requires marks { length maximum.marks.items ≡ update_count problem.now + 2 }
     requires worth { maximum.worth ≡ flow_check.worth (network problem.now) maximum.flow.items }
     requires short { is_count_in_bound problem.now augmentations ≡ true }
     ensures amounts { IfOk result (λ c. amounts (certificate_of c) ≡ maximum.flow.items) }
     ensures worth { IfOk result (λ c. c.worth ≡ maximum.worth) }
     ensures count { IfOk result (λ c. c.augmentations ≡ augmentations) }
     ensures certifies { IfOk result (λ c. Certifies problem.now (certificate_of c)) }
-    ensures least { IfOk result (λ c. IsSmallestLeast problem.now (in_set c.set.items)) }
+    ensures least { IfOk result (λ c. IsSmallestLeastCostSet problem.now (in_set c.set.items)) }
 {
     let MaximumFlow {
         mut flow,
@@ -127,11 +127,11 @@ pub struct Solved {
 /// The certificate's set is the smallest of the closed sets of least cost.
 pub fn solve(alloc: Global, net: &Network) -> Result<Solved, NoMemory>
     ensures certifies { IfOk result (λ s. Certifies net.now.problem.now (certificate_of s.certificate)) }
-    ensures least { IfOk result (λ s. IsSmallestLeast net.now.problem.now (in_set s.certificate.set.items)) }
+    ensures least { IfOk result (λ s. IsSmallestLeastCostSet net.now.problem.now (in_set s.certificate.set.items)) }
     ensures takes { IfOk result (λ s. AugmentsFromZero (network net.now.problem.now) s.augmentations
         (amounts (certificate_of s.certificate))) }
     ensures worth { IfOk result (λ s. s.augmentations ≤ s.certificate.worth) }
-    ensures count_within_max { IfOk result (λ s. s.augmentations ≤ (size net.now.problem.now + 2) * length
+    ensures count_within_max { IfOk result (λ s. s.augmentations ≤ (update_count net.now.problem.now + 2) * length
         (network net.now.problem.now).arcs) }
     ensures amounts { IfOk result (λ s. (i : ℕ) → get_or (amounts (certificate_of s.certificate)) i 0
         ≤ s.certificate.worth) }
@@ -163,7 +163,7 @@ pub struct FromDraft {
 /// The certificate's set is the smallest of the closed sets of least cost.
 pub fn find_from_draft(alloc: Global, net: &Network) -> Result<FromDraft, NoMemory>
     ensures certifies { IfOk result (λ d. Certifies net.now.problem.now (certificate_of d.certificate)) }
-    ensures least { IfOk result (λ d. IsSmallestLeast net.now.problem.now (in_set d.certificate.set.items)) }
+    ensures least { IfOk result (λ d. IsSmallestLeastCostSet net.now.problem.now (in_set d.certificate.set.items)) }
     ensures amounts { IfOk result (λ d. (i : ℕ) → get_or (amounts (certificate_of d.certificate)) i 0
         ≤ d.certificate.worth) }
     ensures count { IfOk result (λ d. d.certificate.augmentations ≡ None) }
@@ -176,7 +176,7 @@ pub fn find_from_draft(alloc: Global, net: &Network) -> Result<FromDraft, NoMemo
 /// Finds the certificate of `find_from_draft`, without the outcome of the draft.
 pub fn find_certificate(alloc: Global, net: &Network) -> Result<Certificate, NoMemory>
     ensures certifies { IfOk result (λ c. Certifies net.now.problem.now (certificate_of c)) }
-    ensures least { IfOk result (λ c. IsSmallestLeast net.now.problem.now (in_set c.set.items)) }
+    ensures least { IfOk result (λ c. IsSmallestLeastCostSet net.now.problem.now (in_set c.set.items)) }
     ensures amounts { IfOk result (λ c. (i : ℕ) → get_or (amounts (certificate_of c)) i 0 ≤ c.worth) }
     ensures count { IfOk result (λ c. c.augmentations ≡ None) }
 {

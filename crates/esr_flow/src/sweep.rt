@@ -149,7 +149,7 @@ fn row_of<'a>(field: &'a Field, node: usize) -> &'a [PackedResidualArc] {
 
 /// Returns the arc with a number, or an arc without ends and capacity if there is none.
 fn arc_at(field: &Field, number: u32) -> Arc {
-    if (number as usize) < field.graph.rows.steps.len() / 2 {
+    if (number as usize) < field.graph.adjacency.steps.len() / 2 {
         field.graph.problem.arc(number)
     } else {
         Arc {
@@ -755,7 +755,7 @@ fn fill_middle(field: &Field, flow: &mut [u64], middle: u32)
 pub fn draft<'a>(alloc: Global, graph: &'a ResidualGraph<'a>) -> Result<Vec<u64>, AllocError>
     ensures { IfOk result (λ flow. length flow.items ≡ length (network_arcs graph.now)) }
 {
-    let mut flow = vec![in alloc; 0u64; graph.rows.steps.len() / 2]?;
+    let mut flow = vec![in alloc; 0u64; graph.adjacency.steps.len() / 2]?;
     let field = Field::of(alloc, graph)?;
     let middle = find_middle(alloc, &field)?;
     fill_middle(&field, &mut flow, middle);

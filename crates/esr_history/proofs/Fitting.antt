@@ -4,7 +4,7 @@ use Rattle.std.proofs.lemmas.Bool.{true≢false, not-false, leb-false, ne_eqb, c
 use Rattle.esr_history.specs.Events.{is_refusal, begin_record_of, begin_records, is_begun, Event, BeginUpdate, BeginQuery, Read, Write, Commit, Abort, Reply, Refusal, NoSuchTransaction, NoSuchItem}
 use Rattle.esr_history.specs.Machine.{DistanceFunction, Schedule, accepted_in, reply_to, reasons, refusal, acceptance, answered, not_begun, no_item, IsLegal}
 use Rattle.esr_history.specs.Legal.{legal_induction}
-use Rattle.esr_history.specs.BackLinks.{item_of, txn_of, ender, begun_by, begun_count, is_key, IsFit, IsNumbered}
+use Rattle.esr_history.specs.BackLinks.{item_of, txn_of, ender, begun_by, begun_count, is_some_eq, IsFit, IsNumbered}
 use Rattle.esr_history.proofs.Allowed.{NoneApplies, none_applies}
 use Rattle.esr_history.proofs.LegalWellFormed.{when_none, begun_in_range}
 use Rattle.esr_history.proofs.Linking.{last_same, count_refused, count_same, count_more}
@@ -30,15 +30,15 @@ numbered d h _ r is = tt
 
 -- which keys an accepted event has
 record Keys (h : Schedule) (e : Event) (r : Reply) : Type 0 where
-  item : (x : ℕ) → length h.opening ≤ x → is_key (item_of e) x ≡ false
-  txn : (t : ℕ) → begun_count (h.entries ++ record { event = e; reply = r } ∷ []) < t → (is_key (txn_of e r) t ≡ false) × (is_key (ender e) t ≡ false) × (begun_count h.entries < t)
+  item : (x : ℕ) → length h.opening ≤ x → is_some_eq (item_of e) x ≡ false
+  txn : (t : ℕ) → begun_count (h.entries ++ record { event = e; reply = r } ∷ []) < t → (is_some_eq (txn_of e r) t ≡ false) × (is_some_eq (ender e) t ≡ false) × (begun_count h.entries < t)
 
 other : (k m : ℕ) → k < m → eqb k m ≡ false
 other k m l = ne_eqb k m (λ e. absurd (omega (arith, e, l)))
 
 -- an event that begins nothing has the key of one transaction that has begun
-named : (h : Schedule) (e : Event) (r : Reply) (u : ℕ) → u < 1 + begun_count h.entries → begin_record_of e ≡ None → is_refusal r ≡ false → ((x : ℕ) → length h.opening ≤ x → is_key (item_of e) x ≡ false)
-    → ((t : ℕ) → eqb u t ≡ false → (is_key (txn_of e r) t ≡ false) × (is_key (ender e) t ≡ false)) → Keys h e r
+named : (h : Schedule) (e : Event) (r : Reply) (u : ℕ) → u < 1 + begun_count h.entries → begin_record_of e ≡ None → is_refusal r ≡ false → ((x : ℕ) → length h.opening ≤ x → is_some_eq (item_of e) x ≡ false)
+    → ((t : ℕ) → eqb u t ≡ false → (is_some_eq (txn_of e r) t ≡ false) × (is_some_eq (ender e) t ≡ false)) → Keys h e r
 named h e r u low begins ok item txn = record {
   item = item;
   txn = λ t m. let same : begun_count (h.entries ++ record { event = e; reply = r } ∷ []) ≡ begun_count h.entries = count_same h.entries (record { event = e; reply = r }) ok begins in
@@ -53,7 +53,7 @@ keys d h (BeginUpdate l) r is ok =
       txn = λ t m.
           let more : begun_count (h.entries ++ record { event = BeginUpdate l; reply = r } ∷ []) ≡ begun_count h.entries + 1 = count_more h.entries (record { event = BeginUpdate l; reply = r }) (record { query = false; strict = false; limit = l }) ok refl in
           let above : begun_count h.entries + 1 < t = omega (arith, more, m) in
-          (ap (λ o. is_key o t) n ∙ other (begun_count h.entries + 1) t above, refl, omega (arith, above));
+          (ap (λ o. is_some_eq o t) n ∙ other (begun_count h.entries + 1) t above, refl, omega (arith, above));
     }
 keys d h (BeginQuery l s) r is ok =
     let n : begun_by r ≡ Some (begun_count h.entries + 1) = numbered d h (BeginQuery l s) r is ok in
@@ -62,7 +62,7 @@ keys d h (BeginQuery l s) r is ok =
       txn = λ t m.
           let more : begun_count (h.entries ++ record { event = BeginQuery l s; reply = r } ∷ []) ≡ begun_count h.entries + 1 = count_more h.entries (record { event = BeginQuery l s; reply = r }) (record { query = true; strict = s; limit = l }) ok refl in
           let above : begun_count h.entries + 1 < t = omega (arith, more, m) in
-          (ap (λ o. is_key o t) n ∙ other (begun_count h.entries + 1) t above, refl, omega (arith, above));
+          (ap (λ o. is_some_eq o t) n ∙ other (begun_count h.entries + 1) t above, refl, omega (arith, above));
     }
 keys d h (Read u y) r is ok =
     let p = (accepts d h (Read u y) r is ok).0 in
@@ -76,11 +76,11 @@ keys d h (Abort u) r is ok = named h (Abort u) r u.0 (begun_below h u.0 (accepts
 fit_next : (d : DistanceFunction) (h : Schedule) (e : Event) (r : Reply) → r ≡ reply_to d h e → IsFit (length h.opening) h.entries → IsFit (length h.opening) (h.entries ++ record { event = e; reply = r } ∷ [])
 fit_next d h e r is fit = elim (cases_Bool (is_refusal r)) [ inl refused ↦ at_refusal refused | inr ok ↦ at_accept ok ]
   where
-    none_at : (key : Option ℕ) (k : ℕ) → is_refusal r ≡ true → is_key (if is_refusal r then None else key) k ≡ false
-    none_at key k refused = ap (λ b. is_key (if b then None else key) k) refused
+    none_at : (key : Option ℕ) (k : ℕ) → is_refusal r ≡ true → is_some_eq (if is_refusal r then None else key) k ≡ false
+    none_at key k refused = ap (λ b. is_some_eq (if b then None else key) k) refused
 
-    some_at : (key : Option ℕ) (k : ℕ) → is_refusal r ≡ false → is_key key k ≡ false → is_key (if is_refusal r then None else key) k ≡ false
-    some_at key k ok not_it = ap (λ b. is_key (if b then None else key) k) ok ∙ not_it
+    some_at : (key : Option ℕ) (k : ℕ) → is_refusal r ≡ false → is_some_eq key k ≡ false → is_some_eq (if is_refusal r then None else key) k ≡ false
+    some_at key k ok not_it = ap (λ b. is_some_eq (if b then None else key) k) ok ∙ not_it
 
     at_refusal : is_refusal r ≡ true → IsFit (length h.opening) (h.entries ++ record { event = e; reply = r } ∷ [])
     at_refusal refused = grind (arith, count_refused h.entries (record { event = e; reply = r }) refused, last_same, none_at)

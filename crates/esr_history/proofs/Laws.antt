@@ -8,10 +8,10 @@ use Rattle.std.proofs.lemmas.List.Elements.{filter-append, filter_map-append}
 use Rattle.esr_items.specs.Values.{value_at}
 use Rattle.esr_history.specs.Events.{accepted, is_query, is_update, is_committed, written, last_value, ItemId, TxnId, Read, Value, Entry}
 use Rattle.esr_history.specs.Machine.{DistanceFunction, Schedule, accepted_in, value_distance, import_in, charges_in, IsLegal}
-use Rattle.esr_history.specs.Legal.{along}
+use Rattle.esr_history.specs.Legal.{continued}
 use Rattle.esr_history.specs.Operations.{Operation, operations, operations_in, commit_order}
 use Rattle.esr_history.specs.Serial.{is_before, committed_updates, state, IsSerializable}
-use Rattle.esr_history.specs.Queries.{updates_of, is_strict, begins, before_begin, distance_from, members, ImportBoundsDistance, HasSameAudit}
+use Rattle.esr_history.specs.Queries.{updates_committed_before, is_strict, begins, before_begin, distance_from, members, ImportBoundsDistance, HasSameAudit}
 use Rattle.esr_history.proofs.Membership.{get_seam, Pairs, Pairs-filter, All-from_pairs, Contains-In, In-of_filter, In-filter, In-from_any, any-from_number}
 use Rattle.esr_history.proofs.Traces.{IsMetric, is_among, after_writes}
 use Rattle.esr_history.proofs.Locking.{known, commits_in_order, commits_once}
@@ -70,14 +70,14 @@ all_members (x ∷ xs) = ap (λ zs. x ∷ zs) (all_members xs)
 pub import_bounds_distance : (d : DistanceFunction) → ((w : List ℕ) → IsMetric (d w)) → (h : Schedule) → IsLegal d h → ImportBoundsDistance d h
 import_bounds_distance d metric h legal q is =
     let p = and_parts (is_query (accepted_in h) q) (is_committed (accepted_in h) q) is in
-    let values : state h (members h q (λ _. true)) ≡ state_in (value_at h.opening) (trace h) (updates_of h q) = ap (state h) (all_members (updates_of h q)) ∙ fun_ext (state_trace h (updates_of h q)) in
+    let values : state h (members h q (λ _. true)) ≡ state_in (value_at h.opening) (trace h) (updates_committed_before h q) = ap (state h) (all_members (updates_committed_before h q)) ∙ fun_ext (state_trace h (updates_committed_before h q)) in
     subst (λ (w : ℕ → ℤ). distance_from d h q w ≤ import_in (charges_in d h) q) (sym values)
     (bounded (metric h.weights) (legal_reached d h legal) q (sym (committed_among (accepted_in h) q) ∙ p.1) (query_not_update (accepted_in h) q p.0))
 
 -- the audit of a committed query has the same result in every longer legal history
-pub audit_stays : (d : DistanceFunction) (h : Schedule) (rest : List Entry) (q : ℕ) → IsLegal d (along h rest) → is_committed (accepted_in h) q ≡ true → HasSameAudit d h (along h rest) q
+pub audit_stays : (d : DistanceFunction) (h : Schedule) (rest : List Entry) (q : ℕ) → IsLegal d (continued h rest) → is_committed (accepted_in h) q ≡ true → HasSameAudit d h (continued h rest) q
 audit_stays d h rest q legal over =
-    let longer : Schedule = along h rest in
+    let longer : Schedule = continued h rest in
     let after : IsAfter d h q longer = legal_after d h rest q legal over in
     let same = after.same in
     let begun = (known (legal_reached d h (legal_front d h rest legal))).of_ends q (or_left (is_among (commit_order (accepted_in h)) q) (is_among (trace h).aborts q) (sym (committed_among (accepted_in h) q) ∙ over)) in
@@ -88,17 +88,17 @@ audit_stays d h rest q legal over =
           ∙ ap (λ b. is_query (accepted_in h) q && b) (committed_among (accepted_in longer) q ∙ (same.committed ∙ sym over));
       updates = same.updates;
       musts =
-          ap (λ o. if unwrap_or (option_map (λ b. b.strict) o) false then filter (is_committed (accepted (before_begin longer q))) (updates_of longer q) else []) same.begins
-          ∙ (ap (λ (es : List Entry). if is_strict (accepted_in h) q then filter (is_committed (accepted es)) (updates_of longer q) else []) front
+          ap (λ o. if unwrap_or (option_map (λ b. b.strict) o) false then filter (is_committed (accepted (before_begin longer q))) (updates_committed_before longer q) else []) same.begins
+          ∙ (ap (λ (es : List Entry). if is_strict (accepted_in h) q then filter (is_committed (accepted es)) (updates_committed_before longer q) else []) front
           ∙ ap (λ us. if is_strict (accepted_in h) q then filter (is_committed (accepted (before_begin h q))) us else []) same.updates);
-      order = λ u v iu iv. same.order u v (Contains-In (updates_of h q) u iu) (Contains-In (updates_of h q) v iv);
+      order = λ u v iu iv. same.order u v (Contains-In (updates_committed_before h q) u iu) (Contains-In (updates_committed_before h q) v iv);
       costs = λ S.
           ap (λ l. sum_by (λ (o : Operation). value_distance d h o.item o.value (state longer (members longer q S) o.item)) l) same.reads
           ∙ ap (distance_from d h q) (fun_ext (λ x.
           ap (λ us. state longer (filter S us) x) same.updates
           ∙ (state_trace longer (members h q S) x
           ∙ (ap (after_writes (value_at h.opening x))
-          (flat_map_agree (λ u. filter (wrote_by x u) (operations longer)) (λ u. filter (wrote_by x u) (operations h)) (members h q S) (λ u i. same.writes u x (In-of_filter S (updates_of h q) u i).0))
+          (flat_map_agree (λ u. filter (wrote_by x u) (operations longer)) (λ u. filter (wrote_by x u) (operations h)) (members h q S) (λ u i. same.writes u x (In-of_filter S (updates_committed_before h q) u i).0))
           ∙ sym (state_trace h (members h q S) x)))));
       import = after.imported;
     }

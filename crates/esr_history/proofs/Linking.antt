@@ -9,7 +9,7 @@ use Rattle.std.proofs.lemmas.Option.{slice_get_past}
 use Rattle.esr_history.specs.declared.back_links.Begin.{Begin}
 use Rattle.esr_history.specs.declared.back_links.BackLinks.{BackLinks}
 use Rattle.esr_history.specs.Events.{BeginRecord, is_query_kind, is_refusal, accepted, begin_records, begin_record_of, Event, BeginUpdate, BeginQuery, Read, Write, Commit, Abort, Reply, Entry}
-use Rattle.esr_history.specs.BackLinks.{item_of, txn_of, ender, item_in, txn_in, accepted_item, accepted_txn, accepted_end, facts_by, facts_of, is_key, places_from, last_place, last_of_key, earlier, earlier_at, coded, decoded, key_at, links_by, lasts_by, begin_of, begun_count, AreLinks, IsFit, with_key, txns_after, ends_after, begins_after, IsNumbered, Facts}
+use Rattle.esr_history.specs.BackLinks.{item_of, txn_of, ender, item_in, txn_in, accepted_item, accepted_txn, ended_txn, facts_by, facts_of, is_some_eq, places_from, last_place, last_of_key, earlier, earlier_at, coded, decoded, key_at, links_by, lasts_by, begin_of, begun_count, AreLinks, IsFit, with_key, txns_after, ends_after, begins_after, IsNumbered, Facts}
 use Rattle.esr_history.proofs.Charges.{range-push}
 use Rattle.esr_history.proofs.KindLaws.{query_kind}
 use Rattle.esr_history.proofs.Membership.{get_seam}
@@ -19,22 +19,22 @@ pub decoded_coded : (o : Option ℕ) → decoded (coded o) ≡ o
 decoded_coded None = refl
 decoded_coded (Some k) = ap decoded (add-one k)
 
-pub places_push : (key : Entry → Option ℕ) (k n : ℕ) (es : List Entry) (e : Entry) → places_from key k n (es ++ e ∷ []) ≡ places_from key k n es ++ cond (is_key (key e) k) ((n + length es) ∷ []) []
-places_push key k n [] e = let z : n ≡ n + 0 = omega arith in ap (λ m. cond (is_key (key e) k) (m ∷ []) []) z
-places_push key k n (f ∷ es) e = at (is_key (key f) k) (places_push key k (n + 1) es e)
+pub places_push : (key : Entry → Option ℕ) (k n : ℕ) (es : List Entry) (e : Entry) → places_from key k n (es ++ e ∷ []) ≡ places_from key k n es ++ cond (is_some_eq (key e) k) ((n + length es) ∷ []) []
+places_push key k n [] e = let z : n ≡ n + 0 = omega arith in ap (λ m. cond (is_some_eq (key e) k) (m ∷ []) []) z
+places_push key k n (f ∷ es) e = at (is_some_eq (key f) k) (places_push key k (n + 1) es e)
   where
     shift : n + 1 + length es ≡ n + suc (length es)
     shift = omega arith
 
-    at : (b : Bool) → places_from key k (n + 1) (es ++ e ∷ []) ≡ places_from key k (n + 1) es ++ cond (is_key (key e) k) ((n + 1 + length es) ∷ []) []
-        → cond b (n ∷ places_from key k (n + 1) (es ++ e ∷ [])) (places_from key k (n + 1) (es ++ e ∷ [])) ≡ cond b (n ∷ places_from key k (n + 1) es) (places_from key k (n + 1) es) ++ cond (is_key (key e) k) ((n + suc (length es)) ∷ []) []
-    at true rest = ap (λ l. n ∷ l) (rest ∙ ap (λ m. places_from key k (n + 1) es ++ cond (is_key (key e) k) (m ∷ []) []) shift)
-    at false rest = rest ∙ ap (λ m. places_from key k (n + 1) es ++ cond (is_key (key e) k) (m ∷ []) []) shift
+    at : (b : Bool) → places_from key k (n + 1) (es ++ e ∷ []) ≡ places_from key k (n + 1) es ++ cond (is_some_eq (key e) k) ((n + 1 + length es) ∷ []) []
+        → cond b (n ∷ places_from key k (n + 1) (es ++ e ∷ [])) (places_from key k (n + 1) (es ++ e ∷ [])) ≡ cond b (n ∷ places_from key k (n + 1) es) (places_from key k (n + 1) es) ++ cond (is_some_eq (key e) k) ((n + suc (length es)) ∷ []) []
+    at true rest = ap (λ l. n ∷ l) (rest ∙ ap (λ m. places_from key k (n + 1) es ++ cond (is_some_eq (key e) k) (m ∷ []) []) shift)
+    at false rest = rest ∙ ap (λ m. places_from key k (n + 1) es ++ cond (is_some_eq (key e) k) (m ∷ []) []) shift
 
-pub last_same : (key : Entry → Option ℕ) (k : ℕ) (es : List Entry) (e : Entry) → is_key (key e) k ≡ false → last_place key k (es ++ e ∷ []) ≡ last_place key k es
+pub last_same : (key : Entry → Option ℕ) (k : ℕ) (es : List Entry) (e : Entry) → is_some_eq (key e) k ≡ false → last_place key k (es ++ e ∷ []) ≡ last_place key k es
 last_same key k es e no_key = ap (last_or None) (places_push key k 0 es e ∙ (ap (λ b. places_from key k 0 es ++ cond b ((0 + length es) ∷ []) []) no_key ∙ append-nil (places_from key k 0 es)))
 
-pub last_here : (key : Entry → Option ℕ) (k : ℕ) (es : List Entry) (e : Entry) → is_key (key e) k ≡ true → last_place key k (es ++ e ∷ []) ≡ Some (length es)
+pub last_here : (key : Entry → Option ℕ) (k : ℕ) (es : List Entry) (e : Entry) → is_some_eq (key e) k ≡ true → last_place key k (es ++ e ∷ []) ≡ Some (length es)
 last_here key k es e has_key =
     grind (arith, places_push key k 0 es e, cond, last_or_push None (places_from key k 0 es) (0 + length es))
 
@@ -66,18 +66,18 @@ mapped_set f g a (suc n) (suc j) same =
     ∙ ap (λ l. g a ∷ l) (mapped_set f g (a + 1) n j (λ i ne. same i (λ is. ne (is ∙ sym e))) ∙ ap (λ m. slice_set (map g (range_with_len (a + 1) n)) j (f m)) e)
 
 -- a table after an entry with no key, and after one with a key
-pub lasts_agree : (key : Entry → Option ℕ) (es : List Entry) (e : Entry) (n : ℕ) → ((k : ℕ) → k < n → is_key (key e) k ≡ false) → lasts_by key (es ++ e ∷ []) n ≡ lasts_by key es n
+pub lasts_agree : (key : Entry → Option ℕ) (es : List Entry) (e : Entry) (n : ℕ) → ((k : ℕ) → k < n → is_some_eq (key e) k ≡ false) → lasts_by key (es ++ e ∷ []) n ≡ lasts_by key es n
 lasts_agree key es e n none = mapped_agree (λ k. coded (last_place key k (es ++ e ∷ []))) (λ k. coded (last_place key k es)) 0 n (λ k l m. ap coded (last_same key k es e (none k (omega arith))))
 
 pub lasts_none : (key : Entry → Option ℕ) (es : List Entry) (e : Entry) (n : ℕ) → key e ≡ None → lasts_by key (es ++ e ∷ []) n ≡ lasts_by key es n
-lasts_none key es e n none = lasts_agree key es e n (λ k l. ap (λ o. is_key o k) none)
+lasts_none key es e n none = lasts_agree key es e n (λ k l. ap (λ o. is_some_eq o k) none)
 
 pub lasts_some : (key : Entry → Option ℕ) (es : List Entry) (e : Entry) (n k : ℕ) → key e ≡ Some k → lasts_by key (es ++ e ∷ []) n ≡ slice_set (lasts_by key es n) k (length es + 1)
 lasts_some key es e n k is =
     let z : 0 + k ≡ k = omega arith in
     mapped_set (λ k. coded (last_place key k (es ++ e ∷ []))) (λ k. coded (last_place key k es)) 0 n k
-    (λ i ne. ap coded (last_same key i es e (ap (λ o. is_key o i) is ∙ ne_eqb k i (λ f. ne (sym f ∙ sym z)))))
-    ∙ ap (slice_set (lasts_by key es n) k) (ap (λ m. coded (last_place key m (es ++ e ∷ []))) z ∙ ap coded (last_here key k es e (ap (λ o. is_key o k) is ∙ eq-eqb k k refl)))
+    (λ i ne. ap coded (last_same key i es e (ap (λ o. is_some_eq o i) is ∙ ne_eqb k i (λ f. ne (sym f ∙ sym z)))))
+    ∙ ap (slice_set (lasts_by key es n) k) (ap (λ m. coded (last_place key m (es ++ e ∷ []))) z ∙ ap coded (last_here key k es e (ap (λ o. is_some_eq o k) is ∙ eq-eqb k k refl)))
 
 pub lasts_grow : (key : Entry → Option ℕ) (es : List Entry) (n : ℕ) → lasts_by key es (n + 1) ≡ lasts_by key es n ++ coded (last_place key n es) ∷ []
 lasts_grow key es n = grind (arith, map, range-push 0 n, map-append)
@@ -149,10 +149,10 @@ module _ (es : List Entry) (e : Entry) (is : is_refusal e.reply ≡ false) (none
   txns_known : (t : ℕ) → txn_of e.event e.reply ≡ Some t → lasts_by accepted_txn (es ++ e ∷ []) (begun_count (es ++ e ∷ []) + 1) ≡ slice_set (lasts_by accepted_txn es (begun_count es + 1)) t (length es + 1)
   txns_known t own = grind (arith, count_same es e is none, lasts_some)
 
-  ends_known : (t : ℕ) → ender e.event ≡ Some t → lasts_by accepted_end (es ++ e ∷ []) (begun_count (es ++ e ∷ []) + 1) ≡ slice_set (lasts_by accepted_end es (begun_count es + 1)) t (length es + 1)
+  ends_known : (t : ℕ) → ender e.event ≡ Some t → lasts_by ended_txn (es ++ e ∷ []) (begun_count (es ++ e ∷ []) + 1) ≡ slice_set (lasts_by ended_txn es (begun_count es + 1)) t (length es + 1)
   ends_known t own = grind (arith, count_same es e is none, lasts_some)
 
-  ends_none : ender e.event ≡ None → lasts_by accepted_end (es ++ e ∷ []) (begun_count (es ++ e ∷ []) + 1) ≡ lasts_by accepted_end es (begun_count es + 1)
+  ends_none : ender e.event ≡ None → lasts_by ended_txn (es ++ e ∷ []) (begun_count (es ++ e ∷ []) + 1) ≡ lasts_by ended_txn es (begun_count es + 1)
   ends_none own = grind (arith, count_same es e is none, lasts_none)
 
 -- and after a begin
@@ -166,11 +166,11 @@ module _ (es : List Entry) (e : Entry) (is : is_refusal e.reply ≡ false) (b : 
       ap (λ n. lasts_by accepted_txn (es ++ e ∷ []) (n + 1)) count
       ∙ (lasts_grow accepted_txn (es ++ e ∷ []) (begun_count es + 1)
       ∙ (ap (λ l. l ++ coded (last_place accepted_txn (begun_count es + 1) (es ++ e ∷ [])) ∷ [])
-      (lasts_agree accepted_txn es e (begun_count es + 1) (λ k l. ap (λ o. is_key o k) key ∙ ne_eqb (begun_count es + 1) k (λ f. absurd (omega (arith, f, l)))))
-      ∙ ap (λ o. lasts_by accepted_txn es (begun_count es + 1) ++ coded o ∷ []) (last_here accepted_txn (begun_count es + 1) es e (ap (λ o. is_key o (begun_count es + 1)) key ∙ eq-eqb (begun_count es + 1) (begun_count es + 1) refl))))
+      (lasts_agree accepted_txn es e (begun_count es + 1) (λ k l. ap (λ o. is_some_eq o k) key ∙ ne_eqb (begun_count es + 1) k (λ f. absurd (omega (arith, f, l)))))
+      ∙ ap (λ o. lasts_by accepted_txn es (begun_count es + 1) ++ coded o ∷ []) (last_here accepted_txn (begun_count es + 1) es e (ap (λ o. is_some_eq o (begun_count es + 1)) key ∙ eq-eqb (begun_count es + 1) (begun_count es + 1) refl))))
 
-  ends_begun : (n : ℕ) → ender e.event ≡ None → IsFit n es → lasts_by accepted_end (es ++ e ∷ []) (begun_count (es ++ e ∷ []) + 1) ≡ lasts_by accepted_end es (begun_count es + 1) ++ 0 ∷ []
-  ends_begun n own fit = grind (arith, count, lasts_grow accepted_end (es ++ e ∷ []) (begun_count es + 1), lasts_none, last_same)
+  ends_begun : (n : ℕ) → ender e.event ≡ None → IsFit n es → lasts_by ended_txn (es ++ e ∷ []) (begun_count (es ++ e ∷ []) + 1) ≡ lasts_by ended_txn es (begun_count es + 1) ++ 0 ∷ []
+  ends_begun n own fit = grind (arith, count, lasts_grow ended_txn (es ++ e ∷ []) (begun_count es + 1), lasts_none, last_same)
 
 txns_after_entry : (es : List Entry) (ev : Event) (r : Reply) → is_refusal r ≡ false → IsNumbered es ev r
     → lasts_by accepted_txn (es ++ record { event = ev; reply = r } ∷ []) (begun_count (es ++ record { event = ev; reply = r } ∷ []) + 1) ≡ txns_after (lasts_by accepted_txn es (begun_count es + 1)) ev (length es + 1)
@@ -182,7 +182,7 @@ txns_after_entry es (Commit t) r is num = txns_known es (record { event = Commit
 txns_after_entry es (Abort t) r is num = txns_known es (record { event = Abort t; reply = r }) is refl t.0 refl
 
 ends_after_entry : (n : ℕ) (es : List Entry) (ev : Event) (r : Reply) → is_refusal r ≡ false → IsFit n es
-    → lasts_by accepted_end (es ++ record { event = ev; reply = r } ∷ []) (begun_count (es ++ record { event = ev; reply = r } ∷ []) + 1) ≡ ends_after (lasts_by accepted_end es (begun_count es + 1)) ev (length es + 1)
+    → lasts_by ended_txn (es ++ record { event = ev; reply = r } ∷ []) (begun_count (es ++ record { event = ev; reply = r } ∷ []) + 1) ≡ ends_after (lasts_by ended_txn es (begun_count es + 1)) ev (length es + 1)
 ends_after_entry n es (BeginUpdate l) r is fit = ends_begun es (record { event = BeginUpdate l; reply = r }) is (record { query = false; strict = false; limit = l }) refl n refl fit
 ends_after_entry n es (BeginQuery l s) r is fit = ends_begun es (record { event = BeginQuery l s; reply = r }) is (record { query = true; strict = s; limit = l }) refl n refl fit
 ends_after_entry n es (Read t x) r is fit = ends_none es (record { event = Read t x; reply = r }) is refl refl
@@ -225,7 +225,7 @@ module _ (n : ℕ) (es : List Entry) (l : BackLinks) (are : AreLinks n es l) (fi
     of_txn = b ∙ of_txn_more;
     items = c ∙ (ap (λ t. with_key t (item_of e.event) code) are.items ∙ (ap (with_key (lasts_by accepted_item es n) (item_of e.event)) at ∙ sym (items_after es e n is)));
     txns = d ∙ (ap (λ t. txns_after t e.event code) are.txns ∙ (ap (txns_after (lasts_by accepted_txn es (begun_count es + 1)) e.event) at ∙ sym (txns_after_entry es e.event e.reply is num)));
-    ends = f ∙ (ap (λ t. ends_after t e.event code) are.ends ∙ (ap (ends_after (lasts_by accepted_end es (begun_count es + 1)) e.event) at ∙ sym (ends_after_entry n es e.event e.reply is fit)));
+    ends = f ∙ (ap (λ t. ends_after t e.event code) are.ends ∙ (ap (ends_after (lasts_by ended_txn es (begun_count es + 1)) e.event) at ∙ sym (ends_after_entry n es e.event e.reply is fit)));
     begins = g ∙ (ap (λ t. begins_after t e.event) are.begins ∙ sym (begins_after_entry es e.event e.reply is));
   }
 
@@ -237,7 +237,7 @@ found (c ∷ bs) zero b end l is =
     ∙ ap (λ (q : Bool). let f : Facts = record { query = q; limit = c.limit; end = end } in Some f) (query_kind c.query)
 found (c ∷ bs) (suc k) b end l is = found bs k b end (omega arith) is
 
-pub facts_are : (es : List Entry) (t : ℕ) (begins : List Begin) (b : Begin) (end : Option ℕ) → begins ≡ map begin_of (begin_records (accepted es)) → (t ≡ 0 → ⊥) → t - 1 < length begins → b ≡ get_or begins (t - 1) b → end ≡ last_place accepted_end t es
+pub facts_are : (es : List Entry) (t : ℕ) (begins : List Begin) (b : Begin) (end : Option ℕ) → begins ≡ map begin_of (begin_records (accepted es)) → (t ≡ 0 → ⊥) → t - 1 < length begins → b ≡ get_or begins (t - 1) b → end ≡ last_place ended_txn t es
     → Some (record { query = is_query_kind b.kind; limit = b.limit; end = end }) ≡ facts_of es t
 facts_are es zero begins b end are some l is at = absurd (some refl)
 facts_are es (suc k) begins b end are some l is at =

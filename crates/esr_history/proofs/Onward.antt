@@ -6,7 +6,7 @@ use Rattle.std.proofs.lemmas.Option.{same_Some}
 use Rattle.std.proofs.lemmas.List.Folds.{list_any-append}
 use Rattle.esr_history.specs.Events.{BeginRecord, is_refusal, begin_record, begin_record_of, begin_records, txn_numbers, is_query, is_update, is_begun, is_active, is_committed, holds_read, read_count, current_value, TxnId, ItemId, Event, BeginUpdate, BeginQuery, Read, Write, Commit, Abort, Reply, Begun, Value, Wrote, Committed, Aborted, Refused, Refusal, Entry}
 use Rattle.esr_history.specs.Machine.{DistanceFunction, Schedule, Charge, accepted_in, extended, empty_schedule, value_distance, due_in, charge_of_write, import_in, reply_to, reasons, refusal, acceptance, answered, IsLegal, IsLegalAfter}
-use Rattle.esr_history.specs.Legal.{along, legal_induction, legal_induction_after}
+use Rattle.esr_history.specs.Legal.{continued, legal_induction, legal_induction_after}
 use Rattle.esr_history.specs.Queries.{begins}
 use Rattle.esr_history.proofs.Lists.{filter_map_push}
 use Rattle.esr_history.proofs.Allowed.{NoneApplies, none_applies, read_allowed, write_allowed}
@@ -106,15 +106,15 @@ module _ (d : DistanceFunction) (g : Schedule) (q : ℕ) (h : Schedule) (after :
           (from e (Refused why) (sym answer ∙ is) (trace h) (refused_trace d h e why) after.same (ap (λ (m : ℕ → ℕ). m q) (refused_imports d h e why)))
 
 -- a legal history in two parts
-pub legal_parts : (d : DistanceFunction) (before : Schedule) (xs ys : List Entry) → IsLegalAfter d before (xs ++ ys) → IsLegalAfter d before xs × IsLegalAfter d (along before xs) ys
+pub legal_parts : (d : DistanceFunction) (before : Schedule) (xs ys : List Entry) → IsLegalAfter d before (xs ++ ys) → IsLegalAfter d before xs × IsLegalAfter d (continued before xs) ys
 legal_parts d before [] ys legal = (tt, subst (λ (es : List Entry). IsLegalAfter d (record before { entries = es }) ys) (sym (append-nil before.entries)) legal)
 legal_parts d before (e ∷ xs) ys legal =
     grind (arith, legal_parts d (extended before e.event e.reply) xs ys legal.1, append_assoc before.entries (e ∷ []) xs)
 
-pub legal_front : (d : DistanceFunction) (h : Schedule) (rest : List Entry) → IsLegal d (along h rest) → IsLegal d h
+pub legal_front : (d : DistanceFunction) (h : Schedule) (rest : List Entry) → IsLegal d (continued h rest) → IsLegal d h
 legal_front d h rest legal = (legal_parts d (empty_schedule h) h.entries rest legal).0
 
-pub legal_after : (d : DistanceFunction) (h : Schedule) (rest : List Entry) (q : ℕ) → IsLegal d (along h rest) → is_committed (accepted_in h) q ≡ true → IsAfter d h q (along h rest)
+pub legal_after : (d : DistanceFunction) (h : Schedule) (rest : List Entry) (q : ℕ) → IsLegal d (continued h rest) → is_committed (accepted_in h) q ≡ true → IsAfter d h q (continued h rest)
 legal_after d h rest q legal over =
     legal_induction_after d (IsAfter d h q) (λ g e r is after. IsAfter-extended d h q g after e r is) h rest (legal_parts d (empty_schedule h) h.entries rest legal).1
     (record {

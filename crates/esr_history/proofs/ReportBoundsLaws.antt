@@ -8,9 +8,9 @@ use Rattle.std.proofs.lemmas.List.Elements.{filter-append}
 use Rattle.esr_items.specs.Values.{value_at}
 use Rattle.esr_history.specs.Events.{BeginRecord, begin_record, is_begun, is_refusal, is_query, is_active, is_committed, current_value, Event, Reply, Refused, Value, Begun, Wrote, Committed, Aborted, Entry}
 use Rattle.esr_history.specs.Machine.{DistanceFunction, Schedule, accepted_in, empty_schedule, value_distance, charges_in, import_in, extended, reply_to, IsLegal}
-use Rattle.esr_history.specs.Legal.{along, legal_induction_after}
+use Rattle.esr_history.specs.Legal.{continued, legal_induction_after}
 use Rattle.esr_history.specs.Operations.{Operation, operations, operations_in}
-use Rattle.esr_history.specs.Queries.{reads_by, updates_of}
+use Rattle.esr_history.specs.Queries.{reads_by, updates_committed_before}
 use Rattle.esr_history.specs.ReportBounds.{is_active_query, IsMixture, ImportBoundsActive, distance_of_reads, AreReadsWithinBound, reads_in, BoundGrowsByImport, BoundHoldsAtCommit, OpenIsImported}
 use Rattle.esr_history.proofs.Traces.{IsMetric, is_among, reads_item, committed_in}
 use Rattle.esr_history.proofs.Versions.{state_in}
@@ -41,7 +41,7 @@ from_trace : (h : Schedule) (w : ℕ → ℤ) → mixed.IsMixture (value_at h.op
 from_trace h w mix x = ⊎_elim (λ e. inl (e ∙ sym (committed_trace h x))) (λ e. inr (e ∙ sym (current_trace h x))) (mix x)
 
 -- how a transaction began stays
-pub begin_stays : (d : DistanceFunction) (h : Schedule) (later : List Entry) (t : ℕ) → IsLegal d (along h later) → is_begun (accepted_in h) t ≡ true → begin_record (accepted_in (along h later)) t ≡ begin_record (accepted_in h) t
+pub begin_stays : (d : DistanceFunction) (h : Schedule) (later : List Entry) (t : ℕ) → IsLegal d (continued h later) → is_begun (accepted_in h) t ≡ true → begin_record (accepted_in (continued h later)) t ≡ begin_record (accepted_in h) t
 begin_stays d h later t legal begun =
     legal_induction_after d (λ g. begin_record (accepted_in g) t ≡ begin_record (accepted_in h) t) step h later (legal_parts d (empty_schedule h) h.entries later legal).1 refl
   where
@@ -76,9 +76,9 @@ module _ (d : DistanceFunction) (metric : (w : List ℕ) → IsMetric (d w)) whe
     within = λ w mix. is.within w (from_trace h w mix);
   }
 
-  module _ (h : Schedule) (q : ℕ) (read_ops : List Operation) (b : ℕ) (is : AreReadsWithinBound d h q read_ops b) (later : List Entry) (legal : IsLegal d (along h later)) where
+  module _ (h : Schedule) (q : ℕ) (read_ops : List Operation) (b : ℕ) (is : AreReadsWithinBound d h q read_ops b) (later : List Entry) (legal : IsLegal d (continued h later)) where
     abbrev k : Schedule
-    k = along h later
+    k = continued h later
 
     start : IsOnward (setting d h) q (reads_by h q) (imports d h q) read_ops b (trace h) (imports d h)
     start =
@@ -109,13 +109,13 @@ module _ (d : DistanceFunction) (metric : (w : List ℕ) → IsMetric (d w)) whe
     same_more : (more : ℕ) → imports d h q + more ≡ imports d k q → onward.more ≡ more
     same_more more grown = let a : imports d k q ≡ imports d h q + onward.more = onward.grown in omega (arith, a, grown)
 
-  pub import_grows : (h : Schedule) (q : ℕ) (read_ops : List Operation) (b : ℕ) → AreReadsWithinBound d h q read_ops b → (later : List Entry) → IsLegal d (along h later)
-      → (more : ℕ) × (import_in (charges_in d h) q + more ≡ import_in (charges_in d (along h later)) q)
+  pub import_grows : (h : Schedule) (q : ℕ) (read_ops : List Operation) (b : ℕ) → AreReadsWithinBound d h q read_ops b → (later : List Entry) → IsLegal d (continued h later)
+      → (more : ℕ) × (import_in (charges_in d h) q + more ≡ import_in (charges_in d (continued h later)) q)
   import_grows h q read_ops b is later legal = let o = onward h q read_ops b is later legal in (o.more, sym o.grown)
 
   pub bound_grows : (h : Schedule) → BoundGrowsByImport d h
   bound_grows h q read_ops b is later legal then_active more grown =
-      let k : Schedule = along h later in
+      let k : Schedule = continued h later in
       let now = and_parts (is_query (accepted_in k) q) (is_active (accepted_in k) q) then_active in
       let a : AreReadsWithin (setting d k) (trace k) q (read_ops ++ reads_in later q) (b + more) =
       subst (λ l. AreReadsWithin (setting d k) (trace k) q (read_ops ++ l) (b + more)) (same_later h q read_ops b is later legal)
@@ -129,11 +129,11 @@ module _ (d : DistanceFunction) (metric : (w : List ℕ) → IsMetric (d w)) whe
 
   pub bound_at_commit : (h : Schedule) → BoundHoldsAtCommit d h
   bound_at_commit h q read_ops b is later legal over more grown =
-      let k : Schedule = along h later in
+      let k : Schedule = continued h later in
       let p = and_parts (is_query (accepted_in k) q) (is_committed (accepted_in k) q) over in
-      subst (λ (w : ℕ → ℤ). distance_of_reads d h (read_ops ++ reads_in later q) w ≤ b + more) (sym (fun_ext (state_trace k (updates_of k q))))
-      (subst (λ l. distance_at (value_distance d h) (read_ops ++ l) (state_in (value_at k.opening) (trace k) (updates_of k q)) ≤ b + more) (same_later h q read_ops b is later legal)
-      (subst (λ n. distance_at (value_distance d h) (read_ops ++ (onward h q read_ops b is later legal).later) (state_in (value_at k.opening) (trace k) (updates_of k q)) ≤ b + n) (same_more h q read_ops b is later legal more grown)
+      subst (λ (w : ℕ → ℤ). distance_of_reads d h (read_ops ++ reads_in later q) w ≤ b + more) (sym (fun_ext (state_trace k (updates_committed_before k q))))
+      (subst (λ l. distance_at (value_distance d h) (read_ops ++ l) (state_in (value_at k.opening) (trace k) (updates_committed_before k q)) ≤ b + more) (same_later h q read_ops b is later legal)
+      (subst (λ n. distance_at (value_distance d h) (read_ops ++ (onward h q read_ops b is later legal).later) (state_in (value_at k.opening) (trace k) (updates_committed_before k q)) ≤ b + n) (same_more h q read_ops b is later legal more grown)
       ((onward h q read_ops b is later legal).within_at_commit (sym (committed_among (accepted_in k) q) ∙ p.1))))
 
   pub open_is_imported : (h : Schedule) → IsLegal d h → OpenIsImported d h

@@ -44,18 +44,18 @@ accepted_item e = if is_refusal e.reply then None else item_in e
 abbrev pub accepted_txn : Entry → Option ℕ
 accepted_txn e = if is_refusal e.reply then None else txn_in e
 
-abbrev pub accepted_end : Entry → Option ℕ
-accepted_end e = if is_refusal e.reply then None else ender e.event
+abbrev pub ended_txn : Entry → Option ℕ
+ended_txn e = if is_refusal e.reply then None else ender e.event
 
-abbrev pub is_key : Option ℕ → ℕ → Bool
-is_key None k = false
-is_key (Some m) k = m == k
+abbrev pub is_some_eq : Option ℕ → ℕ → Bool
+is_some_eq None k = false
+is_some_eq (Some m) k = m == k
 
 -- the places, counted from n, of the entries that have the key
 abbrev pub places_from : (Entry → Option ℕ) → ℕ → ℕ → List Entry → List ℕ
 places_from key k n [] = []
 places_from key k n (e ∷ es) =
-    if is_key (key e) k then n ∷ places_from key k (n + 1) es else places_from key k (n + 1) es
+    if is_some_eq (key e) k then n ∷ places_from key k (n + 1) es else places_from key k (n + 1) es
 
 -- the last of the places of the entries that have the key
 abbrev pub last_place : (Entry → Option ℕ) → ℕ → List Entry → Option ℕ
@@ -79,7 +79,7 @@ facts_by None end = None
 facts_by (Some b) end = Some (record { query = b.query; limit = b.limit; end = end })
 
 abbrev pub facts_of : List Entry → ℕ → Option Facts
-facts_of es t = facts_by (begin_record (accepted es) t) (last_place accepted_end t es)
+facts_of es t = facts_by (begin_record (accepted es) t) (last_place ended_txn t es)
 
 -- Encodes an optional entry index in a table: 0 for none, else the index plus 1.
 abbrev pub coded : Option ℕ → ℕ
@@ -114,14 +114,14 @@ pub record AreLinks (n : ℕ) (es : List Entry) (l : BackLinks) : Type 0 where
   pub of_txn : l.of_txn.items ≡ links_by accepted_txn txn_in es
   pub items : l.items.items ≡ lasts_by accepted_item es n
   pub txns : l.txns.items ≡ lasts_by accepted_txn es (begun_count es + 1)
-  pub ends : l.ends.items ≡ lasts_by accepted_end es (begun_count es + 1)
+  pub ends : l.ends.items ≡ lasts_by ended_txn es (begun_count es + 1)
   pub begins : l.begins.items ≡ map begin_of (begin_records (accepted es))
 
 -- accepted entries are on items below n, and of transactions that have begun
 pub record IsFit (n : ℕ) (es : List Entry) : Type 0 where
   pub items : (x : ℕ) → n ≤ x → last_place accepted_item x es ≡ None
   pub txns : (t : ℕ) → begun_count es < t → last_place accepted_txn t es ≡ None
-  pub ends : (t : ℕ) → begun_count es < t → last_place accepted_end t es ≡ None
+  pub ends : (t : ℕ) → begun_count es < t → last_place ended_txn t es ≡ None
 
 -- the tables have capacity for k more begins, and for k more entries whose indices have 32-bit codes
 abbrev pub HasCapacityToBegin : ℕ → BackLinks → Type 0

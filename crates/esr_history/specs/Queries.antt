@@ -11,8 +11,8 @@ abbrev pub is_committed_query : Schedule → ℕ → Bool
 is_committed_query h q = is_query (accepted_in h) q && is_committed (accepted_in h) q
 
 -- the updates that committed before q did, in commit order
-abbrev pub updates_of : Schedule → ℕ → List ℕ
-updates_of h q = filter (is_update (accepted_in h)) (before_first (λ t. t == q) (commit_order (accepted_in h)))
+abbrev pub updates_committed_before : Schedule → ℕ → List ℕ
+updates_committed_before h q = filter (is_update (accepted_in h)) (before_first (λ t. t == q) (commit_order (accepted_in h)))
 
 abbrev pub is_strict : List Event → ℕ → Bool
 is_strict events t = unwrap_or (option_map (λ b. b.strict) (begin_record events t)) false
@@ -27,7 +27,7 @@ before_begin h q = before_first (λ e. begins q e.reply) h.entries
 
 -- of a strict query, those of its updates that committed before it began; of another, none
 abbrev pub must : Schedule → ℕ → List ℕ
-must h q = if is_strict (accepted_in h) q then filter (is_committed (accepted (before_begin h q))) (updates_of h q) else []
+must h q = if is_strict (accepted_in h) q then filter (is_committed (accepted (before_begin h q))) (updates_committed_before h q) else []
 
 -- the accepted reads of q
 abbrev pub reads_by : Schedule → ℕ → List Operation
@@ -39,7 +39,7 @@ distance_from d h q w = sum_by (λ o. value_distance d h o.item o.value (w o.ite
 
 -- the members of S among the updates of q, in commit order
 abbrev pub members : Schedule → ℕ → (ℕ → Bool) → List ℕ
-members h q S = filter S (updates_of h q)
+members h q S = filter S (updates_committed_before h q)
 
 -- the distance between the values that q read and the version that S leaves: its members run in commit order
 abbrev pub cost : DistanceFunction → Schedule → ℕ → (ℕ → Bool) → ℕ
@@ -54,9 +54,9 @@ ImportBoundsDistance d h =
 -- set, and the import.
 pub record HasSameAudit (d : DistanceFunction) (h longer : Schedule) (q : ℕ) : Type 0 where
   pub committed : is_committed_query longer q ≡ is_committed_query h q
-  pub updates : updates_of longer q ≡ updates_of h q
+  pub updates : updates_committed_before longer q ≡ updates_committed_before h q
   pub musts : must longer q ≡ must h q
-  pub order : (u v : ℕ) → Contains (updates_of h q) u → Contains (updates_of h q) v
+  pub order : (u v : ℕ) → Contains (updates_committed_before h q) u → Contains (updates_committed_before h q) v
       → is_before longer u v ≡ is_before h u v
   pub costs : (S : ℕ → Bool) → cost d longer q S ≡ cost d h q S
   pub import : import_in (charges_in d longer) q ≡ import_in (charges_in d h) q

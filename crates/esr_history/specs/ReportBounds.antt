@@ -3,10 +3,10 @@
 use Rattle.std.specs.Prelude.{◌≡◌, ℕ, ℤ, ◌+◌, ◌≤◌, ◌⊎◌, Bool, not, ◌&&◌, ◌==◌, IsTrue, List, ◌++◌, filter, count_by, sum_by}
 use Rattle.esr_history.specs.Events.{is_query, is_active, read_count, committed_value, current_value, Entry}
 use Rattle.esr_history.specs.Machine.{DistanceFunction, Schedule, accepted_in, value_distance, charges_in, import_in, IsLegal}
-use Rattle.esr_history.specs.Legal.{along}
+use Rattle.esr_history.specs.Legal.{continued}
 use Rattle.esr_history.specs.Operations.{Operation, operations_in}
 use Rattle.esr_history.specs.Serial.{state}
-use Rattle.esr_history.specs.Queries.{is_committed_query, updates_of, reads_by, distance_from}
+use Rattle.esr_history.specs.Queries.{is_committed_query, updates_committed_before, reads_by, distance_from}
 
 -- The distances are a metric of each item, on which the laws of active queries are based.
 pub record AreDistances (d : DistanceFunction) : Type 0 where
@@ -47,17 +47,17 @@ reads_in entries q = filter (λ o. not o.writes && (o.txn == q)) (operations_in 
 abbrev pub BoundGrowsByImport : DistanceFunction → Schedule → Type 0
 BoundGrowsByImport d h =
     (q : ℕ) (read_ops : List Operation) (bound : ℕ) → AreReadsWithinBound d h q read_ops bound
-    → (later : List Entry) → IsLegal d (along h later) → IsTrue (is_active_query (along h later) q)
-    → (more : ℕ) → import_in (charges_in d h) q + more ≡ import_in (charges_in d (along h later)) q
-    → AreReadsWithinBound d (along h later) q (read_ops ++ reads_in later q) (bound + more)
+    → (later : List Entry) → IsLegal d (continued h later) → IsTrue (is_active_query (continued h later) q)
+    → (more : ℕ) → import_in (charges_in d h) q + more ≡ import_in (charges_in d (continued h later)) q
+    → AreReadsWithinBound d (continued h later) q (read_ops ++ reads_in later q) (bound + more)
 
 -- Once it has committed, its reads are within its bound, plus its further imports, of the values that its updates left.
 abbrev pub BoundHoldsAtCommit : DistanceFunction → Schedule → Type 0
 BoundHoldsAtCommit d h =
     (q : ℕ) (read_ops : List Operation) (bound : ℕ) → AreReadsWithinBound d h q read_ops bound
-    → (later : List Entry) → IsLegal d (along h later) → IsTrue (is_committed_query (along h later) q)
-    → (more : ℕ) → import_in (charges_in d h) q + more ≡ import_in (charges_in d (along h later)) q
-    → distance_of_reads d h (read_ops ++ reads_in later q) (state (along h later) (updates_of (along h later) q)) ≤ bound + more
+    → (later : List Entry) → IsLegal d (continued h later) → IsTrue (is_committed_query (continued h later) q)
+    → (more : ℕ) → import_in (charges_in d h) q + more ≡ import_in (charges_in d (continued h later)) q
+    → distance_of_reads d h (read_ops ++ reads_in later q) (state (continued h later) (updates_committed_before (continued h later) q)) ≤ bound + more
 
 -- the charges of the reads of q if each were repeated now: the open charges
 abbrev pub open_import : DistanceFunction → Schedule → ℕ → ℕ

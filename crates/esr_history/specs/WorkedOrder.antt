@@ -2,9 +2,9 @@
 use Rattle.std.specs.Prelude.{◌≡◌, pos, [], ◌∷◌, Bool, true, false, refl, map, ◌==◌}
 use Rattle.esr_history.specs.Events.{BeginUpdate, BeginQuery, Read, Write, Commit, Abort, Begun, Value, Wrote, Committed}
 use Rattle.esr_history.specs.Machine.{Schedule, charges_in, import_in}
-use Rattle.esr_history.specs.Worked.{plain, started_from, played, replies, txn, item}
+use Rattle.esr_history.specs.WorkedExamples.{plain, started_from, played, replies, txn, item}
 use Rattle.esr_history.specs.Serial.{is_before, committed_updates, state}
-use Rattle.esr_history.specs.Queries.{updates_of, must, cost}
+use Rattle.esr_history.specs.Queries.{updates_committed_before, must, cost}
 
 -- One update wrote a value that the next read, so that a query which saw the second has seen the first.
 abbrev pub order_through_a_third_item : Schedule
@@ -21,7 +21,7 @@ third_item_replies :
     ∷ Wrote ∷ Committed ∷ Value (pos 2) ∷ Committed ∷ []
 third_item_replies = refl
 
-third_item_updates : updates_of order_through_a_third_item 1 ≡ 2 ∷ 3 ∷ []
+third_item_updates : updates_committed_before order_through_a_third_item 1 ≡ 2 ∷ 3 ∷ []
 third_item_updates = refl
 
 third_item_committed : committed_updates order_through_a_third_item ≡ 2 ∷ 3 ∷ []

@@ -1,7 +1,7 @@
 -- The audit of a query as a tuple, to compare it with the summary that the history fixes.
 use Rattle.std.specs.Prelude.{◌≡◌, ℕ, true, List, map}
 use Rattle.esr_history.specs.declared.event.Entry.{Entry}
-use Rattle.esr_history.specs.Legal.{along}
+use Rattle.esr_history.specs.Legal.{continued}
 use Rattle.esr_history.specs.Machine.{DistanceFunction, Schedule, IsLegal}
 use Rattle.esr_history.specs.Queries.{is_committed_query}
 use Rattle.esr_base.specs.declared.numbers.TxnId.{TxnId}
@@ -16,8 +16,8 @@ audited a = (a.query.0, a.distance, a.import, map (λ t. t.0) a.before.items)
 -- in the history and in each longer one, its query has committed, and it is the audit of that query
 abbrev pub IsAuditFrom : DistanceFunction → Schedule → QueryAudit → Type 0
 IsAuditFrom d h a =
-    (rest : List Entry) → IsLegal d (along h rest)
-    → (is_committed_query (along h rest) a.query.0 ≡ true) × (audited a ≡ summary_of d (along h rest) a.query.0)
+    (rest : List Entry) → IsLegal d (continued h rest)
+    → (is_committed_query (continued h rest) a.query.0 ≡ true) × (audited a ≡ summary_of d (continued h rest) a.query.0)
 
 -- it says of the query what a finding of it says
 abbrev pub IsSummaryOfFinding : DistanceFunction → Schedule → TxnId → QueryAudit → Type 0

@@ -1,8 +1,9 @@
-//! The audit of a query without a certificate: by streaming (`esr_stream`), and if that fails, by the query's problem.
+//! Audits a query without computing a certificate. The streaming audit (`esr_stream`) is tried first. If it finds no answer,
+//! the closure problem of the query is solved.
 //!
-//! A history determines the summary of each committed query, so both ways return the same one. The streaming audit is tried
-//! first, since it takes only a few passes over the updates. A caller that needs a certificate calls
-//! `audit_query_with_index` of `esr_audit` instead.
+//! A history determines the distance, the import and the set of each committed query, so both ways return the same ones.
+//! Streaming is tried first since it usually takes only a few passes over the updates. A caller that needs a certificate
+//! calls `audit_query_with_index` of `esr_audit` instead.
 #![tactic(auto)]
 
 mod query;

@@ -98,7 +98,7 @@ pub fn summarize_by_index<M: Metric>(
     ensures refused { IsErrOf result AuditError.NotACommittedQuery
         ↔ (is_committed_query history.now.schedule q.0 ≡ false) }
     ensures no_worker_error { ¬ IsErrOf result AuditError.WorkersOutOfRange }
-    ensures stays { IfOk result (IsAuditFrom M.distance_by history.now.schedule) }
+    ensures stable { IfOk result (IsAuditFrom M.distance_by history.now.schedule) }
     ensures found { IfOk result (IsSummaryOfFinding M.distance_by history.now.schedule q) }
 {
     let _invariant = history.log(); // brings the invariant into the proof

@@ -1,3 +1,3 @@
 -- Which events the machine blocks, and when it stops blocking them.
 pub mod Liveness
-pub mod Worked
+pub mod WorkedExamples

@@ -1,14 +1,14 @@
-//! Liveness of the machine: laws about which events it blocks, over the reply as defined (`reply_to`).
+//! Liveness of the machine: laws about the events that it blocks, stated for `reply_to`, the definition of its replies.
 //!
 //! A caller that retries a blocked event, and a bank that aborts a member of a waits-for cycle, rely on three facts. An
-//! update that is alone is never blocked. A blocked event names an active transaction, so once that transaction has ended
-//! the same event is not blocked by it. Ending a transaction removes exactly that transaction from the lock holders that
-//! are in the way of any event, so a waiter waits for finitely many ends, and the abort of any member of a cycle breaks
-//! the cycle.
+//! update that is alone is never blocked. The reply to a blocked event names an active transaction. The end of a transaction
+//! removes this transaction, and no other, from the lock holders that block an event. So if no other transaction locks the
+//! item meanwhile, an event that is blocked by locks waits for finitely many ends, and the abort of any member of a cycle
+//! breaks the cycle.
 //!
-//! The laws hold of every schedule, legal or not, and of every distance. They do not state that a transaction ends: that is
-//! the callers' business. A law is the contract of a function with an empty body, because a statement in `specs/` alone is
-//! not proved.
+//! The laws hold for every list of entries, even one that the machine cannot produce, and for every distance function. They
+//! do not state that a transaction ends: that is up to the callers. A law is the contract of a function with an empty body,
+//! because a statement in `specs/` alone is not proved.
 #![tactic(auto)]
 
 ghost use Rattle.esr_liveness.specs.Liveness.{LawOfBlockers, LawOfEnds, LawOfLoneUpdates};

@@ -8,7 +8,7 @@ use Rattle.esr_history.specs.declared.event.Event.TheVariants.{BeginUpdate, Begi
 use Rattle.esr_history.specs.declared.event.Reply.{Reply}
 use Rattle.esr_history.specs.declared.event.Entry.{Entry}
 use Rattle.esr_history.specs.Events.{is_refusal}
-use Rattle.esr_history.specs.BackLinks.{accepted_txn, txn_in, txn_of, is_key, places_from, last_place, earlier, coded}
+use Rattle.esr_history.specs.BackLinks.{accepted_txn, txn_in, txn_of, is_some_eq, places_from, last_place, earlier, coded}
 use Rattle.esr_history.specs.Machine.{DistanceFunction, Schedule, IsLegal}
 use Rattle.esr_history.specs.Operations.{Operation, operation_of, operation_by, operations_in, answer}
 use Rattle.esr_history.specs.Queries.{reads_by}
@@ -20,17 +20,17 @@ use Rattle.esr_order.proofs.Lists.{of_map}
 use Rattle.esr_order.proofs.Linked.{IsWalk, walk_none, walk_next, walk_done, walk_smaller, accepted_owns}
 
 -- the entries at the places of a key are those that have it
-entries_from : (key : Entry → Option ℕ) (k : ℕ) (past es : List Entry) → filter_map (slice_get (past ++ es)) (places_from key k (length past) es) ≡ filter (λ e. is_key (key e) k) es
+entries_from : (key : Entry → Option ℕ) (k : ℕ) (past es : List Entry) → filter_map (slice_get (past ++ es)) (places_from key k (length past) es) ≡ filter (λ e. is_some_eq (key e) k) es
 entries_from key k past [] = refl
 entries_from key k past (e ∷ es) =
-    at (is_key (key e) k)
+    at (is_some_eq (key e) k)
     (ap (λ n. filter_map (slice_get (past ++ e ∷ es)) (places_from key k n es)) (sym (length-append past (e ∷ [])))
     ∙ (ap (λ l. filter_map (slice_get l) (places_from key k (length (past ++ e ∷ [])) es)) (sym (append_assoc past (e ∷ []) es))
     ∙ entries_from key k (past ++ e ∷ []) es))
   where
-    at : (b : Bool) → filter_map (slice_get (past ++ e ∷ es)) (places_from key k (length past + 1) es) ≡ filter (λ e. is_key (key e) k) es
+    at : (b : Bool) → filter_map (slice_get (past ++ e ∷ es)) (places_from key k (length past + 1) es) ≡ filter (λ e. is_some_eq (key e) k) es
         → filter_map (slice_get (past ++ e ∷ es)) (if b then length past ∷ places_from key k (length past + 1) es else places_from key k (length past + 1) es)
-        ≡ cond b (e ∷ filter (λ e. is_key (key e) k) es) (filter (λ e. is_key (key e) k) es)
+        ≡ cond b (e ∷ filter (λ e. is_some_eq (key e) k) es) (filter (λ e. is_some_eq (key e) k) es)
     at true rest = ap (λ o. cons_option o (filter_map (slice_get (past ++ e ∷ es)) (places_from key k (length past + 1) es))) (get_seam past e es) ∙ ap (λ l. e ∷ l) rest
     at false rest = rest
 
@@ -47,16 +47,16 @@ module _ (t : ℕ) (e : Entry) (L : List Access) (R : List Operation) (rest : L 
   own true o = ap (λ l. access_of o ∷ l) rest
   own false o = rest
 
-  given : (ev : Event) (r : Reply) → cond (is_key (txn_of ev r) t) (cons_option (option_map access_of (operation_by ev r)) L) L ≡ map access_of (filter (by t) (cons_option (operation_by ev r) R))
-  given (BeginUpdate l) r = neither (is_key (txn_of (BeginUpdate l) r) t)
-  given (BeginQuery l s) r = neither (is_key (txn_of (BeginQuery l s) r) t)
+  given : (ev : Event) (r : Reply) → cond (is_some_eq (txn_of ev r) t) (cons_option (option_map access_of (operation_by ev r)) L) L ≡ map access_of (filter (by t) (cons_option (operation_by ev r) R))
+  given (BeginUpdate l) r = neither (is_some_eq (txn_of (BeginUpdate l) r) t)
+  given (BeginQuery l s) r = neither (is_some_eq (txn_of (BeginQuery l s) r) t)
   given (Read u x) r = own (eqb u.0 t) (record { txn = u.0; item = x.0; writes = false; value = answer r })
   given (Write u x v) r = own (eqb u.0 t) (record { txn = u.0; item = x.0; writes = true; value = v })
   given (Commit u) r = neither (eqb u.0 t)
   given (Abort u) r = neither (eqb u.0 t)
 
   -- whether or not it is refused
-  access_more : (b : Bool) → cond (is_key (if b then None else txn_of e.event e.reply) t) (cons_option (if b then None else option_map access_of (operation_of e)) L) L
+  access_more : (b : Bool) → cond (is_some_eq (if b then None else txn_of e.event e.reply) t) (cons_option (if b then None else option_map access_of (operation_of e)) L) L
       ≡ map access_of (filter (by t) (cond (not b) (cons_option (operation_of e) R) R))
   access_more true = rest
   access_more false = given e.event e.reply
@@ -65,11 +65,11 @@ spread : {X Y : Type 0} (f : X → Option Y) (b : Bool) (x : X) (xs : List X) �
 spread f true x xs = refl
 spread f false x xs = refl
 
-accesses_kept : (t : ℕ) (es : List Entry) → filter_map access_in (filter (λ e. is_key (accepted_txn e) t) es) ≡ map access_of (filter (by t) (filter_map operation_of (filter accepts es)))
+accesses_kept : (t : ℕ) (es : List Entry) → filter_map access_in (filter (λ e. is_some_eq (accepted_txn e) t) es) ≡ map access_of (filter (by t) (filter_map operation_of (filter accepts es)))
 accesses_kept t [] = refl
 accesses_kept t (e ∷ es) =
-    spread access_in (is_key (accepted_txn e) t) e (filter (λ e. is_key (accepted_txn e) t) es)
-    ∙ (access_more t e (filter_map access_in (filter (λ e. is_key (accepted_txn e) t) es)) (filter_map operation_of (filter accepts es)) (accesses_kept t es) (is_refusal e.reply)
+    spread access_in (is_some_eq (accepted_txn e) t) e (filter (λ e. is_some_eq (accepted_txn e) t) es)
+    ∙ (access_more t e (filter_map access_in (filter (λ e. is_some_eq (accepted_txn e) t) es)) (filter_map operation_of (filter accepts es)) (accesses_kept t es) (is_refusal e.reply)
     ∙ ap (λ l. map access_of (filter (by t) l)) (sym (spread operation_of (accepts e) e (filter accepts es))))
 
 accesses_along : (t : ℕ) (es : List Entry) → filter_map access_in (filter_map (slice_get es) (places_from accepted_txn t 0 es)) ≡ accesses_in es t

@@ -7,7 +7,7 @@ use Rattle.esr_base.specs.declared.numbers.TxnId.{TxnId}
 use Rattle.esr_history.specs.Machine.{DistanceFunction, Schedule, IsLegal}
 use Rattle.esr_history.specs.Operations.{Operation, operations}
 use Rattle.esr_history.specs.Serial.{is_before}
-use Rattle.esr_history.specs.Queries.{updates_of, must, reads_by}
+use Rattle.esr_history.specs.Queries.{updates_committed_before, must, reads_by}
 use Rattle.esr_history.proofs.Membership.{In, In-Contains, Contains-In, In-any, In-filter, In-of_filter, In-from_any, any-from_In, All-from_pairs, filter_agree_in}
 use Rattle.esr_history.proofs.Traces.{writes_item}
 use Rattle.esr_history.proofs.Versions.{wrote_by, wrote_parts}
@@ -111,62 +111,62 @@ seen_more h q u us s t a read written = record {
 
 -- the relevant ones among the updates of q from position i on
 pub record IsRelevantFrom (h : Schedule) (q i : ℕ) (us : List ℕ) : Type 0 where
-  pub in_order : us ≡ filter (is_among us) (drop i (updates_of h q))
-  pub relevant : (u : ℕ) → In u us ↔ (In u (drop i (updates_of h q)) × IsRelevant h q u)
+  pub in_order : us ≡ filter (is_among us) (drop i (updates_committed_before h q))
+  pub relevant : (u : ℕ) → In u us ↔ (In u (drop i (updates_committed_before h q)) × IsRelevant h q u)
 
 pub relevant_all : (h : Schedule) (q : ℕ) (us : List ℕ) → IsRelevantFrom h q 0 us → AreRelevant h q us
 relevant_all h q us n = record {
   in_order = n.in_order;
   relevant = λ u. (
-    (λ c. let r = (n.relevant u).0 (Contains-In us u c) in (In-Contains (updates_of h q) u r.0, r.1)),
-    (λ r. In-Contains us u ((n.relevant u).1 (Contains-In (updates_of h q) u r.0, r.1))),
+    (λ c. let r = (n.relevant u).0 (Contains-In us u c) in (In-Contains (updates_committed_before h q) u r.0, r.1)),
+    (λ r. In-Contains us u ((n.relevant u).1 (Contains-In (updates_committed_before h q) u r.0, r.1))),
   );
 }
 
 module _ (d : DistanceFunction) (h : Schedule) (q : ℕ) (legal : IsLegal d h) where
-  once : AllPairs (λ u v. u ≢ v) (updates_of h q)
-  once = All-from_pairs (λ u v. u ≢ v) (updates_of h q) (in_order d h q legal).once
+  once : AllPairs (λ u v. u ≢ v) (updates_committed_before h q)
+  once = All-from_pairs (λ u v. u ≢ v) (updates_committed_before h q) (in_order d h q legal).once
 
-  keeps : AllPairs (λ u v. is_before h v u ≡ false) (updates_of h q)
-  keeps = All-from_pairs (λ u v. is_before h v u ≡ false) (updates_of h q) (in_order d h q legal).keeps
+  keeps : AllPairs (λ u v. is_before h v u ≡ false) (updates_committed_before h q)
+  keeps = All-from_pairs (λ u v. is_before h v u ≡ false) (updates_committed_before h q) (in_order d h q legal).keeps
 
   -- the first of a row is before a relevant update
-  row_first : (row : List ℕ) (u v : ℕ) → Contains (updates_of h q) v → IsTrue (has_written_read h q v) → IsConflictPath h q u row v → (w : ℕ) × Contains (updates_of h q) w × (is_before h u w ≡ true) × IsRelevant h q w
+  row_first : (row : List ℕ) (u v : ℕ) → Contains (updates_committed_before h q) v → IsTrue (has_written_read h q v) → IsConflictPath h q u row v → (w : ℕ) × Contains (updates_committed_before h q) w × (is_before h u w ≡ true) × IsRelevant h q w
   row_first [] u v cv wrote r = (v, cv, r, inl wrote)
   row_first (w ∷ row) u v cv wrote r = (w, r.0, r.1, inr (inl (row, v, cv, wrote, r.2)))
 
   -- ---- one update further back
 
-  module _ (i : ℕ) (inside : i < length (updates_of h q)) (us : List ℕ) (so_far : IsRelevantFrom h q (suc i) us) where
+  module _ (i : ℕ) (inside : i < length (updates_committed_before h q)) (us : List ℕ) (so_far : IsRelevantFrom h q (suc i) us) where
     abbrev u : ℕ
     u = update_at h q i
 
-    apart : (w : ℕ) → In w (drop (suc i) (updates_of h q)) → u ≡ w → ⊥
-    apart w j e = let r = of_drop (updates_of h q) (suc i) w j in let low : suc i ≤ r.0 = r.1 in once i r.0 0 (omega arith) r.2 (e ∙ sym r.3)
+    apart : (w : ℕ) → In w (drop (suc i) (updates_committed_before h q)) → u ≡ w → ⊥
+    apart w j e = let r = of_drop (updates_committed_before h q) (suc i) w j in let low : suc i ≤ r.0 = r.1 in once i r.0 0 (omega arith) r.2 (e ∙ sym r.3)
 
     pub miss : (IsRelevant h q u → ⊥) → IsRelevantFrom h q i us
     miss far = record {
-      in_order = so_far.in_order ∙ sym (ap (filter (is_among us)) (drop_next (updates_of h q) i 0 inside)
-          ∙ ap (λ b. cond b (u ∷ filter (is_among us) (drop (suc i) (updates_of h q))) (filter (is_among us) (drop (suc i) (updates_of h q))))
+      in_order = so_far.in_order ∙ sym (ap (filter (is_among us)) (drop_next (updates_committed_before h q) i 0 inside)
+          ∙ ap (λ b. cond b (u ∷ filter (is_among us) (drop (suc i) (updates_committed_before h q))) (filter (is_among us) (drop (suc i) (updates_committed_before h q))))
           (false_from_ne_true (is_among us u) (λ t. apart u ((so_far.relevant u).0 (In-from_any us u t)).0 refl)));
       relevant = λ w. (
-        (λ j. let r = (so_far.relevant w).0 j in (subst (In w) (sym (drop_next (updates_of h q) i 0 inside)) (inr r.0), r.1)),
-        (λ r. ⊎_elim (λ e. absurd (far (subst (IsRelevant h q) (sym e) r.1))) (λ j. (so_far.relevant w).1 (j, r.1)) (subst (In w) (drop_next (updates_of h q) i 0 inside) r.0)),
+        (λ j. let r = (so_far.relevant w).0 j in (subst (In w) (sym (drop_next (updates_committed_before h q) i 0 inside)) (inr r.0), r.1)),
+        (λ r. ⊎_elim (λ e. absurd (far (subst (IsRelevant h q) (sym e) r.1))) (λ j. (so_far.relevant w).1 (j, r.1)) (subst (In w) (drop_next (updates_committed_before h q) i 0 inside) r.0)),
       );
     }
 
     pub hit : IsRelevant h q u → IsRelevantFrom h q i (u ∷ us)
     hit n = record {
       in_order =
-          ap (λ l. u ∷ l) (so_far.in_order ∙ filter_agree_in (is_among us) (is_among (u ∷ us)) (drop (suc i) (updates_of h q)) (λ w j. sym (ap (λ b. b || is_among us w) (ne_eqb u w (apart w j)))))
-          ∙ sym (ap (filter (is_among (u ∷ us))) (drop_next (updates_of h q) i 0 inside)
-          ∙ ap (λ b. cond (b || is_among us u) (u ∷ filter (is_among (u ∷ us)) (drop (suc i) (updates_of h q))) (filter (is_among (u ∷ us)) (drop (suc i) (updates_of h q)))) (eq-eqb u u refl));
+          ap (λ l. u ∷ l) (so_far.in_order ∙ filter_agree_in (is_among us) (is_among (u ∷ us)) (drop (suc i) (updates_committed_before h q)) (λ w j. sym (ap (λ b. b || is_among us w) (ne_eqb u w (apart w j)))))
+          ∙ sym (ap (filter (is_among (u ∷ us))) (drop_next (updates_committed_before h q) i 0 inside)
+          ∙ ap (λ b. cond (b || is_among us u) (u ∷ filter (is_among (u ∷ us)) (drop (suc i) (updates_committed_before h q))) (filter (is_among (u ∷ us)) (drop (suc i) (updates_committed_before h q)))) (eq-eqb u u refl));
       relevant = λ w. (
         (λ j. ⊎_elim
-            (λ e. (subst (In w) (sym (drop_next (updates_of h q) i 0 inside)) (inl e), subst (IsRelevant h q) e n))
-            (λ k. let r = (so_far.relevant w).0 k in (subst (In w) (sym (drop_next (updates_of h q) i 0 inside)) (inr r.0), r.1))
+            (λ e. (subst (In w) (sym (drop_next (updates_committed_before h q) i 0 inside)) (inl e), subst (IsRelevant h q) e n))
+            (λ k. let r = (so_far.relevant w).0 k in (subst (In w) (sym (drop_next (updates_committed_before h q) i 0 inside)) (inr r.0), r.1))
             j),
-        (λ r. ⊎_elim (λ e. inl e) (λ j. inr ((so_far.relevant w).1 (j, r.1))) (subst (In w) (drop_next (updates_of h q) i 0 inside) r.0)),
+        (λ r. ⊎_elim (λ e. inl e) (λ j. inr ((so_far.relevant w).1 (j, r.1))) (subst (In w) (drop_next (updates_committed_before h q) i 0 inside) r.0)),
       );
     }
 
@@ -175,11 +175,11 @@ module _ (d : DistanceFunction) (h : Schedule) (q : ℕ) (legal : IsLegal d h) w
       by_update : (o p : Operation) → In o (operations h) → In p (operations h) → o.txn ≡ u → In p.txn us → o.item ≡ p.item → (o.writes || p.writes) ≡ true → IsRelevant h q u
       by_update o p io ip own there_ item writes =
           let n = (so_far.relevant p.txn).0 there_ in
-          let r = of_drop (updates_of h q) (suc i) p.txn n.0 in
+          let r = of_drop (updates_committed_before h q) (suc i) p.txn n.0 in
           let low : suc i ≤ r.0 = r.1 in
           let back : is_before h p.txn u ≡ false = ap (λ v. is_before h v u) (sym r.3) ∙ keeps i r.0 0 (omega arith) r.2 in
           let before : is_before h u p.txn ≡ true = ahead h o p io ip (λ e. apart p.txn n.0 (sym own ∙ e)) item writes u p.txn own refl back in
-          relevant_back d h q legal u p.txn (there d h q legal i inside) before (subst (Contains (updates_of h q)) r.3 (there d h q legal r.0 r.2)) n.1
+          relevant_back d h q legal u p.txn (there d h q legal i inside) before (subst (Contains (updates_committed_before h q)) r.3 (there d h q legal r.0 r.2)) n.1
 
       by_read : (o p : Operation) → In o (operations h) → In p (operations h) → o.txn ≡ u → p.txn ≡ q → o.item ≡ p.item → o.writes ≡ true → p.writes ≡ false → IsRelevant h q u
       by_read o p io ip own reads item writes read =
@@ -228,11 +228,11 @@ module _ (d : DistanceFunction) (h : Schedule) (q : ℕ) (legal : IsLegal d h) w
               (and_from o.writes (marked s.read o.item) (⊎_elim (λ w. w) (λ w. absurd (true≢false (sym w ∙ is))) (or_cases o.writes p.writes writes))
               (seen.read o.item ∙ or_left (list_any (did h false o.item) us) (did h false o.item q) (any-from_In (did h false o.item) us p.txn there_ (operation_did h false o.item p.txn p ip refl item is)))))
 
-      before_relevant : (w : ℕ) → Contains (updates_of h q) w → is_before h u w ≡ true → IsRelevant h q w → list_any (conflicts_with s) (accesses_in h.entries u) ≡ true
+      before_relevant : (w : ℕ) → Contains (updates_committed_before h q) w → is_before h u w ≡ true → IsRelevant h q w → list_any (conflicts_with s) (accesses_in h.entries u) ≡ true
       before_relevant w cw b n =
-          let k = at_place (updates_of h q) w (Contains-In (updates_of h q) w cw) in
-          let lt : i < k.0 = up h (updates_of h q) once keeps i k.0 inside k.1 (ap (is_before h u) k.2 ∙ b) in
-          let later : In w us = (so_far.relevant w).1 (subst (λ v. In v (drop (suc i) (updates_of h q))) k.2 (in_drop (updates_of h q) (suc i) k.0 (omega arith) k.1), n) in
+          let k = at_place (updates_committed_before h q) w (Contains-In (updates_committed_before h q) w cw) in
+          let lt : i < k.0 = up h (updates_committed_before h q) once keeps i k.0 inside k.1 (ap (is_before h u) k.2 ∙ b) in
+          let later : In w us = (so_far.relevant w).1 (subst (λ v. In v (drop (suc i) (updates_committed_before h q))) k.2 (in_drop (updates_committed_before h q) (suc i) k.0 (omega arith) k.1), n) in
           let c = conflict_parts h u w b in
           with_update c.0 c.1 c.2 c.3 c.4 (subst (λ v. In v us) (sym c.5) later) (sym c.6) c.7
 
@@ -257,7 +257,7 @@ module _ (d : DistanceFunction) (h : Schedule) (q : ℕ) (legal : IsLegal d h) w
               let n = length (must h q) in
               let k = of_map (update_at h q) (Rattle.std.specs.List.range_with_len 0 n) u (subst (In u) (sym (must_positions d h q legal n refl)) (Contains-In (must h q) u c)) in
               let l : k.0 < n = Rattle.esr_history.proofs.Membership.each_at (λ i. i < n) (Rattle.std.specs.List.range_with_len 0 n) k.0 (range_below 0 n n (omega arith)) k.1 in
-              let upper_bound : n ≤ length (updates_of h q) = must_below d h q legal in
+              let upper_bound : n ≤ length (updates_committed_before h q) = must_below d h q legal in
               ⊎_elim (λ e. omega (arith, e, l))
               (λ o. ⊎_elim (λ lt. absurd (once k.0 i 0 lt inside k.2)) (λ gt. omega (arith, gt, l)) o)
               (Rattle.std.proofs.lemmas.Bool.cases_order k.0 i)
@@ -270,7 +270,7 @@ pub record IsSought (h : Schedule) (q i : ℕ) (items : Items) (relevant : List 
   pub seen : AreSeen h q (map (λ t. t.0) (reverse relevant)) (seen_items items)
   pub relevant_from : IsRelevantFrom h q i (map (λ t. t.0) (reverse relevant))
 
-module _ (d : DistanceFunction) (h : Schedule) (q : ℕ) (legal : IsLegal d h) (updates : List TxnId) (same : map (λ t. t.0) updates ≡ updates_of h q) (k i : ℕ) (next : k ≡ suc i) (inside : i < length (updates_of h q)) (here : i < length updates)
+module _ (d : DistanceFunction) (h : Schedule) (q : ℕ) (legal : IsLegal d h) (updates : List TxnId) (same : map (λ t. t.0) updates ≡ updates_committed_before h q) (k i : ℕ) (next : k ≡ suc i) (inside : i < length (updates_committed_before h q)) (here : i < length updates)
     (items : Items) (relevant : List TxnId) (so_far : IsSought h q k items relevant) (list : List Access) (did_by : list ≡ accesses_in h.entries (get_or updates i no_txn).0) where
   abbrev us : List ℕ
   us = map (λ (t : TxnId). t.0) (reverse relevant)
@@ -282,7 +282,7 @@ module _ (d : DistanceFunction) (h : Schedule) (q : ℕ) (legal : IsLegal d h) (
   from_next = subst (λ m. IsRelevantFrom h q m us) next so_far.relevant_from
 
   number : (get_or updates i no_txn).0 ≡ own
-  number = number_at updates (updates_of h q) i no_txn same here
+  number = number_at updates (updates_committed_before h q) i no_txn same here
 
   accesses : list ≡ accesses_in h.entries own
   accesses = did_by ∙ ap (accesses_in h.entries) number

@@ -16,8 +16,8 @@ use Rattle.esr_history.specs.declared.back_links.Facts.{Facts}
 use Rattle.esr_history.specs.Events.{BeginRecord, is_refusal, accepted, begin_record, begin_record_of, begin_records, is_begun, is_query, is_update, is_committed}
 use Rattle.esr_history.specs.Machine.{DistanceFunction, Schedule, accepted_in, IsLegal}
 use Rattle.esr_history.specs.Operations.{committer, commit_order}
-use Rattle.esr_history.specs.Queries.{is_committed_query, updates_of, must, is_strict, before_begin}
-use Rattle.esr_history.specs.BackLinks.{ender, accepted_end, is_key, last_place, facts_by, facts_of}
+use Rattle.esr_history.specs.Queries.{is_committed_query, updates_committed_before, must, is_strict, before_begin}
+use Rattle.esr_history.specs.BackLinks.{ender, ended_txn, is_some_eq, last_place, facts_by, facts_of}
 use Rattle.esr_history.proofs.Membership.{In, In-from_any, In-Contains, Contains-In, In-of_filter, In-append_left, In-append_right, In-append_cases, filter_agree_in, any-from_number}
 use Rattle.esr_history.proofs.Bounded.{In-before_first, before_first-here, before_first-later}
 use Rattle.esr_history.proofs.WithinRanges.{legal_begins}
@@ -37,23 +37,23 @@ module _ (es : List Entry) (t : ℕ) where
   pub facts_none : None ≡ facts_of es t → begin_record (accepted es) t ≡ None
   facts_none none = at (begin_record (accepted es) t) none
     where
-      at : (b : Option BeginRecord) → None ≡ facts_by b (last_place accepted_end t es) → b ≡ None
+      at : (b : Option BeginRecord) → None ≡ facts_by b (last_place ended_txn t es) → b ≡ None
       at None e = refl
       at (Some b) e = absurd (cc)
 
-  pub facts_some : (f : Facts) → Some f ≡ facts_of es t → (b : BeginRecord) × (begin_record (accepted es) t ≡ Some b) × (f.query ≡ b.query) × (f.end ≡ last_place accepted_end t es)
+  pub facts_some : (f : Facts) → Some f ≡ facts_of es t → (b : BeginRecord) × (begin_record (accepted es) t ≡ Some b) × (f.query ≡ b.query) × (f.end ≡ last_place ended_txn t es)
   facts_some f some = at (begin_record (accepted es) t) refl some
     where
-      at : (o : Option BeginRecord) → begin_record (accepted es) t ≡ o → Some f ≡ facts_by o (last_place accepted_end t es) → (b : BeginRecord) × (begin_record (accepted es) t ≡ Some b) × (f.query ≡ b.query) × (f.end ≡ last_place accepted_end t es)
+      at : (o : Option BeginRecord) → begin_record (accepted es) t ≡ o → Some f ≡ facts_by o (last_place ended_txn t es) → (b : BeginRecord) × (begin_record (accepted es) t ≡ Some b) × (f.query ≡ b.query) × (f.end ≡ last_place ended_txn t es)
       at None is e = absurd (cc)
       at (Some b) is e =
-          let s : f ≡ record { query = b.query; limit = b.limit; end = last_place accepted_end t es } = same_Some f (record { query = b.query; limit = b.limit; end = last_place accepted_end t es }) e in
+          let s : f ≡ record { query = b.query; limit = b.limit; end = last_place ended_txn t es } = same_Some f (record { query = b.query; limit = b.limit; end = last_place ended_txn t es }) e in
           (b, is, ap (λ (g : Facts). g.query) s, ap (λ (g : Facts). g.end) s)
 
   pub query_some : (f : Facts) → Some f ≡ facts_of es t → f.query ≡ is_query (accepted es) t
   query_some f some = let s = facts_some f some in s.2 ∙ sym (ap (λ (b : Option BeginRecord). unwrap_or (option_map (λ c. c.query) b) false) s.1)
 
-  pub end_some : (f : Facts) → Some f ≡ facts_of es t → f.end ≡ last_place accepted_end t es
+  pub end_some : (f : Facts) → Some f ≡ facts_of es t → f.end ≡ last_place ended_txn t es
   end_some f some = (facts_some f some).3
 
 -- ---- commits
@@ -71,10 +71,10 @@ committed_are es =
     numbers (Commit t ∷ events) = ap (λ (ns : List ℕ). t.0 ∷ ns) (numbers events)
     numbers (Abort t ∷ events) = numbers events
 
-commit_key : (e : Entry) (u : TxnId) → commit_in e ≡ Some u → is_key (accepted_end e) u.0 ≡ true
+commit_key : (e : Entry) (u : TxnId) → commit_in e ≡ Some u → is_some_eq (ended_txn e) u.0 ≡ true
 commit_key e u is = at (is_refusal e.reply) e.event is
   where
-    at : (b : Bool) (ev : Event) → (if b then None else commit_by ev) ≡ Some u → is_key (if b then None else ender ev) u.0 ≡ true
+    at : (b : Bool) (ev : Event) → (if b then None else commit_by ev) ≡ Some u → is_some_eq (if b then None else ender ev) u.0 ≡ true
     at true ev f = absurd (cc)
     at false (BeginUpdate l) f = absurd (cc)
     at false (BeginQuery l s) f = absurd (cc)
@@ -84,10 +84,10 @@ commit_key e u is = at (is_refusal e.reply) e.event is
     at false (Abort t) f = absurd (cc)
 
 -- an entry that ends a transaction commits it, or commits none
-end_commit : (e : Entry) (t : ℕ) → is_key (accepted_end e) t ≡ true → is_some (commit_in e) ≡ true → (u : TxnId) × (commit_in e ≡ Some u) × (u.0 ≡ t)
+end_commit : (e : Entry) (t : ℕ) → is_some_eq (ended_txn e) t ≡ true → is_some (commit_in e) ≡ true → (u : TxnId) × (commit_in e ≡ Some u) × (u.0 ≡ t)
 end_commit e t key some = at (is_refusal e.reply) e.event key some
   where
-    at : (b : Bool) (ev : Event) → is_key (if b then None else ender ev) t ≡ true → is_some (if b then None else commit_by ev) ≡ true → (u : TxnId) × ((if b then None else commit_by ev) ≡ Some u) × (u.0 ≡ t)
+    at : (b : Bool) (ev : Event) → is_some_eq (if b then None else ender ev) t ≡ true → is_some (if b then None else commit_by ev) ≡ true → (u : TxnId) × ((if b then None else commit_by ev) ≡ Some u) × (u.0 ≡ t)
     at true ev k s = absurd (true≢false (sym s))
     at false (BeginUpdate l) k s = absurd (true≢false (sym s))
     at false (BeginQuery l s') k s = absurd (true≢false (sym s))
@@ -129,26 +129,26 @@ entry_commits es i e u at is =
 
 module _ (d : DistanceFunction) (h : Schedule) (legal : IsLegal d h) where
   -- a transaction has committed if and only if its end is a commit
-  pub commit_at_end : (t : ℕ) → is_commit_at h.entries (last_place accepted_end t h.entries) ≡ is_committed (accepted_in h) t
-  commit_at_end t = ends (last_place accepted_end t h.entries) refl
+  pub commit_at_end : (t : ℕ) → is_commit_at h.entries (last_place ended_txn t h.entries) ≡ is_committed (accepted_in h) t
+  commit_at_end t = ends (last_place ended_txn t h.entries) refl
     where
-      ends : (o : Option ℕ) → last_place accepted_end t h.entries ≡ o → is_commit_at h.entries o ≡ is_committed (accepted_in h) t
+      ends : (o : Option ℕ) → last_place ended_txn t h.entries ≡ o → is_commit_at h.entries o ≡ is_committed (accepted_in h) t
       ends None none = sym (false_from_ne_true (is_committed (accepted_in h) t) (λ is.
           let c = commit_entry h.entries t is in
-          let bad : None ≡ Some c.0 = sym none ∙ end_is d h legal t c.0 c.1 c.3 (subst (λ k. is_key (accepted_end c.1) k ≡ true) c.5 (commit_key c.1 c.2 c.4)) in
+          let bad : None ≡ Some c.0 = sym none ∙ end_is d h legal t c.0 c.1 c.3 (subst (λ k. is_some_eq (ended_txn c.1) k ≡ true) c.5 (commit_key c.1 c.2 c.4)) in
           let worse : ⊥ = cc in worse))
       ends (Some p) some =
-          let s = split_at accepted_end t h.entries p some in
+          let s = split_at ended_txn t h.entries p some in
           ap commits_in s.at ∙ at s.entry s.at s.has (is_some (commit_in s.entry)) refl
         where
-          at : (e : Entry) → slice_get h.entries p ≡ Some e → is_key (accepted_end e) t ≡ true → (b : Bool) → is_some (commit_in e) ≡ b → is_some (commit_in e) ≡ is_committed (accepted_in h) t
+          at : (e : Entry) → slice_get h.entries p ≡ Some e → is_some_eq (ended_txn e) t ≡ true → (b : Bool) → is_some (commit_in e) ≡ b → is_some (commit_in e) ≡ is_committed (accepted_in h) t
           at e there key true is =
               let c = end_commit e t key is in
               is ∙ sym (subst (λ k. is_committed (accepted_in h) k ≡ true) c.2 (entry_commits h.entries p e c.0 there c.1))
           at e there key false is =
               is ∙ sym (false_from_ne_true (is_committed (accepted_in h) t) (λ yes_it_has.
               let c = commit_entry h.entries t yes_it_has in
-              let same : p ≡ c.0 = same_Some p c.0 (sym some ∙ end_is d h legal t c.0 c.1 c.3 (subst (λ k. is_key (accepted_end c.1) k ≡ true) c.5 (commit_key c.1 c.2 c.4))) in
+              let same : p ≡ c.0 = same_Some p c.0 (sym some ∙ end_is d h legal t c.0 c.1 c.3 (subst (λ k. is_some_eq (ended_txn c.1) k ≡ true) c.5 (commit_key c.1 c.2 c.4))) in
               let entry : e ≡ c.1 = same_Some e c.1 (sym there ∙ (ap (slice_get h.entries) same ∙ c.3)) in
               true≢false (sym (ap (λ e. is_some (commit_in e)) entry ∙ ap is_some c.4) ∙ is)))
 
@@ -163,7 +163,7 @@ module _ (d : DistanceFunction) (h : Schedule) (legal : IsLegal d h) where
       inside : (i : ℕ) → In i at → i < 0 + length h.entries
       inside i j =
           let r = ends.only i (In-Contains at i j) in
-          let s = split_at accepted_end r.0 h.entries i r.1 in
+          let s = split_at ended_txn r.0 h.entries i r.1 in
           let l : i < length h.entries = get_inside h.entries i s.entry s.at in omega arith
 
       yields : (i : ℕ) (e : Entry) → slice_get h.entries i ≡ Some e → (In i at → ⊥) → commit_in e ≡ None
@@ -181,7 +181,7 @@ module _ (d : DistanceFunction) (h : Schedule) (legal : IsLegal d h) where
   ended_early : (t place : ℕ) → is_committed (accepted_in h) t ≡ true → has_ended_before h t place ≡ is_committed (accepted (take place h.entries)) t
   ended_early t place is =
       let c = commit_entry h.entries t is in
-      let end : last_place accepted_end t h.entries ≡ Some c.0 = end_is d h legal t c.0 c.1 c.3 (subst (λ k. is_key (accepted_end c.1) k ≡ true) c.5 (commit_key c.1 c.2 c.4)) in
+      let end : last_place ended_txn t h.entries ≡ Some c.0 = end_is d h legal t c.0 c.1 c.3 (subst (λ k. is_some_eq (ended_txn c.1) k ≡ true) c.5 (commit_key c.1 c.2 c.4)) in
       ended (begin_record (accepted_in h) t) refl (committed_begun t is)
       ∙ (ap (λ o. is_end_before o place) end
       ∙ ⊎_elim
@@ -190,13 +190,13 @@ module _ (d : DistanceFunction) (h : Schedule) (legal : IsLegal d h) where
       let f = commit_entry (take place h.entries) t early in
       let inside = get_take h.entries place f.0 f.1 f.3 in
       let low : f.0 < place = inside.0 in
-      let same : c.0 ≡ f.0 = same_Some c.0 f.0 (sym end ∙ end_is d h legal t f.0 f.1 inside.1 (subst (λ k. is_key (accepted_end f.1) k ≡ true) f.5 (commit_key f.1 f.2 f.4))) in
+      let same : c.0 ≡ f.0 = same_Some c.0 f.0 (sym end ∙ end_is d h legal t f.0 f.1 inside.1 (subst (λ k. is_some_eq (ended_txn f.1) k ≡ true) f.5 (commit_key f.1 f.2 f.4))) in
       omega (arith, same, low, g))))
       (cases_lt c.0 place))
     where
-      ended : (o : Option BeginRecord) → begin_record (accepted_in h) t ≡ o → is_some o ≡ true → has_ended_before h t place ≡ is_end_before (last_place accepted_end t h.entries) place
+      ended : (o : Option BeginRecord) → begin_record (accepted_in h) t ≡ o → is_some o ≡ true → has_ended_before h t place ≡ is_end_before (last_place ended_txn t h.entries) place
       ended None none begun = absurd (true≢false (sym begun))
-      ended (Some b) some begun = ap (λ o. is_ended_before (facts_by o (last_place accepted_end t h.entries)) place) some
+      ended (Some b) some begun = ap (λ o. is_ended_before (facts_by o (last_place ended_txn t h.entries)) place) some
 
       nat_lt_true : (a b : ℕ) → a < b → nat_lt a b ≡ true
       nat_lt_true a b l = grind (arith, nat_tests)
@@ -210,7 +210,7 @@ module _ (d : DistanceFunction) (h : Schedule) (legal : IsLegal d h) where
       get_front (y ∷ xs) (suc m) zero x l is = is
       get_front (y ∷ xs) (suc m) (suc i) x l is = get_front xs m i x (omega arith) is
 
-  pub must_counted : (q place : ℕ) → take place h.entries ≡ before_begin h q → (updates : List TxnId) → map (λ (t : TxnId). t.0) updates ≡ updates_of h q → is_strict (accepted_in h) q ≡ true
+  pub must_counted : (q place : ℕ) → take place h.entries ≡ before_begin h q → (updates : List TxnId) → map (λ (t : TxnId). t.0) updates ≡ updates_committed_before h q → is_strict (accepted_in h) q ≡ true
       → count_by (λ (t : TxnId). has_ended_before h t.0 place) updates ≡ length (must h q)
   must_counted q place front updates are strict =
       sym (length-filter (λ (t : TxnId). has_ended_before h t.0 place) updates)
@@ -218,19 +218,19 @@ module _ (d : DistanceFunction) (h : Schedule) (legal : IsLegal d h) where
       (λ t i. ended_early t.0 place (committed t i) ∙ ap (λ es. is_committed (accepted es) t.0) front))
       ∙ (sym (length-map (filter (λ (t : TxnId). is_committed (accepted (before_begin h q)) t.0) updates) (λ (t : TxnId). t.0))
       ∙ (ap length (mapped_filter (is_committed (accepted (before_begin h q))) updates ∙ ap (filter (is_committed (accepted (before_begin h q)))) are)
-      ∙ ap length (sym (ap (λ b. if b then filter (is_committed (accepted (before_begin h q))) (updates_of h q) else []) strict)))))
+      ∙ ap length (sym (ap (λ b. if b then filter (is_committed (accepted (before_begin h q))) (updates_committed_before h q) else []) strict)))))
     where
       committed : (t : TxnId) → In t updates → is_committed (accepted_in h) t.0 ≡ true
       committed t i =
-          let u : In t.0 (updates_of h q) = subst (In t.0) are (numbers_in updates t i) in
+          let u : In t.0 (updates_committed_before h q) = subst (In t.0) are (numbers_in updates t i) in
           committed_among (accepted_in h) t.0 ∙ any-from_number (commit_order (accepted_in h)) t.0 (In-before_first (λ t. t == q) (commit_order (accepted_in h)) t.0 (In-of_filter (is_update (accepted_in h)) (before_first (λ t. t == q) (commit_order (accepted_in h))) t.0 u).0)
 
 pub not_strict : (h : Schedule) (q : ℕ) → is_strict (accepted_in h) q ≡ false → 0 ≡ length (must h q)
-not_strict h q is = ap length (sym (ap (λ b. if b then filter (is_committed (accepted (before_begin h q))) (updates_of h q) else []) is))
+not_strict h q is = ap length (sym (ap (λ b. if b then filter (is_committed (accepted (before_begin h q))) (updates_committed_before h q) else []) is))
 
 -- the updates among those that committed before the query
 pub updates_are : (h : Schedule) (q : ℕ) (committed : List TxnId) → map (λ (t : TxnId). t.0) committed ≡ commit_order (accepted_in h)
-    → (updates : List TxnId) → updates ≡ filter (λ (t : TxnId). is_update (accepted_in h) t.0) (before_first (λ (t : TxnId). t.0 == q) committed) → map (λ (t : TxnId). t.0) updates ≡ updates_of h q
+    → (updates : List TxnId) → updates ≡ filter (λ (t : TxnId). is_update (accepted_in h) t.0) (before_first (λ (t : TxnId). t.0 == q) committed) → map (λ (t : TxnId). t.0) updates ≡ updates_committed_before h q
 updates_are h q committed are updates is =
     ap (map (λ (t : TxnId). t.0)) is
     ∙ (mapped_filter (is_update (accepted_in h)) (before_first (λ (t : TxnId). t.0 == q) committed)
@@ -272,26 +272,26 @@ strict_is es t b is e event = at e.event event ∙ sym (ap (λ (o : Option Begin
 
 -- ---- the ends, number by number
 pub record AreEndsBelow (es : List Entry) (t : ℕ) (ends : List ℕ) : Type 0 where
-  pub all : (k p : ℕ) → 1 ≤ k → k < t → last_place accepted_end k es ≡ Some p → In p ends
-  pub only : (p : ℕ) → In p ends → (k : ℕ) × (last_place accepted_end k es ≡ Some p)
+  pub all : (k p : ℕ) → 1 ≤ k → k < t → last_place ended_txn k es ≡ Some p → In p ends
+  pub only : (p : ℕ) → In p ends → (k : ℕ) × (last_place ended_txn k es ≡ Some p)
 
 pub ends_none : (es : List Entry) → AreEndsBelow es 1 []
 ends_none es = record { all = λ k p l m is. absurd (omega arith); only = λ p i. absurd i }
 
-pub ends_more : (es : List Entry) (t : ℕ) (ends more : List ℕ) (end : Option ℕ) → end ≡ last_place accepted_end t es → more ≡ ends ++ end_in end → AreEndsBelow es t ends → AreEndsBelow es (t + 1) more
+pub ends_more : (es : List Entry) (t : ℕ) (ends more : List ℕ) (end : Option ℕ) → end ≡ last_place ended_txn t es → more ≡ ends ++ end_in end → AreEndsBelow es t ends → AreEndsBelow es (t + 1) more
 ends_more es t ends more end is grown was = subst (AreEndsBelow es (t + 1)) (sym grown) (at end is)
   where
-    at : (o : Option ℕ) → o ≡ last_place accepted_end t es → AreEndsBelow es (t + 1) (ends ++ end_in o)
+    at : (o : Option ℕ) → o ≡ last_place ended_txn t es → AreEndsBelow es (t + 1) (ends ++ end_in o)
     at o is = record {
       all = λ k p low high at_k.
           ⊎_elim
-          (λ e. In-append_right ends (end_in o) p (subst (λ q. In p (end_in q)) (sym (is ∙ (ap (λ k. last_place accepted_end k es) (sym e) ∙ at_k))) (inl refl)))
+          (λ e. In-append_right ends (end_in o) p (subst (λ q. In p (end_in q)) (sym (is ∙ (ap (λ k. last_place ended_txn k es) (sym e) ∙ at_k))) (inl refl)))
           (λ ne. In-append_left ends (end_in o) p (was.all k p low (⊎_elim (λ lt. lt) (λ gt. absurd (omega (arith, gt, high))) ne) at_k))
           (cases_order k t);
       only = λ p i. ⊎_elim (λ j. was.only p j) (λ j. (t, last o is p j)) (In-append_cases ends (end_in o) p i);
     }
       where
-        last : (o : Option ℕ) → o ≡ last_place accepted_end t es → (p : ℕ) → In p (end_in o) → last_place accepted_end t es ≡ Some p
+        last : (o : Option ℕ) → o ≡ last_place ended_txn t es → (p : ℕ) → In p (end_in o) → last_place ended_txn t es ≡ Some p
         last None is p i = absurd i
         last (Some e) is p i = sym is ∙ ⊎_elim (λ f. ap Some f) (λ b. absurd b) i
 

@@ -7,7 +7,7 @@ use Rattle.esr_base.specs.declared.numbers.TxnId.{TxnId}
 use Rattle.esr_history.specs.Machine.{DistanceFunction, Schedule, IsLegal}
 use Rattle.esr_history.specs.Operations.{operations}
 use Rattle.esr_history.specs.Serial.{is_before, values_by}
-use Rattle.esr_history.specs.Queries.{updates_of, must}
+use Rattle.esr_history.specs.Queries.{updates_committed_before, must}
 use Rattle.esr_history.proofs.Membership.{In, In-filter, Contains-In, In-Contains, Pairs, All-from_pairs, Pairs-filter, In-of_filter, each_in, each_at, filter_none_in}
 use Rattle.esr_history.proofs.Versions.{wrote_by, wrote_parts}
 use Rattle.esr_history.proofs.TraceAgreement.{values_trace}
@@ -193,7 +193,7 @@ module _ (d : DistanceFunction) (h : Schedule) (q : ℕ) (legal : IsLegal d h) (
         length_numbers (t ∷ ts) = ap suc (length_numbers ts)
 
 -- among all updates of the query
-pub order_whole : (h : Schedule) (q : ℕ) (o : ConflictOrder) → IsConflictOrderOn h q (updates_of h q) o → IsConflictOrder h q o
+pub order_whole : (h : Schedule) (q : ℕ) (o : ConflictOrder) → IsConflictOrderOn h q (updates_committed_before h q) o → IsConflictOrder h q o
 order_whole h q o a = record {
   commits = a.commits;
   serial = a.serial;

@@ -8,7 +8,7 @@ use Rattle.esr_history.specs.Events.{is_update, begin_records}
 use Rattle.esr_history.specs.Machine.{DistanceFunction, Schedule, accepted_in, IsLegal}
 use Rattle.esr_history.specs.Operations.{commit_order}
 use Rattle.esr_history.specs.Serial.{is_before}
-use Rattle.esr_history.specs.Queries.{updates_of}
+use Rattle.esr_history.specs.Queries.{updates_committed_before}
 use Rattle.esr_history.proofs.Membership.{In, Pairs, Pairs-left, In-of_filter, In-any, each_in, each_at, any-from_number}
 use Rattle.esr_history.proofs.Bounded.{In-before_first}
 use Rattle.esr_history.proofs.LegalWellFormed.{begun_in_range}
@@ -37,7 +37,7 @@ law_of_placements d h q legal = closed_sets_are_parts h q (in_order d h q legal)
 
 module _ (d : DistanceFunction) (h : Schedule) (q : ℕ) (legal : IsLegal d h) where
   -- an update of q has begun
-  pub listed_begun : (u : ℕ) → In u (updates_of h q) → (1 ≤ u) × (u < 1 + length (begin_records (accepted_in h)))
+  pub listed_begun : (u : ℕ) → In u (updates_committed_before h q) → (1 ≤ u) × (u < 1 + length (begin_records (accepted_in h)))
   listed_begun u i =
       let c : In u (commit_order (accepted_in h)) = In-before_first (λ t. eqb t q) (commit_order (accepted_in h)) u (In-of_filter (is_update (accepted_in h)) (before_first (λ t. eqb t q) (commit_order (accepted_in h))) u i).0 in
       begun_in_range (accepted_in h) u ((known (legal_reached d h legal)).of_ends u (or_left (list_any (λ w. eqb w u) (commit_order (accepted_in h))) (list_any (λ w. eqb w u) (trace h).aborts) (any-from_number (commit_order (accepted_in h)) u c)))
@@ -48,14 +48,14 @@ module _ (d : DistanceFunction) (h : Schedule) (q : ℕ) (legal : IsLegal d h) w
   distinct (u ∷ us) once = (each_in (λ v. eqb u v ≡ false) us (λ v i. ne_eqb u v (each_at (λ w. u ≡ w → ⊥) us v once.0 i)), distinct us once.1)
 
   -- there are as many updates as numbers at most
-  pub bounded_updates : length (updates_of h q) ≤ 65535
+  pub bounded_updates : length (updates_committed_before h q) ≤ 65535
   bounded_updates =
       let begins : length (begin_records (accepted_in h)) ≤ 65535 = legal_begins d h legal in
-      let none : AllByRecursion (λ u. 0 ≡ u → ⊥) (updates_of h q) = each_in (λ u. 0 ≡ u → ⊥) (updates_of h q) (λ u i e. let low : 1 ≤ u = (listed_begun u i).0 in omega (arith, low, e)) in
-      let all : length (0 ∷ updates_of h q) ≤ 1 + length (begin_records (accepted_in h)) =
-      length-le_from_distinct_below (0 ∷ updates_of h q) (1 + length (begin_records (accepted_in h))) (distinct (0 ∷ updates_of h q) (none, (in_order d h q legal).once))
-      (λ u some. let w = In-any (eqb u) (0 ∷ updates_of h q) some in subst (λ v. v < 1 + length (begin_records (accepted_in h))) (sym (eqb-true u w.0 w.2)) (elim w.1 [ inl zero_is ↦ below w.0 zero_is | inr i ↦ (listed_begun w.0 i).1 ])) in
-      shorter (updates_of h q) (length (begin_records (accepted_in h))) all begins
+      let none : AllByRecursion (λ u. 0 ≡ u → ⊥) (updates_committed_before h q) = each_in (λ u. 0 ≡ u → ⊥) (updates_committed_before h q) (λ u i e. let low : 1 ≤ u = (listed_begun u i).0 in omega (arith, low, e)) in
+      let all : length (0 ∷ updates_committed_before h q) ≤ 1 + length (begin_records (accepted_in h)) =
+      length-le_from_distinct_below (0 ∷ updates_committed_before h q) (1 + length (begin_records (accepted_in h))) (distinct (0 ∷ updates_committed_before h q) (none, (in_order d h q legal).once))
+      (λ u some. let w = In-any (eqb u) (0 ∷ updates_committed_before h q) some in subst (λ v. v < 1 + length (begin_records (accepted_in h))) (sym (eqb-true u w.0 w.2)) (elim w.1 [ inl zero_is ↦ below w.0 zero_is | inr i ↦ (listed_begun w.0 i).1 ])) in
+      shorter (updates_committed_before h q) (length (begin_records (accepted_in h))) all begins
     where
       below : (v : ℕ) → 0 ≡ v → v < 1 + length (begin_records (accepted_in h))
       below v e = omega (arith, e)

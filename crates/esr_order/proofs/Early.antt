@@ -8,7 +8,7 @@ use Rattle.esr_history.specs.declared.event.Entry.{Entry}
 use Rattle.esr_history.specs.Events.{accepted, is_update, is_committed, is_begun}
 use Rattle.esr_history.specs.Machine.{DistanceFunction, Schedule, accepted_in, IsLegal}
 use Rattle.esr_history.specs.Operations.{committer, commit_order}
-use Rattle.esr_history.specs.Queries.{begins, before_begin, updates_of, must, is_strict}
+use Rattle.esr_history.specs.Queries.{begins, before_begin, updates_committed_before, must, is_strict}
 use Rattle.esr_history.proofs.Membership.{In, Pairs, Pairs-across, In-of_filter, filter_none_in, In-from_any, any-from_number}
 use Rattle.esr_history.proofs.Bounded.{before_first-here, before_first-later, In-before_first}
 use Rattle.esr_history.proofs.Locking.{known, commits_once}
@@ -83,14 +83,14 @@ module _ (d : DistanceFunction) (h : Schedule) (q : ℕ) (legal : IsLegal d h) w
   abbrev rest : List ℕ
   rest = filter (is_update (accepted_in h)) (before_first (λ t. eqb t q) (commit_order (accepted later)))
 
-  updates_split : updates_of h q ≡ first ++ rest
+  updates_split : updates_committed_before h q ≡ first ++ rest
   updates_split =
       ap (λ l. filter (is_update (accepted_in h)) (before_first (λ t. eqb t q) l)) all_commits
       ∙ (ap (filter (is_update (accepted_in h))) (before_first-past (λ t. eqb t q) early (commit_order (accepted later)) not_early)
       ∙ filter-append (is_update (accepted_in h)) early (before_first (λ t. eqb t q) (commit_order (accepted later))))
 
   -- the first ones are exactly those that committed before q began
-  must_first : filter (is_committed (accepted (before_begin h q))) (updates_of h q) ≡ first
+  must_first : filter (is_committed (accepted (before_begin h q))) (updates_committed_before h q) ≡ first
   must_first =
       ap (filter (is_committed (accepted (before_begin h q)))) updates_split
       ∙ (filter-append (is_committed (accepted (before_begin h q))) first rest
@@ -115,19 +115,19 @@ module _ (d : DistanceFunction) (h : Schedule) (q : ℕ) (legal : IsLegal d h) w
   pub must_positions : (n : ℕ) → n ≡ length (must h q) → map (update_at h q) (range_with_len 0 n) ≡ must h q
   must_positions n is = at (is_strict (accepted_in h) q) is
     where
-      at : (b : Bool) → n ≡ length (if b then filter (is_committed (accepted (before_begin h q))) (updates_of h q) else [])
-          → map (update_at h q) (range_with_len 0 n) ≡ (if b then filter (is_committed (accepted (before_begin h q))) (updates_of h q) else [])
+      at : (b : Bool) → n ≡ length (if b then filter (is_committed (accepted (before_begin h q))) (updates_committed_before h q) else [])
+          → map (update_at h q) (range_with_len 0 n) ≡ (if b then filter (is_committed (accepted (before_begin h q))) (updates_committed_before h q) else [])
       at true count =
           ap (λ m. map (update_at h q) (range_with_len 0 m)) (count ∙ ap length must_first)
           ∙ (ap (λ us. map (λ i. slice_index_or us i 0) (range_with_len 0 (length first))) updates_split ∙ (part_at [] first rest ∙ sym must_first))
       at false count = ap (λ m. map (update_at h q) (range_with_len 0 m)) count
 
-  pub must_below : length (must h q) ≤ length (updates_of h q)
+  pub must_below : length (must h q) ≤ length (updates_committed_before h q)
   must_below = at (is_strict (accepted_in h) q)
     where
-      at : (b : Bool) → length (if b then filter (is_committed (accepted (before_begin h q))) (updates_of h q) else []) ≤ length (updates_of h q)
+      at : (b : Bool) → length (if b then filter (is_committed (accepted (before_begin h q))) (updates_committed_before h q) else []) ≤ length (updates_committed_before h q)
       at true =
-          let a : length (filter (is_committed (accepted (before_begin h q))) (updates_of h q)) ≡ length first = ap length must_first in
-          let c : length (updates_of h q) ≡ length first + length rest = ap length updates_split ∙ length-append first rest in
+          let a : length (filter (is_committed (accepted (before_begin h q))) (updates_committed_before h q)) ≡ length first = ap length must_first in
+          let c : length (updates_committed_before h q) ≡ length first + length rest = ap length updates_split ∙ length-append first rest in
           omega arith
       at false = omega arith

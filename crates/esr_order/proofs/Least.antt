@@ -6,10 +6,10 @@ use Rattle.std.proofs.lemmas.List.Elements.{recursion_from_All}
 use Rattle.esr_history.specs.Machine.{DistanceFunction, Schedule, accepted_in}
 use Rattle.esr_history.specs.Events.{is_committed, accepted}
 use Rattle.esr_history.specs.Serial.{is_before, state}
-use Rattle.esr_history.specs.Queries.{updates_of, must, is_strict, before_begin, distance_from, members, cost}
+use Rattle.esr_history.specs.Queries.{updates_committed_before, must, is_strict, before_begin, distance_from, members, cost}
 use Rattle.esr_history.proofs.Membership.{In, In-Contains, Contains-In, In-append_cases, In-append_left, In-append_right, In-filter, In-of_filter, In-from_any, any-from_number, each_at, filter_agree_in}
 use Rattle.esr_order.specs.Placements.{is_among, IsClosed, IsLeastSet, IsSmallestLeastSet}
-use Rattle.esr_order.specs.Least.{parts, is_closed_part, closed_parts, is_least_part, least_parts, least_set}
+use Rattle.esr_order.specs.Least.{parts, is_closed_part, closed_parts, is_least_part, least_parts, nearest_placement}
 use Rattle.esr_order.specs.Statements.{LawOfListedSets}
 
 all_at : {X : Type 0} (p : X → Bool) (xs : List X) (x : X) → list_all p xs ≡ true → In x xs → p x ≡ true
@@ -58,35 +58,35 @@ among_part S us u i =
 -- ---- the closed sets of a query
 
 module _ (h : Schedule) (q : ℕ) where
-  pub must_in : (u : ℕ) → Contains (must h q) u → In u (updates_of h q)
+  pub must_in : (u : ℕ) → Contains (must h q) u → In u (updates_committed_before h q)
   must_in u = at (is_strict (accepted_in h) q)
     where
       early : List ℕ
-      early = filter (is_committed (accepted (before_begin h q))) (updates_of h q)
+      early = filter (is_committed (accepted (before_begin h q))) (updates_committed_before h q)
 
-      at : (b : Bool) → Contains (if b then early else []) u → In u (updates_of h q)
-      at true m = (In-of_filter (is_committed (accepted (before_begin h q))) (updates_of h q) u (Contains-In early u m)).0
+      at : (b : Bool) → Contains (if b then early else []) u → In u (updates_committed_before h q)
+      at true m = (In-of_filter (is_committed (accepted (before_begin h q))) (updates_committed_before h q) u (Contains-In early u m)).0
       at false m = absurd (Contains-In [] u m)
 
   closed_set : (p : List ℕ) → is_closed_part h q p ≡ true → IsClosed h q (is_among p)
   closed_set p c =
-      let both = and_parts (list_all (λ v. list_all (λ u. not (is_before h u v) || is_among p u) (updates_of h q)) p) (list_all (is_among p) (must h q)) c in
+      let both = and_parts (list_all (λ v. list_all (λ u. not (is_before h u v) || is_among p u) (updates_committed_before h q)) p) (list_all (is_among p) (must h q)) c in
       record {
         downward = λ u v cu cv b t.
-            let below = all_at (λ w. list_all (λ u. not (is_before h u w) || is_among p u) (updates_of h q)) p v both.0 (In-from_any p v t) in
-            let here = all_at (λ u. not (is_before h u v) || is_among p u) (updates_of h q) u below (Contains-In (updates_of h q) u cu) in
+            let below = all_at (λ w. list_all (λ u. not (is_before h u w) || is_among p u) (updates_committed_before h q)) p v both.0 (In-from_any p v t) in
+            let here = all_at (λ u. not (is_before h u v) || is_among p u) (updates_committed_before h q) u below (Contains-In (updates_committed_before h q) u cu) in
             ⊎_elim (λ no. absurd (true≢false (sym b ∙ not-true (is_before h u v) no))) (λ s. s) (or_cases (not (is_before h u v)) (is_among p u) here);
         holds_must = λ u m. all_at (is_among p) (must h q) u both.1 (Contains-In (must h q) u m);
       }
 
-  closed_part : (p : List ℕ) → In p (parts (updates_of h q)) → IsClosed h q (is_among p) → is_closed_part h q p ≡ true
+  closed_part : (p : List ℕ) → In p (parts (updates_committed_before h q)) → IsClosed h q (is_among p) → is_closed_part h q p ≡ true
   closed_part p i c =
-      and_from (list_all (λ v. list_all (λ u. not (is_before h u v) || is_among p u) (updates_of h q)) p) (list_all (is_among p) (must h q))
-      (all_from (λ v. list_all (λ u. not (is_before h u v) || is_among p u) (updates_of h q)) p (λ v iv.
-      all_from (λ u. not (is_before h u v) || is_among p u) (updates_of h q) (λ u iu.
+      and_from (list_all (λ v. list_all (λ u. not (is_before h u v) || is_among p u) (updates_committed_before h q)) p) (list_all (is_among p) (must h q))
+      (all_from (λ v. list_all (λ u. not (is_before h u v) || is_among p u) (updates_committed_before h q)) p (λ v iv.
+      all_from (λ u. not (is_before h u v) || is_among p u) (updates_committed_before h q) (λ u iu.
       ⊎_elim
       (λ b. or_right (not (is_before h u v)) (is_among p u)
-      (c.downward u v (In-Contains (updates_of h q) u iu) (In-Contains (updates_of h q) v (part_within (updates_of h q) p v i iv)) b (any-from_number p v iv)))
+      (c.downward u v (In-Contains (updates_committed_before h q) u iu) (In-Contains (updates_committed_before h q) v (part_within (updates_committed_before h q) p v i iv)) b (any-from_number p v iv)))
       (λ f. or_left (not (is_before h u v)) (is_among p u) (not_from_false (is_before h u v) f))
       (cases_Bool (is_before h u v)))))
       (all_from (is_among p) (must h q) (λ u m. c.holds_must u (In-Contains (must h q) u m)))
@@ -94,18 +94,18 @@ module _ (h : Schedule) (q : ℕ) where
   part_closed : (S : ℕ → Bool) → IsClosed h q S → IsClosed h q (is_among (members h q S))
   part_closed S c = record {
     downward = λ u v cu cv b t.
-        among_part S (updates_of h q) u (Contains-In (updates_of h q) u cu)
-        ∙ c.downward u v cu cv b (sym (among_part S (updates_of h q) v (Contains-In (updates_of h q) v cv)) ∙ t);
-    holds_must = λ u m. among_part S (updates_of h q) u (must_in u m) ∙ c.holds_must u m;
+        among_part S (updates_committed_before h q) u (Contains-In (updates_committed_before h q) u cu)
+        ∙ c.downward u v cu cv b (sym (among_part S (updates_committed_before h q) v (Contains-In (updates_committed_before h q) v cv)) ∙ t);
+    holds_must = λ u m. among_part S (updates_committed_before h q) u (must_in u m) ∙ c.holds_must u m;
   }
 
   part_in : (S : ℕ → Bool) → IsClosed h q S → In (members h q S) (closed_parts h q)
   part_in S c =
-      let i : In (members h q S) (parts (updates_of h q)) = part_listed S (updates_of h q) in
-      In-filter (is_closed_part h q) (parts (updates_of h q)) (members h q S) i (closed_part (members h q S) i (part_closed S c))
+      let i : In (members h q S) (parts (updates_committed_before h q)) = part_listed S (updates_committed_before h q) in
+      In-filter (is_closed_part h q) (parts (updates_committed_before h q)) (members h q S) i (closed_part (members h q S) i (part_closed S c))
 
   members_same : (S : ℕ → Bool) → members h q (is_among (members h q S)) ≡ members h q S
-  members_same S = filter_agree_in (is_among (members h q S)) S (updates_of h q) (among_part S (updates_of h q))
+  members_same S = filter_agree_in (is_among (members h q S)) S (updates_committed_before h q) (among_part S (updates_committed_before h q))
 
   cost_same : (d : DistanceFunction) (S : ℕ → Bool) → cost d h q (is_among (members h q S)) ≡ cost d h q S
   cost_same d S = ap (λ us. distance_from d h q (state h us)) (members_same S)
@@ -113,7 +113,7 @@ module _ (h : Schedule) (q : ℕ) where
   least_of : (d : DistanceFunction) (p : List ℕ) → In p (least_parts d h q) → IsLeastSet d h q (is_among p)
   least_of d p i =
       let least = In-of_filter (is_least_part d h q) (closed_parts h q) p i in
-      let closed = In-of_filter (is_closed_part h q) (parts (updates_of h q)) p least.0 in
+      let closed = In-of_filter (is_closed_part h q) (parts (updates_committed_before h q)) p least.0 in
       record {
         closed = closed_set p closed.1;
         none_less = λ T c.
@@ -126,22 +126,22 @@ module _ (h : Schedule) (q : ℕ) where
   least_in d S l =
       In-filter (is_least_part d h q) (closed_parts h q) (members h q S) (part_in S l.closed)
       (all_from (λ other. nat_le (cost d h q (is_among (members h q S))) (cost d h q (is_among other))) (closed_parts h q) (λ other i.
-      let closed = In-of_filter (is_closed_part h q) (parts (updates_of h q)) other i in
+      let closed = In-of_filter (is_closed_part h q) (parts (updates_committed_before h q)) other i in
       le-leb (cost d h q (is_among (members h q S))) (cost d h q (is_among other))
       (subst (λ n. n ≤ cost d h q (is_among other)) (sym (cost_same d S)) (l.none_less (is_among other) (closed_set other closed.1)))))
 
-  smallest_listed : (d : DistanceFunction) (S : ℕ → Bool) → IsSmallestLeastSet d h q S → members h q S ≡ least_set d h q
+  smallest_listed : (d : DistanceFunction) (S : ℕ → Bool) → IsSmallestLeastSet d h q S → members h q S ≡ nearest_placement d h q
   smallest_listed d S s =
-      filter_agree_in S (λ u. list_all (λ part. is_among part u) (least_parts d h q)) (updates_of h q) (λ u i.
+      filter_agree_in S (λ u. list_all (λ part. is_among part u) (least_parts d h q)) (updates_committed_before h q) (λ u i.
       ⊎_elim
       (λ t. t ∙ sym (all_from (λ part. is_among part u) (least_parts d h q) (λ p ip.
-      each_at (λ v. IsTrue (S v) → IsTrue (is_among p v)) (updates_of h q) u
-      (recursion_from_All (λ v. IsTrue (S v) → IsTrue (is_among p v)) (updates_of h q) (s.smallest (is_among p) (least_of d p ip))) i t)))
+      each_at (λ v. IsTrue (S v) → IsTrue (is_among p v)) (updates_committed_before h q) u
+      (recursion_from_All (λ v. IsTrue (S v) → IsTrue (is_among p v)) (updates_committed_before h q) (s.smallest (is_among p) (least_of d p ip))) i t)))
       (λ f. f ∙ sym (false_from_ne_true (list_all (λ part. is_among part u) (least_parts d h q)) (λ a.
-      true≢false (sym (all_at (λ part. is_among part u) (least_parts d h q) (members h q S) a (least_in d S s.least)) ∙ (among_part S (updates_of h q) u i ∙ f)))))
+      true≢false (sym (all_at (λ part. is_among part u) (least_parts d h q) (members h q S) a (least_in d S s.least)) ∙ (among_part S (updates_committed_before h q) u i ∙ f)))))
       (cases_Bool (S u)))
 
 pub law_of_listed_sets : LawOfListedSets
 law_of_listed_sets d h q S s =
-    let same : members h q S ≡ least_set d h q = smallest_listed h q d S s in
+    let same : members h q S ≡ nearest_placement d h q = smallest_listed h q d S s in
     (same, sym (cost_same h q d S) ∙ ap (λ part. cost d h q (is_among part)) same)

@@ -5,7 +5,7 @@ use Rattle.std.proofs.lemmas.Option.{same_Some}
 use Rattle.std.proofs.lemmas.List.{reverse-append}
 use Rattle.esr_history.specs.declared.event.Entry.{Entry}
 use Rattle.esr_history.specs.Events.{is_refusal}
-use Rattle.esr_history.specs.BackLinks.{is_key, places_from, last_place, last_of_key, earlier, earlier_at, coded}
+use Rattle.esr_history.specs.BackLinks.{is_some_eq, places_from, last_place, last_of_key, earlier, earlier_at, coded}
 
 last_somewhere : (x : ℕ) (xs : List ℕ) → (j : ℕ) × (last_or (Some x) xs ≡ Some j)
 last_somewhere x [] = (x, refl)
@@ -19,21 +19,21 @@ none_empty (x ∷ xs) e = let w = last_somewhere x xs in let bad : Some w.0 ≡ 
 pub record Split (key : Entry → Option ℕ) (k n : ℕ) (es : List Entry) (j : ℕ) : Type 0 where
   pub entry : Entry
   pub at : slice_get es j ≡ Some entry
-  pub has : is_key (key entry) k ≡ true
+  pub has : is_some_eq (key entry) k ≡ true
   pub parts : places_from key k n es ≡ places_from key k n (take j es) ++ (n + j) ∷ []
 
 split : (key : Entry → Option ℕ) (k n : ℕ) (es : List Entry) (i : ℕ) → last_or None (places_from key k n es) ≡ Some i → (j : ℕ) × (n + j ≡ i) × Split key k n es j
 split key k n [] i is = absurd (cc)
-split key k n (e ∷ es) i is = at (is_key (key e) k) refl (last_or None (places_from key k (n + 1) es)) refl (split key k (n + 1) es)
+split key k n (e ∷ es) i is = at (is_some_eq (key e) k) refl (last_or None (places_from key k (n + 1) es)) refl (split key k (n + 1) es)
   where
-    later : (b : Bool) → is_key (key e) k ≡ b → (j : ℕ) → Split key k (n + 1) es j → Split key k n (e ∷ es) (suc j)
+    later : (b : Bool) → is_some_eq (key e) k ≡ b → (j : ℕ) → Split key k (n + 1) es j → Split key k n (e ∷ es) (suc j)
     later b own j s = record {
       entry = s.entry;
       at = s.at;
       has = s.has;
       parts =
           let shift : n + 1 + j ≡ n + suc j = omega arith in
-          ap (λ l. if is_key (key e) k then n ∷ l else l) (s.parts ∙ ap (λ m. places_from key k (n + 1) (take j es) ++ m ∷ []) shift) ∙ join (is_key (key e) k) (places_from key k (n + 1) (take j es)) (n + suc j);
+          ap (λ l. if is_some_eq (key e) k then n ∷ l else l) (s.parts ∙ ap (λ m. places_from key k (n + 1) (take j es) ++ m ∷ []) shift) ∙ join (is_some_eq (key e) k) (places_from key k (n + 1) (take j es)) (n + suc j);
     }
       where
         join : (b : Bool) (l : List ℕ) (m : ℕ) → (if b then n ∷ (l ++ m ∷ []) else (l ++ m ∷ [])) ≡ (if b then n ∷ l else l) ++ m ∷ []
@@ -45,12 +45,12 @@ split key k n (e ∷ es) i is = at (is_key (key e) k) refl (last_or None (places
     last_of_rest true (x ∷ rest) j r = r
     last_of_rest false rest j r = r
 
-    at : (b : Bool) → is_key (key e) k ≡ b → (o : Option ℕ) → last_or None (places_from key k (n + 1) es) ≡ o
+    at : (b : Bool) → is_some_eq (key e) k ≡ b → (o : Option ℕ) → last_or None (places_from key k (n + 1) es) ≡ o
         → ((i : ℕ) → last_or None (places_from key k (n + 1) es) ≡ Some i → (j : ℕ) × (n + 1 + j ≡ i) × Split key k (n + 1) es j)
         → (j : ℕ) × (n + j ≡ i) × Split key k n (e ∷ es) j
     at b own (Some m) some rest =
         let r = rest m some in
-        let same : Some m ≡ Some i = sym (last_of_rest (is_key (key e) k) (places_from key k (n + 1) es) m some) ∙ is in
+        let same : Some m ≡ Some i = sym (last_of_rest (is_some_eq (key e) k) (places_from key k (n + 1) es) m some) ∙ is in
         let mi : m ≡ i = same_Some m i same in
         let sum : n + 1 + r.0 ≡ m = r.1 in
         (suc r.0, omega (arith, sum, mi), later b own r.0 r.2)
@@ -113,7 +113,7 @@ pub walk_done : (key : Entry → Option ℕ) (k : ℕ) (es : List Entry) (places
 walk_done key k es places next none w = sym (w.parts ∙ ap (λ l. l ++ reverse places) (none_empty (places_from key k 0 (take w.front es)) (sym w.next_is ∙ none)))
 
 -- if the entries of a key have it as their own
-module _ (key own : Entry → Option ℕ) (owns : (e : Entry) (k : ℕ) → is_key (key e) k ≡ true → own e ≡ Some k) (k : ℕ) (es : List Entry) (places : List ℕ) (next : Option ℕ) (w : IsWalk key k es places next) (i : ℕ) (some : next ≡ Some i) where
+module _ (key own : Entry → Option ℕ) (owns : (e : Entry) (k : ℕ) → is_some_eq (key e) k ≡ true → own e ≡ Some k) (k : ℕ) (es : List Entry) (places : List ℕ) (next : Option ℕ) (w : IsWalk key k es places next) (i : ℕ) (some : next ≡ Some i) where
   here : Split key k 0 (take w.front es) i
   here = split_at key k (take w.front es) i (sym w.next_is ∙ some)
 
@@ -154,10 +154,10 @@ module _ (key own : Entry → Option ℕ) (owns : (e : Entry) (k : ℕ) → is_k
 
 -- an accepted entry has its key as its own
 module _ (own : Entry → Option ℕ) where
-  pub accepted_owns : (e : Entry) (k : ℕ) → is_key (if is_refusal e.reply then None else own e) k ≡ true → own e ≡ Some k
+  pub accepted_owns : (e : Entry) (k : ℕ) → is_some_eq (if is_refusal e.reply then None else own e) k ≡ true → own e ≡ Some k
   accepted_owns e k has = at (is_refusal e.reply) (own e) has
     where
-      at : (b : Bool) (o : Option ℕ) → is_key (if b then None else o) k ≡ true → o ≡ Some k
+      at : (b : Bool) (o : Option ℕ) → is_some_eq (if b then None else o) k ≡ true → o ≡ Some k
       at true o h = absurd (true≢false (sym h))
       at false None h = absurd (true≢false (sym h))
       at false (Some m) h = ap Some (eqb-true m k h)

@@ -7,7 +7,7 @@ use Rattle.esr_history.specs.Events.{last_value}
 use Rattle.esr_history.specs.Machine.{DistanceFunction, Schedule, value_distance}
 use Rattle.esr_history.specs.Operations.{Operation}
 use Rattle.esr_history.specs.Serial.{values_by, state}
-use Rattle.esr_history.specs.Queries.{updates_of, reads_by, members, cost}
+use Rattle.esr_history.specs.Queries.{updates_committed_before, reads_by, members, cost}
 use Rattle.esr_history.proofs.Membership.{In, In-Contains}
 use Rattle.esr_history.proofs.LastWriter.{empty_or_not}
 use Rattle.esr_order.specs.Placements.{IsClosed, IsLeastSet}
@@ -61,18 +61,18 @@ lacking w S T (x ∷ xs) =
 
 -- of two closed sets, at each item the one has all writers of the other
 nested : (h : Schedule) (q x : ℕ) (S T : ℕ → Bool) → IsClosed h q S → IsClosed h q T →
-    ((u : ℕ) → In u (updates_of h q) → (values_by h x u ≡ [] → ⊥) → S u ≡ true → T u ≡ true) ⊎ ((u : ℕ) → In u (updates_of h q) → (values_by h x u ≡ [] → ⊥) → T u ≡ true → S u ≡ true)
+    ((u : ℕ) → In u (updates_committed_before h q) → (values_by h x u ≡ [] → ⊥) → S u ≡ true → T u ≡ true) ⊎ ((u : ℕ) → In u (updates_committed_before h q) → (values_by h x u ≡ [] → ⊥) → T u ≡ true → S u ≡ true)
 nested h q x S T cs ct =
     ⊎_elim
     (λ a. inr (λ v i nv tv. ⊎_elim
     (λ e. absurd (true≢false (sym tv ∙ (ap T e ∙ a.4))))
     (λ ne. ⊎_elim
-    (λ b. cs.downward v a.0 (In-Contains (updates_of h q) v i) (In-Contains (updates_of h q) a.0 a.1) b a.3)
-    (λ b. absurd (true≢false (sym (ct.downward a.0 v (In-Contains (updates_of h q) a.0 a.1) (In-Contains (updates_of h q) v i) b tv) ∙ a.4)))
+    (λ b. cs.downward v a.0 (In-Contains (updates_committed_before h q) v i) (In-Contains (updates_committed_before h q) a.0 a.1) b a.3)
+    (λ b. absurd (true≢false (sym (ct.downward a.0 v (In-Contains (updates_committed_before h q) a.0 a.1) (In-Contains (updates_committed_before h q) v i) b tv) ∙ a.4)))
     (writers_in_order h x v a.0 nv a.2 ne))
     (cases_eq v a.0)))
     (λ f. inl f)
-    (lacking (values_by h x) S T (updates_of h q))
+    (lacking (values_by h x) S T (updates_committed_before h q))
 
 under : (a b : Bool) → (a ≡ true → b ≡ true) → ((a && b) ≡ a) × ((a || b) ≡ b)
 under true b f = (f refl, sym (f refl))
@@ -92,8 +92,8 @@ meet_values h q x S T cs ct f =
     (λ t. crossed f (value (both S T) T (λ u i n. (over (S u) (T u) (t u i n)).0)) (value (either S T) S (λ u i n. (over (S u) (T u) (t u i n)).1)))
     (nested h q x S T cs ct)
   where
-    value : (A B : ℕ → Bool) → ((u : ℕ) → In u (updates_of h q) → (values_by h x u ≡ [] → ⊥) → A u ≡ B u) → state h (members h q A) x ≡ state h (members h q B) x
-    value A B g = ap (last_value (value_at h.opening x)) (same_writers (values_by h x) A B (updates_of h q) g)
+    value : (A B : ℕ → Bool) → ((u : ℕ) → In u (updates_committed_before h q) → (values_by h x u ≡ [] → ⊥) → A u ≡ B u) → state h (members h q A) x ≡ state h (members h q B) x
+    value A B g = ap (last_value (value_at h.opening x)) (same_writers (values_by h x) A B (updates_committed_before h q) g)
 
     both_same : (f : ℤ → ℕ) → {a b c d : ℤ} → a ≡ c → b ≡ d → f a + f b ≡ f c + f d
     both_same f {a} {b} {c} {d} e g = ap (λ z. f z + f b) e ∙ ap (λ z. f c + f z) g

@@ -6,7 +6,7 @@ use Rattle.std.proofs.lemmas.Bool.{true≢false, cases_Bool, not-true, not_from_
 use Rattle.esr_items.specs.Values.{value_at}
 use Rattle.esr_history.specs.Machine.{DistanceFunction, Schedule}
 use Rattle.esr_history.specs.Serial.{is_before, values_by, state}
-use Rattle.esr_history.specs.Queries.{updates_of, distance_from, members, cost}
+use Rattle.esr_history.specs.Queries.{updates_committed_before, distance_from, members, cost}
 use Rattle.esr_history.proofs.Membership.{In, Pairs, In-Contains, Contains-In, Pairs-from_all, All-from_pairs, In-append_cases, In-append_left, In-append_right, In-filter, In-of_filter, Pairs-filter, Pairs-append, Pairs-left, Pairs-across, In-from_any, any-from_number}
 use Rattle.esr_history.proofs.LastWriter.{same_left}
 use Rattle.esr_order.specs.Placements.{is_among, IsPlacement, IsClosed, placement_distance}
@@ -16,14 +16,14 @@ use Rattle.esr_order.proofs.Least.{must_in}
 
 -- the commit order of the updates respects the conflict order
 pub record InOrder (h : Schedule) (q : ℕ) : Type 0 where
-  pub once : Pairs (λ u v. u ≡ v → ⊥) (updates_of h q)
-  pub keeps : Pairs (λ u v. is_before h v u ≡ false) (updates_of h q)
+  pub once : Pairs (λ u v. u ≡ v → ⊥) (updates_committed_before h q)
+  pub keeps : Pairs (λ u v. is_before h v u ≡ false) (updates_committed_before h q)
 
 module _ (h : Schedule) (q : ℕ) (good : InOrder h q) where
-  listed : (order : List ℕ) (k : ℕ) → IsPlacement h q order k → (u : ℕ) → In u (take k order) → In u (updates_of h q)
+  listed : (order : List ℕ) (k : ℕ) → IsPlacement h q order k → (u : ℕ) → In u (take k order) → In u (updates_committed_before h q)
   listed order k p u i =
       let all : In u (take k order ++ drop k order) = In-append_left (take k order) (drop k order) u i in
-      Contains-In (updates_of h q) u ((p.serial.lists u).0 (In-Contains order u (subst (In u) (take-append-drop k order) all)))
+      Contains-In (updates_committed_before h q) u ((p.serial.lists u).0 (In-Contains order u (subst (In u) (take-append-drop k order) all)))
 
   kept : (order : List ℕ) (k : ℕ) → IsPlacement h q order k → Pairs (λ u v. is_before h v u ≡ false) (take k order ++ drop k order)
   kept order k p = subst (Pairs (λ u v. is_before h v u ≡ false)) (sym (take-append-drop k order)) (Pairs-from_all (λ u v. is_before h v u ≡ false) order p.serial.keeps)
@@ -46,9 +46,9 @@ module _ (h : Schedule) (q : ℕ) (good : InOrder h q) where
       same_left (is_before h) (values_by h x) (take k order) (members h q (is_among (take k order))) (value_at h.opening x)
       (writers_in_order h x)
       (Pairs-left (λ u v. is_before h v u ≡ false) (take k order) (drop k order) (kept order k p))
-      (Pairs-filter (λ u v. is_before h v u ≡ false) (is_among (take k order)) (updates_of h q) good.keeps)
-      (λ u i. In-filter (is_among (take k order)) (updates_of h q) u (listed order k p u i) (any-from_number (take k order) u i))
-      (λ u i. In-from_any (take k order) u (In-of_filter (is_among (take k order)) (updates_of h q) u i).1)
+      (Pairs-filter (λ u v. is_before h v u ≡ false) (is_among (take k order)) (updates_committed_before h q) good.keeps)
+      (λ u i. In-filter (is_among (take k order)) (updates_committed_before h q) u (listed order k p u i) (any-from_number (take k order) u i))
+      (λ u i. In-from_any (take k order) u (In-of_filter (is_among (take k order)) (updates_committed_before h q) u i).1)
 
   pub part_cost : (d : DistanceFunction) (order : List ℕ) (k : ℕ) → IsPlacement h q order k →
       placement_distance d h q order k ≡ cost d h q (is_among (take k order))
@@ -61,45 +61,45 @@ module _ (h : Schedule) (q : ℕ) (good : InOrder h q) where
   pub split_front : (S : ℕ → Bool) → take (length (members h q S)) (split_order S) ≡ members h q S
   split_front S = take-append_seam (members h q S) (members h q (λ u. not (S u)))
 
-  in_split : (S : ℕ → Bool) (u : ℕ) → In u (updates_of h q) → In u (split_order S)
+  in_split : (S : ℕ → Bool) (u : ℕ) → In u (updates_committed_before h q) → In u (split_order S)
   in_split S u i =
       ⊎_elim
-      (λ t. In-append_left (members h q S) (members h q (λ u. not (S u))) u (In-filter S (updates_of h q) u i t))
-      (λ f. In-append_right (members h q S) (members h q (λ u. not (S u))) u (In-filter (λ u. not (S u)) (updates_of h q) u i (not_from_false (S u) f)))
+      (λ t. In-append_left (members h q S) (members h q (λ u. not (S u))) u (In-filter S (updates_committed_before h q) u i t))
+      (λ f. In-append_right (members h q S) (members h q (λ u. not (S u))) u (In-filter (λ u. not (S u)) (updates_committed_before h q) u i (not_from_false (S u) f)))
       (cases_Bool (S u))
 
-  of_split : (S : ℕ → Bool) (u : ℕ) → In u (split_order S) → In u (updates_of h q)
+  of_split : (S : ℕ → Bool) (u : ℕ) → In u (split_order S) → In u (updates_committed_before h q)
   of_split S u i =
-      ⊎_elim (λ a. (In-of_filter S (updates_of h q) u a).0) (λ b. (In-of_filter (λ u. not (S u)) (updates_of h q) u b).0)
+      ⊎_elim (λ a. (In-of_filter S (updates_committed_before h q) u a).0) (λ b. (In-of_filter (λ u. not (S u)) (updates_committed_before h q) u b).0)
       (In-append_cases (members h q S) (members h q (λ u. not (S u))) u i)
 
-  split_pairs : (R : ℕ → ℕ → Type 0) (S : ℕ → Bool) → Pairs R (updates_of h q) →
-      ((u v : ℕ) → In u (updates_of h q) → In v (updates_of h q) → S u ≡ true → S v ≡ false → R u v) → Pairs R (split_order S)
+  split_pairs : (R : ℕ → ℕ → Type 0) (S : ℕ → Bool) → Pairs R (updates_committed_before h q) →
+      ((u v : ℕ) → In u (updates_committed_before h q) → In v (updates_committed_before h q) → S u ≡ true → S v ≡ false → R u v) → Pairs R (split_order S)
   split_pairs R S p f =
       Pairs-append R (members h q S) (members h q (λ u. not (S u)))
-      (Pairs-filter R S (updates_of h q) p) (Pairs-filter R (λ u. not (S u)) (updates_of h q) p)
+      (Pairs-filter R S (updates_committed_before h q) p) (Pairs-filter R (λ u. not (S u)) (updates_committed_before h q) p)
       (λ u v iu iv.
-      let a = In-of_filter S (updates_of h q) u iu in
-      let b = In-of_filter (λ u. not (S u)) (updates_of h q) v iv in
+      let a = In-of_filter S (updates_committed_before h q) u iu in
+      let b = In-of_filter (λ u. not (S u)) (updates_committed_before h q) v iv in
       f u v a.0 b.0 a.1 (not-true (S v) b.1))
 
   pub closed_placement : (S : ℕ → Bool) → IsClosed h q S → IsPlacement h q (split_order S) (length (members h q S))
   closed_placement S c = record {
     serial = record {
       lists = λ u. (
-        (λ i. In-Contains (updates_of h q) u (of_split S u (Contains-In (split_order S) u i))),
-        (λ i. In-Contains (split_order S) u (in_split S u (Contains-In (updates_of h q) u i))),
+        (λ i. In-Contains (updates_committed_before h q) u (of_split S u (Contains-In (split_order S) u i))),
+        (λ i. In-Contains (split_order S) u (in_split S u (Contains-In (updates_committed_before h q) u i))),
       );
       once = All-from_pairs (λ u v. u ≡ v → ⊥) (split_order S)
           (split_pairs (λ u v. u ≡ v → ⊥) S good.once (λ u v iu iv su sv e. true≢false (sym su ∙ (ap S e ∙ sv))));
       keeps = All-from_pairs (λ u v. is_before h v u ≡ false) (split_order S)
           (split_pairs (λ u v. is_before h v u ≡ false) S good.keeps
           (λ u v iu iv su sv. false_from_ne_true (is_before h v u)
-          (λ b. true≢false (sym (c.downward v u (In-Contains (updates_of h q) v iv) (In-Contains (updates_of h q) u iu) b su) ∙ sv))));
+          (λ b. true≢false (sym (c.downward v u (In-Contains (updates_committed_before h q) v iv) (In-Contains (updates_committed_before h q) u iu) b su) ∙ sv))));
     };
     within = bound S;
     holds_must = λ u m. subst (λ l. Contains l u) (sym (split_front S)) (In-Contains (members h q S) u
-        (In-filter S (updates_of h q) u (must_in h q u m) (c.holds_must u m)));
+        (In-filter S (updates_committed_before h q) u (must_in h q u m) (c.holds_must u m)));
   }
     where
       bound : (S : ℕ → Bool) → length (members h q S) ≤ length (split_order S)

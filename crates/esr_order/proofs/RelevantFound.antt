@@ -5,7 +5,7 @@ use Rattle.std.proofs.lemmas.List.{length-map}
 use Rattle.esr_base.specs.declared.numbers.TxnId.{TxnId}
 use Rattle.esr_history.specs.Machine.{DistanceFunction, Schedule, IsLegal}
 use Rattle.esr_history.specs.Serial.{is_before}
-use Rattle.esr_history.specs.Queries.{updates_of, must}
+use Rattle.esr_history.specs.Queries.{updates_committed_before, must}
 use Rattle.esr_history.proofs.Membership.{In, In-Contains, Contains-In, any-from_number, each_at, Pairs, All-from_pairs, Pairs-filter}
 use Rattle.esr_order.specs.Placements.{is_among}
 use Rattle.esr_order.specs.Chains.{update_at, nth}
@@ -40,8 +40,8 @@ pub record IsRelevantRun (h : Schedule) (q first : ℕ) (commits : List TxnId) :
   pub musts : map (nth (map (λ t. t.0) commits)) (range_with_len 0 first) ≡ must h q
 
 module _ (d : DistanceFunction) (h : Schedule) (q : ℕ) (legal : IsLegal d h) where
-  pub there : (i : ℕ) → i < length (updates_of h q) → Contains (updates_of h q) (update_at h q i)
-  there i l = (i, l, same_default (updates_of h q) i (update_at h q i) 0 l)
+  pub there : (i : ℕ) → i < length (updates_committed_before h q) → Contains (updates_committed_before h q) (update_at h q i)
+  there i l = (i, l, same_default (updates_committed_before h q) i (update_at h q i) 0 l)
 
   -- a query must see the first of its updates
   pub low_must : (i : ℕ) → i < length (must h q) → Contains (must h q) (update_at h q i)
@@ -53,16 +53,16 @@ module _ (d : DistanceFunction) (h : Schedule) (q : ℕ) (legal : IsLegal d h) w
     abbrev us : List ℕ
     us = map (λ (t : TxnId). t.0) commits
 
-    ordered : (R : ℕ → ℕ → Type 0) → Pairs R (updates_of h q) → AllPairs R us
-    ordered R all = All-from_pairs R us (subst (Pairs R) (sym relevant.in_order) (Pairs-filter R (is_among us) (updates_of h q) all))
+    ordered : (R : ℕ → ℕ → Type 0) → Pairs R (updates_committed_before h q) → AllPairs R us
+    ordered R all = All-from_pairs R us (subst (Pairs R) (sym relevant.in_order) (Pairs-filter R (is_among us) (updates_committed_before h q) all))
 
-    count : length commits ≡ length (filter (is_among us) (updates_of h q))
+    count : length commits ≡ length (filter (is_among us) (updates_committed_before h q))
     count = sym (length-map commits (λ (t : TxnId). t.0)) ∙ ap length relevant.in_order
 
-    firsts : (length (must h q) ≤ length (filter (is_among us) (updates_of h q))) × ((i : ℕ) → i < length (must h q) → nth (filter (is_among us) (updates_of h q)) i ≡ update_at h q i)
-    firsts = first_kept (is_among us) (length (must h q)) (updates_of h q) (must_below d h q legal)
+    firsts : (length (must h q) ≤ length (filter (is_among us) (updates_committed_before h q))) × ((i : ℕ) → i < length (must h q) → nth (filter (is_among us) (updates_committed_before h q)) i ≡ update_at h q i)
+    firsts = first_kept (is_among us) (length (must h q)) (updates_committed_before h q) (must_below d h q legal)
         (λ i l.
-        let below : length (must h q) ≤ length (updates_of h q) = must_below d h q legal in
+        let below : length (must h q) ≤ length (updates_committed_before h q) = must_below d h q legal in
         any-from_number us (update_at h q i) (Contains-In us (update_at h q i) ((relevant.relevant (update_at h q i)).1 (there i (omega arith), inr (inr (low_must i l))))))
 
     pub relevant_run : (first : ℕ) → first ≡ length (must h q) → IsRelevantRun h q first commits
@@ -70,11 +70,11 @@ module _ (d : DistanceFunction) (h : Schedule) (q : ℕ) (legal : IsLegal d h) w
         let n = length (must h q) in
         subst (λ m. IsRelevantRun h q m commits) (sym is) (record {
           once = ordered (λ u v. u ≢ v) (in_order d h q legal).once;
-          count_within_max = omega (arith, count, filter_shorter (is_among us) (updates_of h q), bounded_updates d h q legal);
+          count_within_max = omega (arith, count, filter_shorter (is_among us) (updates_committed_before h q), bounded_updates d h q legal);
           keeps = ordered (λ u v. is_before h v u ≡ false) (in_order d h q legal).keeps;
           first_inside = omega (arith, count, firsts.0);
           musts =
               ap (λ vs. map (nth vs) (range_with_len 0 n)) relevant.in_order
-              ∙ (map_agree (nth (filter (is_among us) (updates_of h q))) (update_at h q) (range_with_len 0 n) (λ i j. firsts.1 i (each_at (λ i. i < n) (range_with_len 0 n) i (range_below 0 n n (omega arith)) j))
+              ∙ (map_agree (nth (filter (is_among us) (updates_committed_before h q))) (update_at h q) (range_with_len 0 n) (λ i j. firsts.1 i (each_at (λ i. i < n) (range_with_len 0 n) i (range_below 0 n n (omega arith)) j))
               ∙ must_positions d h q legal n refl);
         })

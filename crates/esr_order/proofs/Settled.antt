@@ -12,7 +12,7 @@ use Rattle.esr_history.specs.declared.event.Refusal.{Refusal}
 use Rattle.esr_history.specs.declared.event.Entry.{Entry}
 use Rattle.esr_history.specs.Events.{is_refusal, is_active, is_committed, commits, accepted}
 use Rattle.esr_history.specs.Machine.{DistanceFunction, Schedule, accepted_in, extended, empty_schedule, reply_to, IsLegal}
-use Rattle.esr_history.specs.Legal.{along, legal_induction_after}
+use Rattle.esr_history.specs.Legal.{continued, legal_induction_after}
 use Rattle.esr_history.specs.Operations.{Operation, operation_by, operations}
 use Rattle.esr_history.proofs.Allowed.{read_allowed, write_allowed}
 use Rattle.esr_history.proofs.LegalWellFormed.{done-refused, done-accepted, not_ended}
@@ -70,7 +70,7 @@ module _ (d : DistanceFunction) (h : Schedule) (t : ℕ) (g : Schedule) (was : I
     })
   ]
 
-settled : (d : DistanceFunction) (h : Schedule) (rest : List Entry) (t : ℕ) → IsLegal d (along h rest) → is_committed (accepted_in h) t ≡ true → IsSettled h t (along h rest)
+settled : (d : DistanceFunction) (h : Schedule) (rest : List Entry) (t : ℕ) → IsLegal d (continued h rest) → is_committed (accepted_in h) t ≡ true → IsSettled h t (continued h rest)
 settled d h rest t legal over =
     legal_induction_after d (IsSettled h t) (λ g e r is was. settled_step d h t g was e r is) h rest (legal_parts d (empty_schedule h) h.entries rest legal).1 (record { over = over; same = refl })
 
@@ -79,7 +79,7 @@ settled_first : (d : DistanceFunction) (h : Schedule) → IsLegal d h → (n t :
     → (is_committed (accepted_in h) t ≡ true) × (accesses_in h.entries t ≡ accesses_in (take n h.entries) t)
 settled_first d h legal n t over =
     let front : Schedule = record h { entries = take n h.entries } in
-    let whole : along front (drop n h.entries) ≡ h = ap (λ (es : List Entry). record h { entries = es }) (take-append-drop n h.entries) in
+    let whole : continued front (drop n h.entries) ≡ h = ap (λ (es : List Entry). record h { entries = es }) (take-append-drop n h.entries) in
     let s : IsSettled front t h = subst (IsSettled front t) whole (settled d front (drop n h.entries) t (subst (IsLegal d) (sym whole) legal) over) in
     (s.over, ap (map access_of) s.same)
 
@@ -88,7 +88,7 @@ pub settled_next : (d : DistanceFunction) (h : Schedule) → IsLegal d h → (n 
     → (is_committed (accepted (take m h.entries)) t ≡ true) × (accesses_in (take m h.entries) t ≡ accesses_in (take n h.entries) t)
 settled_next d h legal n m le t over =
     let front : Schedule = record h { entries = take m h.entries } in
-    let whole : along front (drop m h.entries) ≡ h = ap (λ (es : List Entry). record h { entries = es }) (take-append-drop m h.entries) in
+    let whole : continued front (drop m h.entries) ≡ h = ap (λ (es : List Entry). record h { entries = es }) (take-append-drop m h.entries) in
     let same : take n (take m h.entries) ≡ take n h.entries = take-take n m h.entries le in
     let s = settled_first d front (legal_front d front (drop m h.entries) (subst (IsLegal d) (sym whole) legal)) n t (subst (λ es. is_committed (accepted es) t ≡ true) (sym same) over) in
     (s.0, s.1 ∙ ap (λ es. accesses_in es t) same)

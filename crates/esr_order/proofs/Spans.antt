@@ -14,7 +14,7 @@ use Rattle.esr_history.specs.Events.{BeginRecord, is_refusal, accepted, begin_re
 use Rattle.esr_history.specs.Machine.{DistanceFunction, Schedule, accepted_in, extended, reply_to, acceptance, IsLegal}
 use Rattle.esr_history.specs.Legal.{legal_induction, IsLegal-extended}
 use Rattle.esr_history.specs.Queries.{begins, before_begin}
-use Rattle.esr_history.specs.BackLinks.{ender, txn_of, accepted_end, accepted_txn, is_key, places_from, last_place, begun_count}
+use Rattle.esr_history.specs.BackLinks.{ender, txn_of, ended_txn, accepted_txn, is_some_eq, places_from, last_place, begun_count}
 use Rattle.esr_history.proofs.Lists.{any_push, slice_get_push, filter_map_push}
 use Rattle.esr_history.proofs.Membership.{In, get_seam}
 use Rattle.esr_history.proofs.WellFormed.{active_parts, begin_record-unchanged}
@@ -27,7 +27,7 @@ use Rattle.esr_order.proofs.Linked.{none_empty, get_inside}
 use Rattle.esr_order.proofs.Entries.{drop_get}
 
 -- ---- ends
-end_key : (e : Event) (t : ℕ) → commits t e ≡ false → aborts t e ≡ false → is_key (ender e) t ≡ false
+end_key : (e : Event) (t : ℕ) → commits t e ≡ false → aborts t e ≡ false → is_some_eq (ender e) t ≡ false
 end_key (BeginUpdate l) t c a = refl
 end_key (BeginQuery l s) t c a = refl
 end_key (Read u x) t c a = refl
@@ -36,26 +36,26 @@ end_key (Commit u) t c a = c
 end_key (Abort u) t c a = a
 
 -- a transaction that has neither committed nor aborted has no end
-no_ends : (es : List Entry) (t n : ℕ) → is_committed (accepted es) t ≡ false → is_aborted (accepted es) t ≡ false → places_from accepted_end t n es ≡ []
+no_ends : (es : List Entry) (t n : ℕ) → is_committed (accepted es) t ≡ false → is_aborted (accepted es) t ≡ false → places_from ended_txn t n es ≡ []
 no_ends [] t n c a = refl
 no_ends (e ∷ es) t n c a = at (is_refusal e.reply) refl (no_ends es t (n + 1))
   where
     events : (b : Bool) → is_refusal e.reply ≡ b → accepted (e ∷ es) ≡ map (λ (m : Entry). m.event) (cond (not b) (e ∷ filter (λ (m : Entry). not (is_refusal m.reply)) es) (filter (λ (m : Entry). not (is_refusal m.reply)) es))
     events b is = ap (λ b. map (λ (m : Entry). m.event) (cond (not b) (e ∷ filter (λ (m : Entry). not (is_refusal m.reply)) es) (filter (λ (m : Entry). not (is_refusal m.reply)) es))) is
 
-    skip : is_key (accepted_end e) t ≡ false → places_from accepted_end t (n + 1) es ≡ [] → places_from accepted_end t n (e ∷ es) ≡ []
-    skip none rest = ap (λ b. if b then n ∷ places_from accepted_end t (n + 1) es else places_from accepted_end t (n + 1) es) none ∙ rest
+    skip : is_some_eq (ended_txn e) t ≡ false → places_from ended_txn t (n + 1) es ≡ [] → places_from ended_txn t n (e ∷ es) ≡ []
+    skip none rest = ap (λ b. if b then n ∷ places_from ended_txn t (n + 1) es else places_from ended_txn t (n + 1) es) none ∙ rest
 
-    at : (b : Bool) → is_refusal e.reply ≡ b → (is_committed (accepted es) t ≡ false → is_aborted (accepted es) t ≡ false → places_from accepted_end t (n + 1) es ≡ []) → places_from accepted_end t n (e ∷ es) ≡ []
+    at : (b : Bool) → is_refusal e.reply ≡ b → (is_committed (accepted es) t ≡ false → is_aborted (accepted es) t ≡ false → places_from ended_txn t (n + 1) es ≡ []) → places_from ended_txn t n (e ∷ es) ≡ []
     at true refused rest =
-        skip (ap (λ b. is_key (if b then None else ender e.event) t) refused)
+        skip (ap (λ b. is_some_eq (if b then None else ender e.event) t) refused)
         (rest (sym (ap (λ l. is_committed l t) (events true refused)) ∙ c) (sym (ap (λ l. is_aborted l t) (events true refused)) ∙ a))
     at false ok rest =
         let cs = or_parts (commits t e.event) (is_committed (accepted es) t) (sym (ap (λ l. is_committed l t) (events false ok)) ∙ c) in
         let as' = or_parts (aborts t e.event) (is_aborted (accepted es) t) (sym (ap (λ l. is_aborted l t) (events false ok)) ∙ a) in
-        skip (ap (λ b. is_key (if b then None else ender e.event) t) ok ∙ end_key e.event t cs.0 as'.0) (rest cs.1 as'.1)
+        skip (ap (λ b. is_some_eq (if b then None else ender e.event) t) ok ∙ end_key e.event t cs.0 as'.0) (rest cs.1 as'.1)
 
-active_ends : (d : DistanceFunction) (h : Schedule) (e : Event) (r : Reply) → r ≡ reply_to d h e → is_refusal r ≡ false → (t : ℕ) → is_key (ender e) t ≡ true → is_active (accepted_in h) t ≡ true
+active_ends : (d : DistanceFunction) (h : Schedule) (e : Event) (r : Reply) → r ≡ reply_to d h e → is_refusal r ≡ false → (t : ℕ) → is_some_eq (ender e) t ≡ true → is_active (accepted_in h) t ≡ true
 active_ends d h (BeginUpdate l) r is ok t key = absurd (true≢false (sym key))
 active_ends d h (BeginQuery l s) r is ok t key = absurd (true≢false (sym key))
 active_ends d h (Read u x) r is ok t key = absurd (true≢false (sym key))
@@ -64,16 +64,16 @@ active_ends d h (Commit u) r is ok t key = subst (λ v. is_active (accepted_in h
 active_ends d h (Abort u) r is ok t key = subst (λ v. is_active (accepted_in h) v ≡ true) (eqb-true u.0 t key) (not_ended h u.0 (accepts d h (Abort u) r is ok).0.1.0)
 
 HasOneEnd : Schedule → Type 0
-HasOneEnd h = (t : ℕ) → length (places_from accepted_end t 0 h.entries) ≤ 1
+HasOneEnd h = (t : ℕ) → length (places_from ended_txn t 0 h.entries) ≤ 1
 
 one_end_next : (d : DistanceFunction) (h : Schedule) (e : Event) (r : Reply) → r ≡ reply_to d h e → HasOneEnd h → HasOneEnd (extended h e r)
 unfolding HasOneEnd
-one_end_next d h e r is one t = rw (places_push accepted_end t 0 h.entries (record { event = e; reply = r })) (at (is_refusal r) refl (is_key (ender e) t) refl)
+one_end_next d h e r is one t = rw (places_push ended_txn t 0 h.entries (record { event = e; reply = r })) (at (is_refusal r) refl (is_some_eq (ender e) t) refl)
   where
-    at : (b : Bool) → is_refusal r ≡ b → (k : Bool) → is_key (ender e) t ≡ k
-        → length (places_from accepted_end t 0 h.entries ++ cond (is_key (if is_refusal r then None else ender e) t) ((0 + length h.entries) ∷ []) []) ≤ 1
-    at true refused k key = rw (refused, append-nil (places_from accepted_end t 0 h.entries)) (one t)
-    at false ok false key = rw (ok, key, append-nil (places_from accepted_end t 0 h.entries)) (one t)
+    at : (b : Bool) → is_refusal r ≡ b → (k : Bool) → is_some_eq (ender e) t ≡ k
+        → length (places_from ended_txn t 0 h.entries ++ cond (is_some_eq (if is_refusal r then None else ender e) t) ((0 + length h.entries) ∷ []) []) ≤ 1
+    at true refused k key = rw (refused, append-nil (places_from ended_txn t 0 h.entries)) (one t)
+    at false ok false key = rw (ok, key, append-nil (places_from ended_txn t 0 h.entries)) (one t)
     at false ok true key =
         let parts = active_parts (accepted_in h) t (active_ends d h e r is ok t key) in
         rw (ok, key, no_ends h.entries t 0 parts.1 parts.2) (omega arith)
@@ -88,11 +88,11 @@ single (x ∷ []) i l j = ⊎_elim (λ e. ap Some e) (λ b. absurd b) j
 single (x ∷ y ∷ xs) i l j = absurd (omega arith)
 
 -- the entry that ends a transaction is the one at which the transaction ends
-pub end_is : (d : DistanceFunction) (h : Schedule) → IsLegal d h → (t i : ℕ) (e : Entry) → slice_get h.entries i ≡ Some e → is_key (accepted_end e) t ≡ true → last_place accepted_end t h.entries ≡ Some i
+pub end_is : (d : DistanceFunction) (h : Schedule) → IsLegal d h → (t i : ℕ) (e : Entry) → slice_get h.entries i ≡ Some e → is_some_eq (ended_txn e) t ≡ true → last_place ended_txn t h.entries ≡ Some i
 unfolding HasOneEnd
 end_is d h legal t i e at key =
     let z : 0 + i ≡ i = omega arith in
-    single (places_from accepted_end t 0 h.entries) i (one_end d h legal t) (subst (λ k. In k (places_from accepted_end t 0 h.entries)) z (in_places accepted_end t 0 h.entries i e at key))
+    single (places_from ended_txn t 0 h.entries) i (one_end d h legal t) (subst (λ k. In k (places_from ended_txn t 0 h.entries)) z (in_places ended_txn t 0 h.entries i e at key))
 
 -- ---- begins
 abbrev begins_at : ℕ → Entry → Bool
@@ -115,7 +115,7 @@ record AreBegun (h : Schedule) : Type 0 where
 kept : (es : List Entry) (x : Entry) (t : ℕ) (b : BeginRecord) (p : ℕ) → IsBegunAt es t b p → IsBegunAt (es ++ x ∷ []) t b p
 kept es x t b p was =
     let inside : p < length es = get_inside es p was.entry was.at in
-    let more = cond (is_key (accepted_txn x) t) ((0 + length es) ∷ []) [] in
+    let more = cond (is_some_eq (accepted_txn x) t) ((0 + length es) ∷ []) [] in
     record {
       entry = was.entry;
       at = slice_get_push es x p inside ∙ was.at;
@@ -169,7 +169,7 @@ module _ (d : DistanceFunction) (h : Schedule) (legal : IsLegal d h) (was : AreB
       first_one t num =
           let past : begun_count h.entries < t = omega (arith, num) in
           let empty : places_from accepted_txn t 0 h.entries ≡ [] = none_empty (places_from accepted_txn t 0 h.entries) ((legal_fit d h legal).txns t past) in
-          let key : is_key (accepted_txn (record { event = e; reply = Begun (record { 0 = begun_count h.entries + 1 }) })) t ≡ true = ap (λ o. is_key o t) own ∙ eq-eqb (begun_count h.entries + 1) t (sym num) in
+          let key : is_some_eq (accepted_txn (record { event = e; reply = Begun (record { 0 = begun_count h.entries + 1 }) })) t ≡ true = ap (λ o. is_some_eq o t) own ∙ eq-eqb (begun_count h.entries + 1) t (sym num) in
           let z : 0 + length h.entries ≡ length h.entries = omega arith in
           record {
             entry = record { event = e; reply = Begun (record { 0 = begun_count h.entries + 1 }) };
@@ -179,7 +179,7 @@ module _ (d : DistanceFunction) (h : Schedule) (legal : IsLegal d h) (was : AreB
             rest = [];
             first =
                 places_push accepted_txn t 0 h.entries (record { event = e; reply = Begun (record { 0 = begun_count h.entries + 1 }) })
-                ∙ (ap (λ l. l ++ cond (is_key (accepted_txn (record { event = e; reply = Begun (record { 0 = begun_count h.entries + 1 }) })) t) ((0 + length h.entries) ∷ []) []) empty
+                ∙ (ap (λ l. l ++ cond (is_some_eq (accepted_txn (record { event = e; reply = Begun (record { 0 = begun_count h.entries + 1 }) })) t) ((0 + length h.entries) ∷ []) []) empty
                 ∙ (ap (λ k. cond k ((0 + length h.entries) ∷ []) []) key ∙ ap (λ m. m ∷ []) z));
             none = ap (list_any (begins_at t)) (take-append_seam h.entries (record { event = e; reply = Begun (record { 0 = begun_count h.entries + 1 }) } ∷ [])) ∙ was.none t past;
           }

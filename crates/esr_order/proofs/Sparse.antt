@@ -6,7 +6,7 @@ use Rattle.std.proofs.lemmas.Bool.{cases_order}
 use Rattle.std.proofs.lemmas.Option.{same_Some}
 use Rattle.std.proofs.lemmas.List.Kept.{AllPairs-from_increasing}
 use Rattle.esr_history.specs.declared.event.Entry.{Entry}
-use Rattle.esr_history.specs.BackLinks.{is_key, places_from}
+use Rattle.esr_history.specs.BackLinks.{is_some_eq, places_from}
 use Rattle.esr_history.proofs.Membership.{In, Pairs, Pairs-from_all, each_at}
 use Rattle.esr_order.proofs.Entries.{all_entries}
 
@@ -58,15 +58,15 @@ sparse_entries f es at rises inside yields =
     nothing i (Some e) is out = yields i e is out
 
 -- the places of a key
-pub in_places : (key : Entry → Option ℕ) (k n : ℕ) (es : List Entry) (i : ℕ) (e : Entry) → slice_get es i ≡ Some e → is_key (key e) k ≡ true → In (n + i) (places_from key k n es)
+pub in_places : (key : Entry → Option ℕ) (k n : ℕ) (es : List Entry) (i : ℕ) (e : Entry) → slice_get es i ≡ Some e → is_some_eq (key e) k ≡ true → In (n + i) (places_from key k n es)
 in_places key k n [] i e is has = absurd (cc)
 in_places key k n (f ∷ es) zero e is has =
     let z : n ≡ n + 0 = omega arith in
-    let own : is_key (key f) k ≡ true = ap (λ (e : Entry). is_key (key e) k) (same_Some f e is) ∙ has in
+    let own : is_some_eq (key f) k ≡ true = ap (λ (e : Entry). is_some_eq (key e) k) (same_Some f e is) ∙ has in
     subst (In (n + 0)) (sym (ap (λ b. if b then n ∷ places_from key k (n + 1) es else places_from key k (n + 1) es) own)) (inl z)
 in_places key k n (f ∷ es) (suc i) e is has =
     let shift : n + 1 + i ≡ n + suc i = omega arith in
-    at (is_key (key f) k) (subst (λ m. In m (places_from key k (n + 1) es)) shift (in_places key k (n + 1) es i e is has))
+    at (is_some_eq (key f) k) (subst (λ m. In m (places_from key k (n + 1) es)) shift (in_places key k (n + 1) es i e is has))
   where
     at : (b : Bool) → In (n + suc i) (places_from key k (n + 1) es) → In (n + suc i) (if b then n ∷ places_from key k (n + 1) es else places_from key k (n + 1) es)
     at true j = inr j

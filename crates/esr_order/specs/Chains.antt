@@ -3,7 +3,7 @@ use Rattle.std.specs.Prelude.{ℕ, ℤ, Bool, false, ◌-◌, List, [], ◌∷�
 use Rattle.std.specs.List.{filter_map, range_with_len, last_or}
 use Rattle.esr_history.specs.Machine.{Schedule}
 use Rattle.esr_history.specs.Serial.{values_by}
-use Rattle.esr_history.specs.Queries.{updates_of}
+use Rattle.esr_history.specs.Queries.{updates_committed_before}
 use Rattle.esr_order.specs.UpdateOperations.{UpdateOperation}
 use Rattle.esr_order.specs.declared.links.Links.{Links}
 
@@ -39,7 +39,7 @@ last_of vs = last_or None vs
 
 -- the update of q at a position in commit order
 abbrev pub update_at : Schedule → ℕ → ℕ → ℕ
-update_at h q i = slice_index_or (updates_of h q) i 0
+update_at h q i = slice_index_or (updates_committed_before h q) i 0
 
 -- the last value that it wrote to item x, if it wrote it
 abbrev pub last_written : Schedule → ℕ → ℕ → ℕ → Option ℤ
@@ -57,7 +57,7 @@ chain_among h us x = some_chain (chain_from (last_among h us x) (length us))
 
 -- the updates of q that wrote item x, if there is one
 abbrev pub chain_of : Schedule → ℕ → ℕ → Option Chain
-chain_of h q x = some_chain (chain_from (last_written h q x) (length (updates_of h q)))
+chain_of h q x = some_chain (chain_from (last_written h q x) (length (updates_committed_before h q)))
 
 -- the last value that the update at position i wrote, of writes of one item
 abbrev pub last_in : List UpdateOperation → ℕ → Option ℤ

@@ -3,7 +3,7 @@ use Rattle.std.specs.Prelude.{ℕ, ◌++◌, Bool, not, ◌&&◌, ◌||◌, nat_
 use Rattle.std.specs.List.{list_all}
 use Rattle.esr_history.specs.Machine.{DistanceFunction, Schedule}
 use Rattle.esr_history.specs.Serial.{is_before}
-use Rattle.esr_history.specs.Queries.{updates_of, must, cost}
+use Rattle.esr_history.specs.Queries.{updates_committed_before, must, cost}
 use Rattle.esr_order.specs.Placements.{is_among}
 
 -- all sublists of a list
@@ -14,12 +14,12 @@ parts (u ∷ us) = map (λ part. u ∷ part) (parts us) ++ parts us
 -- whether a part contains, with each member, all updates of q that precede it, and those that q must see
 abbrev pub is_closed_part : Schedule → ℕ → List ℕ → Bool
 is_closed_part h q part =
-    list_all (λ v. list_all (λ u. not (is_before h u v) || is_among part u) (updates_of h q)) part
+    list_all (λ v. list_all (λ u. not (is_before h u v) || is_among part u) (updates_committed_before h q)) part
     && list_all (is_among part) (must h q)
 
 -- the closed sets of q's updates
 abbrev pub closed_parts : Schedule → ℕ → List (List ℕ)
-closed_parts h q = filter (is_closed_part h q) (parts (updates_of h q))
+closed_parts h q = filter (is_closed_part h q) (parts (updates_committed_before h q))
 
 -- whether no closed set costs less
 abbrev pub is_least_part : DistanceFunction → Schedule → ℕ → List ℕ → Bool
@@ -31,9 +31,9 @@ abbrev pub least_parts : DistanceFunction → Schedule → ℕ → List (List �
 least_parts d h q = filter (is_least_part d h q) (closed_parts h q)
 
 -- their intersection, in commit order
-abbrev pub least_set : DistanceFunction → Schedule → ℕ → List ℕ
-least_set d h q = filter (λ u. list_all (λ part. is_among part u) (least_parts d h q)) (updates_of h q)
+abbrev pub nearest_placement : DistanceFunction → Schedule → ℕ → List ℕ
+nearest_placement d h q = filter (λ u. list_all (λ part. is_among part u) (least_parts d h q)) (updates_committed_before h q)
 
 -- and its cost
-abbrev pub least_cost : DistanceFunction → Schedule → ℕ → ℕ
-least_cost d h q = cost d h q (is_among (least_set d h q))
+abbrev pub least_distance : DistanceFunction → Schedule → ℕ → ℕ
+least_distance d h q = cost d h q (is_among (nearest_placement d h q))

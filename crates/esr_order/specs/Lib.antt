@@ -17,4 +17,4 @@ pub mod BackwardSearch
 pub mod Chains
 pub mod Orders
 pub mod Relevant
-pub mod Worked
+pub mod WorkedExamples

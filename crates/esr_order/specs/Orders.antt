@@ -5,7 +5,7 @@ use Rattle.esr_base.specs.declared.limits.TheConstants.{MAX_TRANSACTIONS}
 use Rattle.esr_history.specs.Machine.{Schedule}
 use Rattle.esr_history.specs.Operations.{Operation, operations}
 use Rattle.esr_history.specs.Serial.{is_before, IsSerialOrder}
-use Rattle.esr_history.specs.Queries.{updates_of, must}
+use Rattle.esr_history.specs.Queries.{updates_committed_before, must}
 use Rattle.esr_order.specs.Placements.{is_among, IsClosed}
 use Rattle.esr_order.specs.Chains.{Chain, some_chain, update_at, chain_of, nth, chain_among}
 use Rattle.esr_order.specs.ConflictPairs.{IsLexLess}
@@ -32,13 +32,13 @@ pub record IsClosedIn (h : Schedule) (q : ℕ) (o : ConflictOrder) (S : ℕ → 
 
 -- the accepted reads and writes of the updates of q
 abbrev pub operations_of : Schedule → ℕ → List Operation
-operations_of h q = filter (λ o. is_among (updates_of h q) o.txn) (operations h)
+operations_of h q = filter (λ o. is_among (updates_committed_before h q) o.txn) (operations h)
 
 -- The updates that committed before q, with the necessary parts of their conflict order and their versions. Updates are
 -- identified by their positions in commit order.
 pub record IsConflictOrder (h : Schedule) (q : ℕ) (o : ConflictOrder) : Type 0 where
-  pub commits : map (λ t. t.0) o.commits ≡ updates_of h q
-  pub serial : IsSerialOrder h (updates_of h q) (updates_of h q)
+  pub commits : map (λ t. t.0) o.commits ≡ updates_committed_before h q
+  pub serial : IsSerialOrder h (updates_committed_before h q) (updates_committed_before h q)
   pub count_within_max : length o.commits ≤ MAX_TRANSACTIONS
   -- pairs of the conflict order, from a lower to a higher position, by which the same sets are closed
   pub ascending : AllPairs IsLexLess o.before

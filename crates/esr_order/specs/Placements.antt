@@ -3,7 +3,7 @@ use Rattle.std.specs.Prelude.{◌≡◌, ◌≤◌, ℕ, Bool, IsTrue, List, ◌
 use Rattle.std.specs.List.{list_any}
 use Rattle.esr_history.specs.Machine.{DistanceFunction, Schedule}
 use Rattle.esr_history.specs.Serial.{is_before, IsSerialOrder, state}
-use Rattle.esr_history.specs.Queries.{updates_of, must, distance_from, cost}
+use Rattle.esr_history.specs.Queries.{updates_committed_before, must, distance_from, cost}
 
 -- the members of a list, as a set
 abbrev pub is_among : List ℕ → ℕ → Bool
@@ -12,7 +12,7 @@ is_among us u = list_any (λ v. v == u) us
 -- a serial order of the updates of q, and a position in it; the prefix before the position contains those that q must
 -- see
 pub record IsPlacement (h : Schedule) (q : ℕ) (order : List ℕ) (position : ℕ) : Type 0 where
-  pub serial : IsSerialOrder h (updates_of h q) order
+  pub serial : IsSerialOrder h (updates_committed_before h q) order
   pub within : position ≤ length order
   pub holds_must : (u : ℕ) → Contains (must h q) u → Contains (take position order) u
 
@@ -30,7 +30,7 @@ pub record IsLeastDistance (d : DistanceFunction) (h : Schedule) (q : ℕ) (n : 
 
 -- S contains, with an update of q, all updates of q that precede it, and those that q must see
 pub record IsClosed (h : Schedule) (q : ℕ) (S : ℕ → Bool) : Type 0 where
-  pub downward : (u v : ℕ) → Contains (updates_of h q) u → Contains (updates_of h q) v → IsTrue (is_before h u v)
+  pub downward : (u v : ℕ) → Contains (updates_committed_before h q) u → Contains (updates_committed_before h q) v → IsTrue (is_before h u v)
       → IsTrue (S v) → IsTrue (S u)
   pub holds_must : (u : ℕ) → Contains (must h q) u → IsTrue (S u)
 
@@ -42,4 +42,4 @@ pub record IsLeastSet (d : DistanceFunction) (h : Schedule) (q : ℕ) (S : ℕ �
 -- that is contained in each closed set of least cost
 pub record IsSmallestLeastSet (d : DistanceFunction) (h : Schedule) (q : ℕ) (S : ℕ → Bool) : Type 0 where
   pub least : IsLeastSet d h q S
-  pub smallest : (T : ℕ → Bool) → IsLeastSet d h q T → All (λ u. IsTrue (S u) → IsTrue (T u)) (updates_of h q)
+  pub smallest : (T : ℕ → Bool) → IsLeastSet d h q T → All (λ u. IsTrue (S u) → IsTrue (T u)) (updates_committed_before h q)

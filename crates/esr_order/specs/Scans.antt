@@ -6,7 +6,7 @@ use Rattle.esr_history.specs.declared.event.Event.TheVariants.{BeginQuery, Commi
 use Rattle.esr_history.specs.declared.event.Entry.{Entry}
 use Rattle.esr_history.specs.Events.{is_refusal, is_begun}
 use Rattle.esr_history.specs.declared.back_links.Facts.{Facts}
-use Rattle.esr_history.specs.BackLinks.{accepted_end, last_place, facts_of}
+use Rattle.esr_history.specs.BackLinks.{ended_txn, last_place, facts_of}
 use Rattle.esr_history.specs.Machine.{Schedule, accepted_in}
 use Rattle.esr_history.specs.Operations.{Operation, operation_of, operations_in}
 pub use Rattle.esr_order.specs.declared.accesses.Access.{Access}
@@ -38,8 +38,8 @@ end_in (Some p) = p ∷ []
 
 -- the places at which transactions ended
 pub record AreEnds (h : Schedule) (ends : List ℕ) : Type 0 where
-  pub all : (t p : ℕ) → is_begun (accepted_in h) t ≡ true → last_place accepted_end t h.entries ≡ Some p → Contains ends p
-  pub only : (p : ℕ) → Contains ends p → (t : ℕ) × (last_place accepted_end t h.entries ≡ Some p)
+  pub all : (t p : ℕ) → is_begun (accepted_in h) t ≡ true → last_place ended_txn t h.entries ≡ Some p → Contains ends p
+  pub only : (p : ℕ) → Contains ends p → (t : ℕ) × (last_place ended_txn t h.entries ≡ Some p)
 
 -- whether transaction t ended before a place
 abbrev pub is_end_before : Option ℕ → ℕ → Bool

@@ -3,11 +3,11 @@ use Rattle.std.specs.Prelude.{◌≡◌, ◌↔◌, ℕ, Bool, IsTrue, ◌&&◌,
 use Rattle.esr_history.specs.declared.event.Entry.{Entry}
 use Rattle.esr_history.specs.Events.{is_committed}
 use Rattle.esr_history.specs.Machine.{DistanceFunction, Schedule, accepted_in, IsLegal}
-use Rattle.esr_history.specs.Legal.{along}
+use Rattle.esr_history.specs.Legal.{continued}
 use Rattle.esr_history.specs.Serial.{state}
 use Rattle.esr_history.specs.Queries.{members, cost, HasSameAudit}
 use Rattle.esr_order.specs.Placements.{is_among, IsPlacement, IsLeastDistance, IsClosed, IsLeastSet, IsSmallestLeastSet}
-use Rattle.esr_order.specs.Least.{least_set, least_cost}
+use Rattle.esr_order.specs.Least.{nearest_placement, least_distance}
 
 -- The closed sets of q are the parts before the positions of its placements, the serial state is the version that the
 -- set leaves, and so the least distance of a placement is the least cost of a closed set.
@@ -25,8 +25,8 @@ LawOfPlacements = (d : DistanceFunction) (h : Schedule) (q : ℕ) → IsLegal d 
 -- The data of the audit of a committed query are the same in every longer legal history.
 abbrev pub LawOfLongerHistories : Type 0
 LawOfLongerHistories =
-    (d : DistanceFunction) (h : Schedule) (rest : List Entry) (q : ℕ) → IsLegal d (along h rest)
-    → IsTrue (is_committed (accepted_in h) q) → HasSameAudit d h (along h rest) q
+    (d : DistanceFunction) (h : Schedule) (rest : List Entry) (q : ℕ) → IsLegal d (continued h rest)
+    → IsTrue (is_committed (accepted_in h) q) → HasSameAudit d h (continued h rest) q
 
 -- The meet of two closed sets of least cost is one, so that the smallest is the meet of them all.
 abbrev pub LawOfLeastSets : Type 0
@@ -38,4 +38,4 @@ LawOfLeastSets =
 abbrev pub LawOfListedSets : Type 0
 LawOfListedSets =
     (d : DistanceFunction) (h : Schedule) (q : ℕ) (S : ℕ → Bool) → IsSmallestLeastSet d h q S
-    → (members h q S ≡ least_set d h q) × (cost d h q S ≡ least_cost d h q)
+    → (members h q S ≡ nearest_placement d h q) × (cost d h q S ≡ least_distance d h q)

@@ -7,7 +7,7 @@ ghost use Rattle.std.specs.List.Sorted.{IsStrictlyIncreasing};
 ghost use Rattle.esr_history.specs.Events.{is_begun, is_update};
 ghost use Rattle.esr_history.specs.Machine.{accepted_in};
 ghost use Rattle.esr_history.specs.Operations.{commit_order};
-ghost use Rattle.esr_history.specs.Queries.{before_begin, is_committed_query, is_strict, updates_of, must};
+ghost use Rattle.esr_history.specs.Queries.{before_begin, is_committed_query, is_strict, updates_committed_before, must};
 ghost use Rattle.esr_order.specs.Scans.{commit_in, is_commit_at, is_strict_begin, has_ended_before, end_in, AreEnds};
 
 use crate::walk::places_of_txn;
@@ -211,7 +211,7 @@ pub fn count_must<M: Metric>(
     q: TxnId,
 ) -> Result<usize, AllocError>
     requires begun { is_begun (accepted_in history.now.schedule) q.0 ≡ true }
-    requires updates { map (λ t. t.0) updates.now ≡ updates_of history.now.schedule q.0 }
+    requires updates { map (λ t. t.0) updates.now ≡ updates_committed_before history.now.schedule q.0 }
     ensures { IfOk result (λ n. n ≡ length (must history.now.schedule q.0)) }
 {
     let _invariant = history.log(); // brings the invariant into the proof

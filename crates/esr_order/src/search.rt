@@ -10,7 +10,7 @@
 //! and a worklist).
 ghost use Rattle.std.specs.Prelude.{◌≡◌, ◌<◌, ◌||◌, ℕ, true, false, IfOk, All, length, map};
 ghost use Rattle.std.specs.List.{list_any};
-ghost use Rattle.esr_history.specs.Queries.{updates_of, must};
+ghost use Rattle.esr_history.specs.Queries.{updates_committed_before, must};
 ghost use Rattle.esr_order.specs.AccessRows.{AreRowsOf};
 ghost use Rattle.esr_order.specs.Relevant.{AreRelevant};
 ghost use Rattle.esr_order.specs.Scans.{accesses_in};
@@ -129,7 +129,7 @@ pub fn relevant_of<M: Metric>(
     q: TxnId,
 ) -> Result<Relevant, AllocError>
     requires rows { AreRowsOf history.now.schedule.entries rows.now }
-    requires updates { map (λ t. t.0) updates.now ≡ updates_of history.now.schedule q.0 }
+    requires updates { map (λ t. t.0) updates.now ≡ updates_committed_before history.now.schedule q.0 }
     requires first { first ≡ length (must history.now.schedule q.0) }
     ensures relevant { IfOk result (λ n. AreRelevant history.now.schedule q.0 (map (λ t. t.0) n.updates.items)) }
 {

@@ -1,6 +1,6 @@
-//! The arrows between the updates that are drawn. Those that follow from others are left out, also those that go
-//! through updates that are not drawn: one pass over the pairs finds for each update which of those drawn come before
-//! it, as the bits of one number, since the pairs ascend. That is why at most 30 updates are drawn.
+//! The arrows between the updates that are drawn. An arrow that others imply is omitted, also if the path of the others
+//! passes through updates that are not drawn. Since the pairs ascend, one pass over them computes the drawn ancestors of
+//! each update, as a set of bits. At most 30 updates are drawn, so 64 bits suffice.
 
 use crate::selection::Choice;
 use esr_cert::Problem;
@@ -13,16 +13,16 @@ pub struct Slots {
 }
 
 impl Slots {
-    /// Those before the line from slot 1 on, one slot for the line, and then those after it.
+    /// Assigns slots from 1: to the drawn updates before the line, to the line, and to the drawn updates after it.
     pub fn new(
         alloc: Global,
         count: usize,
         choice: &Choice,
-        line: u8,
+        line_slot: u8,
     ) -> Result<Slots, AllocError> {
         let mut slots = vec![in alloc; 0u8; count]?;
-        put(&mut slots, &choice.before, 0);
-        put(&mut slots, &choice.after, line);
+        assign_slots(&mut slots, &choice.before, 0);
+        assign_slots(&mut slots, &choice.after, line_slot);
         Ok(Slots { slots })
     }
 
@@ -32,9 +32,9 @@ impl Slots {
     }
 }
 
-/// Puts the updates into the slots that follow.
-fn put(slots: &mut [u8], updates: &[u32], last: u8) {
-    let mut slot = last;
+/// Assigns the slots after `previous` to the updates, in order.
+fn assign_slots(slots: &mut [u8], updates: &[u32], previous: u8) {
+    let mut slot = previous;
     for update in updates {
         slot = slot.saturating_add(1);
         if let Some(place) = slots.get_mut(*update as usize) {
@@ -43,7 +43,7 @@ fn put(slots: &mut [u8], updates: &[u32], last: u8) {
     }
 }
 
-/// The bit of a slot.
+/// Returns the bit of a slot.
 fn bit(slot: u8) -> u64 {
     1u64.checked_shl(u32::from(slot)).unwrap_or(0)
 }
@@ -53,22 +53,22 @@ fn bit(slot: u8) -> u64 {
 /// The pairs ascend, and each leads from a lower position to a higher one. So when a pair is processed, all
 /// predecessors of its first update are known.
 fn ancestors(alloc: Global, problem: &Problem, slots: &Slots) -> Result<Vec<u64>, AllocError> {
-    let mut above = vec![in alloc; 0u64; problem.updates().len()]?;
+    let mut ancestors = vec![in alloc; 0u64; problem.updates().len()]?;
     for (first, second) in problem.before() {
-        let before = above.get(*first as usize).copied().unwrap_or(0) | bit(slots.of(*first));
-        if let Some(all) = above.get_mut(*second as usize) {
+        let before = ancestors.get(*first as usize).copied().unwrap_or(0) | bit(slots.of(*first));
+        if let Some(all) = ancestors.get_mut(*second as usize) {
             *all |= before;
         }
     }
-    Ok(above)
+    Ok(ancestors)
 }
 
 /// Returns the union of the ancestors of the updates in these slots.
-fn union_of_ancestors(drawn: &[(u8, u64)], those: u64) -> u64 {
+fn union_of_ancestors(ancestors_by_slot: &[(u8, u64)], members: u64) -> u64 {
     let mut all = 0;
-    for (slot, above) in drawn {
-        if those & bit(*slot) != 0 {
-            all |= *above;
+    for (slot, ancestors) in ancestors_by_slot {
+        if members & bit(*slot) != 0 {
+            all |= *ancestors;
         }
     }
     all
@@ -81,16 +81,16 @@ pub struct SlotPair {
     pub to: u8,
 }
 
-/// Adds the arrows to the update of a slot: from those above it that are above no other one that is above it.
+/// Adds the arrows to the update of a slot: from each of its ancestors that is not an ancestor of another of them.
 fn arrows_to(
     arrows: &mut Vec<SlotPair>,
-    drawn: &[(u8, u64)],
+    ancestors_by_slot: &[(u8, u64)],
     to: u8,
-    above: u64,
+    ancestors: u64,
 ) -> Result<(), AllocError> {
-    let implied = union_of_ancestors(drawn, above);
-    for (from, _) in drawn {
-        if above & !implied & bit(*from) != 0 {
+    let implied = union_of_ancestors(ancestors_by_slot, ancestors);
+    for (from, _) in ancestors_by_slot {
+        if ancestors & !implied & bit(*from) != 0 {
             arrows.push(SlotPair { from: *from, to })?;
         }
     }
@@ -104,16 +104,16 @@ pub fn arrows(
     drawn: &[u32],
     slots: &Slots,
 ) -> Result<Vec<SlotPair>, AllocError> {
-    let above = ancestors(alloc, problem, slots)?;
-    let mut known = Vec::new(alloc);
+    let ancestors = ancestors(alloc, problem, slots)?;
+    let mut ancestors_by_slot = Vec::new(alloc);
     for update in drawn {
-        // Slot 0 is that of all others, and no update that is drawn.
-        let all = above.get(*update as usize).copied().unwrap_or(0) & !1;
-        known.push((slots.of(*update), all))?;
+        // All updates that are not drawn share slot 0, so its bit is cleared.
+        let all = ancestors.get(*update as usize).copied().unwrap_or(0) & !1;
+        ancestors_by_slot.push((slots.of(*update), all))?;
     }
     let mut arrows = Vec::new(alloc);
-    for (slot, all) in &known {
-        arrows_to(&mut arrows, &known, *slot, *all)?;
+    for (slot, all) in &ancestors_by_slot {
+        arrows_to(&mut arrows, &ancestors_by_slot, *slot, *all)?;
     }
     Ok(arrows)
 }

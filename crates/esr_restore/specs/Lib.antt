@@ -1,3 +1,3 @@
 -- The history that a run of a history's script leads to.
 pub mod Restores
-pub mod Worked
+pub mod WorkedExamples

@@ -5,7 +5,7 @@ use Rattle.esr_base.specs.declared.numbers.TxnId.{TxnId}
 use Rattle.esr_history.specs.Machine.{Schedule, charges_in, import_in}
 use Rattle.esr_history.specs.Queries.{is_committed_query}
 use Rattle.esr_cert.specs.Views.{certificate_of}
-use Rattle.esr_order.specs.Least.{least_set, least_cost}
+use Rattle.esr_order.specs.Least.{nearest_placement, least_distance}
 use Rattle.esr_order.specs.Relevant.{AreRelevant}
 use Rattle.esr_audit.specs.Findings.{IsShown, summary, summary_of}
 use Rattle.esr_least.specs.declared.query.QueryAudit.{QueryAudit}
@@ -29,8 +29,8 @@ module _ (s : ScriptState) (items names : List (List ℕ)) (was_closed : Bool) (
   both P p = subst (P s.history) (ap (λ (t : TxnId). t.0) called) (subst (λ k. P k q.0) history_is p)
 
   pub found_of : (f : Finding) → f.query ≡ q
-      → is_committed_query h q.0 ≡ true → f.distance ≡ least_cost weighted h q.0 → f.import ≡ import_in (charges_in weighted h) q.0
-      → map (λ (t : TxnId). t.0) f.before.items ≡ least_set weighted h q.0
+      → is_committed_query h q.0 ≡ true → f.distance ≡ least_distance weighted h q.0 → f.import ≡ import_in (charges_in weighted h) q.0
+      → map (λ (t : TxnId). t.0) f.before.items ≡ nearest_placement weighted h q.0
       → IsShown weighted h q.0 f.distance (map (λ (t : TxnId). t.0) f.before.items) f.problem (certificate_of f.certificate)
       → AreRelevant h q.0 f.problem.updates
       → IsFoundOf s name f
@@ -42,8 +42,8 @@ module _ (s : ScriptState) (items names : List (List ℕ)) (was_closed : Bool) (
   }
 
   pub audit_of : (a : QueryAudit) → is_committed_query h q.0 ≡ true → audited a ≡ summary_of weighted h q.0 → IsAuditFrom weighted h a → IsAuditOf s name a
-  audit_of a committed is stays = record {
+  audit_of a committed is stable = record {
     committed = both (λ k n. is_committed_query k n ≡ true) committed;
     summary = both (λ k n. audited a ≡ summary_of weighted k n) is;
-    stays = both (λ k n. IsAuditFrom weighted k a) stays;
+    stable = both (λ k n. IsAuditFrom weighted k a) stable;
   }

@@ -3,7 +3,7 @@ use Rattle.std.proofs.Common.{◌≡◌, ℕ, Result, Ok, Err, IfOk, map, ◌∙
 use Rattle.esr_history.specs.Machine.{DistanceFunction, Schedule, charges_in, import_in}
 use Rattle.esr_cert.specs.Views.{certificate_of}
 use Rattle.esr_order.specs.Placements.{is_among}
-use Rattle.esr_order.specs.Least.{least_set, least_cost}
+use Rattle.esr_order.specs.Least.{nearest_placement, least_distance}
 use Rattle.esr_order.specs.Relevant.{AreRelevant}
 use Rattle.esr_order.proofs.Least.{law_of_listed_sets}
 use Rattle.esr_audit.specs.declared.finding.Finding.{Finding}
@@ -11,7 +11,7 @@ use Rattle.esr_audit.specs.declared.finding.AuditError.{AuditError}
 use Rattle.esr_audit.specs.Findings.{IsShown, IsFindingOf}
 
 module _ (d : DistanceFunction) (h : Schedule) (q : ℕ) where
-  pub distance_is : (r : Result Finding AuditError) → IfOk r (IsFindingOf d h q) → IfOk r (λ f. f.distance ≡ least_cost d h q)
+  pub distance_is : (r : Result Finding AuditError) → IfOk r (IsFindingOf d h q) → IfOk r (λ f. f.distance ≡ least_distance d h q)
   distance_is (Ok f) a = a.answer.distance_is ∙ (law_of_listed_sets d h q (is_among (map (λ t. t.0) f.before.items)) a.answer.smallest).1
   distance_is (Err e) a = tt
 
@@ -19,7 +19,7 @@ module _ (d : DistanceFunction) (h : Schedule) (q : ℕ) where
   import_is (Ok f) a = a.answer.import_is
   import_is (Err e) a = tt
 
-  pub before_is : (r : Result Finding AuditError) → IfOk r (IsFindingOf d h q) → IfOk r (λ f. map (λ t. t.0) f.before.items ≡ least_set d h q)
+  pub before_is : (r : Result Finding AuditError) → IfOk r (IsFindingOf d h q) → IfOk r (λ f. map (λ t. t.0) f.before.items ≡ nearest_placement d h q)
   before_is (Ok f) a = a.answer.in_order ∙ (law_of_listed_sets d h q (is_among (map (λ t. t.0) f.before.items)) a.answer.smallest).0
   before_is (Err e) a = tt
 

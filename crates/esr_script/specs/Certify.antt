@@ -4,17 +4,17 @@ use Rattle.esr_items.specs.Weights.{weighted}
 use Rattle.esr_history.specs.Machine.{Schedule}
 use Rattle.esr_cert.specs.Problem.{Problem}
 use Rattle.esr_cert.specs.Certificate.{Certificate, Certifies}
-use Rattle.esr_order.specs.Least.{least_set}
+use Rattle.esr_order.specs.Least.{nearest_placement}
 use Rattle.esr_order.specs.Relevant.{AreRelevant}
 use Rattle.esr_audit.specs.Problems.{IsProblemOf}
-use Rattle.esr_audit.specs.Findings.{IsCounted}
+use Rattle.esr_audit.specs.Findings.{HasAugmentationCount}
 use Rattle.esr_bundle.specs.Bundle.{bundle}
 use Rattle.esr_script.specs.Text.{final, RunFault}
 use Rattle.esr_script.specs.Ends.{query_of, IsReportedBy}
 
 -- whether the certificate contains the count of augmentations
 abbrev pub HasAugmentations : Bool → Problem → Certificate → Type 0
-HasAugmentations true p c = IsCounted p c
+HasAugmentations true p c = HasAugmentationCount p c
 HasAugmentations false p c = c.augmentations ≡ None
 
 -- The text is the bundle of the query's problem of the relevant updates, and of a certificate of it with the smallest
@@ -25,7 +25,7 @@ pub record IsBundleOf (steps : Bool) (h : Schedule) (q : ℕ) (text : List ℕ) 
   pub is_problem : IsProblemOf weighted h q problem
   pub relevant : AreRelevant h q problem.updates
   pub certified : Certifies problem certificate
-  pub set_is : filter_map (slice_get problem.updates) certificate.set ≡ least_set weighted h q
+  pub set_is : filter_map (slice_get problem.updates) certificate.set ≡ nearest_placement weighted h q
   pub reported : HasAugmentations steps problem certificate
   pub text_is : text ≡ bundle problem certificate
 

@@ -16,5 +16,5 @@ pub mod Items
 pub mod Stages
 pub mod Parts
 pub mod ReaderToWriter
-pub mod Worked
+pub mod WorkedExamples
 pub mod Echoes

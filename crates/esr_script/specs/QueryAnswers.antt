@@ -18,4 +18,4 @@ IsAuditedQuery input name left r = IsReachedBy (IsAnswered (final input) name) (
 pub record IsAuditOf (s : ScriptState) (name : List ℕ) (a : QueryAudit) : Type 0 where
   pub committed : is_committed_query s.history (transaction_called s name).0 ≡ true
   pub summary : audited a ≡ summary_of weighted s.history (transaction_called s name).0
-  pub stays : IsAuditFrom weighted s.history a
+  pub stable : IsAuditFrom weighted s.history a

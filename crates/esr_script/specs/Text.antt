@@ -11,7 +11,7 @@ use Rattle.esr_history.specs.declared.event.Reply.TheVariants as reply
 use Rattle.esr_history.specs.Machine.{reply_to, extended, charges_in, import_in}
 use Rattle.esr_history.specs.Queries.{is_committed_query}
 use Rattle.esr_history.specs.Totals.{all_imports, all_exports}
-use Rattle.esr_order.specs.Least.{least_set, least_cost}
+use Rattle.esr_order.specs.Least.{nearest_placement, least_distance}
 use Rattle.esr_report.specs.declared.lines.LineError.{LineError}
 use Rattle.esr_report.specs.declared.lines.LineError.TheVariants.{NotACommand, ItemsAreClosed, NameInUse, ValueOutOfRange, TooManyItems, NotACommittedQuery, WeightOutOfRange}
 use Rattle.esr_report.specs.Names.{position_of, is_bound}
@@ -90,7 +90,7 @@ audit_text s name =
     let h = s.history in let q = (transaction_called s name).0 in
     if is_committed_query h q
     then audit_line s.transactions name
-    (least_cost weighted h q) (import_in (charges_in weighted h) q) (least_set weighted h q)
+    (least_distance weighted h q) (import_in (charges_in weighted h) q) (nearest_placement weighted h q)
     else error_line NotACommittedQuery
 
 -- the state after a command, and its line

@@ -120,7 +120,7 @@ impl IndexedMachine {
     pub fn summarize(&mut self, alloc: Global, q: TxnId) -> Result<QueryAudit, AuditError>
         ensures same { self.new ≡ self.old }
         ensures summary { IfOk result (λ a. audited a ≡ summary_of weighted self.old q.0) }
-        ensures stays { IfOk result (IsAuditFrom weighted self.old) }
+        ensures stable { IfOk result (IsAuditFrom weighted self.old) }
         ensures committed { IfOk result (λ a. is_committed_query self.old q.0 ≡ true) }
         ensures refused { IsErrOf result AuditError.NotACommittedQuery → is_committed_query self.old q.0 ≡ false }
         ensures no_worker_error { ¬ IsErrOf result AuditError.WorkersOutOfRange }
@@ -140,7 +140,7 @@ impl IndexedMachine {
     fn take_audit(&mut self, q: TxnId) -> Option<QueryAudit>
         ensures same { self.new ≡ self.old }
         ensures summary { IfSome result (λ a. audited a ≡ summary_of weighted self.old q.0) }
-        ensures stays { IfSome result (IsAuditFrom weighted self.old) }
+        ensures stable { IfSome result (IsAuditFrom weighted self.old) }
         ensures committed { IfSome result (λ a. is_committed_query self.old q.0 ≡ true) }
     {
         let _history = self.machine.history(); // brings legality into the proof

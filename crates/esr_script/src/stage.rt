@@ -8,7 +8,7 @@ ghost use Rattle.esr_history.specs.Machine.{reply_to, extended, charges_in, impo
 ghost use Rattle.esr_history.specs.Totals.{all_imports, all_exports};
 ghost use Rattle.esr_history.specs.Queries.{is_committed_query};
 ghost use Rattle.esr_cert.specs.Views.{certificate_of};
-ghost use Rattle.esr_order.specs.Least.{least_set, least_cost};
+ghost use Rattle.esr_order.specs.Least.{nearest_placement, least_distance};
 ghost use Rattle.esr_audit.specs.Findings.{IsShown, AreSummaries, summary_of};
 ghost use Rattle.esr_least.specs.Audits.{audited, IsAuditFrom};
 ghost use Rattle.esr_order.specs.Relevant.{AreRelevant};
@@ -161,10 +161,10 @@ impl Stage {
         ensures running { is_running self.new ≡ true }
         ensures same { history_of self.new ≡ history_of self.old }
         ensures query { IfOk result (λ f. f.query ≡ q) }
-        ensures distance { IfOk result (λ f. f.distance ≡ least_cost weighted (history_of self.old) q.0) }
+        ensures distance { IfOk result (λ f. f.distance ≡ least_distance weighted (history_of self.old) q.0) }
         ensures import { IfOk result (λ f. f.import ≡ import_in (charges_in weighted (history_of self.old)) q.0) }
         ensures before { IfOk result (λ f. map (λ t. t.0) f.before.items
-            ≡ least_set weighted (history_of self.old) q.0) }
+            ≡ nearest_placement weighted (history_of self.old) q.0) }
         ensures committed { IfOk result (λ f. is_committed_query (history_of self.old) q.0 ≡ true) }
         ensures shown { IfOk result (λ f. IsShown weighted (history_of self.old) q.0 f.distance
             (map (λ t. t.0) f.before.items) f.problem (certificate_of f.certificate)) }
@@ -185,7 +185,7 @@ impl Stage {
         ensures running { is_running self.new ≡ true }
         ensures same { history_of self.new ≡ history_of self.old }
         ensures summary { IfOk result (λ a. audited a ≡ summary_of weighted (history_of self.old) q.0) }
-        ensures stays { IfOk result (IsAuditFrom weighted (history_of self.old)) }
+        ensures stable { IfOk result (IsAuditFrom weighted (history_of self.old)) }
         ensures committed { IfOk result (λ a. is_committed_query (history_of self.old) q.0 ≡ true) }
         ensures refused { IsErrOf result AuditError.NotACommittedQuery
             → is_committed_query (history_of self.old) q.0 ≡ false }
@@ -200,7 +200,7 @@ impl Stage {
     /// Keeps an audit for the next [`summarize`](Stage::summarize).
     pub fn keep(&mut self, audit: QueryAudit)
         requires running { is_running self.old ≡ true }
-        requires stays { IsAuditFrom weighted (history_of self.old) audit }
+        requires stable { IsAuditFrom weighted (history_of self.old) audit }
         ensures running { is_running self.new ≡ true }
         ensures same { history_of self.new ≡ history_of self.old }
     {

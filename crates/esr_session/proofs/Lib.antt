@@ -4,4 +4,4 @@ pub mod Calls
 pub mod Lists
 pub mod Counts
 pub mod Good
-mod Worked
+mod WorkedExamples

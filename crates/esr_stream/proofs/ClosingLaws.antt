@@ -5,7 +5,7 @@ use Rattle.std.proofs.lemmas.Bool.{true≢false, and_parts, and_from, or_cases, 
 use Rattle.esr_history.specs.Machine.{DistanceFunction, Schedule, IsLegal}
 use Rattle.esr_history.specs.Operations.{Operation, operations}
 use Rattle.esr_history.specs.Serial.{is_before}
-use Rattle.esr_history.specs.Queries.{updates_of}
+use Rattle.esr_history.specs.Queries.{updates_committed_before}
 use Rattle.esr_history.proofs.Membership.{In, In-any, any-from_In, In-of_filter, In-Contains}
 use Rattle.esr_order.specs.declared.accesses.Access.{Access}
 use Rattle.esr_order.specs.Placements.{IsClosed}
@@ -27,16 +27,16 @@ pub record IsClosedFrom (h : Schedule) (q k : ℕ) (seeds marks : List Bool) (s 
   pub len : length marks ≡ length seeds
   pub stay : StayMarked seeds marks
   pub later : SummarizeLater h q k marks s
-  pub down : (i j : ℕ) → k ≤ i → i < j → j < length (updates_of h q) → is_before h (nth (updates_of h q) i) (nth (updates_of h q) j) ≡ true → mark_at marks j ≡ true → mark_at marks i ≡ true
+  pub down : (i j : ℕ) → k ≤ i → i < j → j < length (updates_committed_before h q) → is_before h (nth (updates_committed_before h q) i) (nth (updates_committed_before h q) j) ≡ true → mark_at marks j ≡ true → mark_at marks i ≡ true
   pub spread : (S : ℕ → Bool) → IsClosed h q S → HasMarked h q seeds S → HasMarked h q marks S
 
-no_flag : (h : Schedule) (q k : ℕ) (marks : List Bool) (x : ℕ) (w flag : Bool) → flag ≡ false → length (updates_of h q) ≤ k → IsFlag h q k marks x w flag
+no_flag : (h : Schedule) (q k : ℕ) (marks : List Bool) (x : ℕ) (w flag : Bool) → flag ≡ false → length (updates_committed_before h q) ≤ k → IsFlag h q k marks x w flag
 no_flag h q k marks x w flag none past = record {
   set = λ t. absurd (true≢false (sym t ∙ none));
   all = λ j l m a b. absurd (omega (arith, l, m, past));
 }
 
-pub closed_start : (h : Schedule) (q k : ℕ) (marks : List Bool) (s : Seen) → length (updates_of h q) ≤ k → ((x : ℕ) → marked s.read x ≡ false) → ((x : ℕ) → marked s.written x ≡ false) → IsClosedFrom h q k marks marks s
+pub closed_start : (h : Schedule) (q k : ℕ) (marks : List Bool) (s : Seen) → length (updates_committed_before h q) ≤ k → ((x : ℕ) → marked s.read x ≡ false) → ((x : ℕ) → marked s.written x ≡ false) → IsClosedFrom h q k marks marks s
 closed_start h q k marks s past read written = record {
   len = refl;
   stay = λ i m. m;
@@ -48,11 +48,11 @@ closed_start h q k marks s past read written = record {
   spread = λ S closed has. has;
 }
 
-module _ (d : DistanceFunction) (h : Schedule) (q : ℕ) (legal : IsLegal d h) (k i : ℕ) (next : k ≡ suc i) (inside : i < length (updates_of h q)) (seeds marks : List Bool) (sized : i < length marks) (s t : Seen) (so_far : IsClosedFrom h q k seeds marks s)
-    (row : List Access) (is_row : row ≡ accesses_in h.entries (nth (updates_of h q) i)) (member : Bool) (is_member : member ≡ (mark_at marks i || list_any (conflicts_with s) row))
+module _ (d : DistanceFunction) (h : Schedule) (q : ℕ) (legal : IsLegal d h) (k i : ℕ) (next : k ≡ suc i) (inside : i < length (updates_committed_before h q)) (seeds marks : List Bool) (sized : i < length marks) (s t : Seen) (so_far : IsClosedFrom h q k seeds marks s)
+    (row : List Access) (is_row : row ≡ accesses_in h.entries (nth (updates_committed_before h q) i)) (member : Bool) (is_member : member ≡ (mark_at marks i || list_any (conflicts_with s) row))
     (added : member ≡ true → IsAdded row s t) (other : member ≡ false → t ≡ s) where
   abbrev u : ℕ
-  u = nth (updates_of h q) i
+  u = nth (updates_committed_before h q) i
 
   abbrev marks' : List Bool
   marks' = set marks i member
@@ -72,7 +72,7 @@ module _ (d : DistanceFunction) (h : Schedule) (q : ℕ) (legal : IsLegal d h) (
       | inr a ↦ (i, omega arith, inside, own ∙ m, sym (ap (list_any (is_access w x)) is_row) ∙ a)
     ];
     all = λ j l n a b. is ∙ elim (cases_eq j i) [
-      | inl e ↦ or_right flag (list_any (is_access w x) row) (ap (list_any (is_access w x)) is_row ∙ subst (λ p. has_access h w x (nth (updates_of h q) p) ≡ true) e b)
+      | inl e ↦ or_right flag (list_any (is_access w x) row) (ap (list_any (is_access w x)) is_row ∙ subst (λ p. has_access h w x (nth (updates_committed_before h q) p) ≡ true) e b)
       | inr ne ↦ let up : k ≤ j = omega (arith, l, ne, next) in or_left flag (list_any (is_access w x) row) (was.all j up n (sym (above j up) ∙ a) b)
     ];
   }
@@ -98,28 +98,28 @@ module _ (d : DistanceFunction) (h : Schedule) (q : ℕ) (legal : IsLegal d h) (
 
   -- ---- a predecessor of a member has a conflict
 
-  conflict_with : (j : ℕ) → k ≤ j → j < length (updates_of h q) → mark_at marks j ≡ true → is_before h (nth (updates_of h q) i) (nth (updates_of h q) j) ≡ true → list_any (conflicts_with s) row ≡ true
+  conflict_with : (j : ℕ) → k ≤ j → j < length (updates_committed_before h q) → mark_at marks j ≡ true → is_before h (nth (updates_committed_before h q) i) (nth (updates_committed_before h q) j) ≡ true → list_any (conflicts_with s) row ≡ true
   conflict_with j l n m b =
-      let c = conflict_parts h (nth (updates_of h q) i) (nth (updates_of h q) j) b in
+      let c = conflict_parts h (nth (updates_committed_before h q) i) (nth (updates_committed_before h q) j) b in
       ap (list_any (conflicts_with s)) is_row
-      ∙ any-from_In (conflicts_with s) (accesses_in h.entries (nth (updates_of h q) i)) (access_of c.0) (accessed h c.0 (nth (updates_of h q) i) c.2 c.4) (at c.0 c.1 c.3 c.5 c.6 c.7 c.1.writes refl)
+      ∙ any-from_In (conflicts_with s) (accesses_in h.entries (nth (updates_committed_before h q) i)) (access_of c.0) (accessed h c.0 (nth (updates_committed_before h q) i) c.2 c.4) (at c.0 c.1 c.3 c.5 c.6 c.7 c.1.writes refl)
     where
-      at : (o p : Operation) → In p (operations h) → p.txn ≡ nth (updates_of h q) j → o.item ≡ p.item → (o.writes || p.writes) ≡ true → (w : Bool) → p.writes ≡ w → conflicts_with s (access_of o) ≡ true
+      at : (o p : Operation) → In p (operations h) → p.txn ≡ nth (updates_committed_before h q) j → o.item ≡ p.item → (o.writes || p.writes) ≡ true → (w : Bool) → p.writes ≡ w → conflicts_with s (access_of o) ≡ true
       at o p ip txn item writes true is =
           or_left (marked s.written o.item) (o.writes && marked s.read o.item)
-          ((so_far.later.written o.item).all j l n m (operation_did h true o.item (nth (updates_of h q) j) p ip txn (sym item) is))
+          ((so_far.later.written o.item).all j l n m (operation_did h true o.item (nth (updates_committed_before h q) j) p ip txn (sym item) is))
       at o p ip txn item writes false is =
           or_right (marked s.written o.item) (o.writes && marked s.read o.item)
           (and_from o.writes (marked s.read o.item) (⊎_elim (λ w. w) (λ w. absurd (true≢false (sym w ∙ is))) (or_cases o.writes p.writes writes))
-          ((so_far.later.read o.item).all j l n m (operation_did h false o.item (nth (updates_of h q) j) p ip txn (sym item) is)))
+          ((so_far.later.read o.item).all j l n m (operation_did h false o.item (nth (updates_committed_before h q) j) p ip txn (sym item) is)))
 
-  down_after : (a j : ℕ) → i ≤ a → a < j → j < length (updates_of h q) → is_before h (nth (updates_of h q) a) (nth (updates_of h q) j) ≡ true → mark_at (set marks i member) j ≡ true → mark_at (set marks i member) a ≡ true
+  down_after : (a j : ℕ) → i ≤ a → a < j → j < length (updates_committed_before h q) → is_before h (nth (updates_committed_before h q) a) (nth (updates_committed_before h q) j) ≡ true → mark_at (set marks i member) j ≡ true → mark_at (set marks i member) a ≡ true
   down_after a j l m n b t =
       let high : k ≤ j = omega (arith, l, m, next) in
       let was : mark_at marks j ≡ true = sym (above j high) ∙ t in
       elim (cases_eq a i) [
         | inl e ↦
-            let c = conflict_with j high n was (subst (λ p. is_before h (nth (updates_of h q) p) (nth (updates_of h q) j) ≡ true) e b) in
+            let c = conflict_with j high n was (subst (λ p. is_before h (nth (updates_committed_before h q) p) (nth (updates_committed_before h q) j) ≡ true) e b) in
             ap (mark_at (set marks i member)) e ∙ own ∙ is_member ∙ or_right (mark_at marks i) (list_any (conflicts_with s) row) c
         | inr ne ↦
             let up : k ≤ a = omega (arith, l, ne, next) in
@@ -129,24 +129,24 @@ module _ (d : DistanceFunction) (h : Schedule) (q : ℕ) (legal : IsLegal d h) (
   -- ---- a conflict makes a predecessor of a member
 
   module _ (S : ℕ → Bool) (closed : IsClosed h q S) (has : HasMarked h q marks S) where
-    from_flag : (o : Operation) → In o (operations h) → o.txn ≡ nth (updates_of h q) i → (w : Bool) (flag : Bool) → IsFlag h q k marks o.item w flag → flag ≡ true → (o.writes || w) ≡ true → S (nth (updates_of h q) i) ≡ true
+    from_flag : (o : Operation) → In o (operations h) → o.txn ≡ nth (updates_committed_before h q) i → (w : Bool) (flag : Bool) → IsFlag h q k marks o.item w flag → flag ≡ true → (o.writes || w) ≡ true → S (nth (updates_committed_before h q) i) ≡ true
     from_flag o io txn w flag is f writes =
         let r = is.set f in
         let high : k ≤ r.0 = r.1 in
-        let p = did_by_operation h w o.item (nth (updates_of h q) r.0) r.4 in
+        let p = did_by_operation h w o.item (nth (updates_committed_before h q) r.0) r.4 in
         let low : i < r.0 = omega (arith, high, next) in
-        let apart : nth (updates_of h q) i ≡ nth (updates_of h q) r.0 → ⊥ = pairs_at (λ u v. u ≡ v → ⊥) (updates_of h q) (in_order d h q legal).once i r.0 low r.2 in
-        let back : is_before h (nth (updates_of h q) r.0) (nth (updates_of h q) i) ≡ false = pairs_at (λ u v. is_before h v u ≡ false) (updates_of h q) (in_order d h q legal).keeps i r.0 low r.2 in
-        let before : is_before h (nth (updates_of h q) i) (nth (updates_of h q) r.0) ≡ true =
-        ahead h o p.0 io p.1 (λ e. apart (sym txn ∙ e ∙ p.2)) (sym p.3) (ap (λ b. o.writes || b) p.4 ∙ writes) (nth (updates_of h q) i) (nth (updates_of h q) r.0) txn p.2 back in
-        closed.downward (nth (updates_of h q) i) (nth (updates_of h q) r.0) (In-Contains (updates_of h q) (nth (updates_of h q) i) (nth_in (updates_of h q) i inside)) (In-Contains (updates_of h q) (nth (updates_of h q) r.0) (nth_in (updates_of h q) r.0 r.2)) before (has r.0 r.2 r.3)
+        let apart : nth (updates_committed_before h q) i ≡ nth (updates_committed_before h q) r.0 → ⊥ = pairs_at (λ u v. u ≡ v → ⊥) (updates_committed_before h q) (in_order d h q legal).once i r.0 low r.2 in
+        let back : is_before h (nth (updates_committed_before h q) r.0) (nth (updates_committed_before h q) i) ≡ false = pairs_at (λ u v. is_before h v u ≡ false) (updates_committed_before h q) (in_order d h q legal).keeps i r.0 low r.2 in
+        let before : is_before h (nth (updates_committed_before h q) i) (nth (updates_committed_before h q) r.0) ≡ true =
+        ahead h o p.0 io p.1 (λ e. apart (sym txn ∙ e ∙ p.2)) (sym p.3) (ap (λ b. o.writes || b) p.4 ∙ writes) (nth (updates_committed_before h q) i) (nth (updates_committed_before h q) r.0) txn p.2 back in
+        closed.downward (nth (updates_committed_before h q) i) (nth (updates_committed_before h q) r.0) (In-Contains (updates_committed_before h q) (nth (updates_committed_before h q) i) (nth_in (updates_committed_before h q) i inside)) (In-Contains (updates_committed_before h q) (nth (updates_committed_before h q) r.0) (nth_in (updates_committed_before h q) r.0 r.2)) before (has r.0 r.2 r.3)
 
-    by_conflict : list_any (conflicts_with s) row ≡ true → S (nth (updates_of h q) i) ≡ true
+    by_conflict : list_any (conflicts_with s) row ≡ true → S (nth (updates_committed_before h q) i) ≡ true
     by_conflict c =
-        let a = In-any (conflicts_with s) (accesses_in h.entries (nth (updates_of h q) i)) (sym (ap (list_any (conflicts_with s)) is_row) ∙ c) in
-        let o = of_map access_of (filter (λ (o : Operation). eqb o.txn (nth (updates_of h q) i)) (operations h)) a.0 a.1 in
-        let p = In-of_filter (λ (o : Operation). eqb o.txn (nth (updates_of h q) i)) (operations h) o.0 o.1 in
-        let txn : o.0.txn ≡ nth (updates_of h q) i = eqb-true o.0.txn (nth (updates_of h q) i) p.1 in
+        let a = In-any (conflicts_with s) (accesses_in h.entries (nth (updates_committed_before h q) i)) (sym (ap (list_any (conflicts_with s)) is_row) ∙ c) in
+        let o = of_map access_of (filter (λ (o : Operation). eqb o.txn (nth (updates_committed_before h q) i)) (operations h)) a.0 a.1 in
+        let p = In-of_filter (λ (o : Operation). eqb o.txn (nth (updates_committed_before h q) i)) (operations h) o.0 o.1 in
+        let txn : o.0.txn ≡ nth (updates_committed_before h q) i = eqb-true o.0.txn (nth (updates_committed_before h q) i) p.1 in
         let test : conflicts_with s (access_of o.0) ≡ true = ap (conflicts_with s) o.2 ∙ a.2 in
         elim (or_cases (marked s.written o.0.item) (o.0.writes && marked s.read o.0.item) test) [
           | inl f ↦ from_flag o.0 p.0 txn true (marked s.written o.0.item) (so_far.later.written o.0.item) f (or_right o.0.writes true refl)
@@ -158,7 +158,7 @@ module _ (d : DistanceFunction) (h : Schedule) (q : ℕ) (legal : IsLegal d h) (
     has_after : HasMarked h q (set marks i member) S
     has_after j n m = elim (cases_eq j i) [
       | inl e ↦
-          subst (λ p. S (nth (updates_of h q) p) ≡ true) (sym e)
+          subst (λ p. S (nth (updates_committed_before h q) p) ≡ true) (sym e)
           (elim (or_cases (mark_at marks i) (list_any (conflicts_with s) row) (sym is_member ∙ sym own ∙ sym (ap (mark_at (set marks i member)) e) ∙ m)) [
             | inl was ↦ has i inside was
             | inr c ↦ by_conflict c

@@ -7,7 +7,7 @@ use Rattle.esr_items.specs.Values.{IsValue, value_at}
 use Rattle.esr_history.specs.Events.{last_value}
 use Rattle.esr_history.specs.Machine.{DistanceFunction, Schedule, IsLegal}
 use Rattle.esr_history.specs.Serial.{state}
-use Rattle.esr_history.specs.Queries.{updates_of, members}
+use Rattle.esr_history.specs.Queries.{updates_committed_before, members}
 use Rattle.esr_history.proofs.LastWriter.{last_value-append}
 use Rattle.esr_order.specs.declared.accesses.Access.{Access}
 use Rattle.esr_order.specs.Chains.{nth}
@@ -61,25 +61,25 @@ module _ (vs vs' : List ℤ) (a : Access) (inside : a.item.0 < length vs) (write
 
 module _ (d : DistanceFunction) (h : Schedule) (q : ℕ) (legal : IsLegal d h) (marks : List Bool) where
   abbrev S : ℕ → Bool
-  S = among_marked (updates_of h q) marks
+  S = among_marked (updates_committed_before h q) marks
 
-  pub value_more : (k x : ℕ) (vs vs' : List ℤ) (row : List Access) (marked : Bool) → k < length (updates_of h q) → row ≡ accesses_in h.entries (nth (updates_of h q) k) → marked ≡ mark_at marks k
+  pub value_more : (k x : ℕ) (vs vs' : List ℤ) (row : List Access) (marked : Bool) → k < length (updates_committed_before h q) → row ≡ accesses_in h.entries (nth (updates_committed_before h q) k) → marked ≡ mark_at marks k
       → (marked ≡ true → value_at vs' x ≡ last_value (value_at vs x) (written_in x row)) → (marked ≡ false → vs' ≡ vs)
-      → value_at vs x ≡ left_by h q (among_marked (updates_of h q) marks) k x → value_at vs' x ≡ left_by h q (among_marked (updates_of h q) marks) (k + 1) x
+      → value_at vs x ≡ left_by h q (among_marked (updates_committed_before h q) marks) k x → value_at vs' x ≡ left_by h q (among_marked (updates_committed_before h q) marks) (k + 1) x
   value_more k x vs vs' row marked inside is_row is member other so_far = elim (cases_Bool marked) [
     | inl m ↦
         member m
         ∙ ap (λ v. last_value v (written_in x row)) so_far
-        ∙ ap (last_value (left_by h q (among_marked (updates_of h q) marks) k x)) (ap (written_in x) is_row ∙ written_is h x (nth (updates_of h q) k))
-        ∙ sym (left_with h q (in_order d h q legal) (among_marked (updates_of h q) marks) k x inside (mark_is d h q legal marks k inside ∙ sym is ∙ m))
+        ∙ ap (last_value (left_by h q (among_marked (updates_committed_before h q) marks) k x)) (ap (written_in x) is_row ∙ written_is h x (nth (updates_committed_before h q) k))
+        ∙ sym (left_with h q (in_order d h q legal) (among_marked (updates_committed_before h q) marks) k x inside (mark_is d h q legal marks k inside ∙ sym is ∙ m))
     | inr n ↦
         ap (λ l. value_at l x) (other n)
         ∙ so_far
-        ∙ sym (left_without h q (in_order d h q legal) (among_marked (updates_of h q) marks) k x inside (mark_is d h q legal marks k inside ∙ sym is ∙ n))
+        ∙ sym (left_without h q (in_order d h q legal) (among_marked (updates_committed_before h q) marks) k x inside (mark_is d h q legal marks k inside ∙ sym is ∙ n))
   ]
 
-  pub at_end : (k x : ℕ) → k ≡ length (updates_of h q) → left_by h q (among_marked (updates_of h q) marks) k x ≡ state h (members h q (among_marked (updates_of h q) marks)) x
-  at_end k x e = ap (λ us. state h (filter (among_marked (updates_of h q) marks) us) x) (take_all k (updates_of h q) (omega (arith, e)))
+  pub at_end : (k x : ℕ) → k ≡ length (updates_committed_before h q) → left_by h q (among_marked (updates_committed_before h q) marks) k x ≡ state h (members h q (among_marked (updates_committed_before h q) marks)) x
+  at_end k x e = ap (λ us. state h (filter (among_marked (updates_committed_before h q) marks) us) x) (take_all k (updates_committed_before h q) (omega (arith, e)))
 
 -- ---- sums over items
 

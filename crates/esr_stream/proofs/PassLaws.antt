@@ -5,7 +5,7 @@ use Rattle.std.proofs.lemmas.Bool.{cases_eq}
 use Rattle.esr_history.specs.Events.{last_value}
 use Rattle.esr_history.specs.Machine.{DistanceFunction, Schedule, IsLegal}
 use Rattle.esr_history.specs.Serial.{values_by}
-use Rattle.esr_history.specs.Queries.{updates_of, must}
+use Rattle.esr_history.specs.Queries.{updates_committed_before, must}
 use Rattle.esr_order.specs.Chains.{nth}
 use Rattle.esr_order.specs.declared.accesses.Access.{Access}
 use Rattle.esr_order.specs.Scans.{accesses_in}
@@ -32,19 +32,19 @@ module _ (d : DistanceFunction) (h : Schedule) (q : ℕ) (legal : IsLegal d h) (
   abbrev n : ℕ
   n = length h.opening
 
-  next : (k x : ℕ) → k < length (updates_of h q) → left_by_all h q (k + 1) x ≡ last_value (left_by_all h q k x) (values_by h x (nth (updates_of h q) k))
+  next : (k x : ℕ) → k < length (updates_committed_before h q) → left_by_all h q (k + 1) x ≡ last_value (left_by_all h q k x) (values_by h x (nth (updates_committed_before h q) k))
   next k x l = all_more h q (in_order d h q legal) k x l
 
   -- an update that the query must see
-  pub first_more : (k : ℕ) (marks : List Bool) (row : List Access) (old new : List ItemState) (before after : ℕ) → k < length (updates_of h q) → AreStates C h q k marks old → row ≡ accesses_in h.entries (nth (updates_of h q) k)
+  pub first_more : (k : ℕ) (marks : List Bool) (row : List Access) (old new : List ItemState) (before after : ℕ) → k < length (updates_committed_before h q) → AreStates C h q k marks old → row ≡ accesses_in h.entries (nth (updates_committed_before h q) k)
       → IsRowApplied C true row old new before after → mark_at marks k ≡ true → AreStates C h q (k + 1) marks new
   first_more k marks row old new before after inside is is_row put mark =
       states_after h q C k true marks marks row old new before after is is_row (λ x. next k x inside) put (λ i l. refl) mark
 
   -- one more update of a pass
   module _ (worth k : ℕ) (seeds marks : List Bool) (marked : Bool) (row : List Access) (old new : List ItemState) (before after : ℕ)
-      (so_far : IsPassed (length h.opening) C h q worth k seeds marks old) (inside : k < length (updates_of h q)) (sized : k < length marks)
-      (is_row : row ≡ accesses_in h.entries (nth (updates_of h q) k)) (items : AllByRecursion (λ (a : Access). a.item.0 < length h.opening) row)
+      (so_far : IsPassed (length h.opening) C h q worth k seeds marks old) (inside : k < length (updates_committed_before h q)) (sized : k < length marks)
+      (is_row : row ≡ accesses_in h.entries (nth (updates_committed_before h q) k)) (items : AllByRecursion (λ (a : Access). a.item.0 < length h.opening) row)
       (why : marked ≡ true → (mark_at marks k ≡ true) ⊎ (list_any (λ (a : Access). a.writes && has_slack_at old a.item.0) row ≡ true))
       (put : IsRowApplied C marked row old new before after) (keeps : before ≤ after) where
     abbrev marks' : List Bool
@@ -83,7 +83,7 @@ module _ (d : DistanceFunction) (h : Schedule) (q : ℕ) (legal : IsLegal d h) (
   }
 
   -- and ends
-  pub passed_end : (worth k : ℕ) (seeds marks : List Bool) (states : List ItemState) → k ≡ length (updates_of h q) → IsPassed (length h.opening) C h q worth k seeds marks states → Shows (length h.opening) C h q worth seeds marks
+  pub passed_end : (worth k : ℕ) (seeds marks : List Bool) (states : List ItemState) → k ≡ length (updates_committed_before h q) → IsPassed (length h.opening) C h q worth k seeds marks states → Shows (length h.opening) C h q worth seeds marks
   passed_end worth k seeds marks states e is =
       let at_end = subst (λ m. IsPassed (length h.opening) C h q worth m seeds marks states) e is in
       law_of_end h q (length h.opening) C worth (amount_at states) seeds marks (λ S closed has. at_end.carries S closed has)

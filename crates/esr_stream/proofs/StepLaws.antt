@@ -11,7 +11,7 @@ use Rattle.esr_history.specs.Events.{last_value}
 use Rattle.esr_history.specs.Machine.{DistanceFunction, Schedule, IsLegal}
 use Rattle.esr_history.specs.Operations.{Operation, operations}
 use Rattle.esr_history.specs.Serial.{values_by}
-use Rattle.esr_history.specs.Queries.{updates_of}
+use Rattle.esr_history.specs.Queries.{updates_committed_before}
 use Rattle.esr_history.proofs.Versions.{wrote_by}
 use Rattle.esr_history.proofs.TraceAgreement.{values_trace}
 use Rattle.esr_order.specs.declared.accesses.Access.{Access}
@@ -64,15 +64,15 @@ total_states f states = from states 0 (λ x. let e : 0 + x ≡ x = omega arith i
         omega (arith, sum_by-cons (λ x. f (state_at states x)) a (range_with_len (a + 1) (length rest)), sum_by-cons f i rest, here, more)
 
 module _ (h : Schedule) (q : ℕ) (C : ℕ → ℤ → ℕ) (k : ℕ) (marked : Bool) (marks marks' : List Bool) (row : List Access) (old new : List ItemState) (before after : ℕ)
-    (so_far : AreStates C h q k marks old) (is_row : row ≡ accesses_in h.entries (nth (updates_of h q) k))
-    (next : (x : ℕ) → left_by_all h q (k + 1) x ≡ last_value (left_by_all h q k x) (values_by h x (nth (updates_of h q) k)))
+    (so_far : AreStates C h q k marks old) (is_row : row ≡ accesses_in h.entries (nth (updates_committed_before h q) k))
+    (next : (x : ℕ) → left_by_all h q (k + 1) x ≡ last_value (left_by_all h q k x) (values_by h x (nth (updates_committed_before h q) k)))
     (put : IsRowApplied C marked row old new before after)
     (earlier : (i : ℕ) → i < k → mark_at marks' i ≡ mark_at marks i) where
   abbrev n : ℕ
   n = length h.opening
 
   abbrev here : ℕ
-  here = nth (updates_of h q) k
+  here = nth (updates_committed_before h q) k
 
   wrote : (x : ℕ) → written_in x row ≡ values_by h x here
   wrote x = ap (written_in x) is_row ∙ written_is h x here
@@ -93,7 +93,7 @@ module _ (h : Schedule) (q : ℕ) (C : ℕ → ℤ → ℕ) (k : ℕ) (marked : 
       elim (empty_or_not (values_by h x here)) [
         | inl none ↦
             elim (cases_eq i k) [
-              | inl e ↦ absurd (subst (λ j. Wrote h x (nth (updates_of h q) j)) e wrote_i none)
+              | inl e ↦ absurd (subst (λ j. Wrote h x (nth (updates_committed_before h q) j)) e wrote_i none)
               | inr ne ↦
                   let less : i < k = omega arith in
                   let was : (state_at old x).covered ≡ true = sym (ap (λ (i : ItemState). i.covered) (put.others x (wrote x ∙ none))) ∙ w in
@@ -162,7 +162,7 @@ written_some x (b ∷ row) a (inr i) w e = at (is_write x b) refl (written_some 
         let f : written_in x (b ∷ row) ≡ written_in x row = map_if (λ (a : Access). a.value) (is_write x b) b (filter (is_write x) row) ∙ ap (λ t. cond t (b.value ∷ written_in x row) (written_in x row)) m in
         rest (sym f ∙ e)
 
-pub slack_is : (C : ℕ → ℤ → ℕ) (h : Schedule) (q k : ℕ) (marks : List Bool) (states : List ItemState) (row : List Access) → AreStates C h q k marks states → row ≡ accesses_in h.entries (nth (updates_of h q) k)
+pub slack_is : (C : ℕ → ℤ → ℕ) (h : Schedule) (q k : ℕ) (marks : List Bool) (states : List ItemState) (row : List Access) → AreStates C h q k marks states → row ≡ accesses_in h.entries (nth (updates_committed_before h q) k)
     → AllByRecursion (λ (a : Access). a.item.0 < length h.opening) row
     → list_any (λ (a : Access). a.writes && has_slack_at states a.item.0) row ≡ true → HasSlack (length h.opening) C h q k (amount_at states) marks
 slack_is C h q k marks states row are is_row inside any =
@@ -176,7 +176,7 @@ slack_is C h q k marks states row are is_row inside any =
     let writes : is_write a.item.0 a ≡ true = ap (λ b. b && eqb a.item.0 a.item.0) both.0 ∙ eq-eqb a.item.0 a.item.0 refl in record {
       item = a.item.0;
       known = known;
-      wrote = λ none. written_some a.item.0 row a r.1 writes (ap (written_in a.item.0) is_row ∙ written_is h a.item.0 (nth (updates_of h q) k) ∙ none);
+      wrote = λ none. written_some a.item.0 row a r.1 writes (ap (written_in a.item.0) is_row ∙ written_is h a.item.0 (nth (updates_committed_before h q) k) ∙ none);
       writers = are.covered a.item.0 known short.0;
       slack = omega (arith, low, cost);
     }

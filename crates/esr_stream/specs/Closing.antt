@@ -2,7 +2,7 @@
 use Rattle.std.specs.Prelude.{◌≡◌, ◌≤◌, ◌<◌, ◌||◌, ℕ, Bool, true, false, List, length}
 use Rattle.std.specs.List.{list_any}
 use Rattle.esr_history.specs.Machine.{Schedule}
-use Rattle.esr_history.specs.Queries.{updates_of}
+use Rattle.esr_history.specs.Queries.{updates_committed_before}
 use Rattle.esr_order.specs.declared.accesses.Access.{Access}
 use Rattle.esr_order.specs.Chains.{nth}
 use Rattle.esr_order.specs.Scans.{accesses_in}
@@ -24,8 +24,8 @@ has_access h writes x t = list_any (is_access writes x) (accesses_in h.entries t
 
 -- the flag of an item is set if and only if a marked update from position k on has an access of this kind to it
 pub record IsFlag (h : Schedule) (q k : ℕ) (marks : List Bool) (x : ℕ) (writes flag : Bool) : Type 0 where
-  pub set : flag ≡ true → (j : ℕ) × (k ≤ j) × (j < length (updates_of h q)) × (mark_at marks j ≡ true) × (has_access h writes x (nth (updates_of h q) j) ≡ true)
-  pub all : (j : ℕ) → k ≤ j → j < length (updates_of h q) → mark_at marks j ≡ true → has_access h writes x (nth (updates_of h q) j) ≡ true → flag ≡ true
+  pub set : flag ≡ true → (j : ℕ) × (k ≤ j) × (j < length (updates_committed_before h q)) × (mark_at marks j ≡ true) × (has_access h writes x (nth (updates_committed_before h q) j) ≡ true)
+  pub all : (j : ℕ) → k ≤ j → j < length (updates_committed_before h q) → mark_at marks j ≡ true → has_access h writes x (nth (updates_committed_before h q) j) ≡ true → flag ≡ true
 
 -- the flags of all items
 pub record SummarizeLater (h : Schedule) (q k : ℕ) (marks : List Bool) (s : Seen) : Type 0 where

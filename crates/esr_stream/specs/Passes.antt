@@ -3,9 +3,9 @@ use Rattle.std.specs.Prelude.{◌≡◌, ◌≤◌, ◌<◌, ◌+◌, ◌&&◌, 
 use Rattle.esr_items.specs.Values.{value_at}
 use Rattle.esr_history.specs.Events.{last_value}
 use Rattle.esr_history.specs.Machine.{DistanceFunction, Schedule}
-use Rattle.esr_history.specs.Queries.{updates_of}
+use Rattle.esr_history.specs.Queries.{updates_committed_before}
 use Rattle.esr_order.specs.Placements.{IsClosed}
-use Rattle.esr_order.specs.Least.{least_set, least_cost}
+use Rattle.esr_order.specs.Least.{nearest_placement, least_distance}
 use Rattle.esr_bound.specs.Amounts.{left_by_all, mark_at, among_marked, cost_by, AreCovered, AreForced, Carries, HasMarked}
 use Rattle.esr_order.specs.declared.accesses.Access.{Access}
 pub use Rattle.esr_stream.specs.declared.items.ItemState.{ItemState}
@@ -68,7 +68,7 @@ pub record IsPassed (n : ℕ) (C : ℕ → ℤ → ℕ) (h : Schedule) (q worth 
 pub record AreShown (n : ℕ) (C : ℕ → ℤ → ℕ) (h : Schedule) (q worth : ℕ) (marks : List Bool) : Type 0 where
   pub bound : (S : ℕ → Bool) → IsClosed h q S → worth ≤ cost_by n C h q S
   pub forced : AreForced n C h q worth marks
-  pub closed : IsClosed h q (among_marked (updates_of h q) marks)
+  pub closed : IsClosed h q (among_marked (updates_committed_before h q) marks)
 
 -- the first k updates are marked
 abbrev pub AreFirst : ℕ → List Bool → Type 0
@@ -80,4 +80,4 @@ StayMarked old new = (i : ℕ) → mark_at old i ≡ true → mark_at new i ≡ 
 
 -- the least distance of a query, and in commit order the smallest set of updates before a position of that distance
 abbrev pub IsLeast : DistanceFunction → Schedule → ℕ → ℕ → List ℕ → Type 0
-IsLeast d h q distance before = (distance ≡ least_cost d h q) × (before ≡ least_set d h q)
+IsLeast d h q distance before = (distance ≡ least_distance d h q) × (before ≡ nearest_placement d h q)

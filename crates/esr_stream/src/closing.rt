@@ -4,7 +4,7 @@
 //! records the items that the members after a position have read and written.
 ghost use Rattle.std.specs.Prelude.{◌≡◌, ◌<◌, ◌||◌, ℕ, ℤ, All, IfOk, false, length, map, true};
 ghost use Rattle.std.specs.List.{list_any};
-ghost use Rattle.esr_history.specs.Queries.{updates_of, must};
+ghost use Rattle.esr_history.specs.Queries.{updates_committed_before, must};
 ghost use Rattle.esr_order.specs.Index.{IsWholeIndexOf};
 ghost use Rattle.esr_order.specs.Placements.{IsClosed};
 ghost use Rattle.esr_order.specs.BackwardSearch.{conflicts_with, is_access, marked};
@@ -122,7 +122,7 @@ pub fn close<M: Metric>(
     q: TxnId,
 ) -> Result<bool, AllocError>
     requires index { IsWholeIndexOf history.now.schedule.entries index.now }
-    requires updates { map (λ t. t.0) updates.now ≡ updates_of history.now.schedule q.0 }
+    requires updates { map (λ t. t.0) updates.now ≡ updates_committed_before history.now.schedule q.0 }
     requires marks { length marks.old ≡ length updates.now }
     ensures len { length marks.new ≡ length marks.old }
     ensures stay { StayMarked marks.old marks.new }
@@ -130,7 +130,7 @@ pub fn close<M: Metric>(
         → AreForced n C history.now.schedule q.0 worth marks.old
         → AreForced n C history.now.schedule q.0 worth marks.new) }
     ensures closed { IfOk result (λ _. AreFirst (length (must history.now.schedule q.0)) marks.old
-        → IsClosed history.now.schedule q.0 (among_marked (updates_of history.now.schedule q.0) marks.new)) }
+        → IsClosed history.now.schedule q.0 (among_marked (updates_committed_before history.now.schedule q.0) marks.new)) }
 {
     let _invariant = history.log(); // brings the invariant into the proof
     let mut later = no_later(alloc, history.items())?;

@@ -3,7 +3,7 @@ ghost use Rattle.std.specs.Prelude.{◌≡◌, ◌<◌, ◌+◌, ◌*◌, ◌++�
 ghost use Rattle.esr_items.specs.Values.{IsValue, value_at};
 ghost use Rattle.esr_history.specs.Events.{last_value};
 ghost use Rattle.esr_history.specs.Serial.{state};
-ghost use Rattle.esr_history.specs.Queries.{is_committed_query, members, must, updates_of};
+ghost use Rattle.esr_history.specs.Queries.{is_committed_query, members, must, updates_committed_before};
 ghost use Rattle.esr_order.specs.Index.{IsWholeIndexOf};
 ghost use Rattle.esr_order.specs.Scans.{accesses_in};
 ghost use Rattle.esr_bound.specs.Amounts.{AreForced, among_marked, mark_at, total};
@@ -77,7 +77,7 @@ fn round<M: Metric>(
     requires index { IsWholeIndexOf history.now.schedule.entries index.now }
     requires items { length lists.now ≡ length history.now.schedule.opening }
     requires read { AreRead lists.now }
-    requires updates { map (λ t. t.0) updates.now ≡ updates_of history.now.schedule q.0 }
+    requires updates { map (λ t. t.0) updates.now ≡ updates_committed_before history.now.schedule q.0 }
     requires first { first ≡ length (must history.now.schedule q.0) }
     requires marks { length marks.old ≡ length updates.now }
     requires musts { AreFirst first marks.old }
@@ -135,7 +135,7 @@ fn mark_least<M: Metric>(
     requires index { IsWholeIndexOf history.now.schedule.entries index.now }
     requires items { length lists.now ≡ length history.now.schedule.opening }
     requires read { AreRead lists.now }
-    requires updates { map (λ t. t.0) updates.now ≡ updates_of history.now.schedule q.0 }
+    requires updates { map (λ t. t.0) updates.now ≡ updates_committed_before history.now.schedule q.0 }
     requires first { first ≡ length (must history.now.schedule q.0) }
     requires marks { length marks.old ≡ length updates.now }
     requires musts { AreFirst first marks.old }
@@ -241,13 +241,13 @@ fn members_of<M: Metric>(
     q: TxnId,
 ) -> Result<Members, AllocError>
     requires index { IsWholeIndexOf history.now.schedule.entries index.now }
-    requires updates { map (λ t. t.0) updates.now ≡ updates_of history.now.schedule q.0 }
+    requires updates { map (λ t. t.0) updates.now ≡ updates_committed_before history.now.schedule q.0 }
     requires marks { length marks.now ≡ length updates.now }
     ensures txns { IfOk result (λ m. map (λ t. t.0) m.txns.items
-        ≡ members history.now.schedule q.0 (among_marked (updates_of history.now.schedule q.0) marks.now)) }
+        ≡ members history.now.schedule q.0 (among_marked (updates_committed_before history.now.schedule q.0) marks.now)) }
     ensures values { IfOk result (λ m. (x : ℕ) → x < length history.now.schedule.opening → value_at m.values.items x
         ≡ state history.now.schedule (members history.now.schedule q.0
-        (among_marked (updates_of history.now.schedule q.0) marks.now)) x) }
+        (among_marked (updates_committed_before history.now.schedule q.0) marks.now)) x) }
     ensures len { IfOk result (λ m. length m.values.items ≡ length history.now.schedule.opening) }
     ensures range { IfOk result (λ m. All IsValue m.values.items) }
 {
@@ -304,7 +304,7 @@ fn least_from<M: Metric>(
     requires items { length lists.now ≡ length history.now.schedule.opening }
     requires lists { (x : ℕ) → x < length history.now.schedule.opening → list_at lists.now x
         ≡ values_of (accesses_in history.now.schedule.entries q.0) x }
-    requires updates { map (λ t. t.0) updates.now ≡ updates_of history.now.schedule q.0 }
+    requires updates { map (λ t. t.0) updates.now ≡ updates_committed_before history.now.schedule q.0 }
     requires marks { length marks.now ≡ length updates.now }
     requires shown { AreShown (length history.now.schedule.opening)
         (raised (M.distance_by history.now.schedule.weights) lists.now) history.now.schedule q.0 worth marks.now }
@@ -343,7 +343,7 @@ fn find<M: Metric>(
     requires items { length lists.now ≡ length history.now.schedule.opening }
     requires lists { (x : ℕ) → x < length history.now.schedule.opening → list_at lists.now x
         ≡ values_of (accesses_in history.now.schedule.entries q.0) x }
-    requires updates { map (λ t. t.0) updates.now ≡ updates_of history.now.schedule q.0 }
+    requires updates { map (λ t. t.0) updates.now ≡ updates_committed_before history.now.schedule q.0 }
     ensures { IfOk result (λ found. IfSome found (λ l. IsLeast M.distance_by history.now.schedule q.0 l.distance
         (map (λ t. t.0) l.before.items))) }
 {

@@ -1,6 +1,6 @@
 //! The pass: checks the amounts along the updates, and marks the updates that every set of least cost contains.
 ghost use Rattle.std.specs.Prelude.{◌≡◌, ◌≤◌, ◌<◌, ℕ, Bool, List, IfOk, IfSome, length, map, true};
-ghost use Rattle.esr_history.specs.Queries.{updates_of, must};
+ghost use Rattle.esr_history.specs.Queries.{updates_committed_before, must};
 ghost use Rattle.esr_order.specs.Index.{IsWholeIndexOf};
 ghost use Rattle.esr_stream.specs.Passes.{AreFirst, AreStates, IsPassed, StayMarked};
 ghost use Rattle.esr_stream.specs.Reads.{AreRead, raised};
@@ -36,7 +36,7 @@ pub fn start<M: Metric>(
     requires index { IsWholeIndexOf history.now.schedule.entries index.now }
     requires items { length lists.now ≡ length history.now.schedule.opening }
     requires read { AreRead lists.now }
-    requires updates { map (λ t. t.0) updates.now ≡ updates_of history.now.schedule q.0 }
+    requires updates { map (λ t. t.0) updates.now ≡ updates_committed_before history.now.schedule q.0 }
     requires first { first ≡ length (must history.now.schedule q.0) }
     ensures { IfOk result (λ found. IfSome found (λ s. (marks : List Bool) → AreFirst first marks
         → AreStates (raised (M.distance_by history.now.schedule.weights) lists.now) history.now.schedule q.0 first marks
@@ -91,7 +91,7 @@ pub fn pass<M: Metric>(
     requires index { IsWholeIndexOf history.now.schedule.entries index.now }
     requires items { length lists.now ≡ length history.now.schedule.opening }
     requires read { AreRead lists.now }
-    requires updates { map (λ t. t.0) updates.now ≡ updates_of history.now.schedule q.0 }
+    requires updates { map (λ t. t.0) updates.now ≡ updates_committed_before history.now.schedule q.0 }
     requires first { first ≤ length updates.now }
     requires states { length states.old ≡ length history.now.schedule.opening }
     requires marks { length marks.old ≡ length updates.now }

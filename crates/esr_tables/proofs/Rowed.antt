@@ -5,7 +5,7 @@ use Rattle.esr_base.specs.declared.numbers.TxnId.{TxnId}
 use Rattle.esr_history.specs.Events.{begin_records, is_query, limit_of}
 use Rattle.esr_history.specs.Machine.{DistanceFunction, Schedule, charges_in, accepted_in, export_in, import_in, IsLegal}
 use Rattle.esr_history.specs.declared.back_links.Facts.{Facts}
-use Rattle.esr_history.specs.BackLinks.{accepted_end, facts_of, last_place}
+use Rattle.esr_history.specs.BackLinks.{ended_txn, facts_of, last_place}
 use Rattle.esr_order.proofs.Commits.{commit_at_end, end_some}
 use Rattle.esr_tables.specs.declared.kinds.RowKind.{RowKind}
 use Rattle.esr_tables.specs.declared.kinds.RowKind.TheVariants.{Update}
@@ -29,9 +29,9 @@ kind_there h kinds (suc k) low is =
 -- the end of a transaction
 pub end_there : (d : DistanceFunction) (h : Schedule) → IsLegal d h → (t : ℕ) (f : Facts) → Some f ≡ facts_of h.entries t → end_at h.entries f.end ≡ end_of h t
 end_there d h legal t f some =
-    let is : f.end ≡ last_place accepted_end t h.entries = end_some h.entries t f some in
+    let is : f.end ≡ last_place ended_txn t h.entries = end_some h.entries t f some in
     ap (end_at h.entries) is
-    ∙ ap (λ (b : Bool). if b then Committed else (if is_some (last_place accepted_end t h.entries) then Aborted else Active)) (commit_at_end d h legal t)
+    ∙ ap (λ (b : Bool). if b then Committed else (if is_some (last_place ended_txn t h.entries) then Aborted else Active)) (commit_at_end d h legal t)
 
 -- the charges to an update
 pub charged_there : (h : Schedule) (t x : ℕ) → is_query (accepted_in h) t ≡ false → x ≡ export_in (charges_in weighted h) t → x ≡ charged_of weighted h t

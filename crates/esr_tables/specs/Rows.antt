@@ -7,8 +7,8 @@ use Rattle.esr_history.specs.declared.event.Refusal.TheVariants.{BlockedByLock, 
 use Rattle.esr_history.specs.Events.{BeginRecord, begin_record, txn_numbers, limit_of, is_query, is_committed}
 use Rattle.esr_history.specs.Machine.{DistanceFunction, Schedule, accepted_in, charges_in, import_in, export_in}
 use Rattle.esr_history.specs.Queries.{is_committed_query}
-use Rattle.esr_history.specs.BackLinks.{txn_in, is_key, last_place, accepted_end}
-use Rattle.esr_order.specs.Least.{least_cost}
+use Rattle.esr_history.specs.BackLinks.{txn_in, is_some_eq, last_place, ended_txn}
+use Rattle.esr_order.specs.Least.{least_distance}
 use Rattle.esr_tables.specs.declared.kinds.RowKind.{RowKind}
 use Rattle.esr_tables.specs.declared.kinds.RowKind.TheVariants.{Update, Query, Strict}
 use Rattle.esr_tables.specs.declared.rows.RowOutcome.{RowOutcome}
@@ -50,7 +50,7 @@ by_export _ = false
 
 -- the number of entries of t with such a reply
 abbrev pub count_of : (Reply → Bool) → List Entry → ℕ → ℕ
-count_of p es t = count_by (λ e. is_key (txn_in e) t && p e.reply) es
+count_of p es t = count_by (λ e. is_some_eq (txn_in e) t && p e.reply) es
 
 abbrev pub tally_of : List Entry → ℕ → Tally
 tally_of es t = record {
@@ -67,7 +67,7 @@ tally_of es t = record {
 abbrev pub end_of : Schedule → ℕ → RowOutcome
 end_of h t =
     if is_committed (accepted_in h) t then Committed
-    else (if is_some (last_place accepted_end t h.entries) then Aborted else Active)
+    else (if is_some (last_place ended_txn t h.entries) then Aborted else Active)
 
 -- ---- amounts
 
@@ -77,7 +77,7 @@ charged_of d h t = if is_query (accepted_in h) t then import_in (charges_in d h)
 
 -- the distance of a committed query from the nearest serial placement
 abbrev pub distance_of : DistanceFunction → Schedule → ℕ → Option ℕ
-distance_of d h t = if is_committed_query h t then Some (least_cost d h t) else None
+distance_of d h t = if is_committed_query h t then Some (least_distance d h t) else None
 
 -- ---- the whole
 

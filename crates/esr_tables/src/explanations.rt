@@ -3,7 +3,7 @@
 
 use crate::format::Data;
 use crate::words::{push_number, push_word};
-use esr_explain::{Charge, ComparedRead, Explanation, Operation, name_of_item};
+use esr_explain::{Charge, ComparedRead, Explanation, OperationKind, name_of_item};
 use esr_history::TxnId;
 use esr_report::{Names, name_of_transaction};
 use esr_views::{AuditedQuery, QueryView};
@@ -59,16 +59,16 @@ fn read_fields<'a>(names: ScriptNames<'a>, read: ComparedRead) -> [Field<'a>; 4]
             FieldValue::Word(name_of_item(names.items, read.item)),
         ),
         ("value", FieldValue::Value(read.value)),
-        ("nearest", FieldValue::Value(read.nearest)),
-        ("off", FieldValue::Amount(read.off)),
+        ("nearest", FieldValue::Value(read.nearest_value)),
+        ("off", FieldValue::Amount(read.distance)),
     ]
 }
 
 /// Returns the name of an operation.
-fn operation_word(operation: Operation) -> &'static str {
+fn operation_word(operation: OperationKind) -> &'static str {
     match operation {
-        Operation::Read => "read",
-        Operation::Write => "write",
+        OperationKind::Read => "read",
+        OperationKind::Write => "write",
     }
 }
 

@@ -3,7 +3,7 @@ use Rattle.std.specs.Prelude.{◌≡◌, pos, negsuc, List, [], ◌∷◌, true,
 use Rattle.esr_history.specs.declared.event.Event.TheVariants.{BeginUpdate, BeginQuery, Read, Write, Commit, Abort}
 use Rattle.esr_history.specs.declared.event.Reply.TheVariants.{Begun, Value, Wrote, Committed, Aborted, Refused}
 use Rattle.esr_history.specs.declared.event.Refusal.TheVariants.{NoSuchTransaction, AlreadyEnded, NoSuchItem, QueryMayNotWrite, LimitOutOfRange, BlockedByLock, BlockedByImport, BlockedByExport}
-use Rattle.esr_history.specs.Worked.{item, txn}
+use Rattle.esr_history.specs.WorkedExamples.{item, txn}
 use Rattle.esr_test_definitions.specs.Outcomes.{History, Outcome, audit, history, outcome, outcome_of}
 
 abbrev pub inputs : List History
@@ -298,6 +298,6 @@ outcomes =
     (0 ∷ 0 ∷ []) (audit 1 0 ([]) ∷ [])) ∷
     []
 
--- the definitions find the outcome of each history
+-- the definitions yield the outcome that the reference program yields for each history
 abbrev pub DefinitionsMatchReference : Type 0
 DefinitionsMatchReference = map outcome_of inputs ≡ outcomes

@@ -1,6 +1,6 @@
--- Random histories, and the outcomes that the definitions have to find.
+-- Random and long histories, and the outcomes that the definitions must yield.
 pub mod Outcomes
-pub mod Edges
+pub mod LongHistories
 pub mod Batch01
 pub mod Batch02
 pub mod Batch03

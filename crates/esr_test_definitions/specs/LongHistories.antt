@@ -6,7 +6,7 @@ use Rattle.esr_history.specs.declared.event.Event.TheVariants.{BeginQuery, Begin
 use Rattle.esr_history.specs.declared.event.Reply.TheVariants.{Begun, Refused, Value}
 use Rattle.esr_history.specs.declared.event.Refusal.TheVariants.{TooManyReads, TooManyTransactions}
 use Rattle.esr_history.specs.Machine.{Schedule, reply_to, schedule_of}
-use Rattle.esr_history.specs.Worked.{item, txn}
+use Rattle.esr_history.specs.WorkedExamples.{item, txn}
 
 abbrev copies : ℕ → Entry → List Entry
 copies zero e = []

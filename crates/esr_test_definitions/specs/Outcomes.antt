@@ -6,7 +6,7 @@ use Rattle.esr_history.specs.declared.event.Reply.{Reply}
 use Rattle.esr_history.specs.Events.{is_query, txn_numbers}
 use Rattle.esr_history.specs.Machine.{Schedule, accepted_in, charges_in, export_in, extended, import_in, reply_to, schedule_of}
 use Rattle.esr_history.specs.Queries.{is_committed_query}
-use Rattle.esr_order.specs.Least.{least_cost, least_set}
+use Rattle.esr_order.specs.Least.{least_distance, nearest_placement}
 
 -- the opening values, the weights and the events of a history
 pub record History : Type 0 where
@@ -45,7 +45,7 @@ charge_of h t =
     if is_query (accepted_in h) t then import_in (charges_in weighted h) t else export_in (charges_in weighted h) t
 
 abbrev pub audit_of : Schedule → ℕ → Audit
-audit_of h q = audit q (least_cost weighted h q) (least_set weighted h q)
+audit_of h q = audit q (least_distance weighted h q) (nearest_placement weighted h q)
 
 abbrev pub outcome_in : Schedule → Outcome
 outcome_in h =

@@ -235,7 +235,7 @@ fn columns_of<'a>(
     let mut columns = Vec::new(alloc);
     let mut x = left;
     for mark in marks {
-        let has_label = spacing.has_all_labels || mark.is_key;
+        let has_label = spacing.has_all_labels || mark.is_some_eq;
         let half = if has_label { half_label(mark) } else { 0 };
         let charges = charges_at(arrows, mark.place);
         x = x

@@ -107,7 +107,7 @@ fn mark_of<'a>(
         action,
         item: item_name(source, entry.event),
         blocker: blocker_name(source, entry.reply),
-        is_key: false,
+        is_some_eq: false,
     })
 }
 
@@ -240,12 +240,12 @@ fn mark_charge(marks: &mut [Mark<'_>], arrow: &Arrow<'_>) {
     if let Some(index) = index_at(marks, arrow.place)
         && let Some(mark) = marks.get_mut(index)
     {
-        mark.is_key = true;
+        mark.is_some_eq = true;
     }
     if let Some(index) = read_before(marks, arrow)
         && let Some(mark) = marks.get_mut(index)
     {
-        mark.is_key = true;
+        mark.is_some_eq = true;
     }
 }
 
@@ -263,7 +263,7 @@ pub fn is_off(action: Action) -> bool {
 fn mark_blocked(marks: &mut [Mark<'_>], has_blocked: bool) {
     for index in 0..marks.len() {
         if let Some(mark) = marks.get_mut(index) {
-            mark.is_key = has_blocked && (is_blocked(mark.action) || is_off(mark.action));
+            mark.is_some_eq = has_blocked && (is_blocked(mark.action) || is_off(mark.action));
         }
     }
 }
@@ -296,7 +296,7 @@ fn write_of(marks: &[Mark<'_>], read: &Mark<'_>) -> Option<usize> {
 /// Marks the event at an index.
 fn mark_at(marks: &mut [Mark<'_>], index: usize) {
     if let Some(mark) = marks.get_mut(index) {
-        mark.is_key = true;
+        mark.is_some_eq = true;
     }
 }
 
@@ -352,7 +352,7 @@ pub fn is_bound(action: Action) -> bool {
 pub fn keys_of<'a>(alloc: Global, marks: &[Mark<'a>]) -> Result<Vec<Mark<'a>>, AllocError> {
     let mut keys = Vec::new(alloc);
     for mark in marks {
-        if mark.is_key || is_bound(mark.action) {
+        if mark.is_some_eq || is_bound(mark.action) {
             keys.push(*mark)?;
         }
     }

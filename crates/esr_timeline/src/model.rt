@@ -82,7 +82,7 @@ pub struct Mark<'a> {
     /// The transaction that blocked the event, or nothing.
     pub blocker: &'a str,
     /// True if a drawn charge depends on it, or if it was blocked.
-    pub is_key: bool,
+    pub is_some_eq: bool,
 }
 
 /// A charge, from an update to the query of a lane.

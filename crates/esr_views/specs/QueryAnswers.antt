@@ -3,10 +3,10 @@ use Rattle.std.specs.Prelude.{◌≡◌, ℕ, List, true, None, filter_map, slic
 use Rattle.esr_items.specs.Weights.{weighted}
 use Rattle.esr_history.specs.Machine.{Schedule}
 use Rattle.esr_history.specs.Queries.{is_committed_query}
-use Rattle.esr_cert.specs.Problem.{Problem, in_set, IsSmallestLeast}
+use Rattle.esr_cert.specs.Problem.{Problem, in_set, IsSmallestLeastCostSet}
 use Rattle.esr_cert.specs.Certificate.{Certificate, Certifies}
 use Rattle.esr_cert.specs.Views.{certificate_of}
-use Rattle.esr_order.specs.Least.{least_set}
+use Rattle.esr_order.specs.Least.{nearest_placement}
 use Rattle.esr_order.specs.Relevant.{AreRelevant}
 use Rattle.esr_audit.specs.declared.finding.Finding.{Finding}
 use Rattle.esr_audit.specs.Findings.{summary, summary_of}
@@ -21,8 +21,8 @@ pub record IsFound (h : Schedule) (q : ℕ) (problem : Problem) (certificate : C
   pub is_problem : IsProblemOf weighted h q problem
   pub relevant : AreRelevant h q problem.updates
   pub certified : Certifies problem certificate
-  pub set_is : filter_map (slice_get problem.updates) certificate.set ≡ least_set weighted h q
-  pub smallest : IsSmallestLeast problem (in_set certificate.set)
+  pub set_is : filter_map (slice_get problem.updates) certificate.set ≡ nearest_placement weighted h q
+  pub smallest : IsSmallestLeastCostSet problem (in_set certificate.set)
   pub without_count : certificate.augmentations ≡ None
 
 -- The finding of the query of that name, which has committed: the summary of its audit, and the problem with its

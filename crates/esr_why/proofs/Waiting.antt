@@ -6,16 +6,16 @@ use Rattle.std.proofs.lemmas.Bool.{cases_eq, eq-eqb, ne_eqb}
 use Rattle.std.proofs.lemmas.List.Elements.{All-append, All-from_recursion}
 use Rattle.std.proofs.lemmas.Option.{slice_get-get_or}
 use Rattle.esr_history.specs.declared.event.Entry.{Entry}
-use Rattle.esr_history.specs.BackLinks.{is_key, last_place, txn_in}
+use Rattle.esr_history.specs.BackLinks.{is_some_eq, last_place, txn_in}
 use Rattle.esr_history.proofs.Linking.{last_same, last_here}
 use Rattle.esr_why.specs.declared.waits.Wait.{Wait}
 use Rattle.esr_why.specs.Waits.{AreLastEntries, IsWaiting}
 
 pub last_entries_none : (es : List Entry) (e : Entry) (places : List (Option ℕ)) → None ≡ txn_in e → AreLastEntries es places → AreLastEntries (es ++ e ∷ []) places
-last_entries_none es e places none last_entries t l = last_entries t l ∙ ap Some (sym (last_same txn_in t es e (ap (λ o. is_key o t) (sym none))))
+last_entries_none es e places none last_entries t l = last_entries t l ∙ ap Some (sym (last_same txn_in t es e (ap (λ o. is_some_eq o t) (sym none))))
 
 other_than : (es : List Entry) (e : Entry) (u t : ℕ) → Some u ≡ txn_in e → (u ≡ t → ⊥) → last_place txn_in t es ≡ last_place txn_in t (es ++ e ∷ [])
-other_than es e u t some other = sym (last_same txn_in t es e (ap (λ o. is_key o t) (sym some) ∙ ne_eqb u t other))
+other_than es e u t some other = sym (last_same txn_in t es e (ap (λ o. is_some_eq o t) (sym some) ∙ ne_eqb u t other))
 
 pub last_entries_past : (es : List Entry) (e : Entry) (places : List (Option ℕ)) (u : ℕ) → Some u ≡ txn_in e → length places ≤ u → AreLastEntries es places → AreLastEntries (es ++ e ∷ []) places
 last_entries_past es e places u some past last_entries t l =
@@ -26,7 +26,7 @@ pub last_entries_some : (es : List Entry) (e : Entry) (places : List (Option ℕ
 last_entries_some es e places u place some inside at last_entries t l =
     elim (cases_eq u t) [
       | inl same ↦
-          let here : last_place txn_in t (es ++ e ∷ []) ≡ Some (length es) = last_here txn_in t es e (ap (λ o. is_key o t) (sym some) ∙ eq-eqb u t same) in
+          let here : last_place txn_in t (es ++ e ∷ []) ≡ Some (length es) = last_here txn_in t es e (ap (λ o. is_some_eq o t) (sym some) ∙ eq-eqb u t same) in
           slice_get-get_or (set places u (Some place)) t None l
           ∙ ap Some (ap (λ k. get_or (set places u (Some place)) k None) (sym same) ∙ (get_or-set_same places u (Some place) None inside ∙ (ap Some at ∙ sym here)))
       | inr other ↦

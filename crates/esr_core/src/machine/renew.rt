@@ -10,7 +10,7 @@ ghost use Rattle.std.specs.List.{list_any};
 ghost use Rattle.esr_items.specs.Values.{IsValue};
 ghost use Rattle.esr_history.specs.declared.event.Entry.{Entry};
 ghost use Rattle.esr_history.specs.Events.{committed_value};
-ghost use Rattle.esr_history.specs.Legal.{along};
+ghost use Rattle.esr_history.specs.Legal.{continued};
 ghost use Rattle.esr_history.specs.Machine.{DistanceFunction, Schedule, IsLegal, accepted_in};
 ghost use Rattle.esr_core.specs.States.{IsStateOf};
 ghost use Rattle.esr_core.specs.Renewed.{committed_values, has_active, renewed, AreSerializableAsOne};
@@ -79,8 +79,8 @@ impl<M: Metric + Drop> Machine<M> {
     /// both cases nothing has changed.
     pub fn renew(&mut self, alloc: Global, metric: M) -> Result<(), RenewError>
         ensures ok { OnOk result (self.new ≡ renewed self.old (M.weights metric)) }
-        ensures serializable { OnOk result ((later : List Entry) → IsLegal M.distance_by (along self.new later)
-            → AreSerializableAsOne self.old (along self.new later)) }
+        ensures serializable { OnOk result ((later : List Entry) → IsLegal M.distance_by (continued self.new later)
+            → AreSerializableAsOne self.old (continued self.new later)) }
         ensures active { IsErrOf result RenewError.TransactionActive ↔ (has_active self.old ≡ true) }
         ensures err { OnErr result (self.new ≡ self.old) }
     {

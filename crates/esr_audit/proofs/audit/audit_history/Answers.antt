@@ -1,5 +1,5 @@
 use Rattle.esr_audit.proofs.Stays.{findings_stay}
 use Rattle.esr_audit.proofs.audit.audit_history.Goals as goal
 
-pub returns-clause-stays : goal.returns-clause-stays
-returns-clause-stays g c = findings_stay g.M.Metric.distance_by c.args.history.now.schedule c.book_of.result c.book_of.ensures.book
+pub returns-clause-stable : goal.returns-clause-stable
+returns-clause-stable g c = findings_stay g.M.Metric.distance_by c.args.history.now.schedule c.book_of.result c.book_of.ensures.book

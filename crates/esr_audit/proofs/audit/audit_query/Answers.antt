@@ -7,12 +7,12 @@ use Rattle.esr_history.specs.Queries.{is_committed_query}
 use Rattle.esr_audit.proofs.Stays as answer
 use Rattle.esr_audit.proofs.audit.audit_query.Goals as goal
 
-pub returns-clause-stays : goal.returns-clause-stays
-returns-clause-stays g c =
+pub returns-clause-stable : goal.returns-clause-stable
+returns-clause-stable g c =
     let h = c.args.history.now.schedule in
     let f = c.in_ok-finding_of.field-0 in
     let both : is_committed_query h c.args.q.0 ≡ true = elim (cases_Bool (is_committed_query h c.args.q.0)) [
       | inl is ↦ is
       | inr isnt ↦ let none = c.in_ok-order.ensures.refused.1 isnt in absurd (cc)
     ] in
-    answer.stays g.M.Metric.distance_by h c.args.q.0 f.distance f.import (map (λ (t : TxnId). t.0) f.before.items) (and_parts (is_query (accepted_in h) c.args.q.0) (is_committed (accepted_in h) c.args.q.0) both).1 c.in_ok-finding_of.ensures.finding.answer
+    answer.stable g.M.Metric.distance_by h c.args.q.0 f.distance f.import (map (λ (t : TxnId). t.0) f.before.items) (and_parts (is_query (accepted_in h) c.args.q.0) (is_committed (accepted_in h) c.args.q.0) both).1 c.in_ok-finding_of.ensures.finding.answer

@@ -32,9 +32,9 @@ problem_here g c =
     (c.into_parts-updates.ensures.must ∙ c.in_ok-chains.ensures.must_unchanged)
     c.in_ok-chains.ensures.chains
 
-pub of_sound-requires : goal.of_sound-requires
-of_sound-requires g c = record {
-  sound = ap is_well_formed (built_problem_equals_specified.built_problem_equals_specified g.M.Metric.distance_by c.args.history.now.schedule c.args.q.0 c.log-invariant.ensures.legal c.log-invariant.ensures.range (map (λ (t : TxnId). t.0) c.args.order.commits) c.requires.relevant c.args.order c.requires.order c.deref.result.now (c.deref.ensures.value ∙ c.in_ok-reads.ensures)
+pub from_valid_parts-requires : goal.from_valid_parts-requires
+from_valid_parts-requires g c = record {
+  well_formed = ap is_well_formed (built_problem_equals_specified.built_problem_equals_specified g.M.Metric.distance_by c.args.history.now.schedule c.args.q.0 c.log-invariant.ensures.legal c.log-invariant.ensures.range (map (λ (t : TxnId). t.0) c.args.order.commits) c.requires.relevant c.args.order c.requires.order c.deref.result.now (c.deref.ensures.value ∙ c.in_ok-reads.ensures)
       _ _ _ _
       (c.into_parts-updates.ensures.commits ∙ c.in_ok-chains.ensures.commits_unchanged)
       (c.into_parts-updates.ensures.before ∙ c.in_ok-chains.ensures.before_unchanged)

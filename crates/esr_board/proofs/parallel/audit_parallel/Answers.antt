@@ -7,6 +7,6 @@ pub returns-in-Ok-clause-book : goal.returns-in-Ok-clause-book
 returns-in-Ok-clause-book g c =
     book_kept g.M.Metric.distance_by c.args.history.now.schedule (record { order = c.in-Ok.field-0.order; findings = c.in-Ok.field-0.kept }) c.in-Ok.ensures.order c.in-Ok.ensures.kept
 
-pub returns-in-Ok-clause-stays : goal.returns-in-Ok-clause-stays
-returns-in-Ok-clause-stays g c =
+pub returns-in-Ok-clause-stable : goal.returns-in-Ok-clause-stable
+returns-in-Ok-clause-stable g c =
     findings_stay g.M.Metric.distance_by c.args.history.now.schedule (Ok (record { order = c.in-Ok.field-0.order; findings = c.in-Ok.field-0.kept })) (returns-in-Ok-clause-book g c)

@@ -1,5 +1,5 @@
 use Rattle.serde_json.specs.View.{view}
-use Rattle.esr_cert.specs.Drafts.{drafted_problem}
+use Rattle.esr_cert.specs.ProblemDrafts.{drafted_problem}
 use Rattle.esr_bundle.specs.Drafts.{drafted_certificate}
 use Rattle.esr_bundle.proofs.Judged.{reading_from}
 use Rattle.esr_bundle.proofs.reader.from_json.Goals as goal

@@ -1,11 +1,11 @@
 use Rattle.std.proofs.Common.{◌≡◌, ◌≢◌, ℕ, List, Bool, true, false, Some, Result, IfErr, map, sym, ap, ◌∙◌, IsErrAnd, map-id}
 use Rattle.std.specs.List.{list_all}
-use Rattle.esr_cert.specs.Problem.{Chain, Problem, has_shape}
+use Rattle.esr_cert.specs.Problem.{Chain, Problem, has_valid_shape}
 use Rattle.esr_cert.specs.Faults.{problem_fault}
 use Rattle.esr_cert.specs.declared.problem.BundleFault.{BundleFault}
 use Rattle.esr_cert.specs.declared.problem.BundleFault.TheVariants.{NoMemory, Range}
 use Rattle.esr_bundle.specs.Bundle.{is_position, is_pair_of_positions, is_chain_of_positions}
-use Rattle.esr_cert.specs.Drafts.{drafted_chain, drafted_problem}
+use Rattle.esr_cert.specs.ProblemDrafts.{drafted_chain, drafted_problem}
 use Rattle.esr_bundle.proofs.Exits.{passes}
 use Rattle.esr_bundle.proofs.Wide.{wide}
 use Rattle.esr_bundle.proofs.sound.parts_of.Goals as goal
@@ -28,7 +28,7 @@ unmapped : {X : Type 0} (p : X → Bool) (xs : List X) → list_all p (map (λ x
 unmapped p xs h = ap (list_all p) (sym (map-id xs)) ∙ h
 
 -- a fault of a part that is handed on is the fault of the whole
-handed : {T : Type 0} (p : Problem) (fits : Bool) (r : Result T BundleFault) (x : BundleFault) → (has_shape p ≡ true → fits ≡ false → problem_fault p ≡ Some Range) → has_shape p ≡ true
+handed : {T : Type 0} (p : Problem) (fits : Bool) (r : Result T BundleFault) (x : BundleFault) → (has_valid_shape p ≡ true → fits ≡ false → problem_fault p ≡ Some Range) → has_valid_shape p ≡ true
     → IsErrAnd r (λ e. e ≡ x) → (x ≢ NoMemory → (x ≡ Range) × (fits ≡ false)) → IfErr r (λ e. e ≢ NoMemory → problem_fault p ≡ Some e)
 handed p fits r x wide shape is err = passes (λ e. e ≢ NoMemory → problem_fault p ≡ Some e) r x is (λ n. let k = err n in wide shape k.1 ∙ ap (λ e. Some e) (sym k.0))
 

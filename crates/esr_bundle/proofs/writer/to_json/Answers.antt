@@ -20,4 +20,4 @@ returns-clause-encodes c =
     let by = certificate_of c.args.certificate.now in
     let shallow = subst (λ (d : Data). depth d ≤ 127) (sym c.in_ok-tree.ensures) (shallow_bundle p by) in
     let read = c.in_ok-to_vec.ensures.reads_back shallow ∙ ap (λ (d : Data). Some d) c.in_ok-tree.ensures in
-    (bundle_data p by, (c.in_ok-to_vec.ensures.utf8, read), problem_round_trip p by (not_faulty p c.updates-sound.ensures.sound) (ap (list_all is_position) (sym c.deref.ensures.value) ∙ c.as_positions-fits.ensures.fits))
+    (bundle_data p by, (c.in_ok-to_vec.ensures.utf8, read), problem_round_trip p by (not_faulty p c.updates-sound.ensures.well_formed) (ap (list_all is_position) (sym c.deref.ensures.value) ∙ c.as_positions-fits.ensures.fits))

@@ -10,7 +10,7 @@ none None ok = refl
 none (Some fault) ok = absurd (cc)
 
 pub returns-clause-least : goal.returns-clause-least
-returns-clause-least c = λ ok. worth_least c.args.problem.now (certificate_of c.args.certificate.now) c.updates-sound.ensures.sound (none _ (subst IsOk c.first_fault.ensures ok))
+returns-clause-least c = λ ok. worth_least c.args.problem.now (certificate_of c.args.certificate.now) c.updates-sound.ensures.well_formed (none _ (subst IsOk c.first_fault.ensures ok))
 
 pub returns-clause-closed : goal.returns-clause-closed
 returns-clause-closed c = λ ok. (faultless c.args.problem.now (certificate_of c.args.certificate.now) (none _ (subst IsOk c.first_fault.ensures ok))).closed

@@ -1,5 +1,5 @@
 use Rattle.std.proofs.Common.{◌≡◌, ◌≤◌, ◌*◌, take, sum_by}
-use Rattle.esr_cert.specs.Balance.{amount_in, amount_out}
+use Rattle.esr_cert.specs.FlowConservation.{amount_in, amount_out}
 use Rattle.esr_cert.specs.Certificate.{amounts}
 use Rattle.esr_cert.specs.Views.{certificate_of}
 use Rattle.esr_cert.proofs.checker.is_balanced.Given as goal

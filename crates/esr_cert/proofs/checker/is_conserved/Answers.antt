@@ -2,7 +2,7 @@ use Rattle.std.proofs.Common.{arith, length, ap, sym, ◌∙◌}
 use Rattle.std.proofs.lemmas.List.{length-map}
 use Rattle.esr_cert.specs.Certificate.{amounts}
 use Rattle.esr_cert.specs.Views.{certificate_of}
-use Rattle.esr_cert.proofs.Balance.{all_conserved, one_not}
+use Rattle.esr_cert.proofs.FlowConservation.{all_conserved, one_not}
 use Rattle.esr_cert.proofs.checker.is_conserved.Goals as goal
 
 pub is_conserved_at-requires : goal.is_conserved_at-requires

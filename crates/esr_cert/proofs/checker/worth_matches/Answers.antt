@@ -18,7 +18,7 @@ flow_worth c =
     let q = certificate_of c.args.certificate.now in
     let firsts : c.first_amounts.result ≡ sum_by (λ row. get_or row 0 0) q.chain_flow = c.first_amounts.ensures.value ∙ ap (λ rows. sum_by (λ row. get_or row 0 0) (rows_of rows)) c.deref.ensures.value in
     let must : c.total.result ≡ sum q.must_flow = c.total.ensures.value ∙ ap sum c.deref-2.ensures.value in
-    omega (arith, worth_firsts p (facts p c.chains-chains.ensures.sound) q (matched p q c.requires.within), firsts, must)
+    omega (arith, worth_firsts p (facts p c.chains-chains.ensures.well_formed) q (matched p q c.requires.within), firsts, must)
 
 pub returns-then-worth-first_amounts : goal.returns-then-worth-first_amounts
 returns-then-worth-first_amounts c =

@@ -1,7 +1,7 @@
 use Rattle.std.proofs.Common.{◌++◌, ◌∷◌, [], map, take, ap, ◌∙◌, sym, arith, get_or}
 use Rattle.std.proofs.lemmas.List.{map_push, take_all, take_more}
 use Rattle.esr_cert.specs.Views.{chain_view}
-use Rattle.esr_cert.specs.Drafts.{drafted_chain}
+use Rattle.esr_cert.specs.ProblemDrafts.{drafted_chain}
 use Rattle.esr_cert.proofs.parts.chain_drafts.Goals as goal
 
 pub loop-chain-preserved : goal.loop-chain-preserved

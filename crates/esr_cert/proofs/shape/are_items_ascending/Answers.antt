@@ -1,7 +1,7 @@
 use Rattle.std.proofs.Common.{◌≡◌, ℕ, ◌+◌, ◌-◌, ◌<◌, ◌∙◌, List, sym, ap, map, length, get_or, arith}
 use Rattle.std.proofs.lemmas.List.{length-map}
 use Rattle.esr_cert.specs.declared.draft.ChainDraft.{ChainDraft}
-use Rattle.esr_cert.specs.Drafts.{drafted_chain}
+use Rattle.esr_cert.specs.ProblemDrafts.{drafted_chain}
 use Rattle.esr_cert.proofs.Steps.{ascending_yes, ascending_no, ascending_end, drop_map_more, item_at}
 use Rattle.esr_cert.proofs.shape.are_items_ascending.Goals as goal
 

@@ -1,6 +1,6 @@
 use Rattle.std.proofs.Common.{◌≡◌, ◌-◌, drop, map}
 use Rattle.esr_cert.specs.Problem.{is_ascending}
-use Rattle.esr_cert.specs.Drafts.{drafted_chain}
+use Rattle.esr_cert.specs.ProblemDrafts.{drafted_chain}
 use Rattle.esr_cert.proofs.shape.are_items_ascending.Given as goal
 
 abbrev pub invariant-loop-i : goal.invariant-loop-i

@@ -1,6 +1,6 @@
 use Rattle.std.proofs.Common.{◌∙◌, sym, arith}
 use Rattle.esr_cert.specs.Problem.{chain_has_shape}
-use Rattle.esr_cert.specs.Drafts.{drafted_chain}
+use Rattle.esr_cert.specs.ProblemDrafts.{drafted_chain}
 use Rattle.esr_cert.proofs.Steps.{list_all_map_yes, list_all_map_no}
 use Rattle.esr_cert.proofs.shape.chains_have_shape.Goals as goal
 

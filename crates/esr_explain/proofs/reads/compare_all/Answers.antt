@@ -23,9 +23,9 @@ loop-access-preserved c =
     elim c.if-not-access.branch [
       | then-not-access+in_ok-push w ↦
           let described : f a ≡ read ∷ [] = ap (λ (b : Bool). if b then [] else read ∷ []) w.if-not-access.true in
-          let n : ℤ = w.value_of-nearest.result in
-          let fits : to_z w64 (of_z w64 n) ≡ n = to_z-of_z w64 n (value_fits n (subst IsValue (sym w.value_of-nearest.ensures) (c.requires.values a.item.0))) in
-          let is : w.compared_read.result ≡ read = w.compared_read.ensures ∙ ap (compared_read D a.item a.value) (fits ∙ w.value_of-nearest.ensures) in
+          let n : ℤ = w.value_of-nearest_value.result in
+          let fits : to_z w64 (of_z w64 n) ≡ n = to_z-of_z w64 n (value_fits n (subst IsValue (sym w.value_of-nearest_value.ensures) (c.requires.values a.item.0))) in
+          let is : w.compared_read.result ≡ read = w.compared_read.ensures ∙ ap (compared_read D a.item a.value) (fits ∙ w.value_of-nearest_value.ensures) in
           ap (λ v. v.items) w.reads-is ∙ (w.in_ok-push.ensures.items
           ∙ (ap (λ l. l ++ w.compared_read.result ∷ []) c.loop-access.invariant
           ∙ (ap (λ r. flat_map f (take k xs) ++ r ∷ []) is

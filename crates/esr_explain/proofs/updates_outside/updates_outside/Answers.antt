@@ -1,7 +1,7 @@
 use Rattle.std.proofs.Common.{◌≡◌, ◌∙◌, Bool, List, ℕ, ap, filter, map, not}
 use Rattle.std.proofs.lemmas.Result.{IfOk-weaker}
 use Rattle.esr_base.specs.declared.numbers.TxnId.{TxnId}
-use Rattle.esr_history.specs.Queries.{updates_of}
+use Rattle.esr_history.specs.Queries.{updates_committed_before}
 use Rattle.esr_history.proofs.Membership.{filter_agree_in}
 use Rattle.esr_order.specs.Placements.{is_among}
 use Rattle.esr_order.proofs.Commits.{updates_are}
@@ -15,7 +15,7 @@ returns c =
     let numbers : List ℕ = c.in_ok-numbers.numbers.items in
     let updates : List TxnId = c.in_ok-updates.updates.items in
     let among : ℕ → Bool = λ u. not (is_among c.deref-3.result.now u) in
-    let all : map (λ (t : TxnId). t.0) updates ≡ updates_of h q =
+    let all : map (λ (t : TxnId). t.0) updates ≡ updates_committed_before h q =
     updates_are h q c.deref.result.now (ap (map (λ (t : TxnId). t.0)) c.deref.ensures.value ∙ c.in_ok-committed.ensures) updates c.in_ok-updates.ensures in
     IfOk-weaker c.without.result _ _
     (λ v is.
@@ -23,5 +23,5 @@ returns c =
     ∙ (numbers_kept among c.deref-2.result.now
     ∙ (ap (λ (ts : List TxnId). filter among (map (λ (t : TxnId). t.0) ts)) c.deref-2.ensures.value
     ∙ (ap (filter among) all
-    ∙ filter_agree_in among (λ u. not (is_among before u)) (updates_of h q) (λ u i. ap (λ (l : List ℕ). not (is_among l u)) c.deref-3.ensures.value ∙ ap not (c.in_ok-numbers.ensures.same u))))))
+    ∙ filter_agree_in among (λ u. not (is_among before u)) (updates_committed_before h q) (λ u i. ap (λ (l : List ℕ). not (is_among l u)) c.deref-3.ensures.value ∙ ap not (c.in_ok-numbers.ensures.same u))))))
     c.without.ensures

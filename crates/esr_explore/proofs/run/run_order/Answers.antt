@@ -2,17 +2,17 @@ use Rattle.std.proofs.Common.{◌≡◌, ℕ, ◌∙◌, ap, arith, length, map,
 use Rattle.std.proofs.lemmas.List.{length-map}
 use Rattle.std.proofs.lemmas.List.FromFn.{length-map-range_with_len}
 use Rattle.esr_plan.specs.Plan.{weights_of}
-use Rattle.esr_explore.specs.Turns.{new_runner, stage}
+use Rattle.esr_explore.specs.Turns.{no_progress, stage}
 use Rattle.esr_explore.proofs.Turning.{ran, started}
 use Rattle.esr_explore.proofs.run.run_order.Goals as goal
 
 pub take_turns-requires : goal.take_turns-requires
 take_turns-requires c =
-    omega (arith, ap length c.in_ok-runners.ensures, length-map-range_with_len (λ (_ : ℕ). new_runner) 0 (length c.as_slice-blocks.result.now))
+    omega (arith, ap length c.in_ok-runners.ensures, length-map-range_with_len (λ (_ : ℕ). no_progress) 0 (length c.as_slice-blocks.result.now))
 
 pub finish-requires : goal.finish-requires
 finish-requires c =
-    c.take_turns.ensures.len ∙ (ap length c.in_ok-runners.ensures ∙ length-map-range_with_len (λ (_ : ℕ). new_runner) 0 (length c.as_slice-blocks.result.now))
+    c.take_turns.ensures.len ∙ (ap length c.in_ok-runners.ensures ∙ length-map-range_with_len (λ (_ : ℕ). no_progress) 0 (length c.as_slice-blocks.result.now))
 
 pub returns-clause-run : goal.returns-clause-run
 returns-clause-run c =

@@ -1,5 +1,5 @@
 use Rattle.std.proofs.Common.{◌∙◌, ap₂, max, sym}
-use Rattle.esr_explore.specs.Sizes.{amount_of}
+use Rattle.esr_explore.specs.Severity.{amount_of}
 use Rattle.esr_explore.proofs.Greatest.{greatest_more}
 use Rattle.esr_explore.proofs.summary.greatest.Goals as goal
 

@@ -1,5 +1,5 @@
 use Rattle.std.proofs.Common.{◌≡◌, map, take}
-use Rattle.esr_explore.specs.Sizes.{amount_of, greatest}
+use Rattle.esr_explore.specs.Severity.{amount_of, greatest}
 use Rattle.esr_explore.proofs.summary.greatest.Given as goal
 
 -- it is the maximum over the queries so far

@@ -7,7 +7,7 @@ use Rattle.esr_flow.specs.ShortEntry.{AdjacencyEntry}
 use Rattle.esr_flow.specs.Residual.{residual_capacity, finish}
 use Rattle.esr_cert.specs.ResidualArcs.{arc_of, start, opposite, step_at}
 use Rattle.esr_flow.specs.ResidualGraph.{network_arcs, network_of, IsAdjacencyRow, IsEntry, entry_at}
-use Rattle.esr_cert.specs.Rows.{span_at}
+use Rattle.esr_cert.specs.Adjacency.{span_at}
 use Rattle.esr_flow.specs.Search.{label_at, IsGuided}
 use Rattle.esr_flow.proofs.EntriesLaws.{lists_read}
 use Rattle.esr_flow.proofs.WalkLaws.{Walk, walk_push, walk_pop, walk_end, popped_in, opposite_arc, opposite_start, opposite_finish, untried, untried_less, untried_same}
@@ -25,10 +25,10 @@ next_back-i-requires-clause-row c =
 
 pub loop-at-smaller-then-i-row : goal.loop-at-smaller-then-i-row
 loop-at-smaller-then-i-row c =
-    let span = span_at c.args.graph.now.rows.now.spans.items c.loop-at.at in
+    let span = span_at c.args.graph.now.adjacency.now.spans.items c.loop-at.at in
     let long : length c.row-row.result.now ≤ span.end - span.begin = omega (arith, ap length c.row-row.ensures, length-take (span.end - span.begin) (drop span.begin c.args.entries.now)) in
-    let less : suc (untried c.args.graph.now.rows.now.spans.items (set c.loop-at.next c.loop-at.at (c.next_back-i.result + 1))) ≤ untried c.args.graph.now.rows.now.spans.items c.loop-at.next =
-    untried_less c.args.graph.now.rows.now.spans.items c.loop-at.next c.loop-at.at c.next_back-i.result (omega (arith, c.args.graph.now.kept.count, c.loop-at.invariant.0.node)) (omega (arith, c.loop-at.invariant.1, c.loop-at.invariant.0.node)) c.next_back-i.ensures.later (omega (arith, long, c.if-i-row.true)) in
+    let less : suc (untried c.args.graph.now.adjacency.now.spans.items (set c.loop-at.next c.loop-at.at (c.next_back-i.result + 1))) ≤ untried c.args.graph.now.adjacency.now.spans.items c.loop-at.next =
+    untried_less c.args.graph.now.adjacency.now.spans.items c.loop-at.next c.loop-at.at c.next_back-i.result (omega (arith, c.args.graph.now.kept.count, c.loop-at.invariant.0.node)) (omega (arith, c.loop-at.invariant.1, c.loop-at.invariant.0.node)) c.next_back-i.ensures.later (omega (arith, long, c.if-i-row.true)) in
     omega (arith, less, length_push c.loop-at.path.items c.opposite.result, ap length c.in_ok-push.ensures.items)
 
 pub loop-at-preserved-then-i-row : goal.loop-at-preserved-then-i-row
@@ -62,8 +62,8 @@ finish_of-at-requires c =
 
 pub loop-at-smaller : goal.loop-at-smaller
 loop-at-smaller c =
-    let same : untried c.args.graph.now.rows.now.spans.items (set c.loop-at.next c.loop-at.at c.next_back-i.result) ≤ untried c.args.graph.now.rows.now.spans.items c.loop-at.next =
-    untried_same c.args.graph.now.rows.now.spans.items c.loop-at.next c.loop-at.at c.next_back-i.result (omega (arith, c.loop-at.invariant.1, c.loop-at.invariant.0.node)) c.next_back-i.ensures.later in
+    let same : untried c.args.graph.now.adjacency.now.spans.items (set c.loop-at.next c.loop-at.at c.next_back-i.result) ≤ untried c.args.graph.now.adjacency.now.spans.items c.loop-at.next =
+    untried_same c.args.graph.now.adjacency.now.spans.items c.loop-at.next c.loop-at.at c.next_back-i.result (omega (arith, c.loop-at.invariant.1, c.loop-at.invariant.0.node)) c.next_back-i.ensures.later in
     omega (arith, same, length_push c.pop.new.self.items c.in-Some.step, ap length c.in-Some.ensures.items)
 
 pub loop-at-preserved : goal.loop-at-preserved

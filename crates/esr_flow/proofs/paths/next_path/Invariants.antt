@@ -7,4 +7,4 @@ abbrev pub invariant-loop-at : goal.invariant-loop-at
 invariant-loop-at l = Walk (network_of l.graph) l.flow l.labels l.path.items l.at × (length l.next ≡ l.graph.node_count)
 
 abbrev pub decreases-loop-at : goal.decreases-loop-at
-decreases-loop-at l = 2 * untried l.graph.rows.now.spans.items l.next + length l.path.items
+decreases-loop-at l = 2 * untried l.graph.adjacency.now.spans.items l.next + length l.path.items

@@ -25,6 +25,6 @@ loop-i-preserved c =
           let same : after ≡ marks = w.marks-is in record {
             reached = subst (AreReached (network_of c.args.graph.now) flow) (sym same) c.loop-i.invariant.reached;
             same = λ quiet. same ∙ c.loop-i.invariant.same quiet;
-            kept = kept same (pair_kept_by c.args.graph.now.problem.now c.before-pairs.ensures.sound flow marks c.before-pairs.result.now c.before-pairs.ensures.list c.args.first c.requires.first at (omega (arith, c.loop-i-test.true)) (c.is_pair_alike.ensures.place w.if-not-is_pair_alike.false) (c.is_pair_alike.ensures.ends w.if-not-is_pair_alike.false));
+            kept = kept same (pair_kept_by c.args.graph.now.problem.now c.before-pairs.ensures.well_formed flow marks c.before-pairs.result.now c.before-pairs.ensures.list c.args.first c.requires.first at (omega (arith, c.loop-i-test.true)) (c.is_pair_alike.ensures.place w.if-not-is_pair_alike.false) (c.is_pair_alike.ensures.ends w.if-not-is_pair_alike.false));
           }
     ]

@@ -2,7 +2,7 @@ use Rattle.std.proofs.Common.{arith, ◌≡◌, ℕ, false, subst, ◌∙◌, ap
 use Rattle.esr_flow.specs.Types.{Forward}
 use Rattle.std.proofs.lemmas.List.{get_or_default}
 use Rattle.esr_flow.specs.ResidualGraph.{network_of, ResidualGraph}
-use Rattle.esr_cert.specs.Rows.{row_in, span_at}
+use Rattle.esr_cert.specs.Adjacency.{row_in, span_at}
 use Rattle.esr_flow.specs.Search.{visit_at, Searched, AfterScan}
 use Rattle.esr_flow.proofs.EntriesLaws.{lists_read}
 use Rattle.esr_flow.proofs.SearchLaws.{all_reached}
@@ -18,8 +18,8 @@ scan-requires-clause-row c =
     let v : ℕ = (visit_at c.loop-head.visits.items c.loop-head.head).node in
     let first : c.index.result.now.node ≡ v =
     ap (λ x. x.node) (c.index.ensures ∙ get_or_default c.loop-head.visits.items c.loop-head.head c.index.result.now (record { node = 0; level = 0; step = Forward 0; parent = 0 }) (omega arith)) in
-    let steps : c.steps_at-steps.result.now ≡ row_in g.rows.now.steps.items (span_at g.rows.now.spans.items v) = c.steps_at-steps.ensures ∙ ap (λ n. row_in g.rows.now.steps.items (span_at g.rows.now.spans.items n)) first in
-    let row : c.row-row.result.now ≡ row_in c.args.entries.now (span_at g.rows.now.spans.items v) = c.row-row.ensures ∙ ap (λ n. row_in c.args.entries.now (span_at g.rows.now.spans.items n)) first in
+    let steps : c.steps_at-steps.result.now ≡ row_in g.adjacency.now.steps.items (span_at g.adjacency.now.spans.items v) = c.steps_at-steps.ensures ∙ ap (λ n. row_in g.adjacency.now.steps.items (span_at g.adjacency.now.spans.items n)) first in
+    let row : c.row-row.result.now ≡ row_in c.args.entries.now (span_at g.adjacency.now.spans.items v) = c.row-row.ensures ∙ ap (λ n. row_in c.args.entries.now (span_at g.adjacency.now.spans.items n)) first in
     lists_read g c.args.flow.now c.args.entries.now c.requires.entries v (h.node_count c.loop-head.head (omega arith)) c.steps_at-steps.result.now c.row-row.result.now steps row
 
 pub loop-head-preserved : goal.loop-head-preserved

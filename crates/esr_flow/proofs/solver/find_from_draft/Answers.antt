@@ -10,7 +10,7 @@ use Rattle.esr_flow.proofs.solver.find_from_draft.Goals as goal
 
 pub find_swiftly-requires-clause-small : goal.find_swiftly-requires-clause-small
 find_swiftly-requires-clause-small c =
-    subst (λ (net : Network). (f : List ℕ) → IsFlow net f → worth net f ≤ MAX_COST) (sym c.args.net.now.same) (worth_small c.args.net.now.problem.now (facts c.args.net.now.problem.now c.args.net.now.sound))
+    subst (λ (net : Network). (f : List ℕ) → IsFlow net f → worth net f ≤ MAX_COST) (sym c.args.net.now.same) (worth_small c.args.net.now.problem.now (facts c.args.net.now.problem.now c.args.net.now.well_formed))
 
 pub find_swiftly-requires-clause-limited : goal.find_swiftly-requires-clause-limited
-find_swiftly-requires-clause-limited c = subst HasLimit (sym c.args.net.now.same) (has_limit c.args.net.now.problem.now (facts c.args.net.now.problem.now c.args.net.now.sound))
+find_swiftly-requires-clause-limited c = subst HasLimit (sym c.args.net.now.same) (has_limit c.args.net.now.problem.now (facts c.args.net.now.problem.now c.args.net.now.well_formed))

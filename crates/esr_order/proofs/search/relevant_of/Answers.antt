@@ -1,6 +1,6 @@
 use Rattle.std.proofs.Common.{◌≡◌, ◌<◌, ◌-◌, ◌⊎◌, suc, true, sym, ◌∙◌, subst, inl, inr, length, map, reverse, All, arith}
 use Rattle.std.specs.List.{list_any}
-use Rattle.esr_history.specs.Queries.{updates_of}
+use Rattle.esr_history.specs.Queries.{updates_committed_before}
 use Rattle.esr_order.specs.Scans.{Access}
 use Rattle.esr_order.specs.Relevant.{AreRelevant}
 use Rattle.esr_order.specs.BackwardSearch.{seen_items, conflicts_with}
@@ -31,7 +31,7 @@ loop-i-preserved-in-loop-i g c =
     let i = c.loop-i.i - 1 in
     let next : c.loop-i.i ≡ suc i = omega (arith, c.loop-i-test.true) in
     let here : i < length updates = omega (arith, c.loop-i-test.true, c.loop-i.auto.i) in
-    let inside : i < length (updates_of h q) = omega (arith, here, commits_length d h q legal updates c.requires.updates) in
+    let inside : i < length (updates_committed_before h q) = omega (arith, here, commits_length d h q legal updates c.requires.updates) in
     let why : (i < c.args.first) ⊎ (list_any (conflicts_with (seen_items c.loop-i.items)) list ≡ true) =
     elim c.then-i-first.branch [
       | then-i-first-via-then-i-first w ↦ inl w.if-i-first.true
@@ -51,7 +51,7 @@ loop-i-preserved g c =
     let legal = c.log-invariant.ensures.legal in
     let i = c.loop-i.i - 1 in
     let here : i < length updates = omega (arith, c.loop-i-test.true, c.loop-i.auto.i) in
-    let inside : i < length (updates_of h q) = omega (arith, here, commits_length d h q legal updates c.requires.updates) in
+    let inside : i < length (updates_committed_before h q) = omega (arith, here, commits_length d h q legal updates c.requires.updates) in
     sought_keep d h q legal updates c.requires.updates c.loop-i.i i (omega (arith, c.loop-i-test.true)) inside here c.loop-i.items c.loop-i.relevant.items c.loop-i.invariant c.in_ok-accesses.accesses.now c.in_ok-accesses.ensures
     c.args.first c.requires.first c.if-i-first.false (sym c.conflict.ensures ∙ c.if-conflict.false)
 

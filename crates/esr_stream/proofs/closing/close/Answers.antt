@@ -1,5 +1,5 @@
 use Rattle.std.proofs.Common.{◌≡◌, ◌<◌, ◌-◌, suc, refl, sym, ap, ◌∙◌, subst, length, All, arith}
-use Rattle.esr_history.specs.Queries.{updates_of, must}
+use Rattle.esr_history.specs.Queries.{updates_committed_before, must}
 use Rattle.esr_order.specs.declared.accesses.Access.{Access}
 use Rattle.esr_order.specs.Scans.{accesses_in}
 use Rattle.esr_order.proofs.Accessed.{accesses_inside}
@@ -43,9 +43,9 @@ loop-i-preserved g c =
     let i = c.loop-i.i - 1 in
     let next : c.loop-i.i ≡ suc i = omega (arith, c.loop-i-test.true) in
     let here : i < length updates = omega (arith, c.loop-i-test.true, c.loop-i.auto.i) in
-    let inside : i < length (updates_of h q) = omega (arith, here, commits_length d h q legal updates c.requires.updates) in
+    let inside : i < length (updates_committed_before h q) = omega (arith, here, commits_length d h q legal updates c.requires.updates) in
     let sized : i < length c.loop-i.marks = omega (arith, here, c.loop-i.invariant.closed.len, c.requires.marks) in
-    let is_row = c.in_ok-row.ensures ∙ ap (accesses_in h.entries) (number_at updates (updates_of h q) i no_txn c.requires.updates here) in
+    let is_row = c.in_ok-row.ensures ∙ ap (accesses_in h.entries) (number_at updates (updates_committed_before h q) i no_txn c.requires.updates here) in
     record {
       read = c.add_if.ensures.read_len ∙ c.loop-i.invariant.read;
       written = c.add_if.ensures.written_len ∙ c.loop-i.invariant.written;

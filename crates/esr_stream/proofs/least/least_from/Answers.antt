@@ -1,7 +1,7 @@
 use Rattle.std.proofs.Common.{◌≡◌, ◌*◌, ◌∙◌, ℕ, ℤ, sym, ap, arith, length}
 use Rattle.esr_items.specs.Values.{value_at}
 use Rattle.esr_history.specs.Serial.{state}
-use Rattle.esr_history.specs.Queries.{updates_of, members, cost}
+use Rattle.esr_history.specs.Queries.{updates_committed_before, members, cost}
 use Rattle.esr_order.proofs.Least.{law_of_listed_sets}
 use Rattle.esr_bound.specs.Amounts.{among_marked, cost_by, total}
 use Rattle.esr_bound.proofs.SmallestSet.{law_of_set}
@@ -21,7 +21,7 @@ returns g c =
     let n : ℕ = length h.opening in
     let lists = c.args.lists.now in
     let marks = c.args.marks.now in
-    let S = among_marked (updates_of h q) marks in
+    let S = among_marked (updates_committed_before h q) marks in
     let C : ℕ → ℤ → ℕ = raised (g.M.Metric.distance_by h.weights) lists in
     let values = c.deref.result.now in
     let by_metric : ℕ → ℕ = λ x. raised (g.M.Metric.distance_by (g.M.Metric.weights c.metric.result.now)) lists x (value_at values x) in

@@ -2,7 +2,7 @@ use Rattle.std.proofs.Common.{◌≡◌, ◌<◌, ◌∙◌, ◌++◌, ◌∷◌
 use Rattle.std.proofs.lemmas.List.{map-append}
 use Rattle.esr_base.specs.declared.numbers.TxnId.{TxnId}
 use Rattle.esr_items.specs.Values.{IsValue, value_at}
-use Rattle.esr_history.specs.Queries.{updates_of}
+use Rattle.esr_history.specs.Queries.{updates_committed_before}
 use Rattle.esr_order.specs.declared.accesses.Access.{Access}
 use Rattle.esr_order.specs.Scans.{accesses_in}
 use Rattle.esr_order.proofs.Accessed.{accesses_inside}
@@ -49,8 +49,8 @@ loop-i-preserved g c =
     let legal = c.log-invariant.ensures.legal in
     let i = c.loop-i.i in
     let here : i < length updates = c.loop-i-test.true in
-    let inside : i < length (updates_of h q) = omega (arith, here, commits_length d h q legal updates c.requires.updates) in
-    let is_row = c.in_ok-row.ensures ∙ ap (accesses_in h.entries) (number_at updates (updates_of h q) i no_txn c.requires.updates here) in
+    let inside : i < length (updates_committed_before h q) = omega (arith, here, commits_length d h q legal updates c.requires.updates) in
+    let is_row = c.in_ok-row.ensures ∙ ap (accesses_in h.entries) (number_at updates (updates_committed_before h q) i no_txn c.requires.updates here) in
     let t : TxnId = get_or updates i no_txn in
     let same = c.deref_mut.ensures.value in
     let new : List ℤ = c.write_if.new.values in
@@ -61,7 +61,7 @@ loop-i-preserved g c =
       txns =
           ap (map (λ (t : TxnId). t.0)) c.in_ok-push_if.ensures
           ∙ map-append (λ (t : TxnId). t.0) c.loop-i.txns.items (cond (mark_at marks i) (t ∷ []) [])
-          ∙ ap (λ xs. map (λ (t : TxnId). t.0) c.loop-i.txns.items ++ xs) (one_number (mark_at marks i) t ∙ ap (λ u. cond (mark_at marks i) (u ∷ []) []) (number_at updates (updates_of h q) i no_txn c.requires.updates here))
+          ∙ ap (λ xs. map (λ (t : TxnId). t.0) c.loop-i.txns.items ++ xs) (one_number (mark_at marks i) t ∙ ap (λ u. cond (mark_at marks i) (u ∷ []) []) (number_at updates (updates_committed_before h q) i no_txn c.requires.updates here))
           ∙ members_more d h q legal marks i (map (λ (t : TxnId). t.0) c.loop-i.txns.items) inside c.loop-i.invariant.txns;
       values = λ x l.
           ap (λ vs. value_at vs x) back ∙ value_more d h q legal marks i x c.deref_mut.result.now c.write_if.new.values c.in_ok-row.row.now (mark_at marks i) inside is_row refl
@@ -74,7 +74,7 @@ pub returns-clause-txns : goal.returns-clause-txns
 returns-clause-txns g c =
     let h = c.args.history.now.schedule in
     let count = commits_length g.M.Metric.distance_by h c.args.q.0 c.log-invariant.ensures.legal c.args.updates.now c.requires.updates in
-    c.loop-i.invariant.txns ∙ ap (filter (among_marked (updates_of h c.args.q.0) c.args.marks.now)) (take_all c.loop-i.i (updates_of h c.args.q.0) (omega (arith, count)))
+    c.loop-i.invariant.txns ∙ ap (filter (among_marked (updates_committed_before h c.args.q.0) c.args.marks.now)) (take_all c.loop-i.i (updates_committed_before h c.args.q.0) (omega (arith, count)))
 
 pub returns-clause-values : goal.returns-clause-values
 returns-clause-values g c = λ x l.

@@ -2,7 +2,7 @@ use Rattle.std.proofs.Common.{◌≡◌, ◌<◌, refl, sym, ap, ◌∙◌, subs
 use Rattle.std.proofs.lemmas.Bool.{or_cases, or_left}
 use Rattle.std.proofs.lemmas.List.Elements.{recursion_from_All}
 use Rattle.esr_items.specs.Values.{IsValue}
-use Rattle.esr_history.specs.Queries.{updates_of}
+use Rattle.esr_history.specs.Queries.{updates_committed_before}
 use Rattle.esr_order.specs.declared.accesses.Access.{Access}
 use Rattle.esr_order.specs.Scans.{accesses_in}
 use Rattle.esr_order.proofs.Accessed.{accesses_inside}
@@ -36,9 +36,9 @@ loop-i-preserved g c =
     let C = raised (g.M.Metric.distance_by c.args.history.now.schedule.weights) c.args.lists.now in
     let row = c.in_ok-row.row.now in
     let here : i < length updates = c.loop-i-test.true in
-    let inside : i < length (updates_of h q) = omega (arith, here, commits_length d h q legal updates c.requires.updates) in
+    let inside : i < length (updates_committed_before h q) = omega (arith, here, commits_length d h q legal updates c.requires.updates) in
     let sized : i < length c.loop-i.marks = omega (arith, here, c.loop-i.invariant.marks, c.requires.marks) in
-    let is_row = c.in_ok-row.ensures ∙ ap (accesses_in h.entries) (number_at updates (updates_of h q) i no_txn c.requires.updates here) in
+    let is_row = c.in_ok-row.ensures ∙ ap (accesses_in h.entries) (number_at updates (updates_committed_before h q) i no_txn c.requires.updates here) in
     let items = recursion_from_All (λ (a : Access). a.item.0 < length h.opening) row (subst (All (λ (a : Access). a.item.0 < length h.opening)) (sym c.in_ok-row.ensures) (accesses_inside d h legal _ (length h.opening) refl)) in
     let marked = c.is_forced-marked.result in
     let kept = c.steps-keeps.ensures.row c.if-not-keeps.false in

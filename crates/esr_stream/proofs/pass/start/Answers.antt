@@ -1,6 +1,6 @@
 use Rattle.std.proofs.Common.{◌≡◌, ◌<◌, ◌+◌, List, [], true, sym, ap, ◌∙◌, subst, length, All, arith}
 use Rattle.esr_items.specs.Values.{IsValue}
-use Rattle.esr_history.specs.Queries.{updates_of}
+use Rattle.esr_history.specs.Queries.{updates_committed_before}
 use Rattle.esr_order.specs.declared.accesses.Access.{Access}
 use Rattle.esr_order.specs.Scans.{accesses_in}
 use Rattle.esr_order.proofs.Accessed.{accesses_inside}
@@ -47,9 +47,9 @@ loop-i-preserved g c =
     let new : List ItemState = c.fits-fit.new.states in
     let early : i < c.args.first = c.loop-i-test.true in
     let count = commits_length d h q legal updates c.requires.updates in
-    let inside : i < length (updates_of h q) = omega (arith, early, must_below d h q legal, c.requires.first) in
+    let inside : i < length (updates_committed_before h q) = omega (arith, early, must_below d h q legal, c.requires.first) in
     let here : i < length updates = omega (arith, inside, count) in
-    let is_row = c.in_ok-row.ensures ∙ ap (accesses_in h.entries) (number_at updates (updates_of h q) i no_txn c.requires.updates here) in
+    let is_row = c.in_ok-row.ensures ∙ ap (accesses_in h.entries) (number_at updates (updates_committed_before h q) i no_txn c.requires.updates here) in
     let sized : length new ≡ length old = c.fits-fit.ensures.len ∙ ap (λ (l : List ItemState). length l) c.deref_mut.ensures.value in
     let back = written_back new old c.loop-i.states.len c.loop-i.states.ok.0 sized in
     let kept = c.fits-fit.ensures.row c.if-not-fit.false in

@@ -7,7 +7,7 @@ use Rattle.esr_cert.proofs.ChainArcsLaws.{have_links}
 use Rattle.esr_cert.proofs.arcs.Arcs.chains.Goals as goal
 
 pub overflow_cast-source : goal.overflow_cast-source
-overflow_cast-source c = omega (arith, updates_bounded c.self.inside.updates.now c.self.inside.before.now c.self.inside.chains.now c.self.inside.must.now c.self.invariant.0 c.self.inside.starts.now c.self.invariant.1)
+overflow_cast-source c = omega (arith, updates_bounded c.self.inside.updates.now c.self.inside.before.now c.self.inside.chains.now c.self.inside.must.now c.self.invariant.0 c.self.inside.chain_starts.now c.self.invariant.1)
 
 pub returns-clause-links : goal.returns-clause-links
 returns-clause-links c =
@@ -16,4 +16,4 @@ returns-clause-links c =
     (sym (length-map c.self.inside.updates.now (λ t. t.0))))
 
 pub returns-clause-count_within_max : goal.returns-clause-count_within_max
-returns-clause-count_within_max c = omega (arith, updates_bounded c.self.inside.updates.now c.self.inside.before.now c.self.inside.chains.now c.self.inside.must.now c.self.invariant.0 c.self.inside.starts.now c.self.invariant.1)
+returns-clause-count_within_max c = omega (arith, updates_bounded c.self.inside.updates.now c.self.inside.before.now c.self.inside.chains.now c.self.inside.must.now c.self.invariant.0 c.self.inside.chain_starts.now c.self.invariant.1)

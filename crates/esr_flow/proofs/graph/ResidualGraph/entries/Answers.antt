@@ -1,5 +1,5 @@
 use Rattle.std.proofs.Common.{◌≡◌, arith, get_or, length, refl, subst}
-use Rattle.esr_cert.specs.Rows.{residual_arcs_below}
+use Rattle.esr_cert.specs.Adjacency.{residual_arcs_below}
 use Rattle.esr_flow.specs.ResidualGraph.{network_arcs}
 use Rattle.esr_flow.proofs.FillLaws.{ArePut, along_within, along_bounded, against_within, against_bounded, put_both, all_put}
 use Rattle.esr_flow.proofs.graph.ResidualGraph.entries.Goals as goal

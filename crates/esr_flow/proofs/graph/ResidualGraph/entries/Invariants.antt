@@ -1,4 +1,4 @@
-use Rattle.esr_cert.specs.Rows.{residual_arcs_below}
+use Rattle.esr_cert.specs.Adjacency.{residual_arcs_below}
 use Rattle.esr_flow.proofs.FillLaws.{ArePut}
 use Rattle.esr_flow.proofs.graph.ResidualGraph.entries.Given as goal
 

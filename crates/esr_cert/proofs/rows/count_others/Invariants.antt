@@ -1,5 +1,0 @@
-use Rattle.esr_cert.specs.Rows.{residual_arcs_below, Counted}
-use Rattle.esr_cert.proofs.rows.count_others.Given as goal
-
-abbrev pub invariant-loop-i : goal.invariant-loop-i
-invariant-loop-i l = Counted l.arcs l.fn._nodes (residual_arcs_below l.i) l.degrees.items

@@ -1,0 +1,66 @@
+-- Worked examples: the queries of small blocks, sizes of runs, medians, and the lines about runs.
+use Rattle.std.specs.Prelude.{◌≡◌, ℕ, List, [], ◌∷◌, ◌++◌, Some, None, codes, map, refl}
+use Rattle.std.specs.Fmt.{digits}
+use Rattle.std.proofs.Common.{Bor}
+use Rattle.esr_history.specs.declared.event.Refusal.TheVariants.{BlockedByLock, NoSuchItem}
+use Rattle.esr_history.specs.declared.event.Reply.TheVariants.{Begun, Refused}
+use Rattle.esr_history.specs.WorkedExamples.{txn}
+use Rattle.esr_plan.specs.declared.call.Call.TheVariants as call
+use Rattle.esr_plan.specs.declared.call.BeginKind.TheVariants as kind
+use Rattle.esr_explore.specs.declared.measure.Measure.TheVariants.{Import}
+use Rattle.esr_explore.specs.Columns.{median}
+use Rattle.esr_explore.specs.Queries.{all_queries, begun_at}
+use Rattle.esr_explore.specs.Report.{head_line, max_and_median_text}
+use Rattle.esr_explore.specs.Severity.{amount_of, first_greatest}
+use Rattle.esr_explore.specs.Summaries.{given_up_in}
+
+abbrev name : List ℕ → Bor (List ℕ)
+name bytes = record { ref_ptr = (0, 0); now = bytes }
+
+-- A block of an update, one whose last line begins a query, and one that begins two.
+queries_found :
+    all_queries (
+    (call.Begin (name (codes "u")) kind.Update 9 ∷ call.Commit (record { name = name (codes "u"); begin = Some 0 }) ∷ [])
+    ∷ (call.Abort (record { name = name (codes "v"); begin = None }) ∷ call.Begin (name (codes "q")) kind.Query 5 ∷ [])
+    ∷ (call.Begin (name (codes "r")) kind.StrictQuery 0 ∷ call.Begin (name (codes "s")) kind.Query 7 ∷ []) ∷ [])
+    ≡ begun_at 1 1 (codes "q") ∷ begun_at 2 0 (codes "r") ∷ begun_at 2 1 (codes "s") ∷ []
+queries_found = refl
+
+-- the first of two worst runs
+worst_found : first_greatest (3 ∷ 7 ∷ 2 ∷ 7 ∷ []) ≡ 1
+worst_found = refl
+
+-- if all are equal, the first
+first_of_equals : first_greatest (0 ∷ 0 ∷ []) ≡ 0
+first_of_equals = refl
+
+-- a query that did not commit counts as 0
+amounts : map (amount_of Import) (Some (record { import = 4; distance = 1 }) ∷ None ∷ []) ≡ 4 ∷ 0 ∷ []
+amounts = refl
+
+-- the lower of two in the middle
+median_of_four : median (5 ∷ 1 ∷ 9 ∷ 3 ∷ []) ≡ 3
+median_of_four = refl
+
+median_of_three : median (8 ∷ 8 ∷ 2 ∷ []) ≡ 8
+median_of_three = refl
+
+-- of three last replies, one is that the line is blocked; a line that is refused for another reason is not given up
+lines_given_up : given_up_in (record {
+  replies = Begun (txn 1) ∷ Refused (BlockedByLock (txn 2)) ∷ Refused NoSuchItem ∷ [];
+  tries = 0;
+  blocked = 100;
+}) ≡ 1
+lines_given_up = refl
+
+head_of_many : head_line 20 (Some 61108047000) ≡ codes "interleavings 20 of 61108047000\n"
+unfolding digits
+head_of_many = refl
+
+head_of_more : head_line 7 None ≡ codes "interleavings 7 of more than 1000000000000000000\n"
+unfolding digits
+head_of_more = refl
+
+max_and_median_of_four : max_and_median_text (codes " blocked") (5 ∷ 1 ∷ 9 ∷ 3 ∷ []) ≡ codes " blocked max 9 median 3"
+unfolding digits
+max_and_median_of_four = refl
