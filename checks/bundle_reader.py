@@ -212,3 +212,12 @@ def least_cost(problem):
         for chosen in itertools.combinations(positions, size)
         if is_closed(problem, set(chosen))
     )
+
+
+if __name__ == "__main__":
+    import sys
+
+    if len(sys.argv) != 2:
+        sys.exit("usage: bundle_reader.py FILE")
+    with open(sys.argv[1], "rb") as bundle:
+        print(verdict(bundle.read()), end="")

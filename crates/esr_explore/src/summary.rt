@@ -158,7 +158,7 @@ fn severity_of(run_summary: &RunSummary, measure: Measure) -> u64
     }
 }
 
-/// Returns the index of the first run of the greatest severity, 0 if there are no runs.
+/// Returns the index of the first run of the greatest severity, or 0 without runs.
 pub fn worst_run(summaries: &[RunSummary], measure: Measure) -> u64
     ensures { result ≡ worst_run measure summaries.now }
 {

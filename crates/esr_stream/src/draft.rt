@@ -1,11 +1,12 @@
-//! A draft of the amounts of versions. No clause constrains it: the pass checks the amounts.
+//! A draft of the amounts of versions. No contract constrains it: the pass checks the amounts.
 //!
 //! The draft visits the updates from the last to the first. The last version of each item gets its cost as its amount. For
 //! each update, the sum of the amounts of the versions that it writes is distributed over the versions that it overwrites,
 //! in proportion to their costs. If these costs are less than the sum, a breadth-first search looks for another version of
-//! an earlier update that has room for the rest. It follows updates: from an update to the update that wrote a version with
-//! room that it overwrites, and to the update that overwrites a version with an amount that it writes. The amounts along
-//! the path change by the rest, so that each update between keeps its sum. `MAX_LOOKS` bounds the work of all searches.
+//! an earlier update with spare capacity for the rest. It follows updates: from an update to the update that wrote a version
+//! with spare capacity that it overwrites, and to the update that overwrites a version with an amount that it writes. The
+//! amounts along the path change by the rest, so that each update between keeps its sum. `MAX_LOOKS` bounds the work of all
+//! searches.
 ghost use Rattle.std.specs.Prelude.{◌≡◌, ◌<◌, All, length};
 ghost use Rattle.esr_items.specs.Values.{IsValue};
 ghost use Rattle.esr_order.specs.Index.{IsWholeIndexOf};
