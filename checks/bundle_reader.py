@@ -1,3 +1,4 @@
+#!/usr/bin/env python3
 """A second reader of bundles, written from `docs/FORMATS.md`: it judges from the file alone."""
 
 import itertools
