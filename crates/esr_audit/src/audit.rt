@@ -95,9 +95,9 @@ fn finding_of<M: Metric>(
 }
 
 /// Returns the minimum, over all serial placements of a committed query, of the distance between the values that it read
-/// and those at the placement, with a certificate. The result holds for every continuation of the history. The problem has exactly the relevant updates
-/// of the query: those that wrote an item that it read, those from which a chain of conflicts leads to such an update,
-/// and those that it must have seen.
+/// and those at the placement, with a certificate. The result holds for every continuation of the history. The problem has
+/// exactly the relevant updates of the query: those that wrote an item that it read, those from which a chain of conflicts
+/// leads to such an update, and, if the query is strict, those that committed before it began.
 ///
 /// # Errors
 /// `NotACommittedQuery` if and only if the transaction is not a query or has not committed. `NoMemory` if an allocation
@@ -223,7 +223,8 @@ fn book_of<M: Metric>(alloc: Global, history: &History<M>) -> Result<Book, Audit
     })
 }
 
-/// Gives proofs the guarantee of the type that a history is sound. Does nothing at run time.
+/// Makes the invariant of `History`, that its schedule is sound, available to the proof of the caller. Does nothing at run
+/// time.
 pub fn prove_sound<M: Metric>(history: &History<M>)
     ensures { IsSound M.distance_by history.now.schedule }
 {

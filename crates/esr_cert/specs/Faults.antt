@@ -1,4 +1,4 @@
--- The numbers of the faults, and the fault of parts that make no problem.
+-- The numbers of the faults, and the fault of parts that are not a valid problem.
 use Rattle.std.specs.Prelude.{ℕ, not, if◌then◌else◌, Option, Some, None}
 use Rattle.esr_cert.specs.Problem.{Problem, has_valid_shape, is_in_range}
 pub use Rattle.esr_cert.specs.declared.certificate.Fault.{Fault}

@@ -1,5 +1,5 @@
-//! Defines the arc of a network. A list of arcs would take 19 MB in an audit of a million, so an arc is computed from
-//! the problem's lists on request (`arcs`).
+//! The arc of a network. A list of all arcs would take 19 MB in the audit of a history of 1,000,000 events, so there is no
+//! such list: `arcs` computes each arc from the problem on request.
 
 /// An arc of a network: its ends, and its capacity, or `None` if it is unlimited.
 #[derive(Clone, Copy)]

@@ -68,7 +68,8 @@ export_before d h u i = export_in (charges_in d (until i h)) u
 abbrev pub active_writer : Schedule → ℕ → Option ℕ
 active_writer h x = if nat_lt x (length h.opening) then writer (accepted_in h) x else None
 
--- the conflict of an operation: of a read, with the active writer of the item; of a write, the update is the writer itself
+-- the conflict of an operation: its `update` is, for a read, the active writer of the item, and for a write, the
+-- transaction that writes
 abbrev pub conflict : Schedule → Event → Option Conflict
 conflict h (Read t x) =
     option_map (λ u. record { operation = operation.Read; update = record { 0 = u }; item = x }) (active_writer h x.0)

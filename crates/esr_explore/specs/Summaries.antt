@@ -9,12 +9,12 @@ use Rattle.esr_plan.specs.declared.call.Call.{Call}
 use Rattle.esr_explore.specs.declared.query.Query.{Query}
 use Rattle.esr_explore.specs.declared.run_summary.QueryOutcome.{QueryOutcome}
 use Rattle.esr_explore.specs.declared.run_summary.RunSummary.{RunSummary}
-use Rattle.esr_explore.specs.Turns.{IsRun, BlockProgressView, Stage, no_progress, is_blocked}
+use Rattle.esr_explore.specs.Turns.{IsRun, BlockProgressView, RunState, no_progress, is_blocked}
 
 -- the number that the begin at a place of a block got
 abbrev pub number_of : List BlockProgressView → ℕ → ℕ → ℕ
-number_of runners block place =
-    unwrap_or (option_and_then number_in (slice_get (slice_index_or runners block no_progress).replies place)) 0
+number_of all_progress block place =
+    unwrap_or (option_and_then number_in (slice_get (slice_index_or all_progress block no_progress).replies place)) 0
 
 -- a committed query's import, and its distance as audits find it; nothing of another transaction
 abbrev pub IsOutcome : Schedule → ℕ → Option QueryOutcome → Type 0
@@ -23,16 +23,16 @@ IsOutcome h number (Some outcomes) = (before : List ℕ) × IsAnswer weighted h 
 
 -- query by query
 abbrev pub AreOutcomes : Schedule → List BlockProgressView → List Query → List (Option QueryOutcome) → Type 0
-AreOutcomes h runners [] [] = Unit {0}
-AreOutcomes h runners (q ∷ queries) (outcomes ∷ more) = IsOutcome h (number_of runners q.block q.place) outcomes × AreOutcomes h runners queries more
-AreOutcomes h runners _ _ = ⊥
+AreOutcomes h all_progress [] [] = Unit {0}
+AreOutcomes h all_progress (q ∷ queries) (outcomes ∷ more) = IsOutcome h (number_of all_progress q.block q.place) outcomes × AreOutcomes h all_progress queries more
+AreOutcomes h all_progress _ _ = ⊥
 
 -- the number of lines of a block that were given up: their last reply is that they are blocked
 abbrev pub given_up_in : BlockProgressView → ℕ
 given_up_in progress = count_by is_blocked progress.replies
 
 -- the summary of a run that ended so
-pub record IsSummaryOf (end : Stage) (queries : List Query) (run_summary : RunSummary) : Type 0 where
+pub record IsSummaryOf (end : RunState) (queries : List Query) (run_summary : RunSummary) : Type 0 where
   pub outcomes : AreOutcomes end.history end.blocks queries run_summary.outcomes.items
   pub blocked : run_summary.blocked.items ≡ map (λ r. r.blocked) end.blocks
   pub given_up : run_summary.given_up.items ≡ map given_up_in end.blocks
@@ -40,7 +40,7 @@ pub record IsSummaryOf (end : Stage) (queries : List Query) (run_summary : RunSu
 -- The tale is of a run of these blocks: legal, and taken in turns that began with this order.
 pub record IsSummary (opening : List ℤ) (weights : List ℕ) (blocks : List (List Call)) (queries : List Query) (order : List ℕ)
     (run_summary : RunSummary) : Type 0 where
-  pub end : Stage
+  pub end : RunState
   pub run : IsRun opening weights blocks order end
   pub legal : IsLegal weighted end.history
   pub summary_is : IsSummaryOf end queries run_summary

@@ -50,46 +50,46 @@ abbrev pub history_after : Option Event → Schedule → Schedule
 history_after None h = h
 history_after (Some e) h = extended h e (reply_to weighted h e)
 
-abbrev pub runner_after : Option Event → Schedule → BlockProgressView → BlockProgressView
-runner_after None h s = s
-runner_after (Some e) h s = with_reply (reply_to weighted h e) s
+abbrev pub progress_after : Option Event → Schedule → BlockProgressView → BlockProgressView
+progress_after None h s = s
+progress_after (Some e) h s = with_reply (reply_to weighted h e) s
 
 -- all blocks, and the history that they make
-pub record Stage : Type 0 where
+pub record RunState : Type 0 where
   pub history : Schedule
   pub blocks : List BlockProgressView
 
-abbrev pub stage : Schedule → List BlockProgressView → Stage
-stage h runners = record { history = h; blocks = runners }
+abbrev pub run_state : Schedule → List BlockProgressView → RunState
+run_state h all_progress = record { history = h; blocks = all_progress }
 
-abbrev pub turn_of : List Call → ℕ → Stage → Option BlockProgressView → Stage
+abbrev pub turn_of : List Call → ℕ → RunState → Option BlockProgressView → RunState
 turn_of calls block before None = before
 turn_of calls block before (Some s) = record {
   history = history_after (next_event calls s) before.history;
-  blocks = slice_set before.blocks block (runner_after (next_event calls s) before.history s);
+  blocks = slice_set before.blocks block (progress_after (next_event calls s) before.history s);
 }
 
 -- the turn of a block
-abbrev pub turn : List (List Call) → Stage → ℕ → Stage
+abbrev pub turn : List (List Call) → RunState → ℕ → RunState
 turn blocks before block = turn_of (slice_index_or blocks block []) block before (slice_get before.blocks block)
 
-abbrev pub begun : List ℤ → List ℕ → List (List Call) → Stage
+abbrev pub begun : List ℤ → List ℕ → List (List Call) → RunState
 begun opening weights blocks =
     record { history = schedule_of opening weights []; blocks = map (λ _. no_progress) (range_with_len 0 (length blocks)) }
 
 -- these turns, one after another
-abbrev pub turns : List (List Call) → Stage → List ℕ → Stage
+abbrev pub turns : List (List Call) → RunState → List ℕ → RunState
 turns blocks before order = fold (turn blocks) before order
 
 -- no block has a line left
 abbrev pub AreDone : List (List Call) → List BlockProgressView → Type 0
-AreDone blocks runners =
-    (length runners ≡ length blocks)
-    × ((k : ℕ) → k < length blocks → length (slice_index_or runners k no_progress).replies ≡ length (slice_index_or blocks k []))
+AreDone blocks all_progress =
+    (length all_progress ≡ length blocks)
+    × ((k : ℕ) → k < length blocks → length (slice_index_or all_progress k no_progress).replies ≡ length (slice_index_or blocks k []))
 
 -- The result of a run in which the blocks took their turns in this order, and then in some other until no block had a
 -- line left.
-pub record IsRun (opening : List ℤ) (weights : List ℕ) (blocks : List (List Call)) (order : List ℕ) (end : Stage) : Type 0 where
+pub record IsRun (opening : List ℤ) (weights : List ℕ) (blocks : List (List Call)) (order : List ℕ) (end : RunState) : Type 0 where
   pub rest : List ℕ
   pub occurred : end ≡ turns blocks (begun opening weights blocks) (order ++ rest)
   pub done : AreDone blocks end.blocks

@@ -223,11 +223,14 @@ fn report_of(
 }
 
 /// Returns the replies of each block.
-fn replies_of(alloc: Global, runners: Vec<BlockProgress>) -> Result<Vec<Vec<Reply>>, AllocError>
-    ensures { IfOk result (λ replies. map (λ r. r.items) replies.items ≡ map (λ r. r.replies) runners.items) }
+fn replies_of(
+    alloc: Global,
+    all_progress: Vec<BlockProgress>,
+) -> Result<Vec<Vec<Reply>>, AllocError>
+    ensures { IfOk result (λ replies. map (λ r. r.items) replies.items ≡ map (λ r. r.replies) all_progress.items) }
 {
     let mut replies = Vec::new(alloc);
-    for progress in runners {
+    for progress in all_progress {
         replies.push(progress.into_replies())?;
     }
     Ok(replies)
@@ -235,13 +238,16 @@ fn replies_of(alloc: Global, runners: Vec<BlockProgress>) -> Result<Vec<Vec<Repl
 
 /// Returns the history of a run, as a script.
 fn script_of(alloc: Global, drive_plan: &DrivePlan<'_>, run: Run) -> Result<Vec<u8>, AllocError>
-    requires done { AreDone (map (λ b. b.items) drive_plan.now.blocks.items) run.runners.items }
+    requires done { AreDone (map (λ b. b.items) drive_plan.now.blocks.items) run.all_progress.items }
     requires upper_bound { length run.history.schedule.entries ≤ MAX_ENTRIES }
     ensures { IfOk result (λ out. (names : List (List ℕ))
         × IsDump drive_plan.now.names names run.history.schedule out.items) }
 {
-    let Run { history, runners } = run;
-    let replies = replies_of(alloc, runners)?;
+    let Run {
+        history,
+        all_progress,
+    } = run;
+    let replies = replies_of(alloc, all_progress)?;
     let names = begun_names(
         alloc,
         &history,

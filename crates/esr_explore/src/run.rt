@@ -11,7 +11,7 @@ ghost use Rattle.esr_base.specs.declared.limits.TheConstants.{MAX_ENTRIES};
 ghost use Rattle.esr_history.specs.Machine.{IsLegal};
 ghost use Rattle.esr_plan.specs.Plan.{weights_of};
 ghost use Rattle.esr_plan.specs.DrivePlans.{IsSound};
-ghost use Rattle.esr_explore.specs.Turns.{AreDone, IsRun, begun, no_progress, history_after, runner_after, next_event, stage, turn, turns};
+ghost use Rattle.esr_explore.specs.Turns.{AreDone, IsRun, begun, no_progress, history_after, progress_after, next_event, run_state, turn, turns};
 
 use crate::progress::BlockProgress;
 use esr_core::{Machine, StepError};
@@ -24,7 +24,7 @@ use std::alloc::{AllocError, Global};
 #[derive(Drop)]
 pub struct Run {
     pub history: History<Weighted>,
-    pub runners: Vec<BlockProgress>,
+    pub all_progress: Vec<BlockProgress>,
 }
 
 /// Returns the event of the next line of a block, if one is left.
@@ -46,7 +46,7 @@ fn take_turn(
 ) -> Result<(), StepError>
     ensures machine { OnOk result (machine.new ≡ history_after (next_event calls.now progress.old) machine.old) }
     ensures progress { OnOk result
-        (progress.new ≡ runner_after (next_event calls.now progress.old) machine.old progress.old) }
+        (progress.new ≡ progress_after (next_event calls.now progress.old) machine.old progress.old) }
 {
     let Some(event) = next_event(calls, progress) else {
         return Ok(());
@@ -64,62 +64,62 @@ fn take_turn(
 fn turn(
     machine: &mut Machine<Weighted>,
     blocks: &[Vec<Call<'_>>],
-    runners: &mut Vec<BlockProgress>,
+    all_progress: &mut Vec<BlockProgress>,
     block: usize,
 ) -> Result<(), StepError>
-    requires { length runners.old.items ≤ length blocks.now }
-    ensures stage { OnOk result (stage machine.new runners.new.items
-        ≡ turn (map (λ b. b.items) blocks.now) (stage machine.old runners.old.items) block) }
-    ensures len { length runners.new.items ≡ length runners.old.items }
+    requires { length all_progress.old.items ≤ length blocks.now }
+    ensures run_state { OnOk result (run_state machine.new all_progress.new.items
+        ≡ turn (map (λ b. b.items) blocks.now) (run_state machine.old all_progress.old.items) block) }
+    ensures len { length all_progress.new.items ≡ length all_progress.old.items }
 {
-    if block >= runners.len() {
+    if block >= all_progress.len() {
         return Ok(());
     }
-    take_turn(machine, blocks[block].as_slice(), &mut runners[block])
+    take_turn(machine, blocks[block].as_slice(), &mut all_progress[block])
 }
 
 /// Executes the turns of an order.
 fn take_turns(
     machine: &mut Machine<Weighted>,
     blocks: &[Vec<Call<'_>>],
-    runners: &mut Vec<BlockProgress>,
+    all_progress: &mut Vec<BlockProgress>,
     order: &[u8],
 ) -> Result<(), StepError>
-    requires { length runners.old.items ≤ length blocks.now }
-    ensures stage { OnOk result (stage machine.new runners.new.items
-        ≡ turns (map (λ b. b.items) blocks.now) (stage machine.old runners.old.items) order.now) }
-    ensures len { length runners.new.items ≡ length runners.old.items }
+    requires { length all_progress.old.items ≤ length blocks.now }
+    ensures run_state { OnOk result (run_state machine.new all_progress.new.items
+        ≡ turns (map (λ b. b.items) blocks.now) (run_state machine.old all_progress.old.items) order.now) }
+    ensures len { length all_progress.new.items ≡ length all_progress.old.items }
 {
     for block in order {
-        turn(machine, blocks, runners, *block as usize)?;
+        turn(machine, blocks, all_progress, *block as usize)?;
     }
     Ok(())
 }
 
 /// Creates the runners of blocks, before their first lines.
 fn new_runners(alloc: Global, count: usize) -> Result<Vec<BlockProgress>, AllocError>
-    ensures { IfOk result (λ runners. runners.items ≡ map (λ _. no_progress) (range_with_len 0 count)) }
+    ensures { IfOk result (λ all_progress. all_progress.items ≡ map (λ _. no_progress) (range_with_len 0 count)) }
 {
-    let mut runners = Vec::new(alloc);
+    let mut all_progress = Vec::new(alloc);
     for _block in 0..count {
-        runners.push(BlockProgress::new(alloc))?;
+        all_progress.push(BlockProgress::new(alloc))?;
     }
-    Ok(runners)
+    Ok(all_progress)
 }
 
 /// Returns the first block with a line left, from a number on.
 fn find_unfinished(
     blocks: &[Vec<Call<'_>>],
-    runners: &[BlockProgress],
+    all_progress: &[BlockProgress],
     from: usize,
 ) -> Option<usize>
-    requires { length runners.now ≡ length blocks.now }
+    requires { length all_progress.now ≡ length blocks.now }
     ensures { IfNone result ((k : ℕ) → from ≤ k → k < length blocks.now
-        → length (slice_index_or runners.now k no_progress).replies
+        → length (slice_index_or all_progress.now k no_progress).replies
         ≡ length (slice_index_or (map (λ b. b.items) blocks.now) k [])) }
 {
-    for block in from..runners.len() {
-        if blocks[block].len() != runners[block].replies().len() {
+    for block in from..all_progress.len() {
+        if blocks[block].len() != all_progress[block].replies().len() {
             return Some(block);
         }
     }
@@ -128,13 +128,17 @@ fn find_unfinished(
 
 /// Returns the block with the next turn of a round: the first with a line left, from a number on, or else the first
 /// of all.
-fn next_in_round(blocks: &[Vec<Call<'_>>], runners: &[BlockProgress], from: usize) -> Option<usize>
-    requires { length runners.now ≡ length blocks.now }
-    ensures { IfNone result (AreDone (map (λ b. b.items) blocks.now) runners.now) }
+fn next_in_round(
+    blocks: &[Vec<Call<'_>>],
+    all_progress: &[BlockProgress],
+    from: usize,
+) -> Option<usize>
+    requires { length all_progress.now ≡ length blocks.now }
+    ensures { IfNone result (AreDone (map (λ b. b.items) blocks.now) all_progress.now) }
 {
-    match find_unfinished(blocks, runners, from) {
+    match find_unfinished(blocks, all_progress, from) {
         Some(block) => Some(block),
-        None => find_unfinished(blocks, runners, 0),
+        None => find_unfinished(blocks, all_progress, 0),
     }
 }
 
@@ -142,19 +146,19 @@ fn next_in_round(blocks: &[Vec<Call<'_>>], runners: &[BlockProgress], from: usiz
 fn finish(
     machine: &mut Machine<Weighted>,
     blocks: &[Vec<Call<'_>>],
-    runners: &mut Vec<BlockProgress>,
+    all_progress: &mut Vec<BlockProgress>,
 ) -> Result<(), StepError>
-    requires { length runners.old.items ≡ length blocks.now }
-    ensures stage { OnOk result ((rest : List ℕ) × (stage machine.new runners.new.items
-        ≡ turns (map (λ b. b.items) blocks.now) (stage machine.old runners.old.items) rest)) }
-    ensures done { OnOk result (AreDone (map (λ b. b.items) blocks.now) runners.new.items) }
+    requires { length all_progress.old.items ≡ length blocks.now }
+    ensures run_state { OnOk result ((rest : List ℕ) × (run_state machine.new all_progress.new.items
+        ≡ turns (map (λ b. b.items) blocks.now) (run_state machine.old all_progress.old.items) rest)) }
+    ensures done { OnOk result (AreDone (map (λ b. b.items) blocks.now) all_progress.new.items) }
 {
     let mut from = 0;
     for _turn in 0..u64::MAX {
-        let Some(block) = next_in_round(blocks, runners, from) else {
+        let Some(block) = next_in_round(blocks, all_progress, from) else {
             return Ok(());
         };
-        turn(machine, blocks, runners, block)?;
+        turn(machine, blocks, all_progress, block)?;
         from = block.saturating_add(1);
     }
     Err(StepError::NoMemory)
@@ -184,19 +188,22 @@ fn fault_of(error: StepError) -> DriveFault {
 pub fn run_order(alloc: Global, drive_plan: &DrivePlan<'_>, order: &[u8]) -> Result<Run, DriveFault>
     requires { IsSound drive_plan.now }
     ensures run { IfOk result (λ r. IsRun drive_plan.now.values.items (weights_of drive_plan.now.weights.items)
-        (map (λ b. b.items) drive_plan.now.blocks.items) order.now (stage r.history.schedule r.runners.items)) }
+        (map (λ b. b.items) drive_plan.now.blocks.items) order.now (run_state r.history.schedule r.all_progress.items)) }
     ensures legal { IfOk result (λ r. IsLegal weighted r.history.schedule) }
     ensures upper_bound { IfOk result (λ r. length r.history.schedule.entries ≤ MAX_ENTRIES) }
 {
     let blocks = drive_plan.blocks.as_slice();
     let mut machine = machine_of(alloc, drive_plan)?;
-    let mut runners = new_runners(alloc, blocks.len())?;
-    if let Err(error) = take_turns(&mut machine, blocks, &mut runners, order) {
+    let mut all_progress = new_runners(alloc, blocks.len())?;
+    if let Err(error) = take_turns(&mut machine, blocks, &mut all_progress, order) {
         return Err(fault_of(error));
     }
-    if let Err(error) = finish(&mut machine, blocks, &mut runners) {
+    if let Err(error) = finish(&mut machine, blocks, &mut all_progress) {
         return Err(fault_of(error));
     }
     let history = machine.close();
-    Ok(Run { history, runners })
+    Ok(Run {
+        history,
+        all_progress,
+    })
 }

@@ -2,7 +2,7 @@
 //! were blocked, and how many of them were given up.
 
 ghost use Rattle.std.specs.Prelude.{◌≡◌, IfOk, map};
-ghost use Rattle.esr_explore.specs.Turns.{stage};
+ghost use Rattle.esr_explore.specs.Turns.{run_state};
 ghost use Rattle.esr_explore.specs.Summaries.{AreOutcomes, IsOutcome, IsSummaryOf, given_up_in, number_of};
 
 use crate::progress::{BlockProgress, is_blocked};
@@ -32,10 +32,10 @@ pub struct RunSummary {
 }
 
 /// Returns the number of the transaction that a query's begin created, or 0 if it was refused.
-fn number_of(runners: &[BlockProgress], query: Query<'_>) -> TxnId
-    ensures { result.0 ≡ number_of runners.now query.entry.block query.entry.place }
+fn number_of(all_progress: &[BlockProgress], query: Query<'_>) -> TxnId
+    ensures { result.0 ≡ number_of all_progress.now query.entry.block query.entry.place }
 {
-    let Some(progress) = runners.get(query.block) else {
+    let Some(progress) = all_progress.get(query.block) else {
         return TxnId(0);
     };
     match progress.replies().get(query.place) {
@@ -68,22 +68,22 @@ fn all_outcomes(
     run: &Run,
     queries: &[Query<'_>],
 ) -> Result<Vec<Option<QueryOutcome>>, AllocError>
-    ensures { IfOk result (λ outcomes. AreOutcomes run.now.history.schedule run.now.runners.items queries.now outcomes.items) }
+    ensures { IfOk result (λ outcomes. AreOutcomes run.now.history.schedule run.now.all_progress.items queries.now outcomes.items) }
 {
     let mut outcomes = Vec::new(alloc);
     for query in queries {
-        let number = number_of(&run.runners, *query);
+        let number = number_of(&run.all_progress, *query);
         outcomes.push(outcome_of(alloc, &run.history, number)?)?;
     }
     Ok(outcomes)
 }
 
 /// Returns, for each block, the number of times that its lines were blocked.
-fn count_blocked(alloc: Global, runners: &[BlockProgress]) -> Result<Vec<u64>, AllocError>
-    ensures { IfOk result (λ v. v.items ≡ map (λ r. r.blocked) runners.now) }
+fn count_blocked(alloc: Global, all_progress: &[BlockProgress]) -> Result<Vec<u64>, AllocError>
+    ensures { IfOk result (λ v. v.items ≡ map (λ r. r.blocked) all_progress.now) }
 {
     let mut counts = Vec::new(alloc);
-    for progress in runners {
+    for progress in all_progress {
         counts.push(progress.blocked_count())?;
     }
     Ok(counts)
@@ -101,11 +101,11 @@ fn given_up_in(progress: &BlockProgress) -> u64
 }
 
 /// Returns how many lines of each block were given up.
-fn all_given_up(alloc: Global, runners: &[BlockProgress]) -> Result<Vec<u64>, AllocError>
-    ensures { IfOk result (λ v. v.items ≡ map given_up_in runners.now) }
+fn all_given_up(alloc: Global, all_progress: &[BlockProgress]) -> Result<Vec<u64>, AllocError>
+    ensures { IfOk result (λ v. v.items ≡ map given_up_in all_progress.now) }
 {
     let mut counts = Vec::new(alloc);
-    for progress in runners {
+    for progress in all_progress {
         counts.push(given_up_in(progress))?;
     }
     Ok(counts)
@@ -113,11 +113,11 @@ fn all_given_up(alloc: Global, runners: &[BlockProgress]) -> Result<Vec<u64>, Al
 
 /// Returns the summary of a run.
 pub fn summarize(alloc: Global, run: &Run, queries: &[Query<'_>]) -> Result<RunSummary, AllocError>
-    ensures { IfOk result (λ run_summary. IsSummaryOf (stage run.now.history.schedule run.now.runners.items) queries.now run_summary) }
+    ensures { IfOk result (λ run_summary. IsSummaryOf (run_state run.now.history.schedule run.now.all_progress.items) queries.now run_summary) }
 {
     Ok(RunSummary {
         outcomes: all_outcomes(alloc, run, queries)?,
-        blocked: count_blocked(alloc, &run.runners)?,
-        given_up: all_given_up(alloc, &run.runners)?,
+        blocked: count_blocked(alloc, &run.all_progress)?,
+        given_up: all_given_up(alloc, &run.all_progress)?,
     })
 }

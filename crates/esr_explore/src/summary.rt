@@ -95,14 +95,14 @@ pub fn column_values(
     Ok(numbers)
 }
 
-/// Returns whether a line of the block was given up.
+/// Returns whether a line of the session was given up.
 fn has_given_up(run_summary: &RunSummary, session: usize) -> bool
     ensures { result ≡ has_given_up session run_summary.now }
 {
     run_summary.given_up.get(session).copied().unwrap_or(0) > 0
 }
 
-/// Returns in how many runs a line of the block was given up.
+/// Returns in how many runs a line of the session was given up.
 pub fn runs_given_up(summaries: &[RunSummary], session: usize) -> u64
     ensures { result ≡ runs_given_up session summaries.now }
 {

@@ -20,12 +20,12 @@ module _ (p : Problem) (node_count source sink : ℕ) (a : node_count ≡ update
       let adjacency : IsAdjacencyOf (net_with p node_count source sink) adjacency = subst (λ net. IsAdjacencyOf net adjacency) (sym net_is) given in
       record {
         is_network = subst IsNetwork (sym net_is) (is_network p ok);
-        count = adjacency.adjacency.count;
-        ordered = adjacency.adjacency.ordered;
-        inside = adjacency.adjacency.inside;
-        row = adjacency.adjacency.row;
-        lists = λ v l. subst (HasSteps (network p).arcs v) (sym (adjacency.adjacency.row v l)) (has_steps (network p).arcs v);
-        ascend = λ v l. subst (IsNonDecreasingBy rank_of) (sym (adjacency.adjacency.row v l)) (row_ascends (network p).arcs v);
+        count = adjacency.rows.count;
+        ordered = adjacency.rows.ordered;
+        inside = adjacency.rows.inside;
+        row = adjacency.rows.row;
+        lists = λ v l. subst (HasSteps (network p).arcs v) (sym (adjacency.rows.row v l)) (has_steps (network p).arcs v);
+        ascend = λ v l. subst (IsNonDecreasingBy rank_of) (sym (adjacency.rows.row v l)) (row_ascends (network p).arcs v);
         steps = adjacency.steps;
         sink_is_node = omega (arith, a, c);
         count_within_max = count_within_max;

@@ -1,6 +1,6 @@
 //! The arrows between the updates that are drawn. An arrow that others imply is omitted, also if the path of the others
-//! passes through updates that are not drawn. Since the pairs ascend, one pass over them computes the drawn ancestors of
-//! each update, as a set of bits. At most 30 updates are drawn, so 64 bits suffice.
+//! passes through updates that are not drawn. `Problem::before` lists its pairs (an update, and a later one that must follow
+//! it) in ascending order, so one pass over them computes the drawn ancestors of each update, as a set of bits. At most 30 updates are drawn, so 64 bits suffice.
 
 use crate::selection::Choice;
 use esr_cert::Problem;
@@ -81,7 +81,8 @@ pub struct SlotPair {
     pub to: u8,
 }
 
-/// Adds the arrows to the update of a slot: from each of its ancestors that is not an ancestor of another of them.
+/// Appends the arrows that lead to the update in slot `to`: one from each of its drawn ancestors that is not an ancestor of
+/// another drawn ancestor.
 fn arrows_to(
     arrows: &mut Vec<SlotPair>,
     ancestors_by_slot: &[(u8, u64)],

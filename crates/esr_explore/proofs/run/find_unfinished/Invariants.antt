@@ -6,4 +6,4 @@ use Rattle.esr_explore.proofs.run.find_unfinished.Given as goal
 abbrev pub invariant-loop-block : goal.invariant-loop-block
 invariant-loop-block l =
     (k : ℕ) → l.from ≤ k → k < l.block
-    → length (slice_index_or l.runners k no_progress).replies ≡ length (slice_index_or (map (λ b. b.items) l.blocks) k [])
+    → length (slice_index_or l.all_progress k no_progress).replies ≡ length (slice_index_or (map (λ b. b.items) l.blocks) k [])

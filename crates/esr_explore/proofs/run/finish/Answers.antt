@@ -1,5 +1,5 @@
 use Rattle.std.proofs.Common.{[], ◌∷◌, ◌++◌, ◌∙◌, ap, map, sym}
-use Rattle.esr_explore.specs.Turns.{Stage, stage, turn}
+use Rattle.esr_explore.specs.Turns.{RunState, run_state, turn}
 use Rattle.esr_explore.proofs.Turning.{then_turn}
 use Rattle.esr_explore.proofs.run.finish.Goals as goal
 
@@ -11,8 +11,8 @@ loop-turn-preserved c =
       c.turn.ensures.len ∙ c.loop-turn.invariant.0,
       (
         rest ++ block ∷ [],
-        c.in_ok-turn.ensures.stage
-            ∙ (ap (λ (s : Stage). turn blocks s block) c.loop-turn.invariant.1.1
-            ∙ sym (then_turn blocks (stage c.args.machine.now c.args.runners.now.items) rest block)),
+        c.in_ok-turn.ensures.run_state
+            ∙ (ap (λ (s : RunState). turn blocks s block) c.loop-turn.invariant.1.1
+            ∙ sym (then_turn blocks (run_state c.args.machine.now c.args.all_progress.now.items) rest block)),
       ),
     )

@@ -3,4 +3,4 @@ use Rattle.esr_explore.specs.Summaries.{given_up_in}
 use Rattle.esr_explore.proofs.run_summary.all_given_up.Given as goal
 
 abbrev pub invariant-loop-progress : goal.invariant-loop-progress
-invariant-loop-progress l = l.counts.items ≡ map given_up_in (take l.progress-index l.runners)
+invariant-loop-progress l = l.counts.items ≡ map given_up_in (take l.progress-index l.all_progress)
