@@ -1,6 +1,6 @@
-//! A draft of the amounts of versions. No contract constrains it: the pass checks the amounts.
+//! Proposes an amount for each version. No contract constrains the amounts: the pass checks them.
 //!
-//! The draft visits the updates from the last to the first. The last version of each item gets its cost as its amount. For
+//! It visits the updates from the last to the first. The last version of each item gets its cost as its amount. For
 //! each update, the sum of the amounts of the versions that it writes is distributed over the versions that it overwrites,
 //! in proportion to their costs. If these costs are less than the sum, a breadth-first search looks for another version of
 //! an earlier update with spare capacity for the rest. It follows updates: from an update to the update that wrote a version

@@ -1,18 +1,20 @@
 //! Audits by streaming: computes the least distance of a query, and the smallest closed set of updates whose cost is this
 //! distance, in passes over the updates in commit order.
 //!
-//! The method builds neither a closure problem nor a flow network. A *draft* (`draft`) assigns an amount to each version of
-//! an item. No contract constrains the draft. A *pass* (`pass`) caps each amount at the cost of its version, and fails if an
-//! update decreases the sum of the amounts of the versions that the updates so far have left. By the laws of `esr_bound`,
-//! every closed set then costs at least this sum, taken directly after the mandatory updates. Of a strict query these are
-//! the updates that committed before it began; of any other query there are none. The pass also marks updates that every set
-//! of least cost contains, and `close` adds their predecessors. Both repeat until `close` adds none, at most 32 times
-//! (`MAX_ROUNDS`). If the cost of the marked set then equals the sum, the marked set is the result. Otherwise the functions
-//! return `None`, and the caller solves the closure problem of the query (`esr_audit`).
+//! The method builds neither a closure problem nor a flow network. First, `draft` proposes an amount for each version of an
+//! item. No contract constrains these amounts. They are not the draft flow of `esr_flow`. Then a *pass* (`pass`) caps each
+//! amount at the cost of its version. Every closed set contains the *mandatory* updates: of a strict query, the updates that
+//! committed before it began; of any other query, none. Let S be the sum of the capped amounts of the current versions
+//! directly after them. The pass fails if a later update decreases the sum. Otherwise every closed set costs at least S
+//! (`esr_bound`). The pass also marks updates that every set of least cost contains, and `close` adds their predecessors.
+//! Both repeat until `close` adds none, at most 32 times (`MAX_ROUNDS`). If the cost of the marked set then equals S, the
+//! marked set is the result. Otherwise `least_of` returns `None`, and the caller solves the closure problem of the query
+//! (`esr_audit`).
 //!
-//! The proof covers the pass and not the draft, so the draft can change without a new theorem. Costs are never negative, but
-//! amounts can be. So the pass adds `OFFSET` to each cost and each amount, and stores both as unsigned integers. Rejected
-//! design: a certificate over the entries of the log. It needs the arcs of the network and flow conservation at each update.
+//! The proof covers the pass and not the proposed amounts, so `draft` can change without a new theorem. Costs are never
+//! negative, but amounts can be. So costs and amounts are stored as unsigned integers with `OFFSET` added. Rejected design: a
+//! flow whose arcs are numbered by the entries of the history. Its check needs the arcs of the network, and tests flow
+//! conservation at each update.
 #![tactic(auto)]
 
 mod closing;
