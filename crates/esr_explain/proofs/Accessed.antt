@@ -14,7 +14,7 @@ use Rattle.esr_history.specs.declared.event.Reply.{Reply}
 use Rattle.esr_history.specs.declared.event.Entry.{Entry}
 use Rattle.esr_history.specs.Events.{written, last_value}
 use Rattle.esr_history.specs.Machine.{DistanceFunction, Schedule, IsLegal}
-use Rattle.esr_history.specs.Operations.{OperationKind, operation_by, operation_of, operations}
+use Rattle.esr_history.specs.Operations.{Operation, operation_by, operation_of, operations}
 use Rattle.esr_history.specs.Ranges.{IsWithinRanges}
 use Rattle.esr_history.specs.Serial.{state, values_by}
 use Rattle.esr_history.specs.Queries.{reads_by}
@@ -27,11 +27,11 @@ use Rattle.esr_explain.specs.declared.reads.ComparedRead.{ComparedRead}
 use Rattle.esr_explain.specs.Explain.{compared_access}
 use Rattle.esr_explain.specs.ValuesAfter.{apply_access, apply_accesses}
 
-abbrev by : ℕ → OperationKind → Bool
+abbrev by : ℕ → Operation → Bool
 by t o = eqb o.txn t
 
 -- the accesses of t among some operations
-abbrev accesses_by : ℕ → List OperationKind → List Access
+abbrev accesses_by : ℕ → List Operation → List Access
 accesses_by t os = map access_of (filter (by t) os)
 
 -- ---- values
@@ -40,7 +40,7 @@ accesses_by t os = map access_of (filter (by t) os)
 abbrev pub put_in : ℕ → Access → Option ℤ
 put_in x a = if a.writes && (eqb a.item.0 x) then Some a.value else None
 
-written_next : (x t : ℕ) (ev : Event) (r : Reply) (os : List OperationKind) (R : List ℤ) → filter_map (put_in x) (accesses_by t os) ≡ R
+written_next : (x t : ℕ) (ev : Event) (r : Reply) (os : List Operation) (R : List ℤ) → filter_map (put_in x) (accesses_by t os) ≡ R
     → filter_map (put_in x) (accesses_by t (cons_option (operation_by ev r) os)) ≡ cons_option (written (λ u. eqb u t) x ev) R
 written_next x t (BeginUpdate l) r os R rest = rest
 written_next x t (BeginQuery l s) r os R rest = rest
@@ -126,15 +126,15 @@ abbrev pub IsInside : ℕ → ℕ → ℤ → Type 0
 IsInside n x v = IsValue v × (x < n)
 
 -- the reads among the accesses of q are its reads
-reads_of : (q : ℕ) (f : ItemId → ℤ → ComparedRead) (os : List OperationKind)
+reads_of : (q : ℕ) (f : ItemId → ℤ → ComparedRead) (os : List Operation)
     → flat_map (λ (a : Access). if a.writes then [] else f a.item a.value ∷ []) (accesses_by q os)
-    ≡ map (λ (o : OperationKind). f (record { 0 = o.item }) o.value) (filter (λ (o : OperationKind). not o.writes && (eqb o.txn q)) os)
+    ≡ map (λ (o : Operation). f (record { 0 = o.item }) o.value) (filter (λ (o : Operation). not o.writes && (eqb o.txn q)) os)
 reads_of q f [] = refl
 reads_of q f (o ∷ os) = grind (arith, eqb, reads_of q f os, filter, flat_map, map, cond, filter (by q) os)
 
 pub reads_are_within : (h : Schedule) (q : ℕ) (f : ItemId → ℤ → ComparedRead)
     → flat_map (λ (a : Access). if a.writes then [] else f a.item a.value ∷ []) (accesses_in h.entries q)
-    ≡ map (λ (o : OperationKind). f (record { 0 = o.item }) o.value) (reads_by h q)
+    ≡ map (λ (o : Operation). f (record { 0 = o.item }) o.value) (reads_by h q)
 reads_are_within h q f = reads_of q f (operations h)
 
 -- the reads of one access more
@@ -151,7 +151,7 @@ reads_agree D v w n same (a ∷ xs) all =
 
 -- ---- ranges
 
-inside_of : (n t : ℕ) (os : List OperationKind) → AllByRecursion (λ (o : OperationKind). IsInside n o.item o.value) os → AllByRecursion (λ (a : Access). IsInside n a.item.0 a.value) (accesses_by t os)
+inside_of : (n t : ℕ) (os : List Operation) → AllByRecursion (λ (o : Operation). IsInside n o.item o.value) os → AllByRecursion (λ (a : Access). IsInside n a.item.0 a.value) (accesses_by t os)
 inside_of n t [] all = tt
 inside_of n t (o ∷ os) all = at (eqb o.txn t) (inside_of n t os all.1)
   where
@@ -170,8 +170,8 @@ module _ (d : DistanceFunction) (h : Schedule) (opened : All IsValue h.opening) 
   accesses_inside t =
       let range : IsWithinRanges h = legal_within_ranges d h opened legal in
       inside_of (length h.opening) t (operations h)
-      (both (λ (o : OperationKind). IsValue o.value) (λ (o : OperationKind). o.item < length h.opening) (operations h)
-      (recursion_from_All (λ (o : OperationKind). IsValue o.value) (operations h) range.values) (recursion_from_All (λ (o : OperationKind). o.item < length h.opening) (operations h) range.items))
+      (both (λ (o : Operation). IsValue o.value) (λ (o : Operation). o.item < length h.opening) (operations h)
+      (recursion_from_All (λ (o : Operation). IsValue o.value) (operations h) range.values) (recursion_from_All (λ (o : Operation). o.item < length h.opening) (operations h) range.items))
 
   pub accesses_valued : (t : ℕ) → All (λ (a : Access). IsValue a.value) (accesses_in h.entries t)
   accesses_valued t = grind (arith, All-from_recursion, accesses_inside t)
