@@ -1,5 +1,5 @@
 -- The accesses are those that are shown.
 
-pub mod Accessed
 pub mod Amongst
+pub mod Compared
 pub mod Sent

@@ -2,4 +2,3 @@
 
 pub mod Explain
 pub mod Output
-pub mod ValuesAfter

@@ -4,7 +4,6 @@
 //! also shows the value at the nearest placement, so the differences add up to the distance.
 #![tactic(auto)]
 
-mod accesses;
 mod charges;
 mod explained;
 mod query;

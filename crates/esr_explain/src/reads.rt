@@ -4,11 +4,11 @@ ghost use Rattle.esr_items.specs.Values.{value_at, IsValue};
 ghost use Rattle.esr_items.specs.Weights.{weighted};
 ghost use Rattle.esr_explain.specs.Explain.{compared_access, compared_read, compared_reads, named_read_line, read_line};
 
-use crate::accesses::values_after;
 use crate::charges::name_of_item;
 use esr_history::{History, TxnId};
 use esr_items::{ItemId, Metric, Weighted};
 use esr_order::{Access, accesses_of};
+use esr_outcomes::Auditor;
 use esr_report::{Names, push_line};
 use std::alloc::{AllocError, Global};
 
@@ -75,7 +75,8 @@ pub fn compared_reads(
         ≡ compared_reads weighted history.now.schedule q.0 (map (λ t. t.0) before.now)) }
 {
     let _invariant = history.log(); // brings the invariant into the proof
-    let values = values_after(alloc, history, before)?;
+    let auditor = Auditor::of(alloc, history)?;
+    let values = auditor.values_after(alloc, before)?;
     let accesses = accesses_of(alloc, history, q)?;
     compare_all(alloc, history.metric(), &accesses, &values)
 }

@@ -1,13 +1,7 @@
--- The entries of a log, place by place.
+-- The elements of a list of the values of a function.
 use Rattle.std.proofs.Common.{◌≡◌, ◌∙◌, ℕ, ◌+◌, ◌-◌, ◌≤◌, List, [], ◌∷◌, ◌++◌, ap, ap₂, sym, length, take, Some, map, slice_get, get_or, arith}
 use Rattle.std.specs.List.{range_with_len}
-use Rattle.std.proofs.lemmas.List.{take_more}
 use Rattle.std.proofs.lemmas.List.FromFn.{get_or-map-range_with_len, length-map-range_with_len, map-range_with_len_more}
-use Rattle.std.proofs.lemmas.Option.{slice_get_within, get_or_from_slice_get}
-
--- one entry more
-pub take_next : {X : Type 0} (xs : List X) (i : ℕ) (x : X) → slice_get xs i ≡ Some x → take (i + 1) xs ≡ take i xs ++ x ∷ []
-take_next xs i x is = take_more xs i x (slice_get_within xs i x is) ∙ ap (λ y. take i xs ++ y ∷ []) (get_or_from_slice_get xs i x x is)
 
 -- an element of a list of a function's values
 pub value_there : (f : ℕ → ℕ) (n t : ℕ) (xs : List ℕ) (x : ℕ) → xs ≡ map f (range_with_len 0 (n + 1)) → t ≤ n → x ≡ get_or xs t x → x ≡ f t
@@ -18,16 +12,6 @@ pub value_missing : (f : ℕ → ℕ) (n t : ℕ) (xs : List ℕ) → xs ≡ map
 value_missing f n t xs is low past =
     let long : length xs ≡ n + 1 = ap length is ∙ length-map-range_with_len f 0 (n + 1) in
     omega (arith, long, low, past)
-
--- an element of a list of the values from transaction 1 on
-pub begun_there : {X : Type 0} (f : ℕ → X) (n t : ℕ) (xs : List X) (x : X) → xs ≡ map f (range_with_len 1 n) → 1 ≤ t → t ≤ n → x ≡ get_or xs (t - 1) x → x ≡ f t
-begun_there f n t xs x is low high same =
-    same ∙ (ap (λ l. get_or l (t - 1) x) is ∙ get_or-map-range_with_len f 1 n (t - 1) t x (omega (arith, low, high)) (omega (arith, low)))
-
-pub begun_missing : {X : Type 0} (f : ℕ → X) (n t : ℕ) (xs : List X) → xs ≡ map f (range_with_len 1 n) → 1 ≤ t → t ≤ n → length xs ≤ t - 1 → ⊥
-begun_missing f n t xs is low high past =
-    let long : length xs ≡ n = ap length is ∙ length-map-range_with_len f 1 n in
-    omega (arith, long, low, high, past)
 
 pub value_more : {X : Type 0} (f : ℕ → X) (n : ℕ) (xs new : List X) (x : X) → xs ≡ map f (range_with_len 1 n) → new ≡ xs ++ x ∷ [] → x ≡ f (n + 1) → new ≡ map f (range_with_len 1 (n + 1))
 value_more f n xs new x so_far grew is = grew ∙ (ap₂ (λ l y. l ++ y ∷ []) so_far is ∙ sym (map-range_with_len_more f 1 n (n + 1) (omega arith)))

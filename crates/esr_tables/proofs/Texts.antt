@@ -6,25 +6,6 @@ use Rattle.std.proofs.lemmas.Grind.{flat_map-append}
 use Rattle.std.proofs.lemmas.List.{take_more, map-append}
 use Rattle.std.proofs.lemmas.List.FromFn.{map-range_with_len_more}
 
--- the line of one row more, of rows that are the values of a function
-pub one_row_more : {X : Type 0} (f : X → List ℕ) (row : ℕ → X) (out : List ℕ) (n : ℕ) (x : X) (before after : List ℕ)
-    → before ≡ out ++ flat_map f (map row (range_with_len 1 n)) → x ≡ row (n + 1) → after ≡ before ++ f x
-    → after ≡ out ++ flat_map f (map row (range_with_len 1 (n + 1)))
-one_row_more f row out n x before after before_it is grew =
-    let rows = map row (range_with_len 1 n) in
-    let next = row (n + 1) in
-    grew
-    ∙ (ap₂ (λ l y. l ++ f y) before_it is
-    ∙ (append_assoc out (flat_map f rows) (f next)
-    ∙ ap (λ l. out ++ l)
-    (ap (λ l. flat_map f rows ++ l) (sym (append-nil (f next)))
-    ∙ (sym (flat_map-append f rows (next ∷ [])) ∙ ap (flat_map f) (sym (map-range_with_len_more row 1 n (n + 1) (omega arith)))))))
-
--- after the last
-pub all_rows : {X : Type 0} (f : X → List ℕ) (row : ℕ → X) (out : List ℕ) (n i : ℕ) (after : List ℕ) → i ≡ n
-    → after ≡ out ++ flat_map f (map row (range_with_len 1 i)) → after ≡ out ++ flat_map f (map row (range_with_len 1 n))
-all_rows f row out n i after all before_it = before_it ∙ ap (λ k. out ++ flat_map f (map row (range_with_len 1 k))) all
-
 -- ---- fields after commas
 
 abbrev comma : List ℕ → List ℕ

@@ -3,10 +3,10 @@ use Rattle.std.specs.Prelude.{ℕ, List, [], ◌∷◌, ◌++◌, codes, decimal
 use Rattle.std.specs.List.{flat_map}
 use Rattle.esr_history.specs.Machine.{DistanceFunction, Schedule}
 use Rattle.esr_report.specs.Names.{name_of_transaction}
-use Rattle.esr_tables.specs.declared.kinds.RowKind.{RowKind}
-use Rattle.esr_tables.specs.declared.kinds.RowKind.TheVariants.{Update, Query, Strict}
-use Rattle.esr_tables.specs.declared.rows.RowOutcome.{RowOutcome}
-use Rattle.esr_tables.specs.declared.rows.RowOutcome.TheVariants.{Committed, Aborted, Active}
+use Rattle.esr_outcomes.specs.declared.kind.TxnKind.{TxnKind}
+use Rattle.esr_outcomes.specs.declared.kind.TxnKind.TheVariants.{Update, Query, StrictQuery}
+use Rattle.esr_outcomes.specs.declared.outcome.TxnOutcome.{TxnOutcome}
+use Rattle.esr_outcomes.specs.declared.outcome.TxnOutcome.TheVariants.{Committed, Aborted, Active}
 use Rattle.esr_tables.specs.declared.rows.Row.{Row}
 use Rattle.esr_tables.specs.Rows.{rows_of}
 
@@ -18,12 +18,12 @@ separated fields = flat_map (λ field. 44 ∷ field) fields
 abbrev pub csv_line : (first : List ℕ) (rest : List (List ℕ)) → List ℕ
 csv_line first rest = first ++ (separated rest ++ 10 ∷ [])
 
-abbrev pub kind_word : RowKind → List ℕ
+abbrev pub kind_word : TxnKind → List ℕ
 kind_word Update = codes "update"
 kind_word Query = codes "query"
-kind_word Strict = codes "strict"
+kind_word StrictQuery = codes "strict"
 
-abbrev pub outcome_word : RowOutcome → List ℕ
+abbrev pub outcome_word : TxnOutcome → List ℕ
 outcome_word Committed = codes "committed"
 outcome_word Aborted = codes "aborted"
 outcome_word Active = codes "active"
@@ -43,12 +43,12 @@ head =
 abbrev pub amounts : Row → List (List ℕ)
 amounts r =
     decimal r.limit ∷ decimal r.charged ∷ decimal r.left ∷ decimal r.tally.reads ∷ decimal r.tally.writes
-    ∷ decimal r.tally.by_lock ∷ decimal r.tally.by_import ∷ decimal r.tally.by_export ∷ []
+    ∷ decimal r.tally.blocked_by_lock ∷ decimal r.tally.blocked_by_import ∷ decimal r.tally.blocked_by_export ∷ []
 
 -- a row, with the name of its transaction and its first and last lines
 abbrev pub row_line : List ℕ → Row → (first last : ℕ) → List ℕ
 row_line name r first last = csv_line (decimal r.number.0) (
-    name ∷ kind_word r.kind ∷ amounts r ++ outcome_word r.end ∷ decimal_or_empty r.distance ∷ decimal first ∷ decimal last ∷ []
+    name ∷ kind_word r.kind ∷ amounts r ++ outcome_word r.outcome ∷ decimal_or_empty r.distance ∷ decimal first ∷ decimal last ∷ []
     )
 
 -- the line of a row, given the names of the transactions and their first and last lines

@@ -4,7 +4,7 @@
 //! format is. Rejected: a `ScriptView` that audits one query after another.
 
 use crate::format::Data;
-use crate::words::{push_number, push_word};
+use crate::words::{Content, push_members, push_name_array, push_number};
 use esr_audit::{Summaries, Summary};
 use esr_history::{History, TxnId};
 use esr_items::Weighted;
@@ -46,37 +46,21 @@ fn push_csv(out: &mut String, audited: Audited<'_>) -> Result<(), AllocError> {
     out.push_str("\n")
 }
 
-/// Appends a field with a number.
-fn push_field(out: &mut String, field: &str, number: u64) -> Result<(), AllocError> {
-    push_word(out, field)?;
-    out.push_str(":")?;
-    push_number(out, number)?;
-    out.push_str(",")
-}
-
 /// Appends a query's object as JSON.
 fn push_json(out: &mut String, audited: Audited<'_>) -> Result<(), AllocError> {
     let summary = audited.summary;
+    let fields = [
+        ("number", Content::Number(u64::from(summary.query.0))),
+        ("name", Content::Word(audited.name)),
+        ("limit", Content::Number(audited.limit)),
+        ("import", Content::Number(summary.import)),
+        ("distance", Content::Number(summary.distance)),
+    ];
     out.push_str("{")?;
-    push_field(out, "number", u64::from(summary.query.0))?;
-    out.push_str("\"name\":")?;
-    push_word(out, audited.name)?;
-    out.push_str(",")?;
-    push_field(out, "limit", audited.limit)?;
-    push_field(out, "import", summary.import)?;
-    push_field(out, "distance", summary.distance)?;
-    out.push_str("\"before\":")?;
-    let mut before = "[";
-    for update in audited.before {
-        out.push_str(before)?;
-        push_word(out, name_of_transaction(audited.transactions, *update))?;
-        before = ",";
-    }
-    out.push_str(if audited.before.is_empty() {
-        "[]}\n"
-    } else {
-        "]}\n"
-    })
+    push_members(out, &fields)?;
+    out.push_str(",\"before\":")?;
+    push_name_array(out, audited.transactions, audited.before)?;
+    out.push_str("}\n")
 }
 
 /// Appends the audit of a query.

@@ -1,41 +1,36 @@
 //! A ledger as CSV (RFC 4180): a line of the names of the fields, then a line for each row. Lines end as all lines of
 //! this program do, with a line feed. No field is quoted: names are letters, digits and `_`.
 
-ghost use Rattle.std.specs.Prelude.{◌≡◌, ◌++◌, ◌∷◌, [], OnOk, decimal, map};
+ghost use Rattle.std.specs.Prelude.{◌≡◌, ◌++◌, ◌∷◌, [], IfOk, OnOk, decimal, map};
 ghost use Rattle.std.specs.List.{flat_map};
-ghost use Rattle.esr_items.specs.Weights.{weighted};
 ghost use Rattle.esr_tables.specs.Csv.{amounts, separated, outcome_word, head, kind_word, named_line, decimal_or_empty, row_line};
-ghost use Rattle.esr_tables.specs.Entries.{AreColumns};
-ghost use Rattle.esr_tables.specs.Rows.{rows_of};
 ghost use Rattle.esr_tables.specs.Spans.{first_of, last_of};
 
-use crate::kinds::RowKind;
-use crate::rows::{Columns, Row, RowOutcome, row_at};
+use crate::rows::Row;
 use crate::spans::{LineSpan, Spans};
-use esr_history::History;
-use esr_items::Weighted;
+use esr_outcomes::{TxnKind, TxnOutcome};
 use esr_report::{Names, name_of_transaction};
-use std::alloc::AllocError;
+use std::alloc::{AllocError, Global};
 
 /// Returns the name of a kind.
-pub fn kind_word(kind: RowKind) -> &'static str
+pub fn kind_word(kind: TxnKind) -> &'static str
     ensures { result.now ≡ kind_word kind }
 {
     match kind {
-        RowKind::Update => "update",
-        RowKind::Query => "query",
-        RowKind::Strict => "strict",
+        TxnKind::Update => "update",
+        TxnKind::Query => "query",
+        TxnKind::StrictQuery => "strict",
     }
 }
 
-/// Returns the name of an end.
-pub fn outcome_word(end: RowOutcome) -> &'static str
-    ensures { result.now ≡ outcome_word end }
+/// Returns the name of an outcome.
+pub fn outcome_word(outcome: TxnOutcome) -> &'static str
+    ensures { result.now ≡ outcome_word outcome }
 {
-    match end {
-        RowOutcome::Committed => "committed",
-        RowOutcome::Aborted => "aborted",
-        RowOutcome::Active => "active",
+    match outcome {
+        TxnOutcome::Committed => "committed",
+        TxnOutcome::Aborted => "aborted",
+        TxnOutcome::Active => "active",
     }
 }
 
@@ -84,9 +79,9 @@ fn push_amounts_and_counts(out: &mut Vec<u8>, row: &Row) -> Result<(), AllocErro
     let mut left = itoa::Buffer::new();
     let mut reads = itoa::Buffer::new();
     let mut writes = itoa::Buffer::new();
-    let mut by_lock = itoa::Buffer::new();
-    let mut by_import = itoa::Buffer::new();
-    let mut by_export = itoa::Buffer::new();
+    let mut blocked_by_lock = itoa::Buffer::new();
+    let mut blocked_by_import = itoa::Buffer::new();
+    let mut blocked_by_export = itoa::Buffer::new();
     push_all_fields(
         out,
         &[
@@ -95,9 +90,9 @@ fn push_amounts_and_counts(out: &mut Vec<u8>, row: &Row) -> Result<(), AllocErro
             left.format(row.left),
             reads.format(row.tally.reads),
             writes.format(row.tally.writes),
-            by_lock.format(row.tally.by_lock),
-            by_import.format(row.tally.by_import),
-            by_export.format(row.tally.by_export),
+            blocked_by_lock.format(row.tally.blocked_by_lock),
+            blocked_by_import.format(row.tally.blocked_by_import),
+            blocked_by_export.format(row.tally.blocked_by_export),
         ],
     )
 }
@@ -127,7 +122,7 @@ fn push_row(out: &mut Vec<u8>, name: &str, row: &Row, span: LineSpan) -> Result<
     push_field(out, name)?;
     push_field(out, kind_word(row.kind))?;
     push_amounts_and_counts(out, row)?;
-    push_field(out, outcome_word(row.end))?;
+    push_field(out, outcome_word(row.outcome))?;
     push_distance(out, row.distance)?;
     push_line_span(out, span)?;
     out.push(b'\n')?;
@@ -138,40 +133,48 @@ fn push_row(out: &mut Vec<u8>, name: &str, row: &Row, span: LineSpan) -> Result<
 pub const HEAD: &str =
     "number,name,kind,limit,charged,left,reads,writes,blocked_by_lock,blocked_by_import,blocked_by_export,end,distance,first_line,last_line\n";
 
+/// Appends the line of a row.
+fn push_named_row(
+    out: &mut Vec<u8>,
+    transactions: &Names,
+    spans: &Spans,
+    row: &Row,
+) -> Result<(), AllocError>
+    ensures { OnOk result (out.new.items ≡ out.old.items
+        ++ named_line transactions.now (first_of spans.now) (last_of spans.now) row.now) }
+{
+    let name = name_of_transaction(transactions, row.number);
+    push_row(out, name, row, spans.of(row.number))
+}
+
 /// Appends the lines of all rows.
 fn push_rows(
     out: &mut Vec<u8>,
     transactions: &Names,
-    history: &History<Weighted>,
-    columns: &Columns,
     spans: &Spans,
+    rows: &[Row],
 ) -> Result<(), AllocError>
-    requires { AreColumns history.now.schedule columns.now }
     ensures { OnOk result (out.new.items ≡ out.old.items
-        ++ flat_map (named_line transactions.now (first_of spans.now) (last_of spans.now))
-        (rows_of weighted history.now.schedule)) }
+        ++ flat_map (named_line transactions.now (first_of spans.now) (last_of spans.now)) rows.now) }
 {
-    for place in 0..history.begun_count() {
-        let row = row_at(history, columns, place);
-        let name = name_of_transaction(transactions, row.number);
-        push_row(out, name, &row, spans.of(row.number))?;
+    for row in rows {
+        push_named_row(out, transactions, spans, row)?;
     }
     Ok(())
 }
 
-/// Appends a ledger.
-pub fn push_ledger(
-    out: &mut Vec<u8>,
+/// Returns a ledger as CSV.
+pub fn ledger_csv(
+    alloc: Global,
     transactions: &Names,
-    history: &History<Weighted>,
-    columns: &Columns,
     spans: &Spans,
-) -> Result<(), AllocError>
-    requires { AreColumns history.now.schedule columns.now }
-    ensures { OnOk result (out.new.items ≡ out.old.items ++ head
-        ++ flat_map (named_line transactions.now (first_of spans.now) (last_of spans.now))
-        (rows_of weighted history.now.schedule)) }
+    rows: &[Row],
+) -> Result<Vec<u8>, AllocError>
+    ensures { IfOk result (λ text. text.items ≡ head
+        ++ flat_map (named_line transactions.now (first_of spans.now) (last_of spans.now)) rows.now) }
 {
+    let mut out = Vec::new(alloc);
     out.extend_from_slice(HEAD.as_bytes())?;
-    push_rows(out, transactions, history, columns, spans)
+    push_rows(&mut out, transactions, spans, rows)?;
+    Ok(out)
 }

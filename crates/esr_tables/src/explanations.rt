@@ -2,7 +2,7 @@
 //! JSON.
 
 use crate::format::Data;
-use crate::words::{push_number, push_word};
+use crate::words::{Content, Field, push_cell, push_members, push_name_array, push_word};
 use esr_explain::{Charge, ComparedRead, Explanation, OperationKind, name_of_item};
 use esr_history::TxnId;
 use esr_report::{Names, name_of_transaction};
@@ -14,17 +14,6 @@ use std::alloc::{AllocError, Global};
 pub struct ExplanationTable {
     pub data: Data,
 }
-
-/// The value of a field.
-#[derive(Clone, Copy)]
-enum FieldValue<'a> {
-    Word(&'a str),
-    Amount(u64),
-    Value(i64),
-}
-
-/// A field of a row: its name and its value.
-type Field<'a> = (&'static str, FieldValue<'a>);
 
 /// The columns after the first, which contains the kind of the row.
 const COLUMNS: [&str; 14] = [
@@ -54,13 +43,10 @@ struct ScriptNames<'a> {
 /// Returns the fields of a read.
 fn read_fields<'a>(names: ScriptNames<'a>, read: ComparedRead) -> [Field<'a>; 4] {
     [
-        (
-            "item",
-            FieldValue::Word(name_of_item(names.items, read.item)),
-        ),
-        ("value", FieldValue::Value(read.value)),
-        ("nearest", FieldValue::Value(read.nearest_value)),
-        ("off", FieldValue::Amount(read.distance)),
+        ("item", Content::Word(name_of_item(names.items, read.item))),
+        ("value", Content::Value(read.value)),
+        ("nearest", Content::Value(read.nearest_value)),
+        ("off", Content::Number(read.distance)),
     ]
 }
 
@@ -79,45 +65,35 @@ fn charge_fields<'a>(names: ScriptNames<'a>, charge: Charge) -> [Field<'a>; 9] {
     [
         (
             "operation",
-            FieldValue::Word(operation_word(conflict.operation)),
+            Content::Word(operation_word(conflict.operation)),
         ),
-        ("update", FieldValue::Word(update)),
+        ("update", Content::Word(update)),
         (
             "item",
-            FieldValue::Word(name_of_item(names.items, conflict.item)),
+            Content::Word(name_of_item(names.items, conflict.item)),
         ),
-        ("amount", FieldValue::Amount(charge.amount)),
-        ("step", FieldValue::Amount(charge.step)),
-        ("import_left", FieldValue::Amount(charge.import_left)),
-        ("import_limit", FieldValue::Amount(charge.import_limit)),
-        ("export_left", FieldValue::Amount(charge.export_left)),
-        ("export_limit", FieldValue::Amount(charge.export_limit)),
+        ("amount", Content::Number(charge.amount)),
+        ("step", Content::Number(charge.step)),
+        ("import_left", Content::Number(charge.import_left)),
+        ("import_limit", Content::Number(charge.import_limit)),
+        ("export_left", Content::Number(charge.export_left)),
+        ("export_limit", Content::Number(charge.export_limit)),
     ]
 }
 
 /// Returns the fields of the sums.
 fn sums_fields(explained: &Explanation<'_>) -> [Field<'static>; 2] {
     [
-        ("distance", FieldValue::Amount(explained.distance)),
-        ("import", FieldValue::Amount(explained.import)),
+        ("distance", Content::Number(explained.distance)),
+        ("import", Content::Number(explained.import)),
     ]
 }
 
-/// Appends a value that a read returned or would return.
-fn push_value(out: &mut String, value: i64) -> Result<(), AllocError> {
-    let mut digits = itoa::Buffer::new();
-    out.push_str(digits.format(value))
-}
-
 /// Appends the value of the field with this name, or nothing if no field has it.
-fn push_cell(out: &mut String, fields: &[Field<'_>], name: &str) -> Result<(), AllocError> {
+fn push_field(out: &mut String, fields: &[Field<'_>], name: &str) -> Result<(), AllocError> {
     for (field, value) in fields {
         if *field == name {
-            return match *value {
-                FieldValue::Word(word) => out.push_str(word),
-                FieldValue::Amount(amount) => push_number(out, amount),
-                FieldValue::Value(value) => push_value(out, value),
-            };
+            return push_cell(out, *value);
         }
     }
     Ok(())
@@ -128,7 +104,7 @@ fn push_row(out: &mut String, kind: &str, fields: &[Field<'_>]) -> Result<(), Al
     out.push_str(kind)?;
     for column in COLUMNS.iter() {
         out.push_str(",")?;
-        push_cell(out, fields, column)?;
+        push_field(out, fields, column)?;
     }
     out.push_str("\n")
 }
@@ -152,7 +128,7 @@ fn push_update_rows(
 ) -> Result<(), AllocError> {
     for update in updates {
         let name = name_of_transaction(names.transactions, *update);
-        push_row(out, kind, &[("update", FieldValue::Word(name))])?;
+        push_row(out, kind, &[("update", Content::Word(name))])?;
     }
     Ok(())
 }
@@ -197,23 +173,6 @@ fn explanation_csv(
     Ok(out)
 }
 
-/// Appends fields as members of an object.
-fn push_members(out: &mut String, fields: &[Field<'_>]) -> Result<(), AllocError> {
-    let mut between = "";
-    for (field, value) in fields {
-        out.push_str(between)?;
-        push_word(out, field)?;
-        out.push_str(":")?;
-        match *value {
-            FieldValue::Word(word) => push_word(out, word)?,
-            FieldValue::Amount(amount) => push_number(out, amount)?,
-            FieldValue::Value(value) => push_value(out, value)?,
-        }
-        between = ",";
-    }
-    Ok(())
-}
-
 /// Appends an array with an object for each read.
 fn push_read_objects(
     out: &mut String,
@@ -244,21 +203,6 @@ fn push_charge_objects(
     out.push_str(if charges.is_empty() { "[]" } else { "}]" })
 }
 
-/// Appends an array of the names of some updates.
-fn push_name_array(
-    out: &mut String,
-    names: ScriptNames<'_>,
-    updates: &[TxnId],
-) -> Result<(), AllocError> {
-    let mut open = "[";
-    for update in updates {
-        out.push_str(open)?;
-        push_word(out, name_of_transaction(names.transactions, *update))?;
-        open = ",";
-    }
-    out.push_str(if updates.is_empty() { "[]" } else { "]" })
-}
-
 /// Returns an explanation as JSON.
 fn explanation_json(
     alloc: Global,
@@ -274,9 +218,9 @@ fn explanation_json(
     out.push_str(",\"charges\":")?;
     push_charge_objects(&mut out, names, &explained.charges)?;
     out.push_str(",\"before\":")?;
-    push_name_array(&mut out, names, explained.before)?;
+    push_name_array(&mut out, names.transactions, explained.before)?;
     out.push_str(",\"after\":")?;
-    push_name_array(&mut out, names, &explained.after)?;
+    push_name_array(&mut out, names.transactions, &explained.after)?;
     out.push_str(",")?;
     push_members(&mut out, &sums_fields(explained))?;
     out.push_str("}\n")?;

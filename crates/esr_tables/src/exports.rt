@@ -2,19 +2,27 @@
 //! memory of a second run; the machine is dropped before the rows are built. If no query imported anything, no update
 //! exported anything, and nothing is replayed.
 
-ghost use Rattle.std.specs.Prelude.{◌≡◌, ◌≤◌, ◌+◌, true, map, replicate, IfOk};
+ghost use Rattle.std.specs.Prelude.{◌≡◌, ◌<◌, ◌≤◌, ◌+◌, true, map, replicate, IfOk};
 ghost use Rattle.std.specs.List.{range_with_len};
 ghost use Rattle.esr_history.specs.BackLinks.{begun_count};
 ghost use Rattle.esr_history.specs.Machine.{charges_in, export_in};
 ghost use Rattle.esr_history.specs.Totals.{all_imports};
 ghost use Rattle.esr_items.specs.Weights.{weighted};
 
-use crate::distances::txn_at;
 use esr_core::Machine;
 use esr_history::{History, NoMemory, TxnId};
 use esr_items::Weighted;
 use esr_replay::{MetricRef, Replay};
 use std::alloc::{AllocError, Global};
+
+/// Returns the transaction that began after `place` others.
+pub fn txn_at(history: &History<Weighted>, place: usize) -> TxnId
+    requires { place < begun_count history.now.schedule.entries }
+    ensures { result.0 ≡ place + 1 }
+{
+    let _invariant = history.log(); // brings the invariant into the proof
+    TxnId(place as u32 + 1)
+}
 
 /// Returns what the transactions of a machine exported, starting with the nonexistent transaction 0.
 fn exports_in(

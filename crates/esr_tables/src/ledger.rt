@@ -1,19 +1,15 @@
 //! The ledger of a script: a row for each accepted begin, in their order.
 
-ghost use Rattle.std.specs.Prelude.{◌≡◌, IfOk};
-ghost use Rattle.esr_items.specs.Weights.{weighted};
-ghost use Rattle.esr_tables.specs.Csv.{ledger_csv};
-ghost use Rattle.esr_tables.specs.Entries.{AreColumns};
-ghost use Rattle.esr_tables.specs.Spans.{first_of, last_of};
+ghost use Rattle.std.specs.Prelude.{IfOk};
 ghost use Rattle.esr_tables.specs.Written.{IsLedger, IsLedgerOf};
 ghost use Rattle.esr_views.specs.QueryAnswers.{IsRecorded};
 ghost use Rattle.esr_views.specs.State.{ScriptState};
 
-use crate::csv::push_ledger;
+use crate::csv::ledger_csv;
 use crate::format::Format;
 use crate::json::ledger_json;
-use crate::rows::{Columns, columns_of};
-use crate::spans::{Spans, spans_in, spans_of};
+use crate::rows::rows_of;
+use crate::spans::{spans_in, spans_of};
 use crate::text::ledger_text;
 use esr_history::History;
 use esr_items::Weighted;
@@ -28,23 +24,6 @@ pub struct Ledger {
     pub format: Format,
 }
 
-/// Returns a ledger as CSV.
-fn ledger_csv(
-    alloc: Global,
-    transactions: &Names,
-    history: &History<Weighted>,
-    columns: &Columns,
-    spans: &Spans,
-) -> Result<Vec<u8>, AllocError>
-    requires { AreColumns history.now.schedule columns.now }
-    ensures { IfOk result (λ text. text.items ≡ ledger_csv weighted history.now.schedule
-        transactions.now (first_of spans.now) (last_of spans.now)) }
-{
-    let mut out = Vec::new(alloc);
-    push_ledger(&mut out, transactions, history, columns, spans)?;
-    Ok(out)
-}
-
 /// Returns the ledger, as CSV, of a history that was not made by a script. Its lines are those of the script that
 /// recreates the history.
 pub fn history_ledger(
@@ -54,11 +33,11 @@ pub fn history_ledger(
 ) -> Result<Vec<u8>, AllocError>
     ensures { IfOk result (λ text. IsLedgerOf history.now.schedule transactions.now text.items) }
 {
-    let Ok(columns) = columns_of(alloc, history) else {
+    let Ok(rows) = rows_of(alloc, history) else {
         return Err(AllocError);
     };
     let spans = spans_in(alloc, history)?;
-    ledger_csv(alloc, transactions, history, &columns, &spans)
+    ledger_csv(alloc, transactions, &spans, &rows)
 }
 
 /// Returns the ledger of a script in this form.
@@ -66,14 +45,14 @@ fn text_in(alloc: Global, recording: &Recording<'_>, format: Format) -> Result<V
     ensures { (s : ScriptState) → IsRecorded s recording.now → IfOk result (λ text. IsLedger format s text.items) }
 {
     let history = &recording.history;
-    let Ok(columns) = columns_of(alloc, history) else {
+    let Ok(rows) = rows_of(alloc, history) else {
         return Err(AllocError);
     };
     let spans = spans_of(alloc, recording)?;
     match format {
-        Format::Text => ledger_text(alloc, &recording.transactions, history, &columns, &spans),
-        Format::Csv => ledger_csv(alloc, &recording.transactions, history, &columns, &spans),
-        Format::Json => ledger_json(alloc, &recording.transactions, history, &columns, &spans),
+        Format::Text => ledger_text(alloc, &recording.transactions, &spans, &rows),
+        Format::Csv => ledger_csv(alloc, &recording.transactions, &spans, &rows),
+        Format::Json => ledger_json(alloc, &recording.transactions, &spans, &rows),
     }
 }
 

@@ -4,6 +4,7 @@
 use crate::csv::{kind_word, outcome_word};
 use crate::rows::Row;
 use crate::spans::LineSpan;
+use crate::words::Content;
 
 /// A column of the ledger.
 #[derive(Clone, Copy)]
@@ -44,14 +45,6 @@ pub const LEDGER_COLUMNS: [(Column, &str, &str); 15] = [
     (Column::LastLine, "last_line", "to"),
 ];
 
-/// The content of a cell.
-#[derive(Clone, Copy)]
-pub enum Content<'a> {
-    Number(u64),
-    Word(&'a str),
-    Nothing,
-}
-
 /// Returns the content of a row's cell.
 pub fn content_of<'a>(column: Column, name: &'a str, row: &Row, span: LineSpan) -> Content<'a> {
     match column {
@@ -63,10 +56,10 @@ pub fn content_of<'a>(column: Column, name: &'a str, row: &Row, span: LineSpan) 
         Column::Remaining => Content::Number(row.left),
         Column::Reads => Content::Number(row.tally.reads),
         Column::Writes => Content::Number(row.tally.writes),
-        Column::BlockedByLock => Content::Number(row.tally.by_lock),
-        Column::BlockedByImport => Content::Number(row.tally.by_import),
-        Column::BlockedByExport => Content::Number(row.tally.by_export),
-        Column::Outcome => Content::Word(outcome_word(row.end)),
+        Column::BlockedByLock => Content::Number(row.tally.blocked_by_lock),
+        Column::BlockedByImport => Content::Number(row.tally.blocked_by_import),
+        Column::BlockedByExport => Content::Number(row.tally.blocked_by_export),
+        Column::Outcome => Content::Word(outcome_word(row.outcome)),
         Column::Distance => match row.distance {
             Some(distance) => Content::Number(distance),
             None => Content::Nothing,

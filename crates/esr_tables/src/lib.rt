@@ -8,12 +8,10 @@
 
 mod audits;
 mod csv;
-mod distances;
 mod explanations;
 mod exports;
 mod format;
 mod json;
-mod kinds;
 mod ledger;
 mod ledger_columns;
 mod rows;

@@ -4,9 +4,9 @@
 ghost use Rattle.std.specs.Prelude.{◌≡◌};
 ghost use Rattle.esr_tables.specs.Spans.{first_of, last_of};
 
-use crate::tallies::txn_of;
 use esr_history::{Entry, History, Refusal, Reply, TxnId};
 use esr_items::Weighted;
+use esr_replay::transaction_of;
 use esr_views::Recording;
 use std::alloc::{AllocError, Global};
 
@@ -53,10 +53,10 @@ impl Spans {
         if is_mistaken(entry.reply) {
             return;
         }
-        let Some(number) = txn_of(entry.event, entry.reply) else {
+        let Some(txn) = transaction_of(entry) else {
             return;
         };
-        if let Some(span) = self.0.get_mut(number as usize) {
+        if let Some(span) = self.0.get_mut(txn.0 as usize) {
             if span.first == 0 {
                 span.first = line;
             }

@@ -3,12 +3,13 @@
 
 ghost use Rattle.std.specs.Prelude.{◌≡◌, ◌<◌, ◌++◌, ◌∷◌, [], List, length, All, IfOk};
 ghost use Rattle.esr_history.specs.declared.event.Entry.{Entry};
-ghost use Rattle.esr_history.specs.BackLinks.{begun_by, txn_of, begun_count};
+ghost use Rattle.esr_history.specs.BackLinks.{begun_count};
 ghost use Rattle.esr_tables.specs.Rows.{tally_of};
-ghost use Rattle.esr_tables.specs.Entries.{with_answer, IsCountable, AreTallies};
+ghost use Rattle.esr_tables.specs.Entries.{with_reply, IsCountable, AreTallies};
 
-use esr_history::{Entry, Event, History, Refusal, Reply};
+use esr_history::{Entry, History, Refusal, Reply};
 use esr_items::Weighted;
+use esr_replay::transaction_of;
 use std::alloc::{AllocError, Global};
 
 /// The counts of a transaction's lines, by their replies.
@@ -19,56 +20,26 @@ pub struct Tally {
     /// Accepted writes.
     pub writes: u64,
     /// Blocked by a lock.
-    pub by_lock: u64,
+    pub blocked_by_lock: u64,
     /// Blocked by the import limit of a query.
-    pub by_import: u64,
+    pub blocked_by_import: u64,
     /// Blocked by the export limit of an update.
-    pub by_export: u64,
+    pub blocked_by_export: u64,
 }
 
 /// No line.
 const NONE: Tally = Tally {
     reads: 0,
     writes: 0,
-    by_lock: 0,
-    by_import: 0,
-    by_export: 0,
+    blocked_by_lock: 0,
+    blocked_by_import: 0,
+    blocked_by_export: 0,
 };
 
-/// Returns the number of the transaction that begins, if one does.
-fn begun_by(reply: Reply) -> Option<u32>
-    ensures { result ≡ begun_by reply }
-{
-    match reply {
-        Reply::Begun(t) => Some(t.0),
-        _ => None,
-    }
-}
-
-/// Returns the number of a line's transaction; for an accepted begin, that of the transaction that begins.
-pub fn txn_of(event: Event, reply: Reply) -> Option<u32>
-    ensures { result ≡ txn_of event reply }
-{
-    match event {
-        Event::BeginUpdate { limit: _ }
-        | Event::BeginQuery {
-            limit: _,
-            strict: _,
-        } => begun_by(reply),
-        Event::Read { txn, item: _ }
-        | Event::Write {
-            txn,
-            item: _,
-            value: _,
-        } => Some(txn.0),
-        Event::Commit { txn } | Event::Abort { txn } => Some(txn.0),
-    }
-}
-
 /// Returns the tally with one more reply.
-fn with_answer(tally: Tally, reply: Reply) -> Tally
+fn with_reply(tally: Tally, reply: Reply) -> Tally
     requires { IsCountable tally }
-    ensures { result ≡ with_answer tally reply }
+    ensures { result ≡ with_reply tally reply }
 {
     match reply {
         Reply::Value(_) => Tally {
@@ -80,15 +51,15 @@ fn with_answer(tally: Tally, reply: Reply) -> Tally
             ..tally
         },
         Reply::Refused(Refusal::BlockedByLock(_)) => Tally {
-            by_lock: tally.by_lock + 1,
+            blocked_by_lock: tally.blocked_by_lock + 1,
             ..tally
         },
         Reply::Refused(Refusal::BlockedByImport(_)) => Tally {
-            by_import: tally.by_import + 1,
+            blocked_by_import: tally.blocked_by_import + 1,
             ..tally
         },
         Reply::Refused(Refusal::BlockedByExport(_)) => Tally {
-            by_export: tally.by_export + 1,
+            blocked_by_export: tally.blocked_by_export + 1,
             ..tally
         },
         _ => tally,
@@ -102,12 +73,12 @@ fn count(tallies: &mut Vec<Tally>, entry: Entry)
     ensures tallies { (es : List Entry) → AreTallies es tallies.old.items
         → AreTallies (es ++ entry ∷ []) tallies.new.items }
 {
-    let Some(number) = txn_of(entry.event, entry.reply) else {
+    let Some(txn) = transaction_of(entry) else {
         return;
     };
-    let t = number as usize;
+    let t = txn.0 as usize;
     if t < tallies.len() {
-        tallies[t] = with_answer(tallies[t], entry.reply);
+        tallies[t] = with_reply(tallies[t], entry.reply);
     }
 }
 

@@ -1,14 +1,9 @@
-//! A ledger for people: columns as wide as their widest cell, numbers aligned right and words left. The rows are
-//! computed twice, for the widths and for the text, so that no cell is stored.
+//! A ledger for people: columns as wide as their widest cell, numbers aligned right and words left.
 
-ghost use Rattle.esr_tables.specs.Entries.{AreColumns};
-
-use crate::ledger_columns::{Column, Content, LEDGER_COLUMNS, content_of};
-use crate::rows::{Columns, Row, row_at};
+use crate::ledger_columns::{Column, LEDGER_COLUMNS, content_of};
+use crate::rows::Row;
 use crate::spans::{LineSpan, Spans};
-use crate::words::push_number;
-use esr_history::History;
-use esr_items::Weighted;
+use crate::words::{Content, push_cell};
 use esr_report::{Names, name_of_transaction};
 use std::alloc::{AllocError, Global};
 
@@ -28,7 +23,7 @@ fn width_of(content: Content<'_>) -> usize {
     match content {
         Content::Number(number) => digits_of(number),
         Content::Word(word) => word.len(),
-        Content::Nothing => 1,
+        Content::Value(_) | Content::Nothing => 1,
     }
 }
 
@@ -63,7 +58,7 @@ fn push_spaces(out: &mut String, count: usize) -> Result<(), AllocError> {
 }
 
 /// Appends the content of a cell, aligned.
-fn push_cell(
+fn push_aligned(
     out: &mut String,
     column: Column,
     content: Content<'_>,
@@ -74,9 +69,8 @@ fn push_cell(
         push_spaces(out, spaces)?;
     }
     match content {
-        Content::Number(number) => push_number(out, number)?,
-        Content::Word(word) => out.push_str(word)?,
         Content::Nothing => out.push_str("-")?,
+        content => push_cell(out, content)?,
     }
     if is_of_words(column) {
         push_spaces(out, spaces)?;
@@ -98,7 +92,7 @@ fn push_heads(out: &mut String, widths: &Widths) -> Result<(), AllocError> {
         if *column != Column::Number {
             out.push_str("  ")?;
         }
-        push_cell(out, *column, Content::Word(head), *width)?;
+        push_aligned(out, *column, Content::Word(head), *width)?;
     }
     out.push_str("\n")
 }
@@ -115,25 +109,17 @@ fn push_row(
         if *column != Column::Number {
             out.push_str("  ")?;
         }
-        push_cell(out, *column, content_of(*column, name, row, span), *width)?;
+        push_aligned(out, *column, content_of(*column, name, row, span), *width)?;
     }
     out.push_str("\n")
 }
 
 /// Returns the widths of the columns of a ledger.
-fn widths_of(
-    transactions: &Names,
-    history: &History<Weighted>,
-    columns: &Columns,
-    spans: &Spans,
-) -> Widths
-    requires { AreColumns history.now.schedule columns.now }
-{
+fn widths_of(transactions: &Names, spans: &Spans, rows: &[Row]) -> Widths {
     let mut widths = Widths::of_heads();
-    for place in 0..history.begun_count() {
-        let row = row_at(history, columns, place);
+    for row in rows {
         let name = name_of_transaction(transactions, row.number);
-        widths.widen(name, &row, spans.of(row.number));
+        widths.widen(name, row, spans.of(row.number));
     }
     widths
 }
@@ -142,19 +128,15 @@ fn widths_of(
 pub fn ledger_text(
     alloc: Global,
     transactions: &Names,
-    history: &History<Weighted>,
-    columns: &Columns,
     spans: &Spans,
-) -> Result<Vec<u8>, AllocError>
-    requires { AreColumns history.now.schedule columns.now }
-{
-    let widths = widths_of(transactions, history, columns, spans);
+    rows: &[Row],
+) -> Result<Vec<u8>, AllocError> {
+    let widths = widths_of(transactions, spans, rows);
     let mut out = String::new(alloc);
     push_heads(&mut out, &widths)?;
-    for place in 0..history.begun_count() {
-        let row = row_at(history, columns, place);
+    for row in rows {
         let name = name_of_transaction(transactions, row.number);
-        push_row(&mut out, &widths, name, &row, spans.of(row.number))?;
+        push_row(&mut out, &widths, name, row, spans.of(row.number))?;
     }
     Ok(out.into_bytes())
 }

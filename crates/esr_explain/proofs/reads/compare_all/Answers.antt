@@ -6,7 +6,7 @@ use Rattle.esr_audit.proofs.Gathered.{value_fits}
 use Rattle.esr_order.specs.declared.accesses.Access.{Access}
 use Rattle.esr_explain.specs.declared.reads.ComparedRead.{ComparedRead}
 use Rattle.esr_explain.specs.Explain.{compared_access, compared_read}
-use Rattle.esr_explain.proofs.Accessed.{reads_more}
+use Rattle.esr_explain.proofs.Compared.{reads_more}
 use Rattle.esr_explain.proofs.reads.compare_all.Goals as goal
 use Rattle.esr_explain.proofs.reads.compare_all.Goals.{then-not-access+in_ok-push, else-not-access}
 

@@ -1,4 +1,4 @@
-use Rattle.std.proofs.Common.{ℕ, Vec, IfOk, subst, sym}
+use Rattle.std.proofs.Common.{ℕ, Vec, IfOk, subst, sym, ◌∙◌}
 use Rattle.std.specs.declared.alloc.Global.{Global}
 use Rattle.esr_tables.specs.declared.format.Format.{Format}
 use Rattle.esr_tables.specs.Spans.{first_of, last_of}
@@ -9,4 +9,5 @@ use Rattle.esr_tables.proofs.ledger.text_in.Goals as goal
 pub returns-in-Csv : goal.returns-in-Csv
 returns-in-Csv c = λ s recorded.
     subst (λ (f : Format). IfOk c.ledger_csv.result (λ (v : Vec ℕ Global). IsLedger f s v.items)) (sym c.in-Csv.is)
-    (csv_written (λ (v : Vec ℕ Global). v.items) s c.args.recording.now recorded (first_of c.in_ok-spans.spans) (last_of c.in_ok-spans.spans) c.ledger_csv.result c.ledger_csv.ensures)
+    (csv_written (λ (v : Vec ℕ Global). v.items) s c.args.recording.now recorded (first_of c.in_ok-spans.spans) (last_of c.in_ok-spans.spans)
+    c.deref.result.now (c.deref.ensures.value ∙ c.in-Ok.ensures) c.ledger_csv.result c.ledger_csv.ensures)

@@ -1,0 +1,6 @@
+-- The kinds and outcomes of transactions, what audits find, and the values after accesses.
+
+pub mod Accessed
+pub mod Begun
+pub mod Ended
+pub mod Found
