@@ -1,11 +1,12 @@
 //! Picture and prose of the queries that were farthest off. A page is given what makes these, and does not know it.
 
-use crate::audits::{Audits, rank};
+use crate::audits::rank;
 use crate::page::Page;
 use crate::rows::{QueryRow, QueryRows, Target};
 use crate::table::MAX_ROWS;
-use esr_audit::{AuditError, Finding, audit_query};
+use esr_audit::Finding;
 use esr_history::TxnId;
+use esr_outcomes::Auditor;
 use esr_report::name_of_transaction;
 use esr_text::{first, push_number};
 use esr_trace::{Audited, Part, QueryTrace, sum_error};
@@ -96,17 +97,20 @@ impl<T: Part, P: Part, W: Part> Page<'_, T, P, W> {
         alloc: Global,
         out: &mut String,
         audited: &Audited<'_>,
+        auditor: &Auditor<'_>,
         lines: &[u32],
         trace: &QueryTrace,
     ) -> Result<(), AllocError> {
         let name = name_of_transaction(audited.transactions, audited.finding.query);
         open_part(out, "Timeline", name)?;
-        self.timeline.push(alloc, out, audited, lines, trace)?;
+        self.timeline
+            .push(alloc, out, audited, auditor, lines, trace)?;
         out.push_str("</div>\n")?;
         open_part(out, "Picture", name)?;
-        self.picture.push(alloc, out, audited, lines, trace)?;
+        self.picture
+            .push(alloc, out, audited, auditor, lines, trace)?;
         out.push_str("</div>\n</div>\n")?;
-        self.words.push(alloc, out, audited, lines, trace)
+        self.words.push(alloc, out, audited, auditor, lines, trace)
     }
 
     /// A query with picture and words.
@@ -115,6 +119,7 @@ impl<T: Part, P: Part, W: Part> Page<'_, T, P, W> {
         alloc: Global,
         out: &mut String,
         recording: &Recording<'_>,
+        auditor: &Auditor<'_>,
         finding: &Finding,
         trace: &QueryTrace,
     ) -> Result<(), AllocError> {
@@ -125,33 +130,13 @@ impl<T: Part, P: Part, W: Part> Page<'_, T, P, W> {
             finding,
         };
         let name = name_of_transaction(&recording.transactions, finding.query);
-        let sum_error = sum_error(alloc, &recording.history, finding)?;
+        let sum_error = sum_error(alloc, auditor, finding.query, &finding.before)?;
         push_heading(out, name, finding.distance, sum_error)?;
-        self.push(alloc, out, &audited, recording.lines, trace)?;
+        self.push(alloc, out, &audited, auditor, recording.lines, trace)?;
         write!(
             out,
             "<p><a href='#r-{name}'>{name} in the table</a></p></section>\n"
         )
-    }
-
-    /// A query with picture and words, after one more audit where what was found is not kept.
-    fn push_query(
-        &self,
-        alloc: Global,
-        out: &mut String,
-        recording: &Recording<'_>,
-        audits: &Audits,
-        query: TxnId,
-        trace: &QueryTrace,
-    ) -> Result<(), AllocError> {
-        if let Some(finding) = audits.finding_of(query) {
-            return self.push_explained(alloc, out, recording, finding, trace);
-        }
-        match audit_query(alloc, &recording.history, query) {
-            Ok(finding) => self.push_explained(alloc, out, recording, &finding, trace),
-            Err(AuditError::NoMemory) => Err(AllocError),
-            Err(_) => Ok(()),
-        }
     }
 
     /// Appends pictures and sentences of these queries, which have these traces.
@@ -160,12 +145,14 @@ impl<T: Part, P: Part, W: Part> Page<'_, T, P, W> {
         alloc: Global,
         out: &mut String,
         recording: &Recording<'_>,
-        audits: &Audits,
+        auditor: &Auditor<'_>,
         explained: &[TxnId],
         traces: &[QueryTrace],
     ) -> Result<(), AllocError> {
         for (query, trace) in explained.iter().zip(traces) {
-            self.push_query(alloc, out, recording, audits, *query, trace)?;
+            if let Some(finding) = auditor.finding(alloc, *query)? {
+                self.push_explained(alloc, out, recording, auditor, &finding, trace)?;
+            }
         }
         Ok(())
     }

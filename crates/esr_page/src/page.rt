@@ -198,7 +198,7 @@ fn push_summary(
     out: &mut String,
     origin: Origin<'_>,
     all: &QueryRows<'_>,
-    audits: &Audits,
+    audits: &Audits<'_>,
 ) -> Result<(), AllocError> {
     out.push_str(head())?;
     push_origin(out, origin)?;
@@ -212,7 +212,7 @@ fn push_overview(
     out: &mut String,
     recording: &Recording<'_>,
     all: &mut QueryRows<'_>,
-    audits: &Audits,
+    audits: &Audits<'_>,
 ) -> Result<(), AllocError> {
     push_histogram(alloc, out, &audits.found)?;
     push_charts(alloc, out, all, &audits.found)?;
@@ -260,7 +260,7 @@ impl<T: Part, P: Part, W: Part> Page<'_, T, P, W> {
         alloc: Global,
         out: &mut String,
         recording: &Recording<'_>,
-        audits: &Audits,
+        audits: &Audits<'_>,
         all: &mut QueryRows<'_>,
         explained: &[TxnId],
     ) -> Result<(), AllocError> {
@@ -269,11 +269,11 @@ impl<T: Part, P: Part, W: Part> Page<'_, T, P, W> {
         let worst = first(explained, 1);
         let others = explained.get(1..).unwrap_or(&[]);
         out.push_str(heading_of(&all.rows, worst))?;
-        self.push_details(alloc, out, recording, audits, worst, &traces)?;
+        self.push_details(alloc, out, recording, &audits.auditor, worst, &traces)?;
         push_overview(alloc, out, recording, all, audits)?;
         out.push_str(next_heading_of(others))?;
         let next = traces.get(1..).unwrap_or(&[]);
-        self.push_details(alloc, out, recording, audits, others, next)?;
+        self.push_details(alloc, out, recording, &audits.auditor, others, next)?;
         push_order(out, &recording.transactions, &audits.order)?;
         out.push_str(script())
     }
@@ -283,7 +283,7 @@ impl<T: Part, P: Part, W: Part> Page<'_, T, P, W> {
         &self,
         alloc: Global,
         recording: &Recording<'_>,
-        audits: &Audits,
+        audits: &Audits<'_>,
         count: usize,
     ) -> Result<String, AllocError> {
         let mut all = rows_of(alloc, recording, &audits.found)?;
@@ -298,7 +298,7 @@ impl<T: Part, P: Part, W: Part> Page<'_, T, P, W> {
         ensures { IfOk result (λ text. IsPage text.items) }
     {
         let count = usize::try_from(self.worst).unwrap_or(usize::MAX);
-        let audits = audit_all(alloc, &recording.history, count)?;
+        let audits = audit_all(alloc, &recording.history)?;
         let body = self.body(alloc, recording, &audits, count)?;
         document(alloc, body)
     }

@@ -1,21 +1,12 @@
-//! The row of each query in the table and the charts. One pass over the log counts reads and finds strict queries; the
-//! results of the audits are added.
+//! The row of each query in the table and the charts. One pass over the log counts reads; the results of the audits
+//! are added.
 
 use crate::audits::AuditedDistance;
-use esr_history::{Entry, Event, History, Reply, TxnId};
-use esr_items::Weighted;
+use esr_history::{Entry, Event, Reply, TxnId};
+use esr_outcomes::{TxnKind, TxnOutcome, kind_at, kinds_of, outcome_of};
 use esr_report::name_of_transaction;
 use esr_views::Recording;
 use std::alloc::{AllocError, Global};
-
-/// The outcome of a query.
-#[derive(Clone, Copy)]
-pub enum QueryEnd {
-    /// Committed, with the distance to the nearest serial placement and the error of its sum.
-    Committed { distance: u64, sum_error: u64 },
-    Aborted,
-    Active,
-}
 
 /// Where links to a query lead.
 #[derive(Clone, Copy, PartialEq, Eq)]
@@ -37,25 +28,21 @@ pub struct QueryRow<'a> {
     pub limit: u64,
     pub charged: u64,
     pub reads: u64,
-    pub end: QueryEnd,
+    pub outcome: TxnOutcome,
+    /// What its audit found, if it has committed.
+    pub audited: Option<AuditedDistance>,
     pub target: Target,
 }
 
 impl QueryRow<'_> {
     /// The distance, if it has one.
     pub fn distance(&self) -> Option<u64> {
-        match self.end {
-            QueryEnd::Committed { distance, .. } => Some(distance),
-            QueryEnd::Aborted | QueryEnd::Active => None,
-        }
+        self.audited.map(|audited| audited.distance)
     }
 
     /// Returns the error of the sum of its reads, if it has one.
     pub fn sum_error(&self) -> Option<u64> {
-        match self.end {
-            QueryEnd::Committed { sum_error, .. } => Some(sum_error),
-            QueryEnd::Aborted | QueryEnd::Active => None,
-        }
+        self.audited.map(|audited| audited.sum_error)
     }
 }
 
@@ -69,20 +56,6 @@ pub fn open_link(out: &mut String, target: Target, name: &str) -> Result<(), All
     }
 }
 
-/// Returns the outcome of a transaction, before its audit is known.
-fn end_of(history: &History<Weighted>, end: Option<u64>) -> QueryEnd {
-    let Some(entry) = end.and_then(|place| history.log().get(place as usize)) else {
-        return QueryEnd::Active;
-    };
-    match entry.event {
-        Event::Commit { .. } => QueryEnd::Committed {
-            distance: 0,
-            sum_error: 0,
-        },
-        _ => QueryEnd::Aborted,
-    }
-}
-
 /// The queries of a history, in the order of their numbers, and the place of each transaction among them.
 #[derive(Drop)]
 pub struct QueryRows<'a> {
@@ -91,7 +64,11 @@ pub struct QueryRows<'a> {
 }
 
 /// A query, as it began and ended, if it is one.
-fn row_of<'a>(recording: &'a Recording<'_>, query: TxnId) -> Option<QueryRow<'a>> {
+fn row_of<'a>(
+    recording: &'a Recording<'_>,
+    kinds: &[TxnKind],
+    query: TxnId,
+) -> Option<QueryRow<'a>> {
     let facts = recording.history.facts(query)?;
     if !facts.query {
         return None;
@@ -99,11 +76,12 @@ fn row_of<'a>(recording: &'a Recording<'_>, query: TxnId) -> Option<QueryRow<'a>
     Some(QueryRow {
         query,
         name: name_of_transaction(&recording.transactions, query),
-        is_strict: false,
+        is_strict: kind_at(kinds, query) == TxnKind::StrictQuery,
         limit: facts.limit,
         charged: recording.history.import(query),
         reads: 0,
-        end: end_of(&recording.history, facts.end),
+        outcome: outcome_of(&recording.history, query),
+        audited: None,
         target: Target::TableRow,
     })
 }
@@ -115,9 +93,10 @@ fn queries_of<'a>(
 ) -> Result<QueryRows<'a>, AllocError> {
     let begun = recording.history.begun_count();
     let last = u32::try_from(begun).unwrap_or(u32::MAX);
+    let kinds = kinds_of(alloc, &recording.history)?;
     let mut rows = Vec::new(alloc);
     for number in 0..last.saturating_add(1) {
-        if let Some(row) = row_of(recording, TxnId(number)) {
+        if let Some(row) = row_of(recording, &kinds, TxnId(number)) {
             rows.push(row)?;
         }
     }
@@ -138,20 +117,12 @@ fn put_places(place_of: &mut [Option<usize>], rows: &[QueryRow<'_>]) {
 }
 
 impl<'a> QueryRows<'a> {
-    /// Updates a row by an entry of the query.
+    /// Counts an entry if it is a read of a query.
     fn note(&mut self, entry: Entry) {
-        let (txn, is_read) = match (entry.event, entry.reply) {
-            (Event::Read { txn, .. }, Reply::Value(_)) => (txn, true),
-            (Event::BeginQuery { strict: true, .. }, Reply::Begun(txn)) => (txn, false),
-            _ => return,
-        };
-        let Some(row) = self.of(txn) else {
-            return;
-        };
-        if is_read {
+        if let (Event::Read { txn, .. }, Reply::Value(_)) = (entry.event, entry.reply)
+            && let Some(row) = self.of(txn)
+        {
             row.reads = row.reads.saturating_add(1);
-        } else {
-            row.is_strict = true;
         }
     }
 
@@ -177,10 +148,7 @@ pub fn rows_of<'a>(
     }
     for found in found {
         if let Some(row) = all.of(found.query) {
-            row.end = QueryEnd::Committed {
-                distance: found.distance,
-                sum_error: found.sum_error,
-            };
+            row.audited = Some(*found);
         }
     }
     Ok(all)

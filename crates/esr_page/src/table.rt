@@ -2,9 +2,10 @@
 //! It is complete without scripts; if a browser runs the script of the page, a press on the head
 //! of a column sorts by it, and only the first 50 rows are shown until all are requested.
 
-use crate::rows::{QueryEnd, QueryRow, Target};
+use crate::rows::{QueryRow, Target};
 use esr_history::MAX_LIMIT;
 use esr_text::{first, push_number};
+use esr_trace::outcome_words;
 use std::alloc::AllocError;
 
 /// The maximum number of rows.
@@ -38,15 +39,6 @@ fn push_known(out: &mut String, number: Option<u64>) -> Result<(), AllocError> {
     }
 }
 
-/// Returns how a query ended, as a cell.
-fn end_cell(end: QueryEnd) -> &'static str {
-    match end {
-        QueryEnd::Committed { .. } => "<td>committed</td>",
-        QueryEnd::Aborted => "<td>aborted</td>",
-        QueryEnd::Active => "<td>still active</td>",
-    }
-}
-
 /// Appends the limit of a query, and the rest of it.
 fn push_limit(out: &mut String, limit: u64, charged: u64) -> Result<(), AllocError> {
     if limit >= MAX_LIMIT {
@@ -71,7 +63,7 @@ fn push_row(out: &mut String, row: &QueryRow<'_>) -> Result<(), AllocError> {
     } else {
         "<td>query</td>"
     })?;
-    out.push_str(end_cell(row.end))?;
+    write!(out, "<td>{}</td>", outcome_words(row.outcome))?;
     push_cell(out, u64::from(row.query.0))?;
     out.push_str("</tr>\n")
 }

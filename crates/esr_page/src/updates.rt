@@ -2,10 +2,12 @@
 //! exported to. A machine replays the history, because a history keeps only what each query imported in all.
 
 use crate::table::{MAX_ROWS, push_cell, push_count_of_rows};
-use esr_history::{Event, History, MAX_LIMIT, TxnId};
+use esr_history::{History, MAX_LIMIT, TxnId};
 use esr_items::Weighted;
+use esr_outcomes::outcome_of;
 use esr_report::name_of_transaction;
 use esr_text::{first, push_count, push_number};
+use esr_trace::outcome_words;
 use esr_trace_events::{Charge, Charges};
 use esr_views::Recording;
 use std::alloc::{AllocError, Global};
@@ -96,18 +98,6 @@ fn rows_of(alloc: Global, exports: &mut Exports) -> Result<Vec<UpdateRow>, Alloc
     Ok(rows)
 }
 
-/// Returns how an update ended.
-fn end_of(history: &History<Weighted>, update: TxnId) -> &'static str {
-    let end = history.facts(update).and_then(|facts| facts.end);
-    let Some(entry) = end.and_then(|place| history.log().get(place as usize)) else {
-        return "still active";
-    };
-    match entry.event {
-        Event::Commit { .. } => "committed",
-        _ => "aborted",
-    }
-}
-
 /// Appends a row.
 fn push_row(out: &mut String, recording: &Recording<'_>, row: UpdateRow) -> Result<(), AllocError> {
     let name = name_of_transaction(&recording.transactions, row.update);
@@ -121,8 +111,8 @@ fn push_row(out: &mut String, recording: &Recording<'_>, row: UpdateRow) -> Resu
     } else {
         push_cell(out, limit)?;
     }
-    let end = end_of(&recording.history, row.update);
-    write!(out, "<td>{end}</td></tr>\n")
+    let outcome = outcome_words(outcome_of(&recording.history, row.update));
+    write!(out, "<td>{outcome}</td></tr>\n")
 }
 
 /// Appends the heading of the table, with the number of updates that were charged.

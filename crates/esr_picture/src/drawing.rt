@@ -10,6 +10,7 @@ ghost use Rattle.esr_picture.specs.Picture.{IsSvg, IsWithin, Lacks};
 
 use crate::scene::scene_of;
 use esr_lint::Notes;
+use esr_outcomes::Auditor;
 use esr_svg::{MAX_ERROR_LETTERS, Parts, parts_of};
 use esr_text::{is_attributes, is_markup};
 use esr_trace::{Audited, Part, QueryTrace, trace_of};
@@ -172,6 +173,7 @@ impl Part for PictureView {
         alloc: Global,
         out: &mut String,
         audited: &Audited<'_>,
+        _: &Auditor<'_>,
         _: &[u32],
         trace: &QueryTrace,
     ) -> Result<(), AllocError> {

@@ -5,9 +5,7 @@ use crate::prose::{Block, MAX_POINTS, add_paragraph, add_point, push_more};
 use crate::reads::sum_of_reads;
 use crate::subject::Subject;
 use esr_audit::Finding;
-use esr_history::TxnId;
 use esr_items::ItemId;
-use esr_order::accesses_of;
 use esr_text::{first, push_number, push_value};
 use esr_trace::{ObservedRead, QueryTrace};
 use std::alloc::{AllocError, Global};
@@ -19,34 +17,6 @@ struct There {
     value: i64,
     /// The sum of the differences of its reads.
     off: u64,
-}
-
-/// Puts what an update wrote into the values of the items.
-fn put_writes(
-    alloc: Global,
-    values: &mut [i64],
-    subject: &Subject<'_>,
-    update: TxnId,
-) -> Result<(), AllocError> {
-    for access in &accesses_of(alloc, subject.history, update)? {
-        if let (Some(value), true) = (values.get_mut(access.item.0 as usize), access.writes) {
-            *value = access.value;
-        }
-    }
-    Ok(())
-}
-
-/// Returns the values of the items after these updates.
-fn values_after(
-    alloc: Global,
-    subject: &Subject<'_>,
-    updates: &[TxnId],
-) -> Result<Vec<i64>, AllocError> {
-    let mut values = subject.history.opening_values().to_vec(alloc)?;
-    for update in updates {
-        put_writes(alloc, &mut values, subject, *update)?;
-    }
-    Ok(values)
 }
 
 /// Returns the sum of the differences of an item's reads from a value.
@@ -189,7 +159,7 @@ pub fn push_nearest(
     if finding.distance == 0 {
         return Ok(());
     }
-    let values = values_after(alloc, subject, &finding.before)?;
+    let values = subject.auditor.values_after(alloc, &finding.before)?;
     let items = items_read(alloc, trace, subject, &values)?;
     push_all(alloc, blocks, subject, trace, &items)
 }

@@ -2,8 +2,8 @@
 
 use crate::prose::{Block, BlockKind, prose_of};
 use crate::subject::Subject;
-use esr_audit::{AuditError, Finding, audit_query};
 use esr_history::TxnId;
+use esr_outcomes::Auditor;
 use esr_text::wrap;
 use esr_trace::trace_of;
 use esr_views::{Recording, ScriptView};
@@ -57,19 +57,6 @@ fn text_of(alloc: Global, blocks: &[Block]) -> Result<String, AllocError> {
     Ok(out)
 }
 
-/// Returns the finding of a query, if it has committed.
-fn finding_of(
-    alloc: Global,
-    recording: &Recording<'_>,
-    query: TxnId,
-) -> Result<Option<Finding>, AllocError> {
-    match audit_query(alloc, &recording.history, query) {
-        Ok(finding) => Ok(Some(finding)),
-        Err(AuditError::NoMemory) => Err(AllocError),
-        Err(_) => Ok(None),
-    }
-}
-
 /// The number of the query of that name, if there is one.
 fn query_called(recording: &Recording<'_>, name: &str) -> Option<TxnId> {
     let position = recording.transactions.number_of(name)?;
@@ -78,34 +65,26 @@ fn query_called(recording: &Recording<'_>, name: &str) -> Option<TxnId> {
     facts.query.then_some(query)
 }
 
-/// The prose about a query of which this was found, if it has committed.
-fn prose_with<'a>(
-    alloc: Global,
-    recording: &'a Recording<'a>,
-    query: TxnId,
-    finding: Option<&'a Finding>,
-) -> Result<String, AllocError> {
-    let subject = Subject {
-        items: &recording.items,
-        transactions: &recording.transactions,
-        history: &recording.history,
-        lines: recording.lines,
-        query,
-        finding,
-    };
-    let trace = trace_of(alloc, subject.history, query)?;
-    let blocks = prose_of(alloc, &subject, &trace)?;
-    text_of(alloc, &blocks)
-}
-
 /// The prose about a query.
 fn prose_about(
     alloc: Global,
     recording: &Recording<'_>,
     query: TxnId,
 ) -> Result<Vec<u8>, AllocError> {
-    let finding = finding_of(alloc, recording, query)?;
-    let text = prose_with(alloc, recording, query, finding.as_ref())?;
+    let auditor = Auditor::of(alloc, &recording.history)?;
+    let finding = auditor.finding(alloc, query)?;
+    let subject = Subject {
+        items: &recording.items,
+        transactions: &recording.transactions,
+        history: &recording.history,
+        lines: recording.lines,
+        query,
+        auditor: &auditor,
+        finding: finding.as_ref(),
+    };
+    let trace = trace_of(alloc, subject.history, query)?;
+    let blocks = prose_of(alloc, &subject, &trace)?;
+    let text = text_of(alloc, &blocks)?;
     Ok(text.into_bytes())
 }
 

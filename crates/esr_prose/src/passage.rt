@@ -2,6 +2,7 @@
 
 use crate::prose::{Block, BlockKind, prose_of};
 use crate::subject::Subject;
+use esr_outcomes::Auditor;
 use esr_trace::{Audited, Part, QueryTrace};
 use std::alloc::{AllocError, Global};
 
@@ -30,6 +31,7 @@ impl Part for Passage {
         alloc: Global,
         out: &mut String,
         audited: &Audited<'_>,
+        auditor: &Auditor<'_>,
         lines: &[u32],
         trace: &QueryTrace,
     ) -> Result<(), AllocError> {
@@ -39,6 +41,7 @@ impl Part for Passage {
             history: audited.history,
             lines,
             query: audited.finding.query,
+            auditor,
             finding: Some(audited.finding),
         };
         push_blocks(out, &prose_of(alloc, &subject, trace)?)

@@ -5,8 +5,9 @@
 use crate::charges::push_charges;
 use crate::nearest::push_nearest;
 use crate::reads::push_reads;
-use crate::subject::{Ending, Subject};
+use crate::subject::Subject;
 use esr_audit::Finding;
+use esr_outcomes::{TxnOutcome, outcome_of};
 use esr_text::push_number;
 use esr_trace::{Audited, QueryTrace, push_nearest_moment, push_strict, push_verdict};
 use std::alloc::{AllocError, Global};
@@ -75,7 +76,7 @@ pub fn push_more(
 /// Appends the description of a query that has not committed.
 fn push_unfinished(out: &mut String, subject: &Subject<'_>) -> Result<(), AllocError> {
     out.push_str(subject.name(subject.query))?;
-    if subject.ending(subject.query) == Ending::Aborted {
+    if outcome_of(subject.history, subject.query) == TxnOutcome::Aborted {
         return out.push_str(
             " aborted, so it is not compared with any state. These are its reads and charges up to the abort.",
         );
@@ -143,10 +144,10 @@ fn push_course(
     trace: &QueryTrace,
 ) -> Result<(), AllocError> {
     push_begin(out, subject, trace)?;
-    out.push_str(match subject.ending(subject.query) {
-        Ending::Committed => " and committed in ",
-        Ending::Aborted => " and aborted in ",
-        Ending::Active => " and had not ended at the end of the script",
+    out.push_str(match outcome_of(subject.history, subject.query) {
+        TxnOutcome::Committed => " and committed in ",
+        TxnOutcome::Aborted => " and aborted in ",
+        TxnOutcome::Active => " and had not ended at the end of the script",
     })?;
     if let Some(place) = subject.end_place(subject.query) {
         subject.push_line(out, place)?;

@@ -1,19 +1,20 @@
 //! Describes the reads of a query in sentences: each value, its line and its writer.
 
 use crate::prose::{Block, MAX_POINTS, add_paragraph, add_point, push_more};
-use crate::subject::{Ending, Subject};
+use crate::subject::Subject;
 use esr_history::TxnId;
 use esr_items::ItemId;
+use esr_outcomes::{TxnOutcome, outcome_of};
 use esr_text::{first, push_count, push_number, push_value};
 use esr_trace::{ObservedRead, QueryTrace};
 use std::alloc::{AllocError, Global};
 
 /// The words for what became of an update whose value was read before it had ended.
 fn push_fate(out: &mut String, subject: &Subject<'_>, writer: TxnId) -> Result<(), AllocError> {
-    out.push_str(match subject.ending(writer) {
-        Ending::Committed => "; it committed only in ",
-        Ending::Aborted => "; it aborted later, in ",
-        Ending::Active => "; it never ended",
+    out.push_str(match outcome_of(subject.history, writer) {
+        TxnOutcome::Committed => "; it committed only in ",
+        TxnOutcome::Aborted => "; it aborted later, in ",
+        TxnOutcome::Active => "; it never ended",
     })?;
     let Some(place) = subject.end_place(writer) else {
         return Ok(());

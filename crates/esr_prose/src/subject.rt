@@ -1,8 +1,9 @@
 //! A query that prose is about, however it ended, with what its script leads to and the line of each entry.
 
 use esr_audit::Finding;
-use esr_history::{Event, History, TxnId};
+use esr_history::{History, TxnId};
 use esr_items::{ItemId, Metric, Weighted};
+use esr_outcomes::Auditor;
 use esr_report::{Names, name_of_transaction};
 use esr_text::push_number;
 use std::alloc::AllocError;
@@ -18,16 +19,10 @@ pub struct Subject<'a> {
     /// The line of each entry of the history, from 1.
     pub lines: &'a [u32],
     pub query: TxnId,
+    /// The auditor of the history.
+    pub auditor: &'a Auditor<'a>,
     /// The finding of its audit, if it has committed.
     pub finding: Option<&'a Finding>,
-}
-
-/// The outcome of a transaction at the end of the script.
-#[derive(Clone, Copy)]
-pub enum Ending {
-    Committed,
-    Aborted,
-    Active,
 }
 
 impl<'a> Subject<'a> {
@@ -57,19 +52,5 @@ impl<'a> Subject<'a> {
     pub fn end_place(&self, txn: TxnId) -> Option<usize> {
         let end = self.history.facts(txn)?.end?;
         usize::try_from(end).ok()
-    }
-
-    /// Returns the outcome of a transaction.
-    pub fn ending(&self, txn: TxnId) -> Ending {
-        let Some(place) = self.end_place(txn) else {
-            return Ending::Active;
-        };
-        match self.history.log().get(place) {
-            Some(entry) => match entry.event {
-                Event::Commit { .. } => Ending::Committed,
-                _ => Ending::Aborted,
-            },
-            None => Ending::Active,
-        }
     }
 }

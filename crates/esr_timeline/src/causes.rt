@@ -5,10 +5,10 @@
 //! did not last, its writer is not before the placement, and the charges of this writer explain it.
 
 use crate::model::{Arrow, Source};
-use esr_audit::{AuditError, Finding, audit_query};
 use esr_history::{Event, TxnId};
 use esr_items::{ItemId, Metric};
-use esr_trace::{ObservedRead, QueryTrace, nearest_values};
+use esr_outcomes::QueryAudit;
+use esr_trace::{ObservedRead, QueryTrace};
 use std::alloc::{AllocError, Global};
 
 /// The distances of the items of a query that are off, by what explains them. All are 0 if the query is not off.
@@ -37,9 +37,9 @@ fn raise(values: &mut [u64], index: u32, value: u64) {
 }
 
 /// Returns the numbers of the updates before the placement as flags.
-fn flags_of(alloc: Global, finding: &Finding, count: usize) -> Result<Vec<bool>, AllocError> {
+fn flags_of(alloc: Global, before: &[TxnId], count: usize) -> Result<Vec<bool>, AllocError> {
     let mut flags = vec![in alloc; false; count]?;
-    for update in &finding.before {
+    for update in before {
         if let Some(flag) = flags.get_mut(update.0 as usize) {
             *flag = true;
         }
@@ -99,20 +99,20 @@ impl Causes {
         }
     }
 
-    /// Returns the causes of a committed query with this finding.
-    fn of_finding(
+    /// Returns the causes of a committed query with this audit.
+    fn of_audit(
         alloc: Global,
         source: Source<'_>,
-        finding: &Finding,
+        audit: &QueryAudit,
         trace: &QueryTrace,
     ) -> Result<Causes, AllocError> {
-        let nearest = nearest_values(alloc, source.history, finding)?;
+        let nearest = source.auditor.values_after(alloc, &audit.before)?;
         let distances = distances_of(alloc, source, &nearest, &trace.observed_reads)?;
         let count = source.history.begun_count().saturating_add(1);
         let mut causes = Causes {
             by_item: vec![in alloc; 0u64; distances.len()]?,
             by_writer: vec![in alloc; 0u64; count]?,
-            is_before: flags_of(alloc, finding, count)?,
+            is_before: flags_of(alloc, &audit.before, count)?,
             nearest,
         };
         for observed in &trace.observed_reads {
@@ -130,13 +130,9 @@ impl Causes {
         query: TxnId,
         trace: &QueryTrace,
     ) -> Result<Causes, AllocError> {
-        match audit_query(alloc, source.history, query) {
-            Ok(finding) if finding.distance > 0 => {
-                Causes::of_finding(alloc, source, &finding, trace)
-            }
-            Ok(_) => Ok(Causes::none(alloc)),
-            Err(AuditError::NoMemory) => Err(AllocError),
-            Err(_) => Ok(Causes::none(alloc)),
+        match source.auditor.summary(alloc, query)? {
+            Some(audit) if audit.distance > 0 => Causes::of_audit(alloc, source, &audit, trace),
+            _ => Ok(Causes::none(alloc)),
         }
     }
 

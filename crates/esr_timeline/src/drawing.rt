@@ -11,10 +11,12 @@ use crate::fit::Picture;
 use crate::layout::{Column, EDGE, Layout};
 use crate::legend::{legend_height, push_legend};
 use crate::limits::push_limit;
-use crate::model::{Action, Arrow, Cause, Lane, LaneEnd, Order, Rest, Scene};
+use crate::model::{Action, Arrow, Cause, Lane, Order, Rest, Scene};
 use crate::titles::{kind_of, push_charge_title, push_mark_title};
 use esr_history::MAX_LIMIT;
+use esr_outcomes::TxnOutcome;
 use esr_text::{first, number_letters, push_count, push_number, push_value, wrap};
+use esr_trace::outcome_words;
 use std::alloc::{AllocError, Global};
 
 const STYLE: &str = "<style>\n\
@@ -216,17 +218,14 @@ fn push_attributes(
 }
 
 /// Appends the outcome of a lane as a phrase.
-fn push_outcome_words(out: &mut String, end: LaneEnd) -> Result<(), AllocError> {
-    match end {
-        LaneEnd::Committed {
-            distance: Some(distance),
-        } => {
-            out.push_str("committed, off by ")?;
+fn push_outcome_words(out: &mut String, lane: &Lane<'_>) -> Result<(), AllocError> {
+    out.push_str(outcome_words(lane.outcome))?;
+    match lane.distance {
+        Some(distance) => {
+            out.push_str(", off by ")?;
             push_number(out, distance)
         }
-        LaneEnd::Committed { distance: None } => out.push_str("committed"),
-        LaneEnd::Aborted => out.push_str("aborted"),
-        LaneEnd::Active => out.push_str("still active"),
+        None => Ok(()),
     }
 }
 
@@ -235,7 +234,7 @@ fn push_lanes_words(out: &mut String, lanes: &[Lane<'_>]) -> Result<(), AllocErr
     for lane in lanes {
         let name = lane.name;
         write!(out, " {name}: ")?;
-        push_outcome_words(out, lane.end)?;
+        push_outcome_words(out, lane)?;
         out.push('.')?;
     }
     Ok(())
@@ -308,7 +307,7 @@ fn push_lane_head(out: &mut String, lane: &Lane<'_>, top: u32) -> Result<(), All
         push_number(out, lane.limit)?;
     }
     close_text(out)?;
-    if !lane.is_query {
+    if !lane.is_query() {
         return Ok(());
     }
     let class = if lane.charged > 0 { "lb rd" } else { "lb gy" };
@@ -320,8 +319,7 @@ fn push_lane_head(out: &mut String, lane: &Lane<'_>, top: u32) -> Result<(), All
 
 /// Returns the class of the band of a lane.
 fn band_class(lane: &Lane<'_>) -> &'static str {
-    let is_open = matches!(lane.end, LaneEnd::Aborted | LaneEnd::Active);
-    match (lane.is_query, is_open) {
+    match (lane.is_query(), lane.outcome != TxnOutcome::Committed) {
         (false, false) => "bu",
         (false, true) => "bu op",
         (true, false) => "bq",
@@ -343,17 +341,11 @@ fn push_distance(out: &mut String, distance: u64, x: u32, y: u32) -> Result<(), 
 /// Appends the outcome of a lane, at its end.
 fn push_outcome(out: &mut String, lane: &Lane<'_>, end: u32, top: u32) -> Result<(), AllocError> {
     let x = end.saturating_add(8);
-    let words = match lane.end {
-        LaneEnd::Committed { .. } => "committed",
-        LaneEnd::Aborted => "aborted",
-        LaneEnd::Active => "still active",
-    };
+    let words = outcome_words(lane.outcome);
     push_text(out, "lb ha", x, top.saturating_add(27), words)?;
-    match lane.end {
-        LaneEnd::Committed {
-            distance: Some(distance),
-        } => push_distance(out, distance, x, top.saturating_add(41)),
-        _ => Ok(()),
+    match lane.distance {
+        Some(distance) => push_distance(out, distance, x, top.saturating_add(41)),
+        None => Ok(()),
     }
 }
 

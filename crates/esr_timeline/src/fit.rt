@@ -452,7 +452,7 @@ pub fn timeline_of_script<'a>(
             return Ok(picture);
         }
     }
-    match farthest(alloc, source.history)? {
+    match farthest(alloc, source.auditor)? {
         Some(query) => {
             let trace = trace_of(alloc, source.history, query)?;
             timeline_of_query(alloc, source, query, &trace)

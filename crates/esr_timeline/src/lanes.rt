@@ -1,16 +1,12 @@
 //! Which transactions have a lane: all of a short script; else the query, and the transactions that concern it.
 
-ghost use Rattle.esr_order.specs.Index.{IsWholeIndexOf};
-
 use crate::causes::ranking;
-use crate::model::{Arrow, Lane, LaneEnd, Source};
-use esr_audit::{AuditError, CommitLists, audit_query, audit_query_with_index, commit_lists};
-use esr_history::{Entry, Event, History, Refusal, Reply, TxnId};
-use esr_items::Weighted;
-use esr_order::Index;
+use crate::model::{Arrow, Lane, Source};
+use esr_history::{Entry, Event, Refusal, Reply, TxnId};
+use esr_outcomes::{Auditor, TxnKind, kind_at, kinds_of, outcome_of};
 use esr_report::name_of_transaction;
 use esr_text::first;
-use esr_trace::{QueryTrace, nearest_values};
+use esr_trace::QueryTrace;
 use std::alloc::{AllocError, Global};
 
 /// The maximum number of lanes.
@@ -164,47 +160,17 @@ fn is_farther(a: (u64, u64), b: (u64, u64)) -> bool {
     a.0 > b.0 || (a.0 == b.0 && a.1 > b.1)
 }
 
-/// Returns the distance of a committed query.
-pub fn distance_of(
-    alloc: Global,
-    source: Source<'_>,
-    query: TxnId,
-) -> Result<Option<u64>, AllocError> {
-    match audit_query(alloc, source.history, query) {
-        Ok(finding) => Ok(Some(finding.distance)),
-        Err(AuditError::NoMemory) => Err(AllocError),
-        Err(_) => Ok(None),
-    }
-}
-
-/// Returns the distance of a committed query, and its import.
-fn measure_of(
-    alloc: Global,
-    history: &History<Weighted>,
-    index: &Index,
-    query: TxnId,
-) -> Result<(u64, u64), AllocError>
-    requires { IsWholeIndexOf history.now.schedule.entries index.now }
-{
-    match audit_query_with_index(alloc, history, index, query) {
-        Ok(finding) => Ok((finding.distance, finding.import)),
-        Err(_) => Err(AllocError),
-    }
-}
-
 /// Returns the committed query with the greatest distance.
-pub fn farthest(alloc: Global, history: &History<Weighted>) -> Result<Option<TxnId>, AllocError> {
-    let Ok(CommitLists { queries, .. }) = commit_lists(alloc, history) else {
-        return Err(AllocError);
-    };
-    let index = Index::of(alloc, history)?;
+pub fn farthest(alloc: Global, auditor: &Auditor<'_>) -> Result<Option<TxnId>, AllocError> {
     let mut best = None;
     let mut upper_bound = (0, 0);
-    for query in &queries {
-        let measure = measure_of(alloc, history, &index, *query)?;
-        if best.is_none() || is_farther(measure, upper_bound) {
-            best = Some(*query);
-            upper_bound = measure;
+    for txn in auditor.commits() {
+        if let Some(audit) = auditor.summary(alloc, *txn)? {
+            let measure = (audit.distance, audit.import);
+            if best.is_none() || is_farther(measure, upper_bound) {
+                best = Some(*txn);
+                upper_bound = measure;
+            }
         }
     }
     Ok(best)
@@ -212,15 +178,12 @@ pub fn farthest(alloc: Global, history: &History<Weighted>) -> Result<Option<Txn
 
 /// Returns the values of the items in the nearest placement of a query that is off, or nothing for other lanes.
 fn nearest_of(alloc: Global, source: Source<'_>, lane: &Lane<'_>) -> Result<Vec<i64>, AllocError> {
-    let is_off =
-        matches!(lane.end, LaneEnd::Committed { distance: Some(distance) } if distance > 0);
-    if !is_off {
+    if lane.distance.unwrap_or(0) == 0 {
         return Ok(Vec::new(alloc));
     }
-    match audit_query(alloc, source.history, lane.txn) {
-        Ok(finding) => nearest_values(alloc, source.history, &finding),
-        Err(AuditError::NoMemory) => Err(AllocError),
-        Err(_) => Ok(Vec::new(alloc)),
+    match source.auditor.summary(alloc, lane.txn)? {
+        Some(audit) => source.auditor.values_after(alloc, &audit.before),
+        None => Ok(Vec::new(alloc)),
     }
 }
 
@@ -237,64 +200,23 @@ pub fn all_nearest(
     Ok(all)
 }
 
-/// Returns how a transaction ended.
-fn end_of(alloc: Global, source: Source<'_>, txn: TxnId) -> Result<LaneEnd, AllocError> {
-    let Some(facts) = source.history.facts(txn) else {
-        return Ok(LaneEnd::Active);
-    };
-    let Some(entry) = facts
-        .end
-        .and_then(|place| source.history.log().get(place as usize))
-    else {
-        return Ok(LaneEnd::Active);
-    };
-    match entry.event {
-        Event::Commit { .. } if facts.query => Ok(LaneEnd::Committed {
-            distance: distance_of(alloc, source, txn)?,
-        }),
-        Event::Commit { .. } => Ok(LaneEnd::Committed { distance: None }),
-        _ => Ok(LaneEnd::Aborted),
-    }
-}
-
-/// Returns the lane of a transaction.
-fn lane_of<'a>(alloc: Global, source: Source<'a>, txn: TxnId) -> Result<Lane<'a>, AllocError> {
+/// Returns the lane of a transaction of this kind.
+fn lane_of<'a>(
+    alloc: Global,
+    source: Source<'a>,
+    txn: TxnId,
+    kind: TxnKind,
+) -> Result<Lane<'a>, AllocError> {
     let facts = source.history.facts(txn);
-    let is_query = facts.is_some_and(|facts| facts.query);
     Ok(Lane {
         txn,
         name: name_of_transaction(source.transactions, txn),
-        is_query,
-        is_strict: false,
+        kind,
         limit: facts.map_or(0, |facts| facts.limit),
-        charged: if is_query {
-            source.history.import(txn)
-        } else {
-            0
-        },
-        end: end_of(alloc, source, txn)?,
+        charged: source.history.import(txn),
+        outcome: outcome_of(source.history, txn),
+        distance: source.auditor.distance(alloc, txn)?,
     })
-}
-
-/// Marks the lane at an index as that of a strict query.
-fn mark_strict_at(lanes: &mut [Lane<'_>], index: usize) {
-    if let Some(lane) = lanes.get_mut(index) {
-        lane.is_strict = true;
-    }
-}
-
-/// Marks the lanes of strict queries: only the begin of a query shows that it is strict.
-fn mark_strict(source: Source<'_>, lanes: &mut [Lane<'_>]) {
-    let log = source.history.log();
-    for place in 0..log.len() {
-        if let Some(entry) = log.get(place)
-            && let Event::BeginQuery { strict: true, .. } = entry.event
-            && let Reply::Begun(txn) = entry.reply
-            && let Some(index) = lane_at(lanes, txn)
-        {
-            mark_strict_at(lanes, index);
-        }
-    }
 }
 
 /// Returns the lanes of some transactions.
@@ -303,11 +225,11 @@ pub fn lanes_of<'a>(
     source: Source<'a>,
     chosen: &[TxnId],
 ) -> Result<Vec<Lane<'a>>, AllocError> {
+    let kinds = kinds_of(alloc, source.history)?;
     let mut lanes = Vec::new(alloc);
     for txn in chosen {
-        lanes.push(lane_of(alloc, source, *txn)?)?;
+        lanes.push(lane_of(alloc, source, *txn, kind_at(&kinds, *txn))?)?;
     }
-    mark_strict(source, &mut lanes);
     Ok(lanes)
 }
 

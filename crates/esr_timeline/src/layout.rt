@@ -4,10 +4,11 @@
 //! Each mark has its own column. The distance of two columns is such that the labels of a lane do not overlap; the
 //! labels of two lanes cannot overlap.
 
-use crate::model::{Action, Arrow, Lane, LaneEnd, Mark};
+use crate::model::{Action, Arrow, Lane, Mark};
 use crate::titles::kind_of;
 use esr_history::MAX_LIMIT;
 use esr_text::{letters_of, number_letters};
+use esr_trace::outcome_words;
 use std::alloc::{AllocError, Global};
 
 /// The width of a letter of a label.
@@ -110,15 +111,11 @@ fn heads_width(lanes: &[Lane<'_>]) -> u32 {
 
 /// Returns the width of the outcome of a lane.
 fn outcome_width(lane: &Lane<'_>) -> u32 {
-    let letters = match lane.end {
-        LaneEnd::Committed {
-            distance: Some(distance),
-        } => number_letters(distance).saturating_add(7).max(9),
-        LaneEnd::Committed { distance: None } => 9,
-        LaneEnd::Aborted => 7,
-        LaneEnd::Active => 12,
-    };
-    width_of(letters)
+    let words = outcome_words(lane.outcome).len();
+    width_of(match lane.distance {
+        Some(distance) => number_letters(distance).saturating_add(7).max(words),
+        None => words,
+    })
 }
 
 /// Returns the upper edges of the lanes below the heading, and the lower edge of the last one.
@@ -127,7 +124,7 @@ fn tops_of(alloc: Global, lanes: &[Lane<'_>]) -> Result<Vec<u32>, AllocError> {
     let mut top = 0u32;
     for lane in lanes {
         tops.push(top)?;
-        top = top.saturating_add(if lane.is_query {
+        top = top.saturating_add(if lane.is_query() {
             QUERY_HEIGHT
         } else {
             UPDATE_HEIGHT

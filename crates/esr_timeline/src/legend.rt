@@ -3,7 +3,8 @@
 use crate::elements::{push_circle, push_cross, push_rect, push_square, push_text};
 use crate::layout::{EDGE, Layout};
 use crate::limits::has_bar;
-use crate::model::{Action, Lane, LaneEnd, Scene};
+use crate::model::{Action, Lane, Scene};
+use esr_outcomes::TxnOutcome;
 use std::alloc::AllocError;
 
 /// A symbol that the legend of a timeline explains.
@@ -81,10 +82,10 @@ fn occurs(scene: &Scene<'_>, layout: &Layout<'_>, key: Key) -> bool {
         Key::Read | Key::Off | Key::Write | Key::Blocked => has_action(layout, key),
         Key::Charge => !scene.arrows.is_empty(),
         Key::Limit => scene.lanes.iter().any(is_filled),
-        Key::Open => scene.lanes.iter().any(|lane| matches!(
-            lane.end,
-            LaneEnd::Aborted | LaneEnd::Active
-        )),
+        Key::Open => scene
+            .lanes
+            .iter()
+            .any(|lane| lane.outcome != TxnOutcome::Committed),
     }
 }
 

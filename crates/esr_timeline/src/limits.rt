@@ -82,7 +82,7 @@ fn push_parts(
 
 /// Returns whether a lane has a bar: that of a query with a limit.
 pub fn has_bar(lane: &Lane<'_>) -> bool {
-    lane.is_query && lane.limit > 0 && lane.limit < MAX_LIMIT
+    lane.is_query() && lane.limit > 0 && lane.limit < MAX_LIMIT
 }
 
 /// Appends the bar of the limit of a lane, if it has one.

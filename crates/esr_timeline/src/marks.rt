@@ -317,7 +317,7 @@ fn mark_off_reads(marks: &mut [Mark<'_>]) {
 
 /// Returns whether a mark is a read of a query.
 fn is_query_read(mark: &Mark<'_>, lanes: &[Lane<'_>]) -> bool {
-    let is_query = lanes.get(mark.lane).is_some_and(|lane| lane.is_query);
+    let is_query = lanes.get(mark.lane).is_some_and(|lane| lane.is_query());
     is_query && matches!(mark.action, Action::Read { .. })
 }
 

@@ -2,6 +2,7 @@
 
 use esr_history::{History, TxnId};
 use esr_items::Weighted;
+use esr_outcomes::{Auditor, TxnKind, TxnOutcome};
 use esr_report::Names;
 
 /// A script that has been run.
@@ -12,17 +13,10 @@ pub struct Source<'a> {
     /// The names of the transactions, in the order of their numbers, from 1.
     pub transactions: &'a Names,
     pub history: &'a History<Weighted>,
+    /// The auditor of the history.
+    pub auditor: &'a Auditor<'a>,
     /// The line of each entry of the history, from 1.
     pub lines: &'a [u32],
-}
-
-/// The outcome of a transaction.
-#[derive(Clone, Copy, PartialEq, Eq)]
-pub enum LaneEnd {
-    /// Of a query, with its distance, if that is known.
-    Committed { distance: Option<u64> },
-    Aborted,
-    Active,
 }
 
 /// A lane: a transaction from its begin to its end.
@@ -30,12 +24,20 @@ pub enum LaneEnd {
 pub struct Lane<'a> {
     pub txn: TxnId,
     pub name: &'a str,
-    pub is_query: bool,
-    pub is_strict: bool,
+    pub kind: TxnKind,
     pub limit: u64,
     /// The import of a query.
     pub charged: u64,
-    pub end: LaneEnd,
+    pub outcome: TxnOutcome,
+    /// The distance of a committed query.
+    pub distance: Option<u64>,
+}
+
+impl Lane<'_> {
+    /// Returns whether the transaction is a query.
+    pub fn is_query(&self) -> bool {
+        self.kind != TxnKind::Update
+    }
 }
 
 /// The event at a mark.

@@ -1,6 +1,7 @@
 //! The titles of marks and charges, which are shown when a pointer is over them.
 
 use crate::model::{Action, Arrow, Cause, Lane, Mark};
+use esr_outcomes::TxnKind;
 use esr_text::{push_number, push_value};
 use std::alloc::AllocError;
 
@@ -45,10 +46,10 @@ fn push_blocked(
 
 /// Returns the name of the kind of a transaction.
 pub fn kind_of(lane: &Lane<'_>) -> &'static str {
-    match (lane.is_query, lane.is_strict) {
-        (false, _) => "update",
-        (true, false) => "query",
-        (true, true) => "strict query",
+    match lane.kind {
+        TxnKind::Update => "update",
+        TxnKind::Query => "query",
+        TxnKind::StrictQuery => "strict query",
     }
 }
 

@@ -8,6 +8,7 @@ use crate::fit::{Picture, timeline_of_query, timeline_of_script};
 use crate::model::Source;
 use esr_history::TxnId;
 use esr_lint::Notes;
+use esr_outcomes::Auditor;
 use esr_picture::svg_element;
 use esr_trace::{Audited, Part, QueryTrace, trace_of};
 use esr_views::{Recording, ScriptView};
@@ -38,11 +39,12 @@ fn query_of(recording: &Recording<'_>, name: &str) -> Option<TxnId> {
 }
 
 /// Returns what a timeline is drawn from.
-fn source_of<'a>(recording: &'a Recording<'_>) -> Source<'a> {
+fn source_of<'a>(recording: &'a Recording<'_>, auditor: &'a Auditor<'a>) -> Source<'a> {
     Source {
         items: &recording.items,
         transactions: &recording.transactions,
         history: &recording.history,
+        auditor,
         lines: recording.lines,
     }
 }
@@ -66,7 +68,8 @@ fn text_about<'a>(
 ) -> Result<Vec<u8>, AllocError>
     ensures { IfOk result (λ text. IsSvg text.items) }
 {
-    let source = source_of(recording);
+    let auditor = Auditor::of(alloc, &recording.history)?;
+    let source = source_of(recording, &auditor);
     let picture = match query {
         Some(query) => picture_of_query(alloc, source, query)?,
         None => timeline_of_script(alloc, source)?,
@@ -106,6 +109,7 @@ impl Part for TimelinePart {
         alloc: Global,
         out: &mut String,
         audited: &Audited<'_>,
+        auditor: &Auditor<'_>,
         lines: &[u32],
         trace: &QueryTrace,
     ) -> Result<(), AllocError> {
@@ -113,6 +117,7 @@ impl Part for TimelinePart {
             items: audited.items,
             transactions: audited.transactions,
             history: audited.history,
+            auditor,
             lines,
         };
         let picture = timeline_of_query(alloc, source, audited.finding.query, trace)?;

@@ -1,12 +1,22 @@
-//! Lists of names in sentences.
+//! Texts of outcomes, and lists of names in sentences.
 
 use esr_history::TxnId;
+use esr_outcomes::TxnOutcome;
 use esr_report::{Names, name_of_transaction};
 use esr_text::{first, push_number};
 use std::alloc::AllocError;
 
 /// The maximum number of names in a list; the number of the others follows.
 pub const MAX_NAMES: usize = 3;
+
+/// Returns the text of an outcome.
+pub fn outcome_words(outcome: TxnOutcome) -> &'static str {
+    match outcome {
+        TxnOutcome::Committed => "committed",
+        TxnOutcome::Aborted => "aborted",
+        TxnOutcome::Active => "still active",
+    }
+}
 
 /// Returns the separator before the name at `place`: nothing, a comma or `and`.
 fn joint(place: usize, count: usize) -> &'static str {

@@ -14,7 +14,8 @@ use std::alloc::{AllocError, Global};
 /// So many charges are kept one by one. Those of the same reads, one after another, are kept as one.
 const MAX_CHARGES: usize = 12;
 
-/// The outcome of a transaction at the end of the query.
+/// The outcome of a transaction at the end of the query. It differs from `TxnOutcome`, which is that at the end of the
+/// history: an update that committed after the query is as late as one that is still active.
 #[derive(Clone, Copy)]
 pub enum WriterEnd {
     /// It committed before the query did.
