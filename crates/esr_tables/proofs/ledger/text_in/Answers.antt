@@ -10,4 +10,4 @@ pub returns-in-Csv : goal.returns-in-Csv
 returns-in-Csv c = λ s recorded.
     subst (λ (f : Format). IfOk c.ledger_csv.result (λ (v : Vec ℕ Global). IsLedger f s v.items)) (sym c.in-Csv.is)
     (csv_written (λ (v : Vec ℕ Global). v.items) s c.args.recording.now recorded (first_of c.in_ok-spans.spans) (last_of c.in_ok-spans.spans)
-    c.deref.result.now (c.deref.ensures.value ∙ c.in-Ok.ensures) c.ledger_csv.result c.ledger_csv.ensures)
+    c.deref-in-Csv.result.now (c.deref-in-Csv.ensures.value ∙ c.in-Ok.ensures) c.ledger_csv.result c.ledger_csv.ensures)
