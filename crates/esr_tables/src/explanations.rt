@@ -16,7 +16,7 @@ pub struct ExplanationTable {
 }
 
 /// The columns after the first, which contains the kind of the row.
-const COLUMNS: [&str; 14] = [
+const COLUMNS: [&str; 15] = [
     "item",
     "value",
     "nearest",
@@ -31,6 +31,7 @@ const COLUMNS: [&str; 14] = [
     "export_limit",
     "distance",
     "import",
+    "sum_error",
 ];
 
 /// The names of the items and the transactions of a script.
@@ -81,11 +82,23 @@ fn charge_fields<'a>(names: ScriptNames<'a>, charge: Charge) -> [Field<'a>; 9] {
     ]
 }
 
+/// Returns by how much the sum of the values read differs from the sum of the values of the nearest placement. Weights do
+/// not count.
+fn sum_error(reads: &[ComparedRead]) -> u64 {
+    let mut error = 0i128;
+    for read in reads {
+        let difference = i128::from(read.value).saturating_sub(i128::from(read.nearest_value));
+        error = error.saturating_add(difference);
+    }
+    u64::try_from(error.unsigned_abs()).unwrap_or(u64::MAX)
+}
+
 /// Returns the fields of the sums.
-fn sums_fields(explained: &Explanation<'_>) -> [Field<'static>; 2] {
+fn sums_fields(explained: &Explanation<'_>) -> [Field<'static>; 3] {
     [
         ("distance", Content::Number(explained.distance)),
         ("import", Content::Number(explained.import)),
+        ("sum_error", Content::Number(sum_error(&explained.reads))),
     ]
 }
 

@@ -333,10 +333,44 @@ pub fn mark_query_reads(marks: &mut [Mark<'_>], lanes: &[Lane<'_>]) {
     }
 }
 
-/// Marks the events that these charges depend on, the reads that are off and whose writers are drawn, and the blocked
-/// events if they are to be drawn.
+/// Returns the difference of a read from the value in the nearest placement, and 0 of any other event.
+fn difference_of(action: Action) -> u64 {
+    match action {
+        Action::Read {
+            value,
+            nearest: Some(there),
+        } => value.abs_diff(there),
+        _ => 0,
+    }
+}
+
+/// Returns the index of the first read with the greatest difference from the nearest placement, if a read is off.
+fn farthest_read(marks: &[Mark<'_>]) -> Option<usize> {
+    let mut farthest = None;
+    let mut greatest = 0u64;
+    for (index, mark) in marks.iter().enumerate() {
+        let difference = difference_of(mark.action);
+        if difference > greatest {
+            greatest = difference;
+            farthest = Some(index);
+        }
+    }
+    farthest
+}
+
+/// Marks the read with the greatest difference from the nearest placement. Its value can be that of an update that
+/// committed before the query began, so that no charge explains it.
+fn mark_farthest_read(marks: &mut [Mark<'_>]) {
+    if let Some(index) = farthest_read(marks) {
+        mark_at(marks, index);
+    }
+}
+
+/// Marks the events that these charges depend on, the read with the greatest difference, the reads that are off and whose
+/// writers are drawn, and the blocked events if they are to be drawn.
 pub fn mark_keys(marks: &mut [Mark<'_>], arrows: &[Arrow<'_>], has_blocked: bool) {
     mark_blocked(marks, has_blocked);
+    mark_farthest_read(marks);
     mark_off_reads(marks);
     for arrow in arrows {
         mark_charge(marks, arrow);

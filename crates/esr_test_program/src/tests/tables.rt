@@ -169,18 +169,18 @@ fn audits_have_a_row_for_each_committed_query(rt: HostRuntime) {
 #[test]
 fn an_explanation_has_its_parts(rt: HostRuntime) {
     let csv = "\
-row,item,value,nearest,off,operation,update,amount,step,import_left,import_limit,export_left,export_limit,distance,import
-read,checking,400,500,100,,,,,,,,,,
-read,savings,1500,1500,0,,,,,,,,,,
-charge,checking,,,,read,transfer,100,7,100,200,100,200,,
-charge,savings,,,,write,transfer,100,9,0,200,0,200,,
-before,,,,,,early,,,,,,,,
-after,,,,,,transfer,,,,,,,,
-sums,,,,,,,,,,,,,100,200
+row,item,value,nearest,off,operation,update,amount,step,import_left,import_limit,export_left,export_limit,distance,import,sum_error
+read,checking,400,500,100,,,,,,,,,,,
+read,savings,1500,1500,0,,,,,,,,,,,
+charge,checking,,,,read,transfer,100,7,100,200,100,200,,,
+charge,savings,,,,write,transfer,100,9,0,200,0,200,,,
+before,,,,,,early,,,,,,,,,
+after,,,,,,transfer,,,,,,,,,
+sums,,,,,,,,,,,,,100,200,100
 ";
     explains_as(&rt, rt.alloc(), &ExplanationTable { data: Data::Csv }, csv);
     let json =
-        r#"{"name":"report","reads":[{"item":"checking","value":400,"nearest":500,"off":100},{"item":"savings","value":1500,"nearest":1500,"off":0}],"charges":[{"operation":"read","update":"transfer","item":"checking","amount":100,"step":7,"import_left":100,"import_limit":200,"export_left":100,"export_limit":200},{"operation":"write","update":"transfer","item":"savings","amount":100,"step":9,"import_left":0,"import_limit":200,"export_left":0,"export_limit":200}],"before":["early"],"after":["transfer"],"distance":100,"import":200}
+        r#"{"name":"report","reads":[{"item":"checking","value":400,"nearest":500,"off":100},{"item":"savings","value":1500,"nearest":1500,"off":0}],"charges":[{"operation":"read","update":"transfer","item":"checking","amount":100,"step":7,"import_left":100,"import_limit":200,"export_left":100,"export_limit":200},{"operation":"write","update":"transfer","item":"savings","amount":100,"step":9,"import_left":0,"import_limit":200,"export_left":0,"export_limit":200}],"before":["early"],"after":["transfer"],"distance":100,"import":200,"sum_error":100}
 "#;
     explains_as(
         &rt,
