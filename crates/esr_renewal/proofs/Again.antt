@@ -22,10 +22,10 @@ if_same true = refl
 if_same false = refl
 
 module _ (d : DistanceFunction) (h : Schedule) where
-  runs_active : (s : ℕ) → runs d h s ≡ true → is_active (accepted_in h) s ≡ true
+  pub runs_active : (s : ℕ) → runs d h s ≡ true → is_active (accepted_in h) s ≡ true
   runs_active s is = (and_parts (is_update (accepted_in h) s) (is_active (accepted_in h) s) is).1
 
-  query_active : (s : ℕ) → is_active_query h s ≡ true → is_active (accepted_in h) s ≡ true
+  pub query_active : (s : ℕ) → is_active_query h s ≡ true → is_active (accepted_in h) s ≡ true
   query_active s is = (and_parts (is_query (accepted_in h) s) (is_active (accepted_in h) s) is).1
 
   -- no transaction is both

@@ -135,7 +135,7 @@ module _ (d : DistanceFunction) (h : Schedule) where
   begins_none p fails (t ∷ ts) =
       ap (λ b. b || list_any p (begins_again ts)) (fails (is_query (accepted_in h) t) (is_strict (accepted_in h) t) (limit_of (accepted_in h) t - settled d h t)) ∙ begins_none p fails ts
 
-  begins_are : (ts : List ℕ) → begin_records (begins_again ts) ≡ map begun_again ts
+  pub begins_are : (ts : List ℕ) → begin_records (begins_again ts) ≡ map begun_again ts
   begins_are [] = refl
   begins_are (t ∷ ts) =
       ap (λ o. cons_option o (begin_records (begins_again ts))) (begin_is (is_query (accepted_in h) t) (limit_of (accepted_in h) t - settled d h t) (is_strict (accepted_in h) t)).begins
