@@ -1,44 +1,36 @@
 -- The machine accepts each entry that is carried over, with the reply that is carried.
-use Rattle.std.proofs.Common.{◌≡◌, ℕ, zero, suc, ℤ, ◌+◌, ◌-◌, ◌<◌, ◌≤◌, ◌^◌, Bool, true, false, not, cond, ◌&&◌, ◌||◌, ◌==◌, List, [], ◌∷◌, ◌++◌, length, refl, sym, ◌∙◌, ap, subst, inl, inr, ⊎_elim, arith, Option, None, Some, is_some, unwrap_or, option_map, if◌then◌else◌, map, filter, flat_map, find, sum_by, nat_lt, nat_le, append-nil, length-append}
-use Rattle.std.specs.List.{AllByRecursion, filter_map, list_any, range_with_len, slice_get, cons_option}
-use Rattle.std.proofs.Math.Nat.{le_trans}
-use Rattle.std.proofs.lemmas.Bool.{cases_Bool, cases_eq, eq-eqb, ne_eqb, eqb-true, true≢false, false_from_ne_true, and_parts, and_from, or_cases, le-ltb, lt-leb, leb-false, ltb-false, not-true, not-false}
+use Rattle.std.proofs.Common.{◌≡◌, ℕ, zero, suc, ℤ, ◌+◌, ◌-◌, ◌<◌, ◌≤◌, ◌^◌, Bool, true, false, not, cond, ◌&&◌, ◌||◌, ◌==◌, List, [], ◌∷◌, ◌++◌, length, refl, sym, ◌∙◌, ap, subst, inl, inr, ⊎_elim, arith, Option, None, Some, unwrap_or, option_map, if◌then◌else◌, filter, nat_lt, nat_le, append-nil, length-append}
+use Rattle.std.specs.List.{AllByRecursion, filter_map, list_any, slice_get, cons_option}
+use Rattle.std.proofs.lemmas.Bool.{cases_Bool, cases_eq, eq-eqb, ne_eqb, eqb-true, true≢false, false_from_ne_true, and_parts, or_cases, le-ltb, lt-leb, ltb-false, not-true}
 use Rattle.std.proofs.lemmas.List.{length-map}
 use Rattle.std.proofs.lemmas.List.FromFn.{length-map-range_with_len, length-range_with_len}
-use Rattle.std.proofs.lemmas.List.Sums.{sum_by-cons, sum_by-append}
-use Rattle.esr_items.specs.Values.{value_at}
-use Rattle.esr_history.specs.Events.{BeginRecord, begin_record, begin_record_of, begin_records, txn_numbers, limit_of, is_refusal, accepted, is_begun, is_query, is_update, is_active, reads, writes, holds_read, holds_write, total_read_count, written, last_value, committed_value, current_value}
-use Rattle.esr_history.specs.Machine.{DistanceFunction, Schedule, Charge, accepted_in, extended, empty_schedule, value_distance, due, due_in, charges, charges_in, import_in, export_in, total, reply_to, reasons, refusal, acceptance, answered, first_reason, not_begun, ended, no_item, query_writes, out_of_range, many_reads, read_blocked, write_blocked, blocked_by, other_writer, other_holder, import_full, export_full, limit_too_high, too_many, when, writer, IsLegal, IsLegalAfter}
+use Rattle.esr_history.specs.Events.{BeginRecord, begin_record_of, begin_records, txn_numbers, limit_of, is_refusal, accepted, is_begun, is_query, is_update, is_active, reads, writes, holds_read, holds_write, total_read_count, written, last_value, committed_value, current_value}
+use Rattle.esr_history.specs.Machine.{DistanceFunction, Schedule, Charge, accepted_in, extended, value_distance, due, due_in, reply_to, reasons, refusal, acceptance, answered, first_reason, not_begun, ended, no_item, many_reads, read_blocked, write_blocked, blocked_by, other_writer, other_holder, import_full, export_full, limit_too_high, too_many, when, IsLegal}
 use Rattle.esr_history.specs.Legal.{along, legal_induction}
-use Rattle.esr_history.specs.Operations.{Operation, operations, operations_in, operation_of, operation_by, answer}
-use Rattle.esr_history.specs.ReportBounds.{is_active_query}
+use Rattle.esr_history.specs.Operations.{Operation, operations, operation_of, operation_by, answer}
 use Rattle.esr_history.proofs.Allowed.{NoneApplies, ReadAllowed, WriteAllowed, read_allowed, write_allowed}
 use Rattle.esr_history.proofs.Fitting.{accepts}
 use Rattle.esr_history.proofs.Linking.{accepted_push, accepted_refused}
-use Rattle.esr_history.proofs.Lists.{find_least, filter_map_push, found_satisfies}
-use Rattle.esr_history.proofs.LegalWellFormed.{begun_in_range, update_from, when_none, not_ended}
+use Rattle.esr_history.proofs.Lists.{find_least, filter_map_push}
+use Rattle.esr_history.proofs.LegalWellFormed.{begun_in_range, when_none}
 use Rattle.esr_history.proofs.Membership.{Each-append, In-any}
-use Rattle.esr_history.proofs.ReportBoundsLaws.{begin_stays}
 use Rattle.esr_history.proofs.TraceAgreement.{wrote_trace, read_trace, read_item_by}
-use Rattle.esr_history.proofs.Traces.{IsMetric, reads_item}
+use Rattle.esr_history.proofs.Traces.{reads_item}
 use Rattle.esr_history.proofs.Versions.{wrote_by, wrote_parts}
-use Rattle.esr_history.proofs.WellFormed.{active_parts, update_begun}
+use Rattle.esr_history.proofs.WellFormed.{update_begun}
 use Rattle.esr_history.proofs.WithinRanges.{legal_begins}
 use Rattle.esr_core.specs.Renewed.{committed_values, renewed}
-use Rattle.esr_core.specs.States.{begin_event}
-use Rattle.esr_core.specs.Carried.{active_numbers, new_number, settled, charged_in, open_charges, carried_begin, carried_operation, carried_read, carried_entries, carried}
+use Rattle.esr_core.specs.Carried.{active_numbers, new_number, settled, carried_begin, carried_operation}
 use Rattle.esr_core.proofs.Begins.{begin_accepted, begin_reason}
 use Rattle.esr_core.proofs.Held.{update_or_query}
 use Rattle.esr_core.proofs.Running.{law_of_active_updates}
-use Rattle.esr_renewal.specs.Types.{TxnId, ItemId, Event, BeginUpdate, BeginQuery, Read, Write, Commit, Abort, Entry, Reply, Refusal, Begun, Value, Wrote, NoSuchTransaction, AlreadyEnded, NoSuchItem, QueryMayNotWrite, TooManyReads, LimitOutOfRange, TooManyTransactions, BlockedByLock}
-use Rattle.esr_renewal.specs.OpenCharges.{lag}
+use Rattle.esr_renewal.specs.Types.{TxnId, ItemId, Event, BeginUpdate, BeginQuery, Read, Write, Commit, Abort, Entry, Reply, Refusal, Begun, Value, NoSuchTransaction, AlreadyEnded, NoSuchItem, QueryMayNotWrite, TooManyReads, LimitOutOfRange, TooManyTransactions}
 use Rattle.esr_renewal.proofs.Renumbered.{number_after}
-use Rattle.esr_renewal.proofs.Replayed.{runs, operation_again, read_again, begins_again, events_again, begun_again, begins_are, operation_case, read_case, records}
-use Rattle.esr_renewal.proofs.Again.{runs_active, query_active, not_both, begun_then, query_then, update_then, limit_then, active_then, who_wrote, who_read, query_total}
-use Rattle.esr_renewal.proofs.CarriedValues.{written_agree, opens, current_then, current_kept}
-use Rattle.esr_renewal.proofs.CarriedCharges.{write_is_free, update_reads_free, charge_by, charges_of, read_charged, charged_then}
-use Rattle.esr_renewal.proofs.OpenSums.{open_of, open_sum, imports_to, exports_of, within, carried_import, carried_export}
-use Rattle.esr_renewal.proofs.CarriedEntries.{accepted_parts, accepted_first, accepted_reply, legal_append, legal_each, front, replied, allowed, accepted_as, events_split, exclude, begin_entry, operation_entry, read_entry, begins_accepted, operations_accepted, reads_accepted, entries_as}
+use Rattle.esr_renewal.proofs.Replayed.{runs, operation_again, begins_again, events_again, begun_again, begins_are}
+use Rattle.esr_renewal.proofs.Again.{runs_active, begun_then, query_then, active_then, who_wrote, who_read}
+use Rattle.esr_renewal.proofs.CarriedValues.{written_agree, opens, current_then}
+use Rattle.esr_renewal.proofs.CarriedCharges.{write_is_free, update_reads_free}
+use Rattle.esr_renewal.proofs.CarriedEntries.{accepted_parts, accepted_reply, front, allowed, accepted_as, exclude, begin_entry, operation_entry, begins_accepted, operations_accepted}
 
 -- Limits are at most 10^18.
 abbrev AreLow : List Event → Type 0

@@ -1,11 +1,11 @@
 -- The machine accepts each read of a query that is carried over: no limit refuses it.
-use Rattle.std.proofs.Common.{◌≡◌, ℕ, ℤ, ◌+◌, ◌-◌, ◌<◌, ◌≤◌, Bool, true, false, not, cond, ◌&&◌, ◌==◌, List, [], ◌∷◌, ◌++◌, length, refl, sym, ◌∙◌, ap, subst, inl, inr, arith, Option, None, Some, is_some, unwrap_or, option_map, if◌then◌else◌, flat_map, find, sum_by, nat_lt, nat_le, append_assoc}
-use Rattle.std.specs.List.{filter_map, list_any, cons_option}
-use Rattle.std.proofs.lemmas.Bool.{eq-eqb, true≢false, and_parts, le-ltb, lt-leb, leb-false, not-false}
+use Rattle.std.proofs.Common.{◌≡◌, ℕ, ℤ, ◌+◌, ◌-◌, ◌<◌, Bool, true, false, not, ◌&&◌, List, [], ◌∷◌, ◌++◌, length, refl, sym, ◌∙◌, ap, subst, arith, Option, None, Some, unwrap_or, option_map, if◌then◌else◌, flat_map, sum_by, nat_lt, nat_le, append_assoc}
+use Rattle.std.specs.List.{filter_map, list_any}
+use Rattle.std.proofs.lemmas.Bool.{eq-eqb, and_parts, le-ltb, lt-leb, leb-false, not-false}
 use Rattle.std.proofs.lemmas.List.FromFn.{length-map-range_with_len}
 use Rattle.std.proofs.lemmas.List.Sums.{sum_by-cons, sum_by-append}
-use Rattle.esr_history.specs.Events.{begin_record, txn_numbers, limit_of, is_refusal, accepted, is_begun, is_query, is_update, is_active, holds_write, writes, total_read_count, committed_value, current_value}
-use Rattle.esr_history.specs.Machine.{DistanceFunction, Schedule, Charge, accepted_in, value_distance, due, due_in, charges, charges_in, import_in, export_in, total, reply_to, reasons, not_begun, ended, no_item, many_reads, read_blocked, blocked_by, other_writer, import_full, export_full, when, writer, charge_of_read, IsLegal}
+use Rattle.esr_history.specs.Events.{txn_numbers, limit_of, is_refusal, accepted, is_begun, is_query, is_update, is_active, holds_write, writes, total_read_count, committed_value, current_value}
+use Rattle.esr_history.specs.Machine.{DistanceFunction, Schedule, Charge, accepted_in, value_distance, due, due_in, charges, charges_in, import_in, export_in, total, reply_to, reasons, many_reads, read_blocked, blocked_by, other_writer, import_full, export_full, when, writer, charge_of_read, IsLegal}
 use Rattle.esr_history.specs.Legal.{along}
 use Rattle.esr_history.specs.ReportBounds.{is_active_query}
 use Rattle.esr_history.proofs.Allowed.{NoneApplies, ReadAllowed, read_allowed}
@@ -16,9 +16,9 @@ use Rattle.esr_history.proofs.Traces.{IsMetric}
 use Rattle.esr_core.specs.Renewed.{committed_values, renewed}
 use Rattle.esr_core.specs.Carried.{active_numbers, new_number, settled, charged_in, open_charges, carried_read}
 use Rattle.esr_core.proofs.Held.{update_or_query}
-use Rattle.esr_renewal.specs.Types.{TxnId, ItemId, Event, BeginUpdate, BeginQuery, Read, Write, Commit, Abort, Entry, Reply, Refusal, Value, NoSuchTransaction, AlreadyEnded, NoSuchItem, TooManyReads, BlockedByImport, BlockedByExport}
-use Rattle.esr_renewal.specs.OpenCharges.{lag}
-use Rattle.esr_renewal.proofs.Replayed.{runs, operation_again, read_again, begins_again, events_again}
+use Rattle.esr_renewal.specs.Types.{TxnId, ItemId, Event, BeginUpdate, BeginQuery, Read, Write, Commit, Abort, Entry, Value, NoSuchTransaction, AlreadyEnded, NoSuchItem, TooManyReads}
+use Rattle.esr_renewal.proofs.OpenCharges.{lag}
+use Rattle.esr_renewal.proofs.Replayed.{operation_again, read_again, begins_again, events_again}
 use Rattle.esr_renewal.proofs.Again.{query_active, begun_then, query_then, limit_then, active_then, query_total}
 use Rattle.esr_renewal.proofs.CarriedValues.{current_kept}
 use Rattle.esr_renewal.proofs.CarriedCharges.{charge_by, charges_of, read_charged, charged_then}
@@ -157,11 +157,16 @@ module _ (d : DistanceFunction) (metric : (w : List ℕ) → IsMetric (d w)) (h 
     reads_now : Value (current_value h.opening (accepted_in h) x.0) ≡ reply_to d k (Read (new_number h q.0) x)
     reads_now =
         ap (λ v. Value v) (sym (ap (λ es. current_value (committed_values h) es x.0) same ∙ current_kept d h legal rs x.0))
-        ∙ accepted_reply d k (Read (new_number h q.0) x)
-        (ap (λ es. when (not (is_begun es u)) NoSuchTransaction) same ∙ ap (λ b. when (not b) NoSuchTransaction) (begun_then d h (accepted_in h) rs q.0 active),
-        (ap (λ es. when (not (is_active es u)) AlreadyEnded) same ∙ ap (λ b. when (not b) AlreadyEnded) (active_then d h (accepted_in h) rs q.0 active),
-        (ap (λ n. when (nat_le n x.0) NoSuchItem) (length-map-range_with_len (committed_value h.opening (accepted_in h)) 0 (length h.opening)) ∙ there.item,
-        (few, (free, (imports_allowed, (exports_allowed, tt)))))))
+        ∙ accepted_reply d k (Read (new_number h q.0) x) (
+          ap (λ es. when (not (is_begun es u)) NoSuchTransaction) same ∙ ap (λ b. when (not b) NoSuchTransaction) (begun_then d h (accepted_in h) rs q.0 active),
+          (
+            ap (λ es. when (not (is_active es u)) AlreadyEnded) same ∙ ap (λ b. when (not b) AlreadyEnded) (active_then d h (accepted_in h) rs q.0 active),
+            (
+              ap (λ n. when (nat_le n x.0) NoSuchItem) (length-map-range_with_len (committed_value h.opening (accepted_in h)) 0 (length h.opening)) ∙ there.item,
+              (few, (free, (imports_allowed, (exports_allowed, tt)))),
+            ),
+          ),
+        )
 
   pub read_replied : (before : List Entry) (e : Entry) (after : List Entry) (f : Entry) → h.entries ≡ before ++ e ∷ after → read_entry d h e ≡ Some f
       → f.reply ≡ reply_to d (along start (filter_map (read_entry d h) before)) f.event

@@ -1,21 +1,20 @@
 -- The facts of an active transaction in the events that are carried over, by its new number.
-use Rattle.std.proofs.Common.{◌≡◌, ℕ, ℤ, ◌+◌, ◌-◌, ◌≤◌, Bool, true, false, not, cond, ◌&&◌, ◌||◌, ◌==◌, List, [], ◌∷◌, ◌++◌, refl, sym, ◌∙◌, ap, subst, inl, inr, ⊎_elim, arith, count_by, Option, None, Some, is_some, unwrap_or, option_map, if◌then◌else◌}
+use Rattle.std.proofs.Common.{◌≡◌, ℕ, ℤ, ◌+◌, ◌-◌, Bool, true, false, not, cond, ◌&&◌, ◌||◌, ◌==◌, List, [], ◌++◌, refl, sym, ◌∙◌, ap, inl, inr, ⊎_elim, arith, count_by, Some, is_some, unwrap_or, option_map, if◌then◌else◌}
 use Rattle.std.specs.List.{filter_map, list_any}
 use Rattle.std.proofs.lemmas.Bool.{cases_Bool, cases_eq, eq-eqb, ne_eqb, eqb-true, true≢false, and_parts, and_from, or_cases}
 use Rattle.std.proofs.lemmas.List.Sums.{sum_by-append}
 use Rattle.esr_history.specs.Events.{begin_record, limit_of, is_begun, is_query, is_update, is_active, is_committed, is_aborted, reads, reads_any, writes}
 use Rattle.esr_history.specs.Machine.{DistanceFunction, Schedule, accepted_in}
-use Rattle.esr_history.specs.Queries.{is_strict}
 use Rattle.esr_history.specs.ReportBounds.{is_active_query}
 use Rattle.esr_history.proofs.WellFormed.{active_parts}
-use Rattle.esr_history.proofs.Membership.{In, In-any, any-from_In}
+use Rattle.esr_history.proofs.Membership.{In-any, any-from_In}
 use Rattle.esr_history.proofs.TraceAgreement.{any_of, any_given, query_not_update}
 use Rattle.esr_history.proofs.TraceOfHistory.{count_none}
 use Rattle.esr_core.specs.States.{begin_event}
 use Rattle.esr_core.specs.Carried.{active_numbers, new_number, settled}
 use Rattle.esr_renewal.specs.Types.{TxnId, ItemId, Event, BeginUpdate, BeginQuery, Read, Write, Commit, Abort}
 use Rattle.esr_renewal.proofs.Renumbered.{new_number_injective}
-use Rattle.esr_renewal.proofs.Replayed.{In-filter_map, any_empty, count_given, any_if, and_false, kinds, runs, operation_again, read_again, begins_again, events_again, begun_as, begun_again, operation_case, read_case, any_parts, no_write_at, no_read_at, no_reads_at, begins_count, none_committed, none_aborted}
+use Rattle.esr_renewal.proofs.Replayed.{In-filter_map, any_empty, count_given, any_if, kinds, runs, operation_again, read_again, begins_again, events_again, begun_as, operation_case, read_case, any_parts, no_write_at, no_read_at, no_reads_at, begins_count, none_committed, none_aborted}
 
 if_same : (b : Bool) → (if b then false else false) ≡ false
 if_same true = refl

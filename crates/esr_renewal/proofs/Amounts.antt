@@ -1,12 +1,12 @@
 -- Sums of amounts over the reads of a history.
-use Rattle.std.proofs.Common.{◌≡◌, ℕ, zero, suc, ◌+◌, ◌*◌, ◌<◌, ◌≤◌, Bool, true, false, ◌&&◌, ◌==◌, List, [], ◌∷◌, ◌++◌, refl, sym, ◌∙◌, ap, subst, inl, inr, arith, sum_by, count_by, cond, if◌then◌else◌, add-zero, zero-add}
+use Rattle.std.proofs.Common.{◌≡◌, ℕ, zero, suc, ◌+◌, ◌*◌, ◌<◌, ◌≤◌, Bool, true, false, ◌&&◌, ◌==◌, List, [], ◌∷◌, refl, sym, ◌∙◌, inl, inr, arith, sum_by, count_by, cond, if◌then◌else◌, add-zero, zero-add}
 use Rattle.std.specs.List.{range_with_len}
-use Rattle.std.proofs.lemmas.Bool.{cases_Bool, cases_eq, eq-eqb, ne_eqb, true≢false}
+use Rattle.std.proofs.lemmas.Bool.{cases_eq, eq-eqb, ne_eqb}
 use Rattle.std.proofs.lemmas.List.Sums.{sum_by-cons}
 use Rattle.esr_history.specs.Events.{reads}
 use Rattle.esr_renewal.specs.Types.{TxnId, ItemId, Event, BeginUpdate, BeginQuery, Read, Write, Commit, Abort}
 use Rattle.esr_history.proofs.Membership.{In}
-use Rattle.esr_renewal.specs.OpenCharges.{amount_if}
+use Rattle.esr_renewal.proofs.OpenCharges.{amount_if}
 
 pub sum_within : {X : Type 0} (f g k : X → ℕ) (xs : List X) → ((x : X) → In x xs → f x ≤ g x + k x) → sum_by f xs ≤ sum_by g xs + sum_by k xs
 sum_within f g k [] each = omega arith

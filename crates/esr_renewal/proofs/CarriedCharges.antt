@@ -1,23 +1,22 @@
 -- The charges in a history that carries another: each carried read is charged what is open of it.
-use Rattle.std.proofs.Common.{◌≡◌, ℕ, ℤ, ◌+◌, ◌*◌, ◌<◌, ◌≤◌, Bool, true, false, not, ◌&&◌, ◌||◌, ◌==◌, List, [], ◌∷◌, ◌++◌, length, refl, sym, ◌∙◌, ap, subst, inl, inr, ⊎_elim, arith, Option, None, Some, if◌then◌else◌, map, flat_map, append-nil, append_assoc, option_map, find}
-use Rattle.std.specs.List.{filter_map, list_any, range_with_len, cons_option}
-use Rattle.std.proofs.lemmas.Bool.{cases_Bool, true≢false, false_from_ne_true, and_parts, and_from}
+use Rattle.std.proofs.Common.{◌≡◌, ℕ, ℤ, ◌+◌, ◌*◌, ◌<◌, ◌≤◌, Bool, true, false, ◌&&◌, List, [], ◌∷◌, ◌++◌, length, refl, sym, ◌∙◌, ap, arith, Option, None, Some, if◌then◌else◌, flat_map, append-nil, append_assoc, option_map}
+use Rattle.std.specs.List.{filter_map, list_any, cons_option}
+use Rattle.std.proofs.lemmas.Bool.{true≢false, false_from_ne_true, and_parts, and_from}
 use Rattle.std.proofs.lemmas.List.Elements.{filter_map-append}
-use Rattle.esr_history.specs.Events.{begin_records, txn_numbers, is_query, is_update, is_active, is_begun, reads, writes, read_count, holds_read, holds_write, committed_value, current_value}
+use Rattle.esr_history.specs.Events.{begin_records, txn_numbers, is_query, is_update, is_active, reads, writes, read_count, holds_read, holds_write, current_value}
 use Rattle.esr_history.specs.Machine.{DistanceFunction, Schedule, Charge, accepted_in, value_distance, due, charges, charges_after, charge_of_read, charge_of_write, writer, IsLegal}
 use Rattle.esr_history.specs.ReportBounds.{is_active_query}
 use Rattle.esr_history.specs.WellFormed.{IsWellFormed}
 use Rattle.esr_history.proofs.Lists.{find_least, find_none, found_satisfies}
-use Rattle.esr_history.proofs.WellFormed.{active_parts, update_begun}
+use Rattle.esr_history.proofs.WellFormed.{update_begun}
 use Rattle.esr_history.proofs.LegalWellFormed.{begun_in_range, legal_orderly}
-use Rattle.esr_history.proofs.TraceAgreement.{query_not_update}
 use Rattle.esr_core.specs.Renewed.{committed_values}
 use Rattle.esr_core.specs.Carried.{active_numbers, new_number, carried_begin}
 use Rattle.esr_core.proofs.Begins.{begin_due}
 use Rattle.esr_core.proofs.Held.{update_or_query}
 use Rattle.esr_renewal.specs.Types.{TxnId, ItemId, Event, BeginUpdate, BeginQuery, Read, Write, Commit, Abort}
-use Rattle.esr_renewal.specs.OpenCharges.{lag}
-use Rattle.esr_renewal.proofs.Replayed.{runs, operation_again, read_again, begins_again, events_again, operation_case, read_case}
+use Rattle.esr_renewal.proofs.OpenCharges.{lag}
+use Rattle.esr_renewal.proofs.Replayed.{runs, operation_again, read_again, begins_again, events_again, operation_case}
 use Rattle.esr_renewal.proofs.Again.{query_then, update_then, active_then, update_wrote, who_wrote, who_read, runs_active}
 use Rattle.esr_renewal.proofs.CarriedValues.{committed_kept, current_kept}
 
@@ -126,14 +125,15 @@ module _ (d : DistanceFunction) (h : Schedule) (legal : IsLegal d h) where
           let p = and_parts (is_update (accepted_in h) u) (holds_write (accepted_in h) u x) (found_satisfies (λ u. is_update (accepted_in h) u && holds_write (accepted_in h) u x) (txn_numbers (accepted_in h)) u some) in
           let q = and_parts (is_active (accepted_in h) u) (list_any (writes u x) (accepted_in h)) p.1 in
           let own : runs d h u ≡ true = and_from (is_update (accepted_in h) u) (is_active (accepted_in h) u) p.0 q.0 in
-          find_least (λ u. is_update again u && holds_write again u x) (length (begin_records again)) (Some (new_number h u).0)
-          (and_from (is_update again (new_number h u).0) (holds_write again (new_number h u).0 x) (update_then d h (accepted_in h) rs u q.0 ∙ p.0)
-          (and_from (is_active again (new_number h u).0) (list_any (writes (new_number h u).0 x) again) (active_then d h (accepted_in h) rs u q.0) (update_wrote d h (accepted_in h) rs u x own ∙ q.1)),
-          λ v below. false_from_ne_true (is_update again v && holds_write again v x) (λ both.
-          let s = passes v both in
-          let same : s.0 ≡ u = some_same s.0 u (sym (orderly.exclusive s.0 x s.3) ∙ orderly.exclusive u x p.1) in
-          let v_is : v ≡ (new_number h u).0 = s.1 ∙ ap (λ t. (new_number h t).0) same in
-          absurd (omega arith)))
+          find_least (λ u. is_update again u && holds_write again u x) (length (begin_records again)) (Some (new_number h u).0) (
+            and_from (is_update again (new_number h u).0) (holds_write again (new_number h u).0 x) (update_then d h (accepted_in h) rs u q.0 ∙ p.0)
+                (and_from (is_active again (new_number h u).0) (list_any (writes (new_number h u).0 x) again) (active_then d h (accepted_in h) rs u q.0) (update_wrote d h (accepted_in h) rs u x own ∙ q.1)),
+            λ v below. false_from_ne_true (is_update again v && holds_write again v x) (λ both.
+                let s = passes v both in
+                let same : s.0 ≡ u = some_same s.0 u (sym (orderly.exclusive s.0 x s.3) ∙ orderly.exclusive u x p.1) in
+                let v_is : v ≡ (new_number h u).0 = s.1 ∙ ap (λ t. (new_number h t).0) same in
+                absurd (omega arith)),
+          )
           within
         where
           some_same : (a b : ℕ) → Some a ≡ Some b → a ≡ b

@@ -1,11 +1,11 @@
 -- The entries of a history that carries another, by the entries of that one.
-use Rattle.std.proofs.Common.{◌≡◌, ℕ, ℤ, Bool, true, false, not, cond, ◌&&◌, ◌||◌, ◌==◌, List, [], ◌∷◌, ◌++◌, refl, sym, ◌∙◌, ap, subst, inl, arith, Option, None, Some, if◌then◌else◌, map, filter, append-nil, append_assoc}
+use Rattle.std.proofs.Common.{◌≡◌, ℕ, Bool, true, false, not, cond, ◌||◌, List, [], ◌∷◌, ◌++◌, refl, sym, ◌∙◌, ap, subst, inl, Option, None, Some, if◌then◌else◌, map, filter, append-nil, append_assoc}
 use Rattle.std.specs.List.{filter_map, cons_option}
 use Rattle.std.proofs.lemmas.Bool.{true≢false, and_parts}
 use Rattle.std.proofs.lemmas.List.{map-append}
 use Rattle.std.proofs.lemmas.List.Elements.{filter-append, filter_map-append}
 use Rattle.esr_history.specs.Events.{is_refusal, accepted, is_update, is_active, current_value}
-use Rattle.esr_history.specs.Machine.{DistanceFunction, Schedule, accepted_in, empty_schedule, extended, reply_to, reasons, refusal, acceptance, answered, first_reason, IsLegal, IsLegalAfter}
+use Rattle.esr_history.specs.Machine.{DistanceFunction, Schedule, accepted_in, empty_schedule, extended, reply_to, reasons, acceptance, answered, first_reason, IsLegal, IsLegalAfter}
 use Rattle.esr_history.specs.Legal.{along}
 use Rattle.esr_history.specs.Operations.{Operation, operations, operations_in, operation_of}
 use Rattle.esr_history.specs.ReportBounds.{is_active_query}
@@ -18,9 +18,8 @@ use Rattle.esr_history.proofs.Onward.{legal_parts}
 use Rattle.esr_history.proofs.TraceAgreement.{trace, active_trace}
 use Rattle.esr_history.proofs.TraceOfHistory.{legal_reached}
 use Rattle.esr_history.proofs.Versions.{conflict_of}
-use Rattle.esr_core.specs.Renewed.{renewed}
 use Rattle.esr_core.specs.Carried.{active_numbers, new_number, carried_begin, carried_operation, carried_read, carried_entries, carried}
-use Rattle.esr_renewal.specs.Types.{TxnId, ItemId, Event, BeginUpdate, BeginQuery, Read, Write, Commit, Abort, Entry, Reply, Refusal, Value}
+use Rattle.esr_renewal.specs.Types.{Event, BeginUpdate, BeginQuery, Read, Write, Commit, Abort, Entry, Refusal, Value}
 use Rattle.esr_renewal.proofs.Replayed.{runs, operation_again, read_again, begins_again, events_again}
 
 pub accepted_parts : (xs ys : List Entry) → accepted (xs ++ ys) ≡ accepted xs ++ accepted ys

@@ -1,8 +1,8 @@
 -- The values of the items in a history that carries another.
-use Rattle.std.proofs.Common.{◌≡◌, ℕ, zero, suc, ℤ, pos, ◌<◌, ◌≤◌, Bool, true, false, not, ◌&&◌, ◌==◌, List, [], ◌∷◌, ◌++◌, length, refl, sym, ◌∙◌, ap, inl, inr, ⊎_elim, arith, Option, None, Some, if◌then◌else◌, map, slice_index_or}
-use Rattle.std.specs.List.{filter_map, list_any, range_with_len, cons_option}
+use Rattle.std.proofs.Common.{◌≡◌, ℕ, zero, suc, ℤ, pos, ◌≤◌, Bool, true, false, not, ◌&&◌, ◌==◌, List, [], ◌∷◌, length, refl, sym, ◌∙◌, ap, ⊎_elim, arith, None, Some, if◌then◌else◌}
+use Rattle.std.specs.List.{filter_map, list_any, cons_option}
 use Rattle.std.proofs.Math.Path.{fun_ext}
-use Rattle.std.proofs.lemmas.Bool.{cases_Bool, cases_lt, true≢false, false_from_ne_true, eq-eqb, eqb-true, and_from, or_left, or_right}
+use Rattle.std.proofs.lemmas.Bool.{cases_lt, eq-eqb, and_from, or_left, or_right}
 use Rattle.std.proofs.lemmas.List.FromFn.{get_or-map-range_with_len, length-map-range_with_len}
 use Rattle.esr_items.specs.Values.{value_at}
 use Rattle.esr_history.specs.Events.{is_committed, is_aborted, writes, written, last_value, committed_value, current_value}
@@ -16,7 +16,7 @@ use Rattle.esr_history.proofs.WithinRanges.{legal_items}
 use Rattle.esr_core.specs.Renewed.{committed_values}
 use Rattle.esr_core.specs.Carried.{active_numbers, new_number}
 use Rattle.esr_core.proofs.Running.{law_of_current_values}
-use Rattle.esr_renewal.specs.Types.{TxnId, ItemId, Event, BeginUpdate, BeginQuery, Read, Write, Commit, Abort}
+use Rattle.esr_renewal.specs.Types.{Event, BeginUpdate, BeginQuery, Read, Write, Commit, Abort}
 use Rattle.esr_renewal.proofs.Replayed.{and_false, runs, events_again, writes_again, none_committed, none_aborted}
 
 -- tests that agree on all writers of an item find the same writes

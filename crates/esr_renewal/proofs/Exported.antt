@@ -1,14 +1,14 @@
 -- The open charges of an active update are at most its export.
-use Rattle.std.proofs.Common.{◌≡◌, ℕ, ℤ, ◌+◌, ◌*◌, ◌<◌, ◌≤◌, Bool, true, false, not, ◌&&◌, ◌||◌, ◌==◌, List, [], ◌∷◌, ◌++◌, length, refl, sym, ◌∙◌, ap, subst, inl, inr, arith, sum_by, count_by, cond, if◌then◌else◌, Option, None, Some, is_some, unwrap_or, option_map}
-use Rattle.std.specs.List.{filter_map, list_any, range_with_len, cons_option}
+use Rattle.std.proofs.Common.{◌≡◌, ℕ, ℤ, ◌+◌, ◌*◌, ◌≤◌, Bool, true, false, not, ◌&&◌, ◌||◌, ◌==◌, List, [], ◌∷◌, ◌++◌, length, refl, sym, ◌∙◌, ap, subst, inl, inr, arith, sum_by, count_by, cond, if◌then◌else◌, Option, None, Some, is_some, unwrap_or, option_map}
+use Rattle.std.specs.List.{filter_map, list_any, cons_option}
 use Rattle.std.proofs.Math.Nat.{le_trans}
-use Rattle.std.proofs.lemmas.Bool.{cases_Bool, cases_eq, eq-eqb, ne_eqb, true≢false, and_parts, and_from, or_right, false_from_ne_true, eqb-true}
+use Rattle.std.proofs.lemmas.Bool.{cases_Bool, cases_eq, eq-eqb, ne_eqb, true≢false, and_parts, and_from, or_right, false_from_ne_true}
 use Rattle.std.proofs.lemmas.List.Sums.{sum_by-cons, sum_by_push}
 use Rattle.esr_items.specs.Values.{value_at}
-use Rattle.esr_history.specs.Events.{BeginRecord, begin_record, begin_records, txn_numbers, is_query, is_update, is_active, is_begun, is_committed, is_aborted, commits, aborts, reads, writes, read_count, holds_read, holds_write, committed_value, current_value, written}
-use Rattle.esr_history.specs.Machine.{DistanceFunction, Schedule, Charge, accepted_in, extended, empty_schedule, reply_to, refusal, reasons, acceptance, answered, value_distance, due, charges, charges_in, charge_of_read, charge_of_write, export_in, writer, IsLegal}
+use Rattle.esr_history.specs.Events.{BeginRecord, begin_record, begin_records, txn_numbers, is_query, is_update, is_active, is_begun, is_committed, is_aborted, commits, aborts, reads, writes, read_count, holds_write, committed_value, current_value}
+use Rattle.esr_history.specs.Machine.{DistanceFunction, Schedule, Charge, accepted_in, extended, reply_to, refusal, acceptance, answered, value_distance, due, charges, charges_in, charge_of_read, charge_of_write, export_in, writer, IsLegal}
 use Rattle.esr_history.specs.Legal.{legal_induction, IsLegal-extended}
-use Rattle.esr_history.specs.WellFormed.{IsWellFormed, names, last_writer}
+use Rattle.esr_history.specs.WellFormed.{IsWellFormed, names}
 use Rattle.esr_history.proofs.Lists.{any_push, any_push_no, find_least}
 use Rattle.esr_history.proofs.Steps.{last_written_agree}
 use Rattle.esr_history.proofs.WellFormed.{MayFollow, begin_record-push, active_before, active_parts, update_begun}
@@ -18,7 +18,7 @@ use Rattle.esr_history.proofs.Charges.{export-push}
 use Rattle.esr_history.proofs.Membership.{In, any-from_In}
 use Rattle.esr_history.proofs.Traces.{IsMetric}
 use Rattle.esr_renewal.specs.Types.{TxnId, ItemId, Event, BeginUpdate, BeginQuery, Read, Write, Commit, Abort, Reply, Refusal, Refused}
-use Rattle.esr_renewal.specs.OpenCharges.{amount_if, is_open, lag, open_export}
+use Rattle.esr_renewal.proofs.OpenCharges.{amount_if, is_open, lag, open_export}
 use Rattle.esr_renewal.proofs.Amounts.{sum_within, sum_none, by_reader}
 
 same_number : (a b : ℕ) → Some a ≡ Some b → a ≡ b
@@ -36,10 +36,12 @@ stays_begun es e t is = at (begin_record es t) refl is
 pub writer_is : (es : List Event) → IsWellFormed es → (u x : ℕ) → holds_write es u x ≡ true → writer es x ≡ Some u
 writer_is es o u x held =
     let p = and_parts (is_active es u) (list_any (writes u x) es) held in
-    find_least (λ w. is_update es w && holds_write es w x) (length (begin_records es)) (Some u)
-    (and_from (is_update es u) (holds_write es u x) (o.writers u x p.1) held, λ w below. false_from_ne_true (is_update es w && holds_write es w x) (λ passes.
-    let same : w ≡ u = same_number w u (sym (o.exclusive w x (and_parts (is_update es w) (holds_write es w x) passes).1) ∙ o.exclusive u x held) in
-    absurd (omega arith)))
+    find_least (λ w. is_update es w && holds_write es w x) (length (begin_records es)) (Some u) (
+      and_from (is_update es u) (holds_write es u x) (o.writers u x p.1) held,
+      λ w below. false_from_ne_true (is_update es w && holds_write es w x) (λ passes.
+          let same : w ≡ u = same_number w u (sym (o.exclusive w x (and_parts (is_update es w) (holds_write es w x) passes).1) ∙ o.exclusive u x held) in
+          absurd (omega arith)),
+    )
     (λ w passes. begun_in_range es w (update_begun es w (and_parts (is_update es w) (holds_write es w x) passes).0))
 
 -- without a holder of the write lock, the current value of an item is committed

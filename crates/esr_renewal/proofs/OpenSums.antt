@@ -1,31 +1,25 @@
 -- The open charges of an active transaction: their sum over the reads of all queries, and what limits it.
-use Rattle.std.proofs.Common.{◌≡◌, ℕ, ℤ, ◌+◌, ◌-◌, ◌<◌, ◌≤◌, Bool, true, false, not, cond, ◌&&◌, ◌||◌, ◌==◌, List, [], ◌∷◌, ◌++◌, length, refl, sym, ◌∙◌, ap, subst, inl, inr, ⊎_elim, arith, Option, None, Some, if◌then◌else◌, map, filter, flat_map, sum_by}
-use Rattle.std.specs.List.{AllByRecursion, filter_map, list_any, cons_option}
-use Rattle.std.proofs.Math.Nat.{le_trans}
-use Rattle.std.proofs.Math.Path.{fun_ext}
-use Rattle.std.proofs.lemmas.Bool.{cases_Bool, cases_eq, eq-eqb, ne_eqb, eqb-true, true≢false, false_from_ne_true, and_parts, and_from}
+use Rattle.std.proofs.Common.{◌≡◌, ℕ, ℤ, ◌+◌, ◌<◌, ◌≤◌, Bool, true, false, not, cond, ◌&&◌, ◌==◌, List, [], ◌∷◌, refl, sym, ◌∙◌, ap, inl, inr, ⊎_elim, arith, Option, None, Some, if◌then◌else◌, map, filter, flat_map, sum_by}
+use Rattle.std.specs.List.{filter_map, cons_option}
+use Rattle.std.proofs.lemmas.Bool.{cases_eq, eq-eqb, ne_eqb, true≢false, and_parts, and_from}
 use Rattle.std.proofs.lemmas.List.Sums.{sum_by-cons, sum_by-append}
 use Rattle.esr_history.specs.Events.{accepted, txn_numbers, is_refusal, is_query, is_update, is_active, limit_of, holds_write}
 use Rattle.esr_history.specs.Machine.{DistanceFunction, Schedule, Charge, accepted_in, value_distance, charge_of_read, charges_in, import_in, export_in, writer, IsLegal}
 use Rattle.esr_history.specs.Operations.{Operation, operation_of, operations_in}
 use Rattle.esr_history.specs.Queries.{reads_by}
 use Rattle.esr_history.specs.ReportBounds.{is_active_query, open_import}
-use Rattle.esr_history.specs.WellFormed.{IsWellFormed}
 use Rattle.esr_history.proofs.Lists.{found_satisfies}
 use Rattle.esr_history.proofs.Charges.{legal_within_limits}
 use Rattle.esr_history.proofs.Membership.{In, Pairs, each_at, Pairs-filter, In-filter, In-of_filter}
-use Rattle.esr_history.proofs.TraceAgreement.{query_not_update}
 use Rattle.esr_history.proofs.Traces.{IsMetric}
 use Rattle.esr_history.proofs.ReportBoundsLaws.{open_is_imported}
-use Rattle.esr_core.specs.Carried.{active_numbers, new_number, open_charges, open_charges_of, charged_in, settled}
-use Rattle.esr_core.proofs.Held.{update_or_query}
-use Rattle.esr_renewal.specs.Types.{TxnId, ItemId, Event, BeginUpdate, BeginQuery, Read, Write, Commit, Abort, Entry}
-use Rattle.esr_renewal.specs.OpenCharges.{amount_if, is_open, lag, open_export}
+use Rattle.esr_core.specs.Carried.{active_numbers, new_number, open_charges, open_charges_of, charged_in}
+use Rattle.esr_renewal.specs.Types.{Event, BeginUpdate, BeginQuery, Read, Write, Commit, Abort, Entry}
+use Rattle.esr_renewal.proofs.OpenCharges.{amount_if, is_open, lag, open_export}
 use Rattle.esr_renewal.proofs.Amounts.{sum_within, sum_same, sum_none, sum_both}
 use Rattle.esr_renewal.proofs.Exported.{open_exported}
 use Rattle.esr_renewal.proofs.Renumbered.{active_ascending, active_in, in_active, new_number_injective}
-use Rattle.esr_renewal.proofs.Replayed.{runs}
-use Rattle.esr_renewal.proofs.Again.{runs_active, query_active}
+use Rattle.esr_renewal.proofs.Again.{query_active}
 use Rattle.esr_renewal.proofs.CarriedCharges.{charge_by, charges_of}
 
 -- Sums in two orders, and of the parts of a list.
@@ -180,7 +174,7 @@ module _ (d : DistanceFunction) (h : Schedule) where
         each (Commit s) = omega arith
         each (Abort s) = omega arith
 
-    export_within : (u : ℕ) → export_in (open_charges d h) u ≤ export_in (charges_in d h) u
+    pub export_within : (u : ℕ) → export_in (open_charges d h) u ≤ export_in (charges_in d h) u
     export_within u =
         let a = open_sum (exports_of u) in
         let b : sum_by (λ e. sum_by (exports_of u) (open_of e)) (accepted_in h) ≤ open_export distance h.opening (accepted_in h) u + sum_by (λ (e : Event). 0) (accepted_in h) =

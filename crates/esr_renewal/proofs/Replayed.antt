@@ -1,22 +1,22 @@
 -- The events of a history that carries another: begins, operations of updates, and reads of queries.
-use Rattle.std.proofs.Common.{◌≡◌, ℕ, zero, suc, ℤ, ◌+◌, ◌-◌, ◌<◌, ◌≤◌, ◌⊎◌, Bool, true, false, not, cond, ◌&&◌, ◌||◌, ◌==◌, List, [], ◌∷◌, ◌++◌, length, refl, sym, ◌∙◌, ap, subst, inl, inr, ⊎_elim, arith, count_by, Option, None, Some, is_some, unwrap_or, add-one, map, option_map, if◌then◌else◌, nat_lt}
+use Rattle.std.proofs.Common.{◌≡◌, ℕ, ℤ, ◌+◌, ◌-◌, Bool, true, false, not, cond, ◌&&◌, ◌||◌, ◌==◌, List, [], ◌∷◌, ◌++◌, refl, sym, ◌∙◌, ap, subst, inl, inr, ⊎_elim, arith, count_by, Option, None, Some, is_some, unwrap_or, add-one, map, option_map, if◌then◌else◌, nat_lt}
 use Rattle.std.specs.List.{filter_map, list_any, cons_option, slice_get}
-use Rattle.std.proofs.lemmas.Bool.{cases_Bool, cases_eq, eq-eqb, ne_eqb, eqb-true, true≢false, and_parts, and_from, or_cases}
+use Rattle.std.proofs.lemmas.Bool.{true≢false}
 use Rattle.std.proofs.lemmas.List.Elements.{filter_map-append}
 use Rattle.std.proofs.lemmas.List.Folds.{list_any-append}
-use Rattle.std.proofs.lemmas.List.Sums.{sum_by-cons, sum_by-append}
+use Rattle.std.proofs.lemmas.List.Sums.{sum_by-cons}
 use Rattle.std.proofs.lemmas.Option.{slice_get-map}
-use Rattle.esr_history.specs.Events.{BeginRecord, begin_record_of, begin_records, begin_record, limit_of, is_begun, is_query, is_update, is_active, is_committed, is_aborted, commits, aborts, reads, reads_any, writes, written, read_count}
+use Rattle.esr_history.specs.Events.{BeginRecord, begin_record_of, begin_records, begin_record, limit_of, is_query, is_update, is_active, is_committed, is_aborted, commits, aborts, reads, reads_any, writes, written}
 use Rattle.esr_history.specs.Machine.{DistanceFunction, Schedule, accepted_in}
 use Rattle.esr_history.specs.Queries.{is_strict}
 use Rattle.esr_history.specs.ReportBounds.{is_active_query}
-use Rattle.esr_history.proofs.Membership.{In, In-any, any-from_In}
-use Rattle.esr_history.proofs.TraceAgreement.{any_of, any_given, query_not_update}
+use Rattle.esr_history.proofs.Membership.{In}
+use Rattle.esr_history.proofs.TraceAgreement.{any_of}
 use Rattle.esr_core.specs.States.{begin_event}
 use Rattle.esr_core.specs.Carried.{active_numbers, new_number, settled, carried_begin}
 use Rattle.esr_core.proofs.Begins.{begin_record_as, begin_is, begin_writes}
 use Rattle.esr_renewal.specs.Types.{TxnId, ItemId, Event, BeginUpdate, BeginQuery, Read, Write, Commit, Abort}
-use Rattle.esr_renewal.proofs.Renumbered.{at_place, new_number_injective}
+use Rattle.esr_renewal.proofs.Renumbered.{at_place}
 
 -- Lists that two functions yield in turn.
 
@@ -157,9 +157,11 @@ module _ (d : DistanceFunction) (h : Schedule) where
   pub records : (ts : List ℕ) (us rs : List Event) → begin_records (events_again ts us rs) ≡ map begun_again ts
   records ts us rs =
       filter_map-append begin_record_of (begins_again ts) (filter_map operation_again us ++ filter_map read_again rs)
-      ∙ (rw (filter_map-append begin_record_of (filter_map operation_again us) (filter_map read_again rs),
-      all_none operation_again begin_record_of (operation_case (λ e f. begin_record_of f ≡ None) (λ t x own. refl) (λ t x v own. refl)) us,
-      all_none read_again begin_record_of (read_case (λ e f. begin_record_of f ≡ None) (λ t x own. refl)) rs)
+      ∙ (rw (
+        filter_map-append begin_record_of (filter_map operation_again us) (filter_map read_again rs),
+        all_none operation_again begin_record_of (operation_case (λ e f. begin_record_of f ≡ None) (λ t x own. refl) (λ t x v own. refl)) us,
+        all_none read_again begin_record_of (read_case (λ e f. begin_record_of f ≡ None) (λ t x own. refl)) rs,
+      )
       (append_nil (begin_records (begins_again ts)) ∙ begins_are ts))
     where
       append_nil : (bs : List BeginRecord) → bs ++ [] ≡ bs
@@ -196,22 +198,29 @@ module _ (d : DistanceFunction) (h : Schedule) where
   pub none_committed : (ts : List ℕ) (us rs : List Event) (u : ℕ) → is_committed (events_again ts us rs) u ≡ false
   none_committed ts us rs u =
       any_parts (commits u) ts us rs (no_commit_at u)
-      ∙ rw (any_empty operation_again (commits u) (operation_case (λ e f. commits u f ≡ false) (λ t x own. refl) (λ t x v own. refl)) us,
-      any_empty read_again (commits u) (read_case (λ e f. commits u f ≡ false) (λ t x own. refl)) rs) refl
+      ∙ rw (
+        any_empty operation_again (commits u) (operation_case (λ e f. commits u f ≡ false) (λ t x own. refl) (λ t x v own. refl)) us,
+        any_empty read_again (commits u) (read_case (λ e f. commits u f ≡ false) (λ t x own. refl)) rs,
+      ) refl
 
   pub none_aborted : (ts : List ℕ) (us rs : List Event) (u : ℕ) → is_aborted (events_again ts us rs) u ≡ false
   none_aborted ts us rs u =
       any_parts (aborts u) ts us rs (no_abort_at u)
-      ∙ rw (any_empty operation_again (aborts u) (operation_case (λ e f. aborts u f ≡ false) (λ t x own. refl) (λ t x v own. refl)) us,
-      any_empty read_again (aborts u) (read_case (λ e f. aborts u f ≡ false) (λ t x own. refl)) rs) refl
+      ∙ rw (
+        any_empty operation_again (aborts u) (operation_case (λ e f. aborts u f ≡ false) (λ t x own. refl) (λ t x v own. refl)) us,
+        any_empty read_again (aborts u) (read_case (λ e f. aborts u f ≡ false) (λ t x own. refl)) rs,
+      ) refl
 
   -- the writes are those of active updates
   pub writes_again : (p : ℕ → Bool) (x : ℕ) (ts : List ℕ) (us rs : List Event)
       → filter_map (written p x) (events_again ts us rs) ≡ filter_map (written (λ s. runs s && p (new_number h s).0) x) us
   writes_again p x ts us rs =
       filter_map-append (written p x) (begins_again ts) (filter_map operation_again us ++ filter_map read_again rs)
-      ∙ rw (begins_write p x ts, filter_map-append (written p x) (filter_map operation_again us) (filter_map read_again rs),
-      all_none read_again (written p x) (read_case (λ e f. written p x f ≡ None) (λ t y own. refl)) rs)
+      ∙ rw (
+        begins_write p x ts,
+        filter_map-append (written p x) (filter_map operation_again us) (filter_map read_again rs),
+        all_none read_again (written p x) (read_case (λ e f. written p x f ≡ None) (λ t y own. refl)) rs,
+      )
       (append_nil (filter_map (written p x) (filter_map operation_again us))
       ∙ compose operation_again (written p x) (written (λ s. runs s && p (new_number h s).0) x) lost
       (operation_case (λ e f. written (λ s. runs s && p (new_number h s).0) x e ≡ written p x f) (λ t y own. refl) (λ t y v own. rw own refl)) us)

@@ -1,8 +1,29 @@
-//! Laws.
+//! A renewal that carries the active transactions over: the law that it is always possible.
+//!
+//! A history holds a limited number of transactions, so a long run consists of many histories. A renewal opens the next
+//! one with the committed values. It need not wait until nothing is active: each active transaction begins again, then the
+//! operations of active updates follow with the replies that they had, then the reads of active queries, at the current
+//! values. The definitions are those of `esr_core` (`carried`, `IsCarriedOver`).
+//!
+//! What was charged is divided. A conflict of a query and an update is open while both are active. The reads and writes
+//! that are carried over are charged exactly the open amounts again, so each transaction begins with its limit less the
+//! settled rest, and no limit refuses what is carried. Two facts make this work. The open amounts of a transaction are at
+//! most what it was charged. And active updates have no conflicting operations, because each holds its locks to its end,
+//! so no lock refuses an operation, and each read returns the value that it returned before.
+//!
+//! Rejected: to reduce a limit by all that was charged, which charges open conflicts twice; and to repeat the reads of
+//! queries before the writes of updates, which charges an update that writes several times for each of its writes.
 #![tactic(auto)]
 
-ghost use Rattle.std.specs.Prelude.{◌≡◌};
+ghost use Rattle.esr_renewal.specs.Carry.{LawOfCarry, LawOfOpenExports};
 
-pub fn scratch(x: u8)
-    ensures { x ≡ x }
+/// Proves that the open charges of an update are at most its export, as those of a query are at most its import.
+pub fn open_exports_are_charged()
+    ensures { LawOfOpenExports }
+{}
+
+/// Proves that the machine returns each reply of a carried history, and that in it each item keeps its two values, and
+/// each active transaction its reads, its locks, and the rest of its limit.
+pub fn every_renewal_carries()
+    ensures { LawOfCarry }
 {}
