@@ -13,7 +13,8 @@ use Rattle.esr_history.proofs.WellFormed.{active_parts}
 use Rattle.esr_core.specs.Renewed.{committed_values, renewed}
 use Rattle.esr_core.specs.Carried.{active_numbers, new_number, settled, charged_in, open_charges, carried, IsCarriedAs, IsCarriedOver}
 use Rattle.esr_renewal.specs.Types.{Event, Entry}
-use Rattle.esr_renewal.specs.Carry.{LawOfCarry, LawOfOpenExports}
+use Rattle.esr_core.proofs.Renewed.{as_one}
+use Rattle.esr_renewal.specs.Carry.{LawOfCarriedOrder, LawOfCarry, LawOfOpenExports}
 use Rattle.esr_renewal.proofs.Replayed.{runs, events_again}
 use Rattle.esr_renewal.proofs.Again.{query_then, limit_then, active_then, update_wrote, update_read, query_wrote, query_read, update_count, query_count}
 use Rattle.esr_renewal.proofs.CarriedValues.{committed_kept, current_kept}
@@ -157,3 +158,6 @@ law_of_open_exports d a h legal u = export_within d h (as_metric d a) legal u
 
 pub law_of_carry : LawOfCarry
 law_of_carry d a h legal = is_carried_over d (as_metric d a) h legal
+
+pub law_of_carried_order : LawOfCarriedOrder
+law_of_carried_order d h legal later goes_on = as_one d h (along (carried d h) later) legal goes_on refl
