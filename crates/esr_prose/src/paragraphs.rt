@@ -2,6 +2,7 @@
 
 use crate::prose::{Block, BlockKind, prose_of};
 use crate::subject::Subject;
+use esr_audit::Finding;
 use esr_history::TxnId;
 use esr_outcomes::Auditor;
 use esr_text::wrap;
@@ -65,7 +66,29 @@ fn query_called(recording: &Recording<'_>, name: &str) -> Option<TxnId> {
     facts.query.then_some(query)
 }
 
-/// The prose about a query.
+/// Returns the prose about a query with this finding, if it has committed.
+fn prose_with<'a>(
+    alloc: Global,
+    recording: &'a Recording<'a>,
+    query: TxnId,
+    auditor: &'a Auditor<'a>,
+    finding: Option<&'a Finding>,
+) -> Result<String, AllocError> {
+    let subject = Subject {
+        items: &recording.items,
+        transactions: &recording.transactions,
+        history: &recording.history,
+        lines: recording.lines,
+        query,
+        auditor,
+        finding,
+    };
+    let trace = trace_of(alloc, subject.history, query)?;
+    let blocks = prose_of(alloc, &subject, &trace)?;
+    text_of(alloc, &blocks)
+}
+
+/// Returns the prose about a query.
 fn prose_about(
     alloc: Global,
     recording: &Recording<'_>,
@@ -73,18 +96,7 @@ fn prose_about(
 ) -> Result<Vec<u8>, AllocError> {
     let auditor = Auditor::of(alloc, &recording.history)?;
     let finding = auditor.finding(alloc, query)?;
-    let subject = Subject {
-        items: &recording.items,
-        transactions: &recording.transactions,
-        history: &recording.history,
-        lines: recording.lines,
-        query,
-        auditor: &auditor,
-        finding: finding.as_ref(),
-    };
-    let trace = trace_of(alloc, subject.history, query)?;
-    let blocks = prose_of(alloc, &subject, &trace)?;
-    let text = text_of(alloc, &blocks)?;
+    let text = prose_with(alloc, recording, query, &auditor, finding.as_ref())?;
     Ok(text.into_bytes())
 }
 

@@ -1,0 +1,35 @@
+//! A renewal that carries the active transactions over: the law that it is always possible.
+//!
+//! A history holds a limited number of transactions, so a long run consists of many histories. A renewal opens the
+//! next one with the committed values. It need not wait until nothing is active: each active transaction begins
+//! again, then the operations of active updates follow with the replies that they had, then the reads of active
+//! queries, at the current values. The definitions are those of `esr_core` (`carried`, `IsCarriedOver`).
+//!
+//! The charges are divided. A conflict of a query and an update is open while both are active. The reads and writes
+//! that are carried over are charged exactly the open amounts again, so each transaction begins with its limit minus
+//! the settled rest, and no limit refuses a carried entry. Two facts make this work. The open amounts of a
+//! transaction are at most its charges. And active updates have no conflicting operations, because each holds its
+//! locks to its end, so no lock refuses an operation, and each read returns the value that it returned before.
+//!
+//! Rejected: to reduce a limit by all charges, which charges open conflicts twice; and to repeat the reads of queries
+//! before the writes of updates, which charges an update that writes several times for each of its writes.
+#![tactic(auto)]
+
+ghost use Rattle.esr_renewal.specs.Carry.{LawOfCarriedOrder, LawOfCarry, LawOfOpenExports};
+
+/// Proves that the open charges of an update are at most its export, as those of a query are at most its import.
+pub fn open_exports_are_charged()
+    ensures { LawOfOpenExports }
+{}
+
+/// Proves that the machine returns each reply of a carried history, and that in it each item keeps its two values, and
+/// each active transaction its reads, its locks, and the rest of its limit.
+pub fn every_renewal_carries()
+    ensures { LawOfCarry }
+{}
+
+/// Proves that the committed updates of a history, then those of the carried history and of all that follows in it, are
+/// serializable as one history.
+pub fn carried_histories_are_serializable()
+    ensures { LawOfCarriedOrder }
+{}
