@@ -6,7 +6,7 @@ use Rattle.std.proofs.lemmas.List.{length-map}
 use Rattle.std.proofs.lemmas.List.FromFn.{length-map-range_with_len, length-range_with_len}
 use Rattle.esr_history.specs.Events.{BeginRecord, begin_record_of, begin_records, txn_numbers, limit_of, is_refusal, accepted, is_begun, is_query, is_update, is_active, reads, writes, holds_read, holds_write, total_read_count, written, last_value, committed_value, current_value}
 use Rattle.esr_history.specs.Machine.{DistanceFunction, Schedule, Charge, accepted_in, extended, value_distance, due, due_in, reply_to, reasons, refusal, acceptance, answered, first_reason, not_begun, ended, no_item, many_reads, read_blocked, write_blocked, blocked_by, other_writer, other_holder, import_full, export_full, limit_too_high, too_many, when, IsLegal}
-use Rattle.esr_history.specs.Legal.{along, legal_induction}
+use Rattle.esr_history.specs.Legal.{continued, legal_induction}
 use Rattle.esr_history.specs.Operations.{Operation, operations, operation_of, operation_by, answer}
 use Rattle.esr_history.proofs.Allowed.{NoneApplies, ReadAllowed, WriteAllowed, read_allowed, write_allowed}
 use Rattle.esr_history.proofs.Fitting.{accepts}
@@ -80,10 +80,10 @@ module _ (d : DistanceFunction) (h : Schedule) (legal : IsLegal d h) where
 
   -- The begins.
   pub begin_replied : (ys : List ℕ) (t : ℕ) (zs : List ℕ) (e : Entry) → active_numbers h ≡ ys ++ t ∷ zs → begin_entry d h t ≡ Some e
-      → e.reply ≡ reply_to d (along start (filter_map (begin_entry d h) ys)) e.event
-  begin_replied ys t zs e split is = subst (λ (f : Entry). f.reply ≡ reply_to d (along start (filter_map (begin_entry d h) ys)) f.event) (same_entry (carried_begin d h t) e is) answers
+      → e.reply ≡ reply_to d (continued start (filter_map (begin_entry d h) ys)) e.event
+  begin_replied ys t zs e split is = subst (λ (f : Entry). f.reply ≡ reply_to d (continued start (filter_map (begin_entry d h) ys)) f.event) (same_entry (carried_begin d h t) e is) answers
     where
-      few : length (begin_records (accepted_in (along start (filter_map (begin_entry d h) ys)))) ≡ length ys
+      few : length (begin_records (accepted_in (continued start (filter_map (begin_entry d h) ys)))) ≡ length ys
       few = ap (λ es. length (begin_records es)) (begins_accepted d h ys) ∙ (ap length (begins_are d h ys) ∙ length-map ys (begun_again d h))
 
       fits : length ys < 65535
@@ -97,27 +97,27 @@ module _ (d : DistanceFunction) (h : Schedule) (legal : IsLegal d h) where
       low : limit_of (accepted_in h) t - settled d h t ≤ 10 ^ 18
       low = let l : limit_of (accepted_in h) t ≤ 10 ^ 18 = low_limits (accepted_in h) (legal_induction d (λ g. AreLow (accepted_in g)) (low_next d) h tt legal) t in omega (arith, l)
 
-      no_reason : refusal d (along start (filter_map (begin_entry d h) ys)) (carried_begin d h t).event ≡ None
+      no_reason : refusal d (continued start (filter_map (begin_entry d h) ys)) (carried_begin d h t).event ≡ None
       no_reason =
           let limit : ℕ = limit_of (accepted_in h) t - settled d h t in
-          sym (begin_reason d (along start (filter_map (begin_entry d h) ys)) _ limit _)
-          ∙ first_of_two (limit_too_high limit) (too_many (along start (filter_map (begin_entry d h) ys)))
+          sym (begin_reason d (continued start (filter_map (begin_entry d h) ys)) _ limit _)
+          ∙ first_of_two (limit_too_high limit) (too_many (continued start (filter_map (begin_entry d h) ys)))
           (ap (λ b. when b LimitOutOfRange) (le-ltb (10 ^ 18) limit low))
           (ap (λ n. when (nat_le 65535 n) TooManyTransactions) few ∙ ap (λ b. when b TooManyTransactions) (lt-leb 65535 (length ys) fits))
         where
           first_of_two : (a b : Option Refusal) → a ≡ None → b ≡ None → first_reason (a ∷ b ∷ []) ≡ None
           first_of_two a b first second = rw (first, second) refl
 
-      answers : Begun (new_number h t) ≡ reply_to d (along start (filter_map (begin_entry d h) ys)) (carried_begin d h t).event
+      answers : Begun (new_number h t) ≡ reply_to d (continued start (filter_map (begin_entry d h) ys)) (carried_begin d h t).event
       answers =
           ap (λ n. Begun (record { 0 = n })) (number_after h ys zs t split ∙ ap (λ n. n + 1) (sym few))
-          ∙ (begin_accepted (along start (filter_map (begin_entry d h) ys)) _ _ _
-          ∙ ap (λ w. answered w (acceptance (along start (filter_map (begin_entry d h) ys)) (carried_begin d h t).event)) (sym no_reason))
+          ∙ (begin_accepted (continued start (filter_map (begin_entry d h) ys)) _ _ _
+          ∙ ap (λ w. answered w (acceptance (continued start (filter_map (begin_entry d h) ys)) (carried_begin d h t).event)) (sym no_reason))
 
   -- The operations of updates, after the begins.
   module _ (before after : List Entry) (e : Entry) (split : h.entries ≡ before ++ e ∷ after) (ok : is_refusal e.reply ≡ false) where
     abbrev k : Schedule
-    k = along (along start (filter_map (begin_entry d h) (active_numbers h))) (filter_map (operation_entry d h) before)
+    k = continued (continued start (filter_map (begin_entry d h) (active_numbers h))) (filter_map (operation_entry d h) before)
 
     abbrev evs : List Event
     evs = events_again d h (active_numbers h) (accepted before) []
@@ -259,25 +259,25 @@ module _ (d : DistanceFunction) (h : Schedule) (legal : IsLegal d h) where
         (begun_ok t own, (active_ok t own, (item_ok x.0 there.uncharged.item, (ap (λ q. when q QueryMayNotWrite) (not_query t own), (there.uncharged.value, (blocked, (import_none (due_in d k (Write (new_number h t.0) x v)) free, (export_none (due_in d k (Write (new_number h t.0) x v)) free, tt)))))))))
 
   pub operation_replied : (before : List Entry) (e : Entry) (after : List Entry) (f : Entry) → h.entries ≡ before ++ e ∷ after → operation_entry d h e ≡ Some f
-      → f.reply ≡ reply_to d (along (along start (filter_map (begin_entry d h) (active_numbers h))) (filter_map (operation_entry d h) before)) f.event
+      → f.reply ≡ reply_to d (continued (continued start (filter_map (begin_entry d h) (active_numbers h))) (filter_map (operation_entry d h) before)) f.event
   operation_replied before e after f split is = at (is_refusal e.reply) refl is
     where
       go : is_refusal e.reply ≡ false → (v : Event) → e.event ≡ v → carried_operation h e.reply v ≡ Some f
-          → f.reply ≡ reply_to d (along (along start (filter_map (begin_entry d h) (active_numbers h))) (filter_map (operation_entry d h) before)) f.event
+          → f.reply ≡ reply_to d (continued (continued start (filter_map (begin_entry d h) (active_numbers h))) (filter_map (operation_entry d h) before)) f.event
       go ok (Read t x) v_is is' = own (runs d h t.0) refl is'
         where
           own : (b : Bool) → runs d h t.0 ≡ b → (if b then Some (record { event = Read (new_number h t.0) x; reply = e.reply }) else None) ≡ Some f
-              → f.reply ≡ reply_to d (along (along start (filter_map (begin_entry d h) (active_numbers h))) (filter_map (operation_entry d h) before)) f.event
+              → f.reply ≡ reply_to d (continued (continued start (filter_map (begin_entry d h) (active_numbers h))) (filter_map (operation_entry d h) before)) f.event
           own true r g =
-              subst (λ (n : Entry). n.reply ≡ reply_to d (along (along start (filter_map (begin_entry d h) (active_numbers h))) (filter_map (operation_entry d h) before)) n.event)
+              subst (λ (n : Entry). n.reply ≡ reply_to d (continued (continued start (filter_map (begin_entry d h) (active_numbers h))) (filter_map (operation_entry d h) before)) n.event)
               (same_entry (record { event = Read (new_number h t.0) x; reply = e.reply }) f g) (update_reads before after e split ok t x v_is r)
           own false r g = absurd (cc)
       go ok (Write t x v) v_is is' = own (runs d h t.0) refl is'
         where
           own : (b : Bool) → runs d h t.0 ≡ b → (if b then Some (record { event = Write (new_number h t.0) x v; reply = e.reply }) else None) ≡ Some f
-              → f.reply ≡ reply_to d (along (along start (filter_map (begin_entry d h) (active_numbers h))) (filter_map (operation_entry d h) before)) f.event
+              → f.reply ≡ reply_to d (continued (continued start (filter_map (begin_entry d h) (active_numbers h))) (filter_map (operation_entry d h) before)) f.event
           own true r g =
-              subst (λ (n : Entry). n.reply ≡ reply_to d (along (along start (filter_map (begin_entry d h) (active_numbers h))) (filter_map (operation_entry d h) before)) n.event)
+              subst (λ (n : Entry). n.reply ≡ reply_to d (continued (continued start (filter_map (begin_entry d h) (active_numbers h))) (filter_map (operation_entry d h) before)) n.event)
               (same_entry (record { event = Write (new_number h t.0) x v; reply = e.reply }) f g) (update_writes before after e split ok t x v v_is r)
           own false r g = absurd (cc)
       go ok (BeginUpdate l) v_is is' = absurd (cc)
@@ -286,6 +286,6 @@ module _ (d : DistanceFunction) (h : Schedule) (legal : IsLegal d h) where
       go ok (Abort t) v_is is' = absurd (cc)
 
       at : (b : Bool) → is_refusal e.reply ≡ b → (if b then None else carried_operation h e.reply e.event) ≡ Some f
-          → f.reply ≡ reply_to d (along (along start (filter_map (begin_entry d h) (active_numbers h))) (filter_map (operation_entry d h) before)) f.event
+          → f.reply ≡ reply_to d (continued (continued start (filter_map (begin_entry d h) (active_numbers h))) (filter_map (operation_entry d h) before)) f.event
       at true r is' = absurd (cc)
       at false r is' = go r e.event refl is'

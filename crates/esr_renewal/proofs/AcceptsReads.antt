@@ -6,7 +6,7 @@ use Rattle.std.proofs.lemmas.List.FromFn.{length-map-range_with_len}
 use Rattle.std.proofs.lemmas.List.Sums.{sum_by-cons, sum_by-append}
 use Rattle.esr_history.specs.Events.{txn_numbers, limit_of, is_refusal, accepted, is_begun, is_query, is_update, is_active, holds_write, writes, total_read_count, committed_value, current_value}
 use Rattle.esr_history.specs.Machine.{DistanceFunction, Schedule, Charge, accepted_in, value_distance, due, due_in, charges, charges_in, import_in, export_in, total, reply_to, reasons, many_reads, read_blocked, blocked_by, other_writer, import_full, export_full, when, writer, charge_of_read, IsLegal}
-use Rattle.esr_history.specs.Legal.{along}
+use Rattle.esr_history.specs.Legal.{continued}
 use Rattle.esr_history.specs.ReportBounds.{is_active_query}
 use Rattle.esr_history.proofs.Allowed.{NoneApplies, ReadAllowed, read_allowed}
 use Rattle.esr_history.proofs.Lists.{found_satisfies}
@@ -28,14 +28,14 @@ use Rattle.esr_renewal.proofs.Accepts.{same_entry}
 
 module _ (d : DistanceFunction) (metric : (w : List ℕ) → IsMetric (d w)) (h : Schedule) (legal : IsLegal d h) where
   abbrev start : Schedule
-  start = along (along (renewed h h.weights) (filter_map (begin_entry d h) (active_numbers h))) (filter_map (operation_entry d h) h.entries)
+  start = continued (continued (renewed h h.weights) (filter_map (begin_entry d h) (active_numbers h))) (filter_map (operation_entry d h) h.entries)
 
   abbrev distance : ℕ → ℤ → ℤ → ℕ
   distance = value_distance d h
 
   module _ (before after : List Entry) (e : Entry) (split : h.entries ≡ before ++ e ∷ after) (ok : is_refusal e.reply ≡ false) (q : TxnId) (x : ItemId) (is : e.event ≡ Read q x) (own : is_active_query h q.0 ≡ true) where
     abbrev k : Schedule
-    k = along start (filter_map (read_entry d h) before)
+    k = continued start (filter_map (read_entry d h) before)
 
     abbrev rs : List Event
     rs = accepted before
@@ -65,7 +65,7 @@ module _ (d : DistanceFunction) (metric : (w : List ℕ) → IsMetric (d w)) (h 
     was_query : is_query rs q.0 ≡ true
     was_query =
         let begun : is_begun rs q.0 ≡ true = not-false (is_begun rs q.0) (when_none (not (is_begun rs q.0)) NoSuchTransaction there.begun) in
-        let whole : IsLegal d (along (record h { entries = before }) (e ∷ after)) = subst (λ (es : List Entry). IsLegal d (record h { entries = es })) split legal in
+        let whole : IsLegal d (continued (record h { entries = before }) (e ∷ after)) = subst (λ (es : List Entry). IsLegal d (record h { entries = es })) split legal in
         ap (λ o. unwrap_or (option_map (λ b. b.query) o) false) (sym (begin_stays d (record h { entries = before }) (e ∷ after) q.0 whole begun))
         ∙ (ap (λ es. is_query (accepted es) q.0) (sym split) ∙ query)
 
@@ -169,16 +169,16 @@ module _ (d : DistanceFunction) (metric : (w : List ℕ) → IsMetric (d w)) (h 
         )
 
   pub read_replied : (before : List Entry) (e : Entry) (after : List Entry) (f : Entry) → h.entries ≡ before ++ e ∷ after → read_entry d h e ≡ Some f
-      → f.reply ≡ reply_to d (along start (filter_map (read_entry d h) before)) f.event
+      → f.reply ≡ reply_to d (continued start (filter_map (read_entry d h) before)) f.event
   read_replied before e after f split is = at (is_refusal e.reply) refl is
     where
-      go : is_refusal e.reply ≡ false → (v : Event) → e.event ≡ v → carried_read h v ≡ Some f → f.reply ≡ reply_to d (along start (filter_map (read_entry d h) before)) f.event
+      go : is_refusal e.reply ≡ false → (v : Event) → e.event ≡ v → carried_read h v ≡ Some f → f.reply ≡ reply_to d (continued start (filter_map (read_entry d h) before)) f.event
       go ok (Read q x) v_is is' = own (is_active_query h q.0) refl is'
         where
           own : (b : Bool) → is_active_query h q.0 ≡ b → (if b then Some (record { event = Read (new_number h q.0) x; reply = Value (current_value h.opening (accepted_in h) x.0) }) else None) ≡ Some f
-              → f.reply ≡ reply_to d (along start (filter_map (read_entry d h) before)) f.event
+              → f.reply ≡ reply_to d (continued start (filter_map (read_entry d h) before)) f.event
           own true r g =
-              subst (λ (n : Entry). n.reply ≡ reply_to d (along start (filter_map (read_entry d h) before)) n.event)
+              subst (λ (n : Entry). n.reply ≡ reply_to d (continued start (filter_map (read_entry d h) before)) n.event)
               (same_entry (record { event = Read (new_number h q.0) x; reply = Value (current_value h.opening (accepted_in h) x.0) }) f g) (reads_now before after e split ok q x v_is r)
           own false r g = absurd (cc)
       go ok (Write t x v) v_is is' = absurd (cc)
@@ -187,6 +187,6 @@ module _ (d : DistanceFunction) (metric : (w : List ℕ) → IsMetric (d w)) (h 
       go ok (Commit t) v_is is' = absurd (cc)
       go ok (Abort t) v_is is' = absurd (cc)
 
-      at : (b : Bool) → is_refusal e.reply ≡ b → (if b then None else carried_read h e.event) ≡ Some f → f.reply ≡ reply_to d (along start (filter_map (read_entry d h) before)) f.event
+      at : (b : Bool) → is_refusal e.reply ≡ b → (if b then None else carried_read h e.event) ≡ Some f → f.reply ≡ reply_to d (continued start (filter_map (read_entry d h) before)) f.event
       at true r is' = absurd (cc)
       at false r is' = go r e.event refl is'

@@ -6,7 +6,7 @@ use Rattle.std.proofs.lemmas.List.{map-append}
 use Rattle.std.proofs.lemmas.List.Elements.{filter-append, filter_map-append}
 use Rattle.esr_history.specs.Events.{is_refusal, accepted, is_update, is_active, current_value}
 use Rattle.esr_history.specs.Machine.{DistanceFunction, Schedule, accepted_in, empty_schedule, extended, reply_to, reasons, acceptance, answered, first_reason, IsLegal, IsLegalAfter}
-use Rattle.esr_history.specs.Legal.{along}
+use Rattle.esr_history.specs.Legal.{continued}
 use Rattle.esr_history.specs.Operations.{Operation, operations, operations_in, operation_of}
 use Rattle.esr_history.specs.ReportBounds.{is_active_query}
 use Rattle.esr_history.proofs.Allowed.{NoneApplies}
@@ -44,7 +44,7 @@ accepted_reply d h e none = ap (λ w. answered w (acceptance h e)) (sym (first_n
 
 -- Legal histories, by parts.
 module _ (d : DistanceFunction) where
-  pub legal_append : (before : Schedule) (xs ys : List Entry) → IsLegalAfter d before xs → IsLegalAfter d (along before xs) ys → IsLegalAfter d before (xs ++ ys)
+  pub legal_append : (before : Schedule) (xs ys : List Entry) → IsLegalAfter d before xs → IsLegalAfter d (continued before xs) ys → IsLegalAfter d before (xs ++ ys)
   legal_append before [] ys first second = subst (λ (es : List Entry). IsLegalAfter d (record before { entries = es }) ys) (append-nil before.entries) second
   legal_append before (x ∷ xs) ys first second = (
     first.0,
@@ -53,15 +53,15 @@ module _ (d : DistanceFunction) where
   )
 
   pub legal_each : {X : Type 0} (f : X → Option Entry) (b : Schedule) (all : List X)
-      → ((ys : List X) (x : X) (zs : List X) (e : Entry) → all ≡ ys ++ x ∷ zs → f x ≡ Some e → e.reply ≡ reply_to d (along b (filter_map f ys)) e.event)
-      → (ys zs : List X) → all ≡ ys ++ zs → IsLegalAfter d (along b (filter_map f ys)) (filter_map f zs)
+      → ((ys : List X) (x : X) (zs : List X) (e : Entry) → all ≡ ys ++ x ∷ zs → f x ≡ Some e → e.reply ≡ reply_to d (continued b (filter_map f ys)) e.event)
+      → (ys zs : List X) → all ≡ ys ++ zs → IsLegalAfter d (continued b (filter_map f ys)) (filter_map f zs)
   legal_each f b all each ys [] is = tt
   legal_each {X} f b all each ys (x ∷ zs) is = at (f x) refl (legal_each f b all each (ys ++ x ∷ []) zs (is ∙ sym (append_assoc ys (x ∷ []) zs)))
     where
-      at : (o : Option Entry) → f x ≡ o → IsLegalAfter d (along b (filter_map f (ys ++ x ∷ []))) (filter_map f zs) → IsLegalAfter d (along b (filter_map f ys)) (cons_option o (filter_map f zs))
+      at : (o : Option Entry) → f x ≡ o → IsLegalAfter d (continued b (filter_map f (ys ++ x ∷ []))) (filter_map f zs) → IsLegalAfter d (continued b (filter_map f ys)) (cons_option o (filter_map f zs))
       at None none rest =
           let same : filter_map f (ys ++ x ∷ []) ≡ filter_map f ys = filter_map-append f ys (x ∷ []) ∙ (ap (λ o. filter_map f ys ++ cons_option o []) none ∙ append-nil (filter_map f ys)) in
-          subst (λ (es : List Entry). IsLegalAfter d (along b es) (filter_map f zs)) same rest
+          subst (λ (es : List Entry). IsLegalAfter d (continued b es) (filter_map f zs)) same rest
       at (Some e) some rest =
           let more : b.entries ++ filter_map f (ys ++ x ∷ []) ≡ (b.entries ++ filter_map f ys) ++ e ∷ [] =
           ap (λ l. b.entries ++ l) (filter_map-append f ys (x ∷ []) ∙ ap (λ o. filter_map f ys ++ cons_option o []) some) ∙ sym (append_assoc b.entries (filter_map f ys) (e ∷ [])) in

@@ -4,7 +4,7 @@ use Rattle.std.specs.List.{filter_map, list_any}
 use Rattle.std.proofs.lemmas.Bool.{true≢false, false_from_ne_true, and_from}
 use Rattle.esr_history.specs.Events.{is_query, is_update, is_active, limit_of, read_count, reads, writes, committed_value, current_value}
 use Rattle.esr_history.specs.Machine.{DistanceFunction, Schedule, accepted_in, value_distance, charges, charges_in, import_in, export_in, IsLegal, IsLegalAfter}
-use Rattle.esr_history.specs.Legal.{along}
+use Rattle.esr_history.specs.Legal.{continued}
 use Rattle.esr_history.specs.ReportBounds.{AreDistances}
 use Rattle.esr_history.proofs.LegalWellFormed.{legal_orderly, update_from}
 use Rattle.esr_history.proofs.TraceAgreement.{query_not_update}
@@ -39,11 +39,11 @@ module _ (d : DistanceFunction) (metric : (w : List ℕ) → IsMetric (d w)) (h 
       subst (IsLegalAfter d start) (sym (entries_as d h))
       (legal_append d start begins (operations ++ filter_map (read_entry d h) h.entries)
       (legal_each d (begin_entry d h) start (active_numbers h) (begin_replied d h legal) [] (active_numbers h) refl)
-      (legal_append d (along start begins) operations (filter_map (read_entry d h) h.entries)
+      (legal_append d (continued start begins) operations (filter_map (read_entry d h) h.entries)
       (subst (λ (es : List Entry). IsLegalAfter d (record start { entries = es }) operations) (append-nil begins)
-      (legal_each d (operation_entry d h) (along start begins) h.entries (operation_replied d h legal) [] h.entries refl))
+      (legal_each d (operation_entry d h) (continued start begins) h.entries (operation_replied d h legal) [] h.entries refl))
       (subst (λ (es : List Entry). IsLegalAfter d (record start { entries = es }) (filter_map (read_entry d h) h.entries)) (append-nil (begins ++ operations))
-      (legal_each d (read_entry d h) (along (along start begins) operations) h.entries (read_replied d metric h legal) [] h.entries refl))))
+      (legal_each d (read_entry d h) (continued (continued start begins) operations) h.entries (read_replied d metric h legal) [] h.entries refl))))
 
   abbrev k : Schedule
   k = carried d h
@@ -160,4 +160,4 @@ pub law_of_carry : LawOfCarry
 law_of_carry d a h legal = is_carried_over d (as_metric d a) h legal
 
 pub law_of_carried_order : LawOfCarriedOrder
-law_of_carried_order d h legal later goes_on = as_one d h (along (carried d h) later) legal goes_on refl
+law_of_carried_order d h legal later goes_on = as_one d h (continued (carried d h) later) legal goes_on refl

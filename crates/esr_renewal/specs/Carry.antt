@@ -2,7 +2,7 @@
 use Rattle.std.specs.Prelude.{◌≤◌, ℕ, List}
 use Rattle.esr_history.specs.Machine.{DistanceFunction, Schedule, charges_in, export_in, IsLegal}
 use Rattle.esr_history.specs.ReportBounds.{AreDistances}
-use Rattle.esr_history.specs.Legal.{along}
+use Rattle.esr_history.specs.Legal.{continued}
 use Rattle.esr_core.specs.Renewed.{AreSerializableAsOne}
 use Rattle.esr_core.specs.Carried.{carried, open_charges, IsCarriedOver}
 use Rattle.esr_renewal.specs.Types.{Entry}
@@ -21,4 +21,4 @@ LawOfCarry = (d : DistanceFunction) → AreDistances d → (h : Schedule) → Is
 abbrev pub LawOfCarriedOrder : Type 0
 LawOfCarriedOrder =
     (d : DistanceFunction) (h : Schedule) → IsLegal d h
-    → (later : List Entry) → IsLegal d (along (carried d h) later) → AreSerializableAsOne h (along (carried d h) later)
+    → (later : List Entry) → IsLegal d (continued (carried d h) later) → AreSerializableAsOne h (continued (carried d h) later)

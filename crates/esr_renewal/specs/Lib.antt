@@ -2,4 +2,4 @@
 
 pub mod Types
 pub mod Carry
-pub mod Worked
+pub mod WorkedExamples

@@ -1,7 +1,7 @@
 -- A worked example: a renewal with an update whose item two reports have read, and a second renewal.
 use Rattle.std.specs.Prelude.{◌≡◌, pos, [], ◌∷◌, false, refl, map}
 use Rattle.esr_history.specs.Machine.{Schedule, charges_in, export_in}
-use Rattle.esr_history.specs.Worked.{plain, started_from, played, replies, txn, item}
+use Rattle.esr_history.specs.WorkedExamples.{plain, started_from, played, replies, txn, item}
 use Rattle.esr_core.specs.Carried.{open_charges, settled, carried}
 use Rattle.esr_renewal.specs.Types.{BeginUpdate, BeginQuery, Read, Write, Commit, Begun, Value, Wrote, Committed}
 
