@@ -210,35 +210,26 @@ fn do_task<
             execute_command(rt, console, job, source, input, &work)
         }
         Task::Explain { name, prose: true } => {
-            show_script(rt, console, job, source, input, &Prose { name }, None)
+            show_script(rt, console, job, source, input, &Prose { name })
         }
         Task::Explain { name, prose: false } => match data_of(job.format) {
             Some(data) => {
                 let query_view = &ExplanationTable { data };
-                show_query(rt, console, job, source, input, name, query_view, None)
+                show_query(rt, console, job, source, input, name, query_view)
             }
-            None => show_query(rt, console, job, source, input, name, &Explaining, None),
+            None => show_query(rt, console, job, source, input, name, &Explaining),
         },
         Task::Picture { name } => {
             let notes = &Notes::new(rt.alloc());
             let query_view = &PictureWithErrorsView { notes };
-            show_query(
-                rt,
-                console,
-                job,
-                source,
-                input,
-                name,
-                query_view,
-                Some(notes),
-            )
+            show_noted_query(rt, console, job, source, input, name, query_view, notes)
         }
         Task::Timeline { name } => {
             let notes = &Notes::new(rt.alloc());
             let script_view = &Timeline { name, notes };
-            show_script(rt, console, job, source, input, script_view, Some(notes))
+            show_noted_script(rt, console, job, source, input, script_view, notes)
         }
-        Task::Trace => show_script(rt, console, job, source, input, &TraceEvents, None),
+        Task::Trace => show_script(rt, console, job, source, input, &TraceEvents),
         Task::Shrink { name, at_least } => {
             let progress = &SearchMeter(Meter::new(rt, console));
             let at_least = at_least.unwrap_or(1);
@@ -247,7 +238,7 @@ fn do_task<
                 at_least,
                 progress,
             };
-            show_script(rt, console, job, source, input, script_view, None)
+            show_script(rt, console, job, source, input, script_view)
         }
         Task::Page { worst } => show_page(rt, console, job, source, input, worst),
         Task::Audit { workers } => match data_of(job.format) {
@@ -261,9 +252,9 @@ fn do_task<
             let script_view = &Ledger {
                 format: table_format(job.format),
             };
-            show_script(rt, console, job, source, input, script_view, None)
+            show_script(rt, console, job, source, input, script_view)
         }
-        Task::Why { name } => show_script(rt, console, job, source, input, &Why { name }, None),
+        Task::Why { name } => show_script(rt, console, job, source, input, &Why { name }),
         Task::Check {
             script,
             query,
@@ -359,7 +350,7 @@ fn today(rt: &impl Clock, alloc: Global) -> Result<Option<String>, AllocError> {
 
 // In each function below, all references have one lifetime: the prover covers a struct of references only so.
 
-/// Prints a text about a query. The lines with errors are noted if the view shows them.
+/// Prints a text about a query.
 fn show_query<'a, R: Print + Eprint + AllocGlobal + Clock, I: Read + Drop, T: QueryView>(
     rt: &'a R,
     console: Console,
@@ -368,8 +359,27 @@ fn show_query<'a, R: Print + Eprint + AllocGlobal + Clock, I: Read + Drop, T: Qu
     input: I,
     name: &'a str,
     query_view: &'a T,
-    notes: Option<&'a Notes>,
 ) -> u8 {
+    let work = RenderQuery {
+        name,
+        query_view,
+        notes: None,
+    };
+    execute_command(rt, console, job, source, input, &work)
+}
+
+/// Prints a text about a query that shows the lines with errors.
+fn show_noted_query<'a, R: Print + Eprint + AllocGlobal + Clock, I: Read + Drop, T: QueryView>(
+    rt: &'a R,
+    console: Console,
+    job: Job<'a>,
+    source: Source<'a>,
+    input: I,
+    name: &'a str,
+    query_view: &'a T,
+    notes: &'a Notes,
+) -> u8 {
+    let notes = Some(notes);
     let work = RenderQuery {
         name,
         query_view,
@@ -378,7 +388,7 @@ fn show_query<'a, R: Print + Eprint + AllocGlobal + Clock, I: Read + Drop, T: Qu
     execute_command(rt, console, job, source, input, &work)
 }
 
-/// Prints a text about a script. The lines with errors are noted if the view shows them.
+/// Prints a text about a script.
 fn show_script<'a, R: Print + Eprint + AllocGlobal + Clock, I: Read + Drop, S: ScriptView>(
     rt: &R,
     console: Console,
@@ -386,9 +396,11 @@ fn show_script<'a, R: Print + Eprint + AllocGlobal + Clock, I: Read + Drop, S: S
     source: Source<'_>,
     input: I,
     script_view: &'a S,
-    notes: Option<&'a Notes>,
 ) -> u8 {
-    let work = RenderScript { script_view, notes };
+    let work = RenderScript {
+        script_view,
+        notes: None,
+    };
     execute_command(rt, console, job, source, input, &work)
 }
 
@@ -435,7 +447,7 @@ fn show_page_of<'a, R: Print + Eprint + AllocGlobal + Clock, I: Read + Drop>(
         words: &Passage,
         origin,
     };
-    show_script(rt, console, job, source, input, &page, Some(notes))
+    show_noted_script(rt, console, job, source, input, &page, notes)
 }
 
 /// Returns the origin of a page.
@@ -453,6 +465,21 @@ fn origin_of<'a>(file: &'a str, date: &'a str, notes: &'a Notes) -> Origin<'a> {
 /// Returns a text unless it is empty.
 fn unless_empty(text: &str) -> Option<&str> {
     if text.is_empty() { None } else { Some(text) }
+}
+
+/// Prints a text about a script that shows the lines with errors.
+fn show_noted_script<'a, R: Print + Eprint + AllocGlobal + Clock, I: Read + Drop, S: ScriptView>(
+    rt: &R,
+    console: Console,
+    job: Job<'_>,
+    source: Source<'_>,
+    input: I,
+    script_view: &'a S,
+    notes: &'a Notes,
+) -> u8 {
+    let notes = Some(notes);
+    let work = RenderScript { script_view, notes };
+    execute_command(rt, console, job, source, input, &work)
 }
 
 /// The audits of a script as a table.
