@@ -83,11 +83,22 @@ pub fn distance_after(
     case: &[Operation],
     query: TxnId,
 ) -> Result<Option<u64>, AllocError> {
-    let Ok(mut machine) = empty_machine(alloc, history) else {
-        return Err(AllocError);
-    };
     let mut numbers = Numbers::new(alloc, history.begun_count().saturating_add(1))?;
-    if !play(&mut machine, &mut numbers, case)? {
+    match empty_machine(alloc, history) {
+        Ok(mut machine) => distance_on(alloc, &mut machine, &mut numbers, case, query),
+        Err(_) => Err(AllocError),
+    }
+}
+
+/// Like `distance_after`, on an empty machine.
+fn distance_on(
+    alloc: Global,
+    machine: &mut Machine<MetricRef<'_, Weighted>>,
+    numbers: &mut Numbers,
+    case: &[Operation],
+    query: TxnId,
+) -> Result<Option<u64>, AllocError> {
+    if !play(machine, numbers, case)? {
         return Ok(None);
     }
     match audit_query(alloc, machine.history(), numbers.of(query)) {

@@ -114,11 +114,9 @@ fn items_of(
 }
 
 /// Returns a machine with these items. None is returned if they are not those of a history, which does not happen.
-fn machine_of(
-    alloc: Global,
-    values: Vec<i64>,
-    weights: Vec<u32>,
-) -> Result<Option<Machine<Weighted>>, AllocError> {
+fn machine_of(alloc: Global, items: &Items) -> Result<Option<Machine<Weighted>>, AllocError> {
+    let values = items.values.to_vec(alloc)?;
+    let weights = items.weights.to_vec(alloc)?;
     let (Ok(store), Ok(metric)) = (Store::new(alloc, values), Weighted::new(weights)) else {
         return Ok(None);
     };
@@ -168,6 +166,33 @@ fn play(
     Ok(())
 }
 
+/// Returns the script of a case after its operations on an empty machine.
+fn script_on(
+    alloc: Global,
+    machine: &mut Machine<Weighted>,
+    items: &Items,
+    transactions: &Names,
+    case: &[Operation],
+) -> Result<Option<Vec<u8>>, AllocError> {
+    play(alloc, machine, items, case)?;
+    let names = transactions_of(alloc, transactions, case)?;
+    let text = script(alloc, &items.names, &names, machine.history())?;
+    Ok(Some(text))
+}
+
+/// Returns the script of a case over these items.
+fn script_over(
+    alloc: Global,
+    items: &Items,
+    transactions: &Names,
+    case: &[Operation],
+) -> Result<Option<Vec<u8>>, AllocError> {
+    match machine_of(alloc, items)? {
+        Some(mut machine) => script_on(alloc, &mut machine, items, transactions, case),
+        None => Ok(None),
+    }
+}
+
 /// Returns the script of a case.
 pub fn script_of(
     alloc: Global,
@@ -177,12 +202,5 @@ pub fn script_of(
     case: &[Operation],
 ) -> Result<Option<Vec<u8>>, AllocError> {
     let used = items_of(alloc, history, items, case)?;
-    let values = used.values.to_vec(alloc)?;
-    let weights = used.weights.to_vec(alloc)?;
-    let Some(mut machine) = machine_of(alloc, values, weights)? else {
-        return Ok(None);
-    };
-    play(alloc, &mut machine, &used, case)?;
-    let names = transactions_of(alloc, transactions, case)?;
-    Ok(Some(script(alloc, &used.names, &names, machine.history())?))
+    script_over(alloc, &used, transactions, case)
 }
