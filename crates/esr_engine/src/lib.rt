@@ -12,6 +12,7 @@
 
 mod account;
 mod audit;
+mod carrying;
 mod engine;
 mod for_update;
 mod opening;
