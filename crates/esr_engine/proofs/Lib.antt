@@ -8,3 +8,4 @@ pub mod Statuses
 pub mod Locking
 pub mod Renewal
 pub mod Reports
+pub mod CarriedParts

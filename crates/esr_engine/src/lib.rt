@@ -18,6 +18,7 @@ mod for_update;
 mod opening;
 mod renewals;
 
+pub use carrying::CarriedTxn;
 pub use account::{AccountView, TxnStatus};
 pub use engine::{Counts, EmbeddedEngine, Unanswered};
 pub use esr_history::Kind;
