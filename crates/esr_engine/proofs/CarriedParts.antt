@@ -1,8 +1,9 @@
 -- The parts of a renewal that carries the active transactions over.
-use Rattle.std.proofs.Common.{◌≡◌, ℕ, ℤ, zero, suc, ◌+◌, ◌-◌, ◌<◌, ◌≤◌, Bool, true, false, not, cond, ◌==◌, nat_lt, nat_le, List, [], ◌∷◌, ◌++◌, take, drop, length, map, filter, sum_by, count_by, refl, sym, ◌∙◌, ap, subst, arith, Option, None, Some, IfSome, slice_get, if◌then◌else◌, append_assoc, add-one}
+use Rattle.std.proofs.Common.{◌≡◌, ℕ, ℤ, zero, suc, ◌+◌, ◌-◌, ◌<◌, ◌≤◌, Bool, true, false, not, cond, ◌==◌, nat_lt, nat_le, List, [], ◌∷◌, ◌++◌, take, drop, length, map, filter, sum_by, count_by, refl, sym, ◌∙◌, ap, subst, arith, Option, None, Some, IfSome, slice_get, get_or, option_map, append-nil, if◌then◌else◌, append_assoc, add-one}
+use Rattle.std.specs.Prelude.{unwrap_or}
 use Rattle.std.specs.List.{filter_map, cons_option, range_with_len}
 use Rattle.std.proofs.lemmas.Bool.{leb-false}
-use Rattle.std.proofs.lemmas.List.{map-append, length-map}
+use Rattle.std.proofs.lemmas.List.{map-append, length-map, length_push, map_more, get_or-map}
 use Rattle.std.proofs.lemmas.List.Elements.{filter_map-append, filter-append}
 use Rattle.std.proofs.lemmas.List.Sums.{sum_by-cons, sum_by-append, count_by-le-length, length-filter}
 use Rattle.std.proofs.lemmas.List.FromFn.{length-range_with_len}
@@ -16,9 +17,15 @@ use Rattle.esr_history.specs.declared.event.Event.TheVariants.{BeginUpdate, Begi
 use Rattle.esr_history.specs.declared.event.Entry.{Entry}
 use Rattle.esr_history.specs.declared.event.Refusal.TheVariants.{NoSuchItem}
 use Rattle.esr_history.specs.BackLinks.{accepted_item}
-use Rattle.esr_history.specs.Events.{accepted, begin_records, is_active, is_query, is_refusal, txn_numbers, committed_value, current_value}
+use Rattle.esr_core.specs.States.{begin_event}
+use Rattle.esr_history.specs.declared.event.Reply.{Reply}
+use Rattle.esr_history.specs.declared.event.Reply.TheVariants.{Begun}
+use Rattle.esr_history.specs.Queries.{is_strict}
+use Rattle.esr_history.specs.Events.{BeginRecord, accepted, begin_record, begin_record_of, begin_records, limit_of, is_active, is_query, is_refusal, txn_numbers, committed_value, current_value}
 use Rattle.esr_history.specs.Machine.{Charge, DistanceFunction, IsLegal, Schedule, accepted_in, no_item, reasons, writer, charges_in}
 use Rattle.esr_history.specs.ReportBounds.{is_active_query}
+use Rattle.esr_history.proofs.Charges.{range-push}
+use Rattle.esr_history.proofs.Membership.{get_seam}
 use Rattle.esr_history.proofs.Allowed.{NoneApplies, read_allowed, write_allowed}
 use Rattle.esr_history.proofs.LegalWellFormed.{when_none}
 use Rattle.esr_history.proofs.WithinRanges.{legal_begins}
@@ -28,7 +35,8 @@ use Rattle.esr_renewal.proofs.CarriedEntries.{allowed, entries_as}
 use Rattle.esr_renewal.proofs.OpenSums.{open_sum, imports_to, exports_of}
 use Rattle.esr_engine.specs.Accounts.{charged_to}
 use Rattle.esr_engine.specs.declared.carrying.ActiveTxn.{ActiveTxn}
-use Rattle.esr_engine.specs.Carrying.{active_as, active_in, amount_to, lag, open_amount, open_of, operation_entry, read_entry}
+use Rattle.esr_engine.specs.declared.carrying.CarriedTxn.{CarriedTxn}
+use Rattle.esr_engine.specs.Carrying.{active_as, active_by, active_in, amount_to, begun_in, carried_as, carried_in, lag, open_amount, open_of, operation_entry, read_entry}
 
 -- ---- lists
 
@@ -180,3 +188,155 @@ entries_are h =
     append_assoc (map (carried_begin weighted h) (active_numbers h)) (filter_map (operation_entry h) h.entries) (filter_map (read_entry h) h.entries)
     ∙ (ap (λ l. l ++ (filter_map (operation_entry h) h.entries ++ filter_map (read_entry h) h.entries)) (begins_as (carried_begin weighted h) (active_numbers h))
     ∙ sym (entries_as weighted h))
+
+-- ---- the active transactions
+
+abbrev begin_in : Entry → Option BeginRecord
+begin_in e = if is_refusal e.reply then None else begin_record_of e.event
+
+records_as : (es : List Entry) → begin_records (accepted es) ≡ filter_map begin_in es
+records_as [] = refl
+records_as (e ∷ es) = at (is_refusal e.reply) (records_as es)
+  where
+    at : (b : Bool) → begin_records (accepted es) ≡ filter_map begin_in es
+        → begin_records (map (λ (e : Entry). e.event) (cond (not b) (e ∷ filter (λ (n : Entry). not (is_refusal n.reply)) es) (filter (λ (n : Entry). not (is_refusal n.reply)) es)))
+        ≡ cons_option (if b then None else begin_record_of e.event) (filter_map begin_in es)
+    at true rest = rest
+    at false rest = ap (cons_option (begin_record_of e.event)) rest
+
+begun_as : (t : ℕ) (e : Entry) → begun_in t e ≡ option_map (active_by t) (begin_in e)
+begun_as t e = at (is_refusal e.reply)
+  where
+    at : (b : Bool) → (if b then None else option_map (active_by t) (begin_record_of e.event)) ≡ option_map (active_by t) (if b then None else begin_record_of e.event)
+    at true = refl
+    at false = refl
+
+pub record IsNext (h : Schedule) (i n : ℕ) (a : ActiveTxn) : Type 0 where
+  pub begun : n + 1 ≡ length (begin_records (accepted (take (i + 1) h.entries)))
+  pub is : a ≡ active_as h (n + 1)
+
+pub active_next : (h : Schedule) (i n : ℕ) (e : Entry) → slice_get h.entries i ≡ Some e → n ≡ length (begin_records (accepted (take i h.entries))) → (a : ActiveTxn) → Some a ≡ begun_in (n + 1) e → IsNext h i n a
+active_next h i n e at count a is = with_begin (begin_in e) refl (is ∙ begun_as (n + 1) e)
+  where
+    with_begin : (o : Option BeginRecord) → begin_in e ≡ o → Some a ≡ option_map (active_by (n + 1)) o → IsNext h i n a
+    with_begin None none f = absurd (cc)
+    with_begin (Some b) some f =
+        let front : List BeginRecord = filter_map begin_in (take i h.entries) in
+        let grown : filter_map begin_in (take (i + 1) h.entries) ≡ front ++ b ∷ [] = yields_next begin_in h.entries i e at ∙ ap (λ o. front ++ cons_option o []) some in
+        let long : length (front ++ b ∷ []) ≡ length front + 1 = length_push front b in
+        let counted : n ≡ length front = count ∙ ap length (records_as (take i h.entries)) in
+        let all : filter_map begin_in h.entries ≡ front ++ b ∷ filter_map begin_in (drop (suc i) h.entries) =
+        ap (filter_map begin_in) (parts_at h.entries i e at) ∙ (filter_map-append begin_in (take i h.entries) (e ∷ drop (suc i) h.entries) ∙ ap (λ o. front ++ cons_option o (filter_map begin_in (drop (suc i) h.entries))) some) in
+        let found : begin_record (accepted_in h) (n + 1) ≡ Some b =
+        ap (begin_record (accepted_in h)) (add-one n) ∙ (ap (λ bs. slice_get bs n) (records_as h.entries ∙ all) ∙ (ap (slice_get (front ++ b ∷ filter_map begin_in (drop (suc i) h.entries))) counted ∙ get_seam front b (filter_map begin_in (drop (suc i) h.entries)))) in
+        let same : a ≡ active_by (n + 1) b = same_Some a (active_by (n + 1) b) f in
+        let ends : n + 1 ≡ length (begin_records (accepted (take (i + 1) h.entries))) =
+        ap (λ k. k + 1) counted ∙ (sym long ∙ (ap length (sym grown) ∙ ap length (sym (records_as (take (i + 1) h.entries))))) in
+        record {
+          begun = ends;
+          is = same ∙ sym (as_begun b found);
+        }
+      where
+        as_begun : (b : BeginRecord) → begin_record (accepted_in h) (n + 1) ≡ Some b → active_as h (n + 1) ≡ active_by (n + 1) b
+        as_begun b found =
+            ap (λ (o : Option BeginRecord). record {
+              txn = record { 0 = n + 1 };
+              query = unwrap_or (option_map (λ b. b.query) o) false;
+              limit = unwrap_or (option_map (λ b. b.limit) o) 0;
+              strict = unwrap_or (option_map (λ b. b.strict) o) false;
+            }) found
+
+pub none_next : (h : Schedule) (i n : ℕ) (e : Entry) → slice_get h.entries i ≡ Some e → n ≡ length (begin_records (accepted (take i h.entries))) → None ≡ begun_in (n + 1) e
+    → n ≡ length (begin_records (accepted (take (i + 1) h.entries)))
+none_next h i n e at count is = with_begin (begin_in e) refl (is ∙ begun_as (n + 1) e)
+  where
+    with_begin : (o : Option BeginRecord) → begin_in e ≡ o → None ≡ option_map (active_by (n + 1)) o → n ≡ length (begin_records (accepted (take (i + 1) h.entries)))
+    with_begin (Some b) some f = absurd (cc)
+    with_begin None none f =
+        let front : List BeginRecord = filter_map begin_in (take i h.entries) in
+        let grown : filter_map begin_in (take (i + 1) h.entries) ≡ front = yields_next begin_in h.entries i e at ∙ (ap (λ o. front ++ cons_option o []) none ∙ append-nil front) in
+        count ∙ (ap length (records_as (take i h.entries)) ∙ (ap length (sym grown) ∙ ap length (sym (records_as (take (i + 1) h.entries)))))
+
+active_more : (h : Schedule) (n : ℕ) → filter (is_active (accepted_in h)) (range_with_len 1 (n + 1)) ≡ filter (is_active (accepted_in h)) (range_with_len 1 n) ++ cond (is_active (accepted_in h) (1 + n)) ((1 + n) ∷ []) []
+active_more h n = ap (filter (is_active (accepted_in h))) (range-push 1 n) ∙ filter-append (is_active (accepted_in h)) (range_with_len 1 n) ((1 + n) ∷ [])
+
+pub active_push : (h : Schedule) (n : ℕ) → is_active (accepted_in h) (n + 1) ≡ true
+    → map (active_as h) (filter (is_active (accepted_in h)) (range_with_len 1 (n + 1))) ≡ map (active_as h) (filter (is_active (accepted_in h)) (range_with_len 1 n)) ++ active_as h (n + 1) ∷ []
+active_push h n act =
+    let one : 1 + n ≡ n + 1 = omega arith in
+    let act' : is_active (accepted_in h) (1 + n) ≡ true = ap (is_active (accepted_in h)) one ∙ act in
+    ap (map (active_as h)) (active_more h n ∙ ap (λ b. filter (is_active (accepted_in h)) (range_with_len 1 n) ++ cond b ((1 + n) ∷ []) []) act')
+    ∙ (map-append (active_as h) (filter (is_active (accepted_in h)) (range_with_len 1 n)) ((1 + n) ∷ [])
+    ∙ ap (λ k. map (active_as h) (filter (is_active (accepted_in h)) (range_with_len 1 n)) ++ active_as h k ∷ []) one)
+
+pub active_skip : (h : Schedule) (n : ℕ) → is_active (accepted_in h) (n + 1) ≡ false
+    → map (active_as h) (filter (is_active (accepted_in h)) (range_with_len 1 (n + 1))) ≡ map (active_as h) (filter (is_active (accepted_in h)) (range_with_len 1 n))
+active_skip h n act =
+    let one : 1 + n ≡ n + 1 = omega arith in
+    let act' : is_active (accepted_in h) (1 + n) ≡ false = ap (is_active (accepted_in h)) one ∙ act in
+    ap (map (active_as h)) (active_more h n ∙ (ap (λ b. filter (is_active (accepted_in h)) (range_with_len 1 n) ++ cond b ((1 + n) ∷ []) []) act' ∙ append-nil (filter (is_active (accepted_in h)) (range_with_len 1 n))))
+
+-- ---- the lists that are pushed
+
+pub pushed : {X Y : Type 0} (f : X → Option Y) (es : List X) (i : ℕ) (e : X) (first old new : List Y) (y : Y) → slice_get es i ≡ Some e → Some y ≡ f e → old ≡ first ++ filter_map f (take i es) → new ≡ old ++ y ∷ []
+    → new ≡ first ++ filter_map f (take (i + 1) es)
+pushed f es i e first old new y at some is grown =
+    grown ∙ (ap (λ l. l ++ y ∷ []) is ∙ (append_assoc first (filter_map f (take i es)) (y ∷ []) ∙ ap (λ l. first ++ l) (sym (yields_next f es i e at ∙ ap (λ o. filter_map f (take i es) ++ cons_option o []) (sym some)))))
+
+pub passed : {X Y : Type 0} (f : X → Option Y) (es : List X) (i : ℕ) (e : X) (first old : List Y) → slice_get es i ≡ Some e → None ≡ f e → old ≡ first ++ filter_map f (take i es)
+    → old ≡ first ++ filter_map f (take (i + 1) es)
+passed f es i e first old at none is =
+    is ∙ ap (λ l. first ++ l) (sym (yields_next f es i e at ∙ (ap (λ o. filter_map f (take i es) ++ cons_option o []) (sym none) ∙ append-nil (filter_map f (take i es)))))
+
+abbrev pub no_active : ActiveTxn
+no_active = record { txn = record { 0 = 0 }; query = false; limit = 0; strict = false }
+
+abbrev pub no_carried : CarriedTxn
+no_carried = record { old = record { 0 = 0 }; new = record { 0 = 0 }; settled = 0 }
+
+module _ (h : Schedule) (active : List ActiveTxn) (is : active ≡ active_in h) (i : ℕ) (inside : i < length active) where
+  below : i < length (active_numbers h)
+  below = let a = ap length is in let b = length-map (active_numbers h) (active_as h) in omega (arith, a, b, inside)
+
+  number : ℕ
+  number = get_or (active_numbers h) i 0
+
+  pub active_at : get_or active i no_active ≡ active_as h (get_or (active_numbers h) i 0)
+  active_at = ap (λ l. get_or l i no_active) is ∙ get_or-map (active_as h) (active_numbers h) i 0 no_active below
+
+  pub query_at : (get_or active i no_active).query ≡ is_query (accepted_in h) (get_or active i no_active).txn.0
+  query_at = rw active_at refl
+
+  pub carried_next : (old new : List CarriedTxn) (n : TxnId) (s : ℕ) → n ≡ new_number h (get_or active i no_active).txn.0 → s ≡ settled weighted h (get_or active i no_active).txn.0
+      → old ≡ map (carried_as weighted h) (take i (active_numbers h)) → new ≡ old ++ record { old = (get_or active i no_active).txn; new = n; settled = s } ∷ []
+      → new ≡ map (carried_as weighted h) (take (i + 1) (active_numbers h))
+  carried_next old new n s by amount before grown =
+      let t : ℕ = get_or (active_numbers h) i 0 in
+      let number_is : n ≡ new_number h t = by ∙ ap (λ (a : ActiveTxn). new_number h a.txn.0) active_at in
+      let settled_is : s ≡ settled weighted h t = amount ∙ ap (λ (a : ActiveTxn). settled weighted h a.txn.0) active_at in
+      grown ∙ (ap (λ l. l ++ record { old = (get_or active i no_active).txn; new = n; settled = s } ∷ []) before
+      ∙ (ap (λ (a : ActiveTxn). map (carried_as weighted h) (take i (active_numbers h)) ++ record { old = a.txn; new = n; settled = s } ∷ []) active_at
+      ∙ (ap (λ (m : TxnId). map (carried_as weighted h) (take i (active_numbers h)) ++ record { old = record { 0 = t }; new = m; settled = s } ∷ []) number_is
+      ∙ (ap (λ (m : ℕ). map (carried_as weighted h) (take i (active_numbers h)) ++ record { old = record { 0 = t }; new = new_number h t; settled = m } ∷ []) settled_is
+      ∙ sym (map_more (carried_as weighted h) (active_numbers h) i 0 below)))))
+
+  pub begin_next : (carried : List CarriedTxn) → carried ≡ carried_in weighted h → (old new : List Entry) (e : Entry)
+      → e.event ≡ begin_event (get_or active i no_active).query ((get_or active i no_active).limit - (get_or carried i no_carried).settled) (get_or active i no_active).strict
+      → e.reply ≡ Begun (get_or carried i no_carried).new
+      → old ≡ map (carried_begin weighted h) (take i (active_numbers h)) → new ≡ old ++ e ∷ [] → new ≡ map (carried_begin weighted h) (take (i + 1) (active_numbers h))
+  begin_next carried from old new e event reply before grown =
+      let t : ℕ = get_or (active_numbers h) i 0 in
+      let at : get_or carried i no_carried ≡ carried_as weighted h t = ap (λ l. get_or l i no_carried) from ∙ get_or-map (carried_as weighted h) (active_numbers h) i 0 no_carried below in
+      let event_is : e.event ≡ (carried_begin weighted h t).event =
+      event ∙ (ap (λ (a : ActiveTxn). begin_event a.query (a.limit - (get_or carried i no_carried).settled) a.strict) active_at
+      ∙ ap (λ (c : CarriedTxn). begin_event (is_query (accepted_in h) t) (limit_of (accepted_in h) t - c.settled) (is_strict (accepted_in h) t)) at) in
+      let reply_is : e.reply ≡ (carried_begin weighted h t).reply = reply ∙ ap (λ (c : CarriedTxn). Begun c.new) at in
+      let same : e ≡ carried_begin weighted h t = ap (λ (v : Event). record { event = v; reply = e.reply }) event_is ∙ ap (λ (r : Reply). record { event = (carried_begin weighted h t).event; reply = r }) reply_is in
+      grown ∙ (ap (λ l. l ++ e ∷ []) before ∙ (ap (λ x. map (carried_begin weighted h) (take i (active_numbers h)) ++ x ∷ []) same
+      ∙ sym (map_more (carried_begin weighted h) (active_numbers h) i 0 below)))
+
+  pub all_numbers : length active ≤ i + 1 → take (i + 1) (active_numbers h) ≡ active_numbers h
+  all_numbers past =
+      let a = ap length is in let b = length-map (active_numbers h) (active_as h) in
+      let all : i + 1 ≡ length (active_numbers h) = omega (arith, a, b, past, inside) in
+      ap (λ n. take n (active_numbers h)) all ∙ take-length (active_numbers h)

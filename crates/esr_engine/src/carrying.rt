@@ -163,11 +163,14 @@ impl EmbeddedEngine {
         let mut active = Vec::new(alloc);
         let mut begun = 0u32;
         for i in 0..self.machine.log().len() {
-            if let Some(txn) = begun_in(TxnId(begun + 1), self.entry(i)) {
-                begun += 1;
-                if self.is_active(txn.txn) {
-                    active.push(txn)?;
+            match begun_in(TxnId(begun + 1), self.entry(i)) {
+                Some(txn) => {
+                    begun += 1;
+                    if self.is_active(txn.txn) {
+                        active.push(txn)?;
+                    }
                 }
+                None => {}
             }
         }
         Ok(active)
@@ -298,8 +301,9 @@ impl EmbeddedEngine {
             ≡ entries.old.items ++ filter_map (operation_entry self.now) self.now.entries) }
     {
         for i in 0..self.machine.log().len() {
-            if let Some(entry) = self.operation_entry(active, self.entry(i)) {
-                entries.push(entry)?;
+            match self.operation_entry(active, self.entry(i)) {
+                Some(entry) => entries.push(entry)?,
+                None => {}
             }
         }
         Ok(())
@@ -316,8 +320,9 @@ impl EmbeddedEngine {
             ≡ entries.old.items ++ filter_map (read_entry self.now) self.now.entries) }
     {
         for i in 0..self.machine.log().len() {
-            if let Some(entry) = self.read_entry(active, self.entry(i)) {
-                entries.push(entry)?;
+            match self.read_entry(active, self.entry(i)) {
+                Some(entry) => entries.push(entry)?,
+                None => {}
             }
         }
         Ok(())
