@@ -40,7 +40,7 @@ use Rattle.esr_engine.specs.Carrying.{active_as, active_by, active_in, amount_to
 
 -- ---- lists
 
-parts_at : {X : Type 0} (es : List X) (i : ℕ) (e : X) → slice_get es i ≡ Some e → es ≡ take i es ++ e ∷ drop (suc i) es
+pub parts_at : {X : Type 0} (es : List X) (i : ℕ) (e : X) → slice_get es i ≡ Some e → es ≡ take i es ++ e ∷ drop (suc i) es
 parts_at [] i e is = absurd (cc)
 parts_at (x ∷ es) zero e is = ap (λ y. y ∷ es) (same_Some x e is)
 parts_at (x ∷ es) (suc i) e is = ap (λ l. x ∷ l) (parts_at es i e is)

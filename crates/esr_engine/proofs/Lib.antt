@@ -9,3 +9,4 @@ pub mod Locking
 pub mod Renewal
 pub mod Reports
 pub mod CarriedParts
+pub mod CarriedEngine

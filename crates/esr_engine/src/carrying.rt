@@ -16,11 +16,9 @@ ghost use Rattle.esr_core.specs.Carried.{active_numbers, carried, carried_begin,
 ghost use Rattle.esr_engine.specs.Carrying.{active_in, begun_in, carried_in, lag, open_amount, operation_entry, read_entry};
 
 use crate::engine::EmbeddedEngine;
-use crate::opening::metric_of;
 use esr_core::Machine;
 use esr_history::{Entry, Event, NoMemory, Reply, TxnId};
-use esr_items::{ItemId, Metric, Store, Weighted};
-use esr_order::Index;
+use esr_items::{ItemId, Metric, Weighted};
 use std::alloc::{AllocError, Global};
 
 /// An active transaction: its number, and how it began.
@@ -157,7 +155,7 @@ impl EmbeddedEngine {
     }
 
     /// Returns the active transactions, in ascending order.
-    fn active_txns(&self, alloc: Global) -> Result<Vec<ActiveTxn>, AllocError>
+    pub(crate) fn active_txns(&self, alloc: Global) -> Result<Vec<ActiveTxn>, AllocError>
         ensures { IfOk result (λ v. v.items ≡ active_in self.now) }
     {
         let mut active = Vec::new(alloc);
@@ -228,7 +226,7 @@ impl EmbeddedEngine {
     }
 
     /// Returns the active transactions with their new numbers and their settled amounts.
-    fn carried_txns(&self, alloc: Global, active: &[ActiveTxn]) -> Result<Vec<CarriedTxn>, AllocError>
+    pub(crate) fn carried_txns(&self, alloc: Global, active: &[ActiveTxn]) -> Result<Vec<CarriedTxn>, AllocError>
         requires { active.now ≡ active_in self.now }
         ensures { IfOk result (λ v. v.items ≡ carried_in weighted self.now) }
     {
@@ -347,7 +345,7 @@ impl EmbeddedEngine {
     }
 
     /// Returns the entries with which the new history begins.
-    fn carried_entries(
+    pub(crate) fn carried_entries(
         &self,
         alloc: Global,
         active: &[ActiveTxn],
@@ -361,5 +359,26 @@ impl EmbeddedEngine {
         self.push_operations(active, &mut entries)?;
         self.push_reads(active, &mut entries)?;
         Ok(entries)
+    }
+
+    /// Creates the engine of the new history by a replay of these entries over the committed values.
+    pub(crate) fn carried(&self, alloc: Global, entries: &[Entry]) -> Result<EmbeddedEngine, NoMemory>
+        requires { entries.now ≡ carried_entries weighted self.now }
+        ensures { IfOk result (λ e. e ≡ carried weighted self.now) }
+    {
+        let _invariant = self.machine.log(); // brings the invariant into the proof
+        let EmbeddedEngine {
+            mut machine,
+            weights,
+            active: _,
+            index,
+        } = self.successor(alloc)?;
+        replay(&mut machine, entries)?;
+        Ok(EmbeddedEngine {
+            machine,
+            weights,
+            active: self.active,
+            index,
+        })
     }
 }
