@@ -1,11 +1,11 @@
 -- The engine of a carried history satisfies its invariant.
-use Rattle.std.proofs.Common.{◌≡◌, ℕ, zero, suc, ◌+◌, ◌<◌, ◌≤◌, Bool, true, false, cond, List, [], ◌∷◌, ◌++◌, take, drop, length, map, filter, count_by, get_or, refl, sym, ◌∙◌, ap, subst, arith, inl, Some, slice_get, All}
+use Rattle.std.proofs.Common.{◌≡◌, ℕ, zero, suc, ◌+◌, ◌<◌, ◌≤◌, Bool, true, cond, List, [], ◌∷◌, ◌++◌, take, drop, length, count_by, get_or, refl, sym, ◌∙◌, ap, subst, arith, inl}
 use Rattle.std.specs.List.{range_with_len}
 use Rattle.std.proofs.lemmas.List.{length-map, length-take-le}
 use Rattle.std.proofs.lemmas.List.Sums.{sum_by-cons, length-filter}
 use Rattle.std.proofs.lemmas.Option.{slice_get-get_or}
-use Rattle.esr_base.specs.declared.limits.TheConstants.{MAX_ENTRIES, MAX_ITEMS}
-use Rattle.esr_items.specs.Weights.{IsWeight, weighted, weighted-equal_values, weighted_comm, weighted-triangle}
+use Rattle.esr_base.specs.declared.limits.TheConstants.{MAX_ENTRIES}
+use Rattle.esr_items.specs.Weights.{weighted, weighted-equal_values, weighted_comm, weighted-triangle}
 use Rattle.esr_history.specs.declared.event.Event.{Event}
 use Rattle.esr_history.specs.declared.event.Entry.{Entry}
 use Rattle.esr_history.specs.Events.{begin_records, is_active, txn_numbers}

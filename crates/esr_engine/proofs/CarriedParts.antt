@@ -1,5 +1,5 @@
 -- The parts of a renewal that carries the active transactions over.
-use Rattle.std.proofs.Common.{◌≡◌, ℕ, ℤ, zero, suc, ◌+◌, ◌-◌, ◌<◌, ◌≤◌, Bool, true, false, not, cond, ◌==◌, nat_lt, nat_le, List, [], ◌∷◌, ◌++◌, take, drop, length, map, filter, sum_by, count_by, refl, sym, ◌∙◌, ap, subst, arith, Option, None, Some, IfSome, slice_get, get_or, option_map, append-nil, if◌then◌else◌, append_assoc, add-one}
+use Rattle.std.proofs.Common.{◌≡◌, ℕ, ℤ, zero, suc, ◌+◌, ◌-◌, ◌<◌, ◌≤◌, Bool, true, false, not, cond, ◌==◌, nat_lt, nat_le, List, [], ◌∷◌, ◌++◌, take, drop, length, map, filter, sum_by, count_by, refl, sym, ◌∙◌, ap, arith, Option, None, Some, IfSome, slice_get, get_or, option_map, append-nil, if◌then◌else◌, append_assoc, add-one}
 use Rattle.std.specs.Prelude.{unwrap_or}
 use Rattle.std.specs.List.{filter_map, cons_option, range_with_len}
 use Rattle.std.proofs.lemmas.Bool.{leb-false}
@@ -22,7 +22,7 @@ use Rattle.esr_history.specs.declared.event.Reply.{Reply}
 use Rattle.esr_history.specs.declared.event.Reply.TheVariants.{Begun}
 use Rattle.esr_history.specs.Queries.{is_strict}
 use Rattle.esr_history.specs.Events.{BeginRecord, accepted, begin_record, begin_record_of, begin_records, limit_of, is_active, is_query, is_refusal, txn_numbers, committed_value, current_value}
-use Rattle.esr_history.specs.Machine.{Charge, DistanceFunction, IsLegal, Schedule, accepted_in, no_item, reasons, writer, charges_in}
+use Rattle.esr_history.specs.Machine.{Charge, DistanceFunction, IsLegal, Schedule, accepted_in, no_item, reasons, writer}
 use Rattle.esr_history.specs.ReportBounds.{is_active_query}
 use Rattle.esr_history.proofs.Charges.{range-push}
 use Rattle.esr_history.proofs.Membership.{get_seam}

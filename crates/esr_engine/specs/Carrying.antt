@@ -1,10 +1,9 @@
 -- The parts of a renewal that carries the active transactions over.
 use Rattle.std.specs.Prelude.{ℕ, Bool, List, [], Option, None, map, option_map, if◌then◌else◌}
-use Rattle.esr_base.specs.declared.numbers.TxnId.{TxnId}
 use Rattle.esr_history.specs.declared.event.Event.{Event}
 use Rattle.esr_history.specs.declared.event.Entry.{Entry}
 use Rattle.esr_history.specs.declared.event.Event.TheVariants.{Read}
-use Rattle.esr_history.specs.Events.{BeginRecord, begin_record_of, is_query, is_active, is_refusal, limit_of, committed_value, current_value}
+use Rattle.esr_history.specs.Events.{BeginRecord, begin_record_of, is_query, is_refusal, limit_of, committed_value, current_value}
 use Rattle.esr_history.specs.Machine.{DistanceFunction, Schedule, Charge, accepted_in, charge_of_read, export_in, import_in, value_distance, writer}
 use Rattle.esr_history.specs.Queries.{is_strict}
 use Rattle.esr_history.specs.ReportBounds.{is_active_query}

@@ -226,7 +226,11 @@ impl EmbeddedEngine {
     }
 
     /// Returns the active transactions with their new numbers and their settled amounts.
-    pub(crate) fn carried_txns(&self, alloc: Global, active: &[ActiveTxn]) -> Result<Vec<CarriedTxn>, AllocError>
+    pub(crate) fn carried_txns(
+        &self,
+        alloc: Global,
+        active: &[ActiveTxn],
+    ) -> Result<Vec<CarriedTxn>, AllocError>
         requires { active.now ≡ active_in self.now }
         ensures { IfOk result (λ v. v.items ≡ carried_in weighted self.now) }
     {
@@ -308,11 +312,7 @@ impl EmbeddedEngine {
     }
 
     /// Appends the reads of active queries.
-    fn push_reads(
-        &self,
-        active: &[ActiveTxn],
-        entries: &mut Vec<Entry>,
-    ) -> Result<(), AllocError>
+    fn push_reads(&self, active: &[ActiveTxn], entries: &mut Vec<Entry>) -> Result<(), AllocError>
         requires { active.now ≡ active_in self.now }
         ensures { OnOk result (entries.new.items
             ≡ entries.old.items ++ filter_map (read_entry self.now) self.now.entries) }
@@ -362,7 +362,11 @@ impl EmbeddedEngine {
     }
 
     /// Creates the engine of the new history by a replay of these entries over the committed values.
-    pub(crate) fn carried(&self, alloc: Global, entries: &[Entry]) -> Result<EmbeddedEngine, NoMemory>
+    pub(crate) fn carried(
+        &self,
+        alloc: Global,
+        entries: &[Entry],
+    ) -> Result<EmbeddedEngine, NoMemory>
         requires { entries.now ≡ carried_entries weighted self.now }
         ensures { IfOk result (λ e. e ≡ carried weighted self.now) }
     {

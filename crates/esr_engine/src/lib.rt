@@ -18,8 +18,8 @@ mod for_update;
 mod opening;
 mod renewals;
 
-pub use carrying::CarriedTxn;
 pub use account::{AccountView, TxnStatus};
+pub use carrying::CarriedTxn;
 pub use engine::{Counts, EmbeddedEngine, Unanswered};
 pub use esr_history::Kind;
 pub use opening::OpenError;

@@ -1,4 +1,4 @@
-use Rattle.std.proofs.Common.{◌≡◌, ◌≤◌, ◌+◌, ◌∙◌, ◌++◌, ◌∷◌, [], ap, sym, subst, arith, true, false, map, filter}
+use Rattle.std.proofs.Common.{◌≡◌, ◌+◌, ◌∙◌, ◌++◌, ◌∷◌, [], ap, sym, arith, true, false, map, filter}
 use Rattle.std.specs.List.{range_with_len}
 use Rattle.esr_engine.specs.Carrying.{active_as}
 use Rattle.esr_history.specs.Events.{is_active}
@@ -19,7 +19,7 @@ loop-i-preserved c =
             begun = w.begun-is ∙ next.begun;
             within = let b : c.match-begun_in.begun ≡ n + 1 = w.begun-is in let l = before.within in omega (arith, b, l);
             active = rw w.begun-is (ap (λ v. v.items) w.active-is ∙ (w.in_ok-push-in-Some.ensures.items ∙ (ap (λ l. l ++ w.in-Some.txn ∷ []) before.active ∙ (ap (λ (a : ActiveTxn). map (active_as h) (filter (is_active (accepted_in h)) (range_with_len 1 n)) ++ a ∷ []) next.is
-            ∙ sym (active_push h n act)))));
+                ∙ sym (active_push h n act)))));
           }
       | in-Some+else-is_active w ↦
           let next = active_next h i n c.entry.result c.entry.ensures.entry before.begun w.in-Some.txn w.in-Some.ensures in

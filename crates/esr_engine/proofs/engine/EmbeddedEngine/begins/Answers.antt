@@ -1,4 +1,3 @@
-use Rattle.std.proofs.Common.{◌≡◌, ◌∙◌}
 use Rattle.esr_engine.proofs.CarriedParts.{begin_next}
 use Rattle.esr_engine.proofs.engine.EmbeddedEngine.begins.Goals as goal
 

@@ -1,4 +1,4 @@
-use Rattle.std.proofs.Common.{◌≡◌, ◌∙◌, ◌+◌, ◌≤◌, ap, subst, length}
+use Rattle.std.proofs.Common.{◌∙◌, ◌+◌, ◌≤◌, ap, subst, length}
 use Rattle.esr_base.specs.declared.limits.TheConstants.{MAX_ENTRIES}
 use Rattle.esr_items.specs.Weights.{weighted}
 use Rattle.esr_history.specs.Machine.{IsLegal, Schedule, accepted_in}

@@ -1,4 +1,4 @@
-use Rattle.std.proofs.Common.{◌≡◌, ◌∙◌, ◌++◌, ap}
+use Rattle.std.proofs.Common.{◌∙◌, ◌++◌, ap}
 use Rattle.std.specs.List.{filter_map}
 use Rattle.esr_engine.specs.Carrying.{operation_entry, read_entry}
 use Rattle.esr_engine.proofs.CarriedParts.{entries_are}

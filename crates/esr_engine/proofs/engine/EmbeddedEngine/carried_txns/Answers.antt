@@ -1,4 +1,3 @@
-use Rattle.std.proofs.Common.{◌≡◌, ◌∙◌}
 use Rattle.esr_engine.proofs.CarriedParts.{carried_next, query_at}
 use Rattle.esr_engine.proofs.engine.EmbeddedEngine.carried_txns.Goals as goal
 

@@ -1,4 +1,4 @@
-use Rattle.std.proofs.Common.{◌≡◌, ◌∙◌, ap, FitsSigned, w64, to_z, of_z, rules}
+use Rattle.std.proofs.Common.{◌∙◌, ap, FitsSigned, w64, to_z, of_z, rules}
 use Rattle.std.proofs.lemmas.Int.{to_z-of_z}
 use Rattle.esr_items.specs.Weights.{weighted}
 use Rattle.esr_engine.proofs.CarriedParts.{lag_is}

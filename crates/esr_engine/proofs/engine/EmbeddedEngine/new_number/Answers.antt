@@ -1,7 +1,7 @@
-use Rattle.std.proofs.Common.{◌≡◌, subst, arith}
+use Rattle.std.proofs.Common.{subst, arith}
 use Rattle.esr_items.specs.Weights.{weighted}
 use Rattle.esr_history.specs.Machine.{IsLegal}
-use Rattle.esr_engine.proofs.CarriedParts.{IsNumbered, numbered}
+use Rattle.esr_engine.proofs.CarriedParts.{numbered}
 use Rattle.esr_engine.proofs.engine.EmbeddedEngine.new_number.Goals as goal
 
 pub overflow_cast-result : goal.overflow_cast-result

@@ -1,4 +1,4 @@
-use Rattle.std.proofs.Common.{◌≡◌, ◌∙◌, ap}
+use Rattle.std.proofs.Common.{◌∙◌, ap}
 use Rattle.esr_engine.specs.Carrying.{operation_entry}
 use Rattle.esr_engine.proofs.CarriedParts.{passed, pushed}
 use Rattle.esr_engine.proofs.engine.EmbeddedEngine.push_operations.Goals.{in-Some+in_ok-push-in-Some, in-None}
