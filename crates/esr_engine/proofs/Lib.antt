@@ -8,3 +8,5 @@ pub mod Statuses
 pub mod Locking
 pub mod Renewal
 pub mod Reports
+pub mod CarriedParts
+pub mod CarriedEngine

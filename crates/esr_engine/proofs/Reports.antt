@@ -1,9 +1,7 @@
 -- The reads of an active report are within its import.
-use Rattle.std.proofs.Common.{List, ℕ}
 use Rattle.esr_items.specs.Weights.{weighted, weighted-equal_values, weighted_comm, weighted-triangle}
 use Rattle.esr_history.specs.Machine.{Schedule, IsLegal}
 use Rattle.esr_history.specs.ReportBounds.{ImportBoundsActive}
-use Rattle.esr_history.proofs.Traces.{IsMetric}
 use Rattle.esr_history.proofs.ReportBoundsLaws.{import_bounds_active}
 
 pub active_bounded : (h : Schedule) → IsLegal weighted h → ImportBoundsActive weighted h

@@ -4,4 +4,5 @@ pub mod Capacity
 pub mod Accounts
 pub mod Statuses
 pub mod ForUpdate
+pub mod Carrying
 pub mod WorkedExamples

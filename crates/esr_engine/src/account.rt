@@ -55,7 +55,7 @@ fn status_at(log: &Log, end: Option<u64>) -> TxnStatus
 
 impl EmbeddedEngine {
     /// Returns the amount that a query has imported so far, or an update exported.
-    fn charge_of(&self, query: bool, t: TxnId) -> u64
+    pub(crate) fn charge_of(&self, query: bool, t: TxnId) -> u64
         ensures { result ≡ charged_to weighted self.now query t.0 }
     {
         if query {

@@ -83,7 +83,7 @@ impl EmbeddedEngine {
 
     /// Returns whether a transaction is active.
     #[tactic(auto, using(crate::proofs::Ends::active_is))]
-    fn is_active(&self, t: TxnId) -> bool
+    pub(crate) fn is_active(&self, t: TxnId) -> bool
         ensures { result ≡ is_active (accepted_in self.now) t.0 }
     {
         match self.machine.history().facts(t) {

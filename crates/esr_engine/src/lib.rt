@@ -12,12 +12,14 @@
 
 mod account;
 mod audit;
+mod carrying;
 mod engine;
 mod for_update;
 mod opening;
 mod renewals;
 
 pub use account::{AccountView, TxnStatus};
+pub use carrying::CarriedTxn;
 pub use engine::{Counts, EmbeddedEngine, Unanswered};
 pub use esr_history::Kind;
 pub use opening::OpenError;

@@ -3,13 +3,17 @@
 //! If no transaction is active, the machine is renewed and keeps its memory. Otherwise a new engine replaces it: active
 //! transactions end with the history. So the call needs no entry, and an error changes nothing.
 
-ghost use Rattle.std.specs.Prelude.{◌≡◌, ◌↔◌, true, List, IfOk, OnOk, OnErr, IsErrOf};
+ghost use Rattle.std.specs.Prelude.{◌≡◌, ◌↔◌, ◌≤◌, true, List, IfOk, OnOk, OnErr, IsErrOf};
 ghost use Rattle.esr_items.specs.Weights.{weighted};
 ghost use Rattle.esr_history.specs.declared.event.Entry.{Entry};
 ghost use Rattle.esr_history.specs.Legal.{continued};
 ghost use Rattle.esr_history.specs.Machine.{IsLegal};
+ghost use Rattle.esr_core.specs.Carried.{carried, IsCarriedOver};
+ghost use Rattle.esr_engine.specs.Capacity.{taken};
+ghost use Rattle.esr_engine.specs.Carrying.{carried_in};
 ghost use Rattle.esr_core.specs.Renewed.{AreSerializableAsOne, committed_values, has_active, renewed};
 
+use crate::carrying::CarriedTxn;
 use crate::engine::EmbeddedEngine;
 use crate::opening::{engine_of, metric_of};
 use esr_core::RenewError;
@@ -82,10 +86,33 @@ impl EmbeddedEngine {
     }
 
     /// Creates a new engine over the committed values.
-    fn successor(&self, alloc: Global) -> Result<EmbeddedEngine, NoMemory>
+    pub(crate) fn successor(&self, alloc: Global) -> Result<EmbeddedEngine, NoMemory>
         ensures { IfOk result (λ e. e ≡ renewed self.now self.now.weights) }
     {
         let opening = self.machine.committed_values(alloc)?;
         engine_of(alloc, &opening, &self.weights)
+    }
+
+    /// Like `renew`, but carries the active transactions over: in the new history they have their reads, their locks
+    /// and the rest of their limits. Returns them in ascending order with their new numbers and the part of their
+    /// charges that is settled: it counts towards their limits, but is not in the new history.
+    ///
+    /// # Errors
+    /// `NoMemory` if an allocation failed. Then nothing has changed.
+    pub fn renew_carrying(&mut self, alloc: Global) -> Result<Vec<CarriedTxn>, NoMemory>
+        ensures ok { OnOk result (self.new ≡ carried weighted self.old) }
+        ensures listed { IfOk result (λ v. v.items ≡ carried_in weighted self.old) }
+        ensures over { OnOk result (IsCarriedOver weighted self.old self.new) }
+        ensures serializable { OnOk result ((later : List Entry) → IsLegal weighted (continued self.new later)
+            → AreSerializableAsOne self.old (continued self.new later)) }
+        ensures room { OnOk result (taken self.new ≤ taken self.old) }
+        ensures err { OnErr result (self.new ≡ self.old) }
+    {
+        let _invariant = self.machine.log(); // brings the invariant into the proof
+        let active = self.active_txns(alloc)?;
+        let carried = self.carried_txns(alloc, &active)?;
+        let entries = self.carried_entries(alloc, &active, &carried)?;
+        *self = self.carried(alloc, &entries)?;
+        Ok(carried)
     }
 }

@@ -1,0 +1,20 @@
+use Rattle.std.proofs.Common.{◌∙◌, ◌≤◌, ap, subst, sym}
+use Rattle.esr_items.specs.Weights.{weighted}
+use Rattle.esr_history.specs.Machine.{Schedule, IsLegal}
+use Rattle.esr_core.specs.Carried.{IsCarriedOver}
+use Rattle.esr_core.proofs.Renewed.{as_one}
+use Rattle.esr_engine.specs.Capacity.{taken}
+use Rattle.esr_engine.proofs.CarriedEngine.{carried_over, room_kept}
+use Rattle.esr_engine.proofs.engine.EmbeddedEngine.renew_carrying.Goals as goal
+
+pub returns-clause-over : goal.returns-clause-over
+returns-clause-over c =
+    subst (IsCarriedOver weighted c.args.self.now) (sym (c.drop.view_is ∙ c.in_ok-self-inside.ensures))
+    (carried_over c.args.self.now (subst (IsLegal weighted) c.self.view_is c.log-invariant.ensures.legal))
+
+pub returns-clause-serializable : goal.returns-clause-serializable
+returns-clause-serializable c =
+    λ later goes_on. as_one weighted c.args.self.now _ (subst (IsLegal weighted) c.self.view_is c.log-invariant.ensures.legal) goes_on (ap (λ (g : Schedule). g.opening) (c.drop.view_is ∙ c.in_ok-self-inside.ensures))
+
+pub returns-clause-room : goal.returns-clause-room
+returns-clause-room c = subst (λ (g : Schedule). taken g ≤ taken c.args.self.now) (sym (c.drop.view_is ∙ c.in_ok-self-inside.ensures)) (room_kept c.args.self.now)

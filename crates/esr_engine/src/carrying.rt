@@ -1,0 +1,388 @@
+//! The parts of a renewal that carries the active transactions over: how they began, their settled amounts, the entries
+//! with which the new history begins, and the replay of these entries.
+
+ghost use Rattle.std.specs.Prelude.{◌≡◌, ◌+◌, ◌-◌, ◌<◌, ◌≤◌, ◌&&◌, ◌++◌, ◌==◌, Some, count_by, nat_lt, if◌then◌else◌, length, map, filter_map, slice_get, IfOk, IfSome, OnOk};
+ghost use Rattle.esr_base.specs.declared.limits.TheConstants.{MAX_TRANSACTIONS};
+ghost use Rattle.esr_items.specs.Values.{IsValue};
+ghost use Rattle.esr_items.specs.Weights.{weighted};
+ghost use Rattle.esr_history.specs.BackLinks.{accepted_item};
+ghost use Rattle.esr_history.specs.Events.{is_active, is_update, is_query};
+ghost use Rattle.esr_history.specs.Legal.{continued};
+ghost use Rattle.esr_history.specs.Machine.{IsLegalAfter, accepted_in};
+ghost use Rattle.esr_history.specs.ReportBounds.{is_active_query};
+ghost use Rattle.esr_core.specs.States.{begin_event};
+ghost use Rattle.esr_history.specs.declared.event.Reply.TheVariants.{Begun};
+ghost use Rattle.esr_core.specs.Carried.{active_numbers, carried, carried_begin, carried_entries, new_number, settled};
+ghost use Rattle.esr_engine.specs.Carrying.{active_in, begun_in, carried_in, lag, open_amount, operation_entry, read_entry};
+
+use crate::engine::EmbeddedEngine;
+use esr_core::Machine;
+use esr_history::{Entry, Event, NoMemory, Reply, TxnId};
+use esr_items::{ItemId, Metric, Weighted};
+use std::alloc::{AllocError, Global};
+
+/// An active transaction: its number, and how it began.
+#[derive(Clone, Copy)]
+pub struct ActiveTxn {
+    pub txn: TxnId,
+    pub query: bool,
+    pub limit: u64,
+    pub strict: bool,
+}
+
+/// A transaction that was carried over: its numbers in the old and in the new history, and the part of its limit and of
+/// its charges that is in the old one only.
+#[derive(Clone, Copy, PartialEq, Eq, Debug)]
+pub struct CarriedTxn {
+    pub old: TxnId,
+    pub new: TxnId,
+    pub settled: u64,
+}
+
+/// Returns the transaction with this number that an entry begins, if it is an accepted begin.
+fn begun_in(txn: TxnId, entry: Entry) -> Option<ActiveTxn>
+    ensures { result ≡ begun_in txn.0 entry }
+{
+    if entry.is_refused() {
+        return None;
+    }
+    match entry.event {
+        Event::BeginUpdate { limit } => Some(ActiveTxn {
+            txn,
+            query: false,
+            limit,
+            strict: false,
+        }),
+        Event::BeginQuery { limit, strict } => Some(ActiveTxn {
+            txn,
+            query: true,
+            limit,
+            strict,
+        }),
+        _ => None,
+    }
+}
+
+/// Returns the begin of a carried transaction, with its limit minus its settled amount.
+fn begin_entry(active: ActiveTxn, carried: CarriedTxn) -> Entry
+    ensures event { result.event ≡ begin_event active.query (active.limit - carried.settled) active.strict }
+    ensures reply { result.reply ≡ Begun carried.new }
+{
+    let limit = active.limit.saturating_sub(carried.settled);
+    let event = if active.query {
+        Event::BeginQuery {
+            limit,
+            strict: active.strict,
+        }
+    } else {
+        Event::BeginUpdate { limit }
+    };
+    Entry {
+        event,
+        reply: Reply::Begun(carried.new),
+    }
+}
+
+/// Returns whether a transaction, a query or an update, takes part in a conflict of `q` and `u`.
+fn is_charged(query: bool, q: TxnId, u: TxnId, t: TxnId) -> bool
+    ensures { result ≡ (if query then q.0 == t.0 else u.0 == t.0) }
+{
+    if query { q.0 == t.0 } else { u.0 == t.0 }
+}
+
+/// Returns the distance of two values of an item.
+fn distance(metric: &Weighted, x: ItemId, a: i64, b: i64) -> u64
+    requires first { IsValue a }
+    requires second { IsValue b }
+    ensures { result ≡ weighted metric.now x.0 a b }
+{
+    metric.distance(x, a, b)
+}
+
+/// Returns how many of the active transactions have a smaller number.
+fn count_before(active: &[ActiveTxn], t: TxnId) -> usize
+    ensures { result ≡ count_by (λ a. nat_lt a.txn.0 t.0) active.now }
+{
+    active.iter().filter(|a| a.txn.0 < t.0).count()
+}
+
+/// Executes entries of which each reply is the machine's.
+fn replay(machine: &mut Machine<Weighted>, entries: &[Entry]) -> Result<(), NoMemory>
+    requires { IsLegalAfter weighted machine.old entries.now }
+    ensures { OnOk result (machine.new ≡ continued machine.old entries.now) }
+{
+    for entry in entries {
+        if machine.step(entry.event).is_err() {
+            return Err(NoMemory);
+        }
+    }
+    Ok(())
+}
+
+impl EmbeddedEngine {
+    /// Returns the entry at an index. An accepted operation is on an item that exists.
+    fn entry(&self, i: usize) -> Entry
+        requires { i < length self.now.entries }
+        ensures entry { slice_get self.now.entries i ≡ Some result }
+        ensures item { IfSome (accepted_item result) (λ x. x < length self.now.opening) }
+    {
+        let Some(entry) = self.machine.log().get(i) else {
+            unreachable!()
+        };
+        entry
+    }
+
+    /// Returns whether a transaction is an active update.
+    #[tactic(auto, using(crate::proofs::Ends::active_is))]
+    fn is_active_update(&self, t: TxnId) -> bool
+        ensures { result ≡ (is_update (accepted_in self.now) t.0 && is_active (accepted_in self.now) t.0) }
+    {
+        match self.machine.history().facts(t) {
+            Some(facts) => !facts.query && facts.end.is_none(),
+            None => false,
+        }
+    }
+
+    /// Returns whether a transaction is an active query.
+    #[tactic(auto, using(crate::proofs::Ends::active_is))]
+    fn is_active_query(&self, t: TxnId) -> bool
+        ensures { result ≡ is_active_query self.now t.0 }
+    {
+        match self.machine.history().facts(t) {
+            Some(facts) => facts.query && facts.end.is_none(),
+            None => false,
+        }
+    }
+
+    /// Returns the active transactions, in ascending order.
+    pub(crate) fn active_txns(&self, alloc: Global) -> Result<Vec<ActiveTxn>, AllocError>
+        ensures { IfOk result (λ v. v.items ≡ active_in self.now) }
+    {
+        let mut active = Vec::new(alloc);
+        let mut begun = 0u32;
+        for i in 0..self.machine.log().len() {
+            match begun_in(TxnId(begun + 1), self.entry(i)) {
+                Some(txn) => {
+                    begun += 1;
+                    if self.is_active(txn.txn) {
+                        active.push(txn)?;
+                    }
+                }
+                None => {}
+            }
+        }
+        Ok(active)
+    }
+
+    /// Returns the number that a transaction has in the new history.
+    fn new_number(&self, active: &[ActiveTxn], t: TxnId) -> TxnId
+        requires { active.now ≡ active_in self.now }
+        ensures { result ≡ new_number self.now t.0 }
+    {
+        let _invariant = self.machine.log(); // brings the invariant into the proof
+        TxnId(count_before(active, t) as u32 + 1)
+    }
+
+    /// Returns the amount that a transaction is charged if the read of an entry is repeated now.
+    fn open_amount(&self, query: bool, t: TxnId, entry: Entry) -> u64
+        requires { IfSome (accepted_item entry) (λ x. x < length self.now.opening) }
+        ensures { result ≡ open_amount weighted self.now query t.0 entry }
+    {
+        if entry.is_refused() {
+            return 0;
+        }
+        match entry.event {
+            Event::Read { txn, item } if self.is_active_query(txn) => {
+                match self.machine.writer(item) {
+                    Some(u) if is_charged(query, txn, u, t) => self.lag(item),
+                    _ => 0,
+                }
+            }
+            _ => 0,
+        }
+    }
+
+    /// Returns the distance of the current value of an item from its committed value.
+    fn lag(&self, x: ItemId) -> u64
+        requires { x.0 < length self.now.opening }
+        ensures { result ≡ lag weighted self.now x.0 }
+    {
+        let current = self.machine.current(x);
+        let committed = self.machine.committed(x);
+        distance(self.machine.history().metric(), x, current, committed)
+    }
+
+    /// Returns the part of a transaction's charges that is settled.
+    fn settled(&self, t: ActiveTxn) -> u64
+        requires { t.query ≡ is_query (accepted_in self.now) t.txn.0 }
+        ensures { result ≡ settled weighted self.now t.txn.0 }
+    {
+        let mut settled = self.charge_of(t.query, t.txn);
+        for i in 0..self.machine.log().len() {
+            let amount = self.open_amount(t.query, t.txn, self.entry(i));
+            settled = settled.saturating_sub(amount);
+        }
+        settled
+    }
+
+    /// Returns the active transactions with their new numbers and their settled amounts.
+    pub(crate) fn carried_txns(
+        &self,
+        alloc: Global,
+        active: &[ActiveTxn],
+    ) -> Result<Vec<CarriedTxn>, AllocError>
+        requires { active.now ≡ active_in self.now }
+        ensures { IfOk result (λ v. v.items ≡ carried_in weighted self.now) }
+    {
+        let mut carried = Vec::new(alloc);
+        for t in active {
+            carried.push(CarriedTxn {
+                old: t.txn,
+                new: self.new_number(active, t.txn),
+                settled: self.settled(*t),
+            })?;
+        }
+        Ok(carried)
+    }
+
+    /// Returns the entry of the new history for an accepted operation of an active update.
+    fn operation_entry(&self, active: &[ActiveTxn], entry: Entry) -> Option<Entry>
+        requires { active.now ≡ active_in self.now }
+        ensures { result ≡ operation_entry self.now entry }
+    {
+        if entry.is_refused() {
+            return None;
+        }
+        let event = match entry.event {
+            Event::Read { txn, item } if self.is_active_update(txn) => Event::Read {
+                txn: self.new_number(active, txn),
+                item,
+            },
+            Event::Write { txn, item, value } if self.is_active_update(txn) => Event::Write {
+                txn: self.new_number(active, txn),
+                item,
+                value,
+            },
+            _ => return None,
+        };
+        Some(Entry {
+            event,
+            reply: entry.reply,
+        })
+    }
+
+    /// Returns the entry of the new history for an accepted read of an active query.
+    fn read_entry(&self, active: &[ActiveTxn], entry: Entry) -> Option<Entry>
+        requires active { active.now ≡ active_in self.now }
+        requires item { IfSome (accepted_item entry) (λ x. x < length self.now.opening) }
+        ensures { result ≡ read_entry self.now entry }
+    {
+        if entry.is_refused() {
+            return None;
+        }
+        match entry.event {
+            Event::Read { txn, item } if self.is_active_query(txn) => Some(Entry {
+                event: Event::Read {
+                    txn: self.new_number(active, txn),
+                    item,
+                },
+                reply: Reply::Value(self.machine.current(item)),
+            }),
+            _ => None,
+        }
+    }
+
+    /// Appends the operations of active updates.
+    fn push_operations(
+        &self,
+        active: &[ActiveTxn],
+        entries: &mut Vec<Entry>,
+    ) -> Result<(), AllocError>
+        requires { active.now ≡ active_in self.now }
+        ensures { OnOk result (entries.new.items
+            ≡ entries.old.items ++ filter_map (operation_entry self.now) self.now.entries) }
+    {
+        for i in 0..self.machine.log().len() {
+            match self.operation_entry(active, self.entry(i)) {
+                Some(entry) => entries.push(entry)?,
+                None => {}
+            }
+        }
+        Ok(())
+    }
+
+    /// Appends the reads of active queries.
+    fn push_reads(&self, active: &[ActiveTxn], entries: &mut Vec<Entry>) -> Result<(), AllocError>
+        requires { active.now ≡ active_in self.now }
+        ensures { OnOk result (entries.new.items
+            ≡ entries.old.items ++ filter_map (read_entry self.now) self.now.entries) }
+    {
+        for i in 0..self.machine.log().len() {
+            match self.read_entry(active, self.entry(i)) {
+                Some(entry) => entries.push(entry)?,
+                None => {}
+            }
+        }
+        Ok(())
+    }
+
+    /// Returns the begins of the carried transactions.
+    fn begins(
+        &self,
+        alloc: Global,
+        active: &[ActiveTxn],
+        carried: &[CarriedTxn],
+    ) -> Result<Vec<Entry>, AllocError>
+        requires active { active.now ≡ active_in self.now }
+        requires carried { carried.now ≡ carried_in weighted self.now }
+        ensures { IfOk result (λ v. v.items ≡ map (carried_begin weighted self.now) (active_numbers self.now)) }
+    {
+        let mut entries = Vec::new(alloc);
+        for i in 0..active.len() {
+            entries.push(begin_entry(active[i], carried[i]))?;
+        }
+        Ok(entries)
+    }
+
+    /// Returns the entries with which the new history begins.
+    pub(crate) fn carried_entries(
+        &self,
+        alloc: Global,
+        active: &[ActiveTxn],
+        carried: &[CarriedTxn],
+    ) -> Result<Vec<Entry>, AllocError>
+        requires active { active.now ≡ active_in self.now }
+        requires carried { carried.now ≡ carried_in weighted self.now }
+        ensures { IfOk result (λ v. v.items ≡ carried_entries weighted self.now) }
+    {
+        let mut entries = self.begins(alloc, active, carried)?;
+        self.push_operations(active, &mut entries)?;
+        self.push_reads(active, &mut entries)?;
+        Ok(entries)
+    }
+
+    /// Creates the engine of the new history by a replay of these entries over the committed values.
+    pub(crate) fn carried(
+        &self,
+        alloc: Global,
+        entries: &[Entry],
+    ) -> Result<EmbeddedEngine, NoMemory>
+        requires { entries.now ≡ carried_entries weighted self.now }
+        ensures { IfOk result (λ e. e ≡ carried weighted self.now) }
+    {
+        let _invariant = self.machine.log(); // brings the invariant into the proof
+        let EmbeddedEngine {
+            mut machine,
+            weights,
+            active: _,
+            index,
+        } = self.successor(alloc)?;
+        replay(&mut machine, entries)?;
+        Ok(EmbeddedEngine {
+            machine,
+            weights,
+            active: self.active,
+            index,
+        })
+    }
+}
