@@ -58,10 +58,13 @@ low_limits events low (suc k) = at (begin_records events) k low
     at (b ∷ bs) (suc k) all = at bs k all.1
 
 module _ (d : DistanceFunction) (h : Schedule) (legal : IsLegal d h) where
+  pub limit_low : (t : ℕ) → limit_of (accepted_in h) t ≤ 10 ^ 18
+  limit_low t = low_limits (accepted_in h) (legal_induction d (λ g. AreLow (accepted_in g)) (low_next d) h tt legal) t
+
   import_low : (t : ℕ) → import_in (charges_in d h) t ≤ 10 ^ 18
   import_low t =
       let within : import_in (charges_in d h) t ≤ limit_of (accepted_in h) t = (legal_within_limits d h legal).imports t in
-      let low : limit_of (accepted_in h) t ≤ 10 ^ 18 = low_limits (accepted_in h) (legal_induction d (λ g. AreLow (accepted_in g)) (low_next d) h tt legal) t in
+      let low : limit_of (accepted_in h) t ≤ 10 ^ 18 = limit_low t in
       omega arith
 
   -- a transaction that has not begun has imported nothing

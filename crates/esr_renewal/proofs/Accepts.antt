@@ -1,19 +1,19 @@
 -- The machine accepts each entry that is carried over, with the reply that is carried.
-use Rattle.std.proofs.Common.{◌≡◌, ℕ, zero, suc, ℤ, ◌+◌, ◌-◌, ◌<◌, ◌≤◌, ◌^◌, Bool, true, false, not, cond, ◌&&◌, ◌||◌, ◌==◌, List, [], ◌∷◌, ◌++◌, length, refl, sym, ◌∙◌, ap, subst, inl, inr, ⊎_elim, arith, Option, None, Some, unwrap_or, option_map, if◌then◌else◌, filter, nat_lt, nat_le, append-nil, length-append}
-use Rattle.std.specs.List.{AllByRecursion, filter_map, list_any, slice_get, cons_option}
-use Rattle.std.proofs.lemmas.Bool.{cases_Bool, cases_eq, eq-eqb, ne_eqb, eqb-true, true≢false, false_from_ne_true, and_parts, or_cases, le-ltb, lt-leb, ltb-false, not-true}
+use Rattle.std.proofs.Common.{◌≡◌, ℕ, suc, ℤ, ◌+◌, ◌-◌, ◌<◌, ◌≤◌, ◌^◌, Bool, true, false, not, cond, ◌&&◌, ◌||◌, ◌==◌, List, [], ◌∷◌, ◌++◌, length, refl, sym, ◌∙◌, ap, subst, inl, inr, ⊎_elim, arith, Option, None, Some, if◌then◌else◌, filter, nat_le, append-nil, length-append}
+use Rattle.std.specs.List.{filter_map, list_any}
+use Rattle.std.proofs.lemmas.Bool.{cases_eq, eq-eqb, ne_eqb, eqb-true, true≢false, false_from_ne_true, and_parts, or_cases, le-ltb, lt-leb, not-true}
 use Rattle.std.proofs.lemmas.List.{length-map}
 use Rattle.std.proofs.lemmas.List.FromFn.{length-map-range_with_len, length-range_with_len}
-use Rattle.esr_history.specs.Events.{BeginRecord, begin_record_of, begin_records, txn_numbers, limit_of, is_refusal, accepted, is_begun, is_query, is_update, is_active, reads, writes, holds_read, holds_write, total_read_count, written, last_value, committed_value, current_value}
-use Rattle.esr_history.specs.Machine.{DistanceFunction, Schedule, Charge, accepted_in, extended, value_distance, due, due_in, reply_to, reasons, refusal, acceptance, answered, first_reason, not_begun, ended, no_item, many_reads, read_blocked, write_blocked, blocked_by, other_writer, other_holder, import_full, export_full, limit_too_high, too_many, when, IsLegal}
-use Rattle.esr_history.specs.Legal.{continued, legal_induction}
+use Rattle.esr_history.specs.Events.{begin_records, txn_numbers, limit_of, is_refusal, accepted, is_begun, is_query, is_update, is_active, reads, writes, holds_read, holds_write, total_read_count, written, last_value, committed_value, current_value}
+use Rattle.esr_history.specs.Machine.{DistanceFunction, Schedule, Charge, accepted_in, value_distance, due, due_in, reply_to, reasons, refusal, acceptance, answered, first_reason, not_begun, ended, no_item, many_reads, read_blocked, write_blocked, blocked_by, other_writer, other_holder, import_full, export_full, limit_too_high, too_many, when, IsLegal}
+use Rattle.esr_history.specs.Legal.{continued}
 use Rattle.esr_history.specs.Operations.{Operation, operations, operation_of, operation_by, answer}
 use Rattle.esr_history.proofs.Allowed.{NoneApplies, ReadAllowed, WriteAllowed, read_allowed, write_allowed}
 use Rattle.esr_history.proofs.Fitting.{accepts}
-use Rattle.esr_history.proofs.Linking.{accepted_push, accepted_refused}
-use Rattle.esr_history.proofs.Lists.{find_least, filter_map_push}
-use Rattle.esr_history.proofs.LegalWellFormed.{begun_in_range, when_none}
-use Rattle.esr_history.proofs.Membership.{Each-append, In-any}
+use Rattle.esr_history.proofs.Importing.{limit_low}
+use Rattle.esr_history.proofs.Lists.{find_least}
+use Rattle.esr_history.proofs.LegalWellFormed.{begun_in_range}
+use Rattle.esr_history.proofs.Membership.{In-any}
 use Rattle.esr_history.proofs.TraceAgreement.{wrote_trace, read_trace, read_item_by}
 use Rattle.esr_history.proofs.Traces.{reads_item}
 use Rattle.esr_history.proofs.Versions.{wrote_by, wrote_parts}
@@ -24,44 +24,13 @@ use Rattle.esr_core.specs.Carried.{active_numbers, new_number, settled, carried_
 use Rattle.esr_core.proofs.Begins.{begin_accepted, begin_reason}
 use Rattle.esr_core.proofs.Held.{update_or_query}
 use Rattle.esr_core.proofs.Running.{law_of_active_updates}
-use Rattle.esr_renewal.specs.Types.{TxnId, ItemId, Event, BeginUpdate, BeginQuery, Read, Write, Commit, Abort, Entry, Reply, Refusal, Begun, Value, NoSuchTransaction, AlreadyEnded, NoSuchItem, QueryMayNotWrite, TooManyReads, LimitOutOfRange, TooManyTransactions}
+use Rattle.esr_renewal.specs.Types.{TxnId, ItemId, Event, BeginUpdate, BeginQuery, Read, Write, Commit, Abort, Entry, Refusal, Begun, Value, NoSuchTransaction, AlreadyEnded, NoSuchItem, QueryMayNotWrite, TooManyReads, LimitOutOfRange, TooManyTransactions}
 use Rattle.esr_renewal.proofs.Renumbered.{number_after}
 use Rattle.esr_renewal.proofs.Replayed.{runs, operation_again, begins_again, events_again, begun_again, begins_are}
 use Rattle.esr_renewal.proofs.Again.{runs_active, begun_then, query_then, active_then, who_wrote, who_read}
 use Rattle.esr_renewal.proofs.CarriedValues.{written_agree, opens, current_then}
 use Rattle.esr_renewal.proofs.CarriedCharges.{write_is_free, update_reads_free}
 use Rattle.esr_renewal.proofs.CarriedEntries.{accepted_parts, accepted_reply, front, allowed, accepted_as, exclude, begin_entry, operation_entry, begins_accepted, operations_accepted}
-
--- Limits are at most 10^18.
-abbrev AreLow : List Event → Type 0
-AreLow events = AllByRecursion (λ (b : BeginRecord). b.limit ≤ 10 ^ 18) (begin_records events)
-
-low_next : (d : DistanceFunction) (h : Schedule) (e : Event) (r : Reply) → r ≡ reply_to d h e → AreLow (accepted_in h) → AreLow (accepted_in (extended h e r))
-low_next d h e r is low =
-    elim (cases_Bool (is_refusal r)) [
-      | inl refused ↦ subst AreLow (sym (accepted_refused h.entries (record { event = e; reply = r }) refused)) low
-      | inr ok ↦
-          subst AreLow (sym (accepted_push h.entries (record { event = e; reply = r }) ok))
-          (subst (AllByRecursion (λ (b : BeginRecord). b.limit ≤ 10 ^ 18)) (sym (filter_map_push begin_record_of (accepted_in h) e))
-          (Each-append (λ (b : BeginRecord). b.limit ≤ 10 ^ 18) (begin_records (accepted_in h)) (cons_option (begin_record_of e) []) low (last e (accepts d h e r is ok).0)))
-    ]
-  where
-    low_limit : (l : ℕ) → limit_too_high l ≡ None → l ≤ 10 ^ 18
-    low_limit l none = ltb-false (10 ^ 18) l (when_none (nat_lt (10 ^ 18) l) LimitOutOfRange none)
-
-    last : (e : Event) → NoneApplies (reasons d h e) → AllByRecursion (λ (b : BeginRecord). b.limit ≤ 10 ^ 18) (cons_option (begin_record_of e) [])
-    last (BeginUpdate l) none = (low_limit l none.0, tt)
-    last (BeginQuery l s) none = (low_limit l none.0, tt)
-    last _ none = tt
-
-low_limits : (events : List Event) → AreLow events → (t : ℕ) → limit_of events t ≤ 10 ^ 18
-low_limits events low zero = omega arith
-low_limits events low (suc k) = at (begin_records events) k low
-  where
-    at : (bs : List BeginRecord) (k : ℕ) → AllByRecursion (λ (b : BeginRecord). b.limit ≤ 10 ^ 18) bs → unwrap_or (option_map (λ (b : BeginRecord). b.limit) (slice_get bs k)) 0 ≤ 10 ^ 18
-    at [] k all = omega arith
-    at (b ∷ bs) zero all = all.0
-    at (b ∷ bs) (suc k) all = at bs k all.1
 
 kept_few : (p : ℕ → Bool) (xs : List ℕ) → length (filter p xs) ≤ length xs
 kept_few p [] = omega arith
@@ -95,7 +64,7 @@ module _ (d : DistanceFunction) (h : Schedule) (legal : IsLegal d h) where
           omega (arith, a, b, c, l)
 
       low : limit_of (accepted_in h) t - settled d h t ≤ 10 ^ 18
-      low = let l : limit_of (accepted_in h) t ≤ 10 ^ 18 = low_limits (accepted_in h) (legal_induction d (λ g. AreLow (accepted_in g)) (low_next d) h tt legal) t in omega (arith, l)
+      low = let l : limit_of (accepted_in h) t ≤ 10 ^ 18 = limit_low d h legal t in omega (arith, l)
 
       no_reason : refusal d (continued start (filter_map (begin_entry d h) ys)) (carried_begin d h t).event ≡ None
       no_reason =

@@ -1,11 +1,12 @@
 -- Sums of amounts over the reads of a history.
-use Rattle.std.proofs.Common.{◌≡◌, ℕ, zero, suc, ◌+◌, ◌*◌, ◌<◌, ◌≤◌, Bool, true, false, ◌&&◌, ◌==◌, List, [], ◌∷◌, refl, sym, ◌∙◌, inl, inr, arith, sum_by, count_by, cond, if◌then◌else◌, add-zero, zero-add}
+use Rattle.std.proofs.Common.{◌≡◌, ℕ, ◌+◌, ◌*◌, ◌<◌, ◌≤◌, Bool, true, false, ◌&&◌, ◌==◌, List, [], ◌∷◌, refl, sym, ◌∙◌, inl, inr, arith, sum_by, count_by, cond, if◌then◌else◌}
 use Rattle.std.specs.List.{range_with_len}
 use Rattle.std.proofs.lemmas.Bool.{cases_eq, eq-eqb, ne_eqb}
 use Rattle.std.proofs.lemmas.List.Sums.{sum_by-cons}
 use Rattle.esr_history.specs.Events.{reads}
 use Rattle.esr_renewal.specs.Types.{TxnId, ItemId, Event, BeginUpdate, BeginQuery, Read, Write, Commit, Abort}
 use Rattle.esr_history.proofs.Membership.{In}
+use Rattle.esr_history.proofs.Sums.{sum_by_add, once}
 use Rattle.esr_renewal.proofs.OpenCharges.{amount_if}
 
 pub sum_within : {X : Type 0} (f g k : X → ℕ) (xs : List X) → ((x : X) → In x xs → f x ≤ g x + k x) → sum_by f xs ≤ sum_by g xs + sum_by k xs
@@ -21,33 +22,6 @@ sum_same f g (x ∷ xs) each =
     let one : f x ≡ g x = each x (inl refl) in
     let rest : sum_by f xs ≡ sum_by g xs = sum_same f g xs (λ y i. each y (inr i)) in
     rw (sum_by-cons f x xs, sum_by-cons g x xs) (omega (arith, one, rest))
-
-pub sum_none : {X : Type 0} (xs : List X) → sum_by (λ (x : X). 0) xs ≡ 0
-sum_none [] = refl
-sum_none {X} (x ∷ xs) = sum_by-cons (λ (x : X). 0) x xs ∙ (zero-add (sum_by (λ (x : X). 0) xs) ∙ sum_none xs)
-
-pub sum_both : {X : Type 0} (f g : X → ℕ) (xs : List X) → sum_by (λ x. f x + g x) xs ≡ sum_by f xs + sum_by g xs
-sum_both f g [] = refl
-sum_both f g (x ∷ xs) =
-    let a = sum_by-cons (λ x. f x + g x) x xs in
-    let b = sum_by-cons f x xs in
-    let c = sum_by-cons g x xs in
-    let e = sum_both f g xs in
-    omega (arith, a, b, c, e)
-
--- an amount of one number counts once over consecutive numbers
-past : (k x a n : ℕ) → k < a → sum_by (λ t. if k == t then x else 0) (range_with_len a n) ≡ 0
-past k x a zero l = refl
-past k x a (suc n) l = sum_by-cons (λ t. if k == t then x else 0) a (range_with_len (a + 1) n) ∙ rw (ne_eqb k a (λ (e : k ≡ a). omega arith)) (zero-add (sum_by (λ t. if k == t then x else 0) (range_with_len (a + 1) n)) ∙ past k x (a + 1) n (omega arith))
-
-pub once : (k x a n : ℕ) → a ≤ k → k < a + n → sum_by (λ t. if k == t then x else 0) (range_with_len a n) ≡ x
-once k x a zero low high = absurd (omega arith)
-once k x a (suc n) low high =
-    sum_by-cons (λ t. if k == t then x else 0) a (range_with_len (a + 1) n)
-    ∙ elim (cases_eq k a) [
-      | inl e ↦ rw (eq-eqb k a e, past k x (a + 1) n (omega arith)) (add-zero x)
-      | inr ne ↦ rw (ne_eqb k a ne) (zero-add (sum_by (λ t. if k == t then x else 0) (range_with_len (a + 1) n)) ∙ once k x (a + 1) n (omega arith) (omega arith))
-    ]
 
 -- an amount for each read, over the reads or over the readers
 pub by_reader : (p : ℕ → Bool) (y amount : ℕ) (n : ℕ) (es : List Event)
@@ -71,7 +45,7 @@ by_reader p y amount n (e ∷ es) known = at e (λ q x own. known q x (inl own))
         ≡ sum_by (λ q. if p q then count_by (reads q y) es * amount else 0) (range_with_len 1 n) + sum_by (λ q. if p q then cond (reads q y e) amount 0 else 0) (range_with_len 1 n)
     grown e =
         sum_same (λ q. if p q then count_by (reads q y) (e ∷ es) * amount else 0) (λ q. (if p q then count_by (reads q y) es * amount else 0) + (if p q then cond (reads q y e) amount 0 else 0)) (range_with_len 1 n) (λ q i. more e q)
-        ∙ sum_both (λ q. if p q then count_by (reads q y) es * amount else 0) (λ q. if p q then cond (reads q y e) amount 0 else 0) (range_with_len 1 n)
+        ∙ sum_by_add (λ q. if p q then count_by (reads q y) es * amount else 0) (λ q. if p q then cond (reads q y e) amount 0 else 0) (range_with_len 1 n)
 
     other : (e : Event) → amount_if (λ q x. p q && (x == y)) (λ x. amount) e ≡ 0
         → sum_by (amount_if (λ q x. p q && (x == y)) (λ x. amount)) es ≤ sum_by (λ q. if p q then count_by (reads q y) es * amount else 0) (range_with_len 1 n)

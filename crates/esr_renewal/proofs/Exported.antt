@@ -16,10 +16,11 @@ use Rattle.esr_history.proofs.LegalWellFormed.{done-refused, done-accepted, acce
 use Rattle.esr_history.proofs.Values.{current-unchanged, committed-unchanged, current-write, current-write_other, committed-write, committed-commit_other, current-abort_other}
 use Rattle.esr_history.proofs.Charges.{export-push}
 use Rattle.esr_history.proofs.Membership.{In, any-from_In}
+use Rattle.esr_history.proofs.Sums.{sum_by_zero}
 use Rattle.esr_history.proofs.Traces.{IsMetric}
 use Rattle.esr_renewal.specs.Types.{TxnId, ItemId, Event, BeginUpdate, BeginQuery, Read, Write, Commit, Abort, Reply, Refusal, Refused}
 use Rattle.esr_renewal.proofs.OpenCharges.{amount_if, is_open, lag, open_export}
-use Rattle.esr_renewal.proofs.Amounts.{sum_within, sum_none, by_reader}
+use Rattle.esr_renewal.proofs.Amounts.{sum_within, by_reader}
 
 same_number : (a b : ℕ) → Some a ≡ Some b → a ≡ b
 same_number a b e = cc
@@ -99,7 +100,7 @@ module _ (d : ℕ → ℤ → ℤ → ℕ) (metric : IsMetric d) (opening : List
       sum_by_push (amount_if (is_open (es ++ e ∷ []) u) (lag d opening (es ++ e ∷ []))) es e in
       let w : sum_by (amount_if (is_open (es ++ e ∷ []) u) (lag d opening (es ++ e ∷ []))) es ≤ open_export d opening es u + sum_by (λ (f : Event). 0) es =
       sum_within (amount_if (is_open (es ++ e ∷ []) u) (lag d opening (es ++ e ∷ []))) (amount_if (is_open es u) (lag d opening es)) (λ f. 0) es (λ f i. single f i) in
-      let z : sum_by (λ (f : Event). 0) es ≡ 0 = sum_none es in
+      let z : sum_by (λ (f : Event). 0) es ≡ 0 = sum_by_zero es in
       omega (arith, n, w, z)
     where
       single : (f : Event) → In f es → amount_if (is_open (es ++ e ∷ []) u) (lag d opening (es ++ e ∷ [])) f ≤ amount_if (is_open es u) (lag d opening es) f + 0

@@ -11,12 +11,13 @@ use Rattle.esr_history.specs.ReportBounds.{is_active_query, open_import}
 use Rattle.esr_history.proofs.Lists.{found_satisfies}
 use Rattle.esr_history.proofs.Charges.{legal_within_limits}
 use Rattle.esr_history.proofs.Membership.{In, Pairs, each_at, Pairs-filter, In-filter, In-of_filter}
+use Rattle.esr_history.proofs.Sums.{sum_by_zero, sum_by_add}
 use Rattle.esr_history.proofs.Traces.{IsMetric}
 use Rattle.esr_history.proofs.ReportBoundsLaws.{open_is_imported}
 use Rattle.esr_core.specs.Carried.{active_numbers, new_number, open_charges, open_charges_of, charged_in}
 use Rattle.esr_renewal.specs.Types.{Event, BeginUpdate, BeginQuery, Read, Write, Commit, Abort, Entry}
 use Rattle.esr_renewal.proofs.OpenCharges.{amount_if, is_open, lag, open_export}
-use Rattle.esr_renewal.proofs.Amounts.{sum_within, sum_same, sum_none, sum_both}
+use Rattle.esr_renewal.proofs.Amounts.{sum_within, sum_same}
 use Rattle.esr_renewal.proofs.Exported.{open_exported}
 use Rattle.esr_renewal.proofs.Renumbered.{active_ascending, active_in, in_active, new_number_injective}
 use Rattle.esr_renewal.proofs.Again.{query_active}
@@ -33,11 +34,11 @@ sum_flat f g (x ∷ xs) =
     omega (arith, a, b, rest)
 
 swapped : {X Y : Type 0} (f : X → Y → ℕ) (xs : List X) (ys : List Y) → sum_by (λ x. sum_by (f x) ys) xs ≡ sum_by (λ y. sum_by (λ x. f x y) xs) ys
-swapped {X} {Y} f [] ys = sym (sum_none ys)
+swapped {X} {Y} f [] ys = sym (sum_by_zero ys)
 swapped {X} {Y} f (x ∷ xs) ys =
     sum_by-cons (λ x. sum_by (f x) ys) x xs
     ∙ (ap (λ n. sum_by (f x) ys + n) (swapped f xs ys)
-    ∙ (sym (sum_both (f x) (λ y. sum_by (λ x. f x y) xs) ys)
+    ∙ (sym (sum_by_add (f x) (λ y. sum_by (λ x. f x y) xs) ys)
     ∙ sum_same (λ y. f x y + sum_by (λ x. f x y) xs) (λ y. sum_by (λ x. f x y) (x ∷ xs)) ys (λ y i. sym (sum_by-cons (λ x. f x y) x xs))))
 
 no_member : (s : ℕ) (f : ℕ → ℕ) (qs : List ℕ) → ((q : ℕ) → In q qs → s ≡ q → ⊥) → sum_by (λ q. if s == q then f q else 0) qs ≡ 0
@@ -123,11 +124,11 @@ module _ (d : DistanceFunction) (h : Schedule) where
             (λ q i same.
             let r = In-of_filter (is_query (accepted_in h)) (active_numbers h) q i in
             true≢false (sym (and_from (is_query (accepted_in h) q) (is_active (accepted_in h) q) r.1 (in_active h q r.0)) ∙ (ap (is_active_query h) (sym same) ∙ own)))
-    inner (BeginUpdate l) = sum_none (filter (is_query (accepted_in h)) (active_numbers h))
-    inner (BeginQuery l s) = sum_none (filter (is_query (accepted_in h)) (active_numbers h))
-    inner (Write s x v) = sum_none (filter (is_query (accepted_in h)) (active_numbers h))
-    inner (Commit s) = sum_none (filter (is_query (accepted_in h)) (active_numbers h))
-    inner (Abort s) = sum_none (filter (is_query (accepted_in h)) (active_numbers h))
+    inner (BeginUpdate l) = sum_by_zero (filter (is_query (accepted_in h)) (active_numbers h))
+    inner (BeginQuery l s) = sum_by_zero (filter (is_query (accepted_in h)) (active_numbers h))
+    inner (Write s x v) = sum_by_zero (filter (is_query (accepted_in h)) (active_numbers h))
+    inner (Commit s) = sum_by_zero (filter (is_query (accepted_in h)) (active_numbers h))
+    inner (Abort s) = sum_by_zero (filter (is_query (accepted_in h)) (active_numbers h))
 
     pub open_sum : sum_by f (open_charges d h) ≡ sum_by (λ e. sum_by f (open_of e)) (accepted_in h)
     open_sum =
@@ -154,7 +155,7 @@ module _ (d : DistanceFunction) (h : Schedule) where
         let a = open_sum (imports_to q) in
         let b : sum_by (λ e. sum_by (imports_to q) (open_of e)) (accepted_in h) ≤ sum_by (amount_if (λ s x. s == q) (lag distance h.opening (accepted_in h))) (accepted_in h) + sum_by (λ (e : Event). 0) (accepted_in h) =
         sum_within (λ e. sum_by (imports_to q) (open_of e)) (amount_if (λ s x. s == q) (lag distance h.opening (accepted_in h))) (λ e. 0) (accepted_in h) (λ e i. each e) in
-        let z = sum_none (accepted_in h) in
+        let z = sum_by_zero (accepted_in h) in
         let c = reads_sum q (lag distance h.opening (accepted_in h)) h.entries in
         let l : open_import d h q ≤ import_in (charges_in d h) q = open_is_imported d metric h legal q own in
         omega (arith, a, b, z, c, l)
@@ -179,7 +180,7 @@ module _ (d : DistanceFunction) (h : Schedule) where
         let a = open_sum (exports_of u) in
         let b : sum_by (λ e. sum_by (exports_of u) (open_of e)) (accepted_in h) ≤ open_export distance h.opening (accepted_in h) u + sum_by (λ (e : Event). 0) (accepted_in h) =
         sum_within (λ e. sum_by (exports_of u) (open_of e)) (amount_if (is_open (accepted_in h) u) (lag distance h.opening (accepted_in h))) (λ e. 0) (accepted_in h) (λ e i. each e) in
-        let z = sum_none (accepted_in h) in
+        let z = sum_by_zero (accepted_in h) in
         let l = open_exported d metric h legal u in
         omega (arith, a, b, z, l)
       where
