@@ -23,7 +23,7 @@ use esr_explain::Explaining;
 use esr_explore::{ExploreFault, Measure, Search, explore};
 use esr_history::Watched;
 use esr_lint::{KeptLine, Notes, Source};
-use esr_page::{Origin, Page};
+use esr_page::{PageMetadata, Page};
 use esr_picture::{PictureView, PictureWithErrorsView};
 use esr_prose::{Passage, Prose};
 use esr_script::{AuditedScript, TeeReader};
@@ -427,7 +427,7 @@ fn show_page<'a, R: Print + Eprint + AllocGlobal + Clock, I: Read + Drop>(
     }
 }
 
-/// Prints the page about a script with its origin. The file is empty for standard input, and the date if it is not known.
+/// Prints the page about a script with its metadata. The file is empty for standard input, and the date if it is not known.
 fn show_page_of<'a, R: Print + Eprint + AllocGlobal + Clock, I: Read + Drop>(
     rt: &R,
     console: Console,
@@ -439,22 +439,22 @@ fn show_page_of<'a, R: Print + Eprint + AllocGlobal + Clock, I: Read + Drop>(
     date: &'a str,
     notes: &'a Notes,
 ) -> u8 {
-    let origin = origin_of(file, date, notes);
+    let metadata = metadata_of(file, date, notes);
     let page = Page {
         worst,
         timeline: &TimelinePart,
         picture: &PictureView,
         words: &Passage,
-        origin,
+        metadata,
     };
     show_noted_script(rt, console, job, source, input, &page, notes)
 }
 
-/// Returns the origin of a page.
-fn origin_of<'a>(file: &'a str, date: &'a str, notes: &'a Notes) -> Origin<'a> {
+/// Returns the metadata of a page.
+fn metadata_of<'a>(file: &'a str, date: &'a str, notes: &'a Notes) -> PageMetadata<'a> {
     let file = unless_empty(file);
     let date = unless_empty(date);
-    Origin {
+    PageMetadata {
         file,
         date,
         version: VERSION,

@@ -1,4 +1,4 @@
--- The numbers of the faults, and the fault of parts that are not a valid problem.
+-- The number of each fault, and the fault of a bundle whose closure problem is not valid.
 use Rattle.std.specs.Prelude.{ℕ, not, if◌then◌else◌, Option, Some, None}
 use Rattle.esr_cert.specs.Problem.{Problem, has_valid_shape, is_in_range}
 pub use Rattle.esr_cert.specs.declared.certificate.Fault.{Fault}

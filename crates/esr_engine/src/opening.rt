@@ -1,5 +1,5 @@
-//! Opens engines. Values and weights are checked before anything is allocated, so that each of their errors is returned
-//! if and only if it is present.
+//! Opens engines. Checks values and weights before the first allocation, so that an invalid value or weight is reported
+//! even if memory is short.
 
 ghost use Rattle.std.specs.Prelude.{◌≡◌, ◌<◌, ◌≤◌, ◌↔◌, ◌⊎◌, [], length, map, All, Any, IsTrue, IfOk, IfErr, IsErrOf};
 ghost use Rattle.esr_base.specs.declared.limits.TheConstants.{MAX_ITEMS};
@@ -44,7 +44,7 @@ fn is_weight(w: u32) -> bool
     1 <= w && w <= MAX_WEIGHT
 }
 
-/// Refuses values or weights of which there are too many, or one is out of range.
+/// Returns an error if there are too many values or weights, or if one of them is out of range.
 fn check(opening: &[i64], weights: &[u32]) -> Result<(), OpenError>
     ensures ok { IfOk result (λ _. (length opening.now ≤ MAX_ITEMS) × (length weights.now ≤ MAX_ITEMS)
         × All IsValue opening.now × All IsWeight weights.now) }

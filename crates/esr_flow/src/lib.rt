@@ -1,10 +1,9 @@
-//! Maximum flows, and the solver for the placement problem of a query.
+//! Maximum flows, and the solver for the closure problem of a query.
 //!
 //! `solve` computes shortest augmenting paths from the zero flow (Edmonds and Karp 1972), in phases (Dinic 1970), and
-//! returns the exact number of augmentations. Audits call `find_certificate`. It starts from a draft of the flow, which
-//! carries no guarantee, and tests with a proved check that the draft is a flow; the same phases then start from the
-//! draft, or from zero if the test fails. Only the test has to be correct, so the heuristic that produces the draft
-//! needs no proof.
+//! returns the exact number of augmentations. Audits call `find_certificate` instead. It first proposes a flow by a heuristic
+//! (`draft`), and a proved check tests whether the proposal is a flow. If it is, the same phases start from the proposal,
+//! otherwise from the zero flow. So the heuristic needs no proof: the result depends only on the check.
 #![tactic(auto)]
 
 mod entry;

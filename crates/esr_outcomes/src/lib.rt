@@ -1,7 +1,8 @@
-//! What became of the transactions of a history: the kind and the outcome of each, the audits of the queries by one index,
-//! and the values that updates leave.
+//! What became of the transactions of a history: the kind and the outcome of each, the audits of its queries, and the values
+//! that updates leave.
 //!
-//! Explanations, tables, prose, timelines and pages need these, and each rule is here once. Nothing here is a text.
+//! The explanations, the tables and the drawn views (prose, pictures, timelines, pages) all need these facts. This crate
+//! computes each of them in one place, as data. The views turn them into texts.
 #![tactic(auto)]
 
 mod auditor;

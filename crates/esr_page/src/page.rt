@@ -14,7 +14,7 @@ use crate::updates::push_updates;
 use esr_history::TxnId;
 use esr_lint::Notes;
 use esr_report::{Names, name_of_transaction};
-use esr_text::{first, markup_or_nothing, push_count, push_number, push_plain};
+use esr_text::{first, markup_or_nothing, push_count, push_number, push_sanitized};
 use esr_trace::{Part, traces_of};
 use esr_views::{Recording, ScriptView};
 use std::alloc::{AllocError, Global};
@@ -27,12 +27,12 @@ pub struct Page<'a, T, P, W> {
     pub timeline: &'a T,
     pub picture: &'a P,
     pub words: &'a W,
-    pub origin: Origin<'a>,
+    pub metadata: PageMetadata<'a>,
 }
 
-/// The origin of a page: its file and date, the version of the program, and the lines with errors of the script.
+/// What a page says about itself: its file and date, the version of the program, and the lines with errors of the script.
 #[derive(Clone, Copy)]
-pub struct Origin<'a> {
+pub struct PageMetadata<'a> {
     /// The name of the file, or nothing for standard input.
     pub file: Option<&'a str>,
     /// The date, or nothing if the clock cannot be read.
@@ -42,15 +42,15 @@ pub struct Origin<'a> {
 }
 
 /// Appends the file, the date and the version of the program.
-fn push_origin(out: &mut String, origin: Origin<'_>) -> Result<(), AllocError> {
+fn push_metadata(out: &mut String, metadata: PageMetadata<'_>) -> Result<(), AllocError> {
     out.push_str("<p class='origin'>")?;
-    push_plain(out, origin.file.unwrap_or("standard input"))?;
-    if let Some(date) = origin.date {
+    push_sanitized(out, metadata.file.unwrap_or("standard input"))?;
+    if let Some(date) = metadata.date {
         out.push_str(", ")?;
-        push_plain(out, date)?;
+        push_sanitized(out, date)?;
     }
     out.push_str(", esr ")?;
-    push_plain(out, origin.version)?;
+    push_sanitized(out, metadata.version)?;
     out.push_str("</p>\n")
 }
 
@@ -71,7 +71,7 @@ fn push_errors(alloc: Global, out: &mut String, notes: &Notes) -> Result<(), All
     let text = notes.text(alloc)?;
     for line in text.lines() {
         out.push_str("<li>")?;
-        push_plain(out, line)?;
+        push_sanitized(out, line)?;
         out.push_str("</li>\n")?;
     }
     out.push_str("</ul></div>\n")
@@ -192,17 +192,17 @@ fn push_order(out: &mut String, names: &Names, order: &[TxnId]) -> Result<(), Al
     out.push_str("</p></details>\n")
 }
 
-/// Appends the part above all queries: the origin, the lines with errors and the sums.
+/// Appends the part above all queries: the metadata, the lines with errors and the sums.
 fn push_summary(
     alloc: Global,
     out: &mut String,
-    origin: Origin<'_>,
+    metadata: PageMetadata<'_>,
     all: &QueryRows<'_>,
     audits: &Audits<'_>,
 ) -> Result<(), AllocError> {
     out.push_str(head())?;
-    push_origin(out, origin)?;
-    push_errors(alloc, out, origin.notes)?;
+    push_metadata(out, metadata)?;
+    push_errors(alloc, out, metadata.notes)?;
     push_sums(out, totals_of(&all.rows), audits.order.len() as u64)
 }
 
@@ -265,7 +265,7 @@ impl<T: Part, P: Part, W: Part> Page<'_, T, P, W> {
         explained: &[TxnId],
     ) -> Result<(), AllocError> {
         let traces = traces_of(alloc, &recording.history, explained)?;
-        push_summary(alloc, out, self.origin, all, audits)?;
+        push_summary(alloc, out, self.metadata, all, audits)?;
         let worst = first(explained, 1);
         let others = explained.get(1..).unwrap_or(&[]);
         out.push_str(heading_of(&all.rows, worst))?;

@@ -1,18 +1,19 @@
 //! A renewal that carries the active transactions over: the law that it is always possible.
 //!
-//! A history holds a limited number of transactions, so a long run consists of many histories. A renewal opens the
-//! next one with the committed values. It need not wait until nothing is active: each active transaction begins
-//! again, then the operations of active updates follow with the replies that they had, then the reads of active
-//! queries, at the current values. The definitions are those of `esr_core` (`carried`, `IsCarriedOver`).
+//! A history holds a limited number of transactions, so a long run consists of many histories. A renewal opens the next one
+//! with the committed values. It need not wait until nothing is active: in the new history each active transaction begins
+//! again, then the operations of active updates follow, each with the reply that it had, and then the reads of active
+//! queries, each with the current value. The definitions are those of `esr_core` (`carried`, `IsCarriedOver`).
 //!
-//! The charges are divided. A conflict of a query and an update is open while both are active. The reads and writes
-//! that are carried over are charged exactly the open amounts again, so each transaction begins with its limit minus
-//! the settled rest, and no limit refuses a carried entry. Two facts make this work. The open amounts of a
-//! transaction are at most its charges. And active updates have no conflicting operations, because each holds its
-//! locks to its end, so no lock refuses an operation, and each read returns the value that it returned before.
+//! A charge comes from a conflict of a query and an update. While both are active, the conflict is *open*. The *open amount*
+//! of a query is what it would be charged for repeating its reads now; that of an update is its part of these charges. The
+//! rest of the charges is *settled*. The carried reads and writes are charged exactly the open amounts, so each transaction
+//! begins with its limit minus the settled amount, and no limit refuses a carried entry. Two facts make this work. The open
+//! amounts of a transaction are at most its charges. And the operations of active updates do not conflict, because each
+//! update holds its locks to its end: so no lock refuses an operation, and each read of an update returns its earlier value.
 //!
-//! Rejected: to reduce a limit by all charges, which charges open conflicts twice; and to repeat the reads of queries
-//! before the writes of updates, which charges an update that writes several times for each of its writes.
+//! Rejected: to reduce a limit by all charges, which charges open conflicts twice; and to repeat the reads of queries before
+//! the writes of updates, which charges an update that writes several times for each of its writes.
 #![tactic(auto)]
 
 ghost use Rattle.esr_renewal.specs.Carry.{LawOfCarriedOrder, LawOfCarry, LawOfOpenExports};

@@ -4,12 +4,14 @@
 //! The method builds neither a closure problem nor a flow network. First, `draft` proposes an amount for each version of an
 //! item. No contract constrains these amounts. They are not the draft flow of `esr_flow`. Then a *pass* (`pass`) caps each
 //! amount at the cost of its version. Every closed set contains the *mandatory* updates: of a strict query, the updates that
-//! committed before it began; of any other query, none. Let S be the sum of the capped amounts of the current versions
-//! directly after them. The pass fails if a later update decreases the sum. Otherwise every closed set costs at least S
-//! (`esr_bound`). The pass also marks updates that every set of least cost contains, and `close` adds their predecessors.
-//! Both repeat until `close` adds none, at most 32 times (`MAX_ROUNDS`). If the cost of the marked set then equals S, the
-//! marked set is the result. Otherwise `least_of` returns `None`, and the caller solves the closure problem of the query
-//! (`esr_audit`).
+//! committed before it began; of any other query, none.
+//!
+//! A pass applies the updates in commit order and keeps the sum of the capped amounts of the current versions. Let S be this
+//! sum directly after the mandatory updates. If a later update decreases the sum, the pass fails. Otherwise every closed set
+//! costs at least S (`esr_bound`). The pass also marks updates that every set of least cost contains, and `close` adds their
+//! predecessors. If `close` adds an update, a pass with the larger set follows. After 32 passes (`MAX_ROUNDS`) the search ends
+//! without a result. When `close` adds none and the cost of the marked set equals S, the marked set is the result. In each
+//! other case `least_of` returns `None`, and the caller solves the closure problem of the query (`esr_audit`).
 //!
 //! The proof covers the pass and not the proposed amounts, so `draft` can change without a new theorem. Costs are never
 //! negative, but amounts can be. So costs and amounts are stored as unsigned integers with `OFFSET` added. Rejected design: a

@@ -6,9 +6,17 @@ use crate::elements::push_text;
 use crate::frame::{EDGE, ERROR_LINE, Frame, SENTENCE_LINE};
 use crate::scene::{Lane, Scene, Update};
 use crate::texts::ErrorLine;
-use esr_text::{first, push_number, push_plain, push_value};
+use esr_text::{first, push_number, push_sanitized, push_value};
 use std::alloc::AllocError;
 
+/// The style sheet. A page contains pictures and timelines, so their classes have different names, and short ones keep
+/// pictures of many parts small.
+///
+/// Texts: `m` monospaced, `h` heading, `n` bold, `q` muted, `g` exact or good, `r` off or an error, `o` with a halo.
+/// Boxes of updates: `b` before the line, `a` after it, `e` must be before it. Lanes: `v` a version, `u` a version that
+/// the query read, `y` and `z` read twice or more than nine times, `s` several versions or a transient read, `t` a
+/// write, `j` and `i` the frame and the filling of a bar, `c` a read that is off. Others: `l` the line, `d` a guide,
+/// `w` an arrow, `k` its head, `p` the background, `x` the box of errors.
 const STYLE: &str = "<style>\n\
 text{font:12px sans-serif;fill:#1f2328}\n\
 .m{font:13px Menlo,Consolas,'DejaVu Sans Mono',monospace}\n\
@@ -189,13 +197,13 @@ pub fn push_head(out: &mut String, scene: &Scene<'_>, frame: &Frame) -> Result<(
 
 /// Appends a line in the box of errors, at this height above the picture. A continued line is indented.
 fn push_error(out: &mut String, line: &ErrorLine, up: u32) -> Result<(), AllocError> {
-    let x = if line.is_continued {
+    let x = if line.is_continuation {
         EDGE.saturating_add(16)
     } else {
         EDGE
     };
     write!(out, "<text class='r' x='{x}' y='-{up}'>")?;
-    push_plain(out, &line.text)?;
+    push_sanitized(out, &line.text)?;
     out.push_str("</text>\n")
 }
 

@@ -26,7 +26,7 @@ const OTHERS_DECIDE: &str = "These items keep the line from other positions.";
 pub struct ErrorLine {
     pub text: String,
     /// True if it continues the line above it.
-    pub is_continued: bool,
+    pub is_continuation: bool,
 }
 
 /// The sentences of a picture.
@@ -165,22 +165,22 @@ struct Folded {
     lines: Vec<ErrorLine>,
     text: String,
     length: usize,
-    is_continued: bool,
+    is_continuation: bool,
     /// The maximum number of letters in a line.
     letters: usize,
 }
 
 impl Folded {
     /// Ends the line.
-    fn end_line(&mut self, alloc: Global, is_continued: bool) -> Result<(), AllocError> {
+    fn end_line(&mut self, alloc: Global, is_continuation: bool) -> Result<(), AllocError> {
         let text = String::from_str(alloc, self.text.as_str())?;
         self.lines.push(ErrorLine {
             text,
-            is_continued: self.is_continued,
+            is_continuation: self.is_continuation,
         })?;
         self.text.clear();
         self.length = 0;
-        self.is_continued = is_continued;
+        self.is_continuation = is_continuation;
         Ok(())
     }
 
@@ -234,7 +234,7 @@ fn errors_of(alloc: Global, errors: &[String], width: u32) -> Result<Vec<ErrorLi
         lines: Vec::new(alloc),
         text: String::new(alloc),
         length: 0,
-        is_continued: false,
+        is_continuation: false,
         letters: letters_in(width, LETTER).saturating_sub(2),
     };
     for error in first(errors, MAX_ERRORS) {

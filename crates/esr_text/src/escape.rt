@@ -5,9 +5,8 @@
 
 use std::alloc::AllocError;
 
-/// Appends a text as plain text of markup. `<` and `&` are replaced by their full-width forms, and control characters by
-/// question marks.
-pub fn push_plain(out: &mut String, text: &str) -> Result<(), AllocError> {
+/// Appends a text to markup. Replaces `<` and `&` by their full-width forms, and each control character by a question mark.
+pub fn push_sanitized(out: &mut String, text: &str) -> Result<(), AllocError> {
     for letter in text.chars() {
         out.push(match letter {
             '&' => '\u{ff06}',

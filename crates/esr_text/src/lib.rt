@@ -10,7 +10,7 @@ mod lists;
 mod markup;
 mod numbers;
 
-pub use escape::push_plain;
+pub use escape::push_sanitized;
 pub use lines::wrap;
 pub use lists::first;
 pub use markup::{is_attributes, is_markup, markup_or_nothing};

@@ -19,6 +19,12 @@ use esr_text::{first, number_letters, push_count, push_number, push_value, wrap}
 use esr_trace::outcome_words;
 use std::alloc::{AllocError, Global};
 
+/// The style sheet. A page contains timelines and pictures, so their classes have different names.
+///
+/// Texts: `hd` heading, `nm` name of a lane, `lb` label, `ha` with a halo, `gy` muted, `rd` off or a charge, `gn` exact.
+/// Lanes: `bu` an update, `bq` a query, `op` not ended. Marks: `mr` a read, `mo` a read that is off, `mw` a write, `mx`
+/// a blocked operation. Charges: `ar` an arrow, `tp` its head. Limits: `lf` the frame, `lu` the used part. Others: `gd` a
+/// guide, `pp` the background.
 const STYLE: &str = "<style>\n\
 text{font:12px sans-serif;fill:#1f2328}\n\
 .hd{font:bold 15px Menlo,Consolas,'DejaVu Sans Mono',monospace}\n\

@@ -1,5 +1,5 @@
-//! Limits and charges by hand. Each call of the ledgers satisfies a definition; no clause can state that the
-//! definition is the intended one, and that an account's allocation succeeds.
+//! Limits and charges, computed by hand. The contracts prove that each call satisfies a definition. These tests show that
+//! the definitions are the intended ones, and that the allocation of an account succeeds.
 
 ghost use Rattle.std.specs.Prelude.{◌≡◌, []};
 
@@ -7,8 +7,7 @@ use esr_history::TxnId;
 use esr_ledgers::{Ledgers, Quote};
 use std::process::Abort;
 
-/// A definition determines the query that is named, and that a charge may reach a limit: one off by 1 would be
-/// proved.
+/// A quote names the query whose limit would be passed, and a charge may reach a limit exactly.
 #[test]
 fn an_export_limit_bounds_the_sum_over_queries(rt: HostRuntime) {
     check_the_sum(&rt, &mut Ledgers::new(rt.alloc()));
@@ -35,7 +34,7 @@ fn check_the_sum(rt: &impl Abort, ledgers: &mut Ledgers)
     assert!(rt; ledgers.totals() == (14, 14));
 }
 
-/// Whom a full limit names is a definition's: one that names the query would be proved; and nothing is charged yet.
+/// A quote names the update whose export limit would be passed. It charges nothing.
 #[test]
 fn an_update_that_is_full_is_named(rt: HostRuntime) {
     let mut ledgers = Ledgers::new(rt.alloc());

@@ -3,7 +3,7 @@
 use crate::tests::pictures::BANK;
 use esr_history::Watched;
 use esr_lint::{Notes, Unobserved};
-use esr_page::{Origin, Page};
+use esr_page::{PageMetadata, Page};
 use esr_picture::PictureView;
 use esr_prose::{Passage, Prose};
 use esr_script::{RunFault, render_script};
@@ -141,7 +141,7 @@ fn page<'a>(worst: u64, notes: &'a Notes) -> Page<'a, TimelinePart, PictureView,
         timeline: &TimelinePart,
         picture: &PictureView,
         words: &Passage,
-        origin: Origin {
+        metadata: PageMetadata {
             file: Some("<bank>"),
             date: Some("27 Nov 2026"),
             version: "1.2.3",
