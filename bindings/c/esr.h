@@ -28,8 +28,8 @@
  * An engine is never stuck. It reserves one entry for the end of each active transaction. An event for which no other
  * entry is left, and a begin for which no number is left, returns ESR_HISTORY_FULL and adds no entry. The caller then ends
  * the active transactions, or lets them end, audits the queries of interest, and calls esr_renew; or calls
- * esr_renew_aborting, which succeeds in every state. After a renewal, transactions are numbered from 1 again: an old number
- * may belong to another transaction.
+ * esr_renew_carrying, which carries the active transactions over, or esr_renew_aborting, which aborts them. After a renewal,
+ * transactions are numbered from 1 again: an old number may belong to another transaction.
  *
  * These calls return a status and have no other effect: calls before esr_open or after esr_close, opening or closing twice,
  * unknown numbers of transactions and items, values and limits out of range. Several engines may be open at once.
@@ -76,9 +76,10 @@ extern "C" {
 #define ESR_LARGEST_LIMIT ESR_MAX_LIMIT
 #define ESR_LARGEST_WEIGHT ESR_MAX_WEIGHT
 
-/* The status of a call. Unless it is ESR_DONE, nothing has changed, with three exceptions. With ESR_TOO_SMALL the call has
+/* The status of a call. Unless it is ESR_DONE, nothing has changed, with four exceptions. With ESR_TOO_SMALL the call has
  * stored the count, and esr_audit the whole finding; the buffer is unchanged. esr_read_for_update may have taken the lock
- * before it returns ESR_NO_MEMORY. esr_do has executed the earlier events. */
+ * before it returns ESR_NO_MEMORY. esr_do has executed the earlier events. esr_renew_carrying has stored the count also
+ * with ESR_NO_MEMORY. */
 typedef uint32_t esr_status;
 enum {
     ESR_DONE = 0,
@@ -246,6 +247,18 @@ esr_status esr_check(const uint8_t *bytes, size_t length, esr_verdict *verdict);
 esr_status esr_renew(esr_engine *engine);
 /* Like esr_renew, but succeeds in every state: it aborts the active transactions. */
 esr_status esr_renew_aborting(esr_engine *engine);
+/* Like esr_renew, but carries the active transactions over: in the new history each has its reads, its locks and the rest of
+ * its limit. Stores them in `carried`, in ascending order, and their number in `count`; if that exceeds `capacity`, the status
+ * is ESR_TOO_SMALL. The new numbers are 1, 2 and so on. Of the limit and the charges of a transaction, the part `settled` is
+ * in the old history only: for its whole account, add the parts of all renewals to esr_account_of. The reads of a carried
+ * query are repeated at the current values, so an audit of it in the new history is of the repeated reads; the values that it
+ * has read are off by at most its whole charges. Only a lack of memory prevents this renewal. The new history has at least as
+ * many entries left as the old one, and no more if each entry of the old one is needed for an active transaction. */
+typedef struct esr_carried {
+    uint32_t old_txn, new_txn;
+    uint64_t settled;
+} esr_carried;
+esr_status esr_renew_carrying(esr_engine *engine, esr_carried *carried, size_t capacity, size_t *count);
 
 /* Return the text of a status, and of a refusal. */
 static inline const char *esr_status_text(esr_status status) {

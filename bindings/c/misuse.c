@@ -14,6 +14,7 @@ static int wrong;
 
 _Static_assert(sizeof(esr_engine) == 2 * sizeof(void *), "an engine is two words");
 _Static_assert(sizeof(esr_event) == 32, "an event is four words");
+_Static_assert(sizeof(esr_carried) == 16, "a carried transaction is two words");
 _Static_assert(sizeof(esr_counts) == 40 && sizeof(esr_account) == 24, "counts are five words, an account three");
 _Static_assert(sizeof(esr_reply) == 24 && sizeof(esr_totals) == 24 && sizeof(esr_finding) == 24, "results are three words");
 
@@ -27,6 +28,7 @@ static void closed(esr_engine *engine) {
     uint32_t before[1];
     uint8_t bytes[1] = {0};
     int64_t values[1];
+    esr_carried carried[1] = {{9, 9, 9}};
     size_t count;
     WANT(esr_begin_update(engine, 0, &reply), ESR_IS_CLOSED);
     WANT(esr_begin_query(engine, 0, true, &reply), ESR_IS_CLOSED);
@@ -46,6 +48,9 @@ static void closed(esr_engine *engine) {
     WANT(esr_do(engine, &event, 1, &reply, 0, false, &count), ESR_IS_CLOSED);
     WANT(esr_renew(engine), ESR_IS_CLOSED);
     WANT(esr_renew_aborting(engine), ESR_IS_CLOSED);
+    count = 9;
+    WANT(esr_renew_carrying(engine, carried, 1, &count), ESR_IS_CLOSED);
+    WANT(count == 9 && carried[0].old_txn == 9 && carried[0].new_txn == 9 && carried[0].settled == 9, 1);
     WANT(esr_read_for_update(engine, 1, 0, &reply), ESR_IS_CLOSED);
     WANT(esr_counts_of(engine, &counts), ESR_IS_CLOSED);
     WANT(esr_account_of(engine, 1, &account), ESR_IS_CLOSED);

@@ -1,5 +1,5 @@
 -- What the calls from C return: replies and refusals as numbers.
-use Rattle.std.specs.Prelude.{◌≡◌, ◌≢◌, ◌↔◌, ◌*◌, ◌+◌, ◌^◌, ℕ, ℤ, Bool, true, false, List, [], length, Option, Some, None, IfSome, option_map, pos, take, ◌⊎◌}
+use Rattle.std.specs.Prelude.{◌≡◌, ◌≢◌, ◌↔◌, ◌*◌, ◌+◌, ◌^◌, ℕ, ℤ, Bool, true, false, List, [], length, Option, Some, None, IfSome, option_map, pos, take, map, ◌≤◌, ◌⊎◌}
 use Rattle.std.proofs.Math.Nat.{one-mul}
 use Rattle.esr_items.specs.Values.{gap}
 use Rattle.esr_items.specs.Weights.{weighted}
@@ -17,12 +17,15 @@ use Rattle.esr_history.specs.Machine.{Schedule, IsLegal, extended, reply_to}
 use Rattle.esr_history.specs.Refusals.{refusal_number}
 use Rattle.esr_history.specs.Totals.{all_imports}
 use Rattle.esr_core.specs.Renewed.{committed_values, renewed, AreSerializableAsOne}
+use Rattle.esr_core.specs.Carried.{carried, IsCarriedOver}
 use Rattle.esr_engine.specs.Accounts.{account_of}
 use Rattle.esr_engine.specs.ForUpdate.{after_for_update, no_pair, reply_for_update, IsPartlyDone}
-use Rattle.esr_engine.specs.Capacity.{is_full}
+use Rattle.esr_engine.specs.Capacity.{is_full, taken}
+use Rattle.esr_engine.specs.Carrying.{carried_in}
 use Rattle.esr_engine.specs.declared.account.AccountView.{AccountView}
 use Rattle.esr_engine.specs.declared.account.TxnStatus.{TxnStatus}
 use Rattle.esr_engine.specs.declared.account.TxnStatus.TheVariants as txn_status
+use Rattle.esr_engine.specs.declared.carrying.CarriedTxn.{CarriedTxn}
 use Rattle.esr_cert.specs.Certificate.{Certificate}
 use Rattle.esr_cert.specs.Views.{certificate_of}
 use Rattle.esr_audit.specs.Findings.{IsAnswer, IsFindingOf}
@@ -34,6 +37,7 @@ use Rattle.esr_bundle.specs.declared.judgement.Verdict.TheVariants.{Valid, Inval
 use Rattle.esr_c.specs.declared.account.EsrAccount.{EsrAccount}
 use Rattle.esr_c.specs.declared.audit.EsrFinding.{EsrFinding}
 use Rattle.esr_c.specs.declared.audit.EsrTotals.{EsrTotals}
+use Rattle.esr_c.specs.declared.carrying.EsrCarried.{EsrCarried}
 use Rattle.esr_c.specs.declared.engine.Status.{Status}
 use Rattle.esr_c.specs.declared.engine.Status.TheVariants.{Done, TooManyItems, OutOfRange, NotBegun, WeightOutOfRange, BadNames, NotACommittedQuery, TooSmall, NoSuchEvent, Full, NoMemory, Closed, Open, Active}
 use Rattle.esr_c.specs.declared.reply.EsrReply.{EsrReply}
@@ -111,6 +115,21 @@ AreValuesIn h count buffer = (take count buffer ≡ committed_values h) × (coun
 pub record IsRenewed (h : Schedule) : Type 0 where
   pub as_one : (later : List Entry) → IsLegal weighted (continued (renewed h h.weights) later)
       → AreSerializableAsOne h (continued (renewed h h.weights) later)
+
+-- a carried transaction, and those of a renewal at the start of a buffer
+abbrev pub carried_fields : CarriedTxn → EsrCarried
+carried_fields c = record { old_txn = c.old.0; new_txn = c.new.0; settled = c.settled }
+
+abbrev pub AreCarriedIn : Schedule → ℕ → List EsrCarried → Type 0
+AreCarriedIn h count buffer = take count buffer ≡ map carried_fields (carried_in weighted h)
+
+-- In the history after a carrying renewal the active transactions lose nothing. It takes up no more entries than the one
+-- before, and that one and every history after it are serializable as one.
+pub record IsCarriedRenewal (h : Schedule) : Type 0 where
+  pub over : IsCarriedOver weighted h (carried weighted h)
+  pub as_one : (later : List Entry) → IsLegal weighted (continued (carried weighted h) later)
+      → AreSerializableAsOne h (continued (carried weighted h) later)
+  pub room : taken (carried weighted h) ≤ taken h
 
 -- the number of each status
 abbrev pub status_number : Status → ℕ

@@ -18,16 +18,18 @@ ghost use Rattle.esr_history.specs.Machine.{accepted_in};
 ghost use Rattle.esr_history.specs.Queries.{is_committed_query};
 ghost use Rattle.esr_history.specs.Sound.{IsSound};
 ghost use Rattle.esr_history.specs.Totals.{IsWithinLimits};
+ghost use Rattle.esr_core.specs.Carried.{carried};
 ghost use Rattle.esr_core.specs.Renewed.{has_active, renewed};
-ghost use Rattle.esr_engine.specs.Capacity.{NeverStuck, counts_of};
+ghost use Rattle.esr_engine.specs.Capacity.{NeverStuck, active_count, counts_of};
 ghost use Rattle.esr_c.specs.Many.{AreAnswered, IsAnsweredStatus, IsEnd};
 ghost use Rattle.esr_picture.specs.Picture.{IsSvg};
 ghost use Rattle.esr_c.specs.HistoryTexts.{HasNameForEachItem, IsExplanationOf, IsLedgerOf, IsScriptOf, IsTextStatus, IsQueryTextStatus, IsTextInBuffer, IsTextLength, parsed_item_names};
-ghost use Rattle.esr_c.specs.Answers.{opened, IsEventCall, IsForUpdateCall, IsTotal, IsAccount, IsFound, HasAugmentationCount, IsBundleIn, IsBundleLong, AreValuesIn, IsRenewed, IsOpenStatus, IsWeightedOpenStatus, IsRenewStatus, IsValuesStatus, IsAuditStatus, IsVerdictIn};
+ghost use Rattle.esr_c.specs.Answers.{opened, IsEventCall, IsForUpdateCall, IsTotal, IsAccount, IsFound, HasAugmentationCount, IsBundleIn, IsBundleLong, AreCarriedIn, AreValuesIn, IsCarriedRenewal, IsRenewed, IsOpenStatus, IsWeightedOpenStatus, IsRenewStatus, IsValuesStatus, IsAuditStatus, IsVerdictIn};
 
 mod account;
 mod audit;
 mod batch;
+mod carrying;
 mod engine;
 mod handle;
 mod past;
@@ -42,6 +44,8 @@ pub use audit::{EsrFinding, EsrTotals};
 use audit::{show_bundle, show_finding, show_values, totals_of};
 pub use batch::EsrEvent;
 use batch::answer_all;
+pub use carrying::EsrCarried;
+use carrying::renew_engine_carrying;
 pub use engine::EsrEngine;
 use engine::{
     Status, end, open, open_engine, read, read_for_update, renew_engine, renew_engine_aborting,
@@ -582,6 +586,40 @@ pub extern "C" fn esr_renew_aborting(alloc: Global, engine: &mut EsrEngine) -> u
         return Status::Closed.number();
     };
     let status = renew_engine_aborting(alloc, &mut inner);
+    *engine = open_engine(inner);
+    status.number()
+}
+
+/// Renews the engine and carries its active transactions over: in the new history they have their reads, their locks and
+/// the rest of their limits. Writes them to the buffer `txns`, in ascending order, with their old and their new numbers and
+/// their settled charges, which count towards their limits and are in the old history only.
+///
+/// 0, or 7 if the buffer is too small, 13 if an allocation failed, 14 if the engine is closed; then the engine and the
+/// buffer are unchanged. With 0, 7 and 13, `count` is the number of active transactions.
+#[unsafe(no_mangle)]
+pub extern "C" fn esr_renew_carrying(
+    alloc: Global,
+    engine: &mut EsrEngine,
+    txns: &mut [EsrCarried],
+    count: &mut usize,
+) -> u32
+    ensures status { IsValuesStatus result }
+    ensures closed { result ≡ 14 ↔ (engine.old.held.history ≡ None) }
+    ensures count { IfSome engine.old.held.history (λ h. count.new ≡ active_count (accepted_in h)) }
+    ensures small { IfSome engine.old.held.history
+        (λ h. (result ≡ 7) ↔ (length txns.old < active_count (accepted_in h))) }
+    ensures renewed { result ≡ 0 → IfSome engine.old.held.history
+        (λ h. engine.new.held.history ≡ Some (carried weighted h)) }
+    ensures listed { result ≡ 0 → IfSome engine.old.held.history (λ h. AreCarriedIn h count.new txns.new) }
+    ensures carried { result ≡ 0 → IfSome engine.old.held.history IsCarriedRenewal }
+    ensures err { result ≢ 0 → (engine.new.held.history ≡ engine.old.held.history) × (txns.new ≡ txns.old) }
+    ensures rest { drop count.new txns.new ≡ drop count.new txns.old }
+    ensures unreported { result ≡ 14 → count.new ≡ count.old }
+{
+    let Some(mut inner) = take_engine(alloc, engine) else {
+        return Status::Closed.number();
+    };
+    let status = renew_engine_carrying(alloc, &mut inner, txns, count);
     *engine = open_engine(inner);
     status.number()
 }
