@@ -17,7 +17,7 @@ use Rattle.esr_core.specs.Renewed.{committed_values, renewed}
 use Rattle.esr_core.specs.Carried.{active_numbers, new_number, settled, charged_in, open_charges, carried_read}
 use Rattle.esr_core.proofs.Held.{update_or_query}
 use Rattle.esr_renewal.specs.Types.{TxnId, ItemId, Event, BeginUpdate, BeginQuery, Read, Write, Commit, Abort, Entry, Value, NoSuchTransaction, AlreadyEnded, NoSuchItem, TooManyReads}
-use Rattle.esr_renewal.proofs.OpenCharges.{lag}
+use Rattle.esr_renewal.proofs.OpenCharges.{uncommitted_distance}
 use Rattle.esr_renewal.proofs.Replayed.{operation_again, read_again, begins_again, events_again}
 use Rattle.esr_renewal.proofs.Again.{query_active, begun_then, query_then, limit_then, active_then, query_total}
 use Rattle.esr_renewal.proofs.CarriedValues.{current_kept}
@@ -110,20 +110,20 @@ module _ (d : DistanceFunction) (metric : (w : List ℕ) → IsMetric (d w)) (h 
     due_same : due_in d k (Read (new_number h q.0) x) ≡ charge_by d h legal q.0 x.0 (writer (accepted_in h) x.0)
     due_same = ap (λ es. due distance (committed_values h) es (Read (new_number h q.0) x)) same ∙ read_charged d h legal rs q x own
 
-    import_fits : (w : ℕ) → writer (accepted_in h) x.0 ≡ Some w → nat_lt (limit_of (accepted_in k) u) (import_in (charges_in d k) u + lag distance h.opening (accepted_in h) x.0) ≡ false
+    import_fits : (w : ℕ) → writer (accepted_in h) x.0 ≡ Some w → nat_lt (limit_of (accepted_in k) u) (import_in (charges_in d k) u + uncommitted_distance distance h.opening (accepted_in h) x.0) ≡ false
     import_fits w w_is =
         let a : import_in (charges_in d k) u ≡ sum (imports_to d h q.0) rs = ap (λ cs. import_in cs u) charges_same ∙ carried_import d h legal q.0 own rs in
         let b : limit_of (accepted_in k) u ≡ limit_of (accepted_in h) q.0 - settled d h q.0 = ap (λ es. limit_of es u) same ∙ limit_then d h (accepted_in h) rs q.0 active in
         let c = whole_sum (imports_to d h q.0) in
-        let l : sum_by (imports_to d h q.0) (open_of d h (Read q x)) ≡ lag distance h.opening (accepted_in h) x.0 =
-        ap (sum_by (imports_to d h q.0)) (open_here (Some w) w_is) ∙ (single (imports_to d h q.0) (record { query = q.0; update = w; amount = lag distance h.opening (accepted_in h) x.0 }) ∙ ap (λ b. if b then lag distance h.opening (accepted_in h) x.0 else 0) (eq-eqb q.0 q.0 refl)) in
+        let l : sum_by (imports_to d h q.0) (open_of d h (Read q x)) ≡ uncommitted_distance distance h.opening (accepted_in h) x.0 =
+        ap (sum_by (imports_to d h q.0)) (open_here (Some w) w_is) ∙ (single (imports_to d h q.0) (record { query = q.0; update = w; amount = uncommitted_distance distance h.opening (accepted_in h) x.0 }) ∙ ap (λ b. if b then uncommitted_distance distance h.opening (accepted_in h) x.0 else 0) (eq-eqb q.0 q.0 refl)) in
         let t : IsWithin d h metric legal q.0 = within d h metric legal q.0 active in
         let o : charged_in h (open_charges d h) q.0 ≡ import_in (open_charges d h) q.0 = ap (λ b. if b then import_in (open_charges d h) q.0 else export_in (open_charges d h) q.0) query in
         let first = t.open_charged in
         let second = t.charged_allowed in
-        le-ltb (limit_of (accepted_in k) u) (import_in (charges_in d k) u + lag distance h.opening (accepted_in h) x.0) (omega (arith, a, b, c, l, o, first, second))
+        le-ltb (limit_of (accepted_in k) u) (import_in (charges_in d k) u + uncommitted_distance distance h.opening (accepted_in h) x.0) (omega (arith, a, b, c, l, o, first, second))
 
-    export_fits : (w : ℕ) → writer (accepted_in h) x.0 ≡ Some w → (n : ℕ) → n ≡ lag distance h.opening (accepted_in h) x.0
+    export_fits : (w : ℕ) → writer (accepted_in h) x.0 ≡ Some w → (n : ℕ) → n ≡ uncommitted_distance distance h.opening (accepted_in h) x.0
         → nat_lt (limit_of (accepted_in k) (new_number h w).0) (export_in (charges_in d k) (new_number h w).0 + n) ≡ false
     export_fits w w_is n n_is =
         let p = and_parts (is_update (accepted_in h) w) (holds_write (accepted_in h) w x.0) (found_satisfies (λ u. is_update (accepted_in h) u && holds_write (accepted_in h) u x.0) (txn_numbers (accepted_in h)) w w_is) in
@@ -131,8 +131,8 @@ module _ (d : DistanceFunction) (metric : (w : List ℕ) → IsMetric (d w)) (h 
         let a : export_in (charges_in d k) (new_number h w).0 ≡ sum (exports_of d h w) rs = ap (λ cs. export_in cs (new_number h w).0) charges_same ∙ carried_export d h legal w act rs in
         let b : limit_of (accepted_in k) (new_number h w).0 ≡ limit_of (accepted_in h) w - settled d h w = ap (λ es. limit_of es (new_number h w).0) same ∙ limit_then d h (accepted_in h) rs w act in
         let c = whole_sum (exports_of d h w) in
-        let l : sum_by (exports_of d h w) (open_of d h (Read q x)) ≡ lag distance h.opening (accepted_in h) x.0 =
-        ap (sum_by (exports_of d h w)) (open_here (Some w) w_is) ∙ (single (exports_of d h w) (record { query = q.0; update = w; amount = lag distance h.opening (accepted_in h) x.0 }) ∙ ap (λ b. if b then lag distance h.opening (accepted_in h) x.0 else 0) (eq-eqb w w refl)) in
+        let l : sum_by (exports_of d h w) (open_of d h (Read q x)) ≡ uncommitted_distance distance h.opening (accepted_in h) x.0 =
+        ap (sum_by (exports_of d h w)) (open_here (Some w) w_is) ∙ (single (exports_of d h w) (record { query = q.0; update = w; amount = uncommitted_distance distance h.opening (accepted_in h) x.0 }) ∙ ap (λ b. if b then uncommitted_distance distance h.opening (accepted_in h) x.0 else 0) (eq-eqb w w refl)) in
         let t : IsWithin d h metric legal w = within d h metric legal w act in
         let o : charged_in h (open_charges d h) w ≡ export_in (open_charges d h) w = ap (λ b. if b then import_in (open_charges d h) w else export_in (open_charges d h) w) (update_or_query (accepted_in h) w p.0) in
         let first = t.open_charged in
@@ -152,7 +152,7 @@ module _ (d : DistanceFunction) (metric : (w : List ℕ) → IsMetric (d w)) (h 
         at : (w : Option ℕ) → writer (accepted_in h) x.0 ≡ w → export_full d k (charge_by d h legal q.0 x.0 w) ≡ None
         at None w_is = refl
         at (Some w) w_is =
-            rw (export_fits w w_is (total (charge_by d h legal q.0 x.0 (Some w))) (single (λ (c : Charge). c.amount) (record { query = u; update = (new_number h w).0; amount = lag distance h.opening (accepted_in h) x.0 }))) refl
+            rw (export_fits w w_is (total (charge_by d h legal q.0 x.0 (Some w))) (single (λ (c : Charge). c.amount) (record { query = u; update = (new_number h w).0; amount = uncommitted_distance distance h.opening (accepted_in h) x.0 }))) refl
 
     reads_now : Value (current_value h.opening (accepted_in h) x.0) ≡ reply_to d k (Read (new_number h q.0) x)
     reads_now =

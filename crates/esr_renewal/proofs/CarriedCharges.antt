@@ -15,7 +15,7 @@ use Rattle.esr_core.specs.Carried.{active_numbers, new_number, carried_begin}
 use Rattle.esr_core.proofs.Begins.{begin_due}
 use Rattle.esr_core.proofs.Held.{update_or_query}
 use Rattle.esr_renewal.specs.Types.{TxnId, ItemId, Event, BeginUpdate, BeginQuery, Read, Write, Commit, Abort}
-use Rattle.esr_renewal.proofs.OpenCharges.{lag}
+use Rattle.esr_renewal.proofs.OpenCharges.{uncommitted_distance}
 use Rattle.esr_renewal.proofs.Replayed.{runs, operation_again, read_again, begins_again, events_again, operation_case}
 use Rattle.esr_renewal.proofs.Again.{query_then, update_then, active_then, update_wrote, who_wrote, who_read, runs_active}
 use Rattle.esr_renewal.proofs.CarriedValues.{committed_kept, current_kept}
@@ -142,7 +142,7 @@ module _ (d : DistanceFunction) (h : Schedule) (legal : IsLegal d h) where
   -- what a carried read is charged, by the writer of its item
   abbrev pub charge_by : ℕ → ℕ → Option ℕ → List Charge
   charge_by q x None = []
-  charge_by q x (Some u) = record { query = (new_number h q).0; update = (new_number h u).0; amount = lag distance h.opening (accepted_in h) x } ∷ []
+  charge_by q x (Some u) = record { query = (new_number h q).0; update = (new_number h u).0; amount = uncommitted_distance distance h.opening (accepted_in h) x } ∷ []
 
   pub read_charged : (rs : List Event) (q : TxnId) (x : ItemId) → is_active_query h q.0 ≡ true
       → due distance (committed_values h) (events_again d h (active_numbers h) (accepted_in h) rs) (Read (new_number h q.0) x) ≡ charge_by q.0 x.0 (writer (accepted_in h) x.0)

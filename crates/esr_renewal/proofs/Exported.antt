@@ -19,7 +19,7 @@ use Rattle.esr_history.proofs.Membership.{In, any-from_In}
 use Rattle.esr_history.proofs.Sums.{sum_by_zero}
 use Rattle.esr_history.proofs.Traces.{IsMetric}
 use Rattle.esr_renewal.specs.Types.{TxnId, ItemId, Event, BeginUpdate, BeginQuery, Read, Write, Commit, Abort, Reply, Refusal, Refused}
-use Rattle.esr_renewal.proofs.OpenCharges.{amount_if, is_open, lag, open_export}
+use Rattle.esr_renewal.proofs.OpenCharges.{amount_if, is_open, uncommitted_distance, open_export}
 use Rattle.esr_renewal.proofs.Amounts.{sum_within, by_reader}
 
 same_number : (a b : ℕ) → Some a ≡ Some b → a ≡ b
@@ -87,30 +87,30 @@ module _ (d : ℕ → ℤ → ℤ → ℕ) (metric : IsMetric d) (opening : List
       let did : list_any (writes u x) es ≡ true = sym (any_push_no (writes u x) es e fails) ∙ p.1 in
       and_from (is_active es u) (list_any (writes u x) es) (active_before es e u p.0 (update_begun es u (o.writers u x did))) did
 
-  lag_same : (e : Event) (x : ℕ) → current_value opening (es ++ e ∷ []) x ≡ current_value opening es x → committed_value opening (es ++ e ∷ []) x ≡ committed_value opening es x
-      → lag d opening (es ++ e ∷ []) x ≡ lag d opening es x
-  lag_same e x a b = ap (λ v. d x v (committed_value opening (es ++ e ∷ []) x)) a ∙ ap (d x (current_value opening es x)) b
+  distance_same : (e : Event) (x : ℕ) → current_value opening (es ++ e ∷ []) x ≡ current_value opening es x → committed_value opening (es ++ e ∷ []) x ≡ committed_value opening es x
+      → uncommitted_distance d opening (es ++ e ∷ []) x ≡ uncommitted_distance d opening es x
+  distance_same e x a b = ap (λ v. d x v (committed_value opening (es ++ e ∷ []) x)) a ∙ ap (d x (current_value opening es x)) b
 
-  -- An event after which every open conflict was open before, with the same lag, opens what its own read opens.
+  -- An event after which every open conflict was open before, with the same uncommitted distance, opens what its own read opens.
   unchanged : (e : Event) (u : ℕ)
-      → ((q : TxnId) (x : ItemId) → holds_write (es ++ e ∷ []) u x.0 ≡ true → (writes u x.0 e ≡ false) × (lag d opening (es ++ e ∷ []) x.0 ≡ lag d opening es x.0))
-      → open_export d opening (es ++ e ∷ []) u ≤ open_export d opening es u + amount_if (is_open (es ++ e ∷ []) u) (lag d opening (es ++ e ∷ [])) e
+      → ((q : TxnId) (x : ItemId) → holds_write (es ++ e ∷ []) u x.0 ≡ true → (writes u x.0 e ≡ false) × (uncommitted_distance d opening (es ++ e ∷ []) x.0 ≡ uncommitted_distance d opening es x.0))
+      → open_export d opening (es ++ e ∷ []) u ≤ open_export d opening es u + amount_if (is_open (es ++ e ∷ []) u) (uncommitted_distance d opening (es ++ e ∷ [])) e
   unchanged e u same =
-      let n : open_export d opening (es ++ e ∷ []) u ≡ sum_by (amount_if (is_open (es ++ e ∷ []) u) (lag d opening (es ++ e ∷ []))) es + amount_if (is_open (es ++ e ∷ []) u) (lag d opening (es ++ e ∷ [])) e =
-      sum_by_push (amount_if (is_open (es ++ e ∷ []) u) (lag d opening (es ++ e ∷ []))) es e in
-      let w : sum_by (amount_if (is_open (es ++ e ∷ []) u) (lag d opening (es ++ e ∷ []))) es ≤ open_export d opening es u + sum_by (λ (f : Event). 0) es =
-      sum_within (amount_if (is_open (es ++ e ∷ []) u) (lag d opening (es ++ e ∷ []))) (amount_if (is_open es u) (lag d opening es)) (λ f. 0) es (λ f i. single f i) in
+      let n : open_export d opening (es ++ e ∷ []) u ≡ sum_by (amount_if (is_open (es ++ e ∷ []) u) (uncommitted_distance d opening (es ++ e ∷ []))) es + amount_if (is_open (es ++ e ∷ []) u) (uncommitted_distance d opening (es ++ e ∷ [])) e =
+      sum_by_push (amount_if (is_open (es ++ e ∷ []) u) (uncommitted_distance d opening (es ++ e ∷ []))) es e in
+      let w : sum_by (amount_if (is_open (es ++ e ∷ []) u) (uncommitted_distance d opening (es ++ e ∷ []))) es ≤ open_export d opening es u + sum_by (λ (f : Event). 0) es =
+      sum_within (amount_if (is_open (es ++ e ∷ []) u) (uncommitted_distance d opening (es ++ e ∷ []))) (amount_if (is_open es u) (uncommitted_distance d opening es)) (λ f. 0) es (λ f i. single f i) in
       let z : sum_by (λ (f : Event). 0) es ≡ 0 = sum_by_zero es in
       omega (arith, n, w, z)
     where
-      single : (f : Event) → In f es → amount_if (is_open (es ++ e ∷ []) u) (lag d opening (es ++ e ∷ [])) f ≤ amount_if (is_open es u) (lag d opening es) f + 0
+      single : (f : Event) → In f es → amount_if (is_open (es ++ e ∷ []) u) (uncommitted_distance d opening (es ++ e ∷ [])) f ≤ amount_if (is_open es u) (uncommitted_distance d opening es) f + 0
       single (Read q x) i =
           elim (cases_Bool (is_open (es ++ e ∷ []) u q.0 x.0)) [
             | inl is ↦
                 let p = and_parts (is_query (es ++ e ∷ []) q.0 && is_active (es ++ e ∷ []) q.0) (holds_write (es ++ e ∷ []) u x.0) is in
                 let s = same q x p.1 in
                 let was : is_open es u q.0 x.0 ≡ true = and_from (is_query es q.0 && is_active es q.0) (holds_write es u x.0) (was_reader e q x i p.0) (was_held e u x.0 s.0 p.1) in
-                let l : lag d opening (es ++ e ∷ []) x.0 ≡ lag d opening es x.0 = s.1 in
+                let l : uncommitted_distance d opening (es ++ e ∷ []) x.0 ≡ uncommitted_distance d opening es x.0 = s.1 in
                 rw (is, was) (omega (arith, l))
             | inr not_open ↦ rw not_open (omega arith)
           ]
@@ -125,39 +125,39 @@ module _ (d : ℕ → ℤ → ℤ → ℕ) (metric : IsMetric d) (opening : List
 
   begin_update_step : (l : ℕ) → IsStep (BeginUpdate l)
   begin_update_step l u =
-      unchanged (BeginUpdate l) u (λ q x h. (refl, lag_same (BeginUpdate l) x.0 (current-unchanged opening es x.0 (BeginUpdate l) (λ k. refl) (λ w. refl)) (committed-unchanged opening es x.0 (BeginUpdate l) (λ k. refl) (λ w. refl))))
+      unchanged (BeginUpdate l) u (λ q x h. (refl, distance_same (BeginUpdate l) x.0 (current-unchanged opening es x.0 (BeginUpdate l) (λ k. refl) (λ w. refl)) (committed-unchanged opening es x.0 (BeginUpdate l) (λ k. refl) (λ w. refl))))
 
   begin_query_step : (l : ℕ) (s : Bool) → IsStep (BeginQuery l s)
   begin_query_step l s u =
-      unchanged (BeginQuery l s) u (λ q x h. (refl, lag_same (BeginQuery l s) x.0 (current-unchanged opening es x.0 (BeginQuery l s) (λ k. refl) (λ w. refl)) (committed-unchanged opening es x.0 (BeginQuery l s) (λ k. refl) (λ w. refl))))
+      unchanged (BeginQuery l s) u (λ q x h. (refl, distance_same (BeginQuery l s) x.0 (current-unchanged opening es x.0 (BeginQuery l s) (λ k. refl) (λ w. refl)) (committed-unchanged opening es x.0 (BeginQuery l s) (λ k. refl) (λ w. refl))))
 
-  read_lag : (t : TxnId) (y : ItemId) (x : ℕ) → lag d opening (es ++ Read t y ∷ []) x ≡ lag d opening es x
-  read_lag t y x = lag_same (Read t y) x (current-unchanged opening es x (Read t y) (λ k. refl) (λ w. refl)) (committed-unchanged opening es x (Read t y) (λ k. refl) (λ w. refl))
+  read_distance : (t : TxnId) (y : ItemId) (x : ℕ) → uncommitted_distance d opening (es ++ Read t y ∷ []) x ≡ uncommitted_distance d opening es x
+  read_distance t y x = distance_same (Read t y) x (current-unchanged opening es x (Read t y) (λ k. refl) (λ w. refl)) (committed-unchanged opening es x (Read t y) (λ k. refl) (λ w. refl))
 
   read_step : (t : TxnId) (y : ItemId) → is_begun es t.0 ≡ true → IsStep (Read t y)
   read_step t y begun u =
-      let n : open_export d opening (es ++ Read t y ∷ []) u ≤ open_export d opening es u + amount_if (is_open (es ++ Read t y ∷ []) u) (lag d opening (es ++ Read t y ∷ [])) (Read t y) = unchanged (Read t y) u (λ q x h. (refl, read_lag t y x.0)) in
+      let n : open_export d opening (es ++ Read t y ∷ []) u ≤ open_export d opening es u + amount_if (is_open (es ++ Read t y ∷ []) u) (uncommitted_distance d opening (es ++ Read t y ∷ [])) (Read t y) = unchanged (Read t y) u (λ q x h. (refl, read_distance t y x.0)) in
       let own = charged in
       omega (arith, n, own)
     where
-      charged : amount_if (is_open (es ++ Read t y ∷ []) u) (lag d opening (es ++ Read t y ∷ [])) (Read t y) ≤ export_in (due d opening es (Read t y)) u
+      charged : amount_if (is_open (es ++ Read t y ∷ []) u) (uncommitted_distance d opening (es ++ Read t y ∷ [])) (Read t y) ≤ export_in (due d opening es (Read t y)) u
       charged =
           elim (cases_Bool (is_open (es ++ Read t y ∷ []) u t.0 y.0)) [
             | inl is ↦
                 let p = and_parts (is_query (es ++ Read t y ∷ []) t.0 && is_active (es ++ Read t y ∷ []) t.0) (holds_write (es ++ Read t y ∷ []) u y.0) is in
                 let query : is_query es t.0 ≡ true = sym (ap (λ b. unwrap_or (option_map (λ c. c.query) b) false) (stays_begun es (Read t y) t.0 begun)) ∙ (and_parts (is_query (es ++ Read t y ∷ []) t.0) (is_active (es ++ Read t y ∷ []) t.0) p.0).0 in
                 let w : writer es y.0 ≡ Some u = writer_is es o u y.0 (was_held (Read t y) u y.0 refl p.1) in
-                let c : Charge = record { query = t.0; update = u; amount = lag d opening es y.0 } in
+                let c : Charge = record { query = t.0; update = u; amount = uncommitted_distance d opening es y.0 } in
                 let own : due d opening es (Read t y) ≡ c ∷ [] = ap (λ b. if b then charge_of_read d opening es t.0 y.0 (writer es y.0) else []) query ∙ ap (charge_of_read d opening es t.0 y.0) w in
-                let s : export_in (c ∷ []) u ≡ (if u == u then lag d opening es y.0 else 0) + 0 = sum_by-cons (λ (c : Charge). if c.update == u then c.amount else 0) c [] in
-                let l : lag d opening (es ++ Read t y ∷ []) y.0 ≡ lag d opening es y.0 = read_lag t y y.0 in
+                let s : export_in (c ∷ []) u ≡ (if u == u then uncommitted_distance d opening es y.0 else 0) + 0 = sum_by-cons (λ (c : Charge). if c.update == u then c.amount else 0) c [] in
+                let l : uncommitted_distance d opening (es ++ Read t y ∷ []) y.0 ≡ uncommitted_distance d opening es y.0 = read_distance t y y.0 in
                 rw (is, own, s, eq-eqb u u refl) (omega (arith, l))
             | inr not_open ↦ rw not_open (omega arith)
           ]
 
   pub commit_step : (t : TxnId) → MayFollow es (Commit t) → IsStep (Commit t)
   commit_step t m u =
-      unchanged (Commit t) u (λ q x h. (refl, lag_same (Commit t) x.0 (current-unchanged opening es x.0 (Commit t) (λ k. refl) (λ w. refl)) (committed-commit_other opening es x.0 t (other x.0 h))))
+      unchanged (Commit t) u (λ q x h. (refl, distance_same (Commit t) x.0 (current-unchanged opening es x.0 (Commit t) (λ k. refl) (λ w. refl)) (committed-commit_other opening es x.0 t (other x.0 h))))
     where
       other : (x : ℕ) → holds_write (es ++ Commit t ∷ []) u x ≡ true → list_any (writes t.0 x) es ≡ false
       other x held =
@@ -169,7 +169,7 @@ module _ (d : ℕ → ℤ → ℤ → ℕ) (metric : IsMetric d) (opening : List
 
   abort_step : (t : TxnId) → MayFollow es (Abort t) → IsStep (Abort t)
   abort_step t m u =
-      unchanged (Abort t) u (λ q x h. (refl, lag_same (Abort t) x.0 (current-abort_other opening es x.0 t (other x.0 h)) (committed-unchanged opening es x.0 (Abort t) (λ k. refl) (λ w. refl))))
+      unchanged (Abort t) u (λ q x h. (refl, distance_same (Abort t) x.0 (current-abort_other opening es x.0 t (other x.0 h)) (committed-unchanged opening es x.0 (Abort t) (λ k. refl) (λ w. refl))))
     where
       other : (x : ℕ) → holds_write (es ++ Abort t ∷ []) u x ≡ true → list_any (writes t.0 x) es ≡ false
       other x held =
@@ -195,23 +195,23 @@ module _ (d : ℕ → ℤ → ℤ → ℕ) (metric : IsMetric d) (opening : List
     committed_same : (x : ℕ) → committed_value opening (es ++ e ∷ []) x ≡ committed_value opening es x
     committed_same x = committed-write opening es x s y v (active_parts es s.0 writer_active).1
 
-    lag_elsewhere : (x : ℕ) → (y.0 ≡ x → ⊥) → lag d opening (es ++ e ∷ []) x ≡ lag d opening es x
-    lag_elsewhere x away = lag_same e x (current-write_other opening es x s y v away) (committed_same x)
+    distance_elsewhere : (x : ℕ) → (y.0 ≡ x → ⊥) → uncommitted_distance d opening (es ++ e ∷ []) x ≡ uncommitted_distance d opening es x
+    distance_elsewhere x away = distance_same e x (current-write_other opening es x s y v away) (committed_same x)
 
     write_by_other : (u : ℕ) → (u ≡ s.0 → ⊥) → open_export d opening (es ++ e ∷ []) u ≤ open_export d opening es u + 0
     write_by_other u other = unchanged e u (λ q x h.
         let not_written : writes u x.0 e ≡ false = ap (λ b. b && (y.0 == x.0)) (ne_eqb s.0 u (λ i. other (sym i))) in
-        (not_written, lag_elsewhere x.0 (λ i. true≢false (sym (was_held e u x.0 not_written h) ∙ (ap (holds_write es u) (sym i) ∙ m.alone s.0 y.0 own_write u other)))))
+        (not_written, distance_elsewhere x.0 (λ i. true≢false (sym (was_held e u x.0 not_written h) ∙ (ap (holds_write es u) (sym i) ∙ m.alone s.0 y.0 own_write u other)))))
 
     abbrev reader : ℕ → Bool
     reader q = is_query es q && is_active es q
 
-    -- the lag at the item that is written
-    lag_here : lag d opening (es ++ e ∷ []) y.0 ≤ (if holds_write es s.0 y.0 then lag d opening es y.0 else 0) + cost
-    lag_here =
+    -- the uncommitted distance of the item that is written
+    distance_here : uncommitted_distance d opening (es ++ e ∷ []) y.0 ≤ (if holds_write es s.0 y.0 then uncommitted_distance d opening es y.0 else 0) + cost
+    distance_here =
         let cur : ℤ = current_value opening es y.0 in
         let kept : ℤ = committed_value opening es y.0 in
-        let now : lag d opening (es ++ e ∷ []) y.0 ≡ d y.0 v kept =
+        let now : uncommitted_distance d opening (es ++ e ∷ []) y.0 ≡ d y.0 v kept =
         ap (λ w. d y.0 w (committed_value opening (es ++ e ∷ []) y.0)) (current-write opening es y.0 s y v refl (active_parts es s.0 writer_active).2) ∙ ap (d y.0 v) (committed_same y.0) in
         rw now
         (elim (cases_Bool (holds_write es s.0 y.0)) [
@@ -229,13 +229,13 @@ module _ (d : ℕ → ℤ → ℤ → ℕ) (metric : IsMetric d) (opening : List
 
     grown : open_export d opening (es ++ e ∷ []) s.0 ≤ open_export d opening es s.0 + sum_by (amount_if (λ q x. reader q && (x == y.0)) (λ x. cost)) es
     grown =
-        let n : open_export d opening (es ++ e ∷ []) s.0 ≡ sum_by (amount_if (is_open (es ++ e ∷ []) s.0) (lag d opening (es ++ e ∷ []))) es + 0 =
-        sum_by_push (amount_if (is_open (es ++ e ∷ []) s.0) (lag d opening (es ++ e ∷ []))) es e in
-        let w : sum_by (amount_if (is_open (es ++ e ∷ []) s.0) (lag d opening (es ++ e ∷ []))) es ≤ open_export d opening es s.0 + sum_by (amount_if (λ q x. reader q && (x == y.0)) (λ x. cost)) es =
-        sum_within (amount_if (is_open (es ++ e ∷ []) s.0) (lag d opening (es ++ e ∷ []))) (amount_if (is_open es s.0) (lag d opening es)) (amount_if (λ q x. reader q && (x == y.0)) (λ x. cost)) es (λ f i. single f i) in
+        let n : open_export d opening (es ++ e ∷ []) s.0 ≡ sum_by (amount_if (is_open (es ++ e ∷ []) s.0) (uncommitted_distance d opening (es ++ e ∷ []))) es + 0 =
+        sum_by_push (amount_if (is_open (es ++ e ∷ []) s.0) (uncommitted_distance d opening (es ++ e ∷ []))) es e in
+        let w : sum_by (amount_if (is_open (es ++ e ∷ []) s.0) (uncommitted_distance d opening (es ++ e ∷ []))) es ≤ open_export d opening es s.0 + sum_by (amount_if (λ q x. reader q && (x == y.0)) (λ x. cost)) es =
+        sum_within (amount_if (is_open (es ++ e ∷ []) s.0) (uncommitted_distance d opening (es ++ e ∷ []))) (amount_if (is_open es s.0) (uncommitted_distance d opening es)) (amount_if (λ q x. reader q && (x == y.0)) (λ x. cost)) es (λ f i. single f i) in
         omega (arith, n, w)
       where
-        single : (f : Event) → In f es → amount_if (is_open (es ++ e ∷ []) s.0) (lag d opening (es ++ e ∷ [])) f ≤ amount_if (is_open es s.0) (lag d opening es) f + amount_if (λ q x. reader q && (x == y.0)) (λ x. cost) f
+        single : (f : Event) → In f es → amount_if (is_open (es ++ e ∷ []) s.0) (uncommitted_distance d opening (es ++ e ∷ [])) f ≤ amount_if (is_open es s.0) (uncommitted_distance d opening es) f + amount_if (λ q x. reader q && (x == y.0)) (λ x. cost) f
         single (Read q x) i =
             elim (cases_Bool (is_open (es ++ e ∷ []) s.0 q.0 x.0)) [
               | inl is ↦
@@ -243,11 +243,11 @@ module _ (d : ℕ → ℤ → ℤ → ℕ) (metric : IsMetric d) (opening : List
                   let r : reader q.0 ≡ true = was_reader e q x i p.0 in
                   elim (cases_eq x.0 y.0) [
                     | inl here ↦
-                        let l : lag d opening (es ++ e ∷ []) y.0 ≤ (if holds_write es s.0 y.0 then lag d opening es y.0 else 0) + cost = lag_here in
+                        let l : uncommitted_distance d opening (es ++ e ∷ []) y.0 ≤ (if holds_write es s.0 y.0 then uncommitted_distance d opening es y.0 else 0) + cost = distance_here in
                         rw (is, r, eq-eqb x.0 y.0 here, here) l
                     | inr away ↦
                         let not_written : writes s.0 x.0 e ≡ false = ap (λ b. (s.0 == s.0) && b) (ne_eqb y.0 x.0 (λ z. away (sym z))) ∙ and_no (s.0 == s.0) in
-                        let l : lag d opening (es ++ e ∷ []) x.0 ≡ lag d opening es x.0 = lag_elsewhere x.0 (λ z. away (sym z)) in
+                        let l : uncommitted_distance d opening (es ++ e ∷ []) x.0 ≡ uncommitted_distance d opening es x.0 = distance_elsewhere x.0 (λ z. away (sym z)) in
                         rw (is, r, was_held e s.0 x.0 not_written p.1, ne_eqb x.0 y.0 away) (omega (arith, l))
                   ]
               | inr not_open ↦ rw not_open (omega arith)

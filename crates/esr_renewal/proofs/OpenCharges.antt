@@ -13,9 +13,9 @@ abbrev pub is_open : List Event → ℕ → ℕ → ℕ → Bool
 is_open events u q x = (is_query events q && is_active events q) && holds_write events u x
 
 -- the distance of the current value of an item from its committed one
-abbrev pub lag : (ℕ → ℤ → ℤ → ℕ) → List ℤ → List Event → ℕ → ℕ
-lag d opening events x = d x (current_value opening events x) (committed_value opening events x)
+abbrev pub uncommitted_distance : (ℕ → ℤ → ℤ → ℕ) → List ℤ → List Event → ℕ → ℕ
+uncommitted_distance d opening events x = d x (current_value opening events x) (committed_value opening events x)
 
 -- the charges of u that are open
 abbrev pub open_export : (ℕ → ℤ → ℤ → ℕ) → List ℤ → List Event → ℕ → ℕ
-open_export d opening events u = sum_by (amount_if (is_open events u) (lag d opening events)) events
+open_export d opening events u = sum_by (amount_if (is_open events u) (uncommitted_distance d opening events)) events

@@ -16,7 +16,7 @@ use Rattle.esr_history.proofs.Traces.{IsMetric}
 use Rattle.esr_history.proofs.ReportBoundsLaws.{open_is_imported}
 use Rattle.esr_core.specs.Carried.{active_numbers, new_number, open_charges, open_charges_of, charged_in}
 use Rattle.esr_renewal.specs.Types.{Event, BeginUpdate, BeginQuery, Read, Write, Commit, Abort, Entry}
-use Rattle.esr_renewal.proofs.OpenCharges.{amount_if, is_open, lag, open_export}
+use Rattle.esr_renewal.proofs.OpenCharges.{amount_if, is_open, uncommitted_distance, open_export}
 use Rattle.esr_renewal.proofs.Amounts.{sum_within, sum_same}
 use Rattle.esr_renewal.proofs.Exported.{open_exported}
 use Rattle.esr_renewal.proofs.Renumbered.{active_ascending, active_in, in_active, new_number_injective}
@@ -153,21 +153,21 @@ module _ (d : DistanceFunction) (h : Schedule) where
     import_within : (q : ℕ) → is_active_query h q ≡ true → import_in (open_charges d h) q ≤ import_in (charges_in d h) q
     import_within q own =
         let a = open_sum (imports_to q) in
-        let b : sum_by (λ e. sum_by (imports_to q) (open_of e)) (accepted_in h) ≤ sum_by (amount_if (λ s x. s == q) (lag distance h.opening (accepted_in h))) (accepted_in h) + sum_by (λ (e : Event). 0) (accepted_in h) =
-        sum_within (λ e. sum_by (imports_to q) (open_of e)) (amount_if (λ s x. s == q) (lag distance h.opening (accepted_in h))) (λ e. 0) (accepted_in h) (λ e i. each e) in
+        let b : sum_by (λ e. sum_by (imports_to q) (open_of e)) (accepted_in h) ≤ sum_by (amount_if (λ s x. s == q) (uncommitted_distance distance h.opening (accepted_in h))) (accepted_in h) + sum_by (λ (e : Event). 0) (accepted_in h) =
+        sum_within (λ e. sum_by (imports_to q) (open_of e)) (amount_if (λ s x. s == q) (uncommitted_distance distance h.opening (accepted_in h))) (λ e. 0) (accepted_in h) (λ e i. each e) in
         let z = sum_by_zero (accepted_in h) in
-        let c = reads_sum q (lag distance h.opening (accepted_in h)) h.entries in
+        let c = reads_sum q (uncommitted_distance distance h.opening (accepted_in h)) h.entries in
         let l : open_import d h q ≤ import_in (charges_in d h) q = open_is_imported d metric h legal q own in
         omega (arith, a, b, z, c, l)
       where
-        each : (e : Event) → sum_by (imports_to q) (open_of e) ≤ amount_if (λ s x. s == q) (lag distance h.opening (accepted_in h)) e + 0
+        each : (e : Event) → sum_by (imports_to q) (open_of e) ≤ amount_if (λ s x. s == q) (uncommitted_distance distance h.opening (accepted_in h)) e + 0
         each (Read s x) = at (is_active_query h s.0) (writer (accepted_in h) x.0)
           where
-            at : (b : Bool) (w : Option ℕ) → sum_by (imports_to q) (if b then charge_of_read distance h.opening (accepted_in h) s.0 x.0 w else []) ≤ (if s.0 == q then lag distance h.opening (accepted_in h) x.0 else 0) + 0
+            at : (b : Bool) (w : Option ℕ) → sum_by (imports_to q) (if b then charge_of_read distance h.opening (accepted_in h) s.0 x.0 w else []) ≤ (if s.0 == q then uncommitted_distance distance h.opening (accepted_in h) x.0 else 0) + 0
             at false w = omega arith
             at true None = omega arith
             at true (Some u) =
-                let o = single (imports_to q) (record { query = s.0; update = u; amount = lag distance h.opening (accepted_in h) x.0 }) in
+                let o = single (imports_to q) (record { query = s.0; update = u; amount = uncommitted_distance distance h.opening (accepted_in h) x.0 }) in
                 omega (arith, o)
         each (BeginUpdate l) = omega arith
         each (BeginQuery l s) = omega arith
@@ -179,20 +179,20 @@ module _ (d : DistanceFunction) (h : Schedule) where
     export_within u =
         let a = open_sum (exports_of u) in
         let b : sum_by (λ e. sum_by (exports_of u) (open_of e)) (accepted_in h) ≤ open_export distance h.opening (accepted_in h) u + sum_by (λ (e : Event). 0) (accepted_in h) =
-        sum_within (λ e. sum_by (exports_of u) (open_of e)) (amount_if (is_open (accepted_in h) u) (lag distance h.opening (accepted_in h))) (λ e. 0) (accepted_in h) (λ e i. each e) in
+        sum_within (λ e. sum_by (exports_of u) (open_of e)) (amount_if (is_open (accepted_in h) u) (uncommitted_distance distance h.opening (accepted_in h))) (λ e. 0) (accepted_in h) (λ e i. each e) in
         let z = sum_by_zero (accepted_in h) in
         let l = open_exported d metric h legal u in
         omega (arith, a, b, z, l)
       where
-        each : (e : Event) → sum_by (exports_of u) (open_of e) ≤ amount_if (is_open (accepted_in h) u) (lag distance h.opening (accepted_in h)) e + 0
+        each : (e : Event) → sum_by (exports_of u) (open_of e) ≤ amount_if (is_open (accepted_in h) u) (uncommitted_distance distance h.opening (accepted_in h)) e + 0
         each (Read s x) = at (is_active_query h s.0) (writer (accepted_in h) x.0) refl refl
           where
             at : (b : Bool) (w : Option ℕ) → is_active_query h s.0 ≡ b → writer (accepted_in h) x.0 ≡ w
-                → sum_by (exports_of u) (if b then charge_of_read distance h.opening (accepted_in h) s.0 x.0 w else []) ≤ (if b && holds_write (accepted_in h) u x.0 then lag distance h.opening (accepted_in h) x.0 else 0) + 0
+                → sum_by (exports_of u) (if b then charge_of_read distance h.opening (accepted_in h) s.0 x.0 w else []) ≤ (if b && holds_write (accepted_in h) u x.0 then uncommitted_distance distance h.opening (accepted_in h) x.0 else 0) + 0
             at false w own is = omega arith
             at true None own is = omega arith
             at true (Some v) own is =
-                let o = single (exports_of u) (record { query = s.0; update = v; amount = lag distance h.opening (accepted_in h) x.0 }) in
+                let o = single (exports_of u) (record { query = s.0; update = v; amount = uncommitted_distance distance h.opening (accepted_in h) x.0 }) in
                 elim (cases_eq v u) [
                   | inl e ↦
                       let held : holds_write (accepted_in h) u x.0 ≡ true =
@@ -234,10 +234,10 @@ module _ (d : DistanceFunction) (h : Schedule) where
         at false w is = refl
         at true None is = refl
         at true (Some u) is =
-            single (imports_to (new_number h q).0) (record { query = (new_number h s.0).0; update = (new_number h u).0; amount = lag distance h.opening (accepted_in h) x.0 })
-            ∙ (same ∙ sym (single (imports_to q) (record { query = s.0; update = u; amount = lag distance h.opening (accepted_in h) x.0 })))
+            single (imports_to (new_number h q).0) (record { query = (new_number h s.0).0; update = (new_number h u).0; amount = uncommitted_distance distance h.opening (accepted_in h) x.0 })
+            ∙ (same ∙ sym (single (imports_to q) (record { query = s.0; update = u; amount = uncommitted_distance distance h.opening (accepted_in h) x.0 })))
           where
-            same : (if (new_number h s.0).0 == (new_number h q).0 then lag distance h.opening (accepted_in h) x.0 else 0) ≡ (if s.0 == q then lag distance h.opening (accepted_in h) x.0 else 0)
+            same : (if (new_number h s.0).0 == (new_number h q).0 then uncommitted_distance distance h.opening (accepted_in h) x.0 else 0) ≡ (if s.0 == q then uncommitted_distance distance h.opening (accepted_in h) x.0 else 0)
             same =
                 elim (cases_eq s.0 q) [
                   | inl e ↦ rw (e, eq-eqb q q refl, eq-eqb (new_number h q).0 (new_number h q).0 refl) refl
@@ -257,15 +257,15 @@ module _ (d : DistanceFunction) (h : Schedule) where
         at false w is = refl
         at true None is = refl
         at true (Some u) is =
-            single (exports_of (new_number h t).0) (record { query = (new_number h s.0).0; update = (new_number h u).0; amount = lag distance h.opening (accepted_in h) x.0 })
-            ∙ (same ∙ sym (single (exports_of t) (record { query = s.0; update = u; amount = lag distance h.opening (accepted_in h) x.0 })))
+            single (exports_of (new_number h t).0) (record { query = (new_number h s.0).0; update = (new_number h u).0; amount = uncommitted_distance distance h.opening (accepted_in h) x.0 })
+            ∙ (same ∙ sym (single (exports_of t) (record { query = s.0; update = u; amount = uncommitted_distance distance h.opening (accepted_in h) x.0 })))
           where
             writes : is_active (accepted_in h) u ≡ true
             writes =
                 let p = and_parts (is_update (accepted_in h) u) (holds_write (accepted_in h) u x.0) (found_satisfies (λ u. is_update (accepted_in h) u && holds_write (accepted_in h) u x.0) (txn_numbers (accepted_in h)) u is) in
                 (and_parts (is_active (accepted_in h) u) _ p.1).0
 
-            same : (if (new_number h u).0 == (new_number h t).0 then lag distance h.opening (accepted_in h) x.0 else 0) ≡ (if u == t then lag distance h.opening (accepted_in h) x.0 else 0)
+            same : (if (new_number h u).0 == (new_number h t).0 then uncommitted_distance distance h.opening (accepted_in h) x.0 else 0) ≡ (if u == t then uncommitted_distance distance h.opening (accepted_in h) x.0 else 0)
             same =
                 elim (cases_eq u t) [
                   | inl e ↦ rw (e, eq-eqb t t refl, eq-eqb (new_number h t).0 (new_number h t).0 refl) refl
