@@ -21,7 +21,7 @@ ghost use Rattle.esr_history.specs.Totals.{IsWithinLimits};
 ghost use Rattle.esr_core.specs.Renewed.{has_active, renewed};
 ghost use Rattle.esr_engine.specs.Capacity.{NeverStuck, counts_of};
 ghost use Rattle.esr_c.specs.Many.{AreAnswered, IsAnsweredStatus, IsEnd};
-ghost use Rattle.esr_picture.specs.Picture.{IsSvg};
+ghost use Rattle.esr_svg.specs.Svg.{IsSvg};
 ghost use Rattle.esr_c.specs.HistoryTexts.{HasNameForEachItem, IsExplanationOf, IsLedgerOf, IsScriptOf, IsTextStatus, IsQueryTextStatus, IsTextInBuffer, IsTextLength, parsed_item_names};
 ghost use Rattle.esr_c.specs.Answers.{opened, IsEventCall, IsForUpdateCall, IsTotal, IsAccount, IsFound, HasAugmentationCount, IsBundleIn, IsBundleLong, AreValuesIn, IsRenewed, IsOpenStatus, IsWeightedOpenStatus, IsRenewStatus, IsValuesStatus, IsAuditStatus, IsVerdictIn};
 
