@@ -23,8 +23,8 @@ mod widths;
 pub use frame::fitting_updates;
 pub use root::svg_element;
 pub use scene::{
-    Arrow, Lane, LanePart, LaneReads, LaneSegment, MAX_LANES, MAX_UPDATES, SameValue, Scene,
-    TransientRead, TransientReads, Update,
+    Arrow, Deciding, Lane, LanePart, LaneReads, LaneSegment, MAX_LANES, MAX_UPDATES, SameValue,
+    Scene, TransientRead, TransientReads, Update,
 };
 pub use svg::{Parts, parts_of};
 pub use texts::MAX_ERROR_LETTERS;
