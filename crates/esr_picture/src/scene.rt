@@ -13,13 +13,17 @@ use esr_cert::{Chain, Problem};
 use esr_history::TxnId;
 use esr_items::Metric;
 use esr_report::name_of_transaction;
-use esr_svg::{Arrow, Lane, MAX_UPDATES, Scene, Update, fitting_updates};
+use esr_svg::{Arrow, Deciding, Lane, MAX_UPDATES, Scene, Update, fitting_updates};
+use esr_text::first;
 use esr_trace::{Audited, QueryTrace, sentences_of};
 use std::alloc::{AllocError, Global};
 
 /// The number of times that a scene that is too wide is rebuilt with fewer updates. After that it has no updates, and
 /// then no values read within dotted segments.
 const MAX_TRIES: u32 = 7;
+
+/// The maximum number of items without a lane that are named.
+const MAX_NAMES: usize = 3;
 
 /// The maximum content of a scene.
 #[derive(Clone, Copy)]
@@ -275,13 +279,34 @@ impl<'a, 'b> SceneParts<'a, 'b> {
         Ok(shown)
     }
 
+    /// Returns the name of the item of a chain.
+    fn item_name(&self, at: usize) -> &'a str {
+        let chain = self.source.problem().chains().get(at);
+        let item = chain.map_or(0, |chain| chain.item.0);
+        self.source.audited.items.name_of(item).unwrap_or("")
+    }
+
+    /// Returns the items without a lane that determine the position of the line.
+    fn deciding(&self, alloc: Global) -> Result<Deciding<'a>, AllocError> {
+        let all = &self.choice.deciding;
+        let mut names = Vec::new(alloc);
+        for at in first(all, MAX_NAMES) {
+            names.push(self.item_name(*at))?;
+        }
+        Ok(Deciding {
+            names,
+            count: all.len(),
+        })
+    }
+
     /// Returns what is drawn.
     fn scene(&self, alloc: Global) -> Result<Scene<'a>, AllocError> {
         let sentences = sentences_of(alloc, self.source.audited, self.source.trace)?;
         let arrows = self.arrows(alloc)?;
         let updates = self.updates(alloc)?;
         let lanes = self.lanes(alloc)?;
-        Ok(self.scene_of(sentences, updates, arrows, lanes))
+        let deciding = self.deciding(alloc)?;
+        Ok(self.scene_of(sentences, updates, arrows, lanes, deciding))
     }
 
     /// Returns what is drawn, of these updates and lanes.
@@ -291,6 +316,7 @@ impl<'a, 'b> SceneParts<'a, 'b> {
         updates: Vec<Update<'a>>,
         arrows: Vec<Arrow>,
         lanes: Vec<Lane<'a>>,
+        deciding: Deciding<'a>,
     ) -> Scene<'a> {
         let audited = self.source.audited;
         let finding = audited.finding;
@@ -309,7 +335,7 @@ impl<'a, 'b> SceneParts<'a, 'b> {
             other_items: without_lane.saturating_sub(self.choice.unwritten),
             others_off,
             others_sum,
-            others_decide: self.choice.is_cheaper_elsewhere,
+            deciding,
             line: self.line,
             updates,
             lanes,

@@ -1,7 +1,7 @@
 //! The timeline as a text of a script, and as a part of a page.
 
 ghost use Rattle.std.specs.Prelude.{IfOk, string_bytes};
-ghost use Rattle.esr_picture.specs.Picture.{IsSvg};
+ghost use Rattle.esr_svg.specs.Svg.{IsSvg};
 
 use crate::drawing::{Parts, parts_of};
 use crate::fit::{Picture, timeline_of_query, timeline_of_script};
@@ -9,7 +9,7 @@ use crate::model::Source;
 use esr_history::TxnId;
 use esr_lint::Notes;
 use esr_outcomes::Auditor;
-use esr_picture::svg_element;
+use esr_svg::svg_element;
 use esr_trace::{Audited, Part, QueryTrace, trace_of};
 use esr_views::{Recording, ScriptView};
 use std::alloc::{AllocError, Global};
