@@ -3,7 +3,7 @@
 use crate::tests::pictures::BANK;
 use esr_history::Watched;
 use esr_lint::{Notes, Unobserved};
-use esr_page::{PageMetadata, Page};
+use esr_page::{Page, PageMetadata};
 use esr_picture::PictureView;
 use esr_prose::{Passage, Prose};
 use esr_script::{RunFault, render_script};
