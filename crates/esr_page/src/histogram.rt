@@ -51,10 +51,7 @@ fn push_bar(
     if count == 0 {
         return Ok(());
     }
-    let share = count
-        .saturating_mul(80)
-        .checked_div(max_count)
-        .unwrap_or(0);
+    let share = count.saturating_mul(80).checked_div(max_count).unwrap_or(0);
     let class = if magnitude == 0 { "chg" } else { "dis" };
     write!(out, "<i class='{class}' style='width:{share}%'></i>")
 }
