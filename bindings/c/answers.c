@@ -116,6 +116,80 @@ static void renewed(esr_engine *engine) {
     WANT(values[0], 400);
 }
 
+static void account(esr_engine *engine, uint32_t txn, uint64_t limit, uint64_t charged) {
+    esr_account account = {false, 9, 0, 0};
+    WANT(esr_account_of(engine, txn, &account), ESR_DONE);
+    WANT(account.status, ESR_ACTIVE);
+    WANT(account.limit, limit);
+    WANT(account.charged, charged);
+}
+
+/* A report (1) has read item 1, which an update (2) then changed by 3 and committed, and item 0 after an active update (3) changed
+ * it by 7. So the report is charged 10, of which 7 are open and are charged again in the new history. */
+static void carried(void) {
+    static const int64_t opening[2] = {100, 200};
+    esr_engine engine = ESR_CLOSED;
+    esr_reply reply;
+    esr_carried list[3] = {{9, 9, 9}, {9, 9, 9}, {9, 9, 9}};
+    esr_counts counts;
+    esr_finding finding;
+    uint32_t before[1];
+    int64_t values[2];
+    size_t count = 9;
+    WANT(esr_open(&engine, opening, 2), ESR_DONE);
+    begun(esr_begin_query(&engine, 20, true, &reply), &reply, 1);
+    begun(esr_begin_update(&engine, 30, &reply), &reply, 2);
+    begun(esr_begin_update(&engine, 30, &reply), &reply, 3);
+    value(esr_read(&engine, 1, 1, &reply), &reply, 200);
+    answered(esr_write(&engine, 2, 1, 203, &reply), &reply, ESR_WROTE);
+    answered(esr_commit(&engine, 2, &reply), &reply, ESR_COMMITTED);
+    answered(esr_write(&engine, 3, 0, 107, &reply), &reply, ESR_WROTE);
+    value(esr_read(&engine, 1, 0, &reply), &reply, 107);
+    account(&engine, 1, 20, 10);
+    account(&engine, 3, 30, 7);
+    WANT(esr_renew_carrying(&engine, list, 1, &count), ESR_TOO_SMALL);
+    WANT(count, 2);
+    WANT(list[0].old_txn == 9 && list[0].new_txn == 9 && list[0].settled == 9, 1);
+    account(&engine, 3, 30, 7);
+    WANT(esr_renew_carrying(&engine, list, 3, &count), ESR_DONE);
+    WANT(count, 2);
+    WANT(list[0].old_txn == 1 && list[0].new_txn == 1 && list[0].settled == 3, 1);
+    WANT(list[1].old_txn == 3 && list[1].new_txn == 2 && list[1].settled == 0, 1);
+    WANT(list[2].old_txn == 9 && list[2].new_txn == 9 && list[2].settled == 9, 1);
+    WANT(esr_counts_of(&engine, &counts), ESR_DONE);
+    WANT(counts.entries, 5);
+    WANT(counts.transactions, 2);
+    WANT(counts.active, 2);
+    WANT(esr_values(&engine, values, 2, &count), ESR_DONE);
+    WANT(values[0] == 100 && values[1] == 203, 1);
+    account(&engine, 1, 17, 7);
+    account(&engine, 2, 30, 7);
+    begun(esr_begin_update(&engine, 30, &reply), &reply, 3);
+    answered(esr_write(&engine, 3, 0, 1, &reply), &reply, ESR_REFUSED);
+    WANT(reply.refusal, ESR_BLOCKED_BY_LOCK);
+    WANT(reply.txn, 2);
+    value(esr_read(&engine, 2, 0, &reply), &reply, 107);
+    value(esr_read(&engine, 1, 1, &reply), &reply, 203);
+    value(esr_read(&engine, 1, 0, &reply), &reply, 107);
+    account(&engine, 1, 17, 14);
+    answered(esr_read(&engine, 1, 0, &reply), &reply, ESR_REFUSED);
+    WANT(reply.refusal, ESR_BLOCKED_BY_IMPORT);
+    WANT(reply.txn, 2);
+    answered(esr_commit(&engine, 2, &reply), &reply, ESR_COMMITTED);
+    answered(esr_write(&engine, 3, 0, 108, &reply), &reply, ESR_WROTE);
+    account(&engine, 1, 17, 16);
+    answered(esr_abort(&engine, 3, &reply), &reply, ESR_ABORTED);
+    answered(esr_commit(&engine, 1, &reply), &reply, ESR_COMMITTED);
+    WANT(esr_audit(&engine, 1, before, 1, &finding), ESR_DONE);
+    WANT(finding.distance == 0 && finding.import == 16 && finding.count == 1 && before[0] == 2, 1);
+    WANT(esr_renew_carrying(&engine, list, 0, &count), ESR_DONE);
+    WANT(count, 0);
+    WANT(esr_values(&engine, values, 2, &count), ESR_DONE);
+    WANT(values[0] == 107 && values[1] == 203, 1);
+    begun(esr_begin_update(&engine, 0, &reply), &reply, 1);
+    esr_close(&engine);
+}
+
 /* Weights: a difference of 10 on an item of weight 3 is charged 30, on the item past the list 10. They stay at a renewal. */
 static void weights(void) {
     static const int64_t opening[2] = {100, 100};
@@ -317,6 +391,7 @@ int main(void) {
     esr_engine engine = ESR_CLOSED;
     esr_reply reply;
     weights();
+    carried();
     for_update();
     many();
     past();

@@ -86,6 +86,35 @@ static void abort_all(void) {
     esr_close(&engine);
 }
 
+/* A full history whose entries all belong to an active update stays full: no entry is left in the new one either. Refused events
+ * are not carried over. */
+static void carry(esr_status (*event)(esr_engine *, esr_reply *), uint64_t left) {
+    static const int64_t opening[2] = {5, 6};
+    esr_engine engine = ESR_CLOSED;
+    esr_reply reply;
+    esr_counts counts;
+    esr_carried list[1];
+    int64_t values[2];
+    size_t count = 0;
+    WANT(esr_open(&engine, opening, 2), ESR_DONE);
+    WANT(esr_begin_update(&engine, 9, &reply), ESR_DONE);
+    WANT(esr_write(&engine, 1, 0, 7, &reply), ESR_DONE);
+    while (event(&engine, &reply) == ESR_DONE) {}
+    WANT(esr_renew_carrying(&engine, list, 0, &count), ESR_TOO_SMALL);
+    WANT(esr_counts_of(&engine, &counts), ESR_DONE);
+    WANT(counts.entries_left, 0);
+    WANT(esr_renew_carrying(&engine, list, 1, &count), ESR_DONE);
+    WANT(count == 1 && list[0].old_txn == 1 && list[0].new_txn == 1 && list[0].settled == 0, 1);
+    WANT(esr_counts_of(&engine, &counts), ESR_DONE);
+    WANT(counts.entries_left, left);
+    WANT(accepted_read(&engine, &reply), left == 0 ? ESR_HISTORY_FULL : ESR_DONE);
+    WANT(esr_commit(&engine, 1, &reply), ESR_DONE);
+    WANT(reply.kind, ESR_COMMITTED);
+    WANT(esr_values(&engine, values, 2, &count), ESR_DONE);
+    WANT(values[0] == 7 && values[1] == 6, 1);
+    esr_close(&engine);
+}
+
 int main(void) {
     fill(refused_begin, true);
     fill(accepted_read, true);
@@ -94,5 +123,7 @@ int main(void) {
     fill(held_read, true);
     fill(begun_query, false);
     abort_all();
+    carry(accepted_read, 0);
+    carry(refused_write, ESR_MAX_ENTRIES - 3);
     return wrong;
 }

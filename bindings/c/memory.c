@@ -48,6 +48,33 @@ static int aborted_day(void) {
     return values[0] != 400 || values[1] != 1500 || reply.txn != 1;
 }
 
+/* A renewal that carries a report and an update over. Its list is the caller's, so no allocation follows the renewal. */
+static int carried_day(void) {
+    esr_engine engine = ESR_CLOSED;
+    esr_reply reply;
+    esr_account account;
+    esr_carried list[2];
+    int64_t opening[2] = {500, 1500}, values[2];
+    uint32_t weights[1] = {2};
+    size_t count;
+    WANT(esr_open_weighted(&engine, opening, 2, weights, 1), ESR_DONE);
+    WANT(esr_begin_update(&engine, 900, &reply), ESR_DONE);
+    WANT(esr_begin_query(&engine, 900, false, &reply), ESR_DONE);
+    WANT(esr_begin_update(&engine, 900, &reply), ESR_DONE);
+    WANT(esr_read(&engine, 2, 1, &reply), ESR_DONE);
+    WANT(esr_write(&engine, 1, 1, 1510, &reply), ESR_DONE);
+    WANT(esr_commit(&engine, 1, &reply), ESR_DONE);
+    WANT(esr_write(&engine, 3, 0, 400, &reply), ESR_DONE);
+    WANT(esr_read(&engine, 2, 0, &reply), ESR_DONE);
+    WANT(esr_renew_carrying(&engine, list, 2, &count), ESR_DONE);
+    WANT(esr_account_of(&engine, 1, &account), ESR_DONE);
+    WANT(esr_commit(&engine, 2, &reply), ESR_DONE);
+    WANT(esr_values(&engine, values, 2, &count), ESR_DONE);
+    esr_close(&engine);
+    return list[0].old_txn != 2 || list[0].new_txn != 1 || list[0].settled != 10 || list[1].old_txn != 3 || list[1].new_txn != 2
+        || list[1].settled != 0 || account.limit != 890 || account.charged != 200 || values[0] != 400 || values[1] != 1510;
+}
+
 /* Events in one call: if an allocation fails, the events before it have their replies, and the test retries the rest. */
 static int listed_day(void) {
     static const esr_event events[5] = {
@@ -127,5 +154,6 @@ static int each(const char *name, int (*program)(void)) {
 }
 
 int main(void) {
-    return each("a day", day) || each("a day that is aborted", aborted_day) || each("a day in one call", listed_day);
+    return each("a day", day) || each("a day that is aborted", aborted_day) || each("a day that is carried over", carried_day)
+        || each("a day in one call", listed_day);
 }
