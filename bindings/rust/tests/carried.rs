@@ -1,7 +1,7 @@
 //! Reports and updates that outlive their history: a renewal carries them over, and nothing waits for them.
 //! `ESR_SOAK_SECONDS` is the duration of the soak test, 2 by default.
 
-use esr::{Bank, Error, MAX_ENTRIES, MAX_TRANSACTIONS, Options, Patience, Refusal};
+use esr::{Bank, Error, MAX_ENTRIES, Options, Patience, Refusal};
 use std::{
     env,
     sync::{Arc, Barrier, Mutex},
@@ -252,18 +252,17 @@ fn a_history_full_of_one_update() -> Result<(), Error> {
     Ok(())
 }
 
-/// An update whose entries fill history after history is carried by its own events.
+/// Refused events fill a history without any begin. Then the next event renews it.
 #[test]
-fn blocked_events_do_not_fill_a_history() -> Result<(), Error> {
-    let items = [("a", 0), ("hits", 0)];
-    let bank = Bank::builder().items(items).open()?;
-    let quick = Options::limit(0).patience(Patience::of(Duration::ZERO));
+fn refused_events_do_not_stop_an_update() -> Result<(), Error> {
+    let bank = Bank::builder().item("a", 0).open()?;
     bank.transact_stepwise(0, |slow| {
         slow.write("a", 1)?;
-        for _ in 0..u64::from(MAX_TRANSACTIONS) {
-            let blocked = bank.transact_stepwise(quick.clone(), |other| other.write("a", 2));
-            assert!(blocked.is_err());
+        for _ in 0..MAX_ENTRIES {
+            let refused = slow.write("a", i64::MAX).map_err(|why| why.refusal());
+            assert_eq!(refused, Err(Some(Refusal::ValueOutOfRange)));
         }
+        assert_eq!(slow.read("a")?, 1);
         slow.write("a", 3)
     })?;
     assert_eq!((bank.value("a")?, bank.renewals()), (3, 1));

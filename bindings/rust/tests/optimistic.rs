@@ -646,6 +646,9 @@ fn background_audits_find_the_same() {
                 continue;
             };
             let finding = bank.audit(report).expect("it has committed");
+            if !finding.is_exact() {
+                continue; // it has no placement
+            }
             let told = bank.explain(report).expect("it has committed");
             let before = finding.before.iter().map(|txn| format!("t{txn}"));
             let before: Vec<_> = before.collect();

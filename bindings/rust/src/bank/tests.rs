@@ -188,7 +188,7 @@ fn renewals_of_active_reports() {
     let reports: Body = |bank| {
         let read = |report: &mut BankQuery<'_, '_>| {
             let a = report.read("a")?;
-            for _ in 0..3 {
+            for _ in 0..2 {
                 bank.transact(0, |update| update.add("c", 1))?;
             }
             let values = (a, report.read("b")?);
@@ -212,6 +212,37 @@ fn renewals_of_active_reports() {
             let metrics = bank.metrics();
             let carried = metrics.carried.min(metrics.carried_reports);
             both.fetch_add(carried, Ordering::Relaxed);
+        },
+    );
+    println!("{runs} schedules");
+    assert!(both.load(Ordering::Relaxed) > 0);
+}
+
+/// A renewal while an update waits for another one: the end of that one wakes it, by the numbers of the new history.
+#[test]
+fn renewals_of_waiting_updates() {
+    let holds: Body = |bank| {
+        bank.transact_stepwise(0, |update| {
+            update.add("a", 1)?;
+            for _ in 0..2 {
+                bank.transact(0, |inner| inner.add("c", 1))?;
+            }
+            update.add("b", 1)
+        })
+        .expect("it commits");
+    };
+    let waits: Body = |bank| {
+        bank.transact_stepwise(0, |update| update.add("a", 1))
+            .expect("it commits");
+    };
+    let both = Arc::new(AtomicU64::new(0));
+    let runs = explore(
+        Depth::coarse(2),
+        || (bank(1), vec![holds, waits]),
+        |bank, now| {
+            assert_eq!(values(bank), (12, 21), "an update was lost");
+            check_end(bank, now, PROMPT);
+            both.fetch_add(u64::from(bank.metrics().carried > 1), Ordering::Relaxed);
         },
     );
     println!("{runs} schedules");
