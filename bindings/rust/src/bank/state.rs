@@ -4,7 +4,7 @@
 //! history, which is proved to succeed. A transaction then has another number and the rest of its limit, so the numbers of
 //! all that is kept here are mapped: of active and waiting transactions, and of names. The part of its charges that is
 //! *settled* in earlier histories is kept (`Past`), because its limit, its charges and the finding of a report are those over
-//! all histories. Nothing waits for an active transaction, unless the history has no capacity left beside the active ones.
+//! all histories. Nothing waits for an active transaction, unless nearly all entries of the history are of active ones.
 
 use super::{past::Past, watch::Watch};
 use crate::{
