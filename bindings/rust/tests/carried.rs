@@ -116,6 +116,7 @@ fn an_update_holds_its_locks_over_two_renewals() -> Result<(), Error> {
     let items = [("a", 1), ("b", 2), ("hits", 0)];
     let bank = Bank::builder().items(items).open()?;
     let options = Options::limit(0).patience(Patience::of(Duration::from_millis(5)));
+    bank.transact(0, |first| first.add("hits", 1))?;
     bank.transact_stepwise(Options::limit(LARGE).name("slow"), |slow| {
         slow.read("a")?;
         slow.write("b", 20)?;
