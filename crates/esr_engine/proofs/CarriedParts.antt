@@ -1,5 +1,5 @@
 -- The parts of a renewal that carries the active transactions over.
-use Rattle.std.proofs.Common.{◌≡◌, ℕ, ℤ, zero, suc, ◌+◌, ◌-◌, ◌<◌, ◌≤◌, Bool, true, false, not, cond, ◌==◌, nat_lt, nat_le, List, [], ◌∷◌, ◌++◌, take, drop, length, map, filter, sum_by, count_by, refl, sym, ◌∙◌, ap, arith, Option, None, Some, IfSome, slice_get, get_or, option_map, append-nil, if◌then◌else◌, append_assoc, add-one}
+use Rattle.std.proofs.Common.{inl, subst, ◌≡◌, ℕ, ℤ, zero, suc, ◌+◌, ◌-◌, ◌<◌, ◌≤◌, Bool, true, false, not, cond, ◌==◌, nat_lt, nat_le, List, [], ◌∷◌, ◌++◌, take, drop, length, map, filter, sum_by, count_by, refl, sym, ◌∙◌, ap, arith, Option, None, Some, IfSome, slice_get, get_or, option_map, append-nil, if◌then◌else◌, append_assoc, add-one}
 use Rattle.std.specs.Prelude.{unwrap_or}
 use Rattle.std.specs.List.{filter_map, cons_option, range_with_len}
 use Rattle.std.proofs.lemmas.Bool.{leb-false}
@@ -20,12 +20,15 @@ use Rattle.esr_history.specs.BackLinks.{accepted_item}
 use Rattle.esr_core.specs.States.{begin_event}
 use Rattle.esr_history.specs.declared.event.Reply.{Reply}
 use Rattle.esr_history.specs.declared.event.Reply.TheVariants.{Begun}
+use Rattle.esr_history.specs.declared.event.Kind.{Kind}
+use Rattle.esr_history.specs.declared.event.Kind.TheVariants.{Update, Query}
 use Rattle.esr_history.specs.Queries.{is_strict}
 use Rattle.esr_history.specs.Events.{BeginRecord, accepted, begin_record, begin_record_of, begin_records, limit_of, is_active, is_query, is_refusal, txn_numbers, committed_value, current_value}
 use Rattle.esr_history.specs.Machine.{Charge, DistanceFunction, IsLegal, Schedule, accepted_in, no_item, reasons, writer}
 use Rattle.esr_history.specs.ReportBounds.{is_active_query}
 use Rattle.esr_history.proofs.Charges.{range-push}
-use Rattle.esr_history.proofs.Membership.{get_seam}
+use Rattle.esr_history.proofs.Membership.{In, In-append_right, In-of_filter, get_seam}
+use Rattle.esr_history.proofs.Versions.{filter_push_true, filter_push_false}
 use Rattle.esr_history.proofs.Allowed.{NoneApplies, read_allowed, write_allowed}
 use Rattle.esr_history.proofs.LegalWellFormed.{when_none}
 use Rattle.esr_history.proofs.WithinRanges.{legal_begins}
@@ -33,10 +36,12 @@ use Rattle.esr_core.specs.Carried.{active_numbers, carried_begin, carried_entrie
 use Rattle.esr_renewal.proofs.Amounts.{sum_same}
 use Rattle.esr_renewal.proofs.CarriedEntries.{allowed, entries_as}
 use Rattle.esr_renewal.proofs.OpenSums.{open_sum, imports_to, exports_of}
+use Rattle.esr_renewal.proofs.Renumbered.{split_at}
+use Rattle.esr_engine.proofs.ActiveOperations.{filtered, filtered_sum, no_amount, no_entry}
 use Rattle.esr_engine.specs.Accounts.{charged_to}
 use Rattle.esr_engine.specs.declared.carrying.ActiveTxn.{ActiveTxn}
 use Rattle.esr_engine.specs.declared.carrying.CarriedTxn.{CarriedTxn}
-use Rattle.esr_engine.specs.Carrying.{active_as, active_by, active_in, amount_to, begun_in, carried_as, carried_in, lag, open_amount, open_of, operation_entry, read_entry}
+use Rattle.esr_engine.specs.Carrying.{active_as, active_by, active_in, active_operations, amount_to, begun_in, carried_as, carried_entry, carried_in, is_of_active, open_amount, open_of, operation_entry, read_entry, uncommitted_distance}
 
 -- ---- lists
 
@@ -67,20 +72,20 @@ sum_next f es i e is =
 -- ---- entries
 
 -- an accepted operation is on an item that exists
-pub item_exists : (d : DistanceFunction) (h : Schedule) → IsLegal d h → (i : ℕ) (e : Entry) → slice_get h.entries i ≡ Some e → IfSome (accepted_item e) (λ x. x < length h.opening)
-item_exists d h legal i e is = at (is_refusal e.reply) refl
+accepted_exists : (d : DistanceFunction) (h : Schedule) → IsLegal d h → (before after : List Entry) (e : Entry) → h.entries ≡ before ++ e ∷ after → IfSome (accepted_item e) (λ x. x < length h.opening)
+accepted_exists d h legal before after e split = at (is_refusal e.reply) refl
   where
     below : (k : Schedule) (x : ℕ) → no_item k x ≡ None → x < length k.opening
     below k x none = leb-false (length k.opening) x (when_none (nat_le (length k.opening) x) NoSuchItem none)
 
-    one : (v : Event) → NoneApplies (reasons d (record h { entries = take i h.entries }) v) → IfSome (accepted_item (record { event = v; reply = e.reply })) (λ x. x < length h.opening)
+    one : (v : Event) → NoneApplies (reasons d (record h { entries = before }) v) → IfSome (accepted_item (record { event = v; reply = e.reply })) (λ x. x < length h.opening)
     one v none = at (is_refusal e.reply) v none
       where
-        at : (b : Bool) (v : Event) → NoneApplies (reasons d (record h { entries = take i h.entries }) v)
+        at : (b : Bool) (v : Event) → NoneApplies (reasons d (record h { entries = before }) v)
             → IfSome (if b then None else Rattle.esr_history.specs.BackLinks.item_of v) (λ x. x < length h.opening)
         at true v none = tt
-        at false (Read t x) none = below (record h { entries = take i h.entries }) x.0 (read_allowed d (record h { entries = take i h.entries }) t x none).item
-        at false (Write t x v) none = below (record h { entries = take i h.entries }) x.0 (write_allowed d (record h { entries = take i h.entries }) t x v none).uncharged.item
+        at false (Read t x) none = below (record h { entries = before }) x.0 (read_allowed d (record h { entries = before }) t x none).item
+        at false (Write t x v) none = below (record h { entries = before }) x.0 (write_allowed d (record h { entries = before }) t x v none).uncharged.item
         at false (BeginUpdate l) none = tt
         at false (BeginQuery l s) none = tt
         at false (Commit t) none = tt
@@ -88,7 +93,17 @@ item_exists d h legal i e is = at (is_refusal e.reply) refl
 
     at : (b : Bool) → is_refusal e.reply ≡ b → IfSome (accepted_item e) (λ x. x < length h.opening)
     at true refused = rw refused tt
-    at false ok = one e.event (allowed d h legal (take i h.entries) (drop (suc i) h.entries) e (parts_at h.entries i e is) ok)
+    at false ok = one e.event (allowed d h legal before after e split ok)
+
+pub item_exists : (d : DistanceFunction) (h : Schedule) → IsLegal d h → (i : ℕ) (e : Entry) → slice_get h.entries i ≡ Some e → IfSome (accepted_item e) (λ x. x < length h.opening)
+item_exists d h legal i e is = accepted_exists d h legal (take i h.entries) (drop (suc i) h.entries) e (parts_at h.entries i e is)
+
+pub operation_exists : (d : DistanceFunction) (h : Schedule) → IsLegal d h → (operations : List Entry) → operations ≡ active_operations h → (i : ℕ) (e : Entry) → slice_get operations i ≡ Some e → IfSome (accepted_item e) (λ x. x < length h.opening)
+operation_exists d h legal operations are i e is =
+    let here : active_operations h ≡ take i (active_operations h) ++ e ∷ drop (suc i) (active_operations h) = parts_at (active_operations h) i e (ap (λ l. slice_get l i) (sym are) ∙ is) in
+    let member : In e (active_operations h) = subst (In e) (sym here) (In-append_right (take i (active_operations h)) (e ∷ drop (suc i) (active_operations h)) e (inl refl)) in
+    let split = split_at h.entries e (In-of_filter (is_of_active h) h.entries e member).0 in
+    accepted_exists d h legal split.before split.after e split.is
 
 -- ---- numbers
 
@@ -121,9 +136,9 @@ numbered h legal active is t n count =
 
 -- ---- amounts
 
-pub lag_is : (h k m : Schedule) (w : List ℕ) (x : ℕ) (a b : ℤ) (n : ℕ) → n ≡ weighted w x a b → w ≡ k.weights → k ≡ h → m ≡ h
-    → a ≡ current_value m.opening (accepted_in m) x → b ≡ committed_value m.opening (accepted_in m) x → n ≡ lag weighted h x
-lag_is h k m w x a b n is weights first second current committed =
+pub distance_is : (h k m : Schedule) (w : List ℕ) (x : ℕ) (a b : ℤ) (n : ℕ) → n ≡ weighted w x a b → w ≡ k.weights → k ≡ h → m ≡ h
+    → a ≡ current_value m.opening (accepted_in m) x → b ≡ committed_value m.opening (accepted_in m) x → n ≡ uncommitted_distance weighted h x
+distance_is h k m w x a b n is weights first second current committed =
     is ∙ (ap (λ v. weighted v x a b) (weights ∙ ap (λ (s : Schedule). s.weights) first)
     ∙ (ap (λ v. weighted h.weights x v b) (current ∙ ap (λ (s : Schedule). current_value s.opening (accepted_in s) x) second)
     ∙ ap (λ v. weighted h.weights x (current_value h.opening (accepted_in h) x) v) (committed ∙ ap (λ (s : Schedule). committed_value s.opening (accepted_in s) x) second)))
@@ -134,9 +149,9 @@ one_amount false q u n t b is = let a = sum_by-cons (λ (c : Charge). if c.updat
 
 -- the amount of a read of an active query, by the update that has written its item
 pub open_is : (h : Schedule) (query : Bool) (t : ℕ) (e : Entry) (q : TxnId) (x : ItemId) → is_refusal e.reply ≡ false → e.event ≡ Read q x → is_active_query h q.0 ≡ true
-    → (u : ℕ) → writer (accepted_in h) x.0 ≡ Some u → (b : Bool) → b ≡ (if query then q.0 == t else u == t) → (if b then lag weighted h x.0 else 0) ≡ open_amount weighted h query t e
+    → (u : ℕ) → writer (accepted_in h) x.0 ≡ Some u → (b : Bool) → b ≡ (if query then q.0 == t else u == t) → (if b then uncommitted_distance weighted h x.0 else 0) ≡ open_amount weighted h query t e
 open_is h query t e q x ok event own u holder b is =
-    sym (rw (ok, event, own, holder) (one_amount query q.0 u (lag weighted h x.0) t b is))
+    sym (rw (ok, event, own, holder) (one_amount query q.0 u (uncommitted_distance weighted h x.0) t b is))
 
 sum_accepted : (f : Event → ℕ) (es : List Entry) → sum_by f (accepted es) ≡ sum_by (λ (e : Entry). if is_refusal e.reply then 0 else f e.event) es
 sum_accepted f [] = refl
@@ -167,14 +182,17 @@ module _ (h : Schedule) where
   settled_is true t is = rw (← is) (ap (λ n. charged_to weighted h true t - n) (sym (open_total (imports_to weighted h t))))
   settled_is false t is = rw (← is) (ap (λ n. charged_to weighted h false t - n) (sym (open_total (exports_of weighted h t))))
 
-  pub settled_end : (query : Bool) (t n s : ℕ) → s ≡ charged_to weighted h query t - sum_by (open_amount weighted h query t) (take n h.entries) → n ≡ length h.entries → query ≡ is_query (accepted_in h) t → s ≡ settled weighted h t
-  settled_end query t n s is all kind =
-      is ∙ (ap (λ (es : List Entry). charged_to weighted h query t - sum_by (open_amount weighted h query t) es) (ap (λ k. take k h.entries) all ∙ take-length h.entries) ∙ settled_is query t kind)
+  pub settled_end : (operations : List Entry) → operations ≡ active_operations h → (query : Bool) (t n s : ℕ)
+      → s ≡ charged_to weighted h query t - sum_by (open_amount weighted h query t) (take n operations) → n ≡ length operations → query ≡ is_query (accepted_in h) t → s ≡ settled weighted h t
+  settled_end operations are query t n s is all kind =
+      is ∙ (ap (λ (es : List Entry). charged_to weighted h query t - sum_by (open_amount weighted h query t) es) (ap (λ k. take k operations) all ∙ (take-length operations ∙ are))
+      ∙ (ap (λ k. charged_to weighted h query t - k) (filtered_sum (is_of_active h) (open_amount weighted h query t) (no_amount h query t) h.entries) ∙ settled_is query t kind))
 
-  pub settled_next : (query : Bool) (t i : ℕ) (e : Entry) (s r : ℕ) → slice_get h.entries i ≡ Some e → s ≡ charged_to weighted h query t - sum_by (open_amount weighted h query t) (take i h.entries)
-      → r ≡ s - open_amount weighted h query t e → r ≡ charged_to weighted h query t - sum_by (open_amount weighted h query t) (take (i + 1) h.entries)
-  settled_next query t i e s r at is next =
-      let more = sum_next (open_amount weighted h query t) h.entries i e at in
+  pub settled_next : (operations : List Entry) (query : Bool) (t i : ℕ) (e : Entry) (s r : ℕ) → slice_get operations i ≡ Some e
+      → s ≡ charged_to weighted h query t - sum_by (open_amount weighted h query t) (take i operations)
+      → r ≡ s - open_amount weighted h query t e → r ≡ charged_to weighted h query t - sum_by (open_amount weighted h query t) (take (i + 1) operations)
+  settled_next operations query t i e s r at is next =
+      let more = sum_next (open_amount weighted h query t) operations i e at in
       omega (arith, is, next, more)
 
 -- ---- all entries
@@ -183,11 +201,21 @@ begins_as : {X Y : Type 0} (f : X → Y) (ts : List X) → map f ts ≡ filter_m
 begins_as f [] = refl
 begins_as f (t ∷ ts) = ap (λ l. f t ∷ l) (begins_as f ts)
 
-pub entries_are : (h : Schedule) → (map (carried_begin weighted h) (active_numbers h) ++ filter_map (operation_entry h) h.entries) ++ filter_map (read_entry h) h.entries ≡ carried_entries weighted h
-entries_are h =
+all_entries : (h : Schedule) → (map (carried_begin weighted h) (active_numbers h) ++ filter_map (operation_entry h) h.entries) ++ filter_map (read_entry h) h.entries ≡ carried_entries weighted h
+all_entries h =
     append_assoc (map (carried_begin weighted h) (active_numbers h)) (filter_map (operation_entry h) h.entries) (filter_map (read_entry h) h.entries)
     ∙ (ap (λ l. l ++ (filter_map (operation_entry h) h.entries ++ filter_map (read_entry h) h.entries)) (begins_as (carried_begin weighted h) (active_numbers h))
     ∙ sym (entries_as weighted h))
+
+pub entries_are : (h : Schedule) (operations : List Entry) → operations ≡ active_operations h
+    → (map (carried_begin weighted h) (active_numbers h) ++ filter_map (carried_entry h Update) operations) ++ filter_map (carried_entry h Query) operations ≡ carried_entries weighted h
+entries_are h operations are =
+    ap (λ l. (map (carried_begin weighted h) (active_numbers h) ++ l) ++ filter_map (carried_entry h Query) operations) (of_kind Update)
+    ∙ (ap (λ l. (map (carried_begin weighted h) (active_numbers h) ++ filter_map (carried_entry h Update) h.entries) ++ l) (of_kind Query)
+    ∙ all_entries h)
+  where
+    of_kind : (kind : Kind) → filter_map (carried_entry h kind) operations ≡ filter_map (carried_entry h kind) h.entries
+    of_kind kind = ap (filter_map (carried_entry h kind)) are ∙ filtered (is_of_active h) (carried_entry h kind) (no_entry h kind) h.entries
 
 -- ---- the active transactions
 
@@ -277,6 +305,12 @@ active_skip h n act =
     ap (map (active_as h)) (active_more h n ∙ (ap (λ b. filter (is_active (accepted_in h)) (range_with_len 1 n) ++ cond b ((1 + n) ∷ []) []) act' ∙ append-nil (filter (is_active (accepted_in h)) (range_with_len 1 n))))
 
 -- ---- the lists that are pushed
+
+pub kept_next : {X : Type 0} (p : X → Bool) (es : List X) (i : ℕ) (e : X) → slice_get es i ≡ Some e → p e ≡ true → filter p (take (i + 1) es) ≡ filter p (take i es) ++ e ∷ []
+kept_next p es i e at passes = ap (filter p) (take_next es i e at) ∙ filter_push_true p (take i es) e passes
+
+pub skipped_next : {X : Type 0} (p : X → Bool) (es : List X) (i : ℕ) (e : X) → slice_get es i ≡ Some e → p e ≡ false → filter p (take (i + 1) es) ≡ filter p (take i es)
+skipped_next p es i e at fails = ap (filter p) (take_next es i e at) ∙ filter_push_false p (take i es) e fails
 
 pub pushed : {X Y : Type 0} (f : X → Option Y) (es : List X) (i : ℕ) (e : X) (first old new : List Y) (y : Y) → slice_get es i ≡ Some e → Some y ≡ f e → old ≡ first ++ filter_map f (take i es) → new ≡ old ++ y ∷ []
     → new ≡ first ++ filter_map f (take (i + 1) es)

@@ -8,5 +8,6 @@ pub mod Statuses
 pub mod Locking
 pub mod Renewal
 pub mod Reports
+pub mod ActiveOperations
 pub mod CarriedParts
 pub mod CarriedEngine

@@ -1,9 +1,11 @@
 -- The parts of a renewal that carries the active transactions over.
-use Rattle.std.specs.Prelude.{ℕ, Bool, List, [], Option, None, map, option_map, if◌then◌else◌}
+use Rattle.std.specs.Prelude.{ℕ, Bool, false, List, [], Option, None, filter, map, option_map, if◌then◌else◌}
 use Rattle.esr_history.specs.declared.event.Event.{Event}
 use Rattle.esr_history.specs.declared.event.Entry.{Entry}
-use Rattle.esr_history.specs.declared.event.Event.TheVariants.{Read}
-use Rattle.esr_history.specs.Events.{BeginRecord, begin_record_of, is_query, is_refusal, limit_of, committed_value, current_value}
+use Rattle.esr_history.specs.declared.event.Event.TheVariants.{Read, Write}
+use Rattle.esr_history.specs.declared.event.Kind.{Kind}
+use Rattle.esr_history.specs.declared.event.Kind.TheVariants.{Update, Query}
+use Rattle.esr_history.specs.Events.{BeginRecord, begin_record_of, is_active, is_query, is_refusal, limit_of, committed_value, current_value}
 use Rattle.esr_history.specs.Machine.{DistanceFunction, Schedule, Charge, accepted_in, charge_of_read, export_in, import_in, value_distance, writer}
 use Rattle.esr_history.specs.Queries.{is_strict}
 use Rattle.esr_history.specs.ReportBounds.{is_active_query}
@@ -32,6 +34,18 @@ active_as h t = record {
 abbrev pub active_in : Schedule → List ActiveTxn
 active_in h = map (active_as h) (active_numbers h)
 
+-- the accepted operations of active transactions, in the order of the log
+abbrev pub is_active_operation : Schedule → Event → Bool
+is_active_operation h (Read t x) = is_active (accepted_in h) t.0
+is_active_operation h (Write t x v) = is_active (accepted_in h) t.0
+is_active_operation h _ = false
+
+abbrev pub is_of_active : Schedule → Entry → Bool
+is_of_active h e = if is_refusal e.reply then false else is_active_operation h e.event
+
+abbrev pub active_operations : Schedule → List Entry
+active_operations h = filter (is_of_active h) h.entries
+
 -- the charges of a read if it is repeated now
 abbrev pub open_of : DistanceFunction → Schedule → Event → List Charge
 open_of d h (Read q x) =
@@ -40,8 +54,8 @@ open_of d h (Read q x) =
 open_of d h _ = []
 
 -- the distance of the current value of an item from its committed value
-abbrev pub lag : DistanceFunction → Schedule → ℕ → ℕ
-lag d h x = value_distance d h x (current_value h.opening (accepted_in h) x) (committed_value h.opening (accepted_in h) x)
+abbrev pub uncommitted_distance : DistanceFunction → Schedule → ℕ → ℕ
+uncommitted_distance d h x = value_distance d h x (current_value h.opening (accepted_in h) x) (committed_value h.opening (accepted_in h) x)
 
 -- an import of a query, or an export of an update
 abbrev pub amount_to : Bool → List Charge → ℕ → ℕ
@@ -64,3 +78,8 @@ operation_entry h e = if is_refusal e.reply then None else carried_operation h e
 
 abbrev pub read_entry : Schedule → Entry → Option Entry
 read_entry h e = if is_refusal e.reply then None else carried_read h e.event
+
+-- either, by the kind of the transaction
+abbrev pub carried_entry : Schedule → Kind → Entry → Option Entry
+carried_entry h Update = operation_entry h
+carried_entry h Query = read_entry h

@@ -1,7 +1,11 @@
 //! The parts of a renewal that carries the active transactions over: how they began, their settled amounts, the entries
 //! with which the new history begins, and the replay of these entries.
+//!
+//! One pass over the log collects the active transactions and their operations. All else works on these lists, which are
+//! short if few entries are of active transactions.
 
 ghost use Rattle.std.specs.Prelude.{◌≡◌, ◌+◌, ◌-◌, ◌<◌, ◌≤◌, ◌&&◌, ◌++◌, ◌==◌, Some, count_by, nat_lt, if◌then◌else◌, length, map, filter_map, slice_get, IfOk, IfSome, OnOk};
+ghost use Rattle.std.specs.List.Sorted.{IsNonDecreasingBy};
 ghost use Rattle.esr_base.specs.declared.limits.TheConstants.{MAX_TRANSACTIONS};
 ghost use Rattle.esr_items.specs.Values.{IsValue};
 ghost use Rattle.esr_items.specs.Weights.{weighted};
@@ -13,11 +17,11 @@ ghost use Rattle.esr_history.specs.ReportBounds.{is_active_query};
 ghost use Rattle.esr_core.specs.States.{begin_event};
 ghost use Rattle.esr_history.specs.declared.event.Reply.TheVariants.{Begun};
 ghost use Rattle.esr_core.specs.Carried.{active_numbers, carried, carried_begin, carried_entries, new_number, settled};
-ghost use Rattle.esr_engine.specs.Carrying.{active_in, begun_in, carried_in, lag, open_amount, operation_entry, read_entry};
+ghost use Rattle.esr_engine.specs.Carrying.{active_in, active_operations, begun_in, carried_entry, carried_in, is_of_active, open_amount, operation_entry, read_entry, uncommitted_distance};
 
 use crate::engine::EmbeddedEngine;
 use esr_core::Machine;
-use esr_history::{Entry, Event, NoMemory, Reply, TxnId};
+use esr_history::{Entry, Event, Kind, NoMemory, Reply, TxnId};
 use esr_items::{ItemId, Metric, Weighted};
 use std::alloc::{AllocError, Global};
 
@@ -28,6 +32,13 @@ pub struct ActiveTxn {
     pub query: bool,
     pub limit: u64,
     pub strict: bool,
+}
+
+/// The active transactions in ascending order, and their accepted reads and writes in the order of the log.
+#[derive(Drop)]
+pub(crate) struct ActivePart {
+    pub(crate) txns: Vec<ActiveTxn>,
+    pub(crate) operations: Vec<Entry>,
 }
 
 /// A transaction that was carried over: its numbers in the old and in the new history, and the part of its limit and of
@@ -101,9 +112,10 @@ fn distance(metric: &Weighted, x: ItemId, a: i64, b: i64) -> u64
 
 /// Returns how many of the active transactions have a smaller number.
 fn count_before(active: &[ActiveTxn], t: TxnId) -> usize
+    requires { IsNonDecreasingBy (λ a. a.txn.0) active.now }
     ensures { result ≡ count_by (λ a. nat_lt a.txn.0 t.0) active.now }
 {
-    active.iter().filter(|a| a.txn.0 < t.0).count()
+    active.partition_point(|a| a.txn.0 < t.0)
 }
 
 /// Executes entries of which each reply is the machine's.
@@ -154,24 +166,60 @@ impl EmbeddedEngine {
         }
     }
 
-    /// Returns the active transactions, in ascending order.
-    pub(crate) fn active_txns(&self, alloc: Global) -> Result<Vec<ActiveTxn>, AllocError>
-        ensures { IfOk result (λ v. v.items ≡ active_in self.now) }
+    /// Returns whether an entry is an accepted operation of an active transaction.
+    fn is_of_active(&self, entry: Entry) -> bool
+        ensures { result ≡ is_of_active self.now entry }
     {
-        let mut active = Vec::new(alloc);
+        if entry.is_refused() {
+            return false;
+        }
+        match entry.event {
+            Event::Read { txn, item: _ }
+            | Event::Write {
+                txn,
+                item: _,
+                value: _,
+            } => self.is_active(txn),
+            _ => false,
+        }
+    }
+
+    /// Returns the active transactions and their operations.
+    pub(crate) fn active_part(&self, alloc: Global) -> Result<ActivePart, AllocError>
+        ensures txns { IfOk result (λ part. part.txns.items ≡ active_in self.now) }
+        ensures operations { IfOk result (λ part. part.operations.items ≡ active_operations self.now) }
+    {
+        let mut txns = Vec::new(alloc);
+        let mut operations = Vec::new(alloc);
         let mut begun = 0u32;
         for i in 0..self.machine.log().len() {
-            match begun_in(TxnId(begun + 1), self.entry(i)) {
+            let entry = self.entry(i);
+            match begun_in(TxnId(begun + 1), entry) {
                 Some(txn) => {
                     begun += 1;
                     if self.is_active(txn.txn) {
-                        active.push(txn)?;
+                        txns.push(txn)?;
                     }
                 }
-                None => {}
+                None => {
+                    if self.is_of_active(entry) {
+                        operations.push(entry)?;
+                    }
+                }
             }
         }
-        Ok(active)
+        Ok(ActivePart { txns, operations })
+    }
+
+    /// Returns an operation of an active transaction, which is on an item that exists.
+    fn operation(&self, operations: &[Entry], i: usize) -> Entry
+        requires operations { operations.now ≡ active_operations self.now }
+        requires inside { i < length operations.now }
+        ensures entry { slice_get operations.now i ≡ Some result }
+        ensures item { IfSome (accepted_item result) (λ x. x < length self.now.opening) }
+    {
+        let _invariant = self.machine.log(); // brings the invariant into the proof
+        operations[i]
     }
 
     /// Returns the number that a transaction has in the new history.
@@ -194,7 +242,7 @@ impl EmbeddedEngine {
         match entry.event {
             Event::Read { txn, item } if self.is_active_query(txn) => {
                 match self.machine.writer(item) {
-                    Some(u) if is_charged(query, txn, u, t) => self.lag(item),
+                    Some(u) if is_charged(query, txn, u, t) => self.uncommitted_distance(item),
                     _ => 0,
                 }
             }
@@ -203,9 +251,9 @@ impl EmbeddedEngine {
     }
 
     /// Returns the distance of the current value of an item from its committed value.
-    fn lag(&self, x: ItemId) -> u64
+    fn uncommitted_distance(&self, x: ItemId) -> u64
         requires { x.0 < length self.now.opening }
-        ensures { result ≡ lag weighted self.now x.0 }
+        ensures { result ≡ uncommitted_distance weighted self.now x.0 }
     {
         let current = self.machine.current(x);
         let committed = self.machine.committed(x);
@@ -213,13 +261,14 @@ impl EmbeddedEngine {
     }
 
     /// Returns the part of a transaction's charges that is settled.
-    fn settled(&self, t: ActiveTxn) -> u64
-        requires { t.query ≡ is_query (accepted_in self.now) t.txn.0 }
+    fn settled(&self, operations: &[Entry], t: ActiveTxn) -> u64
+        requires operations { operations.now ≡ active_operations self.now }
+        requires query { t.query ≡ is_query (accepted_in self.now) t.txn.0 }
         ensures { result ≡ settled weighted self.now t.txn.0 }
     {
         let mut settled = self.charge_of(t.query, t.txn);
-        for i in 0..self.machine.log().len() {
-            let amount = self.open_amount(t.query, t.txn, self.entry(i));
+        for i in 0..operations.len() {
+            let amount = self.open_amount(t.query, t.txn, self.operation(operations, i));
             settled = settled.saturating_sub(amount);
         }
         settled
@@ -230,8 +279,10 @@ impl EmbeddedEngine {
         &self,
         alloc: Global,
         active: &[ActiveTxn],
+        operations: &[Entry],
     ) -> Result<Vec<CarriedTxn>, AllocError>
-        requires { active.now ≡ active_in self.now }
+        requires active { active.now ≡ active_in self.now }
+        requires operations { operations.now ≡ active_operations self.now }
         ensures { IfOk result (λ v. v.items ≡ carried_in weighted self.now) }
     {
         let mut carried = Vec::new(alloc);
@@ -239,7 +290,7 @@ impl EmbeddedEngine {
             carried.push(CarriedTxn {
                 old: t.txn,
                 new: self.new_number(active, t.txn),
-                settled: self.settled(*t),
+                settled: self.settled(operations, *t),
             })?;
         }
         Ok(carried)
@@ -292,33 +343,33 @@ impl EmbeddedEngine {
         }
     }
 
-    /// Appends the operations of active updates.
-    fn push_operations(
-        &self,
-        active: &[ActiveTxn],
-        entries: &mut Vec<Entry>,
-    ) -> Result<(), AllocError>
-        requires { active.now ≡ active_in self.now }
-        ensures { OnOk result (entries.new.items
-            ≡ entries.old.items ++ filter_map (operation_entry self.now) self.now.entries) }
+    /// Returns the entry of the new history for an accepted operation of an active transaction of a kind.
+    fn carried_entry(&self, active: &[ActiveTxn], kind: Kind, entry: Entry) -> Option<Entry>
+        requires active { active.now ≡ active_in self.now }
+        requires item { IfSome (accepted_item entry) (λ x. x < length self.now.opening) }
+        ensures { result ≡ carried_entry self.now kind entry }
     {
-        for i in 0..self.machine.log().len() {
-            match self.operation_entry(active, self.entry(i)) {
-                Some(entry) => entries.push(entry)?,
-                None => {}
-            }
+        match kind {
+            Kind::Update => self.operation_entry(active, entry),
+            Kind::Query => self.read_entry(active, entry),
         }
-        Ok(())
     }
 
-    /// Appends the reads of active queries.
-    fn push_reads(&self, active: &[ActiveTxn], entries: &mut Vec<Entry>) -> Result<(), AllocError>
-        requires { active.now ≡ active_in self.now }
+    /// Appends the entries for the operations of the active transactions of a kind.
+    fn push_entries(
+        &self,
+        active: &[ActiveTxn],
+        operations: &[Entry],
+        kind: Kind,
+        entries: &mut Vec<Entry>,
+    ) -> Result<(), AllocError>
+        requires active { active.now ≡ active_in self.now }
+        requires operations { operations.now ≡ active_operations self.now }
         ensures { OnOk result (entries.new.items
-            ≡ entries.old.items ++ filter_map (read_entry self.now) self.now.entries) }
+            ≡ entries.old.items ++ filter_map (carried_entry self.now kind) operations.now) }
     {
-        for i in 0..self.machine.log().len() {
-            match self.read_entry(active, self.entry(i)) {
+        for i in 0..operations.len() {
+            match self.carried_entry(active, kind, self.operation(operations, i)) {
                 Some(entry) => entries.push(entry)?,
                 None => {}
             }
@@ -349,15 +400,17 @@ impl EmbeddedEngine {
         &self,
         alloc: Global,
         active: &[ActiveTxn],
+        operations: &[Entry],
         carried: &[CarriedTxn],
     ) -> Result<Vec<Entry>, AllocError>
         requires active { active.now ≡ active_in self.now }
+        requires operations { operations.now ≡ active_operations self.now }
         requires carried { carried.now ≡ carried_in weighted self.now }
         ensures { IfOk result (λ v. v.items ≡ carried_entries weighted self.now) }
     {
         let mut entries = self.begins(alloc, active, carried)?;
-        self.push_operations(active, &mut entries)?;
-        self.push_reads(active, &mut entries)?;
+        self.push_entries(active, operations, Kind::Update, &mut entries)?;
+        self.push_entries(active, operations, Kind::Query, &mut entries)?;
         Ok(entries)
     }
 

@@ -109,9 +109,9 @@ impl EmbeddedEngine {
         ensures err { OnErr result (self.new ≡ self.old) }
     {
         let _invariant = self.machine.log(); // brings the invariant into the proof
-        let active = self.active_txns(alloc)?;
-        let carried = self.carried_txns(alloc, &active)?;
-        let entries = self.carried_entries(alloc, &active, &carried)?;
+        let active = self.active_part(alloc)?;
+        let carried = self.carried_txns(alloc, &active.txns, &active.operations)?;
+        let entries = self.carried_entries(alloc, &active.txns, &active.operations, &carried)?;
         *self = self.carried(alloc, &entries)?;
         Ok(carried)
     }

@@ -1,8 +1,14 @@
-use Rattle.std.proofs.Common.{subst, arith}
+use Rattle.std.proofs.Common.{subst, sym, arith}
+use Rattle.std.specs.List.Sorted.{IsNonDecreasingBy}
 use Rattle.esr_items.specs.Weights.{weighted}
 use Rattle.esr_history.specs.Machine.{IsLegal}
+use Rattle.esr_engine.specs.declared.carrying.ActiveTxn.{ActiveTxn}
+use Rattle.esr_engine.proofs.ActiveOperations.{active_rise}
 use Rattle.esr_engine.proofs.CarriedParts.{numbered}
 use Rattle.esr_engine.proofs.engine.EmbeddedEngine.new_number.Goals as goal
+
+pub count_before-requires : goal.count_before-requires
+count_before-requires c = subst (IsNonDecreasingBy (λ (a : ActiveTxn). a.txn.0)) (sym c.requires) (active_rise c.args.self.now)
 
 pub overflow_cast-result : goal.overflow_cast-result
 overflow_cast-result c =

@@ -11,4 +11,4 @@ returns-in-Some c =
     let own : is_active_query h c.in-Read.txn.0 ≡ true = sym c.is_active_query.ensures ∙ c.if-is_active_query.true in
     let ok : is_refusal c.args.entry.reply ≡ false = sym c.is_refused.ensures ∙ c.if-is_refused.false in
     let holder : writer (accepted_in h) c.in-Read.item.0 ≡ Some c.in-Some.u.0 = sym (c.in-Some.ensures ∙ ap (λ (k : Schedule). writer (accepted_in k) c.in-Read.item.0) c.self.view_is) in
-    c.lag.ensures ∙ open_is h c.args.query c.args.t.0 c.args.entry c.in-Read.txn c.in-Read.item ok c.in-Read.is own c.in-Some.u.0 holder true (sym c.if-is_charged.true ∙ c.is_charged.ensures)
+    c.uncommitted_distance.ensures ∙ open_is h c.args.query c.args.t.0 c.args.entry c.in-Read.txn c.in-Read.item ok c.in-Read.is own c.in-Some.u.0 holder true (sym c.if-is_charged.true ∙ c.is_charged.ensures)

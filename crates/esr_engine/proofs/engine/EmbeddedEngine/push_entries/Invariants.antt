@@ -1,7 +1,7 @@
 use Rattle.std.proofs.Common.{◌≡◌, ◌++◌, take}
 use Rattle.std.specs.List.{filter_map}
-use Rattle.esr_engine.specs.Carrying.{operation_entry}
-use Rattle.esr_engine.proofs.engine.EmbeddedEngine.push_operations.Given as goal
+use Rattle.esr_engine.specs.Carrying.{carried_entry}
+use Rattle.esr_engine.proofs.engine.EmbeddedEngine.push_entries.Given as goal
 
 abbrev pub invariant-loop-i : goal.invariant-loop-i
-invariant-loop-i l = l.entries.items ≡ l.fn.entries.items ++ filter_map (operation_entry l.self) (take l.i l.self.entries)
+invariant-loop-i l = l.entries.items ≡ l.fn.entries.items ++ filter_map (carried_entry l.self l.kind) (take l.i l.operations)
