@@ -23,7 +23,7 @@ use esr_explain::Explaining;
 use esr_explore::{ExploreFault, Measure, Search, explore};
 use esr_history::Watched;
 use esr_lint::{KeptLine, Notes, Source};
-use esr_page::{PageMetadata, Page};
+use esr_page::{Page, PageMetadata};
 use esr_picture::{PictureView, PictureWithErrorsView};
 use esr_prose::{Passage, Prose};
 use esr_script::{AuditedScript, TeeReader};

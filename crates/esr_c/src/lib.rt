@@ -22,7 +22,7 @@ ghost use Rattle.esr_core.specs.Carried.{carried};
 ghost use Rattle.esr_core.specs.Renewed.{has_active, renewed};
 ghost use Rattle.esr_engine.specs.Capacity.{NeverStuck, active_count, counts_of};
 ghost use Rattle.esr_c.specs.Many.{AreAnswered, IsAnsweredStatus, IsEnd};
-ghost use Rattle.esr_picture.specs.Picture.{IsSvg};
+ghost use Rattle.esr_svg.specs.Svg.{IsSvg};
 ghost use Rattle.esr_c.specs.HistoryTexts.{HasNameForEachItem, IsExplanationOf, IsLedgerOf, IsScriptOf, IsTextStatus, IsQueryTextStatus, IsTextInBuffer, IsTextLength, parsed_item_names};
 ghost use Rattle.esr_c.specs.Answers.{opened, IsEventCall, IsForUpdateCall, IsTotal, IsAccount, IsFound, HasAugmentationCount, IsBundleIn, IsBundleLong, AreCarriedIn, AreValuesIn, IsCarriedRenewal, IsRenewed, IsOpenStatus, IsWeightedOpenStatus, IsRenewStatus, IsValuesStatus, IsAuditStatus, IsVerdictIn};
 

@@ -8,7 +8,7 @@ ghost use Rattle.esr_items.specs.Weights.{weighted};
 ghost use Rattle.esr_history.specs.Queries.{is_committed_query};
 ghost use Rattle.esr_audit.specs.Findings.{IsFindingOf};
 ghost use Rattle.esr_explain.specs.Explain.{explanation};
-ghost use Rattle.esr_picture.specs.Picture.{IsSvg};
+ghost use Rattle.esr_svg.specs.Svg.{IsSvg};
 ghost use Rattle.esr_c.specs.Answers.{status_number};
 ghost use Rattle.esr_c.specs.HistoryTexts.{HasNameForEachItem, IsExplanationOf, IsQueryTextStatus, IsTextInBuffer, IsTextLength, parsed_item_names};
 

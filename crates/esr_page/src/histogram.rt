@@ -4,24 +4,24 @@ use crate::audits::AuditedDistance;
 use esr_text::push_number;
 use std::alloc::{AllocError, Global};
 
-/// The number of magnitudes: 0, 1 to 9, 10 to 99, and so on.
-const MAGNITUDES: usize = 20;
+/// The greatest magnitude: distances have at most 20 digits.
+const MAX_MAGNITUDE: usize = 20;
 
-/// Returns the magnitude of a distance: the number of its digits, or 0.
+/// Returns the magnitude of a distance: the number of its digits, or 0 for the distance 0.
 fn magnitude_of(distance: u64) -> usize {
     let mut bound = 1u64;
-    for magnitude in 0..MAGNITUDES {
+    for magnitude in 0..MAX_MAGNITUDE {
         if distance < bound {
             return magnitude;
         }
         bound = bound.saturating_mul(10);
     }
-    MAGNITUDES
+    MAX_MAGNITUDE
 }
 
 /// Returns how many distances there are of each magnitude.
 fn counts_of(alloc: Global, found: &[AuditedDistance]) -> Result<Vec<u64>, AllocError> {
-    let mut counts = vec![in alloc; 0u64; MAGNITUDES + 1]?;
+    let mut counts = vec![in alloc; 0u64; MAX_MAGNITUDE + 1]?;
     for found in found {
         if let Some(count) = counts.get_mut(magnitude_of(found.distance)) {
             *count = count.saturating_add(1);
@@ -41,19 +41,19 @@ fn push_range(out: &mut String, magnitude: usize, least: u64) -> Result<(), Allo
     push_number(out, least.saturating_mul(10).saturating_sub(1))
 }
 
-/// Appends the bar of a count, of which the largest is `upper_bound`, unless the count is 0.
+/// Appends the bar of a count, in proportion to the largest count, unless the count is 0.
 fn push_bar(
     out: &mut String,
     magnitude: usize,
     count: u64,
-    upper_bound: u64,
+    max_count: u64,
 ) -> Result<(), AllocError> {
     if count == 0 {
         return Ok(());
     }
     let share = count
         .saturating_mul(80)
-        .checked_div(upper_bound)
+        .checked_div(max_count)
         .unwrap_or(0);
     let class = if magnitude == 0 { "chg" } else { "dis" };
     write!(out, "<i class='{class}' style='width:{share}%'></i>")
@@ -65,19 +65,19 @@ fn push_row(
     magnitude: usize,
     least: u64,
     count: u64,
-    upper_bound: u64,
+    max_count: u64,
 ) -> Result<(), AllocError> {
     out.push_str("<li><span class='bin'>")?;
     push_range(out, magnitude, least)?;
     out.push_str("</span><span class='bar'>")?;
-    push_bar(out, magnitude, count, upper_bound)?;
+    push_bar(out, magnitude, count, max_count)?;
     out.push_str("<b>")?;
     push_number(out, count)?;
     out.push_str("</b></span></li>\n")
 }
 
 /// Returns the number of magnitudes up to the greatest that occurs.
-fn count_magnitudes(counts: &[u64]) -> usize {
+fn shown_magnitudes(counts: &[u64]) -> usize {
     let mut last = 0usize;
     for (magnitude, count) in counts.iter().enumerate() {
         if *count > 0 {
@@ -89,10 +89,10 @@ fn count_magnitudes(counts: &[u64]) -> usize {
 
 /// Appends the rows of the magnitudes up to the greatest that occurs.
 fn push_rows(out: &mut String, counts: &[u64]) -> Result<(), AllocError> {
-    let upper_bound = counts.iter().copied().max().unwrap_or(0);
+    let max_count = counts.iter().copied().max().unwrap_or(0);
     let mut least = 1u64;
-    for (magnitude, count) in counts.iter().take(count_magnitudes(counts)).enumerate() {
-        push_row(out, magnitude, least, *count, upper_bound)?;
+    for (magnitude, count) in counts.iter().take(shown_magnitudes(counts)).enumerate() {
+        push_row(out, magnitude, least, *count, max_count)?;
         if magnitude > 0 {
             least = least.saturating_mul(10);
         }

@@ -17,4 +17,4 @@ mod style;
 mod table;
 mod updates;
 
-pub use page::{PageMetadata, Page};
+pub use page::{Page, PageMetadata};

@@ -18,4 +18,4 @@ mod selection;
 mod titles;
 mod versions;
 
-pub use drawing::{PictureView, PictureWithErrorsView, picture, svg_element};
+pub use drawing::{PictureView, PictureWithErrorsView, picture};

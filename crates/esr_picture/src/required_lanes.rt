@@ -6,7 +6,7 @@
 //! All lanes together cost least at the line, so this terminates.
 
 use crate::selection::Crossing;
-use esr_cert::Chain;
+use esr_cert::{Chain, Problem};
 use esr_history::MAX_TRANSACTIONS;
 use std::alloc::{AllocError, Global};
 
@@ -107,6 +107,26 @@ impl Costs {
         let (least, place) = least?;
         (least < at_line).then_some(place)
     }
+}
+
+/// Returns the lanes that cost more at a place than at the line, of those that are not among these, the costliest first.
+pub fn all_against(
+    alloc: Global,
+    problem: &Problem,
+    crossings: &[Crossing],
+    places: &Places,
+    place: usize,
+    drawn: &[usize],
+) -> Result<Vec<usize>, AllocError> {
+    let mut ranks = Vec::new(alloc);
+    for (lane, (chain, crossing)) in problem.chains().iter().zip(crossings.iter()).enumerate() {
+        let more = places.cost_at(chain, place).saturating_sub(crossing.off);
+        if more > 0 && !drawn.contains(&lane) {
+            ranks.push((u64::MAX.saturating_sub(more), lane))?;
+        }
+    }
+    ranks.sort_unstable();
+    ranks.iter().map(|rank| rank.1).collect(alloc)
 }
 
 /// The lane that costs most more at a place than at the line, of those that are not among these.

@@ -13,13 +13,19 @@ use esr_cert::{Chain, Problem};
 use esr_history::TxnId;
 use esr_items::Metric;
 use esr_report::name_of_transaction;
-use esr_svg::{Arrow, Lane, MAX_UPDATES, Scene, Update, fitting_updates};
+use esr_svg::{
+    Arrow, Deciding, Lane, LaneReads, LaneSegment, MAX_UPDATES, Scene, Update, fitting_updates,
+};
+use esr_text::first;
 use esr_trace::{Audited, QueryTrace, sentences_of};
 use std::alloc::{AllocError, Global};
 
 /// The number of times that a scene that is too wide is rebuilt with fewer updates. After that it has no updates, and
 /// then no values read within dotted segments.
 const MAX_TRIES: u32 = 7;
+
+/// The maximum number of items without a lane that are named.
+const MAX_NAMES: usize = 3;
 
 /// The maximum content of a scene.
 #[derive(Clone, Copy)]
@@ -101,6 +107,17 @@ impl<'a> Source<'a> {
         self.problem().updates().get(position as usize).copied()
     }
 
+    /// Returns how many reads of the item of a chain had each of some values.
+    fn reads_of(
+        &self,
+        alloc: Global,
+        chain: &Chain,
+        values: &[i64],
+    ) -> Result<Vec<u64>, AllocError> {
+        let counts = read_counts_by_value(alloc, self.trace, chain.item)?;
+        reads_of_values(alloc, values, &counts)
+    }
+
     /// Returns the versions of a chain, with the one at the line.
     fn versions<'b>(
         &self,
@@ -110,13 +127,13 @@ impl<'a> Source<'a> {
         reads_drawn: usize,
     ) -> Result<LaneVersions<'b>, AllocError> {
         let values = versions_of(alloc, self.audited.history, chain, &self.positions)?;
-        let counts = read_counts_by_value(alloc, self.trace, chain.item)?;
-        let reads = reads_of_values(alloc, &values, &counts)?;
+        let reads = self.reads_of(alloc, chain, &values)?;
+        let seen = read_flags_by_version(alloc, self.trace, chain, &self.positions)?;
         Ok(LaneVersions {
             chain,
             values,
             reads,
-            seen: read_flags_by_version(alloc, self.trace, chain, &self.positions)?,
+            seen,
             at_line,
             reads_drawn,
         })
@@ -134,7 +151,7 @@ struct SceneParts<'a, 'b> {
     line: u8,
     slots: Slots,
     /// The values that were read within each stretch of several.
-    reads: usize,
+    reads_drawn: usize,
 }
 
 impl<'a, 'b> SceneParts<'a, 'b> {
@@ -160,8 +177,48 @@ impl<'a, 'b> SceneParts<'a, 'b> {
             drawn,
             line,
             slots,
-            reads: extent.reads,
+            reads_drawn: extent.reads,
         })
+    }
+
+    /// Returns a lane of a chain with these segments, whose version at the line is off by `off`.
+    fn lane_with(
+        &self,
+        alloc: Global,
+        chain: &Chain,
+        segments: Vec<LaneSegment>,
+        read: LaneReads,
+        off: u64,
+    ) -> Result<Lane<'a>, AllocError> {
+        let audited = self.source.audited;
+        let drawn = versions_drawn(alloc, &segments)?;
+        Ok(Lane {
+            name: audited.items.name_of(chain.item.0).unwrap_or(""),
+            weight: audited.history.metric().distance(chain.item, 0, 1),
+            read,
+            off,
+            segments,
+            transient_reads: transient_reads_of(audited, self.source.trace, chain, &drawn),
+        })
+    }
+
+    /// Returns the reads of the item of a chain.
+    fn reads(&self, alloc: Global, chain: &Chain) -> Result<LaneReads, AllocError> {
+        let counts = read_counts_by_value(alloc, self.source.trace, chain.item)?;
+        reads_in(alloc, &counts)
+    }
+
+    /// Returns the segments of a chain, with this version at the line.
+    fn segments(
+        &self,
+        alloc: Global,
+        chain: &Chain,
+        at_line: usize,
+    ) -> Result<Vec<LaneSegment>, AllocError> {
+        let versions = self
+            .source
+            .versions(alloc, chain, at_line, self.reads_drawn)?;
+        versions.segments(alloc, &self.slots)
     }
 
     /// Returns a lane of a chain, whose version at the line is off by `off`.
@@ -172,19 +229,9 @@ impl<'a, 'b> SceneParts<'a, 'b> {
         at_line: usize,
         off: u64,
     ) -> Result<Lane<'a>, AllocError> {
-        let audited = self.source.audited;
-        let versions = self.source.versions(alloc, chain, at_line, self.reads)?;
-        let segments = versions.segments(alloc, &self.slots)?;
-        let counts = read_counts_by_value(alloc, self.source.trace, chain.item)?;
-        let drawn = versions_drawn(alloc, &segments)?;
-        Ok(Lane {
-            name: audited.items.name_of(chain.item.0).unwrap_or(""),
-            weight: audited.history.metric().distance(chain.item, 0, 1),
-            read: reads_in(alloc, &counts)?,
-            off,
-            segments,
-            transient_reads: transient_reads_of(audited, self.source.trace, chain, &drawn),
-        })
+        let segments = self.segments(alloc, chain, at_line)?;
+        let read = self.reads(alloc, chain)?;
+        self.lane_with(alloc, chain, segments, read, off)
     }
 
     /// Adds the lane of the chain at a position.
@@ -275,45 +322,71 @@ impl<'a, 'b> SceneParts<'a, 'b> {
         Ok(shown)
     }
 
-    /// Returns what is drawn.
-    fn scene(&self, alloc: Global) -> Result<Scene<'a>, AllocError> {
-        let sentences = sentences_of(alloc, self.source.audited, self.source.trace)?;
-        let arrows = self.arrows(alloc)?;
-        let updates = self.updates(alloc)?;
-        let lanes = self.lanes(alloc)?;
-        Ok(self.scene_of(sentences, updates, arrows, lanes))
+    /// Returns the name of the item of a chain.
+    fn item_name(&self, at: usize) -> &'a str {
+        let chain = self.source.problem().chains().get(at);
+        let item = chain.map_or(0, |chain| chain.item.0);
+        self.source.audited.items.name_of(item).unwrap_or("")
     }
 
-    /// Returns what is drawn, of these updates and lanes.
-    fn scene_of(
-        &self,
-        sentences: Vec<String>,
-        updates: Vec<Update<'a>>,
-        arrows: Vec<Arrow>,
-        lanes: Vec<Lane<'a>>,
-    ) -> Scene<'a> {
+    /// Returns the items without a lane that determine the position of the line.
+    fn deciding(&self, alloc: Global) -> Result<Deciding<'a>, AllocError> {
+        let all = &self.choice.deciding;
+        let mut names = Vec::new(alloc);
+        for at in first(all, MAX_NAMES) {
+            names.push(self.item_name(*at))?;
+        }
+        Ok(Deciding {
+            names,
+            count: all.len(),
+        })
+    }
+
+    /// Returns a scene with its numbers, and nothing else.
+    fn numbers(&self, alloc: Global) -> Scene<'a> {
         let audited = self.source.audited;
         let finding = audited.finding;
         let (others_off, others_sum) = others_off(&self.choice);
-        let without_lane = self.choice.crossings.len().saturating_sub(lanes.len());
+        let lanes = self.choice.lanes.len();
+        let without_lane = self.choice.crossings.len().saturating_sub(lanes);
         let committed = self.source.trace.committed;
         Scene {
-            errors: Vec::new(*sentences.allocator()),
+            errors: Vec::new(alloc),
             query: name_of_transaction(audited.transactions, finding.query),
             distance: finding.distance,
             import: finding.import,
-            sentences,
-            arrows,
+            sentences: Vec::new(alloc),
+            arrows: Vec::new(alloc),
             unwritten_items: self.choice.unwritten,
-            other_updates: committed.saturating_sub(updates.len() as u64),
+            other_updates: committed.saturating_sub(self.drawn.len() as u64),
             other_items: without_lane.saturating_sub(self.choice.unwritten),
             others_off,
             others_sum,
-            others_decide: self.choice.is_cheaper_elsewhere,
+            deciding: Deciding {
+                names: Vec::new(alloc),
+                count: 0,
+            },
             line: self.line,
-            updates,
-            lanes,
+            updates: Vec::new(alloc),
+            lanes: Vec::new(alloc),
         }
+    }
+
+    /// Adds what is drawn to a scene.
+    fn fill(&self, alloc: Global, scene: &mut Scene<'a>) -> Result<(), AllocError> {
+        scene.sentences = sentences_of(alloc, self.source.audited, self.source.trace)?;
+        scene.arrows = self.arrows(alloc)?;
+        scene.updates = self.updates(alloc)?;
+        scene.lanes = self.lanes(alloc)?;
+        scene.deciding = self.deciding(alloc)?;
+        Ok(())
+    }
+
+    /// Returns what is drawn.
+    fn scene(&self, alloc: Global) -> Result<Scene<'a>, AllocError> {
+        let mut scene = self.numbers(alloc);
+        self.fill(alloc, &mut scene)?;
+        Ok(scene)
     }
 }
 

@@ -6,7 +6,7 @@
 //! Both are drawn even if there is no space for the updates that they need; the line then crosses a dotted segment.
 //! Omitting such a lane would remove its difference from the sum, and the sum is the subject of the picture.
 
-use crate::required_lanes::{Costs, Places, against};
+use crate::required_lanes::{Costs, Places, against, all_against};
 use esr_cert::{Chain, Problem};
 use esr_svg::MAX_LANES;
 use esr_text::first;
@@ -35,8 +35,9 @@ pub struct Choice {
     pub before: Vec<u32>,
     /// Those after the line.
     pub after: Vec<u32>,
-    /// True if the drawn lanes cost less at another place than at the line.
-    pub is_cheaper_elsewhere: bool,
+    /// If the drawn lanes cost less at another place than at the line: the other lanes that cost more there, by their
+    /// positions among the chains, the costliest first.
+    pub deciding: Vec<usize>,
 }
 
 /// Returns for each of `count` positions whether it is in the set.
@@ -308,20 +309,24 @@ fn draw_lanes(
     Ok(lanes)
 }
 
-/// Returns whether these lanes together cost less at another place than at the line.
-fn is_cheaper_elsewhere(
+/// Returns the other lanes that cost more at the place where these lanes together cost least, if that is not the line.
+fn deciding(
     alloc: Global,
     problem: &Problem,
+    crossings: &[Crossing],
     lanes: &[usize],
     places: &Places,
-) -> Result<bool, AllocError> {
+) -> Result<Vec<usize>, AllocError> {
     let mut costs = Costs::none(alloc, problem.updates().len())?;
     for lane in lanes {
         if let Some(chain) = problem.chains().get(*lane) {
             costs.add(chain, places);
         }
     }
-    Ok(costs.cheaper_place(places).is_some())
+    match costs.cheaper_place(places) {
+        Some(place) => all_against(alloc, problem, crossings, places, place, lanes),
+        None => Ok(Vec::new(alloc)),
+    }
 }
 
 /// The updates before the line, and those after it.
@@ -405,7 +410,7 @@ fn choose_at(
 ) -> Result<Choice, AllocError> {
     let places = Places::new(alloc, inside, problem.must())?;
     let (lanes, updates) = draw(alloc, problem, &crossings, unwritten, &places, upper_bound)?;
-    let is_cheaper_elsewhere = is_cheaper_elsewhere(alloc, problem, &lanes, &places)?;
+    let deciding = deciding(alloc, problem, &crossings, &lanes, &places)?;
     let (before, after) = sides_of(alloc, &updates, inside)?;
     Ok(Choice {
         crossings,
@@ -413,7 +418,7 @@ fn choose_at(
         unwritten: unwritten.iter().filter(|is| **is).count(),
         before,
         after,
-        is_cheaper_elsewhere,
+        deciding,
     })
 }
 

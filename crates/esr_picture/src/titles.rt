@@ -73,6 +73,24 @@ fn push_writes(
     Ok(())
 }
 
+/// Appends the title of an update with these writes, which is before or after the line.
+fn push_update(
+    out: &mut String,
+    audited: &Audited<'_>,
+    update: TxnId,
+    writes: &[Access],
+    is_before: bool,
+) -> Result<(), AllocError> {
+    out.push_str(name_of_transaction(audited.transactions, update))?;
+    out.push_str(" wrote")?;
+    push_writes(out, audited, writes)?;
+    out.push_str(if is_before {
+        "; it is before the line"
+    } else {
+        "; it is after the line"
+    })
+}
+
 /// Returns the title of an update, which is before or after the line.
 pub fn update_title(
     alloc: Global,
@@ -81,14 +99,8 @@ pub fn update_title(
     is_before: bool,
 ) -> Result<String, AllocError> {
     let writes = writes_of(alloc, audited.history, update)?;
-    let mut title = String::from_str(alloc, name_of_transaction(audited.transactions, update))?;
-    title.push_str(" wrote")?;
-    push_writes(&mut title, audited, &writes)?;
-    title.push_str(if is_before {
-        "; it is before the line"
-    } else {
-        "; it is after the line"
-    })?;
+    let mut title = String::new(alloc);
+    push_update(&mut title, audited, update, &writes, is_before)?;
     Ok(title)
 }
 
@@ -172,6 +184,37 @@ fn push_conflict(
     }
 }
 
+/// Returns the conflict of two updates that is to be shown.
+fn conflict_between(
+    alloc: Global,
+    history: &History<Weighted>,
+    from: TxnId,
+    to: TxnId,
+) -> Result<Option<(ItemId, Conflict)>, AllocError> {
+    let touches = touches_of(alloc, history, from)?;
+    let accesses = accesses_of(alloc, history, to)?;
+    Ok(shown_conflict(&touches, &accesses))
+}
+
+/// Appends the reason why one update precedes another.
+fn push_reason(
+    out: &mut String,
+    audited: &Audited<'_>,
+    first: &str,
+    second: &str,
+    conflict: Option<(ItemId, Conflict)>,
+) -> Result<(), AllocError> {
+    match conflict {
+        Some((item, conflict)) => {
+            push_conflict(out, first, second, item_name(audited, item), conflict)
+        }
+        None => write!(
+            out,
+            "{first} precedes {second} because of updates between them that are not drawn"
+        ),
+    }
+}
+
 /// Returns the title of the arrow from one update to another.
 pub fn arrow_title(
     alloc: Global,
@@ -179,20 +222,10 @@ pub fn arrow_title(
     from: TxnId,
     to: TxnId,
 ) -> Result<String, AllocError> {
-    let touches = touches_of(alloc, audited.history, from)?;
-    let accesses = accesses_of(alloc, audited.history, to)?;
+    let conflict = conflict_between(alloc, audited.history, from, to)?;
     let first = name_of_transaction(audited.transactions, from);
     let second = name_of_transaction(audited.transactions, to);
     let mut title = String::new(alloc);
-    match shown_conflict(&touches, &accesses) {
-        Some((item, conflict)) => {
-            let item = item_name(audited, item);
-            push_conflict(&mut title, first, second, item, conflict)?;
-        }
-        None => write!(
-            title,
-            "{first} precedes {second} because of updates between them that are not drawn"
-        )?,
-    }
+    push_reason(&mut title, audited, first, second, conflict)?;
     Ok(title)
 }

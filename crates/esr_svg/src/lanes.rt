@@ -62,7 +62,7 @@ fn push_weight(out: &mut String, lane: &Lane<'_>, y: u32) -> Result<(), AllocErr
         return Ok(());
     }
     open_text(out, "m q", EDGE, y)?;
-    out.push_str("each x ")?;
+    out.push_str("weight ")?;
     push_number(out, lane.weight)?;
     out.push_str("</text>")
 }

@@ -2,7 +2,8 @@
 //! with arrows for the order that every placement preserves; and the nearest placement as a line across the lanes.
 //!
 //! A scene is plain data. The crate does not depend on histories, so it is proved in parallel with `esr_picture`, which
-//! chooses the content of the scene. No clause specifies the drawing.
+//! chooses the content of the scene. `svg_element` makes one well-formed element of any drawing, also of a timeline. No
+//! other clause specifies the drawing.
 #![tactic(auto)]
 
 mod boxes;
@@ -12,6 +13,7 @@ mod head;
 mod keys;
 mod lanes;
 mod parts;
+mod root;
 mod scene;
 mod slots;
 mod svg;
@@ -19,9 +21,10 @@ mod texts;
 mod widths;
 
 pub use frame::fitting_updates;
+pub use root::svg_element;
 pub use scene::{
-    Arrow, Lane, LanePart, LaneReads, LaneSegment, MAX_LANES, MAX_UPDATES, SameValue, Scene,
-    TransientRead, TransientReads, Update,
+    Arrow, Deciding, Lane, LanePart, LaneReads, LaneSegment, MAX_LANES, MAX_UPDATES, SameValue,
+    Scene, TransientRead, TransientReads, Update,
 };
 pub use svg::{Parts, parts_of};
 pub use texts::MAX_ERROR_LETTERS;

@@ -112,8 +112,9 @@ fn class_of(part: LanePart) -> &'static str {
 fn push_version(out: &mut String, value: i64, reads: u64) -> Result<(), AllocError> {
     push_value(out, value)?;
     if reads > 1 {
-        out.push_str(" x ")?;
+        out.push_str(", ")?;
         push_number(out, reads)?;
+        out.push_str(" reads")?;
     }
     Ok(())
 }

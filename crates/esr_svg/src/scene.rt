@@ -109,6 +109,15 @@ pub struct Update<'a> {
     pub title: String,
 }
 
+/// Items without a lane that determine the position of the line.
+#[derive(Drop)]
+pub struct Deciding<'a> {
+    /// The names of the first ones, those that matter most first.
+    pub names: Vec<&'a str>,
+    /// The number of all of them.
+    pub count: usize,
+}
+
 /// The content of the picture of a query's audit.
 #[derive(Drop)]
 pub struct Scene<'a> {
@@ -132,8 +141,8 @@ pub struct Scene<'a> {
     /// The number of those items that are off, and by how much together.
     pub others_off: usize,
     pub others_sum: u64,
-    /// True if items that are not drawn determine the position of the line.
-    pub others_decide: bool,
+    /// The items without a lane that keep the line from a position at which the lanes would be less far off.
+    pub deciding: Deciding<'a>,
 }
 
 impl Scene<'_> {

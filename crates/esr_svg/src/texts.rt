@@ -1,7 +1,7 @@
 //! The sentences of a picture, in lines as wide as it is.
 
 use crate::frame::EDGE;
-use crate::scene::Scene;
+use crate::scene::{Deciding, Scene};
 use esr_text::{first, push_count, push_number, wrap};
 use std::alloc::{AllocError, Global};
 
@@ -17,9 +17,6 @@ const MAX_SENTENCES: usize = 9;
 const MAX_ERRORS: usize = 7;
 
 pub const MAX_ERROR_LETTERS: usize = 240;
-
-/// The sentence for items that are not drawn and decide the position of the line.
-const OTHERS_DECIDE: &str = "These items keep the line from other positions.";
 
 /// A line in the box of errors.
 #[derive(Drop)]
@@ -136,9 +133,42 @@ fn push_rest(
     let mut words = String::new(alloc);
     push_others(&mut words, scene)?;
     sentences.push(words)?;
-    if scene.others_decide {
-        sentences.push(String::from_str(alloc, OTHERS_DECIDE)?)?;
+    Ok(())
+}
+
+/// Appends the first names, and the number of the others.
+fn push_names(out: &mut String, deciding: &Deciding<'_>) -> Result<(), AllocError> {
+    let mut joint = "";
+    for name in &deciding.names {
+        out.push_str(joint)?;
+        out.push_str(name)?;
+        joint = ", ";
     }
+    let others = deciding.count.saturating_sub(deciding.names.len());
+    if others > 0 {
+        out.push_str(" and ")?;
+        push_count(out, others as u64, " more item", " more items")?;
+    }
+    Ok(())
+}
+
+/// Adds the sentence on the items without a lane that determine the position of the line, if there are any.
+fn push_deciding(
+    alloc: Global,
+    sentences: &mut Vec<String>,
+    deciding: &Deciding<'_>,
+) -> Result<(), AllocError> {
+    if deciding.count == 0 {
+        return Ok(());
+    }
+    let mut words = String::new(alloc);
+    push_names(&mut words, deciding)?;
+    words.push_str(if deciding.count == 1 {
+        " keeps the line from a position at which these lanes would be less far off."
+    } else {
+        " keep the line from a position at which these lanes would be less far off."
+    })?;
+    sentences.push(words)?;
     Ok(())
 }
 
@@ -147,6 +177,7 @@ fn others_of(alloc: Global, scene: &Scene<'_>, width: u32) -> Result<Vec<String>
     let mut sentences = Vec::new(alloc);
     push_unwritten(alloc, &mut sentences, scene)?;
     push_rest(alloc, &mut sentences, scene)?;
+    push_deciding(alloc, &mut sentences, &scene.deciding)?;
     lines_of(alloc, &sentences, MAX_SENTENCES, width)
 }
 

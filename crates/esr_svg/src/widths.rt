@@ -35,10 +35,10 @@ pub fn label_width(lane: &Lane<'_>) -> u32 {
     width_of(letters.max(more_letters(&lane.read)).max(12))
 }
 
-/// Returns the letters of ` x ` and the number of reads, if there is more than one.
+/// Returns the letters of `, 2 reads` with the number of reads, if there is more than one.
 fn times_letters(reads: u64) -> usize {
     if reads > 1 {
-        number_letters(reads).saturating_add(3)
+        number_letters(reads).saturating_add(8)
     } else {
         0
     }

@@ -1,10 +1,9 @@
 //! Which charges explain the reads that are off.
 //!
-//! A read is off if the nearest placement has another value of its item. If the value read was older, the updates before
-//! the placement that overwrote it were charged for this item, and these charges explain the read. If it was newer, or
-//! did not last, its writer is not before the placement, and the charges of this writer explain it.
+//! A read is off if the nearest placement has another value of its item. All charges for this item explain it. If the
+//! writer of the value is not before the placement, its charges for other items explain why it is not.
 
-use crate::model::{Arrow, Source};
+use crate::model::{Arrow, Relation, Source};
 use esr_history::{Event, TxnId};
 use esr_items::{ItemId, Metric};
 use esr_outcomes::QueryAudit;
@@ -14,7 +13,7 @@ use std::alloc::{AllocError, Global};
 /// The distances of the items of a query that are off, by what explains them. All are 0 if the query is not off.
 #[derive(Drop)]
 pub struct Causes {
-    /// For each item that was read too early: its distance.
+    /// For each item: its distance.
     by_item: Vec<u64>,
     /// For each update by its number: the greatest distance of an item of which the query read its value too early.
     by_writer: Vec<u64>,
@@ -89,14 +88,40 @@ impl Causes {
         self.is_before.get(update.0 as usize) == Some(&true)
     }
 
-    /// Notes a read that is off, of an item with this distance.
-    fn note(&mut self, observed: &ObservedRead, distance: u64) {
-        match observed.writer {
-            Some(writer) if !self.has_before(writer) => {
-                raise(&mut self.by_writer, writer.0, distance);
-            }
-            _ => raise(&mut self.by_item, observed.item.0, distance),
+    /// Notes a read that is off.
+    fn note(&mut self, observed: &ObservedRead) {
+        let distance = at(&self.by_item, observed.item.0);
+        if let Some(writer) = observed.writer
+            && !self.has_before(writer)
+        {
+            raise(&mut self.by_writer, writer.0, distance);
         }
+    }
+
+    /// Notes the reads that are off.
+    fn note_all(&mut self, source: Source<'_>, observed_reads: &[ObservedRead]) {
+        for observed in observed_reads {
+            if distance_of(source, &self.nearest, observed) > 0 {
+                self.note(observed);
+            }
+        }
+    }
+
+    /// Notes the placement and the distances of a committed query with this audit.
+    fn fill(
+        &mut self,
+        alloc: Global,
+        source: Source<'_>,
+        audit: &QueryAudit,
+        trace: &QueryTrace,
+    ) -> Result<(), AllocError> {
+        let count = source.history.begun_count().saturating_add(1);
+        self.nearest = source.auditor.values_after(alloc, &audit.before)?;
+        self.by_item = distances_of(alloc, source, &self.nearest, &trace.observed_reads)?;
+        self.by_writer = vec![in alloc; 0u64; count]?;
+        self.is_before = flags_of(alloc, &audit.before, count)?;
+        self.note_all(source, &trace.observed_reads);
+        Ok(())
     }
 
     /// Returns the causes of a committed query with this audit.
@@ -106,20 +131,8 @@ impl Causes {
         audit: &QueryAudit,
         trace: &QueryTrace,
     ) -> Result<Causes, AllocError> {
-        let nearest = source.auditor.values_after(alloc, &audit.before)?;
-        let distances = distances_of(alloc, source, &nearest, &trace.observed_reads)?;
-        let count = source.history.begun_count().saturating_add(1);
-        let mut causes = Causes {
-            by_item: vec![in alloc; 0u64; distances.len()]?,
-            by_writer: vec![in alloc; 0u64; count]?,
-            is_before: flags_of(alloc, &audit.before, count)?,
-            nearest,
-        };
-        for observed in &trace.observed_reads {
-            if distance_of(source, &causes.nearest, observed) > 0 {
-                causes.note(observed, at(&distances, observed.item.0));
-            }
-        }
+        let mut causes = Causes::none(alloc);
+        causes.fill(alloc, source, audit, trace)?;
         Ok(causes)
     }
 
@@ -137,7 +150,7 @@ impl Causes {
     }
 
     /// Returns whether an event of an update before the placement writes the value that the item has there.
-    pub fn writes_nearest(&self, update: TxnId, event: Event) -> bool {
+    fn writes_nearest(&self, update: TxnId, event: Event) -> bool {
         let Event::Write { item, value, .. } = event else {
             return false;
         };
@@ -146,24 +159,43 @@ impl Causes {
 
     /// Returns the greatest distance of an item whose reads a charge explains, or 0.
     pub fn explained(&self, update: TxnId, item: ItemId) -> u64 {
-        let by_writer = at(&self.by_writer, update.0);
-        if self.has_before(update) {
-            by_writer.max(at(&self.by_item, item.0))
+        at(&self.by_writer, update.0).max(at(&self.by_item, item.0))
+    }
+
+    /// Returns how a charge for an event explains reads.
+    pub fn relation(&self, update: TxnId, item: ItemId, event: Event) -> Relation {
+        if self.writes_nearest(update, event) {
+            Relation::WritesNearest
+        } else if at(&self.by_writer, update.0) > at(&self.by_item, item.0) {
+            Relation::SameWriter
         } else {
-            by_writer
+            Relation::SameItem
         }
     }
 }
 
+/// Returns the rank of a relation, the closest first.
+fn rank_of(relation: Relation) -> u8 {
+    match relation {
+        Relation::WritesNearest => 0,
+        Relation::SameItem => 1,
+        Relation::SameWriter => 2,
+    }
+}
+
 /// Returns the indices of some charges: first those that explain reads, the greatest distance first, and of those for one
-/// item the write of its value in the nearest placement; then the greatest amounts.
+/// item the write of its value in the nearest placement, then those for the item; of equal ones the greatest amounts first.
 pub fn ranking(alloc: Global, arrows: &[Arrow<'_>]) -> Result<Vec<usize>, AllocError> {
     let mut ranks = Vec::new(alloc);
     for (index, arrow) in arrows.iter().enumerate() {
         let explained = u64::MAX.saturating_sub(arrow.explained);
-        let is_other = arrow.explained == 0 || !arrow.writes_nearest;
+        let relation = if arrow.explained == 0 {
+            0
+        } else {
+            rank_of(arrow.relation)
+        };
         let amount = u64::MAX.saturating_sub(arrow.amount);
-        ranks.push((explained, is_other, amount, index))?;
+        ranks.push((explained, relation, amount, index))?;
     }
     ranks.sort_unstable();
     ranks.iter().map(|rank| rank.3).collect(alloc)

@@ -3,10 +3,10 @@
 use crate::causes::{Causes, ranking};
 use crate::lanes::lane_at;
 use crate::marks::line_at;
-use crate::model::{Arrow, Lane, Source};
+use crate::model::{Arrow, Lane, Relation, Source};
 use esr_history::TxnId;
 use esr_items::Metric;
-use esr_trace_events::{Charge, Charges};
+use esr_trace_events::{Change, Charge, Charges};
 use std::alloc::{AllocError, Global};
 
 /// The queries whose charges are drawn.
@@ -37,21 +37,23 @@ fn arrow_of<'a>(
     place: usize,
     charge: &Charge,
 ) -> Arrow<'a> {
+    let Change { item, old, new } = charge.change;
+    let entry = source.history.log().get(place);
     Arrow {
         update: charge.update,
         from: lane_at(lanes, charge.update),
         to,
         place,
         line: line_at(source, place),
-        item: source.items.name_of(charge.item.0).unwrap_or(""),
-        weight: source.history.metric().distance(charge.item, 0, 1),
+        item: source.items.name_of(item.0).unwrap_or(""),
+        weight: source.history.metric().distance(item, 0, 1),
         amount: charge.amount,
-        explained: causes.explained(charge.update, charge.item),
-        writes_nearest: source
-            .history
-            .log()
-            .get(place)
-            .is_some_and(|entry| causes.writes_nearest(charge.update, entry.event)),
+        old,
+        new,
+        explained: causes.explained(charge.update, item),
+        relation: entry.map_or(Relation::SameItem, |entry| {
+            causes.relation(charge.update, item, entry.event)
+        }),
     }
 }
 
@@ -132,6 +134,26 @@ pub fn drawable<'a>(alloc: Global, arrows: &[Arrow<'a>]) -> Result<Vec<Arrow<'a>
         }
     }
     Ok(kept)
+}
+
+/// Returns the sum of the charges by an update.
+fn sum_by(arrows: &[Arrow<'_>], update: TxnId) -> u64 {
+    let mut sum = 0u64;
+    for arrow in arrows {
+        if arrow.update == update {
+            sum = sum.saturating_add(arrow.amount);
+        }
+    }
+    sum
+}
+
+/// Notes on the lanes of updates what was charged to them.
+pub fn note_exports(lanes: &mut [Lane<'_>], arrows: &[Arrow<'_>]) {
+    for lane in lanes {
+        if !lane.is_query() {
+            lane.charged = sum_by(arrows, lane.txn);
+        }
+    }
 }
 
 /// Returns the sum of some charges.

@@ -33,19 +33,6 @@ pub fn push_text(
     close_text(out)
 }
 
-/// Appends a text with its middle at x.
-pub fn push_centred(
-    out: &mut String,
-    class: &str,
-    x: u32,
-    y: u32,
-    words: &str,
-) -> Result<(), AllocError> {
-    open_centred(out, class, x, y)?;
-    out.push_str(words)?;
-    close_text(out)
-}
-
 /// Appends the start of a rectangle: its title and its end follow.
 pub fn open_rect(
     out: &mut String,

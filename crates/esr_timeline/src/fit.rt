@@ -1,11 +1,11 @@
-//! Fits a timeline into the maximum width. It is built with all events, and as long as it is too wide, with fewer:
-//! first without the labels of events on which no charge depends, then without these events, then with the first charges
-//! of a ranking only (`causes`).
+//! Fits a timeline into the maximum width, or into a few bands of it. It is built with all events, and as long as it
+//! does not fit, with fewer: first without the labels of events on which no charge depends, then without these events,
+//! then with the first charges of a ranking only (`causes`). One band is tried first, unless labels would be omitted.
 
 use crate::causes::Causes;
-use crate::charges::{Payers, between, charges_to, drawable, greatest, sum_of};
+use crate::charges::{Payers, between, charges_to, drawable, greatest, note_exports, sum_of};
 use crate::lanes::{MAX_LANES, concerned, farthest, first_begun, lanes_of};
-use crate::layout::{Layout, Spacing, layout_of};
+use crate::layout::{Drawn, Format, Layout, Spacing, layout_of};
 use crate::marks::{keys_of, mark_keys, mark_query_reads, marks_of, marks_on};
 use crate::model::{Arrow, Lane, Mark, Order, Rest, Scene, Source};
 use esr_history::TxnId;
@@ -14,8 +14,23 @@ use esr_text::first;
 use esr_trace::{QueryTrace, trace_of};
 use std::alloc::{AllocError, Global};
 
-/// No timeline is wider, unless one event is.
-const WIDEST: u32 = 1080;
+/// The wide layout of a timeline: no band is wider, unless one event is.
+const WIDE_FORMAT: Format = Format {
+    width: 1064,
+    bands: 3,
+};
+
+/// The narrow layout of a timeline of one query, for phones.
+const NARROW_FORMAT: Format = Format {
+    width: 360,
+    bands: 12,
+};
+
+/// The narrow layout of a whole script, which shows all that the wide one shows.
+const WHOLE_NARROW_FORMAT: Format = Format {
+    width: 360,
+    bands: FEW_ENTRIES,
+};
 
 /// A script with at most this many transactions and entries is drawn as a whole, if it fits.
 const FEW_ENTRIES: usize = 120;
@@ -64,6 +79,22 @@ const TIGHT: Spacing = Spacing {
     has_all_labels: false,
     pitch: 14,
 };
+
+/// The stages that omit nothing.
+static ALL: [Stage; 3] = [
+    Stage {
+        detail: Detail::All,
+        spacing: WIDE,
+    },
+    Stage {
+        detail: Detail::All,
+        spacing: CLOSE,
+    },
+    Stage {
+        detail: Detail::All,
+        spacing: SNUG,
+    },
+];
 
 /// The stages of a whole script.
 static WHOLE: [Stage; 4] = [
@@ -197,6 +228,10 @@ static BEGINNING: [Stage; 4] = [
     },
 ];
 
+fn all() -> &'static [Stage] {
+    &ALL
+}
+
 fn whole() -> &'static [Stage] {
     &WHOLE
 }
@@ -216,10 +251,17 @@ pub struct Picture<'a> {
     pub layout: Layout<'a>,
 }
 
-impl Picture<'_> {
-    /// Returns whether it is narrow enough.
-    fn fits(&self) -> bool {
-        self.layout.right <= WIDEST
+/// Both layouts of a timeline.
+#[derive(Drop)]
+pub struct Pictures<'a> {
+    pub wide: Picture<'a>,
+    pub narrow: Picture<'a>,
+}
+
+impl Pictures<'_> {
+    /// Returns whether nothing is cut off.
+    fn fit(&self) -> bool {
+        self.wide.layout.is_complete && self.narrow.layout.is_complete
     }
 }
 
@@ -231,6 +273,27 @@ struct Material<'a> {
     lanes: Vec<Lane<'a>>,
     marks: Vec<Mark<'a>>,
     charges: Vec<Arrow<'a>>,
+}
+
+/// What is drawn at a stage.
+#[derive(Drop)]
+struct Choice<'a> {
+    lanes: Vec<Lane<'a>>,
+    marks: Vec<Mark<'a>>,
+    arrows: Vec<Arrow<'a>>,
+    /// The number of events on these lanes that are not drawn.
+    hidden: usize,
+}
+
+impl<'a> Choice<'a> {
+    /// Returns it by reference.
+    fn drawn(&self) -> Drawn<'a, '_> {
+        Drawn {
+            lanes: &self.lanes,
+            marks: &self.marks,
+            arrows: &self.arrows,
+        }
+    }
 }
 
 /// Returns the lanes of the query and of the updates of these charges.
@@ -249,6 +312,26 @@ fn lanes_in<'a>(
     Ok(kept)
 }
 
+/// Returns the lanes of these marks.
+fn lanes_of_marks<'a>(
+    alloc: Global,
+    lanes: &[Lane<'a>],
+    marks: &[Mark<'a>],
+) -> Result<Vec<Lane<'a>>, AllocError> {
+    let mut kept = Vec::new(alloc);
+    for (number, lane) in lanes.iter().enumerate() {
+        if marks.iter().any(|mark| mark.lane == number) {
+            kept.push(*lane)?;
+        }
+    }
+    Ok(kept)
+}
+
+/// Returns whether blocked events are drawn.
+fn has_blocked(detail: Detail) -> bool {
+    !matches!(detail, Detail::Greatest(upper_bound) if upper_bound < 16)
+}
+
 impl<'a> Material<'a> {
     /// Returns the lanes that are drawn, of which these charges are drawn.
     fn lanes(
@@ -259,7 +342,8 @@ impl<'a> Material<'a> {
     ) -> Result<Vec<Lane<'a>>, AllocError> {
         match detail {
             Detail::Greatest(_) => lanes_in(alloc, &self.lanes, arrows, self.query),
-            Detail::All | Detail::Keys | Detail::First(_) => self.lanes.to_vec(alloc),
+            Detail::First(count) => lanes_of_marks(alloc, &self.lanes, first(&self.marks, count)),
+            Detail::All | Detail::Keys => self.lanes.to_vec(alloc),
         }
     }
 
@@ -273,47 +357,70 @@ impl<'a> Material<'a> {
     }
 
     /// Returns what is not drawn.
-    fn rest(&self, lanes: usize, events: usize, arrows: &[Arrow<'a>]) -> Rest {
+    fn rest(&self, choice: &Choice<'a>) -> Rest {
         let begun = self.source.history.begun_count();
-        let charges = self.charges.len().saturating_sub(arrows.len());
+        let charges = self.charges.len().saturating_sub(choice.arrows.len());
         Rest {
-            transactions: begun.saturating_sub(lanes) as u64,
-            events: events as u64,
+            transactions: begun.saturating_sub(choice.lanes.len()) as u64,
+            events: choice.hidden as u64,
             charges: charges as u64,
-            amount: sum_of(&self.charges).saturating_sub(sum_of(arrows)),
+            amount: sum_of(&self.charges).saturating_sub(sum_of(&choice.arrows)),
         }
     }
 
-    /// Returns the timeline with these lanes and charges.
-    fn picture_of(
+    /// Returns the marks on these lanes, with those on which these charges depend as keys.
+    fn marks(
         &self,
         alloc: Global,
-        stage: Stage,
-        lanes: Vec<Lane<'a>>,
-        arrows: Vec<Arrow<'a>>,
-    ) -> Result<Picture<'a>, AllocError> {
-        let mut all = marks_on(alloc, &self.marks, &self.lanes, &lanes)?;
-        let has_blocked =
-            !matches!(stage.detail, Detail::Greatest(upper_bound) if upper_bound < 16);
-        mark_keys(&mut all, &arrows, has_blocked);
-        if stage.detail == Detail::All {
-            mark_query_reads(&mut all, &lanes);
+        detail: Detail,
+        lanes: &[Lane<'a>],
+        arrows: &[Arrow<'a>],
+    ) -> Result<Vec<Mark<'a>>, AllocError> {
+        let mut all = marks_on(alloc, &self.marks, &self.lanes, lanes)?;
+        mark_keys(&mut all, arrows, has_blocked(detail));
+        if detail == Detail::All {
+            mark_query_reads(&mut all, lanes);
         }
-        let marks = drawn_marks(alloc, &all, stage.detail)?;
-        let arrows = shown(alloc, &arrows, &marks)?;
-        let layout = layout_of(alloc, &lanes, &marks, &arrows, stage.spacing)?;
-        let hidden = all.len().saturating_sub(marks.len());
-        let rest = self.rest(lanes.len(), hidden, &arrows);
-        let all_charges = between(alloc, &self.charges, &self.lanes, &lanes)?;
-        let scene = Scene {
-            query: self.query_name(),
-            lanes,
-            arrows,
-            all_charges,
-            order: self.order(),
-            rest,
+        Ok(all)
+    }
+
+    /// Chooses the marks on the lanes, and omits the charges whose marks are not drawn.
+    fn choose_marks(
+        &self,
+        alloc: Global,
+        detail: Detail,
+        choice: &mut Choice<'a>,
+    ) -> Result<(), AllocError> {
+        let all = self.marks(alloc, detail, &choice.lanes, &choice.arrows)?;
+        choice.marks = drawn_marks(alloc, &all, detail)?;
+        choice.hidden = all.len().saturating_sub(choice.marks.len());
+        choice.arrows = shown(alloc, &choice.arrows, &choice.marks)?;
+        Ok(())
+    }
+
+    /// Chooses what is drawn.
+    fn choose(
+        &self,
+        alloc: Global,
+        detail: Detail,
+        choice: &mut Choice<'a>,
+    ) -> Result<(), AllocError> {
+        let arrows = self.arrows(alloc, detail)?;
+        choice.lanes = self.lanes(alloc, detail, &arrows)?;
+        choice.arrows = between(alloc, &arrows, &self.lanes, &choice.lanes)?;
+        self.choose_marks(alloc, detail, choice)
+    }
+
+    /// Returns what is drawn.
+    fn choice(&self, alloc: Global, detail: Detail) -> Result<Choice<'a>, AllocError> {
+        let mut choice = Choice {
+            lanes: Vec::new(alloc),
+            marks: Vec::new(alloc),
+            arrows: Vec::new(alloc),
+            hidden: 0,
         };
-        Ok(Picture { scene, layout })
+        self.choose(alloc, detail, &mut choice)?;
+        Ok(choice)
     }
 
     /// Returns which charges are drawn first.
@@ -333,30 +440,93 @@ impl<'a> Material<'a> {
         Some(name_of_transaction(self.source.transactions, query))
     }
 
-    /// Returns the timeline at a stage.
-    fn picture(&self, alloc: Global, stage: Stage) -> Result<Picture<'a>, AllocError> {
-        let arrows = self.arrows(alloc, stage.detail)?;
-        let lanes = self.lanes(alloc, stage.detail, &arrows)?;
-        let moved = between(alloc, &arrows, &self.lanes, &lanes)?;
-        self.picture_of(alloc, stage, lanes, moved)
+    /// Returns the scene of a choice.
+    fn scene(&self, choice: Choice<'a>, all_charges: Vec<Arrow<'a>>) -> Scene<'a> {
+        let rest = self.rest(&choice);
+        let Choice { lanes, arrows, .. } = choice;
+        Scene {
+            query: self.query_name(),
+            lanes,
+            arrows,
+            all_charges,
+            order: self.order(),
+            rest,
+        }
     }
 
-    /// Returns the timeline at the first stage at which it fits, or at the last one.
-    fn fitting(&self, alloc: Global, stages: &[Stage]) -> Result<Picture<'a>, AllocError> {
-        let mut found = self.picture(
-            alloc,
-            Stage {
-                detail: Detail::All,
-                spacing: WIDE,
-            },
-        )?;
+    /// Returns the timeline of a choice.
+    fn picture_of(
+        &self,
+        alloc: Global,
+        choice: Choice<'a>,
+        layout: Layout<'a>,
+    ) -> Result<Picture<'a>, AllocError> {
+        let all_charges = between(alloc, &self.charges, &self.lanes, &choice.lanes)?;
+        let scene = self.scene(choice, all_charges);
+        Ok(Picture { scene, layout })
+    }
+
+    /// Returns the timeline at a stage.
+    fn picture(
+        &self,
+        alloc: Global,
+        stage: Stage,
+        format: Format,
+    ) -> Result<Picture<'a>, AllocError> {
+        let choice = self.choice(alloc, stage.detail)?;
+        let layout = layout_of(alloc, choice.drawn(), stage.spacing, format)?;
+        self.picture_of(alloc, choice, layout)
+    }
+
+    /// Returns the timeline at the first stage at which it fits.
+    fn first_fitting(
+        &self,
+        alloc: Global,
+        stages: &[Stage],
+        format: Format,
+    ) -> Result<Option<Picture<'a>>, AllocError> {
         for stage in stages {
-            if found.fits() {
-                return Ok(found);
+            let picture = self.picture(alloc, *stage, format)?;
+            if picture.layout.is_complete {
+                return Ok(Some(picture));
             }
-            found = self.picture(alloc, *stage)?;
         }
-        Ok(found)
+        Ok(None)
+    }
+
+    /// Returns the timeline in one band if nothing has to be omitted, else at the first stage at which it fits, or at the
+    /// last one.
+    fn fitting(
+        &self,
+        alloc: Global,
+        stages: &[Stage],
+        format: Format,
+    ) -> Result<Picture<'a>, AllocError> {
+        let width = format.width;
+        if let Some(picture) = self.first_fitting(alloc, all(), Format { width, bands: 1 })? {
+            return Ok(picture);
+        }
+        if let Some(picture) = self.first_fitting(alloc, stages, format)? {
+            return Ok(picture);
+        }
+        let last = Stage {
+            detail: Detail::All,
+            spacing: TIGHT,
+        };
+        self.picture(alloc, stages.last().copied().unwrap_or(last), format)
+    }
+
+    /// Returns both layouts.
+    fn pictures(
+        &self,
+        alloc: Global,
+        stages: &[Stage],
+        narrow: Format,
+    ) -> Result<Pictures<'a>, AllocError> {
+        Ok(Pictures {
+            wide: self.fitting(alloc, stages, WIDE_FORMAT)?,
+            narrow: self.fitting(alloc, stages, narrow)?,
+        })
     }
 }
 
@@ -391,28 +561,81 @@ fn shown<'a>(
     Ok(kept)
 }
 
+/// Returns the material on these lanes, with these charges.
+fn material_on<'a>(
+    alloc: Global,
+    source: Source<'a>,
+    query: Option<TxnId>,
+    mut lanes: Vec<Lane<'a>>,
+    charges: Vec<Arrow<'a>>,
+) -> Result<Material<'a>, AllocError> {
+    note_exports(&mut lanes, &charges);
+    let marks = marks_of(alloc, source, &lanes)?;
+    Ok(Material {
+        source,
+        query,
+        lanes,
+        marks,
+        charges,
+    })
+}
+
+/// Returns the charges to a query, whose lane is the only one.
+fn charges_of<'a>(
+    alloc: Global,
+    source: Source<'a>,
+    query: TxnId,
+    trace: &QueryTrace,
+    own: &[Lane<'a>],
+) -> Result<Vec<Arrow<'a>>, AllocError> {
+    let causes = Causes::of(alloc, source, query, trace)?;
+    charges_to(alloc, source, &causes, own, Payers::One(query))
+}
+
+/// Returns the lanes of a query with these charges and of the transactions that concern it.
+fn lanes_about<'a>(
+    alloc: Global,
+    source: Source<'a>,
+    query: TxnId,
+    trace: &QueryTrace,
+    charges: &[Arrow<'a>],
+) -> Result<Vec<Lane<'a>>, AllocError> {
+    let chosen = concerned(alloc, source, query, trace, charges)?;
+    lanes_of(alloc, source, &chosen)
+}
+
+/// Returns the material of a query, which has this lane.
+fn material_about<'a>(
+    alloc: Global,
+    source: Source<'a>,
+    query: TxnId,
+    trace: &QueryTrace,
+    own: &[Lane<'a>],
+) -> Result<Material<'a>, AllocError> {
+    let all = charges_of(alloc, source, query, trace, own)?;
+    let lanes = lanes_about(alloc, source, query, trace, &all)?;
+    let charges = between(alloc, &all, own, &lanes)?;
+    material_on(alloc, source, Some(query), lanes, charges)
+}
+
 /// Returns the timeline of a query and the transactions that concern it.
 pub fn timeline_of_query<'a>(
     alloc: Global,
     source: Source<'a>,
     query: TxnId,
     trace: &QueryTrace,
-) -> Result<Picture<'a>, AllocError> {
-    let causes = Causes::of(alloc, source, query, trace)?;
+) -> Result<Pictures<'a>, AllocError> {
     let own = lanes_of(alloc, source, &[query])?;
-    let all = charges_to(alloc, source, &causes, &own, Payers::One(query))?;
-    let chosen = concerned(alloc, source, query, trace, &all)?;
+    let material = material_about(alloc, source, query, trace, &own)?;
+    material.pictures(alloc, one(), NARROW_FORMAT)
+}
+
+/// Returns the material of the transactions that began first.
+fn material_of_first<'a>(alloc: Global, source: Source<'a>) -> Result<Material<'a>, AllocError> {
+    let chosen = first_begun(alloc, source, MAX_LANES)?;
     let lanes = lanes_of(alloc, source, &chosen)?;
-    let charges = between(alloc, &all, &own, &lanes)?;
-    let marks = marks_of(alloc, source, &lanes)?;
-    let material = Material {
-        source,
-        query: Some(query),
-        lanes,
-        marks,
-        charges,
-    };
-    material.fitting(alloc, one())
+    let charges = charges_to(alloc, source, &Causes::none(alloc), &lanes, Payers::All)?;
+    material_on(alloc, source, None, lanes, charges)
 }
 
 /// Returns the timeline of the transactions that began first.
@@ -420,19 +643,10 @@ fn timeline_of_first<'a>(
     alloc: Global,
     source: Source<'a>,
     stages: &[Stage],
-) -> Result<Picture<'a>, AllocError> {
-    let chosen = first_begun(alloc, source, MAX_LANES)?;
-    let lanes = lanes_of(alloc, source, &chosen)?;
-    let charges = charges_to(alloc, source, &Causes::none(alloc), &lanes, Payers::All)?;
-    let marks = marks_of(alloc, source, &lanes)?;
-    let material = Material {
-        source,
-        query: None,
-        lanes,
-        marks,
-        charges,
-    };
-    material.fitting(alloc, stages)
+    narrow: Format,
+) -> Result<Pictures<'a>, AllocError> {
+    let material = material_of_first(alloc, source)?;
+    material.pictures(alloc, stages, narrow)
 }
 
 /// Returns whether a script is so short that it may be drawn as a whole.
@@ -440,23 +654,42 @@ fn is_short(source: Source<'_>) -> bool {
     source.history.begun_count() <= MAX_LANES && source.history.log().len() <= FEW_ENTRIES
 }
 
-/// Returns the timeline of a whole script if it is short and fits, else of the query with the greatest distance, and of the
-/// transactions that began first if no query has committed.
-pub fn timeline_of_script<'a>(
+/// Returns the timeline of a whole script if it is short and fits.
+fn timeline_of_whole<'a>(
     alloc: Global,
     source: Source<'a>,
-) -> Result<Picture<'a>, AllocError> {
-    if is_short(source) {
-        let picture = timeline_of_first(alloc, source, whole())?;
-        if picture.fits() {
-            return Ok(picture);
-        }
+) -> Result<Option<Pictures<'a>>, AllocError> {
+    if !is_short(source) {
+        return Ok(None);
     }
+    let pictures = timeline_of_first(alloc, source, whole(), WHOLE_NARROW_FORMAT)?;
+    if pictures.fit() {
+        Ok(Some(pictures))
+    } else {
+        Ok(None)
+    }
+}
+
+/// Returns the timeline of the query with the greatest distance, and of the transactions that began first if no query has
+/// committed.
+fn timeline_of_farthest<'a>(alloc: Global, source: Source<'a>) -> Result<Pictures<'a>, AllocError> {
     match farthest(alloc, source.auditor)? {
         Some(query) => {
             let trace = trace_of(alloc, source.history, query)?;
             timeline_of_query(alloc, source, query, &trace)
         }
-        None => timeline_of_first(alloc, source, beginning()),
+        None => timeline_of_first(alloc, source, beginning(), NARROW_FORMAT),
+    }
+}
+
+/// Returns the timeline of a whole script if it is short and fits, else of the query with the greatest distance, and of the
+/// transactions that began first if no query has committed.
+pub fn timeline_of_script<'a>(
+    alloc: Global,
+    source: Source<'a>,
+) -> Result<Pictures<'a>, AllocError> {
+    match timeline_of_whole(alloc, source)? {
+        Some(pictures) => Ok(pictures),
+        None => timeline_of_farthest(alloc, source),
     }
 }

@@ -2,31 +2,57 @@
 //! most 0.61 of its height wide, so the width of a text is known in advance.
 //!
 //! Each mark has its own column. The distance of two columns is such that the labels of a lane do not overlap; the
-//! labels of two lanes cannot overlap.
+//! labels of two lanes cannot overlap. Columns that are too many for one row continue in a further band below, with the
+//! lanes of the transactions that are active there.
 
+use crate::edges::{Edges, outcome_width, step_rows};
 use crate::model::{Action, Arrow, Lane, Mark};
 use crate::titles::kind_of;
 use esr_history::MAX_LIMIT;
-use esr_text::{letters_of, number_letters};
-use esr_trace::outcome_words;
+use esr_text::number_letters;
 use std::alloc::{AllocError, Global};
 
 /// The width of a letter of a label.
-pub const LETTER: u32 = 7;
+const LETTER: u32 = 7;
 
 /// The width of a letter of a name.
 const NAME_LETTER: u32 = 8;
 
 /// The least distance of two labels.
-const GAP: u32 = 8;
+pub const GAP: u32 = 8;
 
 /// The left edge of the picture.
 pub const EDGE: u32 = 20;
 
 /// The height of the lane of an update, and of that of a query.
-const UPDATE_HEIGHT: u32 = 60;
+const UPDATE_HEIGHT: u32 = 66;
 
-const QUERY_HEIGHT: u32 = 88;
+const QUERY_HEIGHT: u32 = 104;
+
+/// From row to row of the axis.
+pub const STEP_ROW: u32 = 13;
+
+/// What is drawn: marks and charges in the order of their entries.
+#[derive(Clone, Copy)]
+pub struct Drawn<'a, 'b> {
+    pub lanes: &'b [Lane<'a>],
+    pub marks: &'b [Mark<'a>],
+    pub arrows: &'b [Arrow<'a>],
+}
+
+/// Which labels are drawn, and the least distance of two columns.
+#[derive(Clone, Copy)]
+pub struct Spacing {
+    pub has_all_labels: bool,
+    pub pitch: u32,
+}
+
+/// The width of the bands, unless one event is wider, and their maximum number.
+#[derive(Clone, Copy)]
+pub struct Format {
+    pub width: u32,
+    pub bands: usize,
+}
 
 /// A mark with its column.
 #[derive(Clone, Copy)]
@@ -34,58 +60,53 @@ pub struct Column<'a> {
     pub mark: Mark<'a>,
     pub x: u32,
     pub has_label: bool,
+    /// The row of its step on the axis.
+    pub row: usize,
 }
 
-/// The columns, and the sizes of the lanes.
+/// The part of a lane in a band.
+#[derive(Clone, Copy)]
+pub struct Span {
+    /// The upper edge below that of the band.
+    top: u32,
+    pub start: u32,
+    pub end: u32,
+    /// False if the transaction is not active in the band.
+    pub is_drawn: bool,
+    /// True if it begins in the band.
+    pub has_head: bool,
+    /// True if it ends in the band, or is active after the last one.
+    pub has_outcome: bool,
+}
+
+/// Columns next to each other, with the lanes of the transactions that are active there.
 #[derive(Drop)]
-pub struct Layout<'a> {
+pub struct Band<'a> {
     pub columns: Vec<Column<'a>>,
-    /// The upper edges of the lanes below the heading, and the lower edge of the last one.
-    tops: Vec<u32>,
-    /// The height of the heading.
-    pub heading: u32,
+    pub spans: Vec<Span>,
+    /// The upper edge.
+    pub top: u32,
+    /// The height of the lanes.
+    height: u32,
     /// The left edge of the lanes.
     pub left: u32,
-    /// The right edge of the lanes of active transactions.
-    pub open_end: u32,
+    /// The number of rows of the axis.
+    rows: u32,
+}
+
+/// The bands of a timeline.
+#[derive(Drop)]
+pub struct Layout<'a> {
+    pub bands: Vec<Band<'a>>,
     /// The right edge of all lanes and their outcomes.
     pub right: u32,
+    /// False if there are more columns than the bands have.
+    pub is_complete: bool,
 }
 
 /// Returns the width of a number of letters.
 pub fn width_of(letters: usize) -> u32 {
     (letters.min(400) as u32).saturating_mul(LETTER)
-}
-
-/// Returns half of the width of a number of letters.
-fn half_of(letters: usize) -> u32 {
-    width_of(letters).div_ceil(2)
-}
-
-/// Returns the letters below a mark.
-fn value_letters(mark: &Mark<'_>) -> usize {
-    match mark.action {
-        Action::Read { value, nearest } => {
-            let there = nearest.map_or(0, |there| letters_of(there).saturating_add(5));
-            letters_of(value).saturating_add(there)
-        }
-        Action::Write { value } => letters_of(value),
-        Action::Blocked { times, .. } => {
-            let count = if times > 1 {
-                number_letters(times).saturating_add(2)
-            } else {
-                0
-            };
-            // "limit of " has 9 letters, as "its limit" has.
-            mark.blocker.len().saturating_add(9).saturating_add(count)
-        }
-        Action::Begin | Action::Commit | Action::Abort => 0,
-    }
-}
-
-/// Returns half of the width of the labels of a mark.
-fn half_label(mark: &Mark<'_>) -> u32 {
-    half_of(mark.item.len().max(value_letters(mark)))
 }
 
 /// Returns the letters in front of a lane.
@@ -109,225 +130,339 @@ fn heads_width(lanes: &[Lane<'_>]) -> u32 {
     width
 }
 
-/// Returns the width of the outcome of a lane.
-fn outcome_width(lane: &Lane<'_>) -> u32 {
-    let words = outcome_words(lane.outcome).len();
-    width_of(match lane.distance {
-        Some(distance) => number_letters(distance).saturating_add(7).max(words),
-        None => words,
-    })
-}
-
-/// Returns the upper edges of the lanes below the heading, and the lower edge of the last one.
-fn tops_of(alloc: Global, lanes: &[Lane<'_>]) -> Result<Vec<u32>, AllocError> {
-    let mut tops = Vec::new(alloc);
-    let mut top = 0u32;
-    for lane in lanes {
-        tops.push(top)?;
-        top = top.saturating_add(if lane.is_query() {
-            QUERY_HEIGHT
-        } else {
-            UPDATE_HEIGHT
-        });
-    }
-    tops.push(top)?;
-    Ok(tops)
-}
-
-/// The right edge of the labels of each lane, and of the amounts of charges below each lane.
-#[derive(Drop)]
-struct Edges {
-    labels: Vec<u32>,
-    amounts: Vec<u32>,
-}
-
-impl Edges {
-    fn new(alloc: Global, lanes: usize, left: u32) -> Result<Edges, AllocError> {
-        Ok(Edges {
-            labels: vec![in alloc; left; lanes]?,
-            amounts: vec![in alloc; left; lanes]?,
-        })
-    }
-
-    /// Returns the least x at which a label of a lane meets no other one.
-    fn least_for_label(&self, lane: usize, half: u32) -> u32 {
-        let edge = self.labels.get(lane).copied().unwrap_or(0);
-        edge.saturating_add(GAP).saturating_add(half)
-    }
-
-    /// Returns the least x at which the amounts of these charges meet no other ones, and the arrows no labels of the query.
-    fn least_for_charges(&self, arrows: &[Arrow<'_>]) -> u32 {
-        let mut least = 0u32;
-        for arrow in arrows {
-            let edge = self.amounts.get(arrow.to).copied().unwrap_or(0);
-            least = least.max(edge.saturating_add(GAP).saturating_add(amount_half(arrow)));
-            if is_downward(arrow) {
-                least = least.max(self.least_for_label(arrow.to, 0));
-            }
-        }
-        least
-    }
-
-    /// Notes a label of a lane at x.
-    fn note_label(&mut self, lane: usize, x: u32, half: u32) {
-        if let Some(edge) = self.labels.get_mut(lane) {
-            *edge = x.saturating_add(half);
-        }
-    }
-
-    /// Notes the amounts of these charges at x, and the arrows.
-    fn note_charges(&mut self, arrows: &[Arrow<'_>], x: u32) {
-        for arrow in arrows {
-            if let Some(edge) = self.amounts.get_mut(arrow.to) {
-                *edge = x.saturating_add(amount_half(arrow));
-            }
-            if is_downward(arrow)
-                && let Some(edge) = self.labels.get_mut(arrow.to)
-            {
-                *edge = x.max(*edge);
-            }
-        }
-    }
-}
-
-/// Returns whether the arrow of a charge leads down to the lane of the query, past the labels of its marks.
-fn is_downward(arrow: &Arrow<'_>) -> bool {
-    arrow.from.is_some_and(|from| from < arrow.to)
-}
-
-/// Returns half of the width of the amount of a charge, with its sign.
-fn amount_half(arrow: &Arrow<'_>) -> u32 {
-    half_of(number_letters(arrow.amount).saturating_add(1))
+/// Returns the charges from one entry to another, among charges in the order of their entries.
+fn charges_between<'a: 'b, 'b>(
+    arrows: &'b [Arrow<'a>],
+    first: usize,
+    last: usize,
+) -> &'b [Arrow<'a>] {
+    let end = arrows.partition_point(|arrow| arrow.place <= last);
+    let start = arrows.partition_point(|arrow| arrow.place < first).min(end);
+    &arrows[start..end]
 }
 
 /// Returns the charges of an entry, among charges in the order of their entries.
 pub fn charges_at<'a: 'b, 'b>(arrows: &'b [Arrow<'a>], place: usize) -> &'b [Arrow<'a>] {
-    let end = arrows.partition_point(|arrow| arrow.place <= place);
-    let start = arrows.partition_point(|arrow| arrow.place < place).min(end);
-    &arrows[start..end]
+    charges_between(arrows, place, place)
 }
 
 /// Returns the charges up to an entry, among charges in the order of their entries.
 pub fn charges_at_or_before<'a: 'b, 'b>(arrows: &'b [Arrow<'a>], place: usize) -> &'b [Arrow<'a>] {
-    let end = arrows.partition_point(|arrow| arrow.place <= place);
-    &arrows[..end]
+    charges_between(arrows, 0, place)
 }
 
-/// Which labels are drawn, and the least distance of two columns.
-#[derive(Clone, Copy)]
-pub struct Spacing {
-    pub has_all_labels: bool,
-    pub pitch: u32,
-}
-
-/// Returns the columns of the marks.
-fn columns_of<'a>(
-    alloc: Global,
-    marks: &[Mark<'a>],
-    arrows: &[Arrow<'a>],
-    edges: &mut Edges,
-    left: u32,
+/// Returns the column of a mark after a column at `x`.
+fn column_of<'a>(
+    drawn: Drawn<'a, '_>,
+    edges: &Edges,
+    mark: &Mark<'a>,
+    x: u32,
     spacing: Spacing,
+) -> Column<'a> {
+    let mut column = Column {
+        mark: *mark,
+        x: x.saturating_add(spacing.pitch),
+        has_label: spacing.has_all_labels || mark.is_key,
+        row: 0,
+    };
+    let charges = charges_at(drawn.arrows, mark.place);
+    column.x = column.x.max(edges.least(&column, charges));
+    column.row = edges.row_of(&column);
+    column
+}
+
+/// Returns the columns of a band from the mark at an index on, as many as fit, and one at least.
+fn columns_from<'a>(
+    alloc: Global,
+    drawn: Drawn<'a, '_>,
+    from: usize,
+    edges: &mut Edges,
+    spacing: Spacing,
+    limit: u32,
 ) -> Result<Vec<Column<'a>>, AllocError> {
-    let mut columns = Vec::new(alloc);
-    let mut x = left;
-    for mark in marks {
-        let has_label = spacing.has_all_labels || mark.is_some_eq;
-        let half = if has_label { half_label(mark) } else { 0 };
-        let charges = charges_at(arrows, mark.place);
-        x = x
-            .saturating_add(spacing.pitch)
-            .max(edges.least_for_label(mark.lane, half))
-            .max(edges.least_for_charges(charges));
-        edges.note_label(mark.lane, x, half);
-        edges.note_charges(charges, x);
-        columns.push(Column {
-            mark: *mark,
-            x,
-            has_label,
-        })?;
+    let mut columns: Vec<Column<'a>> = Vec::new(alloc);
+    let mut x = edges.left();
+    for mark in drawn.marks.get(from..).unwrap_or(&[]) {
+        let column = column_of(drawn, edges, mark, x, spacing);
+        let charges = charges_at(drawn.arrows, mark.place);
+        if !columns.is_empty() && edges.reach(drawn.lanes, &column, charges) > limit {
+            break;
+        }
+        edges.note(drawn.lanes, &column, charges);
+        x = column.x;
+        columns.push(column)?;
     }
     Ok(columns)
 }
 
-/// Returns the farthest that any label or amount reaches.
-fn farthest_edge(edges: &Edges) -> u32 {
-    let mut farthest = 0u32;
-    for edge in &edges.labels {
-        farthest = farthest.max(*edge);
-    }
-    for edge in &edges.amounts {
-        farthest = farthest.max(*edge);
-    }
-    farthest
+/// Returns the columns of the next band, and raises the right edge of all labels.
+fn next_columns<'a>(
+    alloc: Global,
+    drawn: Drawn<'a, '_>,
+    from: usize,
+    left: u32,
+    farthest: &mut u32,
+    (spacing, limit): (Spacing, u32),
+) -> Result<Vec<Column<'a>>, AllocError> {
+    let mut edges = Edges::new(alloc, drawn.lanes.len(), left)?;
+    let columns = columns_from(alloc, drawn, from, &mut edges, spacing, limit)?;
+    let last = columns.last().map_or(left, |column| column.x);
+    *farthest = edges.farthest().max(last).max(*farthest);
+    Ok(columns)
 }
 
-/// Returns where a lane begins and ends.
-fn span_of(columns: &[Column<'_>], lane: usize, left: u32, open_end: u32) -> (u32, u32) {
-    let mut start = left;
-    let mut end = open_end;
-    for column in columns {
-        if column.mark.lane == lane {
-            match column.mark.action {
-                Action::Begin => start = column.x,
-                Action::Commit | Action::Abort => end = column.x,
+/// The entries at which the transaction of a lane begins and ends, if these are drawn.
+#[derive(Clone, Copy)]
+struct Life {
+    begin: Option<usize>,
+    end: Option<usize>,
+}
+
+/// Returns the lives of the transactions of the lanes.
+fn lives_of(alloc: Global, drawn: Drawn<'_, '_>) -> Result<Vec<Life>, AllocError> {
+    let unborn = Life {
+        begin: None,
+        end: None,
+    };
+    let mut lives = vec![in alloc; unborn; drawn.lanes.len()]?;
+    for mark in drawn.marks {
+        if let Some(life) = lives.get_mut(mark.lane) {
+            match mark.action {
+                Action::Begin => life.begin = Some(mark.place),
+                Action::Commit | Action::Abort => life.end = Some(mark.place),
                 _ => {}
             }
         }
     }
-    (start, end)
+    Ok(lives)
 }
 
-/// Returns the right edge of the outcomes of the lanes.
-fn outcomes_edge(lanes: &[Lane<'_>], columns: &[Column<'_>], left: u32, open_end: u32) -> u32 {
+/// Returns the column of an entry.
+pub fn column_at<'a, 'b>(columns: &'b [Column<'a>], place: usize) -> Option<&'b Column<'a>> {
+    let index = columns
+        .binary_search_by_key(&place, |column| column.mark.place)
+        .ok()?;
+    columns.get(index)
+}
+
+/// Returns the x of an entry, if it has a column.
+fn x_of(columns: &[Column<'_>], place: Option<usize>) -> Option<u32> {
+    column_at(columns, place?).map(|column| column.x)
+}
+
+/// Returns whether a transaction is active at some of these columns.
+fn is_active(columns: &[Column<'_>], life: Life) -> bool {
+    let (Some(first), Some(last)) = (columns.first(), columns.last()) else {
+        return false;
+    };
+    let has_begun = life.begin.is_some_and(|begin| begin <= last.mark.place);
+    has_begun && life.end.is_none_or(|end| end >= first.mark.place)
+}
+
+/// Returns the part of a lane in a band with these columns.
+fn span_of(columns: &[Column<'_>], life: Life, left: u32, open_end: u32, is_last: bool) -> Span {
+    let start = x_of(columns, life.begin);
+    let end = x_of(columns, life.end);
+    Span {
+        top: 0,
+        start: start.unwrap_or(left),
+        end: end.unwrap_or(open_end),
+        is_drawn: is_active(columns, life),
+        has_head: start.is_some(),
+        has_outcome: end.is_some() || (is_last && life.end.is_none()),
+    }
+}
+
+/// Returns the height of the part of a lane.
+fn height_of(lane: &Lane<'_>, span: &Span) -> u32 {
+    match (span.is_drawn, lane.is_query()) {
+        (false, _) => 0,
+        (true, false) => UPDATE_HEIGHT,
+        (true, true) => QUERY_HEIGHT,
+    }
+}
+
+/// Adds the parts of the lanes in a band, one below another.
+fn push_spans(
+    band: &mut Band<'_>,
+    lanes: &[Lane<'_>],
+    lives: &[Life],
+    open_end: u32,
+    is_last: bool,
+) -> Result<(), AllocError> {
+    for (lane, life) in lanes.iter().zip(lives.iter()) {
+        let mut span = span_of(&band.columns, *life, band.left, open_end, is_last);
+        span.top = band.height;
+        band.height = band.height.saturating_add(height_of(lane, &span));
+        band.spans.push(span)?;
+    }
+    Ok(())
+}
+
+/// Returns the width that the outcomes of active transactions need.
+fn open_width(lanes: &[Lane<'_>], lives: &[Life]) -> u32 {
+    let mut width = 0u32;
+    for (lane, life) in lanes.iter().zip(lives.iter()) {
+        if life.end.is_none() {
+            width = width.max(outcome_width(lane).saturating_add(GAP));
+        }
+    }
+    width
+}
+
+/// Returns a band without lanes.
+fn band_of<'a>(alloc: Global, columns: Vec<Column<'a>>, left: u32) -> Band<'a> {
+    let rows = step_rows(&columns);
+    Band {
+        columns,
+        spans: Vec::new(alloc),
+        top: 0,
+        height: 0,
+        left,
+        rows,
+    }
+}
+
+/// Returns the bands without lanes, and raises the right edge of all labels.
+fn bands_of<'a>(
+    alloc: Global,
+    drawn: Drawn<'a, '_>,
+    farthest: &mut u32,
+    rule: (Spacing, u32),
+    bands: usize,
+) -> Result<Vec<Band<'a>>, AllocError> {
+    let left = *farthest;
+    let mut all = Vec::new(alloc);
+    let mut from = 0usize;
+    for _ in 0..bands {
+        let columns = next_columns(alloc, drawn, from, left, farthest, rule)?;
+        from = from.saturating_add(columns.len());
+        all.push(band_of(alloc, columns, left))?;
+        if from >= drawn.marks.len() {
+            break;
+        }
+    }
+    Ok(all)
+}
+
+/// Returns how many columns some bands have.
+fn count_columns(bands: &[Band<'_>]) -> usize {
+    let mut count = 0usize;
+    for band in bands {
+        count = count.saturating_add(band.columns.len());
+    }
+    count
+}
+
+/// Returns the right edge of the outcomes of the lanes in a band.
+fn outcomes_edge(lanes: &[Lane<'_>], band: &Band<'_>) -> u32 {
     let mut edge = 0u32;
-    for (number, lane) in lanes.iter().enumerate() {
-        let (_, end) = span_of(columns, number, left, open_end);
-        edge = edge.max(end.saturating_add(GAP).saturating_add(outcome_width(lane)));
+    for (lane, span) in lanes.iter().zip(band.spans.iter()) {
+        if span.has_outcome {
+            let width = outcome_width(lane).saturating_add(GAP);
+            edge = edge.max(span.end.saturating_add(width));
+        }
     }
     edge
+}
+
+/// Adds the lanes to the bands. Returns the right edge of the outcomes.
+fn fill_bands(
+    bands: &mut [Band<'_>],
+    lanes: &[Lane<'_>],
+    lives: &[Life],
+    open_end: u32,
+) -> Result<u32, AllocError> {
+    let last = bands.len().saturating_sub(1);
+    let mut right = open_end;
+    let mut number = 0usize;
+    for band in bands {
+        push_spans(band, lanes, lives, open_end, number == last)?;
+        right = right.max(outcomes_edge(lanes, band));
+        number = number.saturating_add(1);
+    }
+    Ok(right)
 }
 
 /// Returns the sizes of a timeline without its heading.
 pub fn layout_of<'a>(
     alloc: Global,
-    lanes: &[Lane<'a>],
-    marks: &[Mark<'a>],
-    arrows: &[Arrow<'a>],
+    drawn: Drawn<'a, '_>,
     spacing: Spacing,
+    format: Format,
 ) -> Result<Layout<'a>, AllocError> {
-    let left = heads_width(lanes).saturating_add(EDGE);
-    let mut edges = Edges::new(alloc, lanes.len(), left)?;
-    let columns = columns_of(alloc, marks, arrows, &mut edges, left, spacing)?;
-    let tops = tops_of(alloc, lanes)?;
-    let last = columns.last().map_or(left, |column| column.x);
-    let open_end = last.max(farthest_edge(&edges)).saturating_add(GAP);
-    let right = outcomes_edge(lanes, &columns, left, open_end).max(open_end);
+    let lives = lives_of(alloc, drawn)?;
+    let limit = format.width.saturating_sub(open_width(drawn.lanes, &lives));
+    let mut farthest = heads_width(drawn.lanes).saturating_add(EDGE);
+    let rule = (spacing, limit);
+    let mut bands = bands_of(alloc, drawn, &mut farthest, rule, format.bands)?;
+    let open_end = farthest.saturating_add(GAP);
+    let right = fill_bands(&mut bands, drawn.lanes, &lives, open_end)?;
+    let is_complete = count_columns(&bands) == drawn.marks.len();
     Ok(Layout {
-        columns,
-        tops,
-        heading: 0,
-        left,
-        open_end,
+        bands,
         right,
+        is_complete,
     })
 }
 
-impl Layout<'_> {
+impl<'a> Band<'a> {
+    /// Returns the part of a lane.
+    pub fn span(&self, lane: usize) -> Span {
+        let none = Span {
+            top: 0,
+            start: 0,
+            end: 0,
+            is_drawn: false,
+            has_head: false,
+            has_outcome: false,
+        };
+        self.spans.get(lane).copied().unwrap_or(none)
+    }
+
     /// Returns the upper edge of a lane.
-    pub fn top(&self, lane: usize) -> u32 {
-        let below = self.tops.get(lane).copied().unwrap_or(0);
-        self.heading.saturating_add(below)
+    pub fn lane_top(&self, lane: usize) -> u32 {
+        self.top.saturating_add(self.span(lane).top)
     }
 
     /// Returns the lower edge of the lanes.
     pub fn floor(&self) -> u32 {
-        let below = self.tops.last().copied().unwrap_or(0);
-        self.heading.saturating_add(below)
+        self.top.saturating_add(self.height)
     }
 
-    /// Returns where a lane begins and ends.
-    pub fn span(&self, lane: usize) -> (u32, u32) {
-        span_of(&self.columns, lane, self.left, self.open_end)
+    /// Returns the lower edge of the axis.
+    pub fn bottom(&self) -> u32 {
+        let axis = self.rows.saturating_mul(STEP_ROW).saturating_add(6);
+        self.floor().saturating_add(axis)
+    }
+
+    /// Returns the charges of its columns, among charges in the order of their entries.
+    pub fn charges<'b>(&self, arrows: &'b [Arrow<'a>]) -> &'b [Arrow<'a>] {
+        match (self.columns.first(), self.columns.last()) {
+            (Some(first), Some(last)) => {
+                charges_between(arrows, first.mark.place, last.mark.place)
+            }
+            _ => &[],
+        }
+    }
+
+    /// Returns the charges before its columns, among charges in the order of their entries.
+    pub fn charges_before<'b>(&self, arrows: &'b [Arrow<'a>]) -> &'b [Arrow<'a>] {
+        match self.columns.first().map(|column| column.mark.place) {
+            Some(place) if place > 0 => charges_at_or_before(arrows, place.saturating_sub(1)),
+            _ => &[],
+        }
+    }
+}
+
+impl Layout<'_> {
+    /// Places the bands below one another, the first at this height. Returns the lower edge of the last one.
+    pub fn stack(&mut self, top: u32) -> u32 {
+        let mut bottom = top;
+        for band in &mut self.bands {
+            band.top = bottom;
+            bottom = band.bottom().saturating_add(14);
+        }
+        bottom
     }
 }

@@ -1,7 +1,7 @@
 //! The legend: what each sign means, of those that occur, in rows as wide as the picture.
 
 use crate::elements::{push_circle, push_cross, push_rect, push_square, push_text};
-use crate::layout::{EDGE, Layout};
+use crate::layout::{Band, EDGE, Layout};
 use crate::limits::has_bar;
 use crate::model::{Action, Lane, Scene};
 use esr_outcomes::TxnOutcome;
@@ -46,29 +46,34 @@ fn words_of(key: Key) -> &'static str {
         Key::Off => "read that is off",
         Key::Write => "write",
         Key::Blocked => "blocked",
-        Key::Charge => "charge, with its amount",
+        Key::Charge => "charge for a change",
         Key::Limit => "used part of the limit",
         Key::Open => "aborted or still active",
     }
 }
 
-/// Returns whether a column has an action of a kind.
-fn has_action(layout: &Layout<'_>, key: Key) -> bool {
-    layout.columns.iter().any(|column| {
-        matches!(
-            (key, column.mark.action),
-            (Key::Read, Action::Read { nearest: None, .. })
-                | (
-                    Key::Off,
-                    Action::Read {
-                        nearest: Some(_),
-                        ..
-                    }
-                )
-                | (Key::Write, Action::Write { .. })
-                | (Key::Blocked, Action::Blocked { .. })
-        )
-    })
+/// Returns whether an action is of a kind.
+fn is_of(action: Action, key: Key) -> bool {
+    matches!(
+        (key, action),
+        (Key::Read, Action::Read { nearest: None, .. })
+            | (
+                Key::Off,
+                Action::Read {
+                    nearest: Some(_),
+                    ..
+                }
+            )
+            | (Key::Write, Action::Write { .. })
+            | (Key::Blocked, Action::Blocked { .. })
+    )
+}
+
+/// Returns whether a band has an action of a kind.
+fn has_action(band: &Band<'_>, key: Key) -> bool {
+    band.columns
+        .iter()
+        .any(|column| is_of(column.mark.action, key))
 }
 
 /// Returns whether the bar of the limit of a lane is filled.
@@ -79,7 +84,9 @@ fn is_filled(lane: &Lane<'_>) -> bool {
 /// Returns whether a key occurs.
 fn occurs(scene: &Scene<'_>, layout: &Layout<'_>, key: Key) -> bool {
     match key {
-        Key::Read | Key::Off | Key::Write | Key::Blocked => has_action(layout, key),
+        Key::Read | Key::Off | Key::Write | Key::Blocked => {
+            layout.bands.iter().any(|band| has_action(band, key))
+        }
         Key::Charge => !scene.arrows.is_empty(),
         Key::Limit => scene.lanes.iter().any(is_filled),
         Key::Open => scene

@@ -1,7 +1,7 @@
 //! The bar of a limit below the lane of a query, which fills up with each charge.
 
 use crate::elements::push_rect;
-use crate::layout::{Layout, charges_at_or_before};
+use crate::layout::{Band, charges_at_or_before};
 use crate::model::{Arrow, Lane, Scene};
 use esr_history::MAX_LIMIT;
 use std::alloc::AllocError;
@@ -10,7 +10,7 @@ use std::alloc::AllocError;
 const HEIGHT: u32 = 10;
 
 /// From the upper edge of a lane to its bar.
-const BELOW: u32 = 61;
+const BELOW: u32 = 75;
 
 /// Returns the height of an amount in a bar, at least 2 if there is any.
 fn height_of(amount: u64, limit: u64) -> u32 {
@@ -51,32 +51,33 @@ fn charged(arrows: &[Arrow<'_>], lane: usize) -> u64 {
     sum
 }
 
-/// Appends the parts of a bar.
+/// Appends the parts of a bar in a band.
 fn push_parts(
     out: &mut String,
     scene: &Scene<'_>,
-    layout: &Layout<'_>,
+    band: &Band<'_>,
     number: usize,
     limit: u64,
     top: u32,
 ) -> Result<(), AllocError> {
-    let (start, end) = layout.span(number);
+    let span = band.span(number);
+    let before = charged(band.charges_before(&scene.all_charges), number);
     let mut part = Part {
-        start,
-        end: start,
-        height: 0,
+        start: span.start,
+        end: span.start,
+        height: height_of(before, limit),
     };
-    for column in &layout.columns {
+    for column in &band.columns {
         let arrows = charges_at_or_before(&scene.all_charges, column.mark.place);
         let height = height_of(charged(arrows, number), limit);
-        if height != part.height && column.x >= start && column.x <= end {
+        if height != part.height && column.x >= span.start && column.x <= span.end {
             part.end = column.x;
             push_part(out, part, top)?;
             part.start = column.x;
             part.height = height;
         }
     }
-    part.end = end;
+    part.end = span.end;
     push_part(out, part, top)
 }
 
@@ -85,19 +86,20 @@ pub fn has_bar(lane: &Lane<'_>) -> bool {
     lane.is_query() && lane.limit > 0 && lane.limit < MAX_LIMIT
 }
 
-/// Appends the bar of the limit of a lane, if it has one.
+/// Appends the bar of the limit of a lane in a band, if it has one.
 pub fn push_limit(
     out: &mut String,
     scene: &Scene<'_>,
-    layout: &Layout<'_>,
+    band: &Band<'_>,
     number: usize,
     lane: &Lane<'_>,
 ) -> Result<(), AllocError> {
     if !has_bar(lane) {
         return Ok(());
     }
-    let top = layout.top(number).saturating_add(BELOW);
-    let (start, end) = layout.span(number);
-    push_parts(out, scene, layout, number, lane.limit, top)?;
-    push_rect(out, "lf", start, top, end.saturating_sub(start), HEIGHT)
+    let top = band.lane_top(number).saturating_add(BELOW);
+    let span = band.span(number);
+    push_parts(out, scene, band, number, lane.limit, top)?;
+    let width = span.end.saturating_sub(span.start);
+    push_rect(out, "lf", span.start, top, width, HEIGHT)
 }

@@ -107,7 +107,7 @@ fn mark_of<'a>(
         action,
         item: item_name(source, entry.event),
         blocker: blocker_name(source, entry.reply),
-        is_some_eq: false,
+        is_key: false,
     })
 }
 
@@ -170,6 +170,24 @@ impl<'a> Marks<'a> {
     }
 }
 
+/// Adds the marks on some lanes, in the order of their entries.
+fn push_marks<'a>(
+    all: &mut Marks<'a>,
+    source: Source<'a>,
+    lanes: &[Lane<'a>],
+    nearest: &[Vec<i64>],
+) -> Result<(), AllocError> {
+    let log = source.history.log();
+    for place in 0..log.len() {
+        if let Some(entry) = log.get(place)
+            && let Some(mark) = mark_of(source, lanes, nearest, place, entry)
+        {
+            all.push(mark)?;
+        }
+    }
+    Ok(())
+}
+
 /// Returns the marks on some lanes, in the order of their entries.
 pub fn marks_of<'a>(
     alloc: Global,
@@ -181,14 +199,7 @@ pub fn marks_of<'a>(
         marks: Vec::new(alloc),
         last: vec![in alloc; None; lanes.len()]?,
     };
-    let log = source.history.log();
-    for place in 0..log.len() {
-        if let Some(entry) = log.get(place)
-            && let Some(mark) = mark_of(source, lanes, &nearest, place, entry)
-        {
-            all.push(mark)?;
-        }
-    }
+    push_marks(&mut all, source, lanes, &nearest)?;
     let Marks { marks, .. } = all;
     Ok(marks)
 }
@@ -240,12 +251,12 @@ fn mark_charge(marks: &mut [Mark<'_>], arrow: &Arrow<'_>) {
     if let Some(index) = index_at(marks, arrow.place)
         && let Some(mark) = marks.get_mut(index)
     {
-        mark.is_some_eq = true;
+        mark.is_key = true;
     }
     if let Some(index) = read_before(marks, arrow)
         && let Some(mark) = marks.get_mut(index)
     {
-        mark.is_some_eq = true;
+        mark.is_key = true;
     }
 }
 
@@ -263,7 +274,7 @@ pub fn is_off(action: Action) -> bool {
 fn mark_blocked(marks: &mut [Mark<'_>], has_blocked: bool) {
     for index in 0..marks.len() {
         if let Some(mark) = marks.get_mut(index) {
-            mark.is_some_eq = has_blocked && (is_blocked(mark.action) || is_off(mark.action));
+            mark.is_key = has_blocked && (is_blocked(mark.action) || is_off(mark.action));
         }
     }
 }
@@ -296,7 +307,7 @@ fn write_of(marks: &[Mark<'_>], read: &Mark<'_>) -> Option<usize> {
 /// Marks the event at an index.
 fn mark_at(marks: &mut [Mark<'_>], index: usize) {
     if let Some(mark) = marks.get_mut(index) {
-        mark.is_some_eq = true;
+        mark.is_key = true;
     }
 }
 
@@ -386,7 +397,7 @@ pub fn is_bound(action: Action) -> bool {
 pub fn keys_of<'a>(alloc: Global, marks: &[Mark<'a>]) -> Result<Vec<Mark<'a>>, AllocError> {
     let mut keys = Vec::new(alloc);
     for mark in marks {
-        if mark.is_some_eq || is_bound(mark.action) {
+        if mark.is_key || is_bound(mark.action) {
             keys.push(*mark)?;
         }
     }

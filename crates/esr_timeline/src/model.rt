@@ -26,7 +26,7 @@ pub struct Lane<'a> {
     pub name: &'a str,
     pub kind: TxnKind,
     pub limit: u64,
-    /// The import of a query.
+    /// The import of a query; of an update the sum of its charges to the queries that are drawn.
     pub charged: u64,
     pub outcome: TxnOutcome,
     /// The distance of a committed query.
@@ -84,7 +84,7 @@ pub struct Mark<'a> {
     /// The transaction that blocked the event, or nothing.
     pub blocker: &'a str,
     /// True if a drawn charge depends on it, or if it was blocked.
-    pub is_some_eq: bool,
+    pub is_key: bool,
 }
 
 /// A charge, from an update to the query of a lane.
@@ -102,10 +102,31 @@ pub struct Arrow<'a> {
     /// The factor of differences of the item.
     pub weight: u64,
     pub amount: u64,
+    /// The values whose difference was charged.
+    pub old: i64,
+    pub new: i64,
     /// The greatest distance of an item whose reads the charge explains, or 0.
     pub explained: u64,
-    /// True if it is for a write of the value that the item has in the nearest placement.
-    pub writes_nearest: bool,
+    pub relation: Relation,
+}
+
+impl Arrow<'_> {
+    /// Returns how often the difference was charged: once for each read of the item.
+    pub fn reads(&self) -> u64 {
+        let difference = self.old.abs_diff(self.new).saturating_mul(self.weight);
+        self.amount.checked_div(difference).unwrap_or(1)
+    }
+}
+
+/// The relation of a charge to the reads that it explains.
+#[derive(Clone, Copy, PartialEq, Eq)]
+pub enum Relation {
+    /// It is for a write of the value that the item has in the nearest placement.
+    WritesNearest,
+    /// It is for the item.
+    SameItem,
+    /// It is for another item, by the update that wrote the value that was read.
+    SameWriter,
 }
 
 /// Which charges are drawn first if there is no space for all.

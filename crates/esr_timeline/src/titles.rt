@@ -3,6 +3,7 @@
 use crate::model::{Action, Arrow, Cause, Lane, Mark};
 use esr_outcomes::TxnKind;
 use esr_text::{push_number, push_value};
+use esr_trace::outcome_words;
 use std::alloc::AllocError;
 
 /// Appends the step of an entry, as `explain` counts it, and its line.
@@ -118,5 +119,33 @@ pub fn push_charge_title(
     push_step(out, arrow.place, arrow.line)?;
     write!(out, "{update} charged {query} ")?;
     push_number(out, arrow.amount)?;
-    write!(out, " for {item}</title>")
+    write!(out, " for {item}: ")?;
+    push_change(out, arrow)?;
+    out.push_str("</title>")
+}
+
+/// Appends the values whose difference was charged, and how often if more than once.
+pub fn push_change(out: &mut String, arrow: &Arrow<'_>) -> Result<(), AllocError> {
+    push_value(out, arrow.old)?;
+    out.push_str(" to ")?;
+    push_value(out, arrow.new)?;
+    let reads = arrow.reads();
+    if reads > 1 {
+        out.push_str(", ")?;
+        push_number(out, reads)?;
+        out.push_str(" reads")?;
+    }
+    Ok(())
+}
+
+/// Appends the outcome of a lane as a phrase.
+pub fn push_outcome_words(out: &mut String, lane: &Lane<'_>) -> Result<(), AllocError> {
+    out.push_str(outcome_words(lane.outcome))?;
+    match lane.distance {
+        Some(distance) => {
+            out.push_str(", off by ")?;
+            push_number(out, distance)
+        }
+        None => Ok(()),
+    }
 }

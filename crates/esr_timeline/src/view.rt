@@ -1,15 +1,15 @@
 //! The timeline as a text of a script, and as a part of a page.
 
 ghost use Rattle.std.specs.Prelude.{IfOk, string_bytes};
-ghost use Rattle.esr_picture.specs.Picture.{IsSvg};
+ghost use Rattle.esr_svg.specs.Svg.{IsSvg};
 
 use crate::drawing::{Parts, parts_of};
-use crate::fit::{Picture, timeline_of_query, timeline_of_script};
+use crate::fit::{Pictures, timeline_of_query, timeline_of_script};
 use crate::model::Source;
 use esr_history::TxnId;
 use esr_lint::Notes;
 use esr_outcomes::Auditor;
-use esr_picture::svg_element;
+use esr_svg::svg_element;
 use esr_trace::{Audited, Part, QueryTrace, trace_of};
 use esr_views::{Recording, ScriptView};
 use std::alloc::{AllocError, Global};
@@ -23,10 +23,10 @@ pub struct Timeline<'a> {
 }
 
 /// Returns the element of a timeline.
-fn svg_of<'a>(alloc: Global, mut picture: Picture<'a>, errors: u64) -> Result<String, AllocError>
+fn svg_of<'a>(alloc: Global, mut pictures: Pictures<'a>, errors: u64) -> Result<String, AllocError>
     ensures { IfOk result (λ text. IsSvg (string_bytes text)) }
 {
-    let Parts { attributes, body } = parts_of(alloc, &mut picture, errors)?;
+    let Parts { attributes, body } = parts_of(alloc, &mut pictures, errors)?;
     svg_element(alloc, attributes, body)
 }
 
@@ -50,13 +50,25 @@ fn source_of<'a>(recording: &'a Recording<'_>, auditor: &'a Auditor<'a>) -> Sour
 }
 
 /// Returns the timeline of a query.
-fn picture_of_query<'a>(
+fn pictures_of_query<'a>(
     alloc: Global,
     source: Source<'a>,
     query: TxnId,
-) -> Result<Picture<'a>, AllocError> {
+) -> Result<Pictures<'a>, AllocError> {
     let trace = trace_of(alloc, source.history, query)?;
     timeline_of_query(alloc, source, query, &trace)
+}
+
+/// Returns the timeline of a query, or of the whole script.
+fn pictures_of<'a>(
+    alloc: Global,
+    source: Source<'a>,
+    query: Option<TxnId>,
+) -> Result<Pictures<'a>, AllocError> {
+    match query {
+        Some(query) => pictures_of_query(alloc, source, query),
+        None => timeline_of_script(alloc, source),
+    }
 }
 
 /// Returns the text of a timeline.
@@ -70,11 +82,8 @@ fn text_about<'a>(
 {
     let auditor = Auditor::of(alloc, &recording.history)?;
     let source = source_of(recording, &auditor);
-    let picture = match query {
-        Some(query) => picture_of_query(alloc, source, query)?,
-        None => timeline_of_script(alloc, source)?,
-    };
-    let text = svg_of(alloc, picture, errors)?;
+    let pictures = pictures_of(alloc, source, query)?;
+    let text = svg_of(alloc, pictures, errors)?;
     Ok(text.into_bytes())
 }
 
@@ -120,7 +129,7 @@ impl Part for TimelinePart {
             auditor,
             lines,
         };
-        let picture = timeline_of_query(alloc, source, audited.finding.query, trace)?;
-        out.push_str(&svg_of(alloc, picture, 0)?)
+        let pictures = timeline_of_query(alloc, source, audited.finding.query, trace)?;
+        out.push_str(&svg_of(alloc, pictures, 0)?)
     }
 }

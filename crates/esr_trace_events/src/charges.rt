@@ -12,8 +12,18 @@ use std::alloc::{AllocError, Global};
 pub struct Charge {
     pub update: TxnId,
     pub query: TxnId,
-    pub item: ItemId,
+    pub change: Change,
     pub amount: u64,
+}
+
+/// The difference that a charge is for.
+#[derive(Clone, Copy)]
+pub struct Change {
+    pub item: ItemId,
+    /// The committed value if the item was read, and the current one if it was written.
+    pub old: i64,
+    /// The value that was read or written.
+    pub new: i64,
 }
 
 /// A replay that returns the charges of each entry.
@@ -24,6 +34,30 @@ pub struct Charges<'a> {
     readers: Vec<Vec<TxnId>>,
     /// What each query imported by the last entry and is not returned yet, by its number.
     amounts: Vec<u64>,
+}
+
+/// Returns the change that an event would be charged for, if it is a read or a write.
+fn change_of(machine: &Machine<MetricRef<'_, Weighted>>, event: Event) -> Option<Change> {
+    let item = match event {
+        Event::Read { item, .. } | Event::Write { item, .. } => item,
+        _ => return None,
+    };
+    if item.0 >= machine.history().items() {
+        return None;
+    }
+    let current = machine.current(item);
+    Some(match event {
+        Event::Write { value, .. } => Change {
+            item,
+            old: current,
+            new: value,
+        },
+        _ => Change {
+            item,
+            old: machine.committed(item),
+            new: current,
+        },
+    })
 }
 
 /// Returns no readers of any item.
@@ -79,7 +113,7 @@ impl<'a> Charges<'a> {
         alloc: Global,
         queries: &[TxnId],
         update: TxnId,
-        item: ItemId,
+        change: Change,
     ) -> Result<Vec<Charge>, AllocError> {
         let mut charges = Vec::new(alloc);
         for query in queries {
@@ -92,7 +126,7 @@ impl<'a> Charges<'a> {
                 charges.push(Charge {
                     update,
                     query: *query,
-                    item,
+                    change,
                     amount,
                 })?;
             }
@@ -105,8 +139,9 @@ impl<'a> Charges<'a> {
         &mut self,
         alloc: Global,
         txn: TxnId,
-        item: ItemId,
+        change: Change,
     ) -> Result<Vec<Charge>, AllocError> {
+        let item = change.item;
         if let Some(readers) = self.readers.get_mut(item.0 as usize) {
             readers.push(txn)?;
         }
@@ -114,7 +149,7 @@ impl<'a> Charges<'a> {
             return Ok(Vec::new(alloc));
         }
         match self.replay.machine().writer(item) {
-            Some(update) => self.charges_to(alloc, &[txn], update, item),
+            Some(update) => self.charges_to(alloc, &[txn], update, change),
             None => Ok(Vec::new(alloc)),
         }
     }
@@ -124,28 +159,32 @@ impl<'a> Charges<'a> {
         &mut self,
         alloc: Global,
         update: TxnId,
-        item: ItemId,
+        change: Change,
     ) -> Result<Vec<Charge>, AllocError> {
-        let Some(readers) = self.readers.get_mut(item.0 as usize) else {
+        let Some(readers) = self.readers.get_mut(change.item.0 as usize) else {
             return Ok(Vec::new(alloc));
         };
         let queries = active(alloc, self.replay.machine(), readers)?;
         *readers = queries.to_vec(alloc)?;
-        self.charges_to(alloc, &queries, update, item)
+        self.charges_to(alloc, &queries, update, change)
     }
 
     /// Executes the next entry. Returns its charges.
     pub fn step(&mut self, alloc: Global) -> Result<Vec<Charge>, AllocError> {
-        let entry = self.replay.next();
+        let Some(entry) = self.replay.next() else {
+            return Ok(Vec::new(alloc));
+        };
+        let change = change_of(self.replay.machine(), entry.event);
         if self.replay.step().is_err() {
             return Err(AllocError);
         }
         self.note_imports();
-        match entry.map(|entry| (entry.event, entry.reply)) {
-            Some((Event::Read { txn, item }, Reply::Value(_))) => self.note_read(alloc, txn, item),
-            Some((Event::Write { txn, item, .. }, Reply::Wrote)) => {
-                self.note_write(alloc, txn, item)
-            }
+        let Some(change) = change else {
+            return Ok(Vec::new(alloc));
+        };
+        match (entry.event, entry.reply) {
+            (Event::Read { txn, .. }, Reply::Value(_)) => self.note_read(alloc, txn, change),
+            (Event::Write { txn, .. }, Reply::Wrote) => self.note_write(alloc, txn, change),
             _ => Ok(Vec::new(alloc)),
         }
     }

@@ -243,7 +243,7 @@ fn push_flow_end(
     open_event(out, "charge", "charge", phase, txn, time)?;
     push_more_number(out, "id", id)?;
     out.push_str(",\"bp\":\"e\",\"args\":{")?;
-    push_word(out, "item", item_name(recording, charge.item))?;
+    push_word(out, "item", item_name(recording, charge.change.item))?;
     push_more_number(out, "amount", charge.amount)?;
     out.push_str("}}")
 }

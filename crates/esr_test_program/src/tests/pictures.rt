@@ -100,7 +100,7 @@ fn little_is_drawn(rt: HostRuntime) {
     has(&rt, rt.alloc(), NOTHING_READ, "q", &texts);
     let texts = [
         "q: distance 6, import 6</text>",
-        ">each x 3</text>",
+        ">weight 3</text>",
         "read 7</text><text class='m g' x='20' y='220'>and 9</text>",
         ">off by 2 x 3 = 6</text>",
     ];

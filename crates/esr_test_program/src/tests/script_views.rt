@@ -3,7 +3,7 @@
 use crate::tests::pictures::BANK;
 use esr_history::Watched;
 use esr_lint::{Notes, Unobserved};
-use esr_page::{PageMetadata, Page};
+use esr_page::{Page, PageMetadata};
 use esr_picture::PictureView;
 use esr_prose::{Passage, Prose};
 use esr_script::{RunFault, render_script};
@@ -193,15 +193,17 @@ fn a_page_names_its_origin_and_the_lines_with_errors(rt: HostRuntime) {
 }
 
 /// What the timeline of the bank has, of each kind of sign one.
-static BANK_TIMELINE: [&str; 11] = [
+static BANK_TIMELINE: [&str; 13] = [
     "<title id='all-timeline-title'>What happened, step by step</title>\n",
     ">report</text>\n",
     ">limit 200</text>\n",
     ">charged 100</text>\n",
     "<title>step 2, line 4: report read checking: 500</title><circle class='mr' ",
     "<title>step 4, line 6: transfer wrote checking: 400</title><rect class='mw' ",
-    "<title>step 4, line 6: transfer charged report 100 for checking</title></path>\n",
+    "<title>step 4, line 6: transfer charged report 100 for checking: 500 to 400</title></path>\n",
     ">+100</text>\n",
+    ">500 to 400</text>\n",
+    "<g class='tn' transform='scale(",
     "<title>step 7, line 9: report read savings: 1,600, which is 1,500 in the nearest state</title><circle class='mo' ",
     "<title>step 8, line 10: report committed</title>",
     ">off by 100</text>\n",
@@ -245,7 +247,8 @@ fn blocked_events_are_drawn(rt: HostRuntime) {
     let view = Timeline { name: None, notes };
     let texts = [
         "<title>step 5, line 6: v was blocked from reading a by the lock of u, 2 times</title><path class='mx' ",
-        ">lock of u x2</text>\n",
+        ">lock of u, 2 times</text>\n",
+        ">read a</text>\n",
         "<title>step 7, line 8: q was blocked from reading a by the limit of q</title>",
         ">aborted</text>\n",
         ">still active</text>\n",

@@ -1,5 +1,5 @@
 use Rattle.std.proofs.Common.{◌∙◌, ◌<◌, ℕ, ap, length, subst, sym}
-use Rattle.esr_picture.specs.Picture.{IsSvg}
+use Rattle.esr_svg.specs.Svg.{IsSvg}
 use Rattle.esr_c.proofs.texts.show_picture.Goals as goal
 
 pub returns-in-Ok-clause-picture : goal.returns-in-Ok-clause-picture

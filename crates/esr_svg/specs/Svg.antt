@@ -1,4 +1,4 @@
--- What a picture is.
+-- What an SVG element is.
 use Rattle.std.specs.Prelude.{◌≡◌, ◌≢◌, ◌≤◌, ℕ, List, [], ◌∷◌, ◌++◌, codes, drop, length}
 use Rattle.esr_text.specs.Markup.{Attributes, IsMarkup}
 

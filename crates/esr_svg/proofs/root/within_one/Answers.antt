@@ -1,8 +1,7 @@
--- Why `within_one` keeps its contract: the goals that are left to a proof of ours.
 use Rattle.std.proofs.Common.{rules, arith, string_bytes}
 use Rattle.std.proofs.lemmas.Grind.{common_steps}
 use Rattle.esr_text.proofs.Building.{nothing}
-use Rattle.esr_picture.proofs.drawing.within_one.Goals as goal
+use Rattle.esr_svg.proofs.root.within_one.Goals as goal
 
 pub returns-else-branch : goal.returns-else-branch
 returns-else-branch c = (

@@ -1,3 +1,0 @@
--- When bytes are a picture.
-
-pub mod Picture

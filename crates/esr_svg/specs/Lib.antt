@@ -1,0 +1,3 @@
+-- The definition of an SVG element.
+
+pub mod Svg

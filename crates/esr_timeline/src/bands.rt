@@ -1,0 +1,272 @@
+//! The bands of a timeline: lanes, charges, marks and the axis, each over the ones before.
+
+use crate::elements::{close_text, open_centred, open_rect, open_text, push_text, push_vertical};
+use crate::head::prefix_of;
+use crate::layout::{Band, Column, EDGE, Layout, STEP_ROW, Span, column_at};
+use crate::limits::push_limit;
+use crate::model::{Arrow, Lane, Scene};
+use crate::signs::push_marks_in;
+use crate::titles::{kind_of, push_change, push_charge_title};
+use esr_history::MAX_LIMIT;
+use esr_outcomes::TxnOutcome;
+use esr_text::push_number;
+use esr_trace::outcome_words;
+use std::alloc::AllocError;
+
+/// Appends the limit of a transaction.
+fn push_limit_words(out: &mut String, limit: u64, y: u32) -> Result<(), AllocError> {
+    open_text(out, "lb gy", EDGE, y)?;
+    if limit >= MAX_LIMIT {
+        out.push_str("no limit")?;
+    } else {
+        out.push_str("limit ")?;
+        push_number(out, limit)?;
+    }
+    close_text(out)
+}
+
+/// Appends the charges of a transaction.
+fn push_charged(out: &mut String, charged: u64, y: u32) -> Result<(), AllocError> {
+    let class = if charged > 0 { "lb rd" } else { "lb gy" };
+    open_text(out, class, EDGE, y)?;
+    out.push_str("charged ")?;
+    push_number(out, charged)?;
+    close_text(out)
+}
+
+/// Appends the name of a transaction in front of its lane, and in the band in which it begins also its kind, its limit
+/// and its charges.
+fn push_lane_head(
+    out: &mut String,
+    lane: &Lane<'_>,
+    top: u32,
+    has_head: bool,
+) -> Result<(), AllocError> {
+    push_text(out, "nm", EDGE, top.saturating_add(20), lane.name)?;
+    if !has_head {
+        return Ok(());
+    }
+    push_text(out, "lb gy", EDGE, top.saturating_add(34), kind_of(lane))?;
+    push_limit_words(out, lane.limit, top.saturating_add(47))?;
+    push_charged(out, lane.charged, top.saturating_add(60))
+}
+
+/// Returns the class of the band of a lane.
+fn band_class(lane: &Lane<'_>) -> &'static str {
+    match (lane.is_query(), lane.outcome != TxnOutcome::Committed) {
+        (false, false) => "bu",
+        (false, true) => "bu op",
+        (true, false) => "bq",
+        (true, true) => "bq op",
+    }
+}
+
+/// Appends the rectangle of a lane.
+fn push_band_rect(
+    out: &mut String,
+    lane: &Lane<'_>,
+    span: Span,
+    top: u32,
+) -> Result<(), AllocError> {
+    let width = span.end.saturating_sub(span.start);
+    let y = top.saturating_add(14);
+    open_rect(out, band_class(lane), span.start, y, width, 18)?;
+    out.push_str(" rx='4'/>\n")
+}
+
+/// Appends a lane without its marks and its outcome.
+fn push_lane(
+    out: &mut String,
+    scene: &Scene<'_>,
+    band: &Band<'_>,
+    number: usize,
+    lane: &Lane<'_>,
+) -> Result<(), AllocError> {
+    let span = band.span(number);
+    if !span.is_drawn {
+        return Ok(());
+    }
+    let top = band.lane_top(number);
+    push_lane_head(out, lane, top, span.has_head)?;
+    push_band_rect(out, lane, span, top)?;
+    push_limit(out, scene, band, number, lane)
+}
+
+/// Appends the lanes without their marks and their outcomes.
+fn push_lanes(out: &mut String, scene: &Scene<'_>, band: &Band<'_>) -> Result<(), AllocError> {
+    let mut number = 0usize;
+    for lane in &scene.lanes {
+        push_lane(out, scene, band, number, lane)?;
+        number = number.saturating_add(1);
+    }
+    Ok(())
+}
+
+/// Appends the distance of a committed query, below its outcome.
+fn push_distance(out: &mut String, distance: u64, x: u32, y: u32) -> Result<(), AllocError> {
+    if distance == 0 {
+        return push_text(out, "lb gn ha", x, y, "exact");
+    }
+    open_text(out, "lb rd ha", x, y)?;
+    out.push_str("off by ")?;
+    push_number(out, distance)?;
+    close_text(out)
+}
+
+/// Appends the outcome of a lane, at its end.
+fn push_outcome(out: &mut String, lane: &Lane<'_>, end: u32, top: u32) -> Result<(), AllocError> {
+    let x = end.saturating_add(8);
+    let words = outcome_words(lane.outcome);
+    push_text(out, "lb ha", x, top.saturating_add(27), words)?;
+    match lane.distance {
+        Some(distance) => push_distance(out, distance, x, top.saturating_add(41)),
+        None => Ok(()),
+    }
+}
+
+/// Appends the outcomes of the lanes that end in a band.
+fn push_outcomes(out: &mut String, scene: &Scene<'_>, band: &Band<'_>) -> Result<(), AllocError> {
+    let mut number = 0usize;
+    for lane in &scene.lanes {
+        let span = band.span(number);
+        if span.is_drawn && span.has_outcome {
+            push_outcome(out, lane, span.end, band.lane_top(number))?;
+        }
+        number = number.saturating_add(1);
+    }
+    Ok(())
+}
+
+/// Returns the ends of the arrow of a charge: it leads from the band of the update, or the label below or above it,
+/// down to the band of the query or the label above that, or up to the bar of its limit.
+fn ends_of(band: &Band<'_>, place: usize, from: usize, to: usize) -> (u32, u32) {
+    let starts_at_label = has_label_on(&band.columns, place, from);
+    if from > to {
+        let start = if starts_at_label { 0 } else { 14 };
+        let end = band.lane_top(to).saturating_add(87);
+        return (band.lane_top(from).saturating_add(start), end);
+    }
+    let ends_at_label = has_label_on(&band.columns, place, to);
+    let start = if starts_at_label { 47 } else { 32 };
+    let end = if ends_at_label { 0 } else { 13 };
+    (
+        band.lane_top(from).saturating_add(start),
+        band.lane_top(to).saturating_add(end),
+    )
+}
+
+/// Returns the x of an entry.
+fn x_at(columns: &[Column<'_>], place: usize) -> u32 {
+    column_at(columns, place).map_or(0, |column| column.x)
+}
+
+/// Returns whether an entry has a label on a lane.
+fn has_label_on(columns: &[Column<'_>], place: usize, lane: usize) -> bool {
+    column_at(columns, place).is_some_and(|column| column.has_label && column.mark.lane == lane)
+}
+
+/// Returns the name of the transaction of a lane.
+fn name_at<'a>(scene: &Scene<'a>, lane: usize) -> &'a str {
+    scene.lanes.get(lane).map_or("", |lane| lane.name)
+}
+
+/// Appends the arrow of a charge.
+fn push_arrow(
+    out: &mut String,
+    scene: &Scene<'_>,
+    band: &Band<'_>,
+    arrow: &Arrow<'_>,
+) -> Result<(), AllocError> {
+    let Some(from) = arrow.from else {
+        return Ok(());
+    };
+    let prefix = prefix_of(scene);
+    let x = x_at(&band.columns, arrow.place);
+    let (start, end) = ends_of(band, arrow.place, from, arrow.to);
+    write!(
+        out,
+        "<path class='ar' marker-end='url(#{prefix}-timeline-tip)' d='M{x} {start}V{end}'>"
+    )?;
+    let update = name_at(scene, from);
+    push_charge_title(out, update, name_at(scene, arrow.to), arrow)?;
+    out.push_str("</path>\n")
+}
+
+/// Appends the arrows of the charges in a band.
+fn push_arrows(out: &mut String, scene: &Scene<'_>, band: &Band<'_>) -> Result<(), AllocError> {
+    for arrow in band.charges(&scene.arrows) {
+        push_arrow(out, scene, band, arrow)?;
+    }
+    Ok(())
+}
+
+/// Appends the amount of a charge, below the lane of the query, and the change below it.
+fn push_amount(out: &mut String, band: &Band<'_>, arrow: &Arrow<'_>) -> Result<(), AllocError> {
+    let x = x_at(&band.columns, arrow.place);
+    let top = band.lane_top(arrow.to);
+    open_centred(out, "lb rd ha", x, top.saturating_add(57))?;
+    out.push('+')?;
+    push_number(out, arrow.amount)?;
+    close_text(out)?;
+    open_centred(out, "lb gy ha", x, top.saturating_add(70))?;
+    push_change(out, arrow)?;
+    close_text(out)
+}
+
+/// Appends the amounts of the charges in a band.
+fn push_amounts(out: &mut String, scene: &Scene<'_>, band: &Band<'_>) -> Result<(), AllocError> {
+    for arrow in band.charges(&scene.arrows) {
+        push_amount(out, band, arrow)?;
+    }
+    Ok(())
+}
+
+/// Appends the faint line below a column, from the lanes to the axis.
+fn push_grid(out: &mut String, band: &Band<'_>) -> Result<(), AllocError> {
+    let floor = band.floor().saturating_add(2);
+    for column in &band.columns {
+        push_vertical(out, "gd", column.x, band.top, floor)?;
+    }
+    Ok(())
+}
+
+/// Appends the step of a column.
+fn push_step(out: &mut String, column: &Column<'_>, y: u32) -> Result<(), AllocError> {
+    let row = (column.row.min(10) as u32).saturating_mul(STEP_ROW);
+    open_centred(out, "lb gy", column.x, y.saturating_add(row))?;
+    push_number(out, (column.mark.place as u64).saturating_add(1))?;
+    close_text(out)
+}
+
+/// Appends the step of each column.
+fn push_axis(out: &mut String, band: &Band<'_>) -> Result<(), AllocError> {
+    let y = band.floor().saturating_add(14);
+    push_text(out, "lb gy", EDGE, y, "step")?;
+    for column in &band.columns {
+        push_step(out, column, y)?;
+    }
+    Ok(())
+}
+
+/// Appends a band, each part over the ones before.
+fn push_band(out: &mut String, scene: &Scene<'_>, band: &Band<'_>) -> Result<(), AllocError> {
+    push_grid(out, band)?;
+    push_lanes(out, scene, band)?;
+    push_arrows(out, scene, band)?;
+    push_outcomes(out, scene, band)?;
+    push_amounts(out, scene, band)?;
+    push_marks_in(out, scene, band)?;
+    push_axis(out, band)
+}
+
+/// Appends the bands.
+pub fn push_bands(
+    out: &mut String,
+    scene: &Scene<'_>,
+    layout: &Layout<'_>,
+) -> Result<(), AllocError> {
+    for band in &layout.bands {
+        push_band(out, scene, band)?;
+    }
+    Ok(())
+}

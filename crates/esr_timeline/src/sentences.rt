@@ -1,0 +1,210 @@
+//! The lines above the lanes: the heading, the lines with errors, what is not drawn, and the weights.
+
+use crate::fit::Picture;
+use crate::head::push_heading_words;
+use crate::layout::{Band, EDGE};
+use crate::model::{Arrow, Order, Rest, Scene};
+use esr_text::{first, push_count, push_number, wrap};
+use std::alloc::{AllocError, Global};
+
+/// The width of a letter of a sentence, and of the heading.
+const SENTENCE_LETTER: u32 = 8;
+
+const HEADING_LETTER: u32 = 10;
+
+/// The maximum number of items whose weights are listed.
+const MAX_WEIGHTS: usize = 6;
+
+/// Appends a sentence with the numbers of elements that are not drawn, or nothing.
+fn push_rest(out: &mut String, rest: Rest) -> Result<(), AllocError> {
+    if rest.events == 0 && rest.charges == 0 && rest.transactions == 0 {
+        return Ok(());
+    }
+    out.push_str("Not drawn:")?;
+    let mut joint = " ";
+    if rest.transactions > 0 {
+        out.push_str(joint)?;
+        push_count(out, rest.transactions, " transaction", " transactions")?;
+        joint = "; ";
+    }
+    if rest.events > 0 {
+        out.push_str(joint)?;
+        push_count(out, rest.events, " event", " events")?;
+        out.push_str(" of those below")?;
+        joint = "; ";
+    }
+    if rest.charges > 0 {
+        out.push_str(joint)?;
+        push_count(out, rest.charges, " charge", " charges")?;
+        out.push_str(" of ")?;
+        push_number(out, rest.amount)?;
+        out.push_str(" together")?;
+    }
+    out.push('.')
+}
+
+/// Returns the sentence on the charges that are drawn if there is no space for all.
+fn order_sentence(order: Order) -> &'static str {
+    match order {
+        Order::Explaining => {
+            " Drawn first: the charges that explain the reads that are off, beginning with the farthest read; then the largest others."
+        }
+        Order::Largest => " Drawn: the largest charges.",
+        Order::ByTransaction => "",
+    }
+}
+
+/// Returns a charge of each item with a weight, of the charges that are drawn.
+fn weighted<'a>(alloc: Global, arrows: &[Arrow<'a>]) -> Result<Vec<Arrow<'a>>, AllocError> {
+    let mut weighted: Vec<Arrow<'a>> = Vec::new(alloc);
+    for arrow in arrows {
+        if arrow.weight > 1 && !weighted.iter().any(|other| other.item == arrow.item) {
+            weighted.push(*arrow)?;
+        }
+    }
+    Ok(weighted)
+}
+
+/// Appends a sentence with the weights of the items of these charges, or nothing if there are none.
+fn push_weights(out: &mut String, weighted: &[Arrow<'_>]) -> Result<(), AllocError> {
+    let mut joint = "A charge is a difference times the weight of its item: ";
+    for arrow in first(weighted, MAX_WEIGHTS) {
+        let item = arrow.item;
+        write!(out, "{joint}{item} ")?;
+        push_number(out, arrow.weight)?;
+        joint = ", ";
+    }
+    if weighted.len() > MAX_WEIGHTS {
+        out.push_str(" and others")?;
+    }
+    if !weighted.is_empty() {
+        out.push('.')?;
+    }
+    Ok(())
+}
+
+/// Returns whether a read or a write in a band is drawn without a label.
+fn has_unlabelled(band: &Band<'_>) -> bool {
+    band.columns
+        .iter()
+        .any(|column| !column.has_label && !column.mark.item.is_empty())
+}
+
+/// Appends what is not drawn, which charges are drawn first, and what labels are left out.
+fn push_omissions(
+    out: &mut String,
+    scene: &Scene<'_>,
+    bands: &[Band<'_>],
+) -> Result<(), AllocError> {
+    push_rest(out, scene.rest)?;
+    if scene.rest.charges > 0 {
+        out.push_str(order_sentence(scene.order))?;
+    }
+    if bands.iter().any(has_unlabelled) {
+        out.push_str(" Reads and writes without a label made none of these charges.")?;
+    }
+    Ok(())
+}
+
+/// Appends the number of lines with errors.
+fn push_errors(out: &mut String, errors: u64) -> Result<(), AllocError> {
+    if errors == 0 {
+        return Ok(());
+    }
+    push_count(
+        out,
+        errors,
+        " line of the script has an error and is not drawn.",
+        " lines of the script have errors and are not drawn.",
+    )
+}
+
+/// Returns how many letters fit in a line of a picture of this width.
+fn letters_in(width: u32, letter: u32) -> usize {
+    width
+        .saturating_sub(EDGE.saturating_mul(2))
+        .checked_div(letter)
+        .unwrap_or(0) as usize
+}
+
+/// Adds the lines of a sentence, if it is not empty.
+fn push_lines(
+    alloc: Global,
+    lines: &mut Vec<Line>,
+    class: LineClass,
+    words: &str,
+    letters: usize,
+) -> Result<(), AllocError> {
+    if words.is_empty() {
+        return Ok(());
+    }
+    let mut texts = Vec::new(alloc);
+    wrap(alloc, &mut texts, letters, words)?;
+    for text in texts {
+        lines.push(Line { class, text })?;
+    }
+    Ok(())
+}
+
+/// The kind of a line above the lanes.
+#[derive(Clone, Copy, PartialEq, Eq)]
+pub enum LineClass {
+    Heading,
+    Error,
+    Sentence,
+}
+
+/// A line above the lanes.
+#[derive(Drop)]
+pub struct Line {
+    pub class: LineClass,
+    pub text: String,
+}
+
+/// Adds the sentences below the heading: what is not drawn, and the weights.
+fn push_sentences(
+    alloc: Global,
+    lines: &mut Vec<Line>,
+    scene: &Scene<'_>,
+    bands: &[Band<'_>],
+    letters: usize,
+) -> Result<(), AllocError> {
+    let mut words = String::new(alloc);
+    push_omissions(&mut words, scene, bands)?;
+    push_lines(alloc, lines, LineClass::Sentence, &words, letters)?;
+    words.clear();
+    push_weights(&mut words, &weighted(alloc, &scene.arrows)?)?;
+    push_lines(alloc, lines, LineClass::Sentence, &words, letters)
+}
+
+/// Adds the heading, and the lines with errors.
+fn push_heading(
+    alloc: Global,
+    lines: &mut Vec<Line>,
+    scene: &Scene<'_>,
+    errors: u64,
+    width: u32,
+) -> Result<(), AllocError> {
+    let mut words = String::new(alloc);
+    push_heading_words(&mut words, scene)?;
+    let letters = letters_in(width, HEADING_LETTER);
+    push_lines(alloc, lines, LineClass::Heading, &words, letters)?;
+    words.clear();
+    push_errors(&mut words, errors)?;
+    let letters = letters_in(width, SENTENCE_LETTER);
+    push_lines(alloc, lines, LineClass::Error, &words, letters)
+}
+
+/// Adds the lines above the lanes of a picture of this width.
+pub fn push_all_lines(
+    alloc: Global,
+    lines: &mut Vec<Line>,
+    picture: &Picture<'_>,
+    errors: u64,
+    width: u32,
+) -> Result<(), AllocError> {
+    let Picture { scene, layout } = picture;
+    push_heading(alloc, lines, scene, errors, width)?;
+    let letters = letters_in(width, SENTENCE_LETTER);
+    push_sentences(alloc, lines, scene, &layout.bands, letters)
+}
