@@ -393,7 +393,7 @@ pub fn layout_of<'a>(
 ) -> Result<Layout<'a>, AllocError> {
     let lives = lives_of(alloc, drawn)?;
     let limit = format.width.saturating_sub(open_width(drawn.lanes, &lives));
-    let mut farthest = heads_width(drawn.lanes).saturating_add(EDGE);
+    let mut farthest = heads_width(drawn.lanes).saturating_add(EDGE + 4);
     let rule = (spacing, limit);
     let mut bands = bands_of(alloc, drawn, &mut farthest, rule, format.bands)?;
     let open_end = farthest.saturating_add(GAP);
