@@ -104,7 +104,7 @@ static void weights(pthread_barrier_t *barrier) {
     const int64_t opening[1] = {500};
     const uint32_t weight[1] = {3}, bad[1] = {1001};
     int64_t value = 0;
-    esr_finding finding = {0, 0, 0};
+    esr_bank_finding finding = {0, 0, 0, 0};
     pthread_t thread;
     WANT(esr_bank_open_weighted(&bank, opening, 1, bad, 1, 0.1), ESR_WEIGHT_OUT_OF_RANGE);
     WANT(esr_bank_open_weighted(&bank, opening, 1, weight, 1, 0.1), ESR_DONE);
@@ -137,7 +137,7 @@ int main(void) {
     int64_t amount = 100, sum = 0;
     uint32_t refusal = 0;
     esr_bank_txn txn;
-    esr_finding finding = {9, 9, 9};
+    esr_bank_finding finding = {9, 9, 9, 9};
     WANT(esr_bank_open(&bank, bad, 1, 1.0), ESR_VALUE_OUT_OF_RANGE);
     WANT(esr_bank_open(&bank, opening, 3, 10.0), ESR_DONE);
 
@@ -154,6 +154,7 @@ int main(void) {
     WANT(sum, 2000);
     WANT(finding.distance, 0);
     WANT(finding.import, 0);
+    WANT(finding.renewals, 0);
     WANT(esr_bank_run(&bank, true, false, 200, total, &sum, NULL, &txn), ESR_BANK_DONE);
     texts_of(txn.txn);
 

@@ -20,10 +20,12 @@
  * blocked event waits until some transaction ends and is then retried. If it was blocked for its turn (50 ms, doubled by each
  * restart), the transaction is aborted and restarted after a random pause; so transactions that block each other in a cycle
  * yield to one another. A transaction that has waited for longer than the bank's patience gives up. When the history is full,
- * begins wait until the active transactions have ended, and then the engine is renewed: see esr_bank_before_renewal.
+ * the engine is renewed, and the active transactions are carried over: see esr_bank_before_renewal. No transaction waits for
+ * another one's end because of that, unless nearly all entries of the history are needed for active transactions.
  *
  * The calls of esr.h that are not events, such as esr_ledger and esr_explain, work on bank.engine under bank.lock. They need
- * the number of a transaction: esr_bank_run has it, and a body finds it in t->txn. It is valid until the next renewal.
+ * the number of a transaction: esr_bank_run has it, and a body finds it in t->txn, which it reads under bank.lock. It is valid
+ * until the next renewal; an active transaction then has another one.
  *
  * The header needs -pthread and POSIX.1-2008 (define _POSIX_C_SOURCE as 200809L before the first header). It is plain C over
  * the proved engine: nothing in it is proved. Rejected: one lock for a whole transaction, under which a report would block
@@ -68,12 +70,21 @@ static inline const char *esr_bank_result_text(esr_bank_result result) {
     }
 }
 
+/* The audit of a report. If it was carried over renewals, its distance is an upper bound, and `count` is 0: what it has read
+ * is off by at most its charges over all histories. Otherwise the distance is exact, as in esr_finding. */
+typedef struct esr_bank_finding {
+    uint64_t distance, import;
+    size_t count;
+    uint64_t renewals; /* 0 if the distance is exact */
+} esr_bank_finding;
+
 typedef struct esr_bank {
     esr_engine engine;     /* use it only while holding the lock, for calls other than events and renewals */
     pthread_mutex_t lock;
     pthread_cond_t ended;  /* signalled when a transaction ends and after a renewal */
     double patience;       /* seconds that a transaction may wait in total */
-    bool draining;         /* begins wait for a renewal */
+    struct esr_bank_txn *active;
+    esr_counts repeated;   /* the history when it was opened: the entries of the transactions carried into it */
     uint64_t commits, aborts, restarts, renewals;
     bool (*before_renewal)(struct esr_bank *bank, void *context);
     void *context;
@@ -82,7 +93,10 @@ typedef struct esr_bank {
 /* A running transaction. */
 typedef struct esr_bank_txn {
     esr_bank *bank;
+    struct esr_bank_txn *next; /* among the active ones */
     uint32_t txn;          /* its number, for esr_explain, esr_picture and esr_bundle */
+    uint64_t settled;      /* the part of its limit and of its charges that is in earlier histories only */
+    uint64_t renewals;     /* that it was carried over */
     uint32_t refusal;      /* the refusal that ended it, if the result is ESR_BANK_REFUSED */
     esr_status status;     /* the status that ended it, if the result is ESR_BANK_FAILED */
     double turn, waited;   /* seconds: the turn of an event, and the time waited so far */
@@ -112,7 +126,8 @@ static inline double esr_bank_wait(esr_bank *bank, double seconds) {
  * esr_open_weighted; the bank must be closed only after ESR_DONE. */
 static inline esr_status esr_bank_open_weighted(esr_bank *bank, const int64_t *opening, size_t items, const uint32_t *weights,
                                                 size_t weighted, double patience) {
-    const esr_bank closed = {ESR_CLOSED, PTHREAD_MUTEX_INITIALIZER, PTHREAD_COND_INITIALIZER, 0, false, 0, 0, 0, 0, NULL, NULL};
+    const esr_bank closed = {ESR_CLOSED, PTHREAD_MUTEX_INITIALIZER, PTHREAD_COND_INITIALIZER, 0, NULL, {0, 0, 0, 0, 0},
+                             0, 0, 0, 0, NULL, NULL};
     *bank = closed;
     bank->patience = patience;
     esr_status status = esr_open_weighted(&bank->engine, opening, items, weights, weighted);
@@ -134,8 +149,8 @@ static inline esr_status esr_bank_open(esr_bank *bank, const int64_t *opening, s
 }
 
 /* Sets a function that the bank calls, holding the lock, before it discards a full history: it may call esr_audit,
- * esr_ledger and other calls that are not events on bank->engine. If it returns false, the history is kept and the call is
- * retried at the next begin. */
+ * esr_ledger and other calls that are not events on bank->engine. Active transactions continue in the next history. If it
+ * returns false, the history is kept and the call is retried at the next begin. */
 static inline void esr_bank_before_renewal(esr_bank *bank, bool (*call)(esr_bank *bank, void *context), void *context) {
     pthread_mutex_lock(&bank->lock);
     bank->before_renewal = call;
@@ -150,17 +165,43 @@ static inline void esr_bank_close(esr_bank *bank) {
     pthread_mutex_destroy(&bank->lock);
 }
 
-/* Renews the engine if no transaction is active. Returns whether the bank is ready for begins. The lock is held. */
-static inline bool esr_bank_renew(esr_bank *bank) {
+/* Gives the active transactions the numbers that they have after a renewal. The lock is held. */
+static inline void esr_bank_renumber(esr_bank *bank, const esr_carried *carried, size_t count) {
+    for (esr_bank_txn *t = bank->active; t; t = t->next) {
+        size_t i = 0;
+        while (i < count && carried[i].old_txn != t->txn) i++;
+        if (i == count) continue; /* never: it is active */
+        t->txn = carried[i].new_txn;
+        t->settled += carried[i].settled;
+        t->renewals++;
+    }
+}
+
+/* Reports whether a renewal frees capacity: it repeats the entries of active transactions. The lock is held. */
+static inline bool esr_bank_has_grown(esr_bank *bank) {
     esr_counts counts;
-    if (!bank->draining) return true;
-    if (esr_counts_of(&bank->engine, &counts) != ESR_DONE || counts.active > 0) return false;
+    if (esr_counts_of(&bank->engine, &counts) != ESR_DONE) return false;
+    return counts.entries - bank->repeated.entries >= ESR_MAX_ENTRIES / 40
+        || counts.transactions - bank->repeated.transactions >= ESR_MAX_TRANSACTIONS / 8;
+}
+
+/* Renews the engine, and carries the active transactions over. Returns whether it did. The lock is held. */
+static inline bool esr_bank_renew(esr_bank *bank) {
+    size_t active = 0, count;
+    if (!esr_bank_has_grown(bank)) return false;
     if (bank->before_renewal && !bank->before_renewal(bank, bank->context)) return false;
-    if (esr_renew(&bank->engine) != ESR_DONE) return false;
-    bank->draining = false;
-    bank->renewals++;
-    pthread_cond_broadcast(&bank->ended);
-    return true;
+    for (esr_bank_txn *t = bank->active; t; t = t->next) active++;
+    esr_carried *carried = (esr_carried *)malloc((active + 1) * sizeof *carried);
+    if (!carried) return false;
+    bool renewed = esr_renew_carrying(&bank->engine, carried, active + 1, &count) == ESR_DONE;
+    if (renewed) {
+        esr_bank_renumber(bank, carried, count);
+        esr_counts_of(&bank->engine, &bank->repeated);
+        bank->renewals++;
+        pthread_cond_broadcast(&bank->ended);
+    }
+    free(carried);
+    return renewed;
 }
 
 /* Judges the status and the reply of one event. Returns true if it was executed, and sets `blocked` if it should be retried
@@ -168,7 +209,6 @@ static inline bool esr_bank_renew(esr_bank *bank) {
 static inline bool esr_bank_judge(esr_bank_txn *t, esr_status status, const esr_reply *reply, bool *blocked) {
     *blocked = false;
     if (status == ESR_HISTORY_FULL) {
-        t->bank->draining = true;
         t->restarts = true;
     } else if (status != ESR_DONE) {
         t->status = status;
@@ -203,7 +243,9 @@ static inline bool esr_bank_event(esr_bank_txn *t, int kind, uint32_t item, int6
     if (t->restarts || t->timed_out || t->refusal || t->status) return false;
     pthread_mutex_lock(&bank->lock);
     for (;;) {
-        done = esr_bank_judge(t, esr_bank_call(t, kind, item, value, &reply), &reply, &blocked);
+        esr_status status = esr_bank_call(t, kind, item, value, &reply);
+        if (status == ESR_HISTORY_FULL && esr_bank_renew(bank)) continue;
+        done = esr_bank_judge(t, status, &reply, &blocked);
         if (!blocked) break;
         if (t->waited >= bank->patience) {
             t->timed_out = true;
@@ -242,27 +284,30 @@ static inline bool esr_bank_add(esr_bank_txn *t, uint32_t item, int64_t change) 
     return esr_bank_event(t, ESR_BANK_ADD, item, change, NULL);
 }
 
-/* Begins a transaction, waiting for a renewal if the history is full. Returns whether it began. The lock is held. */
+/* Begins a transaction. Renews a full history, and waits while that is not possible. Returns whether it began. The lock is
+ * held. */
 static inline bool esr_bank_begin(esr_bank_txn *t, bool query, bool strict, uint64_t limit) {
     esr_bank *bank = t->bank;
     esr_reply reply = {0, 0, 0, 0};
     bool blocked;
     for (;;) {
-        while (!esr_bank_renew(bank)) {
-            if (t->waited >= bank->patience) {
-                t->timed_out = true;
-                return false;
-            }
-            t->waited += esr_bank_wait(bank, 0.005);
-        }
         esr_status status = query ? esr_begin_query(&bank->engine, limit, strict, &reply)
                                   : esr_begin_update(&bank->engine, limit, &reply);
         if (esr_bank_judge(t, status, &reply, &blocked)) {
             t->txn = reply.txn;
+            t->settled = t->renewals = 0;
             t->restarts = false;
+            t->next = bank->active;
+            bank->active = t;
             return true;
         }
         if (!t->restarts) return false;
+        if (esr_bank_renew(bank)) continue;
+        if (t->waited >= bank->patience) {
+            t->timed_out = true;
+            return false;
+        }
+        t->waited += esr_bank_wait(bank, 0.005);
     }
 }
 
@@ -280,8 +325,34 @@ static inline bool esr_bank_end(esr_bank_txn *t, bool commits) {
     }
     if (committed) bank->commits++;
     else bank->aborts++;
+    esr_bank_txn **link = &bank->active;
+    while (*link != t) link = &(*link)->next;
+    *link = t->next;
     pthread_cond_broadcast(&bank->ended);
     return committed;
+}
+
+/* Stores the finding of a committed report: its audit, or its charges if it was carried over renewals. The lock is held. */
+static inline esr_status esr_bank_audit(esr_bank_txn *t, esr_bank_finding *finding) {
+    const esr_engine *engine = &t->bank->engine;
+    esr_account account;
+    esr_finding exact;
+    uint32_t none[1];
+    esr_status status;
+    if (t->renewals) {
+        status = esr_account_of(engine, t->txn, &account);
+        if (status != ESR_DONE) return status;
+        finding->distance = finding->import = t->settled + account.charged;
+        finding->count = 0;
+    } else {
+        status = esr_audit(engine, t->txn, none, 0, &exact);
+        if (status != ESR_DONE && status != ESR_TOO_SMALL) return status;
+        finding->distance = exact.distance;
+        finding->import = exact.import;
+        finding->count = exact.count;
+    }
+    finding->renewals = t->renewals;
+    return ESR_DONE;
 }
 
 /* Pauses for a random time up to some seconds, so that transactions that met once do not meet again. */
@@ -296,8 +367,9 @@ static inline void esr_bank_pause(esr_bank_txn *t, double seconds) {
 /* Runs a body as a transaction until it commits or fails. Stores the transaction in `t`, with its number, refusal and status.
  * A query is audited if `finding` is not NULL. esr_bank_transact and esr_bank_report are the usual calls. */
 static inline esr_bank_result esr_bank_run(esr_bank *bank, bool query, bool strict, uint64_t limit, esr_bank_body body,
-                                           void *context, esr_finding *finding, esr_bank_txn *t) {
-    const esr_bank_txn fresh = {bank, 0, 0, ESR_DONE, 0.05, 0, (unsigned)(uintptr_t)t ^ (unsigned)time(NULL), false, false};
+                                           void *context, esr_bank_finding *finding, esr_bank_txn *t) {
+    const esr_bank_txn fresh = {bank, NULL, 0, 0, 0, 0, ESR_DONE, 0.05, 0, (unsigned)(uintptr_t)t ^ (unsigned)time(NULL),
+                                false, false};
     *t = fresh;
     for (;;) {
         pthread_mutex_lock(&bank->lock);
@@ -309,9 +381,7 @@ static inline esr_bank_result esr_bank_run(esr_bank *bank, bool query, bool stri
         pthread_mutex_lock(&bank->lock);
         bool committed = esr_bank_end(t, commits);
         if (committed && finding) {
-            uint32_t none[1];
-            esr_status status = esr_audit(&bank->engine, t->txn, none, 0, finding);
-            if (status != ESR_DONE && status != ESR_TOO_SMALL) t->status = status;
+            t->status = esr_bank_audit(t, finding);
         }
         if (t->restarts) bank->restarts++;
         pthread_mutex_unlock(&bank->lock);
@@ -335,7 +405,7 @@ static inline esr_bank_result esr_bank_transact(esr_bank *bank, uint64_t limit, 
 /* Runs a report, and audits it if `finding` is not NULL. The audit holds the lock for about half a microsecond per
  * transaction of the history. */
 static inline esr_bank_result esr_bank_report(esr_bank *bank, uint64_t limit, bool strict, esr_bank_body body, void *context,
-                                              esr_finding *finding) {
+                                              esr_bank_finding *finding) {
     esr_bank_txn t;
     return esr_bank_run(bank, true, strict, limit, body, context, finding, &t);
 }

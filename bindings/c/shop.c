@@ -42,7 +42,7 @@ static bool count(esr_bank_txn *t, void *total) {
 
 int main(void) {
     int64_t values[GOODS + 1], stock = 0, total;
-    esr_finding finding;
+    esr_bank_finding finding;
     pthread_t tills[TILLS];
     size_t items;
     int reports = 0;

@@ -2,7 +2,8 @@
 
 Each call takes the bank's lock once, so other threads proceed between the calls of a transaction. A blocked event is retried
 after a pause for as long as the transaction's patience lasts; the youngest transaction of a deadlock is given up at once. When
-the history is nearly full, no transaction begins until the active ones have ended, and the engine is renewed.
+the history is nearly full, the next begin renews the engine and carries the active transactions over: each has another number
+then, and the rest of its limit. The part of its charges that is settled in earlier histories is kept in its handle.
 
 With a store, the engine is ahead of the store by the updates in a queue. Every call that returns something of them waits
 until the store has them; `bank[name]` and `snapshot` return the store's values without waiting.
@@ -49,8 +50,10 @@ from ._waiting import SHARE, Lock, WaitGraph, Waiting
 __all__ = ["Bank", "Counts", "Finding", "Query", "Update"]
 
 LOG = logging.getLogger("esr")
+MAX_ENTRIES, MAX_TRANSACTIONS = 1_000_000, 65_535
+"""The size of a history."""
 NEARLY_FULL = 100_000
-"""If no more entries are left, no transaction begins until the engine is renewed: the active ones have capacity to end."""
+"""If no more entries are left, the engine is renewed before a transaction begins, so that active ones can continue."""
 RESERVE = 1_000
 """With `before_renewal` the engine is renewed when no more transactions are left, so they are there if it fails."""
 RETRY = 1.0
@@ -89,7 +92,7 @@ class Bank(Mapping[str, int]):
     moment, and then gives the engine all events at once. If other updates have changed what it read, the function runs again.
 
     `before_renewal` is called with the bank before a history is discarded: `due()` returns the reports that were not audited
-    yet. It may not begin a transaction. If it raises an exception, the bank continues in the old history as long as that has
+    yet; an active one is not due. It may not begin a transaction. If it raises an exception, the bank continues in the old history as long as that has
     capacity, and calls it again later.
 
     `store` keeps the committed values on disk: see `SQLiteStore` and `PostgreSQLStore`. Its values replace the opening values
@@ -156,6 +159,8 @@ class Bank(Mapping[str, int]):
         self.renewal_failure: Optional[BaseException] = None
         """The exception of the last `before_renewal`, or None if it has succeeded."""
         self._retry_at = 0.0
+        self._repeated = c.Counts()
+        """The size of this history when it was opened: the entries of the transactions that were carried into it."""
         self._due: List[Query] = []
         self._counters = Counters()
         if not weights.keys() <= opening.keys():
@@ -410,7 +415,7 @@ class Bank(Mapping[str, int]):
             now, found = time.monotonic(), []
             for number, one in self._active.items():
                 item = one._item if one._waits_for is not None else None
-                charged = self._account(number).charged
+                charged = one._settled + self._account(number).charged
                 age = now - one._begun_at
                 found.append(Active(number, one.name, one._kind, age, one._limit, charged, one._waits_for, item))
             return found
@@ -629,8 +634,7 @@ class Bank(Mapping[str, int]):
             transaction._state = ENDED
             self._waits.forget(transaction.number)
             self._active.pop(transaction.number, None)
-            if not self._active:
-                self._ended.notify_all()
+            self._ended.notify_all()
             self._counters.aborts += not commits and not transaction._is_retried
             if not commits:
                 self._answer(c.library.esr_abort, transaction.number)
@@ -650,8 +654,8 @@ class Bank(Mapping[str, int]):
         """Commits in the engine, shows the writes, and returns their place in the queue of the store.
 
         An interrupt may arrive after the engine's commit. Then the writes are shown all the same, since later updates read
-        them. A commit for which the allocation fails has changed nothing, and is aborted, since an active transaction would hold
-        off every renewal.
+        them. A commit for which the allocation fails has changed nothing, and is aborted, since an active transaction keeps its
+        locks.
         """
         try:
             self._answer(c.library.esr_commit, txn)
@@ -683,7 +687,12 @@ class Bank(Mapping[str, int]):
                     transaction._require_active()
                     if self._waits.given_up:
                         self._raise_deadlock(transaction)
-                    reply = events()
+                    try:
+                        reply = events()
+                    except HistoryFull:
+                        if not self._renew_for_event():
+                            raise
+                        continue
                     if reply.kind != c.REFUSED:
                         return reply
                     blocked = self._blocked(transaction, reply)
@@ -724,20 +733,23 @@ class Bank(Mapping[str, int]):
     # Renewals
 
     def _make_room(self, transaction: Transaction) -> None:
-        """Waits until the history has capacity, and renews it if no transaction is active."""
+        """Renews a history that is nearly full. If its entries are those of active transactions, the bank continues in it
+        while it has capacity, and then waits until one of them ends."""
         self._require_running()
         if self._is_renewing:
             raise Misuse("before_renewal may not begin a transaction: it is called because the history is full")
         waiting = transaction._waiting
         while self._is_nearly_full():
-            if self.renewal_failure and time.monotonic() < self._retry_at and self._has_capacity():
+            is_early = self.renewal_failure and time.monotonic() < self._retry_at
+            is_worth_renewing = self._is_worth_renewing()
+            if (is_early or not is_worth_renewing) and self._has_capacity():
                 return
-            if not self._active:
+            if is_worth_renewing:
                 if self._renew():
                     continue
                 return
             if waiting.left <= 0:
-                transaction._given_up = HistoryFull("the history has no capacity until all active transactions have ended")
+                transaction._given_up = HistoryFull("the history has no capacity until an active transaction has ended")
                 raise transaction._given_up
             begun = time.monotonic()
             self._ended.wait(min(waiting.left, threading.TIMEOUT_MAX))
@@ -748,6 +760,20 @@ class Bank(Mapping[str, int]):
         counts = self._counts()
         reserve = RESERVE if self._before_renewal else 0
         return counts.transactions_left <= reserve or counts.entries_left <= NEARLY_FULL
+
+    def _is_worth_renewing(self) -> bool:
+        """Returns whether this history has grown since it was opened. Otherwise it has entries of active transactions only,
+        which a renewal repeats."""
+        counts = self._counts()
+        reserve = RESERVE if self._before_renewal else 0
+        entries, numbers = (MAX_ENTRIES - NEARLY_FULL) // 32, (MAX_TRANSACTIONS - reserve) // 8
+        return counts.entries - self._repeated.entries >= max(entries, 1) or (
+            counts.transactions - self._repeated.transactions >= numbers
+        )
+
+    def _renew_for_event(self) -> bool:
+        """Renews the history for an event of an active transaction. Returns whether it has capacity then."""
+        return not self._is_renewing and self._is_worth_renewing() and self._renew()
 
     def _has_capacity(self) -> bool:
         counts = self._counts()
@@ -768,10 +794,8 @@ class Bank(Mapping[str, int]):
                 return False
             finally:
                 self._is_renewing = False
-        self._check(c.library.esr_renew(self._engine))
-        self._waits = WaitGraph()
+        self._carry()
         self._due.clear()
-        self._txn_names.clear()
         self.renewals += 1
         self.renewal_failure = None
         took = time.monotonic() - begun
@@ -779,6 +803,21 @@ class Bank(Mapping[str, int]):
         self._ended.notify_all()
         LOG.info("renewed the history in %.3f s", took)
         return True
+
+    def _carry(self) -> None:
+        """Renews the engine, and gives the active transactions the numbers that they have in the new history."""
+        carried, count = (c.Carried * max(1, len(self._active)))(), ctypes.c_size_t()
+        self._check(c.library.esr_renew_carrying(self._engine, carried, len(carried), count))
+        self._repeated = self._counts()
+        numbers = {one.old: one.new for one in carried[: count.value]}
+        for one in carried[: count.value]:
+            self._active[one.old]._carry(one.new, one.settled, numbers)
+        self._active = {one.number: one for one in self._active.values()}
+        self._txn_names = {numbers[old]: name for old, name in self._txn_names.items() if old in numbers}
+        self._waits.renumber(numbers)
+        reports = sum(isinstance(one, Query) for one in self._active.values())
+        self._counters.carried_reports += reports
+        self._counters.carried += len(numbers) - reports
 
     def _note_failure(self, why: Exception) -> None:
         self.renewal_failure = why

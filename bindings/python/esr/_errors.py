@@ -75,6 +75,15 @@ class Misuse(EsrError, RuntimeError):
     """
 
 
+class ReportCarried(EsrError):
+    """A report was carried over a renewal, so its finding is a bound, and it has no bundle.
+
+    >>> from esr import ReportCarried
+    >>> issubclass(ReportCarried, EsrError)
+    True
+    """
+
+
 class HandleExpired(EsrError):
     """A transaction has ended, or the history that it belongs to was renewed.
 

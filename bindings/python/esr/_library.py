@@ -59,6 +59,13 @@ class Account(ctypes.Structure):
     charged: int
 
 
+class Carried(ctypes.Structure):
+    _fields_ = [("old", c_uint32), ("new", c_uint32), ("settled", c_uint64)]
+    old: int
+    new: int
+    settled: int
+
+
 class Finding(ctypes.Structure):
     _fields_ = [("distance", c_uint64), ("imported", c_uint64), ("count", c_size_t)]
     distance: int
@@ -103,7 +110,7 @@ def _load() -> types.SimpleNamespace:
         "esr_picture": [engine, c_uint32, c_char_p, c_size_t, *text],
         "esr_ledger": [engine, *text],
         "esr_do": [engine, POINTER(Event), c_size_t, POINTER(Reply), c_size_t, c_bool, POINTER(c_size_t)],
-        "esr_renew": [engine],
+        "esr_renew_carrying": [engine, POINTER(Carried), c_size_t, POINTER(c_size_t)],
     }
     for name, arguments in declared.items():
         call = getattr(quick if name in QUICK else library, name)

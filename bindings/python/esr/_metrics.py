@@ -64,6 +64,10 @@ class Metrics:
     """Seconds that they took, including `before_renewal`."""
     longest_renewal: float
     """Seconds of the longest."""
+    carried: int
+    """Updates that were carried over a renewal, counted once for each renewal."""
+    carried_reports: int
+    """Reports that were carried over a renewal, counted once for each renewal."""
     renewals_put_off: int
     """Renewals that were put off because `before_renewal` failed."""
     audits: int
@@ -127,6 +131,8 @@ class Metrics:
             ("esr_wait_seconds_total", "Time that they waited.", self.waited),
             ("esr_renewals_total", "Renewals of the history.", self.renewals),
             ("esr_renewal_seconds_total", "Time that they took.", self.renewing),
+            ("esr_carried_updates_total", "Updates carried over a renewal.", self.carried),
+            ("esr_carried_reports_total", "Reports carried over a renewal.", self.carried_reports),
             ("esr_renewals_put_off_total", "Renewals put off because before_renewal failed.", self.renewals_put_off),
             ("esr_audits_total", "Audits of reports.", self.audits),
             ("esr_audit_seconds_total", "Time that they took.", self.auditing),
@@ -150,6 +156,8 @@ class Counters:
     renewals: int = 0
     renewing: float = 0.0
     longest_renewal: float = 0.0
+    carried: int = 0
+    carried_reports: int = 0
     renewals_put_off: int = 0
     audits: int = 0
     auditing: float = 0.0

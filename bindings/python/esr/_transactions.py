@@ -1,7 +1,7 @@
 """Updates and reports: the handles that a bank hands out.
 
 A handle checks in each call, under the bank's lock, that its transaction is active, since the engine gives the number of an
-ended transaction to another one after a renewal.
+ended transaction to another one after a renewal. An active transaction is carried over, and its handle gets the new number.
 """
 
 import ctypes
@@ -12,7 +12,7 @@ from typing import TYPE_CHECKING, Callable, Dict, Iterable, List, Optional, Tupl
 
 from . import _checks as checks
 from . import _library as c
-from ._errors import REASONS, BankClosed, EsrError, HandleExpired, Misuse, OutOfRange, Overtaken
+from ._errors import REASONS, BankClosed, EsrError, HandleExpired, Misuse, OutOfRange, Overtaken, ReportCarried
 from ._waiting import Waiting
 
 if TYPE_CHECKING:
@@ -27,7 +27,7 @@ SHOWN_UPDATES = 8
 @dataclass(frozen=True, repr=False)
 class Finding:
     """The result of a report's audit. A notebook shows it as a picture, as long as the report's history exists. Its text
-    abbreviates a long `before`.
+    abbreviates a long `before`. The distance of a report that was carried over renewals is an upper bound.
 
     >>> from esr import Bank
     >>> bank = Bank({"checking": 500})
@@ -41,14 +41,31 @@ class Finding:
     """
 
     distance: int
-    """The distance of the report's reads from the nearest serial placement."""
+    """The distance of the report's reads from the nearest serial placement, or a bound of it: see `is_exact`."""
     charged: int
-    """What the report was charged: at least the distance."""
+    """What the report was charged over all histories: at least the distance."""
     before: Tuple[int, ...]
-    """The updates before that placement, in commit order."""
+    """The updates before that placement, in commit order. Empty if the distance is not exact."""
     _query: "Query" = field(compare=False)
+    renewals: int = 0
+    """How many renewals the report was carried over."""
+
+    @property
+    def is_exact(self) -> bool:
+        """Whether the distance is exact. Otherwise it is an upper bound, because the history of the first reads is gone.
+
+        >>> from esr import Bank
+        >>> with Bank({"checking": 500}).report(100) as report:
+        ...     report.read("checking")
+        500
+        >>> report.finding.is_exact
+        True
+        """
+        return self.renewals == 0
 
     def __repr__(self) -> str:
+        if not self.is_exact:
+            return f"Finding(distance<={self.distance}, charged={self.charged}, renewals={self.renewals})"
         before = repr(self.before)
         if len(self.before) > SHOWN_UPDATES:
             first = ", ".join(map(str, self.before[: SHOWN_UPDATES - 2]))
@@ -87,6 +104,11 @@ class Transaction:
         self._age = age
         self._state = NEW
         self._renewals = 0
+        """The renewals of the bank before the history that it belongs to."""
+        self._carried = 0
+        """How many renewals it was carried over."""
+        self._settled = 0
+        """The part of its limit and of its charges that is in earlier histories only."""
         self._begun_at = 0.0
         self._given_up: Optional[EsrError] = None
         self._item: Optional[str] = None
@@ -104,6 +126,14 @@ class Transaction:
         checks.no_event_loop()
         self._bank._begin(self, call, self._limit, *arguments)
 
+    def _carry(self, number: int, settled: int, numbers: Dict[int, int]) -> None:
+        """Gives it its number in the next history of the bank. The lock is held."""
+        self.number, self._renewals = number, self._bank.renewals + 1
+        self._settled += settled
+        self._carried += 1
+        if self._waits_for is not None:
+            self._waits_for = numbers.get(self._waits_for, self._waits_for)
+
     def _shown(self) -> str:
         return f"{self._kind} {self.number}" + ("" if self.name is None else f" {self.name!r}")
 
@@ -119,7 +149,7 @@ class Transaction:
         """Raises an exception unless the transaction is active. The lock is held."""
         queue = self._bank._queue
         if self._state is ACTIVE and not self._bank._is_closed and (queue is None or queue.stopped is None):
-            return  # no renewal has come between, since that waits for the end of active transactions
+            return  # a renewal has carried it over
         self._require_history()
         if self._state != ACTIVE:
             raise HandleExpired(f"{self._shown()} has ended")
@@ -148,15 +178,16 @@ class Transaction:
         """
         bank, all_names = self._bank, checks.names(names)
         values: List[int] = []
-        reads = [c.Event(c.READ, self.number, bank._number_of(name), 0, 0) for name in all_names]
+        items = [bank._number_of(name) for name in all_names]
 
         def rest() -> c.Reply:
-            replies = bank._answers(reads[len(values) :])
+            # a renewal may have changed its number since the last reply
+            replies = bank._answers([c.Event(c.READ, self.number, item, 0, 0) for item in items[len(values) :]])
             values.extend(reply.value for reply in replies if reply.kind != c.REFUSED)
             self._item = all_names[min(len(values), len(all_names) - 1)]
             return replies[-1]
 
-        if reads:
+        if items:
             bank._step(self, rest)
         else:
             with bank._lock:
@@ -175,7 +206,7 @@ class Transaction:
         """
         with self._bank._lock:
             self._require_history()
-            return self._bank._account(self.number).charged
+            return self._settled + self._bank._account(self.number).charged
 
 
 class Update(Transaction):
@@ -439,17 +470,22 @@ class Query(Transaction):
 
     def _audit(self) -> Finding:
         self._require_committed()
+        begun = time.monotonic()
+        if self._carried:
+            bound = self._settled + self._bank._account(self.number).charged
+            self._bank._counters.count_audit(bound, time.monotonic() - begun)
+            return Finding(bound, bound, (), self, self._carried)
         # The buffer is large enough for every update, so the audit is made once.
         found, capacity = c.Finding(), max(1, self._bank._counts().transactions)
         before = (ctypes.c_uint32 * capacity)()
-        begun = time.monotonic()
         status = c.library.esr_audit(self._bank._engine, self.number, before, capacity, found)
         self._bank._check(status)
         self._bank._counters.count_audit(found.distance, time.monotonic() - begun)
         return Finding(found.distance, found.imported, tuple(before[: found.count]), self)
 
     def bundle(self) -> bytes:
-        """Returns its audit as JSON, which `esr check` verifies without this engine.
+        """Returns its audit as JSON, which `esr check` verifies without this engine. Raises `ReportCarried` if the report was
+        carried over a renewal.
 
         >>> import json
         >>> from esr import Bank
@@ -459,6 +495,8 @@ class Query(Transaction):
         >>> json.loads(report.bundle())["certificate"]["worth"]
         0
         """
+        if self._carried:
+            raise ReportCarried(f"{self._shown()} was carried over {self._carried} renewals: it has a bound, and no certificate")
         return self._audit_text(c.library.esr_bundle)
 
     def explain(self) -> str:
@@ -472,7 +510,14 @@ class Query(Transaction):
         >>> print(report.explain().splitlines()[-1])
         distance 0 import 0
         """
-        return self._audit_text(c.library.esr_explain, self._bank._names, len(self._bank._names)).decode()
+        text = self._audit_text(c.library.esr_explain, self._bank._names, len(self._bank._names)).decode()
+        if not self._carried:
+            return text
+        return f"{self._bound()}\nin the last history, with earlier reads at the values of its opening:\n{text}"
+
+    def _bound(self) -> str:
+        found = self.finding
+        return f"distance at most {found.distance} import {found.charged} renewals {found.renewals}"
 
     def picture(self) -> str:
         """Returns its audit as a picture, as `esr picture` draws it: one SVG. Transactions are `t1`, `t2`.
@@ -484,7 +529,10 @@ class Query(Transaction):
         >>> report.picture().splitlines()[-1]
         '</svg>'
         """
-        return self._audit_text(c.library.esr_picture, self._bank._names, len(self._bank._names)).decode()
+        picture = self._audit_text(c.library.esr_picture, self._bank._names, len(self._bank._names)).decode()
+        if not self._carried:
+            return picture
+        return picture.replace("</svg>", f'<text x="4" y="12" font-size="12">{self._bound()}</text>\n</svg>', 1)
 
     def _repr_svg_(self) -> Optional[str]:
         """Returns the picture for a notebook, or None if the report has not committed or its history is gone."""

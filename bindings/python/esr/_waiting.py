@@ -103,6 +103,12 @@ class WaitGraph:
         """Records that a transaction does not wait any more."""
         self.blockers.pop(txn, None)
 
+    def renumber(self, new: Dict[int, int]) -> None:
+        """Gives the transactions the numbers that they have after a renewal. Those that are not in `new` have ended."""
+        self.blockers = {new[txn]: new[other] for txn, other in self.blockers.items() if txn in new and other in new}
+        self.ages = {new[txn]: age for txn, age in self.ages.items() if txn in new}
+        self.given_up = {new[txn]: new[other] for txn, other in self.given_up.items() if txn in new and other in new}
+
     def forget(self, txn: int) -> None:
         """Removes a transaction that has ended."""
         self.end(txn)

@@ -158,7 +158,7 @@ class Handles(unittest.TestCase):
         thread.join(10)
         self.assertEqual(errors, [BankClosed])
 
-    def test_a_close_wakes_a_begin_that_waits_for_a_renewal(self):
+    def test_a_close_wakes_a_begin_that_waits_for_capacity(self):
         bank, errors, begun = Bank({"a": 0}, patience=30), [], time.monotonic()
 
         def begin():
@@ -168,7 +168,8 @@ class Handles(unittest.TestCase):
                 errors.append(type(why))
 
         bank.update(0).__enter__().write("a", 1)
-        with mock.patch("esr._bank.NEARLY_FULL", 999_999):
+        is_full = mock.patch.object(Bank, "_has_capacity", return_value=False)
+        with mock.patch("esr._bank.NEARLY_FULL", 999_999), is_full:
             thread = threading.Thread(target=begin)
             thread.start()
             time.sleep(0.1)
@@ -295,7 +296,7 @@ class Renewals(unittest.TestCase):
 
 class Memory(unittest.TestCase):
     def test_a_commit_without_memory_is_aborted(self):
-        """So the transaction does not hold off renewals for ever."""
+        """So the transaction does not stay active."""
         library = esr._bank.c.library
         for optimistic in (True, False):
             bank = Bank({"a": 0}, optimistic=optimistic)

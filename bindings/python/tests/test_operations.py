@@ -141,10 +141,9 @@ class Day:
 
     def renew(self):
         with mock.patch("esr._bank.NEARLY_FULL", 999_999), mock.patch("esr._bank.RETRY", 0.0):
-            for _ in range(2):
-                with self.bank.report(0):
-                    pass
-        self.done.update(reports=2, renewals=1, renewals_put_off=1)
+            with self.bank.report(0), self.bank.report(0):
+                pass
+        self.done.update(reports=2, renewals=1, renewals_put_off=1, carried_reports=1)
 
 
 class Metrics(unittest.TestCase):
@@ -188,6 +187,8 @@ class Metrics(unittest.TestCase):
                 "esr_waits_total": done["waits"],
                 "esr_renewals_total": 1,
                 "esr_renewals_put_off_total": 1,
+                "esr_carried_updates_total": 0,
+                "esr_carried_reports_total": 1,
                 "esr_audits_total": 2,
                 "esr_store_writes_total": store_writes,
                 "esr_store_updates_total": done["updates"],
@@ -201,10 +202,10 @@ class Metrics(unittest.TestCase):
         self.assertEqual(dict(done, whole=5, updates=9), dict(done))
         [active] = json.loads(pages["active"].read())
         self.assertTrue(0.05 <= active.pop("age") < elapsed)
-        expected = {"number": 2, "name": "late", "kind": "update", "limit": 5, "charged": 0}
+        expected = {"number": 3, "name": "late", "kind": "update", "limit": 5, "charged": 0}
         self.assertEqual(active, {**expected, "waits_for": None, "waits_at": None})
         self.assertEqual(json.loads(pages["values"].read()), {"total": 17, "values": {"a": 15, "b": 2}})
-        self.assertIn("\n2,late,update,5,", ledger)
+        self.assertIn("\n3,late,update,5,", ledger)
 
     def test_a_snapshot_has_no_work_in_progress(self):
         bank = Bank({"a": 500, "b": 1500})

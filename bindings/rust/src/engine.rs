@@ -1,8 +1,8 @@
 //! An engine: one transaction engine of the C library, used by one thread at a time.
 
 use crate::{
-    Account, Counts, Error, Event, Finding, Refusal, Reply, Standing, Totals, Txn, error::Refused,
-    mirror::MAX_VALUE, sys,
+    Account, Carried, Counts, Error, Event, Finding, Refusal, Reply, Standing, Totals, Txn,
+    error::Refused, mirror::MAX_VALUE, sys,
 };
 use std::fmt;
 
@@ -594,6 +594,7 @@ impl Engine {
             distance: found.distance,
             import: found.import,
             before: before.into_iter().map(Txn).collect(),
+            renewals: 0,
         })
     }
 
@@ -796,6 +797,49 @@ impl Engine {
     /// `NoMemory`: then nothing has changed, and active transactions still are.
     pub fn renew_aborting(&mut self) -> Result<(), Error> {
         check(sys::esr_renew_aborting(&mut self.raw))
+    }
+
+    /// Renews like [`renew`](Engine::renew), but carries active transactions over: in the new history each continues with
+    /// its reads, its locks and the rest of its limit. Returns them in the order of their begins; their new numbers are 1, 2
+    /// and so on.
+    ///
+    /// Of the limit and the charges of a transaction, [`Carried::settled`] is in the old history only: add it to those of
+    /// [`account`](Engine::account), once for each renewal. The reads of a carried query are repeated at the current values,
+    /// so an [`audit`](Engine::audit) of it is of the repeated reads. What it has read is off by at most its charges over all
+    /// histories.
+    ///
+    /// ```
+    /// let mut engine = esr::Engine::open(&[500, 1500])?;
+    /// let (payment, report) = (engine.begin_update(100)?, engine.begin_query(100)?);
+    /// engine.read(report, 0)?;
+    /// engine.write(payment, 0, 440)?;
+    /// engine.commit(payment)?;
+    /// let carried = engine.renew_carrying()?;
+    /// assert_eq!((carried[0].old, carried[0].settled), (report, 60));
+    /// let report = carried[0].new;
+    /// assert_eq!((report.number(), engine.account(report)?.limit), (1, 40));
+    /// engine.read(report, 1)?;
+    /// engine.commit(report)?;
+    /// assert_eq!(carried[0].settled + engine.account(report)?.charged, 60);
+    /// # Ok::<(), esr::Error>(())
+    /// ```
+    ///
+    /// # Errors
+    /// `NoMemory`: then nothing has changed.
+    pub fn renew_carrying(&mut self) -> Result<Vec<Carried>, Error> {
+        let active = self.counts().active as usize;
+        // SAFETY: the pointer and the length are those of one list, whose head the call writes.
+        let carried = unsafe {
+            list_by(active, |carried, capacity, count| {
+                sys::esr_renew_carrying(&mut self.raw, carried, capacity, count)
+            })?
+        };
+        let txn_of = |one: sys::Carried| Carried {
+            old: Txn(one.old_txn),
+            new: Txn(one.new_txn),
+            settled: one.settled,
+        };
+        Ok(carried.into_iter().map(txn_of).collect())
     }
 }
 

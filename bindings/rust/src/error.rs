@@ -56,6 +56,11 @@ pub enum Error {
     /// The bank has been renewed since the report, so its history is gone. Audit in
     /// [`BankBuilder::before_renewal`](crate::BankBuilder::before_renewal) or earlier.
     ReportExpired,
+    /// The report was carried over renewals, so its distance has an upper bound, and no certificate.
+    ReportCarried {
+        /// How many renewals.
+        renewals: u64,
+    },
     /// The history has no capacity left for the event: end active transactions and [`renew`](crate::Engine::renew).
     HistoryFull,
     /// The allocation failed.
@@ -145,6 +150,10 @@ impl fmt::Display for Error {
             Error::NotACommittedQuery => f.write_str("not a committed query"),
             Error::ReportExpired => f.write_str(
                 "the report's history was renewed: audit it in before_renewal or earlier",
+            ),
+            Error::ReportCarried { renewals } => write!(
+                f,
+                "carried over {renewals} renewals: the report has a bound, and no certificate"
             ),
             Error::HistoryFull => f.write_str("history full"),
             Error::NoMemory => f.write_str("out of memory"),

@@ -173,6 +173,16 @@ impl Refusal {
         self.names().filter(|other| *other != txn)
     }
 
+    /// Returns the refusal with the number that its transaction has after a renewal.
+    pub(crate) fn renumbered(self, new: impl Fn(Txn) -> Txn) -> Refusal {
+        match self {
+            Refusal::BlockedByLock(other) => Refusal::BlockedByLock(new(other)),
+            Refusal::BlockedByImport(other) => Refusal::BlockedByImport(new(other)),
+            Refusal::BlockedByExport(other) => Refusal::BlockedByExport(new(other)),
+            other => other,
+        }
+    }
+
     /// Returns the transaction that the refusal names.
     pub(crate) fn names(self) -> Option<Txn> {
         match self {
@@ -289,6 +299,28 @@ pub struct Account {
     pub charged: u64,
 }
 
+/// An active transaction that [`Engine::renew_carrying`](crate::Engine::renew_carrying) has carried over.
+///
+/// ```
+/// let mut engine = esr::Engine::open(&[500])?;
+/// let (ended, report) = (engine.begin_query(0)?, engine.begin_query(100)?);
+/// engine.commit(ended)?;
+/// let carried = engine.renew_carrying()?;
+/// assert_eq!(carried.len(), 1);
+/// assert_eq!((carried[0].old, carried[0].new.number()), (report, 1));
+/// # Ok::<(), esr::Error>(())
+/// ```
+#[derive(Clone, Copy, PartialEq, Eq, Debug)]
+#[non_exhaustive]
+pub struct Carried {
+    /// Its number in the old history.
+    pub old: Txn,
+    /// Its number in the new history.
+    pub new: Txn,
+    /// The part of its limit and of its charges that is in the old history only.
+    pub settled: u64,
+}
+
 /// The result of the audit of a committed query.
 ///
 /// ```
@@ -303,16 +335,54 @@ pub struct Account {
 #[derive(Clone, PartialEq, Eq, Debug)]
 #[non_exhaustive]
 pub struct Finding {
-    /// The distance of the values that the query read from the nearest serial placement.
+    /// The distance of the values that the query read from the nearest serial placement. It is exact if
+    /// [`is_exact`](Finding::is_exact). Otherwise they are off by at most this.
     pub distance: u64,
-    /// The import of the query, which is at least the distance.
+    /// The import of the query over all histories, which is at least the distance.
     pub import: u64,
-    /// The smallest set of updates before such a placement, in the order of their commits.
+    /// The smallest set of updates before such a placement, in the order of their commits. Empty if the distance is not exact.
     pub before: Vec<Txn>,
+    /// How many renewals a bank's report was carried over.
+    pub renewals: u64,
+}
+
+impl Finding {
+    /// Returns the finding of a query that was carried over renewals: its import bounds its distance from the state that the
+    /// updates before its commit left.
+    pub(crate) fn of_carried(import: u64, renewals: u64) -> Finding {
+        Finding {
+            distance: import,
+            import,
+            before: Vec::new(),
+            renewals,
+        }
+    }
+
+    /// Reports whether the distance is exact. It is an upper bound if the report was carried over a renewal, because the
+    /// history of its first reads is gone.
+    ///
+    /// ```
+    /// let bank = esr::Bank::builder().item("checking", 500).open()?;
+    /// let (_, finding) = bank.report(100, |report| report.read("checking"))?;
+    /// assert!(finding.is_exact());
+    /// # Ok::<(), esr::Error>(())
+    /// ```
+    #[must_use]
+    pub fn is_exact(&self) -> bool {
+        self.renewals == 0
+    }
 }
 
 impl fmt::Display for Finding {
     fn fmt(&self, f: &mut fmt::Formatter<'_>) -> fmt::Result {
+        if !self.is_exact() {
+            let (most, import) = (self.distance, self.import);
+            let renewals = self.renewals;
+            return write!(
+                f,
+                "distance at most {most} import {import} renewals {renewals}"
+            );
+        }
         write!(
             f,
             "distance {} import {} before",

@@ -88,7 +88,7 @@ mod waits;
 pub use bank::{Bank, BankBuilder, BankQuery, BankUpdate, Closing, Item, ItemKey, Report};
 pub use engine::{Engine, MAX_ENTRIES, MAX_ITEMS, MAX_TRANSACTIONS};
 pub use error::{Error, Refused};
-pub use event::{Account, Counts, Event, Finding, Refusal, Reply, Standing, Totals, Txn};
+pub use event::{Account, Carried, Counts, Event, Finding, Refusal, Reply, Standing, Totals, Txn};
 pub use metrics::{Active, Metrics};
 pub use observer::{Audited, Ended, Observed, Observer, Outcome, Renewed};
 pub use options::Options;

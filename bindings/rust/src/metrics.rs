@@ -37,8 +37,10 @@ pub struct Metrics {
     pub waited: Duration,
     /// Renewals.
     pub renewals: u64,
-    /// Updates that were carried over a renewal.
+    /// Updates that were carried over a renewal, counted once for each renewal.
     pub carried: u64,
+    /// Reports that were carried over a renewal, counted once for each renewal.
+    pub carried_reports: u64,
     /// The total time of renewals, including the work before them. No transaction runs during it.
     pub renewing: Duration,
     /// The longest renewal.
@@ -152,6 +154,11 @@ impl Metrics {
                 "esr_carried_updates_total",
                 "Updates that were carried over a renewal.",
                 self.carried.to_string(),
+            ),
+            (
+                "esr_carried_reports_total",
+                "Reports that were carried over a renewal.",
+                self.carried_reports.to_string(),
             ),
             (
                 "esr_renewal_seconds_total",
@@ -296,6 +303,7 @@ mod tests {
                 distance,
                 import: distance,
                 before: Vec::new(),
+                renewals: 0,
             };
             metrics.count_audit(&finding, Duration::ZERO);
         }

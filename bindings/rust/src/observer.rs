@@ -248,4 +248,6 @@ pub struct Renewed {
     pub time: Duration,
     /// The number of active updates that were carried over.
     pub carried: u64,
+    /// The number of active reports that were carried over.
+    pub carried_reports: u64,
 }

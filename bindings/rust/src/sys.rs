@@ -65,6 +65,14 @@ pub(crate) struct Event {
     pub value: i64,
 }
 
+#[repr(C)]
+#[derive(Clone, Copy, Default, Debug)]
+pub(crate) struct Carried {
+    pub old_txn: u32,
+    pub new_txn: u32,
+    pub settled: u64,
+}
+
 /// A call that writes a text about a query, by names of the items.
 pub(crate) type QueryText = unsafe extern "C" fn(
     engine: &mut Engine,
@@ -177,4 +185,10 @@ unsafe extern "C" {
     ) -> u32;
     pub(crate) safe fn esr_renew(engine: &mut Engine) -> u32;
     pub(crate) safe fn esr_renew_aborting(engine: &mut Engine) -> u32;
+    pub(crate) fn esr_renew_carrying(
+        engine: &mut Engine,
+        carried: *mut Carried,
+        room: usize,
+        count: &mut usize,
+    ) -> u32;
 }

@@ -16,7 +16,7 @@ use crate::{
     Refusal, Txn,
     sync::{Instant, Thread, current},
 };
-use std::{collections::BTreeMap, time::Duration};
+use std::{collections::BTreeMap, mem, time::Duration};
 
 /// For this time after a wake-up no transaction is woken that holds no locks.
 const BETWEEN: Duration = Duration::from_millis(1);
@@ -55,8 +55,8 @@ struct Wait {
 #[derive(Debug, Default)]
 pub(crate) struct Waits {
     waiting: BTreeMap<Txn, Wait>,
-    /// Deadlock victims: the transaction that each waited for, and its refusal.
-    victims: BTreeMap<Txn, (Txn, Refusal)>,
+    /// Deadlock victims: the transaction that each waited for, if it was not ended by a renewal, and its refusal.
+    victims: BTreeMap<Txn, (Option<Txn>, Refusal)>,
     /// For each item the transaction that was woken and has not retried yet.
     woken: BTreeMap<u32, Txn>,
     last_wake: Option<Instant>,
@@ -94,7 +94,26 @@ impl Waits {
     pub(crate) fn forget(&mut self, txn: Txn) -> Option<Txn> {
         self.end(txn);
         self.free(txn);
-        self.victims.remove(&txn).map(|(other, _)| other)
+        self.victims.remove(&txn).and_then(|(other, _)| other)
+    }
+
+    /// Gives the transactions the numbers that they have after a renewal, `None` for one that has ended.
+    pub(crate) fn renumber(&mut self, new: impl Fn(Txn) -> Option<Txn>) {
+        let kept = |reason: Refusal| reason.renumbered(|txn| new(txn).unwrap_or(txn));
+        for (old, mut wait) in mem::take(&mut self.waiting) {
+            let Some(txn) = new(old) else { continue };
+            wait.waiter.txn = txn;
+            wait.blocker = wait.blocker.and_then(&new);
+            wait.reason = kept(wait.reason);
+            self.waiting.insert(txn, wait);
+        }
+        for (old, (other, reason)) in mem::take(&mut self.victims) {
+            let victim = new(old).map(|txn| (txn, (other.and_then(&new), kept(reason))));
+            self.victims.extend(victim);
+        }
+        for (item, old) in mem::take(&mut self.woken) {
+            self.woken.extend(new(old).map(|txn| (item, txn)));
+        }
     }
 
     /// Returns the transaction that a waiting one waits for, if that has not ended, and the item.
@@ -110,8 +129,7 @@ impl Waits {
 
     fn give_up(&mut self, victim: Txn) {
         if let Some(wait) = self.waiting.remove(&victim) {
-            let other = wait.blocker.map(|other| (victim, (other, wait.reason)));
-            self.victims.extend(other);
+            self.victims.insert(victim, (wait.blocker, wait.reason));
             wait.thread.unpark();
         }
     }
@@ -253,6 +271,30 @@ mod tests {
         assert_eq!(woken(&waits), None);
         waits.forget(Txn(7));
         assert_eq!(woken(&waits), Some(3));
+    }
+
+    /// After a renewal each transaction has its new number, and the end of the blocker wakes the waiter.
+    #[test]
+    fn numbers_change_at_a_renewal() {
+        let mut waits = Waits::default();
+        wait(&mut waits, 5, 3);
+        wait(&mut waits, 9, 7);
+        wait(&mut waits, 7, 9);
+        assert!(waits.victim(Txn(9)).is_some());
+        let new = |txn: Txn| match txn.number() {
+            3 => Some(Txn(1)),
+            5 => Some(Txn(2)),
+            9 => Some(Txn(3)),
+            _ => None,
+        };
+        waits.renumber(new);
+        assert_eq!(waits.wait_of(Txn(2)), Some((Some(Txn(1)), 0)));
+        assert_eq!(waits.wait_of(Txn(5)), None);
+        assert!(waits.victim(Txn(3)).is_some() && waits.victim(Txn(9)).is_none());
+        // its blocker 7 has ended
+        assert_eq!(waits.forget(Txn(3)), None);
+        waits.forget(Txn(1));
+        assert_eq!(woken(&waits), Some(2));
     }
 
     /// Without locks a transaction is woken after those with locks, and not soon after another wake-up.

@@ -433,6 +433,7 @@ impl Observer for Adds {
         self.add(|counts| {
             counts.renewals += 1;
             counts.carried += renewed.carried;
+            counts.carried_reports += renewed.carried_reports;
             counts.renewing += renewed.time;
             counts.longest_renewal = counts.longest_renewal.max(renewed.time);
         });

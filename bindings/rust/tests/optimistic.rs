@@ -458,33 +458,6 @@ fn a_slow_update_does_not_hold_a_renewal_off() {
     }
 }
 
-/// A report holds off a renewal: a new history could not reproduce its reads.
-#[test]
-fn a_report_holds_a_renewal_off() {
-    let short = Patience::of(Duration::from_millis(50));
-    let bank = builder().patience(short).open();
-    let bank = bank.expect("two accounts are within the limits");
-    let count = || {
-        let one = |_| bank.transact(2, |update| update.add("savings", 1)).err();
-        (0..=MAX_TRANSACTIONS).find_map(one)
-    };
-    let (told, finding) = bank
-        .report(u64::from(MAX_TRANSACTIONS), |report| {
-            let before = report.read("checking")?;
-            let why = thread::scope(|threads| threads.spawn(count).join().expect("no panic"));
-            assert_eq!((why, bank.renewals()), (Some(Error::HistoryFull), 0));
-            Ok::<_, Error>((before, report.read("checking")?, report.read("savings")?))
-        })
-        .expect("its limit is never met");
-    let last = 1500 + i64::from(MAX_TRANSACTIONS) - 1;
-    assert_eq!((told, finding.distance), ((500, 500, last), 0));
-    assert_eq!(
-        bank.transact(2, |update| update.add("savings", 1)),
-        Ok(last + 1)
-    );
-    assert_eq!((bank.renewals(), bank.metrics().carried), (1, 0));
-}
-
 /// Threads change items whose sum stays, whole and step by step, through renewals, with reports that have limits and
 /// snapshots: no body and no snapshot sees another sum, each report is off by at most its import, and nothing is lost.
 #[test]
@@ -673,6 +646,9 @@ fn background_audits_find_the_same() {
                 continue;
             };
             let finding = bank.audit(report).expect("it has committed");
+            if !finding.is_exact() {
+                continue; // it has no placement
+            }
             let told = bank.explain(report).expect("it has committed");
             let before = finding.before.iter().map(|txn| format!("t{txn}"));
             let before: Vec<_> = before.collect();

@@ -2,13 +2,14 @@
 
 use super::{
     items::{Items, with_names},
+    past::Past,
     state::State,
 };
 use crate::{Engine, Error, Finding, Txn};
 use std::{borrow::Cow, collections::HashMap, fmt};
 
-/// A history that is about to be renewed. No report is active, and committed reports can be audited for the last time. An
-/// active update continues in the next history.
+/// A history that is about to be renewed, in which committed reports can be audited for the last time. Active updates and
+/// reports continue in the next history.
 ///
 /// ```
 /// let bank = esr::Bank::builder()
@@ -25,6 +26,7 @@ pub struct Closing<'a> {
     items: &'a Items,
     names: &'a HashMap<u32, Cow<'static, str>>,
     due: &'a [Txn],
+    pasts: &'a HashMap<u32, Past>,
 }
 
 impl<'a> Closing<'a> {
@@ -34,7 +36,13 @@ impl<'a> Closing<'a> {
             items,
             names: &state.names,
             due: &state.due,
+            pasts: &state.pasts,
         }
+    }
+
+    fn past(&self, report: Txn) -> Past {
+        let past = self.pasts.get(&report.number());
+        past.copied().unwrap_or_default()
     }
 
     fn named(&self, text: String) -> String {
@@ -43,7 +51,7 @@ impl<'a> Closing<'a> {
         })
     }
 
-    /// Returns the committed reports that were not audited when they ended.
+    /// Returns the committed reports that were not audited when they ended. A report that is still active is not due.
     ///
     /// ```
     /// let bank = esr::Bank::builder()
@@ -76,7 +84,7 @@ impl<'a> Closing<'a> {
     /// # Errors
     /// `NotACommittedQuery`, `NoMemory`.
     pub fn audit(&mut self, report: Txn) -> Result<Finding, Error> {
-        self.engine.audit(report)
+        self.past(report).audit(self.engine, report)
     }
 
     /// Returns the bundle of one of them, which `esr check` verifies.
@@ -95,8 +103,9 @@ impl<'a> Closing<'a> {
     /// ```
     ///
     /// # Errors
-    /// `NotACommittedQuery`, `NoMemory`.
+    /// `NotACommittedQuery`, `NoMemory`, `ReportCarried`.
     pub fn bundle(&mut self, report: Txn) -> Result<Vec<u8>, Error> {
+        self.past(report).check_certifiable()?;
         self.engine.bundle(report)
     }
 
@@ -137,6 +146,8 @@ impl<'a> Closing<'a> {
     /// `NotACommittedQuery`, `NoMemory`.
     pub fn explain(&mut self, report: Txn) -> Result<String, Error> {
         let text = self.engine.explain_by(report, self.items.texts())?;
+        let past = self.past(report);
+        let text = past.explained(self.engine, report, text)?;
         Ok(self.named(text))
     }
 
@@ -157,7 +168,8 @@ impl<'a> Closing<'a> {
     /// # Errors
     /// `NotACommittedQuery`, `NoMemory`.
     pub fn picture(&mut self, report: Txn) -> Result<String, Error> {
-        self.engine.picture_by(report, self.items.texts())
+        let picture = self.engine.picture_by(report, self.items.texts())?;
+        self.past(report).pictured(self.engine, report, picture)
     }
 
     /// Returns the ledger of the whole history: see [`Bank::ledger`](crate::Bank::ledger).

@@ -61,7 +61,11 @@ impl<'a> Handle<'a> {
                     let refused = self.describe(refused.reason, item.get());
                     return Err(self.stop_for(Error::Deadlock(Box::new(refused))));
                 }
-                Err(error @ Error::HistoryFull) => return Err(self.stop_for(error)),
+                Err(full @ Error::HistoryFull) => match self.bank.renew_for_event() {
+                    Ok(true) => {}
+                    Ok(false) => return Err(self.stop_for(full)),
+                    Err(error) => return Err(self.stop_for(error)),
+                },
                 Err(error) => return Err(error),
                 accepted => {
                     self.me.holds = Holds::Locks;
@@ -147,7 +151,7 @@ impl<'a> Handle<'a> {
     fn end(mut self) -> Result<(Hold<'a>, Txn, Place), Error> {
         let mut state = self.bank.lock();
         self.bank.check_running()?;
-        let txn = state.waiter(self.me)?.txn;
+        let txn = state.active(self.me.handle).txn;
         let commit = Event::Commit { txn };
         state.engine.step(commit)?;
         self.is_active = false;
@@ -171,7 +175,7 @@ impl<'a> Handle<'a> {
         let waited_for = state.remove(self.me.handle);
         state.count_wait(self.waiting.waited(), self.watch);
         self.bank.ends.fetch_add(1, Ordering::Release);
-        if state.is_nearly_full() && state.may_renew() {
+        if state.is_nearly_full() && state.is_worth_renewing() {
             state.wake_for_capacity();
         }
         waited_for
@@ -181,9 +185,8 @@ impl<'a> Handle<'a> {
     pub(super) fn abort(&mut self) -> Option<Txn> {
         let mut state = self.bank.lock();
         // the engine keeps capacity for the end of each active transaction
-        let active = state.active(self.me.handle);
-        let (txn, is_lost) = (active.txn, active.is_lost);
-        if !is_lost && state.engine.abort(txn).is_ok() {
+        let txn = state.active(self.me.handle).txn;
+        if state.engine.abort(txn).is_ok() {
             state.log(Event::Abort { txn }, txn, 0);
         }
         self.is_active = false;

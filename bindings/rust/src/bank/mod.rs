@@ -5,9 +5,9 @@
 //! others run in between and a report sees work in progress.
 //!
 //! A blocked transaction sleeps until it can retry, as long as its patience lasts. `waits` keeps the wait-for graph; of a
-//! ring of waiters the youngest is aborted at once, and its body runs again. Once the history is nearly full nothing begins;
-//! when the last report has ended, the next thread that wants to begin renews the engine and carries active updates over
-//! (`state`). Every active transaction is owned by a handle whose drop aborts it, so a renewal never waits forever.
+//! ring of waiters the youngest is aborted at once, and its body runs again. Once the history is nearly full, the next thread
+//! that wants to begin renews the engine and carries the active transactions over (`state`). Every active transaction is owned
+//! by a handle whose drop aborts it.
 //!
 //! A bank is fastest while one thread uses it for some time: then the engine is in the cache of one processor. So an item
 //! that becomes free is not reserved for a waiter, which would leave it idle until that thread runs; the first thread to
@@ -26,6 +26,7 @@ mod builder;
 mod closing;
 mod handle;
 mod items;
+mod past;
 mod state;
 #[cfg(test)]
 mod tests;
@@ -212,11 +213,8 @@ impl Bank {
             if !state.is_nearly_full() || state.may_continue() {
                 return Ok(state);
             }
-            if state.may_renew() {
+            if state.is_worth_renewing() {
                 let renewal = self.renew(&mut state);
-                if self.observing.is_none() {
-                    return renewal.map(|_| state);
-                }
                 drop(state);
                 self.observe_renewal(renewal)?;
                 continue;
@@ -230,9 +228,25 @@ impl Bank {
         }
     }
 
+    /// Renews the history for an event for which it has no capacity, if that frees enough. Reports whether it has capacity.
+    fn renew_for_event(&self) -> Result<bool, Error> {
+        let mut state = self.lock();
+        if state.engine.counts().entries_left > 1 {
+            return Ok(true);
+        }
+        if !state.is_worth_renewing() {
+            return Ok(false);
+        }
+        let renewal = self.renew(&mut state);
+        drop(state);
+        self.observe_renewal(renewal)?;
+        Ok(true)
+    }
+
     /// Does the work before a renewal, and renews. After failed work the bank continues in the old history if it can.
     fn renew(&self, state: &mut State) -> Result<Renewal, Error> {
-        let (begun, carried) = (Instant::now(), state.metrics.carried);
+        let begun = Instant::now();
+        let carried = (state.metrics.carried, state.metrics.carried_reports);
         if self.before_renewal.is_some() {
             // the work sees the history
             self.wait_for_store()?;
@@ -255,8 +269,11 @@ impl Bank {
         state.renew()?;
         let time = begun.elapsed();
         state.metrics.count_renewal(time);
-        let carried = state.metrics.carried - carried;
-        Ok(Renewal::Done(Renewed { time, carried }))
+        Ok(Renewal::Done(Renewed {
+            time,
+            carried: state.metrics.carried - carried.0,
+            carried_reports: state.metrics.carried_reports - carried.1,
+        }))
     }
 
     fn work_before_renewal(&self, state: &mut State) -> Result<(), String> {
@@ -688,7 +705,10 @@ impl Bank {
     /// Audits a committed report, on the second engine if there is one.
     fn audit_of<'a>(&'a self, mut state: Hold<'a>, report: Report) -> Result<Finding, Error> {
         let (begun, mut is_background) = (Instant::now(), false);
+        let past = state.past(report.query);
+        let carried = past.finding(&mut state.engine, report.query)?;
         let found = match &mut state.feed {
+            _ if carried.is_some() => carried.ok_or(Error::NoMemory),
             Some(feed) => {
                 let receiver = feed.ask(report.query);
                 drop(state);
@@ -773,6 +793,8 @@ impl Bank {
     pub fn explain(&self, report: Report) -> Result<String, Error> {
         let mut state = self.lock_with(report)?;
         let text = state.engine.explain_by(report.query, self.items.texts())?;
+        let past = state.past(report.query);
+        let text = past.explained(&mut state.engine, report.query, text)?;
         let text = self.named(&state, text);
         drop(state);
         self.wait_for_store()?;
@@ -790,9 +812,10 @@ impl Bank {
     /// ```
     ///
     /// # Errors
-    /// Those of [`audit`](Bank::audit).
+    /// Those of [`audit`](Bank::audit), and `ReportCarried`.
     pub fn bundle(&self, report: Report) -> Result<Vec<u8>, Error> {
         let mut state = self.lock_with(report)?;
+        state.past(report.query).check_certifiable()?;
         let bundle = state.engine.bundle(report.query)?;
         drop(state);
         self.wait_for_store()?;
@@ -813,6 +836,8 @@ impl Bank {
     pub fn picture(&self, report: Report) -> Result<String, Error> {
         let mut state = self.lock_with(report)?;
         let picture = state.engine.picture_by(report.query, self.items.texts())?;
+        let past = state.past(report.query);
+        let picture = past.pictured(&mut state.engine, report.query, picture)?;
         drop(state);
         self.wait_for_store()?;
         Ok(picture)

@@ -1,13 +1,14 @@
 //! The part of a bank that is under its lock: the engine, and what is known of active transactions.
 //!
-//! A renewal carries active updates over: in the hold of the renewal each is begun again with the rest of its limit, reads
-//! again what it has read, and writes what it has written. It holds its locks throughout, so no other transaction has
-//! changed what it read or seen what it wrote, and each reply is what it was. An update whose reply differs is lost, and its
-//! body runs again. A report has read values that may have been overwritten since, so a renewal waits for it.
+//! A renewal carries the active transactions over, in one hold of the lock: the engine repeats their operations in the new
+//! history, which is proved to succeed. A transaction then has another number and the rest of its limit, so the numbers of
+//! all that is kept here are mapped: of active and waiting transactions, and of names. The part of its charges that is
+//! *settled* in earlier histories is kept (`Past`), because its limit, its charges and the finding of a report are those over
+//! all histories. Nothing waits for an active transaction, unless nearly all entries of the history are of active ones.
 
-use super::watch::Watch;
+use super::{past::Past, watch::Watch};
 use crate::{
-    Counts, Engine, Error, Event, Metrics, Refusal, Reply, Txn,
+    Carried, Counts, Engine, Error, Event, Metrics, Refusal, Reply, Txn,
     engine::{MAX_ENTRIES, MAX_TRANSACTIONS},
     error::Refused,
     gate::Guard,
@@ -17,16 +18,16 @@ use crate::{
 };
 use std::{borrow::Cow, collections::HashMap, time::Duration};
 
-/// With fewer entries left nothing begins before a renewal, so that active transactions can continue.
+/// With fewer entries left a renewal is due before a begin, so that active transactions can continue.
 const NEARLY_FULL: u64 = MAX_ENTRIES / 10;
 /// The transaction numbers that are kept for the time until a failed renewal is retried.
 pub(super) const RESERVED_NUMBERS: u64 = MAX_TRANSACTIONS as u64 / 10;
-/// With fewer entries left nothing begins in a history whose renewal failed.
+/// With fewer entries left nothing begins in a history whose renewal failed, or frees too little.
 const FULL: u64 = 10_000;
+/// A renewal that frees fewer entries costs more than it gains, unless it frees transaction numbers.
+const MIN_FREED: u64 = 25_000;
 /// A failed renewal is retried after this time.
 pub(super) const RETRY: Duration = Duration::from_millis(100);
-/// A renewal waits for active updates that have more events than this.
-const MAX_CARRIED: usize = 400_000;
 
 /// Items with their values.
 pub(super) type Values = Vec<(u32, i64)>;
@@ -39,15 +40,13 @@ pub(super) struct ActiveTxn {
     pub(super) is_query: bool,
     pub(super) limit: u64,
     pub(super) name: Option<Cow<'static, str>>,
-    /// Its charges in earlier histories.
-    pub(super) charged_before: u64,
     pub(super) since: Instant,
+    /// The number of its accepted entries, which a renewal repeats.
+    entries: u64,
     /// The committed values that an update has read, under read locks.
     pub(super) reads: Values,
     /// The current values of the items that it has locked for writing.
     pub(super) writes: Values,
-    /// Whether it could not be carried over a renewal.
-    pub(super) is_lost: bool,
 }
 
 impl ActiveTxn {
@@ -90,6 +89,8 @@ pub(super) struct State {
     waiting_for_capacity: Vec<Thread>,
     /// The names of transactions of this history.
     pub(super) names: HashMap<u32, Cow<'static, str>>,
+    /// What the transactions of this history that were carried into it have of earlier ones, by their numbers.
+    pub(super) pasts: HashMap<u32, Past>,
 }
 
 impl State {
@@ -109,6 +110,7 @@ impl State {
             failed_renewal: None,
             waiting_for_capacity: Vec::new(),
             names: HashMap::new(),
+            pasts: HashMap::new(),
         }
     }
 
@@ -121,21 +123,29 @@ impl State {
         counts.transactions_left <= self.reserved || counts.entries_left <= NEARLY_FULL
     }
 
-    /// Reports whether a failed renewal is not retried yet, and the history has capacity until then.
+    /// Reports whether a history that is nearly full is continued: it has capacity, and either a failed renewal is not
+    /// retried yet, or a renewal would free too little.
     pub(super) fn may_continue(&mut self) -> bool {
-        let Some((retry, _)) = &self.failed_renewal else {
-            return false;
-        };
-        let is_early = Instant::now() < *retry;
+        let retry = self.failed_renewal.as_ref().map(|(retry, _)| *retry);
+        let is_early = retry.is_some_and(|retry| Instant::now() < retry);
         let counts = self.engine.counts();
-        is_early && counts.transactions_left > 0 && counts.entries_left > FULL
+        let has_capacity = counts.transactions_left > 0 && counts.entries_left > FULL;
+        has_capacity && (is_early || !self.is_worth_renewing())
     }
 
-    /// Reports whether the active transactions allow a renewal.
-    pub(super) fn may_renew(&self) -> bool {
-        let events = |active: &ActiveTxn| 1 + active.reads.len() + active.writes.len();
-        let all: usize = self.active.iter().map(events).sum();
-        all <= MAX_CARRIED && !self.active.iter().any(|active| active.is_query)
+    /// Reports whether a renewal frees capacity: it repeats the entries of active transactions only.
+    pub(super) fn is_worth_renewing(&mut self) -> bool {
+        let counts = self.engine.counts();
+        let repeated: u64 = self.active.iter().map(|active| active.entries).sum();
+        let entries = counts.entries.saturating_sub(repeated);
+        let numbers = counts.transactions - counts.active;
+        let min = (u64::from(MAX_TRANSACTIONS) - self.reserved) / 8;
+        entries >= MIN_FREED || numbers >= min.max(1)
+    }
+
+    /// Returns what a transaction of this history has of earlier ones.
+    pub(super) fn past(&self, txn: Txn) -> Past {
+        self.pasts.get(&txn.number()).copied().unwrap_or_default()
     }
 
     /// Adds a transaction that the engine has begun, and returns its handle.
@@ -157,11 +167,10 @@ impl State {
             is_query,
             limit,
             name,
-            charged_before: 0,
             since: Instant::now(),
+            entries: 1,
             reads,
             writes,
-            is_lost: false,
         });
         self.handles
     }
@@ -173,22 +182,17 @@ impl State {
     }
 
     /// Returns a transaction by its number in this history.
-    pub(super) fn waiter(&mut self, me: Me) -> Result<Waiter, Error> {
-        let active = self.active(me.handle);
-        if active.is_lost {
-            return Err(Error::HistoryFull);
-        }
-        let txn = active.txn;
+    pub(super) fn waiter(&mut self, me: Me) -> Waiter {
+        let txn = self.active(me.handle).txn;
         let Me { age, holds, .. } = me;
-        Ok(Waiter { txn, age, holds })
+        Waiter { txn, age, holds }
     }
 
     /// Returns the charges of an active transaction over all histories.
     pub(super) fn charged(&mut self, handle: u64) -> u64 {
-        let active = self.active(handle);
-        let (txn, before) = (active.txn, active.charged_before);
+        let txn = self.active(handle).txn;
         let account = self.engine.account(txn);
-        before + account.map_or(0, |account| account.charged)
+        self.past(txn).settled + account.map_or(0, |account| account.charged)
     }
 
     /// Describes why an event of a transaction is refused.
@@ -209,7 +213,9 @@ impl State {
         if let Some(other) = reason.names() {
             refused.other = self.names.get(&other.number()).map(ToString::to_string);
             if !matches!(reason, Refusal::BlockedByLock(_)) {
-                refused.limit = self.engine.account(other).ok().map(|account| account.limit);
+                let account = self.engine.account(other).ok();
+                let settled = self.past(other).settled;
+                refused.limit = account.map(|account| settled + account.limit);
             }
         }
         refused
@@ -226,92 +232,85 @@ impl State {
 
     fn keep_write(&mut self, me: Me, item: u32, value: i64) {
         let active = self.active(me.handle);
+        active.entries += 1;
         match active.writes.iter_mut().find(|(mine, _)| *mine == item) {
             Some((_, last)) => *last = value,
             None => active.writes.push((item, value)),
         }
     }
 
-    /// Begins an active update again in a new history, in which its reads and writes take its locks.
-    fn carry(&mut self, index: usize) -> Result<(), Error> {
-        let active = &mut self.active[index];
-        active.reads.sort_by_key(|(item, _)| *item);
-        active.reads.dedup_by_key(|(item, _)| *item);
-        let limit = active.limit.saturating_sub(active.charged_before);
-        let (reads, writes) = (active.reads.clone(), active.writes.clone());
-        let begin = Event::BeginUpdate { limit };
-        let Reply::Begun(txn) = self.engine.step(begin)? else {
-            return Err(Error::HistoryFull);
-        };
-        self.active[index].txn = txn;
-        if let Some(name) = self.active[index].name.clone() {
-            self.names.insert(txn.number(), name);
-        }
-        self.log(begin, txn, 0);
-        for (item, value) in reads {
-            let read = Event::Read { txn, item };
-            if self.engine.step(read)? != Reply::Value(value) {
-                return Err(Error::HistoryFull);
-            }
-            self.log(read, txn, value);
-        }
-        for (item, value) in writes {
-            let write = Event::Write { txn, item, value };
-            if self.engine.step(write)? != Reply::Wrote {
-                return Err(Error::HistoryFull);
-            }
-            self.log(write, txn, 0);
-        }
-        Ok(())
-    }
-
-    /// Carries all active updates into the new history, in their order.
-    fn carry_all(&mut self) {
-        self.active.sort_by_key(|active| active.txn);
-        for index in 0..self.active.len() {
-            let before = self.engine.counts().transactions;
-            if self.carry(index).is_ok() {
-                self.metrics.carried += 1;
-                continue;
-            }
-            self.active[index].is_lost = true;
-            if self.engine.counts().transactions > before {
-                let txn = self.active[index].txn;
-                let abort = Event::Abort { txn };
-                // the engine keeps capacity for the end of each active transaction
-                let _ = self.engine.step(abort);
-                self.log(abort, txn, 0);
-            }
-        }
-    }
-
-    /// Renews the engine, carries active updates over, and wakes the threads that wait for capacity.
+    /// Renews the engine, carries the active transactions over, and wakes the threads that wait for capacity.
     pub(super) fn renew(&mut self) -> Result<(), Error> {
         let values = match &self.feed {
             Some(_) => self.engine.values()?,
             None => Vec::new(),
         };
-        if self.active.is_empty() {
-            self.engine.renew()?;
-        } else {
-            let handles: Vec<u64> = self.active.iter().map(|active| active.handle).collect();
-            let charges: Vec<u64> = handles.into_iter().map(|h| self.charged(h)).collect();
-            self.engine.renew_aborting()?;
-            for (active, charged) in self.active.iter_mut().zip(charges) {
-                active.charged_before = charged;
-            }
-        }
+        let carried = self.engine.renew_carrying()?;
+        self.renumber(&carried);
         if let Some(feed) = &mut self.feed {
             feed.renew(values);
         }
-        self.names.clear();
-        self.carry_all();
+        self.log_carried();
         self.failed_renewal = None;
         self.renewals += 1;
-        self.waits = Waits::default();
         self.due.clear();
         self.wake_for_capacity();
         Ok(())
+    }
+
+    /// Gives the carried transactions their new numbers wherever the old ones are kept.
+    fn renumber(&mut self, carried: &[Carried]) {
+        let numbers: HashMap<Txn, Txn> = carried.iter().map(|one| (one.old, one.new)).collect();
+        let (mut pasts, mut names) = (HashMap::new(), HashMap::new());
+        for one in carried {
+            let past = self.past(one.old).carried(one.settled);
+            pasts.insert(one.new.number(), past);
+            let name = self.names.remove(&one.old.number());
+            names.extend(name.map(|name| (one.new.number(), name)));
+        }
+        (self.pasts, self.names) = (pasts, names);
+        self.waits.renumber(|old| numbers.get(&old).copied());
+        for active in &mut self.active {
+            active.txn = numbers[&active.txn];
+            self.metrics.carried += u64::from(!active.is_query);
+            self.metrics.carried_reports += u64::from(active.is_query);
+        }
+    }
+
+    /// Logs the carried transactions for the second engine: their begins, and what updates have read and written last. It
+    /// omits the reads of reports, because a carried report is not audited.
+    fn log_carried(&mut self) {
+        if self.feed.is_none() {
+            return;
+        }
+        self.active.sort_by_key(|active| active.txn);
+        let mut operations = Vec::new();
+        for index in 0..self.active.len() {
+            let active = &mut self.active[index];
+            let (txn, is_query) = (active.txn, active.is_query);
+            active.reads.sort_unstable();
+            active.reads.dedup();
+            let reads = active
+                .reads
+                .iter()
+                .map(|&(item, value)| (Event::Read { txn, item }, value));
+            operations.extend(reads.map(|(read, value)| (read, txn, value)));
+            let writes = active.writes.iter();
+            let writes = writes.map(|&(item, value)| Event::Write { txn, item, value });
+            operations.extend(writes.map(|write| (write, txn, 0)));
+            let limit = active.limit - self.past(txn).settled;
+            let begin = match is_query {
+                true => Event::BeginQuery {
+                    limit,
+                    strict: false, // no update has committed in this history
+                },
+                false => Event::BeginUpdate { limit },
+            };
+            self.log(begin, txn, 0);
+        }
+        for (event, txn, value) in operations {
+            self.log(event, txn, value);
+        }
     }
 
     /// Adds the thread to those that wait for capacity in the history.
@@ -343,13 +342,14 @@ impl State {
 
     /// Executes a read of a transaction once.
     pub(super) fn read(&mut self, me: Me, item: u32) -> Result<Reply, Error> {
-        let waiter = self.waiter(me)?;
+        let waiter = self.waiter(me);
         let txn = waiter.txn;
         let read = Event::Read { txn, item };
         let reply = self.step(waiter, item, |engine| engine.step(read))?;
         if let Reply::Value(value) = reply {
             self.log(read, txn, value);
             let active = self.active(me.handle);
+            active.entries += 1;
             if !active.is_query && !active.has_locked(item) {
                 active.reads.push((item, value));
             }
@@ -359,7 +359,7 @@ impl State {
 
     /// Executes a write of an update once.
     pub(super) fn write(&mut self, me: Me, item: u32, value: i64) -> Result<Reply, Error> {
-        let waiter = self.waiter(me)?;
+        let waiter = self.waiter(me);
         let txn = waiter.txn;
         let write = Event::Write { txn, item, value };
         let reply = self.step(waiter, item, |engine| engine.step(write))?;
@@ -372,7 +372,7 @@ impl State {
 
     /// Locks an item for writing and reads it.
     pub(super) fn read_for_update(&mut self, me: Me, item: u32) -> Result<Reply, Error> {
-        let waiter = self.waiter(me)?;
+        let waiter = self.waiter(me);
         let txn = waiter.txn;
         let reply = self.step(waiter, item, |engine| engine.step_for_update(txn, item))?;
         if let Reply::Value(value) = reply {
@@ -381,6 +381,7 @@ impl State {
                 self.log(Event::Write { txn, item, value }, txn, 0);
                 self.keep_write(me, item, value);
             }
+            self.active(me.handle).entries += 1;
             self.log(Event::Read { txn, item }, txn, value);
         }
         Ok(reply)

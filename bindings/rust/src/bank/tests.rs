@@ -12,12 +12,12 @@ type Body = fn(&Bank);
 /// Within this time no timeout ends.
 const PROMPT: Duration = Duration::from_micros(400);
 
-/// Returns a bank of two accounts. Its history is due for a renewal after three transactions, of which `used` have ended, if
+/// Returns a bank of two accounts and a counter. Its history is due for a renewal after three transactions, of which `used` have ended, if
 /// there are any.
 fn bank(used: u32) -> Arc<Bank> {
-    let items = [("a", 10), ("b", 20)];
+    let items = [("a", 10), ("b", 20), ("c", 0)];
     let builder = Bank::builder().items(items).background_audits(false);
-    let bank = builder.open().expect("two items");
+    let bank = builder.open().expect("three items");
     if used > 0 {
         let mut state = bank.lock();
         state.reserved = u64::from(MAX_TRANSACTIONS) - 3;
@@ -129,7 +129,7 @@ fn locks_wakeups_and_victims() {
     }
 }
 
-/// A renewal, which an update is carried over and a report holds off.
+/// A renewal, which an update and a report are carried over.
 #[test]
 fn renewals() {
     let slow: Body = |bank| {
@@ -169,4 +169,82 @@ fn renewals() {
         );
         println!("{runs} schedules");
     }
+}
+
+/// Two renewals while a report and an update are active: the report is off by at most its import over all histories from a
+/// state that the update has left, and the limit holds over all of them.
+#[test]
+fn renewals_of_active_reports() {
+    let slow: Body = |bank| {
+        bank.transact_stepwise(1, |update| {
+            update.add("a", 1)?;
+            let b = update.add("b", 1)?;
+            assert_eq!(update.read("b")?, b, "a carried update lost its write");
+            assert!(update.charged() <= 1, "its limit is exceeded");
+            Ok(())
+        })
+        .expect("it commits");
+    };
+    let reports: Body = |bank| {
+        let read = |report: &mut BankQuery<'_, '_>| {
+            let a = report.read("a")?;
+            for _ in 0..2 {
+                bank.transact(0, |update| update.add("c", 1))?;
+            }
+            let values = (a, report.read("b")?);
+            Ok((values, report.charged()))
+        };
+        let ((values, charged), finding) = bank.report(1, read).expect("it commits");
+        let off = |(a, b): (i64, i64)| values.0.abs_diff(a) + values.1.abs_diff(b);
+        let least = off((10, 20)).min(off((11, 21)));
+        assert!(least <= finding.distance, "{values:?}, {finding}");
+        assert!(charged <= finding.import && finding.import <= 1);
+        assert!(finding.renewals > 0 && !finding.is_exact());
+    };
+    let both = Arc::new(AtomicU64::new(0));
+    let runs = explore(
+        Depth::coarse(2),
+        || (bank(1), vec![slow, reports]),
+        |bank, now| {
+            assert_eq!(values(bank), (11, 21), "an update was lost");
+            // a report at its limit may wait for its pause
+            check_end(bank, now, Duration::from_millis(25));
+            let metrics = bank.metrics();
+            let carried = metrics.carried.min(metrics.carried_reports);
+            both.fetch_add(carried, Ordering::Relaxed);
+        },
+    );
+    println!("{runs} schedules");
+    assert!(both.load(Ordering::Relaxed) > 0);
+}
+
+/// A renewal while an update waits for another one: the end of that one wakes it, by the numbers of the new history.
+#[test]
+fn renewals_of_waiting_updates() {
+    let holds: Body = |bank| {
+        bank.transact_stepwise(0, |update| {
+            update.add("a", 1)?;
+            for _ in 0..2 {
+                bank.transact(0, |inner| inner.add("c", 1))?;
+            }
+            update.add("b", 1)
+        })
+        .expect("it commits");
+    };
+    let waits: Body = |bank| {
+        bank.transact_stepwise(0, |update| update.add("a", 1))
+            .expect("it commits");
+    };
+    let both = Arc::new(AtomicU64::new(0));
+    let runs = explore(
+        Depth::coarse(2),
+        || (bank(1), vec![holds, waits]),
+        |bank, now| {
+            assert_eq!(values(bank), (12, 21), "an update was lost");
+            check_end(bank, now, PROMPT);
+            both.fetch_add(u64::from(bank.metrics().carried > 1), Ordering::Relaxed);
+        },
+    );
+    println!("{runs} schedules");
+    assert!(both.load(Ordering::Relaxed) > 0);
 }

@@ -25,7 +25,7 @@ macro_rules! metrics_observer {
         $(#[$attribute])*
         $visibility struct $name {
             registered: ::std::sync::OnceLock<(
-                [::metrics::Counter; 12],
+                [::metrics::Counter; 13],
                 [::metrics::Histogram; 5],
                 ::metrics::Gauge,
             )>,
@@ -51,7 +51,7 @@ macro_rules! metrics_observer {
                 ::metrics::counter!("esr_store_updates_total").absolute(metrics.store_updates);
             }
 
-            fn registered(&self) -> &([::metrics::Counter; 12], [::metrics::Histogram; 5], ::metrics::Gauge) {
+            fn registered(&self) -> &([::metrics::Counter; 13], [::metrics::Histogram; 5], ::metrics::Gauge) {
                 self.registered.get_or_init(|| {
                     Self::describe();
                     let counters = [
@@ -64,6 +64,7 @@ macro_rules! metrics_observer {
                         ::metrics::counter!("esr_waits_total"),
                         ::metrics::counter!("esr_renewals_total"),
                         ::metrics::counter!("esr_carried_updates_total"),
+                        ::metrics::counter!("esr_carried_reports_total"),
                         ::metrics::counter!("esr_failed_renewals_total"),
                         ::metrics::counter!("esr_audits_total"),
                         ::metrics::counter!("esr_background_audits_total"),
@@ -89,6 +90,7 @@ macro_rules! metrics_observer {
                     ("esr_waits_total", "Transactions that waited for others."),
                     ("esr_renewals_total", "Renewals of the history."),
                     ("esr_carried_updates_total", "Updates that were carried over a renewal."),
+                    ("esr_carried_reports_total", "Reports that were carried over a renewal."),
                     ("esr_failed_renewals_total", "Renewals whose work failed."),
                     ("esr_audits_total", "Audits of reports."),
                     ("esr_background_audits_total", "Audits on the second engine."),
@@ -161,9 +163,10 @@ macro_rules! metrics_observer {
             }
 
             fn renewed(&self, renewed: &$crate::Renewed) {
-                let ([.., renewals, carried, _, _, _], [_, _, time, ..], _) = self.registered();
+                let ([.., renewals, updates, reports, _, _, _], [_, _, time, ..], _) = self.registered();
                 renewals.increment(1);
-                carried.increment(renewed.carried);
+                updates.increment(renewed.carried);
+                reports.increment(renewed.carried_reports);
                 time.record(renewed.time.as_secs_f64());
             }
 

@@ -14,7 +14,7 @@
 /// | event `restarted` | debug | `transaction`, `reason` |
 /// | event `deadlock victim` | warn | `transaction`, `reason` |
 /// | event `audited` | debug | `charged`, `distance`, `time`, `background` |
-/// | event `renewed` | info | `carried`, `time` |
+/// | event `renewed` | info | `carried`, `carried_reports`, `time` |
 /// | event `renewal failed` | error | `reason` |
 ///
 /// `transaction` is [`Observed::id`](crate::Observed::id), and `retries` is the number of runs of its body after the first.
@@ -133,6 +133,7 @@ macro_rules! tracing_observer {
                     ::tracing::info!(
                         target: "esr",
                         carried = renewed.carried,
+                        carried_reports = renewed.carried_reports,
                         time = ::tracing::field::debug(renewed.time),
                         "renewed"
                     );

@@ -201,7 +201,7 @@ fn renewals() {
         .collect();
     let (last, failed) = renewals.split_last().expect("the history was full");
     assert!(
-        last.ends_with(" event: INFO esr carried=0 message=renewed time=.."),
+        last.ends_with(" event: INFO esr carried=0 carried_reports=0 message=renewed time=.."),
         "{last}"
     );
     assert!(!failed.is_empty());
