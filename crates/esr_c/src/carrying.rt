@@ -54,7 +54,7 @@ pub(crate) fn renew_engine_carrying(
     ensures statuses { IsValuesStatus (status_number result) }
     ensures open { result ≢ Status.Closed }
     ensures count { count.new ≡ active_count (accepted_in engine.old) }
-    ensures small { result ≡ Status.TooSmall ↔ (length txns.old < active_count (accepted_in engine.old)) }
+    ensures small { (status_number result ≡ 7) ↔ (length txns.old < active_count (accepted_in engine.old)) }
     ensures renewed { status_number result ≡ 0 → engine.new ≡ carried weighted engine.old }
     ensures listed { result ≡ Status.Done → AreCarriedIn engine.old count.new txns.new }
     ensures carried { result ≡ Status.Done → IsCarriedRenewal engine.old }
