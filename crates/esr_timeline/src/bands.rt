@@ -2,7 +2,7 @@
 
 use crate::elements::{close_text, open_centred, open_rect, open_text, push_text, push_vertical};
 use crate::head::prefix_of;
-use crate::layout::{Band, Column, EDGE, Layout, STEP_ROW, Span, column_at};
+use crate::layout::{Band, Column, EDGE, Layout, STEP_ROW, Span, charges_between, column_at};
 use crate::limits::push_limit;
 use crate::model::{Arrow, Lane, Scene};
 use crate::signs::push_marks_in;
@@ -194,7 +194,7 @@ fn push_arrow(
 
 /// Appends the arrows of the charges in a band.
 fn push_arrows(out: &mut String, scene: &Scene<'_>, band: &Band<'_>) -> Result<(), AllocError> {
-    for arrow in band.charges(&scene.arrows) {
+    for arrow in charges_between(&scene.arrows, band.first_place(), band.end_place()) {
         push_arrow(out, scene, band, arrow)?;
     }
     Ok(())
@@ -215,7 +215,7 @@ fn push_amount(out: &mut String, band: &Band<'_>, arrow: &Arrow<'_>) -> Result<(
 
 /// Appends the amounts of the charges in a band.
 fn push_amounts(out: &mut String, scene: &Scene<'_>, band: &Band<'_>) -> Result<(), AllocError> {
-    for arrow in band.charges(&scene.arrows) {
+    for arrow in charges_between(&scene.arrows, band.first_place(), band.end_place()) {
         push_amount(out, band, arrow)?;
     }
     Ok(())

@@ -147,13 +147,21 @@ fn sum_by(arrows: &[Arrow<'_>], update: TxnId) -> u64 {
     sum
 }
 
-/// Notes on the lanes of updates what was charged to them.
-pub fn note_exports(lanes: &mut [Lane<'_>], arrows: &[Arrow<'_>]) {
+/// Returns the lanes, those of updates with what was charged to them.
+pub fn with_exports<'a>(
+    alloc: Global,
+    lanes: &[Lane<'a>],
+    arrows: &[Arrow<'a>],
+) -> Result<Vec<Lane<'a>>, AllocError> {
+    let mut noted = Vec::with_capacity(alloc, lanes.len())?;
     for lane in lanes {
+        let mut lane = *lane;
         if !lane.is_query() {
             lane.charged = sum_by(arrows, lane.txn);
         }
+        noted.push(lane)?;
     }
+    Ok(noted)
 }
 
 /// Returns the sum of some charges.

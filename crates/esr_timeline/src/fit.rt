@@ -3,7 +3,7 @@
 //! then with the first charges of a ranking only (`causes`). One band is tried first, unless labels would be omitted.
 
 use crate::causes::Causes;
-use crate::charges::{Payers, between, charges_to, drawable, greatest, note_exports, sum_of};
+use crate::charges::{Payers, between, charges_to, drawable, greatest, sum_of, with_exports};
 use crate::lanes::{MAX_LANES, concerned, farthest, first_begun, lanes_of};
 use crate::layout::{Drawn, Format, Layout, Spacing, layout_of};
 use crate::marks::{keys_of, mark_keys, mark_query_reads, marks_of, marks_on};
@@ -566,10 +566,10 @@ fn material_on<'a>(
     alloc: Global,
     source: Source<'a>,
     query: Option<TxnId>,
-    mut lanes: Vec<Lane<'a>>,
+    lanes: Vec<Lane<'a>>,
     charges: Vec<Arrow<'a>>,
 ) -> Result<Material<'a>, AllocError> {
-    note_exports(&mut lanes, &charges);
+    let lanes = with_exports(alloc, &lanes, &charges)?;
     let marks = marks_of(alloc, source, &lanes)?;
     Ok(Material {
         source,

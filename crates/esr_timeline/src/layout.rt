@@ -130,25 +130,25 @@ fn heads_width(lanes: &[Lane<'_>]) -> u32 {
     width
 }
 
-/// Returns the charges from one entry to another, among charges in the order of their entries.
-fn charges_between<'a: 'b, 'b>(
+/// Returns the charges from one entry on and before another, among charges in the order of their entries.
+pub fn charges_between<'a: 'b, 'b>(
     arrows: &'b [Arrow<'a>],
     first: usize,
-    last: usize,
+    end: usize,
 ) -> &'b [Arrow<'a>] {
-    let end = arrows.partition_point(|arrow| arrow.place <= last);
+    let end = arrows.partition_point(|arrow| arrow.place < end);
     let start = arrows.partition_point(|arrow| arrow.place < first).min(end);
     &arrows[start..end]
 }
 
 /// Returns the charges of an entry, among charges in the order of their entries.
 pub fn charges_at<'a: 'b, 'b>(arrows: &'b [Arrow<'a>], place: usize) -> &'b [Arrow<'a>] {
-    charges_between(arrows, place, place)
+    charges_between(arrows, place, place.saturating_add(1))
 }
 
 /// Returns the charges up to an entry, among charges in the order of their entries.
 pub fn charges_at_or_before<'a: 'b, 'b>(arrows: &'b [Arrow<'a>], place: usize) -> &'b [Arrow<'a>] {
-    charges_between(arrows, 0, place)
+    charges_between(arrows, 0, place.saturating_add(1))
 }
 
 /// Returns the column of a mark after a column at `x`.
@@ -436,21 +436,19 @@ impl<'a> Band<'a> {
         self.floor().saturating_add(axis)
     }
 
-    /// Returns the charges of its columns, among charges in the order of their entries.
-    pub fn charges<'b>(&self, arrows: &'b [Arrow<'a>]) -> &'b [Arrow<'a>] {
-        match (self.columns.first(), self.columns.last()) {
-            (Some(first), Some(last)) => {
-                charges_between(arrows, first.mark.place, last.mark.place)
-            }
-            _ => &[],
+    /// Returns the place of the entry of its first column.
+    pub fn first_place(&self) -> usize {
+        match self.columns.first() {
+            Some(column) => column.mark.place,
+            None => 0,
         }
     }
 
-    /// Returns the charges before its columns, among charges in the order of their entries.
-    pub fn charges_before<'b>(&self, arrows: &'b [Arrow<'a>]) -> &'b [Arrow<'a>] {
-        match self.columns.first().map(|column| column.mark.place) {
-            Some(place) if place > 0 => charges_at_or_before(arrows, place.saturating_sub(1)),
-            _ => &[],
+    /// Returns the place after the entry of its last column.
+    pub fn end_place(&self) -> usize {
+        match self.columns.last() {
+            Some(column) => column.mark.place.saturating_add(1),
+            None => 0,
         }
     }
 }

@@ -1,7 +1,7 @@
 //! The bar of a limit below the lane of a query, which fills up with each charge.
 
 use crate::elements::push_rect;
-use crate::layout::{Band, charges_at_or_before};
+use crate::layout::{Band, charges_at_or_before, charges_between};
 use crate::model::{Arrow, Lane, Scene};
 use esr_history::MAX_LIMIT;
 use std::alloc::AllocError;
@@ -61,7 +61,8 @@ fn push_parts(
     top: u32,
 ) -> Result<(), AllocError> {
     let span = band.span(number);
-    let before = charged(band.charges_before(&scene.all_charges), number);
+    let earlier = charges_between(&scene.all_charges, 0, band.first_place());
+    let before = charged(earlier, number);
     let mut part = Part {
         start: span.start,
         end: span.start,
