@@ -174,7 +174,7 @@ static void carried(void) {
     account(&engine, 1, 17, 14);
     answered(esr_read(&engine, 1, 0, &reply), &reply, ESR_REFUSED);
     WANT(reply.refusal, ESR_BLOCKED_BY_IMPORT);
-    WANT(reply.txn, 2);
+    WANT(reply.txn, 1);
     answered(esr_commit(&engine, 2, &reply), &reply, ESR_COMMITTED);
     answered(esr_write(&engine, 3, 0, 108, &reply), &reply, ESR_WROTE);
     account(&engine, 1, 17, 16);
