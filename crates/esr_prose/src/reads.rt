@@ -84,7 +84,7 @@ fn observed_reads_of(trace: &QueryTrace, item: ItemId) -> u64 {
     count
 }
 
-/// The sum of what was read, where each of several items was read once, and all count alike.
+/// Returns the sum of the values read, if there are several items, each was read once, and all have weight 1.
 pub fn sum_of_reads(trace: &QueryTrace, subject: &Subject<'_>) -> Option<i64> {
     let mut sum = 0i64;
     for observed in &trace.observed_reads {
