@@ -151,7 +151,7 @@ fn values_that_were_undone_are_described(rt: HostRuntime) {
         ">which aborted</text>",
         ">read 6 of v,</text>",
         ">which overwrote it</text>",
-        ">3 x 2</text>",
+        ">3, 2 reads</text>",
         ">which aborted; same as the opening value</text>",
     ];
     has(
