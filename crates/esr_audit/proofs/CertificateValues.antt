@@ -7,7 +7,7 @@ use Rattle.std.proofs.lemmas.List.{length-map}
 use denote.RawPtr.{null_ptr}
 use Rattle.esr_base.specs.declared.limits.TheConstants.{MAX_ITEMS, MAX_TRANSACTIONS}
 use Rattle.esr_cert.specs.declared.certificate.Certificate as code
-use Rattle.esr_cert.specs.Problem.{Chain, Problem, update_count, is_ascending, pair_lt, are_pairs_ascending, chain_has_shape, has_valid_shape, chain_is_in_range, is_in_range, is_well_formed}
+use Rattle.esr_cert.specs.Problem.{Chain, Problem, update_count, is_strictly_ascending, pair_lt, are_pairs_ascending, chain_has_shape, has_valid_shape, chain_is_in_range, is_in_range, is_well_formed}
 use Rattle.esr_cert.specs.Certificate.{Certificate, are_rows_matched, Certifies}
 use Rattle.esr_cert.specs.Views.{rows_of, certificate_of}
 use Rattle.esr_cert.proofs.Sound.{HasShape, shape_facts, InRange, range_facts}
@@ -62,13 +62,13 @@ within_square n e = nat_lt e.0 n && nat_lt e.1 n
 ends_below : (n : ℕ) (e : ℕ × ℕ) → within_square n e ≡ true → (e.0 < n) × (e.1 < n)
 ends_below n e h = let both : (nat_lt e.0 n ≡ true) × (nat_lt e.1 n ≡ true) = and_parts (nat_lt e.0 n) (nat_lt e.1 n) h in (ltb-true e.0 n both.0, ltb-true e.1 n both.1)
 
-numbers_ascend : (n : ℕ) (pairs : List (ℕ × ℕ)) → are_pairs_ascending pairs ≡ true → list_all (within_square n) pairs ≡ true → is_ascending (map (pair_number n) pairs) ≡ true
+numbers_ascend : (n : ℕ) (pairs : List (ℕ × ℕ)) → are_pairs_ascending pairs ≡ true → list_all (within_square n) pairs ≡ true → is_strictly_ascending (map (pair_number n) pairs) ≡ true
 numbers_ascend n [] h r = refl
 numbers_ascend n (a ∷ []) h r = refl
 numbers_ascend n (a ∷ b ∷ pairs) h r =
     let up : (pair_lt a b ≡ true) × (are_pairs_ascending (b ∷ pairs) ≡ true) = and_parts (pair_lt a b) (are_pairs_ascending (b ∷ pairs)) h in
     let here : (within_square n a ≡ true) × (list_all (within_square n) (b ∷ pairs) ≡ true) = and_parts (within_square n a) (list_all (within_square n) (b ∷ pairs)) r in
-    and_from (nat_lt (pair_number n a) (pair_number n b)) (is_ascending (map (pair_number n) (b ∷ pairs)))
+    and_from (nat_lt (pair_number n a) (pair_number n b)) (is_strictly_ascending (map (pair_number n) (b ∷ pairs)))
     (lt-ltb (pair_number n a) (pair_number n b) (number_rises n a b (ends_below n a here.0).1 up.0)) (numbers_ascend n (b ∷ pairs) up.1 here.1)
 
 numbers_below : (n : ℕ) (pairs : List (ℕ × ℕ)) → list_all (within_square n) pairs ≡ true → list_all (λ t. nat_lt t (n * n)) (map (pair_number n) pairs) ≡ true
@@ -95,7 +95,7 @@ items_below n (c ∷ chains) r =
 costs_bounded : (n : ℕ) (before : List (ℕ × ℕ)) (c : Chain) → chain_has_shape before c ≡ true → chain_is_in_range n c ≡ true → length c.costs ≤ n + 1
 costs_bounded n before c h r =
     let a = and_parts _ _ h in
-    let b : ((length c.costs == suc (length c.writers)) ≡ true) × (is_ascending c.writers ≡ true) = and_parts (length c.costs == suc (length c.writers)) (is_ascending c.writers) a.0 in
+    let b : ((length c.costs == suc (length c.writers)) ≡ true) × (is_strictly_ascending c.writers ≡ true) = and_parts (length c.costs == suc (length c.writers)) (is_strictly_ascending c.writers) a.0 in
     let count : length c.costs ≡ suc (length c.writers) = eqb-true (length c.costs) (suc (length c.writers)) b.0 in
     let below : list_all (λ w. nat_lt w n) c.writers ≡ true = (and_parts (nat_lt c.item MAX_ITEMS) (list_all (λ w. nat_lt w n) c.writers) r).1 in
     omega (arith, ascending_bounded n c.writers b.1 below)

@@ -4,7 +4,7 @@ use Rattle.std.specs.List.{list_all, filter_map, cons_option, slice_get, range_w
 use Rattle.std.proofs.lemmas.Bool.{cases_eq, eq-eqb, ne_eqb, true≢false, and_parts, or_left, or_right, ltb-true, not-true}
 use Rattle.std.proofs.lemmas.Option.{same_Some}
 use Rattle.esr_order.specs.Placements.{is_among}
-use Rattle.esr_cert.specs.Problem.{in_set, is_ascending, is_distinct}
+use Rattle.esr_cert.specs.Problem.{in_set, is_strictly_ascending, is_distinct}
 use Rattle.esr_audit.specs.Problems.{passes_at, places}
 use Rattle.esr_audit.proofs.Smallest.{passes_here, element, known_at}
 
@@ -40,10 +40,10 @@ among_at us dist (j ∷ set) known i u e =
 
 -- ---- ascending lists of positions
 
-above : (x : ℕ) (rest : List ℕ) → is_ascending (x ∷ rest) ≡ true → AllByRecursion (λ y. x < y) rest
+above : (x : ℕ) (rest : List ℕ) → is_strictly_ascending (x ∷ rest) ≡ true → AllByRecursion (λ y. x < y) rest
 above x [] a = tt
 above x (y ∷ rest) a =
-    let both : (nat_lt x y ≡ true) × (is_ascending (y ∷ rest) ≡ true) = and_parts (nat_lt x y) (is_ascending (y ∷ rest)) a in
+    let both : (nat_lt x y ≡ true) × (is_strictly_ascending (y ∷ rest) ≡ true) = and_parts (nat_lt x y) (is_strictly_ascending (y ∷ rest)) a in
     let l : x < y = ltb-true x y both.0 in
     (l, weaker rest (above y rest both.1) l)
   where
@@ -51,9 +51,9 @@ above x (y ∷ rest) a =
     weaker [] b l = tt
     weaker (z ∷ zs) b l = (omega (arith, b.0), weaker zs b.1 l)
 
-tail_ascends : (x : ℕ) (rest : List ℕ) → is_ascending (x ∷ rest) ≡ true → is_ascending rest ≡ true
+tail_ascends : (x : ℕ) (rest : List ℕ) → is_strictly_ascending (x ∷ rest) ≡ true → is_strictly_ascending rest ≡ true
 tail_ascends x [] a = refl
-tail_ascends x (y ∷ rest) a = (and_parts (nat_lt x y) (is_ascending (y ∷ rest)) a).1
+tail_ascends x (y ∷ rest) a = (and_parts (nat_lt x y) (is_strictly_ascending (y ∷ rest)) a).1
 
 pub filter_agree : (P Q : ℕ → Bool) (a n : ℕ) → ((x : ℕ) → a ≤ x → x < a + n → P x ≡ Q x) → filter P (range_with_len a n) ≡ filter Q (range_with_len a n)
 filter_agree P Q a zero same = refl
@@ -70,7 +70,7 @@ nothing a zero = refl
 nothing a (suc n) = nothing (a + 1) n
 
 -- an ascending list of positions is the positions that it has
-pub ascending_range : (set : List ℕ) (a n : ℕ) → is_ascending set ≡ true → AllByRecursion (λ x. (a ≤ x) × (x < a + n)) set → set ≡ filter (in_set set) (range_with_len a n)
+pub ascending_range : (set : List ℕ) (a n : ℕ) → is_strictly_ascending set ≡ true → AllByRecursion (λ x. (a ≤ x) × (x < a + n)) set → set ≡ filter (in_set set) (range_with_len a n)
 ascending_range [] a n up l = sym (nothing a n)
 ascending_range (s ∷ set) a zero up l = let b : (a ≤ s) × (s < a + 0) = l.0 in absurd (omega arith)
 ascending_range (s ∷ set) a (suc n) up l =
@@ -134,7 +134,7 @@ from_tests n (x ∷ set) h =
     let l : x < n = ltb-true x n both.0 in
     ((omega arith, omega arith), from_tests n set both.1)
 
-module _ (us : List ℕ) (dist : is_distinct us ≡ true) (set : List ℕ) (up : is_ascending set ≡ true) (known : list_all (λ x. nat_lt x (length us)) set ≡ true) where
+module _ (us : List ℕ) (dist : is_distinct us ≡ true) (set : List ℕ) (up : is_strictly_ascending set ≡ true) (known : list_all (λ x. nat_lt x (length us)) set ≡ true) where
   abbrev there : List ℕ
   there = filter_map (slice_get us) set
 

@@ -16,7 +16,7 @@ use Rattle.esr_order.specs.Chains.{nth}
 use Rattle.esr_order.specs.Orders.{ConflictOrder, IsClosedAt, IsConflictOrderOn}
 use Rattle.esr_order.specs.Relevant.{AreRelevant, has_written}
 use Rattle.esr_order.proofs.RelevantLaws.{relevant_closed, relevant_writers}
-use Rattle.esr_cert.specs.Problem.{Problem, is_closed, in_set, is_ascending}
+use Rattle.esr_cert.specs.Problem.{Problem, is_closed, in_set, is_strictly_ascending}
 use Rattle.esr_cert.proofs.Sound as sound
 use Rattle.esr_audit.specs.Problems.{passes_at, places, items_read, writers_of, chain_for, IsProblemOf}
 use Rattle.esr_audit.specs.Reads.{chain_of_item, items_in, item_read_of, ItemRead}
@@ -49,8 +49,8 @@ one_place us once i j u a b = go us (Pairs-from_all (λ u v. u ≢ v) us once) i
     go (v ∷ vs) p (suc i) zero a b = let s : v ≡ u = cc in absurd (later vs v p.0 i (a ∙ ap Some (sym s)))
     go (v ∷ vs) p (suc i) (suc j) a b = ap suc (go vs p.1 i j a b)
 
-ascending_from_pairs : (xs : List ℕ) → Pairs (λ i j. i < j) xs → is_ascending xs ≡ true
-ascending_from_pairs (x ∷ y ∷ rest) p = and_from (nat_lt x y) (is_ascending (y ∷ rest)) (lt-ltb x y (p.0).0) (ascending_from_pairs (y ∷ rest) p.1)
+ascending_from_pairs : (xs : List ℕ) → Pairs (λ i j. i < j) xs → is_strictly_ascending xs ≡ true
+ascending_from_pairs (x ∷ y ∷ rest) p = and_from (nat_lt x y) (is_strictly_ascending (y ∷ rest)) (lt-ltb x y (p.0).0) (ascending_from_pairs (y ∷ rest) p.1)
 ascending_from_pairs _ p = refl
 
 module _ (d : DistanceFunction) (h : Schedule) (q : ℕ) (legal : IsLegal d h) (us : List ℕ) (relevant : AreRelevant h q us) (o : ConflictOrder) (good : IsConflictOrderOn h q us o) where
@@ -66,7 +66,7 @@ module _ (d : DistanceFunction) (h : Schedule) (q : ℕ) (legal : IsLegal d h) (
       passes_here us S i (nth us i) (there i l)
       ∙ sym (ap (λ b. b && S (nth us i)) (among_element us i (nth us i) (there i l)))
 
-  pub must_ascends : is_ascending o.must ≡ true
+  pub must_ascends : is_strictly_ascending o.must ≡ true
   must_ascends = ascending_from_pairs o.must (Pairs-from_all (λ i j. i < j) o.must good.rising)
 
   must_there : (set : List ℕ) → AllByRecursion (λ i. i < length us) set → (i : ℕ) → i < length us → is_among (map (nth us) set) (nth us i) ≡ in_set set i

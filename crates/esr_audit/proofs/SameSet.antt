@@ -2,19 +2,19 @@
 use Rattle.std.proofs.Common.{◌≡◌, ℕ, ◌<◌, ◌≤◌, true, eqb, ltb, List, [], ◌∷◌, inl, inr, refl, sym, ap, ◌∙◌, arith, true≢false, eq-eqb}
 use Rattle.std.specs.List.{list_all}
 use Rattle.std.proofs.lemmas.Bool.{or_left, or_right, or_cases, and_parts, eqb-true, ltb-true}
-use Rattle.esr_cert.specs.Problem.{Problem, update_count, in_set, is_ascending, IsSmallestLeastCostSet}
+use Rattle.esr_cert.specs.Problem.{Problem, update_count, in_set, is_strictly_ascending, IsSmallestLeastCostSet}
 use Rattle.esr_cert.specs.Certificate.{Certificate, Certifies}
 use Rattle.esr_cert.proofs.Certified.{IsFaultless, faultless}
 
 -- the rest of an ascending list ascends, and is above its head
-tail_ascends : (x : ℕ) (xs : List ℕ) → is_ascending (x ∷ xs) ≡ true → is_ascending xs ≡ true
+tail_ascends : (x : ℕ) (xs : List ℕ) → is_strictly_ascending (x ∷ xs) ≡ true → is_strictly_ascending xs ≡ true
 tail_ascends x [] h = refl
-tail_ascends x (y ∷ ys) h = (and_parts (ltb x y) (is_ascending (y ∷ ys)) h).1
+tail_ascends x (y ∷ ys) h = (and_parts (ltb x y) (is_strictly_ascending (y ∷ ys)) h).1
 
-tail_above : (x : ℕ) (xs : List ℕ) → is_ascending (x ∷ xs) ≡ true → (u : ℕ) → in_set xs u ≡ true → x < u
+tail_above : (x : ℕ) (xs : List ℕ) → is_strictly_ascending (x ∷ xs) ≡ true → (u : ℕ) → in_set xs u ≡ true → x < u
 tail_above x [] h u t = absurd (true≢false (sym t))
 tail_above x (y ∷ ys) h u t =
-    let both : (ltb x y ≡ true) × (is_ascending (y ∷ ys) ≡ true) = and_parts (ltb x y) (is_ascending (y ∷ ys)) h in
+    let both : (ltb x y ≡ true) × (is_strictly_ascending (y ∷ ys) ≡ true) = and_parts (ltb x y) (is_strictly_ascending (y ∷ ys)) h in
     let l : x < y = ltb-true x y both.0 in
     elim (or_cases (eqb y u) (in_set ys u) t) [
       | inl e ↦ let q : y ≡ u = eqb-true y u e in omega arith
@@ -22,7 +22,7 @@ tail_above x (y ∷ ys) h u t =
     ]
 
 -- a member is the head, or above it
-head_least : (x : ℕ) (xs : List ℕ) → is_ascending (x ∷ xs) ≡ true → (u : ℕ) → in_set (x ∷ xs) u ≡ true → x ≤ u
+head_least : (x : ℕ) (xs : List ℕ) → is_strictly_ascending (x ∷ xs) ≡ true → (u : ℕ) → in_set (x ∷ xs) u ≡ true → x ≤ u
 head_least x xs h u t =
     elim (or_cases (eqb x u) (in_set xs u) t) [
       | inl e ↦ let q : x ≡ u = eqb-true x u e in omega arith
@@ -33,7 +33,7 @@ head_in : (x : ℕ) (xs : List ℕ) → in_set (x ∷ xs) x ≡ true
 head_in x xs = or_left (eqb x x) (in_set xs x) (eq-eqb x x refl)
 
 -- if two ascending lists have the same members, so have their tails
-rests_same : (x : ℕ) (xs ys : List ℕ) → is_ascending (x ∷ xs) ≡ true → ((u : ℕ) → in_set (x ∷ xs) u ≡ true → in_set (x ∷ ys) u ≡ true) → (u : ℕ) → in_set xs u ≡ true → in_set ys u ≡ true
+rests_same : (x : ℕ) (xs ys : List ℕ) → is_strictly_ascending (x ∷ xs) ≡ true → ((u : ℕ) → in_set (x ∷ xs) u ≡ true → in_set (x ∷ ys) u ≡ true) → (u : ℕ) → in_set xs u ≡ true → in_set ys u ≡ true
 rests_same x xs ys h same u t =
     let above : x < u = tail_above x xs h u t in
     elim (or_cases (eqb x u) (in_set ys u) (same u (or_right (eqb x u) (in_set xs u) t))) [
@@ -41,7 +41,7 @@ rests_same x xs ys h same u t =
       | inr k ↦ k
     ]
 
-same_lists : (xs ys : List ℕ) → is_ascending xs ≡ true → is_ascending ys ≡ true → ((u : ℕ) → in_set xs u ≡ true → in_set ys u ≡ true) → ((u : ℕ) → in_set ys u ≡ true → in_set xs u ≡ true) → xs ≡ ys
+same_lists : (xs ys : List ℕ) → is_strictly_ascending xs ≡ true → is_strictly_ascending ys ≡ true → ((u : ℕ) → in_set xs u ≡ true → in_set ys u ≡ true) → ((u : ℕ) → in_set ys u ≡ true → in_set xs u ≡ true) → xs ≡ ys
 same_lists [] [] a b f g = refl
 same_lists [] (y ∷ ys) a b f g = absurd (true≢false (sym (g y (head_in y ys))))
 same_lists (x ∷ xs) [] a b f g = absurd (true≢false (sym (f x (head_in x xs))))
@@ -49,7 +49,7 @@ same_lists (x ∷ xs) (y ∷ ys) a b f g =
     let le : y ≤ x = head_least y ys b x (f x (head_in x xs)) in
     let ge : x ≤ y = head_least x xs a y (g y (head_in y ys)) in
     let e : y ≡ x = omega arith in
-    let b' : is_ascending (x ∷ ys) ≡ true = ap (λ w. is_ascending (w ∷ ys)) (sym e) ∙ b in
+    let b' : is_strictly_ascending (x ∷ ys) ≡ true = ap (λ w. is_strictly_ascending (w ∷ ys)) (sym e) ∙ b in
     let f' : (u : ℕ) → in_set (x ∷ xs) u ≡ true → in_set (x ∷ ys) u ≡ true = λ u t. ap (λ w. in_set (w ∷ ys) u) (sym e) ∙ f u t in
     let g' : (u : ℕ) → in_set (x ∷ ys) u ≡ true → in_set (x ∷ xs) u ≡ true = λ u t. g u (ap (λ w. in_set (w ∷ ys) u) e ∙ t) in
     ap (λ zs. x ∷ zs) (same_lists xs ys (tail_ascends x xs a) (tail_ascends x ys b') (rests_same x xs ys a f') (rests_same x ys xs b' g')) ∙ ap (λ w. w ∷ ys) (sym e)

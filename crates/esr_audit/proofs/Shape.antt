@@ -14,7 +14,7 @@ use Rattle.esr_order.specs.Chains as orders
 use Rattle.esr_order.specs.Chains.{nth, chain_from, if_written, last_among}
 use Rattle.esr_order.specs.Orders.{ConflictOrder, IsConflictOrderOn}
 use Rattle.esr_order.specs.Relevant.{AreRelevant, has_written}
-use Rattle.esr_cert.specs.Problem.{Chain, in_set, is_ascending, pair_lt, are_pairs_ascending, has_pair, are_linked, is_distinct, chain_has_shape, has_valid_shape}
+use Rattle.esr_cert.specs.Problem.{Chain, in_set, is_strictly_ascending, pair_lt, are_pairs_ascending, has_pair, are_linked, is_distinct, chain_has_shape, has_valid_shape}
 use Rattle.esr_cert.proofs.Sound.{all_from}
 use Rattle.esr_audit.specs.Problems.{places, items_read, writers_of, passes_at, version_cost, chain_for}
 use Rattle.esr_audit.proofs.Places.{length-places}
@@ -38,21 +38,21 @@ pairs_ascend (p ∷ r ∷ rest) a = and_from (pair_lt p r) (are_pairs_ascending 
 pairs_ascend _ a = refl
 
 -- those of some numbers in a row that pass a test ascend
-range_ascends_from : (P : ℕ → Bool) (x a n : ℕ) → x < a → is_ascending (x ∷ filter P (range_with_len a n)) ≡ true
+range_ascends_from : (P : ℕ → Bool) (x a n : ℕ) → x < a → is_strictly_ascending (x ∷ filter P (range_with_len a n)) ≡ true
 range_ascends_from P x a zero l = refl
 range_ascends_from P x a (suc n) l = pick (P a) (range_ascends_from P a (a + 1) n (omega arith)) (range_ascends_from P x (a + 1) n (omega arith))
   where
-    pick : (b : Bool) → is_ascending (a ∷ filter P (range_with_len (a + 1) n)) ≡ true → is_ascending (x ∷ filter P (range_with_len (a + 1) n)) ≡ true
-        → is_ascending (x ∷ cond b (a ∷ filter P (range_with_len (a + 1) n)) (filter P (range_with_len (a + 1) n))) ≡ true
-    pick true with_it without = and_from (nat_lt x a) (is_ascending (a ∷ filter P (range_with_len (a + 1) n))) (lt-ltb x a l) with_it
+    pick : (b : Bool) → is_strictly_ascending (a ∷ filter P (range_with_len (a + 1) n)) ≡ true → is_strictly_ascending (x ∷ filter P (range_with_len (a + 1) n)) ≡ true
+        → is_strictly_ascending (x ∷ cond b (a ∷ filter P (range_with_len (a + 1) n)) (filter P (range_with_len (a + 1) n))) ≡ true
+    pick true with_it without = and_from (nat_lt x a) (is_strictly_ascending (a ∷ filter P (range_with_len (a + 1) n))) (lt-ltb x a l) with_it
     pick false with_it without = without
 
-pub range_ascends : (P : ℕ → Bool) (a n : ℕ) → is_ascending (filter P (range_with_len a n)) ≡ true
+pub range_ascends : (P : ℕ → Bool) (a n : ℕ) → is_strictly_ascending (filter P (range_with_len a n)) ≡ true
 range_ascends P a zero = refl
 range_ascends P a (suc n) = pick (P a) (range_ascends_from P a (a + 1) n (omega arith)) (range_ascends P (a + 1) n)
   where
-    pick : (b : Bool) → is_ascending (a ∷ filter P (range_with_len (a + 1) n)) ≡ true → is_ascending (filter P (range_with_len (a + 1) n)) ≡ true
-        → is_ascending (cond b (a ∷ filter P (range_with_len (a + 1) n)) (filter P (range_with_len (a + 1) n))) ≡ true
+    pick : (b : Bool) → is_strictly_ascending (a ∷ filter P (range_with_len (a + 1) n)) ≡ true → is_strictly_ascending (filter P (range_with_len (a + 1) n)) ≡ true
+        → is_strictly_ascending (cond b (a ∷ filter P (range_with_len (a + 1) n)) (filter P (range_with_len (a + 1) n))) ≡ true
     pick true with_it without = with_it
     pick false with_it without = without
 
@@ -85,7 +85,7 @@ module _ (d : DistanceFunction) (h : Schedule) (q : ℕ) (legal : IsLegal d h) (
   chain_shape x i =
       let ws : List ℕ = places us (has_written h x) in
       and_from _ (are_linked o.before ws)
-      (and_from _ (is_ascending ws) (eq-eqb _ _ (one_more x i)) (range_ascends (passes_at us (has_written h x)) 0 (length us)))
+      (and_from _ (is_strictly_ascending ws) (eq-eqb _ _ (one_more x i)) (range_ascends (passes_at us (has_written h x)) 0 (length us)))
       (linked_from o.before ws (linked x))
 
   pub chains_of : (problem_of_order d h q o).chains ≡ map (chain_for d h q us) (items_read h q)
@@ -107,10 +107,10 @@ module _ (d : DistanceFunction) (h : Schedule) (q : ℕ) (legal : IsLegal d h) (
       let p = All-contains (λ (p : ℕ × ℕ). (p.0 < p.1) × (p.1 < length o.commits) × IsTrue (is_before h (nth us p.0) (nth us p.1))) o.before e good.pairs c in
       lt-ltb e.0 e.1 p.0)
 
-  items : is_ascending (map (λ (c : Chain). c.item) (problem_of_order d h q o).chains) ≡ true
+  items : is_strictly_ascending (map (λ (c : Chain). c.item) (problem_of_order d h q o).chains) ≡ true
   items =
-      ap (λ (cs : List Chain). is_ascending (map (λ (c : Chain). c.item) cs)) chains_of
-      ∙ ap is_ascending (items_of (items_read h q))
+      ap (λ (cs : List Chain). is_strictly_ascending (map (λ (c : Chain). c.item) cs)) chains_of
+      ∙ ap is_strictly_ascending (items_of (items_read h q))
       ∙ range_ascends _ 0 (length h.opening)
 
   chains : list_all (chain_has_shape o.before) (problem_of_order d h q o).chains ≡ true

@@ -43,12 +43,11 @@ fn updates_at(alloc: Global, updates: &[TxnId], set: &[u32]) -> Result<Vec<TxnId
         .collect(alloc)
 }
 
-/// Returns a certificate of the problem, with its smallest closed set of least cost, and without a count of
-/// augmentations.
+/// Returns a certificate of the problem, with its smallest closed set of least cost and no augmentation count.
 fn certify(alloc: Global, problem: &Problem) -> Result<Certificate, NoMemory>
     ensures certifies { IfOk result (λ c. Certifies problem.now (certificate_of c)) }
     ensures least { IfOk result (λ c. IsSmallestLeastCostSet problem.now (in_set c.set.items)) }
-    ensures without_count { IfOk result (λ c. c.augmentations ≡ None) }
+    ensures no_augmentation_count { IfOk result (λ c. c.augmentations ≡ None) }
 {
     let network = Network::build(alloc, problem)?;
     let certificate = find_certificate(alloc, &network)?;
@@ -57,7 +56,10 @@ fn certify(alloc: Global, problem: &Problem) -> Result<Certificate, NoMemory>
 
 /// Returns a certificate of the problem, with its smallest closed set of least cost. It contains the number of
 /// shortest-path augmentations that produced its flow.
-pub fn certify_with_augmentations(alloc: Global, problem: &Problem) -> Result<Certificate, NoMemory>
+pub fn certify_with_augmentation_count(
+    alloc: Global,
+    problem: &Problem,
+) -> Result<Certificate, NoMemory>
     ensures certifies { IfOk result (λ c. Certifies problem.now (certificate_of c)) }
     ensures least { IfOk result (λ c. IsSmallestLeastCostSet problem.now (in_set c.set.items)) }
     ensures counted { IfOk result (λ c. HasAugmentationCount problem.now (certificate_of c)) }
@@ -66,7 +68,7 @@ pub fn certify_with_augmentations(alloc: Global, problem: &Problem) -> Result<Ce
     Ok(solve(alloc, &network)?.certificate)
 }
 
-/// Returns the finding of a query, given the order of its relevant updates.
+/// Returns the finding of a committed query, given the conflict order of its relevant updates.
 fn finding_of<M: Metric>(
     alloc: Global,
     history: &History<M>,
@@ -75,7 +77,7 @@ fn finding_of<M: Metric>(
 ) -> Result<Finding, NoMemory>
     requires order { IsConflictOrderOn history.now.schedule q.0 (map (λ t. t.0) order.commits) order }
     requires relevant { AreRelevant history.now.schedule q.0 (map (λ t. t.0) order.commits) }
-    requires committed { IsTrue (is_committed_query history.now.schedule q.0) }
+    requires committed_query { IsTrue (is_committed_query history.now.schedule q.0) }
     ensures query { IfOk result (λ f. f.query ≡ q) }
     ensures finding { IfOk result (IsFindingOf M.distance_by history.now.schedule q.0) }
 {
@@ -173,7 +175,7 @@ fn finding_from_commits<M: Metric>(
     q: TxnId,
 ) -> Result<Finding, AuditError>
     requires in_commit_order { map (λ t. t.0) committed.now ≡ commit_order (accepted_in history.now.schedule) }
-    requires committed { IsTrue (is_committed_query history.now.schedule q.0) }
+    requires committed_query { IsTrue (is_committed_query history.now.schedule q.0) }
     ensures query { IfOk result (λ f. f.query ≡ q) }
     ensures finding { IfOk result (IsFindingOf M.distance_by history.now.schedule q.0) }
     ensures err { IfErr result (λ e. e ≡ AuditError.NoMemory) }
@@ -182,7 +184,7 @@ fn finding_from_commits<M: Metric>(
     Ok(finding_of(alloc, history, relevant, q)?)
 }
 
-/// Audits each of these committed queries, given the list of all committed transactions.
+/// Audits these committed queries, given the list of all committed transactions.
 fn findings_of<M: Metric>(
     alloc: Global,
     history: &History<M>,
@@ -207,7 +209,7 @@ fn findings_of<M: Metric>(
 }
 
 /// Returns the committed updates of a history, and the findings of its committed queries.
-fn book_of<M: Metric>(alloc: Global, history: &History<M>) -> Result<Book, AuditError>
+fn history_audit<M: Metric>(alloc: Global, history: &History<M>) -> Result<Book, AuditError>
     ensures book { IfOk result (IsBook M.distance_by history.now.schedule) }
     ensures err { IfErr result (λ e. e ≡ AuditError.NoMemory) }
 {
@@ -223,8 +225,7 @@ fn book_of<M: Metric>(alloc: Global, history: &History<M>) -> Result<Book, Audit
     })
 }
 
-/// Makes the invariant of `History`, that its schedule is sound, available to the proof of the caller. Does nothing at run
-/// time.
+/// Gives the proof of the caller the invariant of `History`: its schedule is sound. Does nothing at run time.
 pub fn prove_sound<M: Metric>(history: &History<M>)
     ensures { IsSound M.distance_by history.now.schedule }
 {
@@ -249,5 +250,5 @@ pub fn audit_history<M: Metric>(alloc: Global, history: &History<M>) -> Result<B
         (map (λ t. t.0) f.before.items)) b.findings.items) }
 {
     prove_sound(history);
-    book_of(alloc, history)
+    history_audit(alloc, history)
 }

@@ -15,7 +15,7 @@ mod reads;
 
 pub use audit::{
     audit_history, audit_query, audit_query_with_commits, audit_query_with_index,
-    certify_with_augmentations, prove_sound,
+    certify_with_augmentation_count, prove_sound,
 };
 pub use commits::{CommitLists, commit_lists};
 pub use finding::{AuditError, Book, Finding, Summaries, Summary};

@@ -5,8 +5,8 @@ use Rattle.esr_history.specs.declared.event.Event.{Event}
 use Rattle.esr_history.specs.declared.event.Reply.{Reply}
 use Rattle.esr_history.specs.Machine.{Schedule, extended, reply_to}
 use Rattle.esr_engine.specs.Capacity.{is_full}
-use Rattle.esr_engine.specs.declared.engine.Unanswered.{Unanswered}
-use Rattle.esr_engine.specs.declared.engine.Unanswered.TheVariants as unanswered
+use Rattle.esr_engine.specs.declared.engine.EngineError.{EngineError}
+use Rattle.esr_engine.specs.declared.engine.EngineError.TheVariants as unanswered
 use Rattle.esr_c.specs.declared.engine.Status.{Status}
 use Rattle.esr_c.specs.declared.engine.Status.TheVariants.{Done, Full, NoMemory}
 use Rattle.esr_c.specs.declared.reply.EsrReply.{EsrReply}
@@ -40,7 +40,7 @@ module _ (event : Event) (h g : Schedule) (before after : EsrReply) where
     err = λ _. (ap (λ k. Some k) same, kept);
   }
 
-  pub called : (answered : Result Reply Unanswered) (s : Status) → IfOk answered (λ r. r ≡ reply_to weighted h event) → IfOk answered (λ r. g ≡ extended h event r)
+  pub called : (answered : Result Reply EngineError) (s : Status) → IfOk answered (λ r. r ≡ reply_to weighted h event) → IfOk answered (λ r. g ≡ extended h event r)
       → (IsErrOf answered unanswered.Full ↔ (is_full h event ≡ true)) → OnErr answered (g ≡ h)
       → IfOk answered (λ r. (s ≡ Done) × (after ≡ reply_fields r)) → (s ≡ Full ↔ IsErrOf answered unanswered.Full)
       → IfErr answered (λ _. ((s ≡ Full) ⊎ (s ≡ NoMemory)) × (after ≡ before)) → IsEventCall event (Some h) (Some g) before after (status_number s)

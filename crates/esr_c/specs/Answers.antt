@@ -22,7 +22,7 @@ use Rattle.esr_engine.specs.Accounts.{account_of}
 use Rattle.esr_engine.specs.ForUpdate.{after_for_update, no_pair, reply_for_update, IsPartlyDone}
 use Rattle.esr_engine.specs.Capacity.{is_full, taken}
 use Rattle.esr_engine.specs.Carrying.{carried_in}
-use Rattle.esr_engine.specs.declared.account.AccountView.{AccountView}
+use Rattle.esr_engine.specs.declared.account.Account.{Account}
 use Rattle.esr_engine.specs.declared.account.TxnStatus.{TxnStatus}
 use Rattle.esr_engine.specs.declared.account.TxnStatus.TheVariants as txn_status
 use Rattle.esr_engine.specs.declared.carrying.CarriedTxn.{CarriedTxn}
@@ -187,7 +187,7 @@ txn_status_number txn_status.Active = 0
 txn_status_number txn_status.Committed = 4
 txn_status_number txn_status.Aborted = 5
 
-abbrev pub account_fields : AccountView → EsrAccount
+abbrev pub account_fields : Account → EsrAccount
 account_fields a = record { query = is_query_kind a.kind; txn_status = txn_status_number a.txn_status; limit = a.limit; charged = a.charged }
 
 abbrev pub IsAccount : Schedule → ℕ → EsrAccount → Type 0

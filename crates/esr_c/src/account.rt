@@ -6,7 +6,7 @@ ghost use Rattle.esr_history.specs.Machine.{accepted_in};
 ghost use Rattle.esr_c.specs.Answers.{IsAccount, account_fields, txn_status_number};
 
 use crate::engine::Status;
-use esr_engine::{AccountView, EmbeddedEngine, Kind, TxnStatus};
+use esr_engine::{Account, EmbeddedEngine, Kind, TxnStatus};
 use esr_history::TxnId;
 
 /// An account: whether it is a query's, its status (0 active, 4 committed, 5 aborted), its limit, and the charges to
@@ -31,7 +31,7 @@ fn txn_status_number(txn_status: TxnStatus) -> u32
 }
 
 /// Converts an account for C.
-fn fields(account: AccountView) -> EsrAccount
+fn fields(account: Account) -> EsrAccount
     ensures { result ≡ account_fields account }
 {
     EsrAccount {

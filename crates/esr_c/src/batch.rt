@@ -8,7 +8,7 @@ ghost use Rattle.esr_c.specs.Many.{AreAnswered, IsAnsweredStatus, IsEnd, IsFullF
 
 use crate::engine::Status;
 use crate::reply::{EsrReply, to_reply};
-use esr_engine::{EmbeddedEngine, Unanswered};
+use esr_engine::{EmbeddedEngine, EngineError};
 use esr_history::{Event, Reply, TxnId};
 use esr_items::ItemId;
 
@@ -67,8 +67,8 @@ fn answer_one(engine: &mut EmbeddedEngine, event: EsrEvent) -> Result<Reply, Sta
     };
     match engine.step(event) {
         Ok(reply) => Ok(reply),
-        Err(Unanswered::Full) => Err(Status::Full),
-        Err(Unanswered::NoMemory) => Err(Status::NoMemory),
+        Err(EngineError::Full) => Err(Status::Full),
+        Err(EngineError::NoMemory) => Err(Status::NoMemory),
     }
 }
 

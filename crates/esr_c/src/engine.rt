@@ -17,7 +17,7 @@ ghost use Rattle.esr_c.specs.Answers.{opened, reply_fields, status_number, IsEve
 use crate::handle::{EngineHandle, from_handle, into_handle, null_handle};
 use crate::reply::{EsrReply, to_reply};
 use esr_core::RenewError;
-use esr_engine::{EmbeddedEngine, OpenError, Unanswered};
+use esr_engine::{EmbeddedEngine, EngineError, OpenError};
 use esr_history::{Event, Reply, TxnId};
 use esr_items::ItemId;
 use std::alloc::Global;
@@ -155,9 +155,9 @@ pub(crate) fn open(
 }
 
 /// Writes a reply, or returns the status of the failure.
-fn answer(answered: Result<Reply, Unanswered>, reply: &mut EsrReply) -> Status
+fn answer(answered: Result<Reply, EngineError>, reply: &mut EsrReply) -> Status
     ensures ok { IfOk answered (λ r. (result ≡ Status.Done) × (reply.new ≡ reply_fields r)) }
-    ensures full { result ≡ Status.Full ↔ IsErrOf answered Unanswered.Full }
+    ensures full { result ≡ Status.Full ↔ IsErrOf answered EngineError.Full }
     ensures err { IfErr answered (λ _. ((result ≡ Status.Full) ⊎ (result ≡ Status.NoMemory)) × (reply.new ≡ reply.old)) }
 {
     match answered {
@@ -165,8 +165,8 @@ fn answer(answered: Result<Reply, Unanswered>, reply: &mut EsrReply) -> Status
             *reply = to_reply(answer);
             Status::Done
         }
-        Err(Unanswered::Full) => Status::Full,
-        Err(Unanswered::NoMemory) => Status::NoMemory,
+        Err(EngineError::Full) => Status::Full,
+        Err(EngineError::NoMemory) => Status::NoMemory,
     }
 }
 
@@ -253,8 +253,8 @@ fn read_and_reply(
             *reply = to_reply(read);
             Status::Done
         }
-        Err(Unanswered::Full) => Status::Full,
-        Err(Unanswered::NoMemory) => Status::NoMemory,
+        Err(EngineError::Full) => Status::Full,
+        Err(EngineError::NoMemory) => Status::NoMemory,
     }
 }
 

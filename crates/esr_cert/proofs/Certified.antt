@@ -1,7 +1,7 @@
 -- The consequences of a certificate without a fault.
 use Rattle.std.proofs.Common.{◌≡◌, ℕ, ◌≤◌, Bool, true, false, not, ◌&&◌, cond, eqb, length, Option, Some, None, refl, arith}
 use Rattle.std.proofs.lemmas.Bool.{and_parts, eqb-true}
-use Rattle.esr_cert.specs.Problem.{Problem, in_set, is_ascending, is_closed, cost, is_well_formed}
+use Rattle.esr_cert.specs.Problem.{Problem, in_set, is_strictly_ascending, is_closed, cost, is_well_formed}
 use Rattle.esr_cert.specs.Network.{network}
 use Rattle.esr_cert.specs.Flow.{are_within, is_conserved, worth, IsFlow}
 use Rattle.esr_cert.specs.Certificate.{Certificate, amounts, is_set_in_range, are_rows_matched, is_within, worth_matches, is_count_in_bound, Certifies}
@@ -28,7 +28,7 @@ pub matched : (p : Problem) (c : Certificate) → is_within p c ≡ true → IsM
 matched p c h = let w : IsWithin p c = within_facts p c h in record { rows = w.rows; backs = w.backs; musts = w.musts }
 
 pub record IsFaultless (p : Problem) (c : Certificate) : Type 0 where
-  pub ascending : is_ascending c.set ≡ true
+  pub ascending : is_strictly_ascending c.set ≡ true
   pub known : is_set_in_range p c.set ≡ true
   pub closed : is_closed p (in_set c.set) ≡ true
   pub within : is_within p c ≡ true
@@ -42,7 +42,7 @@ unless false f o h = cc
 
 pub faultless : (p : Problem) (c : Certificate) → Certifies p c → IsFaultless p c
 faultless p c h =
-    let a = unless (is_ascending c.set) _ _ h in
+    let a = unless (is_strictly_ascending c.set) _ _ h in
     let b = unless (is_set_in_range p c.set) _ _ a.1 in
     let d = unless (is_closed p (in_set c.set)) _ _ b.1 in
     let e = unless (is_within p c) _ _ d.1 in

@@ -3,7 +3,7 @@ use Rattle.std.proofs.Common.{◌≡◌, ℕ, zero, suc, ◌+◌, ◌<◌, ◌�
 use Rattle.std.proofs.lemmas.Bool.{cases_eq}
 use Rattle.esr_cert.specs.Network.{Arc, arc_at, Network, IsNetwork}
 use Rattle.esr_cert.specs.Flow.{within, amount_at, carried, inflow, outflow, IsFlow, worth}
-use Rattle.esr_cert.specs.Cut.{crosses, returns_from, capacity_or_zero, across, IsLimited, AreLimited}
+use Rattle.esr_cert.specs.Cut.{leaves, enters, capacity_or_zero, cut_capacity, IsFinite, HasFiniteCapacity}
 
 abbrev pub pick : Bool → ℕ → ℕ
 pick b x = cond b x 0
@@ -70,7 +70,7 @@ node_sum_carried has end n (a ∷ arcs) (x ∷ flow) l =
       node_sum_carried has end n arcs flow (λ i k. l (suc i) (omega arith)),
     )
 
-carried_split : (has : ℕ → Bool) (arcs : List Arc) (flow : List ℕ) → carried (λ arc. has arc.from) arcs flow + carried (returns_from has) arcs flow ≡ carried (λ arc. has arc.to) arcs flow + carried (crosses has) arcs flow
+carried_split : (has : ℕ → Bool) (arcs : List Arc) (flow : List ℕ) → carried (λ arc. has arc.from) arcs flow + carried (enters has) arcs flow ≡ carried (λ arc. has arc.to) arcs flow + carried (leaves has) arcs flow
 carried_split has [] flow = refl
 carried_split has (a ∷ arcs) [] = refl
 carried_split has (a ∷ arcs) (x ∷ flow) = omega (arith, one (has a.from) (has a.to), carried_split has arcs flow)
@@ -82,7 +82,7 @@ carried_split has (a ∷ arcs) (x ∷ flow) = omega (arith, one (has a.from) (ha
     one false false = refl
 
 -- the worth plus the amount that returns is the amount that crosses
-pub cut : (net : Network) → IsNetwork net → (flow : List ℕ) → IsFlow net flow → (has : ℕ → Bool) → has net.source ≡ true → has net.sink ≡ false → worth net flow + carried (returns_from has) net.arcs flow ≡ carried (crosses has) net.arcs flow
+pub cut : (net : Network) → IsNetwork net → (flow : List ℕ) → IsFlow net flow → (has : ℕ → Bool) → has net.source ≡ true → has net.sink ≡ false → worth net flow + carried (enters has) net.arcs flow ≡ carried (leaves has) net.arcs flow
 cut net ok flow f has at_source at_sink =
     let out_sum : node_sum has (λ v. outflow net.arcs flow v) net.node_count ≡ carried (λ arc. has arc.from) net.arcs flow = node_sum_carried has (λ arc. arc.from) net.node_count net.arcs flow (λ i l. (ok.ends i l).0) in
     let in_sum : node_sum has (λ v. inflow net.arcs flow v) net.node_count ≡ carried (λ arc. has arc.to) net.arcs flow = node_sum_carried has (λ arc. arc.to) net.node_count net.arcs flow (λ i l. (ok.ends i l).1) in
@@ -102,7 +102,7 @@ cut net ok flow f has at_source at_sink =
               omega (arith, f.conserved v l ne (λ e. true≢false (sym h ∙ ap has e ∙ at_sink)), ap (λ b. pick b (worth net flow)) (ne_eqb net.source v (λ e. ne (sym e))))
         ]
 
-at_most_limit : (o : Option ℕ) (x : ℕ) → IsLimited o → within x o ≡ true → x ≤ capacity_or_zero o
+at_most_limit : (o : Option ℕ) (x : ℕ) → IsFinite o → within x o ≡ true → x ≤ capacity_or_zero o
 at_most_limit None x l w = absurd l
 at_most_limit (Some c) x l w = leb-true x c w
 
@@ -110,29 +110,29 @@ pick_le : (b : Bool) (x y : ℕ) → (b ≡ true → x ≤ y) → pick b x ≤ p
 pick_le true x y h = h refl
 pick_le false x y h = omega arith
 
-pub carried_at_most : (has : ℕ → Bool) (arcs : List Arc) (flow : List ℕ) → ((i : ℕ) → i < length arcs → within (amount_at flow i) (arc_at arcs i).capacity ≡ true) → AreLimited has arcs → carried (crosses has) arcs flow ≤ across has arcs
+pub carried_at_most : (has : ℕ → Bool) (arcs : List Arc) (flow : List ℕ) → ((i : ℕ) → i < length arcs → within (amount_at flow i) (arc_at arcs i).capacity ≡ true) → HasFiniteCapacity has arcs → carried (leaves has) arcs flow ≤ cut_capacity has arcs
 carried_at_most has [] flow w l = omega arith
 carried_at_most has (a ∷ arcs) [] w l = omega arith
 carried_at_most has (a ∷ arcs) (x ∷ flow) w l =
     omega (
       arith,
-      pick_le (crosses has a) x (capacity_or_zero a.capacity) (λ c. at_most_limit a.capacity x (l 0 (omega arith) c) (w 0 (omega arith))),
+      pick_le (leaves has a) x (capacity_or_zero a.capacity) (λ c. at_most_limit a.capacity x (l 0 (omega arith) c) (w 0 (omega arith))),
       carried_at_most has arcs flow (λ i k. w (suc i) (omega arith)) (λ i k. l (suc i) (omega arith)),
     )
 
 -- if every crossing arc is full, the amount that crosses is the capacity
-pub carried_full : (has : ℕ → Bool) (arcs : List Arc) (flow : List ℕ) → length flow ≡ length arcs → ((i : ℕ) → i < length arcs → crosses has (arc_at arcs i) ≡ true → amount_at flow i ≡ capacity_or_zero (arc_at arcs i).capacity) → carried (crosses has) arcs flow ≡ across has arcs
+pub carried_full : (has : ℕ → Bool) (arcs : List Arc) (flow : List ℕ) → length flow ≡ length arcs → ((i : ℕ) → i < length arcs → leaves has (arc_at arcs i) ≡ true → amount_at flow i ≡ capacity_or_zero (arc_at arcs i).capacity) → carried (leaves has) arcs flow ≡ cut_capacity has arcs
 carried_full has [] flow e h = refl
 carried_full has (a ∷ arcs) [] e h = absurd (omega arith)
 carried_full has (a ∷ arcs) (x ∷ flow) e h =
-    omega (arith, same (crosses has a) x (capacity_or_zero a.capacity) (h 0 (omega arith)), carried_full has arcs flow (omega arith) (λ i k. h (suc i) (omega arith)))
+    omega (arith, same (leaves has a) x (capacity_or_zero a.capacity) (h 0 (omega arith)), carried_full has arcs flow (omega arith) (λ i k. h (suc i) (omega arith)))
   where
     same : (b : Bool) (x y : ℕ) → (b ≡ true → x ≡ y) → pick b x ≡ pick b y
     same true x y k = k refl
     same false x y k = refl
 
 -- and the other way round
-pub full_from : (has : ℕ → Bool) (arcs : List Arc) (flow : List ℕ) → length flow ≡ length arcs → ((i : ℕ) → i < length arcs → within (amount_at flow i) (arc_at arcs i).capacity ≡ true) → AreLimited has arcs → across has arcs ≤ carried (crosses has) arcs flow → (i : ℕ) → i < length arcs → crosses has (arc_at arcs i) ≡ true → amount_at flow i ≡ capacity_or_zero (arc_at arcs i).capacity
+pub full_from : (has : ℕ → Bool) (arcs : List Arc) (flow : List ℕ) → length flow ≡ length arcs → ((i : ℕ) → i < length arcs → within (amount_at flow i) (arc_at arcs i).capacity ≡ true) → HasFiniteCapacity has arcs → cut_capacity has arcs ≤ carried (leaves has) arcs flow → (i : ℕ) → i < length arcs → leaves has (arc_at arcs i) ≡ true → amount_at flow i ≡ capacity_or_zero (arc_at arcs i).capacity
 full_from has [] flow e w l g i k c = absurd (omega arith)
 full_from has (a ∷ arcs) [] e w l g i k c = absurd (omega arith)
 full_from has (a ∷ arcs) (x ∷ flow) e w l g zero k c =
@@ -145,21 +145,21 @@ full_from has (a ∷ arcs) (x ∷ flow) e w l g zero k c =
     )
 full_from has (a ∷ arcs) (x ∷ flow) e w l g (suc i) k c =
     full_from has arcs flow (omega arith) (λ i k. w (suc i) (omega arith)) (λ i k. l (suc i) (omega arith))
-    (omega (arith, pick_le (crosses has a) x (capacity_or_zero a.capacity) (λ c. at_most_limit a.capacity x (l 0 (omega arith) c) (w 0 (omega arith)))))
+    (omega (arith, pick_le (leaves has a) x (capacity_or_zero a.capacity) (λ c. at_most_limit a.capacity x (l 0 (omega arith) c) (w 0 (omega arith)))))
     i (omega arith) c
 
 -- nothing returns if no returning arc carries anything
-pub nothing_back : (has : ℕ → Bool) (arcs : List Arc) (flow : List ℕ) → ((i : ℕ) → i < length arcs → returns_from has (arc_at arcs i) ≡ true → amount_at flow i ≡ 0) → carried (returns_from has) arcs flow ≡ 0
+pub nothing_back : (has : ℕ → Bool) (arcs : List Arc) (flow : List ℕ) → ((i : ℕ) → i < length arcs → enters has (arc_at arcs i) ≡ true → amount_at flow i ≡ 0) → carried (enters has) arcs flow ≡ 0
 nothing_back has [] flow h = refl
 nothing_back has (a ∷ arcs) [] h = refl
 nothing_back has (a ∷ arcs) (x ∷ flow) h =
-    omega (arith, none (returns_from has a) x (h 0 (omega arith)), nothing_back has arcs flow (λ i k. h (suc i) (omega arith)))
+    omega (arith, none (enters has a) x (h 0 (omega arith)), nothing_back has arcs flow (λ i k. h (suc i) (omega arith)))
   where
     none : (b : Bool) (x : ℕ) → (b ≡ true → x ≡ 0) → pick b x ≡ 0
     none true x k = k refl
     none false x k = refl
 
-pub nothing_from : (has : ℕ → Bool) (arcs : List Arc) (flow : List ℕ) → length flow ≡ length arcs → carried (returns_from has) arcs flow ≡ 0 → (i : ℕ) → i < length arcs → returns_from has (arc_at arcs i) ≡ true → amount_at flow i ≡ 0
+pub nothing_from : (has : ℕ → Bool) (arcs : List Arc) (flow : List ℕ) → length flow ≡ length arcs → carried (enters has) arcs flow ≡ 0 → (i : ℕ) → i < length arcs → enters has (arc_at arcs i) ≡ true → amount_at flow i ≡ 0
 nothing_from has [] flow e z i k c = absurd (omega arith)
 nothing_from has (a ∷ arcs) [] e z i k c = absurd (omega arith)
 nothing_from has (a ∷ arcs) (x ∷ flow) e z zero k c = omega (arith, ap (λ b. pick b x) c)
@@ -167,6 +167,6 @@ nothing_from has (a ∷ arcs) (x ∷ flow) e z (suc i) k c = nothing_from has ar
 
 module _ (net : Network) (ok : IsNetwork net) (flow : List ℕ) (f : IsFlow net flow) (has : ℕ → Bool) where
   -- the worth is at most the capacity of a cut that no unlimited arc crosses
-  pub weak : has net.source ≡ true → has net.sink ≡ false → AreLimited has net.arcs → worth net flow ≤ across has net.arcs
+  pub weak : has net.source ≡ true → has net.sink ≡ false → HasFiniteCapacity has net.arcs → worth net flow ≤ cut_capacity has net.arcs
   weak at_source at_sink limited =
       omega (arith, cut net ok flow f has at_source at_sink, carried_at_most has net.arcs flow f.within_capacity limited)

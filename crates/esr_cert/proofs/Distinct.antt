@@ -5,7 +5,7 @@ use Rattle.std.specs.List.Sorted.{IsPermutation, IsNonDecreasingBy}
 use Rattle.std.proofs.lemmas.Bool.{and_parts, and_from, or_parts, or_cases, cases_Bool, cases_eq, eqb-true, eqb-false, not-true, not_from_false}
 use Rattle.std.proofs.lemmas.List.Sums.{sum_by-cons}
 use Rattle.std.proofs.lemmas.List.Sorted.{sum_by-IsPermutation}
-use Rattle.esr_cert.specs.Problem.{in_set, is_ascending, is_distinct}
+use Rattle.esr_cert.specs.Problem.{in_set, is_strictly_ascending, is_distinct}
 use Rattle.esr_cert.proofs.Cut.{pick, node_sum, node_sum_add, node_sum_zero, node_sum_point}
 use Rattle.esr_cert.proofs.Search.{ascending_far, ascending_place, not_in_set}
 
@@ -61,15 +61,15 @@ times_distinct (x ∷ xs) h = and_from (not (in_set xs x)) (is_distinct xs) (alo
     alone false e = refl
     alone true e = absurd (omega (arith, h x, some_times x xs e, ap (λ b. pick b 1) (eq-eqb x x refl)))
 
-ascending_distinct : (xs : List ℕ) → is_ascending xs ≡ true → is_distinct xs ≡ true
+ascending_distinct : (xs : List ℕ) → is_strictly_ascending xs ≡ true → is_distinct xs ≡ true
 ascending_distinct [] h = refl
 ascending_distinct (x ∷ []) h = refl
 ascending_distinct (x ∷ y ∷ rest) h =
     and_from (not (in_set (y ∷ rest) x)) (is_distinct (y ∷ rest))
     (not_from_false (in_set (y ∷ rest) x) (not_in_set (y ∷ rest) x (λ k l e. omega (arith, ascending_far (x ∷ y ∷ rest) h 0 (suc k) (omega arith) (omega arith)))))
-    (ascending_distinct (y ∷ rest) (and_parts (ltb x y) (is_ascending (y ∷ rest)) h).1)
+    (ascending_distinct (y ∷ rest) (and_parts (ltb x y) (is_strictly_ascending (y ∷ rest)) h).1)
 
-distinct_ascending : (xs : List ℕ) → IsNonDecreasingBy (λ x. x) xs → is_distinct xs ≡ true → is_ascending xs ≡ true
+distinct_ascending : (xs : List ℕ) → IsNonDecreasingBy (λ x. x) xs → is_distinct xs ≡ true → is_strictly_ascending xs ≡ true
 distinct_ascending [] r h = refl
 distinct_ascending (x ∷ []) r h = refl
 distinct_ascending (x ∷ y ∷ rest) r h =
@@ -78,7 +78,7 @@ distinct_ascending (x ∷ y ∷ rest) r h =
     let ne : y ≡ x → ⊥ = eqb-false y x apart in
     let le : x ≤ y = r 0 1 0 (omega arith) (omega arith) in
     let lt : x < y = elim (cases_eq y x) [ inl e ↦ absurd (ne e) | inr n ↦ grind arith ] in
-    and_from (ltb x y) (is_ascending (y ∷ rest)) (lt-ltb x y lt) (distinct_ascending (y ∷ rest) (λ i j d l m. r (suc i) (suc j) d (omega arith) (omega arith)) both.1)
+    and_from (ltb x y) (is_strictly_ascending (y ∷ rest)) (lt-ltb x y lt) (distinct_ascending (y ∷ rest) (λ i j d l m. r (suc i) (suc j) d (omega arith) (omega arith)) both.1)
 
 distinct_moved : (xs ys : List ℕ) → IsPermutation xs ys → is_distinct xs ≡ is_distinct ys
 distinct_moved xs ys p =
@@ -88,8 +88,8 @@ distinct_moved xs ys p =
     (λ h. times_distinct xs (λ u. omega (arith, same u, distinct_times ys h u)))
 
 -- a sorted copy ascends strictly if and only if no number occurs twice
-pub sorted_copy : (xs ys : List ℕ) → IsPermutation xs ys → IsNonDecreasingBy (λ x. x) ys → is_ascending ys ≡ is_distinct xs
-sorted_copy xs ys p r = same_tests (is_ascending ys) (is_distinct ys) (ascending_distinct ys) (distinct_ascending ys r) ∙ sym (distinct_moved xs ys p)
+pub sorted_copy : (xs ys : List ℕ) → IsPermutation xs ys → IsNonDecreasingBy (λ x. x) ys → is_strictly_ascending ys ≡ is_distinct xs
+sorted_copy xs ys p r = same_tests (is_strictly_ascending ys) (is_distinct ys) (ascending_distinct ys) (distinct_ascending ys r) ∙ sym (distinct_moved xs ys p)
 
 -- ---- how many there can be
 
@@ -117,7 +117,7 @@ distinct_bounded n xs d r =
     omega (arith, count_all (suc n) xs (λ i l. omega (arith, (range i l).1)), at_most_one (λ v. times v xs) n (distinct_times xs d) none)
 
 -- ascending numbers below n are at most n
-pub ascending_bounded : (n : ℕ) (xs : List ℕ) → is_ascending xs ≡ true → list_all (λ t. ltb t n) xs ≡ true → length xs ≤ n
+pub ascending_bounded : (n : ℕ) (xs : List ℕ) → is_strictly_ascending xs ≡ true → list_all (λ t. ltb t n) xs ≡ true → length xs ≤ n
 ascending_bounded n xs h r = go (length xs) refl
   where
     go : (k : ℕ) → length xs ≡ k → length xs ≤ n

@@ -7,7 +7,7 @@ use Rattle.std.proofs.lemmas.List.Sums.{sum_by-cons}
 use Rattle.esr_cert.specs.Problem.{Chain, Problem, update_count, is_closed, version, chain_cost, cost}
 use Rattle.esr_cert.specs.Network.{Arc, arc_at, IsNetwork, path_arcs, arcs_of_chain, predecessor_arc, must_arc, arcs_of_chains, predecessor_arcs, must_arcs, network}
 use Rattle.esr_cert.specs.Flow.{IsFlow, worth}
-use Rattle.esr_cert.specs.Cut.{crosses, across, IsLimited, AreLimited, with_source}
+use Rattle.esr_cert.specs.Cut.{leaves, cut_capacity, IsFinite, HasFiniteCapacity, with_source}
 use Rattle.esr_cert.proofs.Cut.{pick, weak}
 use Rattle.esr_cert.proofs.Sound.{here, there, Neighbours, IsChain, IsProblem, IsClosed, closed_facts}
 
@@ -25,7 +25,7 @@ each_at P [] h i l = absurd (omega arith)
 each_at P (a ∷ arcs) h zero l = h.0
 each_at P (a ∷ arcs) h (suc i) l = each_at P arcs h.1 i (omega arith)
 
-across_append : (has : ℕ → Bool) (xs ys : List Arc) → across has (xs ++ ys) ≡ across has xs + across has ys
+across_append : (has : ℕ → Bool) (xs ys : List Arc) → cut_capacity has (xs ++ ys) ≡ cut_capacity has xs + cut_capacity has ys
 across_append has [] ys = omega arith
 across_append has (x ∷ xs) ys = omega (arith, across_append has xs ys)
 
@@ -43,7 +43,7 @@ abbrev Backed : (ℕ → Bool) → ℕ → List ℕ → Type 0
 Backed test u [] = Unit {0}
 Backed test u (w ∷ writers) = (test w ≡ true → test u ≡ true) × Backed test w writers
 
-crosses_not : (test : ℕ → Bool) (arc : Arc) → test arc.from ≡ false → crosses test arc ≡ false
+crosses_not : (test : ℕ → Bool) (arc : Arc) → test arc.from ≡ false → leaves test arc ≡ false
 crosses_not test arc e = and_left _ _ e
 
 any_none : (test : ℕ → Bool) (writers : List ℕ) → version test writers ≡ 0 → list_any test writers ≡ false
@@ -61,11 +61,11 @@ version_some : (test : ℕ → Bool) (w : ℕ) (writers : List ℕ) → test w �
 version_some test w writers t = cond-true _ _ _ (or_left (test w) (list_any test writers) t)
 
 -- from a node that is not in the set, nothing crosses, and the set has none of the writers
-links_out : (test : ℕ → Bool) (sink : ℕ) (from : ℕ) (writers costs : List ℕ) → test from ≡ false → test sink ≡ false → Backed test from writers → (across test (path_arcs from sink writers costs) ≡ 0) × (version test writers ≡ 0)
+links_out : (test : ℕ → Bool) (sink : ℕ) (from : ℕ) (writers costs : List ℕ) → test from ≡ false → test sink ≡ false → Backed test from writers → (cut_capacity test (path_arcs from sink writers costs) ≡ 0) × (version test writers ≡ 0)
 links_out test sink from [] [] f s b = (refl, refl)
 links_out test sink from (w ∷ writers) [] f s b =
     let not_w : test w ≡ false = backed_out (test w) (test from) b.0 f in
-    let rest : (across test (path_arcs w sink writers []) ≡ 0) × (version test writers ≡ 0) = links_out test sink w writers [] not_w s b.1 in
+    let rest : (cut_capacity test (path_arcs w sink writers []) ≡ 0) × (version test writers ≡ 0) = links_out test sink w writers [] not_w s b.1 in
     (refl, version_none test w writers not_w rest.1)
   where
     backed_out : (x y : Bool) → (x ≡ true → y ≡ true) → y ≡ false → x ≡ false
@@ -74,7 +74,7 @@ links_out test sink from (w ∷ writers) [] f s b =
 links_out test sink from [] (c ∷ costs) f s b = (omega (arith, ap (λ x. pick x c) (crosses_not test (record { from = from; to = sink; capacity = Some c }) f)), refl)
 links_out test sink from (w ∷ writers) (c ∷ costs) f s b =
     let not_w : test w ≡ false = backed_out (test w) (test from) b.0 f in
-    let rest : (across test (path_arcs w sink writers costs) ≡ 0) × (version test writers ≡ 0) = links_out test sink w writers costs not_w s b.1 in
+    let rest : (cut_capacity test (path_arcs w sink writers costs) ≡ 0) × (version test writers ≡ 0) = links_out test sink w writers costs not_w s b.1 in
     (omega (arith, ap (λ x. pick x c) (crosses_not test (record { from = from; to = w; capacity = Some c }) f)), version_none test w writers not_w rest.1)
   where
     backed_out : (x y : Bool) → (x ≡ true → y ≡ true) → y ≡ false → x ≡ false
@@ -87,23 +87,23 @@ crossing true true p q = cc
 crossing false y p q = cc
 
 -- from a member, the one arc that crosses is that of the version
-links_in : (test : ℕ → Bool) (sink : ℕ) (from : ℕ) (writers costs : List ℕ) → test from ≡ true → test sink ≡ false → Backed test from writers → length costs ≡ length writers + 1 → across test (path_arcs from sink writers costs) ≡ get_or costs (version test writers) 0
+links_in : (test : ℕ → Bool) (sink : ℕ) (from : ℕ) (writers costs : List ℕ) → test from ≡ true → test sink ≡ false → Backed test from writers → length costs ≡ length writers + 1 → cut_capacity test (path_arcs from sink writers costs) ≡ get_or costs (version test writers) 0
 links_in test sink from writers [] f s b e = absurd (omega arith)
 links_in test sink from [] (c ∷ costs) f s b e =
-    let all : crosses test (record { from = from; to = sink; capacity = Some c }) ≡ true = crossing (test from) (test sink) f s in
+    let all : leaves test (record { from = from; to = sink; capacity = Some c }) ≡ true = crossing (test from) (test sink) f s in
     omega (arith, ap (λ x. pick x c) all)
 links_in test sink from (w ∷ writers) (c ∷ costs) f s b e =
-    let inside : test w ≡ true → across test (path_arcs w sink writers costs) ≡ get_or costs (version test writers) 0 = λ t. links_in test sink w writers costs t s b.1 (omega arith) in
+    let inside : test w ≡ true → cut_capacity test (path_arcs w sink writers costs) ≡ get_or costs (version test writers) 0 = λ t. links_in test sink w writers costs t s b.1 (omega arith) in
     elim (cases_Bool (test w)) [
       | inl t ↦
           let v : version test (w ∷ writers) ≡ suc (version test writers) = version_some test w writers t in
-          let none : crosses test (record { from = from; to = w; capacity = Some c }) ≡ false = staying (test from) (test w) t in
+          let none : leaves test (record { from = from; to = w; capacity = Some c }) ≡ false = staying (test from) (test w) t in
           let at : get_or (c ∷ costs) (version test (w ∷ writers)) 0 ≡ get_or costs (version test writers) 0 = ap (λ n. get_or (c ∷ costs) n 0) v in
           omega (arith, ap (λ x. pick x c) none, inside t)
       | inr t ↦
-          let rest : (across test (path_arcs w sink writers costs) ≡ 0) × (version test writers ≡ 0) = links_out test sink w writers costs t s b.1 in
+          let rest : (cut_capacity test (path_arcs w sink writers costs) ≡ 0) × (version test writers ≡ 0) = links_out test sink w writers costs t s b.1 in
           let v : version test (w ∷ writers) ≡ 0 = version_none test w writers t rest.1 in
-          let all : crosses test (record { from = from; to = w; capacity = Some c }) ≡ true = crossing (test from) (test w) f t in
+          let all : leaves test (record { from = from; to = w; capacity = Some c }) ≡ true = crossing (test from) (test w) f t in
           let at : get_or (c ∷ costs) (version test (w ∷ writers)) 0 ≡ c = ap (λ n. get_or (c ∷ costs) n 0) v in
           omega (arith, ap (λ x. pick x c) all)
     ]
@@ -187,12 +187,12 @@ module _ (p : Problem) (ok : IsProblem p) where
     backed_chain (w ∷ writers) c h n =
         ((λ t. with_the_source count has), backed_from w writers c (h w (here w writers)) (λ x k. h x (there w x writers k)) n)
 
-    across_chain : (chain : Chain) → IsClosed p has → IsChain p chain → across node_count (path_arcs count (count + 1) chain.writers chain.costs) ≡ chain_cost has chain
+    across_chain : (chain : Chain) → IsClosed p has → IsChain p chain → cut_capacity node_count (path_arcs count (count + 1) chain.writers chain.costs) ≡ chain_cost has chain
     across_chain chain c good =
         links_in node_count (count + 1) count chain.writers chain.costs (with_the_source count has) (without_sink count has) (backed_chain chain.writers c good.writers good.neighbours) good.one_more
         ∙ ap (λ n. get_or chain.costs n 0) (version_same node_count has chain.writers (λ u k. with_update count has u (good.writers u k)))
 
-    across_chains : (chains : List Chain) → IsClosed p has → ((chain : Chain) → Contains chains chain → IsChain p chain) → across node_count (flat_map (arcs_of_chain count) chains) ≡ sum_by (chain_cost has) chains
+    across_chains : (chains : List Chain) → IsClosed p has → ((chain : Chain) → Contains chains chain → IsChain p chain) → cut_capacity node_count (flat_map (arcs_of_chain count) chains) ≡ sum_by (chain_cost has) chains
     across_chains [] c h = refl
     across_chains (d ∷ chains) c h =
         omega (
@@ -205,27 +205,27 @@ module _ (p : Problem) (ok : IsProblem p) where
 
     -- an unlimited arc does not cross
     abbrev Still : Arc → Type 0
-    Still arc = crosses node_count arc ≡ true → IsLimited arc.capacity
+    Still arc = leaves node_count arc ≡ true → IsFinite arc.capacity
 
     not_both : (x y : Bool) → (x ≡ true → y ≡ true) → (x && not y) ≡ false
     not_both true true k = refl
     not_both true false k = absurd (true≢false (sym (k refl)))
     not_both false y k = refl
 
-    back_stays : (q : ℕ × ℕ) → IsClosed p has → Contains p.before q → crosses node_count (predecessor_arc q) ≡ false
+    back_stays : (q : ℕ × ℕ) → IsClosed p has → Contains p.before q → leaves node_count (predecessor_arc q) ≡ false
     back_stays q c k =
         let ends : (q.0 < count) × (q.1 < count) = ok.pairs q.0 q.1 k in
         not_both (node_count q.1) (node_count q.0) (λ t. with_update count has q.0 ends.0 ∙ c.before q.0 q.1 k (sym (with_update count has q.1 ends.1) ∙ t))
 
-    must_stays : (u : ℕ) → IsClosed p has → Contains p.must u → crosses node_count (must_arc count u) ≡ false
+    must_stays : (u : ℕ) → IsClosed p has → Contains p.must u → leaves node_count (must_arc count u) ≡ false
     must_stays u c k = not_both (node_count count) (node_count u) (λ t. with_update count has u (ok.musts u k) ∙ c.must u k)
 
-    across_backs : (pairs : List (ℕ × ℕ)) → IsClosed p has → ((q : ℕ × ℕ) → Contains pairs q → Contains p.before q) → across node_count (map predecessor_arc pairs) ≡ 0
+    across_backs : (pairs : List (ℕ × ℕ)) → IsClosed p has → ((q : ℕ × ℕ) → Contains pairs q → Contains p.before q) → cut_capacity node_count (map predecessor_arc pairs) ≡ 0
     across_backs [] c h = refl
     across_backs (q ∷ pairs) c h =
         omega (arith, ap (λ b. pick b 0) (back_stays q c (h q (here q pairs))), across_backs pairs c (λ r k. h r (there q r pairs k)))
 
-    across_musts : (us : List ℕ) → IsClosed p has → ((u : ℕ) → Contains us u → Contains p.must u) → across node_count (map (must_arc count) us) ≡ 0
+    across_musts : (us : List ℕ) → IsClosed p has → ((u : ℕ) → Contains us u → Contains p.must u) → cut_capacity node_count (map (must_arc count) us) ≡ 0
     across_musts [] c h = refl
     across_musts (u ∷ us) c h =
         omega (arith, ap (λ b. pick b 0) (must_stays u c (h u (here u us))), across_musts us c (λ w k. h w (there u w us k)))
@@ -250,14 +250,14 @@ module _ (p : Problem) (ok : IsProblem p) where
     still_musts (u ∷ us) c h =
         ((λ t. absurd (true≢false (sym t ∙ must_stays u c (h u (here u us))))), still_musts us c (λ w k. h w (there u w us k)))
 
-    pub limited : IsClosed p has → AreLimited node_count (network p).arcs
+    pub limited : IsClosed p has → HasFiniteCapacity node_count (network p).arcs
     limited c =
         each_at Still (network p).arcs
         (each_append Still (arcs_of_chains p ++ predecessor_arcs p) (must_arcs p)
         (each_append Still (arcs_of_chains p) (predecessor_arcs p) (still_chains p.chains) (still_backs p.before c (λ q k. k)))
         (still_musts p.must c (λ u k. k)))
 
-    pub cost_across : IsClosed p has → across node_count (network p).arcs ≡ cost p has
+    pub cost_across : IsClosed p has → cut_capacity node_count (network p).arcs ≡ cost p has
     cost_across c =
         omega (
           arith,

@@ -8,26 +8,26 @@ use Rattle.std.specs.List.Sorted.{IsBinarySearchResult, IsPartitionPoint, IsSear
 use Rattle.std.proofs.lemmas.Bool.{and_parts, or_from, or_left, or_right, or_cases, and_from, cases_lt, cases_order, false_from_ne_true, eqb-true}
 use Rattle.std.proofs.lemmas.List.Sorted.{searched, searchable_from_sorted}
 use Rattle.std.proofs.lemmas.List.Folds.{list_any_at, list_any_none}
-use Rattle.esr_cert.specs.Problem.{in_set, is_ascending, pair_lt, are_pairs_ascending, has_pair}
+use Rattle.esr_cert.specs.Problem.{in_set, is_strictly_ascending, pair_lt, are_pairs_ascending, has_pair}
 
 -- each number is below all later ones
-pub ascending_far : (xs : List ℕ) → is_ascending xs ≡ true → (i j : ℕ) → i < j → j < length xs → get_or xs i 0 < get_or xs j 0
+pub ascending_far : (xs : List ℕ) → is_strictly_ascending xs ≡ true → (i j : ℕ) → i < j → j < length xs → get_or xs i 0 < get_or xs j 0
 ascending_far [] h i j l m = absurd (omega arith)
 ascending_far (x ∷ []) h i j l m = absurd (omega arith)
 ascending_far (x ∷ y ∷ rest) h i zero l m = absurd (omega arith)
-ascending_far (x ∷ y ∷ rest) h zero (suc zero) l m = ltb-true x y (and_parts (ltb x y) (is_ascending (y ∷ rest)) h).0
+ascending_far (x ∷ y ∷ rest) h zero (suc zero) l m = ltb-true x y (and_parts (ltb x y) (is_strictly_ascending (y ∷ rest)) h).0
 ascending_far (x ∷ y ∷ rest) h zero (suc (suc j)) l m =
-    let both : (ltb x y ≡ true) × (is_ascending (y ∷ rest) ≡ true) = and_parts (ltb x y) (is_ascending (y ∷ rest)) h in
+    let both : (ltb x y ≡ true) × (is_strictly_ascending (y ∷ rest) ≡ true) = and_parts (ltb x y) (is_strictly_ascending (y ∷ rest)) h in
     omega (arith, ltb-true x y both.0, ascending_far (y ∷ rest) both.1 0 (suc j) (omega arith) (omega arith))
 ascending_far (x ∷ y ∷ rest) h (suc i) (suc j) l m =
-    ascending_far (y ∷ rest) (and_parts (ltb x y) (is_ascending (y ∷ rest)) h).1 i j (omega arith) (omega arith)
+    ascending_far (y ∷ rest) (and_parts (ltb x y) (is_strictly_ascending (y ∷ rest)) h).1 i j (omega arith) (omega arith)
 
-pub ascending_rises : (xs : List ℕ) → is_ascending xs ≡ true → (i j : ℕ) → i ≤ j → j < length xs → get_or xs i 0 ≤ get_or xs j 0
+pub ascending_rises : (xs : List ℕ) → is_strictly_ascending xs ≡ true → (i j : ℕ) → i ≤ j → j < length xs → get_or xs i 0 ≤ get_or xs j 0
 ascending_rises xs h i j l m =
     elim (cases_lt i j) [ inl k ↦ (let f : get_or xs i 0 < get_or xs j 0 = ascending_far xs h i j k m in omega arith) | inr k ↦ (let e : i ≡ j = omega arith in let P : ℕ → Type 0 = λ n. get_or xs i 0 ≤ get_or xs n 0 in subst P e (omega arith)) ]
 
 -- the number at a place is at least the place
-pub ascending_place : (xs : List ℕ) → is_ascending xs ≡ true → (i : ℕ) → i < length xs → i ≤ get_or xs i 0
+pub ascending_place : (xs : List ℕ) → is_strictly_ascending xs ≡ true → (i : ℕ) → i < length xs → i ≤ get_or xs i 0
 ascending_place xs h zero l = omega arith
 ascending_place xs h (suc i) l = let p : i ≤ get_or xs i 0 = ascending_place xs h i (omega arith) in let f : get_or xs i 0 < get_or xs (suc i) 0 = ascending_far xs h i (suc i) (omega arith) l in omega arith
 
@@ -40,7 +40,7 @@ pub not_in_set : (xs : List ℕ) (u : ℕ) → ((k : ℕ) → k < length xs → 
 not_in_set [] u h = refl
 not_in_set (x ∷ xs) u h = or_from (eqb x u) (in_set xs u) (ne_eqb x u (λ (e : x ≡ u). h 0 (omega arith) e)) (not_in_set xs u (λ k l e. h (suc k) (omega arith) e))
 
-pub found_in_set : (xs : List ℕ) (u : ℕ) (r : Result ℕ ℕ) → is_ascending xs ≡ true → IsBinarySearchResult (λ y. nat_cmp y u) xs r → is_ok r ≡ in_set xs u
+pub found_in_set : (xs : List ℕ) (u : ℕ) (r : Result ℕ ℕ) → is_strictly_ascending xs ≡ true → IsBinarySearchResult (λ y. nat_cmp y u) xs r → is_ok r ≡ in_set xs u
 found_in_set xs u r h s = go r (searched xs u r s (ascending_rises xs h))
   where
     go : (r : Result ℕ ℕ) → MatchResult r (λ i. (i < length xs) × (get_or xs i 0 ≡ u)) (λ i. (i ≤ length xs) × ((k : ℕ) → k < i → get_or xs k 0 < u) × ((k : ℕ) → i ≤ k → k < length xs → u < get_or xs k 0)) → is_ok r ≡ in_set xs u

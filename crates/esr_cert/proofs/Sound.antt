@@ -5,7 +5,7 @@ use Rattle.std.proofs.lemmas.Bool.{and_parts, and_from, or_cases, ltb-true, leb-
 use Rattle.std.proofs.lemmas.List.{length-map}
 use Rattle.esr_base.specs.declared.limits.TheConstants.{MAX_ITEMS, MAX_TRANSACTIONS}
 use Rattle.esr_cert.specs.declared.range.TheConstants.{MAX_COST}
-use Rattle.esr_cert.specs.Problem.{Chain, Problem, update_count, is_closed, is_ascending, pair_lt, are_pairs_ascending, has_pair, are_linked, is_distinct, chain_has_shape, has_valid_shape, greatest, chain_is_in_range, is_in_range, is_well_formed}
+use Rattle.esr_cert.specs.Problem.{Chain, Problem, update_count, is_closed, is_strictly_ascending, pair_lt, are_pairs_ascending, has_pair, are_linked, is_distinct, chain_has_shape, has_valid_shape, greatest, chain_is_in_range, is_in_range, is_well_formed}
 use Rattle.esr_cert.proofs.Distinct.{distinct_bounded, ascending_bounded, all_at}
 
 pub here : {X : Type 0} → (x : X) (xs : List X) → Contains (x ∷ xs) x
@@ -64,15 +64,15 @@ pub record HasShape (p : Problem) : Type 0 where
   pub distinct : is_distinct p.updates ≡ true
   pub pairs : are_pairs_ascending p.before ≡ true
   pub forward : list_all (λ (e : ℕ × ℕ). ltb e.0 e.1) p.before ≡ true
-  pub items : is_ascending (map (λ (chain : Chain). chain.item) p.chains) ≡ true
+  pub items : is_strictly_ascending (map (λ (chain : Chain). chain.item) p.chains) ≡ true
   pub chains : list_all (chain_has_shape p.before) p.chains ≡ true
-  pub must : is_ascending p.must ≡ true
+  pub must : is_strictly_ascending p.must ≡ true
 
 pub shape_facts : (p : Problem) → has_valid_shape p ≡ true → HasShape p
 shape_facts p h =
-    let a : ((is_distinct p.updates && are_pairs_ascending p.before && list_all (λ (e : ℕ × ℕ). ltb e.0 e.1) p.before && is_ascending (map (λ (chain : Chain). chain.item) p.chains) && list_all (chain_has_shape p.before) p.chains) ≡ true) × (is_ascending p.must ≡ true) = and_parts _ _ h in
-    let b : ((is_distinct p.updates && are_pairs_ascending p.before && list_all (λ (e : ℕ × ℕ). ltb e.0 e.1) p.before && is_ascending (map (λ (chain : Chain). chain.item) p.chains)) ≡ true) × (list_all (chain_has_shape p.before) p.chains ≡ true) = and_parts _ _ a.0 in
-    let c : ((is_distinct p.updates && are_pairs_ascending p.before && list_all (λ (e : ℕ × ℕ). ltb e.0 e.1) p.before) ≡ true) × (is_ascending (map (λ (chain : Chain). chain.item) p.chains) ≡ true) = and_parts _ _ b.0 in
+    let a : ((is_distinct p.updates && are_pairs_ascending p.before && list_all (λ (e : ℕ × ℕ). ltb e.0 e.1) p.before && is_strictly_ascending (map (λ (chain : Chain). chain.item) p.chains) && list_all (chain_has_shape p.before) p.chains) ≡ true) × (is_strictly_ascending p.must ≡ true) = and_parts _ _ h in
+    let b : ((is_distinct p.updates && are_pairs_ascending p.before && list_all (λ (e : ℕ × ℕ). ltb e.0 e.1) p.before && is_strictly_ascending (map (λ (chain : Chain). chain.item) p.chains)) ≡ true) × (list_all (chain_has_shape p.before) p.chains ≡ true) = and_parts _ _ a.0 in
+    let c : ((is_distinct p.updates && are_pairs_ascending p.before && list_all (λ (e : ℕ × ℕ). ltb e.0 e.1) p.before) ≡ true) × (is_strictly_ascending (map (λ (chain : Chain). chain.item) p.chains) ≡ true) = and_parts _ _ b.0 in
     let d : ((is_distinct p.updates && are_pairs_ascending p.before) ≡ true) × (list_all (λ (e : ℕ × ℕ). ltb e.0 e.1) p.before ≡ true) = and_parts _ _ c.0 in
     let e : (is_distinct p.updates ≡ true) × (are_pairs_ascending p.before ≡ true) = and_parts _ _ d.0 in
     record { distinct = e.0; pairs = e.1; forward = d.1; items = c.1; chains = b.1; must = a.1 }
@@ -114,7 +114,7 @@ neighbours_from before (u ∷ v ∷ writers) h =
 
 pub record IsChain (p : Problem) (chain : Chain) : Type 0 where
   pub one_more : length chain.costs ≡ length chain.writers + 1
-  pub ascending : is_ascending chain.writers ≡ true
+  pub ascending : is_strictly_ascending chain.writers ≡ true
   pub writers : (u : ℕ) → Contains chain.writers u → u < update_count p
   pub neighbours : Neighbours p.before chain.writers
 
@@ -127,8 +127,8 @@ pub record IsProblem (p : Problem) : Type 0 where
 
 chain_facts : (p : Problem) (chain : Chain) → chain_has_shape p.before chain ≡ true → chain_is_in_range (update_count p) chain ≡ true → IsChain p chain
 chain_facts p chain h r =
-    let a : ((eqb (length chain.costs) (suc (length chain.writers)) && is_ascending chain.writers) ≡ true) × (are_linked p.before chain.writers ≡ true) = and_parts _ _ h in
-    let b : (eqb (length chain.costs) (suc (length chain.writers)) ≡ true) × (is_ascending chain.writers ≡ true) = and_parts _ _ a.0 in
+    let a : ((eqb (length chain.costs) (suc (length chain.writers)) && is_strictly_ascending chain.writers) ≡ true) × (are_linked p.before chain.writers ≡ true) = and_parts _ _ h in
+    let b : (eqb (length chain.costs) (suc (length chain.writers)) ≡ true) × (is_strictly_ascending chain.writers ≡ true) = and_parts _ _ a.0 in
     let c : (ltb chain.item MAX_ITEMS ≡ true) × (list_all (λ w. ltb w (update_count p)) chain.writers ≡ true) = and_parts _ _ r in
     record {
       one_more = omega (arith, eqb-true _ _ b.0);
@@ -165,14 +165,14 @@ pub record AreFew (p : Problem) : Type 0 where
 abbrev coded : ℕ × ℕ → ℕ
 coded e = 65536 * e.0 + e.1
 
-codes_ascend : (pairs : List (ℕ × ℕ)) → are_pairs_ascending pairs ≡ true → list_all (λ (e : ℕ × ℕ). ltb e.0 65536 && ltb e.1 65536) pairs ≡ true → is_ascending (map coded pairs) ≡ true
+codes_ascend : (pairs : List (ℕ × ℕ)) → are_pairs_ascending pairs ≡ true → list_all (λ (e : ℕ × ℕ). ltb e.0 65536 && ltb e.1 65536) pairs ≡ true → is_strictly_ascending (map coded pairs) ≡ true
 codes_ascend [] h r = refl
 codes_ascend (a ∷ []) h r = refl
 codes_ascend (a ∷ b ∷ pairs) h r =
     let both : (pair_lt a b ≡ true) × (are_pairs_ascending (b ∷ pairs) ≡ true) = and_parts (pair_lt a b) (are_pairs_ascending (b ∷ pairs)) h in
     let small : ((ltb a.0 65536 && ltb a.1 65536) ≡ true) × (list_all (λ (e : ℕ × ℕ). ltb e.0 65536 && ltb e.1 65536) (b ∷ pairs) ≡ true) = and_parts (ltb a.0 65536 && ltb a.1 65536) (list_all (λ (e : ℕ × ℕ). ltb e.0 65536 && ltb e.1 65536) (b ∷ pairs)) r in
     let second : a.1 < 65536 = ltb-true a.1 65536 (and_parts (ltb a.0 65536) (ltb a.1 65536) small.0).1 in
-    and_from (ltb (coded a) (coded b)) (is_ascending (map coded (b ∷ pairs))) (lt-ltb (coded a) (coded b) (below second both.0)) (codes_ascend (b ∷ pairs) both.1 small.1)
+    and_from (ltb (coded a) (coded b)) (is_strictly_ascending (map coded (b ∷ pairs))) (lt-ltb (coded a) (coded b) (below second both.0)) (codes_ascend (b ∷ pairs) both.1 small.1)
   where
     below : a.1 < 65536 → pair_lt a b ≡ true → coded a < coded b
     below s h =

@@ -6,23 +6,23 @@ use Rattle.std.specs.List.{list_all, list_any}
 use Rattle.std.proofs.lemmas.List.Sums.{sum_by_more}
 use Rattle.std.proofs.lemmas.Bool.{or_left, or_right, or_from}
 use Rattle.esr_cert.specs.Capacities.{is_row_within, are_rows_within}
-use Rattle.esr_cert.specs.Problem.{Chain, is_ascending, version, pair_lt, are_pairs_ascending, are_linked}
+use Rattle.esr_cert.specs.Problem.{Chain, is_strictly_ascending, version, pair_lt, are_pairs_ascending, are_linked}
 
-pub ascending_yes : (xs : List ℕ) (i j : ℕ) → j ≡ i + 1 → j < length xs → get_or xs i 0 < get_or xs j 0 → is_ascending (drop i xs) ≡ is_ascending (drop j xs)
+pub ascending_yes : (xs : List ℕ) (i j : ℕ) → j ≡ i + 1 → j < length xs → get_or xs i 0 < get_or xs j 0 → is_strictly_ascending (drop i xs) ≡ is_strictly_ascending (drop j xs)
 ascending_yes xs i j e h l =
     let t : nat_lt (get_or xs i 0) (get_or xs j 0) ≡ true = grind (arith, nat_tests) in
     let a : drop i xs ≡ get_or xs i 0 ∷ drop j xs = rw e (drop_more xs i 0 (omega arith)) in
     let b : drop j xs ≡ get_or xs j 0 ∷ drop (j + 1) xs = drop_more xs j 0 h in
     rw (a, b, t) refl
 
-pub ascending_no : (xs : List ℕ) (i j : ℕ) → j ≡ i + 1 → j < length xs → get_or xs j 0 ≤ get_or xs i 0 → is_ascending (drop i xs) ≡ false
+pub ascending_no : (xs : List ℕ) (i j : ℕ) → j ≡ i + 1 → j < length xs → get_or xs j 0 ≤ get_or xs i 0 → is_strictly_ascending (drop i xs) ≡ false
 ascending_no xs i j e h l =
     let t : nat_lt (get_or xs i 0) (get_or xs j 0) ≡ false = grind (arith, nat_tests) in
     let a : drop i xs ≡ get_or xs i 0 ∷ drop j xs = rw e (drop_more xs i 0 (omega arith)) in
     let b : drop j xs ≡ get_or xs j 0 ∷ drop (j + 1) xs = drop_more xs j 0 h in
     rw (a, b, t) refl
 
-pub ascending_end : (xs : List ℕ) (i : ℕ) → length xs ≤ i + 1 → is_ascending (drop i xs) ≡ true
+pub ascending_end : (xs : List ℕ) (i : ℕ) → length xs ≤ i + 1 → is_strictly_ascending (drop i xs) ≡ true
 ascending_end [] zero h = refl
 ascending_end [] (suc i) h = refl
 ascending_end (x ∷ []) zero h = refl

@@ -3,7 +3,7 @@ use Rattle.std.proofs.Common.{◌≡◌, [], ◌∷◌, length, true, false, Som
 use Rattle.esr_cert.specs.Problem.{Problem, in_set, is_closed, cost, has_valid_shape, is_in_range, is_well_formed}
 use Rattle.esr_cert.specs.Network.{network}
 use Rattle.esr_cert.specs.Flow.{inflow, outflow, worth}
-use Rattle.esr_cert.specs.Cut.{with_source, across}
+use Rattle.esr_cert.specs.Cut.{with_source, cut_capacity}
 use Rattle.esr_cert.specs.Certificate.{Certificate, amounts, fault}
 use Rattle.esr_cert.specs.Adjacency.{row_of}
 use Rattle.esr_cert.specs.ChainStarts.{chain_starts_from}
@@ -39,7 +39,7 @@ second_alone_is_not_closed : is_closed report (in_set (1 ∷ [])) ≡ false
 second_alone_is_not_closed = refl
 
 -- the capacity of the cut of a closed set is its cost
-capacity_between : across (with_source 2 (in_set (0 ∷ []))) (network report).arcs ≡ 18
+capacity_between : cut_capacity (with_source 2 (in_set (0 ∷ []))) (network report).arcs ≡ 18
 capacity_between = refl
 
 six_arcs : length (network report).arcs ≡ 6

@@ -1,7 +1,7 @@
 -- A certificate of the least cost of a problem, and the first fault of one.
 use Rattle.std.specs.Prelude.{◌≡◌, ℕ, ◌*◌, List, [], ◌∷◌, ◌++◌, length, Bool, true, false, not, ◌&&◌, ◌==◌, nat_lt, nat_le, if◌then◌else◌, Option, Some, None, Result, Ok, Err}
 use Rattle.std.specs.List.{list_all, concat}
-use Rattle.esr_cert.specs.Problem.{Chain, Problem, update_count, in_set, is_ascending, is_closed, cost}
+use Rattle.esr_cert.specs.Problem.{Chain, Problem, update_count, in_set, is_strictly_ascending, is_closed, cost}
 use Rattle.esr_cert.specs.Network.{network}
 use Rattle.esr_cert.specs.Flow.{are_within, is_conserved, worth}
 use Rattle.esr_cert.specs.Faults.{Fault, SetNotAscending, UnknownUpdate, SetNotClosed, OverCapacity, NotConserved, WorthNotCost, TooManyAugmentations}
@@ -48,7 +48,7 @@ is_count_in_bound p (Some count) = nat_le count ((network p).node_count * length
 -- the first fault that applies
 abbrev pub fault : Problem → Certificate → Option Fault
 fault p c =
-    if not (is_ascending c.set) then Some SetNotAscending else (
+    if not (is_strictly_ascending c.set) then Some SetNotAscending else (
     if not (is_set_in_range p c.set) then Some UnknownUpdate else (
     if not (is_closed p (in_set c.set)) then Some SetNotClosed else (
     if not (is_within p c) then Some OverCapacity else (

@@ -52,10 +52,10 @@ pub record IsSmallestLeastCostSet (p : Problem) (has : ℕ → Bool) : Type 0 wh
 
 -- ---- the rules of shape
 
-abbrev pub is_ascending : List ℕ → Bool
-is_ascending [] = true
-is_ascending (x ∷ []) = true
-is_ascending (x ∷ y ∷ rest) = nat_lt x y && is_ascending (y ∷ rest)
+abbrev pub is_strictly_ascending : List ℕ → Bool
+is_strictly_ascending [] = true
+is_strictly_ascending (x ∷ []) = true
+is_strictly_ascending (x ∷ y ∷ rest) = nat_lt x y && is_strictly_ascending (y ∷ rest)
 
 -- by the first, then by the second
 abbrev pub pair_lt : ℕ × ℕ → ℕ × ℕ → Bool
@@ -82,13 +82,13 @@ is_distinct (x ∷ xs) = not (in_set xs x) && is_distinct xs
 
 abbrev pub chain_has_shape : List (ℕ × ℕ) → Chain → Bool
 chain_has_shape before chain =
-    (length chain.costs == suc (length chain.writers)) && is_ascending chain.writers && are_linked before chain.writers
+    (length chain.costs == suc (length chain.writers)) && is_strictly_ascending chain.writers && are_linked before chain.writers
 
 abbrev pub has_valid_shape : Problem → Bool
 has_valid_shape p =
     is_distinct p.updates && are_pairs_ascending p.before && list_all (λ e. nat_lt e.0 e.1) p.before
-    && is_ascending (map (λ chain. chain.item) p.chains) && list_all (chain_has_shape p.before) p.chains
-    && is_ascending p.must
+    && is_strictly_ascending (map (λ chain. chain.item) p.chains) && list_all (chain_has_shape p.before) p.chains
+    && is_strictly_ascending p.must
 
 -- ---- the rules of range
 

@@ -6,7 +6,7 @@
 //! the problem contains. Sums have 128 bits.
 ghost use Rattle.std.specs.Prelude.{◌≡◌, ℕ, ◌*◌, ◌<◌, ◌≤◌, ◌||◌, not, length, get_or, map, Bool, true, IsOk};
 ghost use Rattle.std.specs.List.{list_all, sum, sum_by};
-ghost use Rattle.esr_cert.specs.Problem.{update_count, in_set, is_ascending, is_closed, version, chain_cost, cost};
+ghost use Rattle.esr_cert.specs.Problem.{update_count, in_set, is_strictly_ascending, is_closed, version, chain_cost, cost};
 ghost use Rattle.esr_cert.specs.Network.{network};
 ghost use Rattle.esr_cert.specs.Flow.{amount_at, is_conserved_at, is_conserved};
 ghost use Rattle.esr_cert.specs.Certificate.{amounts, is_set_in_range, is_within, worth_matches, is_count_in_bound, fault, or_fault};
@@ -18,7 +18,7 @@ ghost use Rattle.esr_cert.specs.Views.{chain_view, rows_of, certificate_of};
 use crate::arcs::arc_count;
 use crate::certificate::{Certificate, Fault};
 use crate::chain_starts::row_at;
-use crate::lists::{are_below, contains, is_ascending};
+use crate::lists::{are_below, contains, is_strictly_ascending};
 use crate::problem::{Chain, Problem};
 use crate::residual::{PackedResidualArc, ResidualArc};
 
@@ -30,7 +30,7 @@ fn is_set_in_range(problem: &Problem, set: &[u32]) -> bool
 }
 
 fn keeps_before(before: &[(u32, u32)], set: &[u32]) -> bool
-    requires { is_ascending set.now ≡ true }
+    requires { is_strictly_ascending set.now ≡ true }
     ensures { result ≡ list_all (λ e. not (in_set set.now e.1) || in_set set.now e.0) before.now }
 {
     before
@@ -39,14 +39,14 @@ fn keeps_before(before: &[(u32, u32)], set: &[u32]) -> bool
 }
 
 fn contains_all(set: &[u32], must: &[u32]) -> bool
-    requires { is_ascending set.now ≡ true }
+    requires { is_strictly_ascending set.now ≡ true }
     ensures { result ≡ list_all (in_set set.now) must.now }
 {
     must.iter().all(|u| contains(set, *u))
 }
 
 fn is_closed(problem: &Problem, set: &[u32]) -> bool
-    requires { is_ascending set.now ≡ true }
+    requires { is_strictly_ascending set.now ≡ true }
     ensures { result ≡ is_closed problem.now (in_set set.now) }
 {
     if !keeps_before(problem.before(), set) {
@@ -177,7 +177,7 @@ fn is_conserved(problem: &Problem, certificate: &Certificate) -> bool
 
 /// Returns the number of writers up to and including the last one in the set.
 fn version(writers: &[u32], set: &[u32]) -> usize
-    requires { is_ascending set.now ≡ true }
+    requires { is_strictly_ascending set.now ≡ true }
     ensures { result ≡ version (in_set set.now) writers.now }
 {
     for i in 0..writers.len() {
@@ -190,7 +190,7 @@ fn version(writers: &[u32], set: &[u32]) -> usize
 }
 
 fn set_cost(chains: &[Chain], set: &[u32]) -> u128
-    requires { is_ascending set.now ≡ true }
+    requires { is_strictly_ascending set.now ≡ true }
     ensures { result ≡ sum_by (chain_cost (in_set set.now)) (map chain_view chains.now) }
 {
     let mut sum: u128 = 0;
@@ -225,7 +225,7 @@ fn total(amounts: &[u64]) -> u128
 
 /// Returns whether the worth is both the flow's, which is the outflow of the source, and the cost of the set.
 fn worth_matches(problem: &Problem, certificate: &Certificate) -> bool
-    requires ascending { is_ascending certificate.now.set.items ≡ true }
+    requires ascending { is_strictly_ascending certificate.now.set.items ≡ true }
     requires within { is_within problem.now (certificate_of certificate.now) ≡ true }
     ensures { result ≡ worth_matches problem.now (certificate_of certificate.now) }
 {
@@ -253,7 +253,7 @@ fn is_count_in_bound(problem: &Problem, augmentations: Option<u64>) -> bool
 fn first_fault(problem: &Problem, certificate: &Certificate) -> Result<(), Fault>
     ensures { result ≡ or_fault (fault problem.now (certificate_of certificate.now)) }
 {
-    if !is_ascending(&certificate.set) {
+    if !is_strictly_ascending(&certificate.set) {
         return Err(Fault::SetNotAscending);
     }
     if !is_set_in_range(problem, &certificate.set) {

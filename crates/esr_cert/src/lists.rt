@@ -1,11 +1,12 @@
-//! Tests of lists of positions: whether they ascend, are below a bound, and hold a number.
+//! Tests of lists of positions: whether a list is strictly ascending, whether all its numbers are below a bound, and
+//! whether it contains a number.
 ghost use Rattle.std.specs.Prelude.{◌≡◌, nat_lt, true};
 ghost use Rattle.std.specs.List.{list_all};
-ghost use Rattle.esr_cert.specs.Problem.{in_set, is_ascending};
+ghost use Rattle.esr_cert.specs.Problem.{in_set, is_strictly_ascending};
 
 /// Returns whether each number is below the next.
-pub fn is_ascending(numbers: &[u32]) -> bool
-    ensures { result ≡ is_ascending numbers.now }
+pub fn is_strictly_ascending(numbers: &[u32]) -> bool
+    ensures { result ≡ is_strictly_ascending numbers.now }
 {
     for i in 1..numbers.len() {
         if numbers[i] <= numbers[i - 1] {
@@ -24,7 +25,7 @@ pub fn are_below(numbers: &[u32], n: usize) -> bool
 
 /// Returns whether an ascending list contains a number.
 pub fn contains(set: &[u32], number: u32) -> bool
-    requires { is_ascending set.now ≡ true }
+    requires { is_strictly_ascending set.now ≡ true }
     ensures { result ≡ in_set set.now number }
 {
     set.binary_search(&number).is_ok()

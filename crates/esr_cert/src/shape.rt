@@ -1,15 +1,15 @@
 //! The rules of shape, over the numbers of a draft: lists ascend, pairs go forward, neighbours of a chain are a pair.
 ghost use Rattle.std.specs.Prelude.{◌≡◌, map, nat_lt, true, IfOk};
 ghost use Rattle.std.specs.List.{list_all};
-ghost use Rattle.esr_cert.specs.Problem.{pair_lt, is_ascending, is_distinct, are_pairs_ascending, has_pair, are_linked, chain_has_shape, has_valid_shape};
+ghost use Rattle.esr_cert.specs.Problem.{pair_lt, is_strictly_ascending, is_distinct, are_pairs_ascending, has_pair, are_linked, chain_has_shape, has_valid_shape};
 ghost use Rattle.esr_cert.specs.ProblemDrafts.{drafted_chain, drafted_problem};
 
 use crate::draft::{ChainDraft, ProblemDraft};
 use std::alloc::{AllocError, Global};
 
 /// Returns whether each number is below the next.
-fn is_ascending(numbers: &[u64]) -> bool
-    ensures { result ≡ is_ascending numbers.now }
+fn is_strictly_ascending(numbers: &[u64]) -> bool
+    ensures { result ≡ is_strictly_ascending numbers.now }
 {
     for i in 1..numbers.len() {
         if numbers[i] <= numbers[i - 1] {
@@ -25,7 +25,7 @@ fn is_distinct(alloc: Global, updates: &[u64]) -> Result<bool, AllocError>
 {
     let mut numbers = updates.to_vec(alloc)?;
     numbers.sort_unstable();
-    Ok(is_ascending(&numbers))
+    Ok(is_strictly_ascending(&numbers))
 }
 
 fn pair_lt(a: (u64, u64), b: (u64, u64)) -> bool
@@ -53,7 +53,7 @@ fn are_pairs_forward(pairs: &[(u64, u64)]) -> bool
 }
 
 fn are_items_ascending(chains: &[ChainDraft]) -> bool
-    ensures { result ≡ is_ascending (map (λ chain. chain.item) (map drafted_chain chains.now)) }
+    ensures { result ≡ is_strictly_ascending (map (λ chain. chain.item) (map drafted_chain chains.now)) }
 {
     for i in 1..chains.len() {
         if chains[i].item <= chains[i - 1].item {
@@ -91,7 +91,7 @@ fn chain_has_shape(before: &[(u64, u64)], chain: &ChainDraft) -> bool
     if chain.costs.len() != chain.writers.len() + 1 {
         return false;
     }
-    if !is_ascending(&chain.writers) {
+    if !is_strictly_ascending(&chain.writers) {
         return false;
     }
     are_linked(before, &chain.writers)
@@ -128,5 +128,5 @@ pub fn has_valid_shape(alloc: Global, draft: &ProblemDraft) -> Result<bool, Allo
     if !chains_have_shape(&draft.before, &draft.chains) {
         return Ok(false);
     }
-    Ok(is_ascending(&draft.must))
+    Ok(is_strictly_ascending(&draft.must))
 }

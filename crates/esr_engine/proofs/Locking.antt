@@ -25,7 +25,7 @@ use Rattle.esr_history.proofs.Steps.{last_written_agree}
 use Rattle.esr_history.proofs.Values.{current-write, stays}
 use Rattle.esr_core.proofs.Held.{is_active-unchanged}
 use Rattle.esr_core.proofs.Locks.{writer_is}
-use Rattle.esr_engine.specs.declared.engine.Unanswered.{Unanswered}
+use Rattle.esr_engine.specs.declared.engine.EngineError.{EngineError}
 use Rattle.esr_engine.specs.ForUpdate.{after, has_lock, lock_event, locked, reply_for_update, after_for_update, IsHeldValue}
 
 settles : (begun committed aborted : Bool) → begun ≡ true → (begun && (not committed && not aborted)) ≡ false → (committed ≡ true → aborted ≡ false) → committed ≡ not aborted
@@ -122,12 +122,12 @@ module _ (h : Schedule) (t : TxnId) (x : ItemId) where
   taken_steps has wrote = (rw (has, wrote) refl, rw (has, wrote) refl, rw (has, wrote) refl)
 
 -- the contract of a read for update with an `Ok` result
-pub record Finished (h : Schedule) (t : TxnId) (x : ItemId) (r : Result Reply Unanswered) (new : Schedule) : Type 0 where
+pub record Finished (h : Schedule) (t : TxnId) (x : ItemId) (r : Result Reply EngineError) (new : Schedule) : Type 0 where
   pub reply : IfOk r (λ a. a ≡ reply_for_update h t x)
   pub added : OnOk r (new ≡ after_for_update h t x)
   pub held : IfOk r (IsHeldValue h new t x)
 
-pub finish : (h : Schedule) → IsWellFormed (accepted_in h) → (t : TxnId) (x : ItemId) (r : Result Reply Unanswered) (new g : Schedule) → IfOk r (λ a. a ≡ reply_to weighted g (Read t x)) → IfOk r (λ a. new ≡ extended g (Read t x) a)
+pub finish : (h : Schedule) → IsWellFormed (accepted_in h) → (t : TxnId) (x : ItemId) (r : Result Reply EngineError) (new g : Schedule) → IfOk r (λ a. a ≡ reply_to weighted g (Read t x)) → IfOk r (λ a. new ≡ extended g (Read t x) a)
     → reply_for_update h t x ≡ reply_to weighted g (Read t x) → after_for_update h t x ≡ after g (Read t x) → Finished h t x r new
 finish h o t x (Err e) new g replied grew reply added = record { reply = tt; added = tt; held = tt }
 finish h o t x (Ok a) new g replied grew reply added =

@@ -3,7 +3,7 @@ use Rattle.std.specs.Prelude.{ℕ, Bool, true, false, List, Option, option_map, 
 use Rattle.esr_history.specs.declared.event.Event.{Event}
 use Rattle.esr_history.specs.Events.{BeginRecord, kind_of, begin_record, is_active, is_committed}
 use Rattle.esr_history.specs.Machine.{DistanceFunction, Schedule, accepted_in, charges_in, import_in, export_in}
-use Rattle.esr_engine.specs.declared.account.AccountView.{AccountView}
+use Rattle.esr_engine.specs.declared.account.Account.{Account}
 use Rattle.esr_engine.specs.declared.account.TxnStatus.{TxnStatus}
 use Rattle.esr_engine.specs.declared.account.TxnStatus.TheVariants.{Active, Committed, Aborted}
 
@@ -17,7 +17,7 @@ charged_to d h true t = import_in (charges_in d h) t
 charged_to d h false t = export_in (charges_in d h) t
 
 -- the account of a transaction that began so
-abbrev pub account_from : DistanceFunction → Schedule → ℕ → BeginRecord → AccountView
+abbrev pub account_from : DistanceFunction → Schedule → ℕ → BeginRecord → Account
 account_from d h t b = record {
   kind = kind_of b.query;
   limit = b.limit;
@@ -26,5 +26,5 @@ account_from d h t b = record {
 }
 
 -- the account of a transaction, if it has begun
-abbrev pub account_of : DistanceFunction → Schedule → ℕ → Option AccountView
+abbrev pub account_of : DistanceFunction → Schedule → ℕ → Option Account
 account_of d h t = option_map (account_from d h t) (begin_record (accepted_in h) t)

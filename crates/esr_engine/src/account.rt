@@ -1,4 +1,4 @@
-//! Returns the account of one transaction at any time: its kind and limit, the amount charged so far, and its status.
+//! The account of a transaction: its kind and limit, the amount charged so far, and its status.
 
 ghost use Rattle.std.specs.Prelude.{◌≡◌, is_some};
 ghost use Rattle.esr_items.specs.Weights.{weighted};
@@ -22,7 +22,7 @@ pub enum TxnStatus {
 /// The amount that a query has imported so far, or an update exported, with its limit, and its status. The values that
 /// an active report has read may be shown with it: they are off by at most the amount charged.
 #[derive(Clone, Copy, PartialEq, Eq, Debug)]
-pub struct AccountView {
+pub struct Account {
     pub kind: Kind,
     pub limit: u64,
     pub charged: u64,
@@ -69,13 +69,13 @@ impl EmbeddedEngine {
     /// so far are off by at most the amount charged, from the committed values and from any mixture of these and the
     /// current ones.
     #[tactic(auto, using(crate::proofs::Statuses::no_account, crate::proofs::Reports::active_bounded))]
-    pub fn account(&self, t: TxnId) -> Option<AccountView>
+    pub fn account(&self, t: TxnId) -> Option<Account>
         ensures account { result ≡ account_of weighted self.now t.0 }
         ensures bound { ImportBoundsActive weighted self.now }
     {
         let history = self.machine.history();
         match history.facts(t) {
-            Some(facts) => Some(AccountView {
+            Some(facts) => Some(Account {
                 kind: kind_of(facts.query),
                 limit: facts.limit,
                 charged: self.charge_of(facts.query, t),

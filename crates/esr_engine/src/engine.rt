@@ -23,9 +23,9 @@ use esr_order::Index;
 use std::marker::Model;
 use thiserror::Error;
 
-/// Why an event is not answered. No entry was made then, and nothing has changed.
+/// Why an event has no reply. It has made no entry and changed nothing.
 #[derive(Clone, Copy, PartialEq, Eq, Debug, Error)]
-pub enum Unanswered {
+pub enum EngineError {
     /// The history has no entry left for the event in addition to the reserved ends, or no number for a begin.
     #[error("history full")]
     Full = 12,
@@ -123,14 +123,14 @@ impl EmbeddedEngine {
     /// transactions; never for an end of an active transaction. `NoMemory` if an allocation failed. In both cases
     /// nothing has changed.
     #[inline(always)]
-    pub fn step(&mut self, event: Event) -> Result<Reply, Unanswered>
+    pub fn step(&mut self, event: Event) -> Result<Reply, EngineError>
         ensures reply { IfOk result (λ reply. reply ≡ reply_to weighted self.old event) }
         ensures added { IfOk result (λ reply. self.new ≡ extended self.old event reply) }
-        ensures full { IsErrOf result Unanswered.Full ↔ (is_full self.old event ≡ true) }
+        ensures full { IsErrOf result EngineError.Full ↔ (is_full self.old event ≡ true) }
         ensures err { OnErr result (self.new ≡ self.old) }
     {
         if self.is_full(event) {
-            return Err(Unanswered::Full);
+            return Err(EngineError::Full);
         }
         let _invariant = self.machine.log(); // brings the invariant into the proof
         match self.machine.step(event) {
@@ -138,7 +138,7 @@ impl EmbeddedEngine {
                 self.active = active_after(self.active, reply);
                 Ok(reply)
             }
-            Err(_) => Err(Unanswered::NoMemory),
+            Err(_) => Err(EngineError::NoMemory),
         }
     }
 
@@ -147,14 +147,14 @@ impl EmbeddedEngine {
     /// # Errors
     /// Those of `step`.
     #[inline(always)]
-    pub fn read(&mut self, t: TxnId, x: ItemId) -> Result<Reply, Unanswered>
+    pub fn read(&mut self, t: TxnId, x: ItemId) -> Result<Reply, EngineError>
         ensures reply { IfOk result (λ reply. reply ≡ reply_to weighted self.old (Read t x)) }
         ensures added { IfOk result (λ reply. self.new ≡ extended self.old (Read t x) reply) }
-        ensures full { IsErrOf result Unanswered.Full ↔ (is_full self.old (Read t x) ≡ true) }
+        ensures full { IsErrOf result EngineError.Full ↔ (is_full self.old (Read t x) ≡ true) }
         ensures err { OnErr result (self.new ≡ self.old) }
     {
         if self.is_full(Event::Read { txn: t, item: x }) {
-            return Err(Unanswered::Full);
+            return Err(EngineError::Full);
         }
         let _invariant = self.machine.log(); // brings the invariant into the proof
         match self.machine.read(t, x) {
@@ -162,7 +162,7 @@ impl EmbeddedEngine {
                 self.active = active_after(self.active, reply);
                 Ok(reply)
             }
-            Err(_) => Err(Unanswered::NoMemory),
+            Err(_) => Err(EngineError::NoMemory),
         }
     }
 
@@ -171,10 +171,10 @@ impl EmbeddedEngine {
     /// # Errors
     /// Those of `step`.
     #[inline(always)]
-    pub fn write(&mut self, t: TxnId, x: ItemId, v: i64) -> Result<Reply, Unanswered>
+    pub fn write(&mut self, t: TxnId, x: ItemId, v: i64) -> Result<Reply, EngineError>
         ensures reply { IfOk result (λ reply. reply ≡ reply_to weighted self.old (Write t x v)) }
         ensures added { IfOk result (λ reply. self.new ≡ extended self.old (Write t x v) reply) }
-        ensures full { IsErrOf result Unanswered.Full ↔ (is_full self.old (Write t x v) ≡ true) }
+        ensures full { IsErrOf result EngineError.Full ↔ (is_full self.old (Write t x v) ≡ true) }
         ensures err { OnErr result (self.new ≡ self.old) }
     {
         let event = Event::Write {
@@ -183,7 +183,7 @@ impl EmbeddedEngine {
             value: v,
         };
         if self.is_full(event) {
-            return Err(Unanswered::Full);
+            return Err(EngineError::Full);
         }
         let _invariant = self.machine.log(); // brings the invariant into the proof
         match self.machine.write(t, x, v) {
@@ -191,7 +191,7 @@ impl EmbeddedEngine {
                 self.active = active_after(self.active, reply);
                 Ok(reply)
             }
-            Err(_) => Err(Unanswered::NoMemory),
+            Err(_) => Err(EngineError::NoMemory),
         }
     }
 

@@ -7,7 +7,7 @@
 ghost use Rattle.std.specs.Prelude.{◌≡◌, ◌↔◌, true, IfOk, IfErr, OnOk, IsErrOf};
 ghost use Rattle.esr_engine.specs.ForUpdate.{reply_for_update, after_for_update, has_lock, lock_event, IsHeldValue, IsPartlyDone, no_pair};
 
-use crate::engine::{EmbeddedEngine, Unanswered};
+use crate::engine::{EmbeddedEngine, EngineError};
 use esr_history::{Event, MAX_ENTRIES, Reply, TxnId};
 use esr_items::ItemId;
 
@@ -48,16 +48,16 @@ impl EmbeddedEngine {
     /// `Full` if and only if fewer than two entries are left in addition to the reserved ends; then nothing has changed.
     /// `NoMemory` if an allocation failed; then nothing has changed, except that the update may hold the lock, and the call
     /// can be retried.
-    pub fn read_for_update(&mut self, t: TxnId, x: ItemId) -> Result<Reply, Unanswered>
+    pub fn read_for_update(&mut self, t: TxnId, x: ItemId) -> Result<Reply, EngineError>
         ensures reply { IfOk result (λ reply. reply ≡ reply_for_update self.old t x) }
         ensures added { OnOk result (self.new ≡ after_for_update self.old t x) }
         ensures held { IfOk result (IsHeldValue self.old self.new t x) }
-        ensures full { IsErrOf result Unanswered.Full ↔ (no_pair self.old ≡ true) }
-        ensures kept { IsErrOf result Unanswered.Full → self.new ≡ self.old }
+        ensures full { IsErrOf result EngineError.Full ↔ (no_pair self.old ≡ true) }
+        ensures kept { IsErrOf result EngineError.Full → self.new ≡ self.old }
         ensures err { IfErr result (λ _. IsPartlyDone self.old self.new t x) }
     {
         if self.demand() + 2 > MAX_ENTRIES {
-            return Err(Unanswered::Full);
+            return Err(EngineError::Full);
         }
         let _invariant = self.machine.log(); // brings the invariant into the proof
         if self.has_lock(t, x) {

@@ -1,4 +1,4 @@
-//! Continues from the committed values with an empty history.
+//! Renewals: an engine begins a new history at its committed values.
 //!
 //! If no transaction is active, the machine is renewed and keeps its memory. Otherwise a new engine replaces it: active
 //! transactions end with the history. So the call needs no entry, and an error changes nothing.

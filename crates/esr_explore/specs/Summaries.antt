@@ -12,8 +12,8 @@ use Rattle.esr_explore.specs.declared.run_summary.RunSummary.{RunSummary}
 use Rattle.esr_explore.specs.Turns.{IsRun, BlockProgressView, RunState, no_progress, is_blocked}
 
 -- the number that the begin at a place of a block got
-abbrev pub number_of : List BlockProgressView → ℕ → ℕ → ℕ
-number_of all_progress block place =
+abbrev pub txn_id_of : List BlockProgressView → ℕ → ℕ → ℕ
+txn_id_of all_progress block place =
     unwrap_or (option_and_then number_in (slice_get (slice_index_or all_progress block no_progress).replies place)) 0
 
 -- a committed query's import, and its distance as audits find it; nothing of another transaction
@@ -24,7 +24,7 @@ IsOutcome h number (Some outcomes) = (before : List ℕ) × IsAnswer weighted h 
 -- query by query
 abbrev pub AreOutcomes : Schedule → List BlockProgressView → List Query → List (Option QueryOutcome) → Type 0
 AreOutcomes h all_progress [] [] = Unit {0}
-AreOutcomes h all_progress (q ∷ queries) (outcomes ∷ more) = IsOutcome h (number_of all_progress q.block q.place) outcomes × AreOutcomes h all_progress queries more
+AreOutcomes h all_progress (q ∷ queries) (outcomes ∷ more) = IsOutcome h (txn_id_of all_progress q.block q.place) outcomes × AreOutcomes h all_progress queries more
 AreOutcomes h all_progress _ _ = ⊥
 
 -- the number of lines of a block that were given up: their last reply is that they are blocked

@@ -1,8 +1,9 @@
-//! Runs the blocks of a plan on one thread: at each turn one of them executes its next line.
+//! Runs the blocks of a plan on one thread, one line at a time, in the order of a list of block numbers.
 //!
-//! A blocked line is retried at a later turn of its block, up to 100 tries in all, as in a drive; then its last reply counts. An
-//! order has as many turns as there are lines, and blocked lines use some of them: the blocks execute the remaining lines in
-//! rounds.
+//! A number in this list is a turn of its block: the block executes its next line. If the line is blocked, it is retried at
+//! the next turn of the block, up to 100 times, as in a drive; then the block continues with its next line. The list has one
+//! turn for each line, so each retry leaves a line over. These lines are executed at the end, in rounds: each block with a
+//! line left takes one turn.
 
 ghost use Rattle.std.specs.Prelude.{◌≡◌, ℕ, List, [], ◌<◌, ◌≤◌, IfOk, IfNone, OnOk, length, map, slice_index_or};
 ghost use Rattle.std.specs.List.{range_with_len};
@@ -20,7 +21,7 @@ use esr_items::{Store, Weighted};
 use esr_plan::{Call, DriveFault, DrivePlan, event_of, metric_of};
 use std::alloc::{AllocError, Global};
 
-/// The result of a run: the history, and for each block the results of its lines.
+/// The result of a run: the history, and the progress of each block.
 #[derive(Drop)]
 pub struct Run {
     pub history: History<Weighted>,
@@ -38,8 +39,8 @@ fn next_event(calls: &[Call<'_>], progress: &BlockProgress) -> Option<Event>
     }
 }
 
-/// Executes the next line of a block, if one is left.
-fn take_turn(
+/// Executes the next line of a block that has these lines, if one is left.
+fn execute_next_line(
     machine: &mut Machine<Weighted>,
     calls: &[Call<'_>],
     progress: &mut BlockProgress,
@@ -60,8 +61,8 @@ fn take_turn(
     }
 }
 
-/// Executes the next line of a block, if one is left.
-fn turn(
+/// Executes the next line of the block with this number, if one is left.
+fn execute_turn(
     machine: &mut Machine<Weighted>,
     blocks: &[Vec<Call<'_>>],
     all_progress: &mut Vec<BlockProgress>,
@@ -75,10 +76,10 @@ fn turn(
     if block >= all_progress.len() {
         return Ok(());
     }
-    take_turn(machine, blocks[block].as_slice(), &mut all_progress[block])
+    execute_next_line(machine, blocks[block].as_slice(), &mut all_progress[block])
 }
 
-/// Executes the turns of an order.
+/// Executes these turns.
 fn take_turns(
     machine: &mut Machine<Weighted>,
     blocks: &[Vec<Call<'_>>],
@@ -91,13 +92,13 @@ fn take_turns(
     ensures len { length all_progress.new.items ≡ length all_progress.old.items }
 {
     for block in order {
-        turn(machine, blocks, all_progress, *block as usize)?;
+        execute_turn(machine, blocks, all_progress, *block as usize)?;
     }
     Ok(())
 }
 
-/// Creates the runners of blocks, before their first lines.
-fn new_runners(alloc: Global, count: usize) -> Result<Vec<BlockProgress>, AllocError>
+/// Returns the progress of this number of blocks before their first lines.
+fn new_progress(alloc: Global, count: usize) -> Result<Vec<BlockProgress>, AllocError>
     ensures { IfOk result (λ all_progress. all_progress.items ≡ map (λ _. no_progress) (range_with_len 0 count)) }
 {
     let mut all_progress = Vec::new(alloc);
@@ -107,7 +108,7 @@ fn new_runners(alloc: Global, count: usize) -> Result<Vec<BlockProgress>, AllocE
     Ok(all_progress)
 }
 
-/// Returns the first block with a line left, from a number on.
+/// Returns the first block with a line left, of those with at least this number.
 fn find_unfinished(
     blocks: &[Vec<Call<'_>>],
     all_progress: &[BlockProgress],
@@ -126,8 +127,8 @@ fn find_unfinished(
     None
 }
 
-/// Returns the block with the next turn of a round: the first with a line left, from a number on, or else the first
-/// of all.
+/// Returns the block with the next turn of a round: the first with a line left of those with at least this number, or else
+/// the first with a line left of all.
 fn next_in_round(
     blocks: &[Vec<Call<'_>>],
     all_progress: &[BlockProgress],
@@ -158,13 +159,13 @@ fn finish(
         let Some(block) = next_in_round(blocks, all_progress, from) else {
             return Ok(());
         };
-        turn(machine, blocks, all_progress, block)?;
+        execute_turn(machine, blocks, all_progress, block)?;
         from = block.saturating_add(1);
     }
     Err(StepError::NoMemory)
 }
 
-/// Creates a machine with the items of a plan.
+/// Creates a machine with the items and weights of a plan.
 fn machine_of(alloc: Global, drive_plan: &DrivePlan<'_>) -> Result<Machine<Weighted>, DriveFault>
     requires { IsSound drive_plan.now }
     ensures { IfOk result (λ m. m ≡ (begun drive_plan.now.values.items (weights_of drive_plan.now.weights.items)
@@ -184,17 +185,17 @@ fn fault_of(error: StepError) -> DriveFault {
     }
 }
 
-/// Runs the blocks of a plan: in this order, and the remaining lines in rounds.
+/// Runs the blocks of a plan: first these turns, then the remaining lines in rounds.
 pub fn run_order(alloc: Global, drive_plan: &DrivePlan<'_>, order: &[u8]) -> Result<Run, DriveFault>
     requires { IsSound drive_plan.now }
     ensures run { IfOk result (λ r. IsRun drive_plan.now.values.items (weights_of drive_plan.now.weights.items)
         (map (λ b. b.items) drive_plan.now.blocks.items) order.now (run_state r.history.schedule r.all_progress.items)) }
     ensures legal { IfOk result (λ r. IsLegal weighted r.history.schedule) }
-    ensures upper_bound { IfOk result (λ r. length r.history.schedule.entries ≤ MAX_ENTRIES) }
+    ensures entries_within_limit { IfOk result (λ r. length r.history.schedule.entries ≤ MAX_ENTRIES) }
 {
     let blocks = drive_plan.blocks.as_slice();
     let mut machine = machine_of(alloc, drive_plan)?;
-    let mut all_progress = new_runners(alloc, blocks.len())?;
+    let mut all_progress = new_progress(alloc, blocks.len())?;
     if let Err(error) = take_turns(&mut machine, blocks, &mut all_progress, order) {
         return Err(fault_of(error));
     }

@@ -1,9 +1,9 @@
-//! The summary of one run: the import and the distance of each query that committed, how often the lines of each block
-//! were blocked, and how many of them were given up.
+//! Summarizes one run: the import and the distance of each query that committed, how often lines of each block were
+//! blocked, and how many of its lines were given up, that is, still blocked at the last try.
 
 ghost use Rattle.std.specs.Prelude.{◌≡◌, IfOk, map};
 ghost use Rattle.esr_explore.specs.Turns.{run_state};
-ghost use Rattle.esr_explore.specs.Summaries.{AreOutcomes, IsOutcome, IsSummaryOf, given_up_in, number_of};
+ghost use Rattle.esr_explore.specs.Summaries.{AreOutcomes, IsOutcome, IsSummaryOf, given_up_in, txn_id_of};
 
 use crate::progress::{BlockProgress, is_blocked};
 use crate::query::Query;
@@ -13,7 +13,7 @@ use esr_history::{History, Reply, TxnId};
 use esr_items::Weighted;
 use std::alloc::{AllocError, Global};
 
-/// The charge to a committed query, and its distance from a serial order.
+/// The inconsistency charged to a committed query, and its distance from the nearest serial placement.
 #[derive(Clone, Copy)]
 pub struct QueryOutcome {
     pub import: u64,
@@ -31,15 +31,15 @@ pub struct RunSummary {
     pub given_up: Vec<u64>,
 }
 
-/// Returns the number of the transaction that a query's begin created, or 0 if it was refused.
-fn number_of(all_progress: &[BlockProgress], query: Query<'_>) -> TxnId
-    ensures { result.0 ≡ number_of all_progress.now query.entry.block query.entry.place }
+/// Returns the id of the transaction that a query's begin created, or 0 if it was refused.
+fn txn_id_of(all_progress: &[BlockProgress], query: Query<'_>) -> TxnId
+    ensures { result.0 ≡ txn_id_of all_progress.now query.entry.block query.entry.place }
 {
     let Some(progress) = all_progress.get(query.block) else {
         return TxnId(0);
     };
     match progress.replies().get(query.place) {
-        Some(Reply::Begun(number)) => *number,
+        Some(Reply::Begun(txn_id)) => *txn_id,
         _ => TxnId(0),
     }
 }
@@ -48,11 +48,11 @@ fn number_of(all_progress: &[BlockProgress], query: Query<'_>) -> TxnId
 fn outcome_of(
     alloc: Global,
     history: &History<Weighted>,
-    number: TxnId,
+    txn_id: TxnId,
 ) -> Result<Option<QueryOutcome>, AllocError>
-    ensures { IfOk result (IsOutcome history.now.schedule number.0) }
+    ensures { IfOk result (IsOutcome history.now.schedule txn_id.0) }
 {
-    match audit_query(alloc, history, number) {
+    match audit_query(alloc, history, txn_id) {
         Ok(finding) => Ok(Some(QueryOutcome {
             import: finding.import,
             distance: finding.distance,
@@ -72,14 +72,14 @@ fn all_outcomes(
 {
     let mut outcomes = Vec::new(alloc);
     for query in queries {
-        let number = number_of(&run.all_progress, *query);
-        outcomes.push(outcome_of(alloc, &run.history, number)?)?;
+        let txn_id = txn_id_of(&run.all_progress, *query);
+        outcomes.push(outcome_of(alloc, &run.history, txn_id)?)?;
     }
     Ok(outcomes)
 }
 
 /// Returns, for each block, the number of times that its lines were blocked.
-fn count_blocked(alloc: Global, all_progress: &[BlockProgress]) -> Result<Vec<u64>, AllocError>
+fn blocked_counts(alloc: Global, all_progress: &[BlockProgress]) -> Result<Vec<u64>, AllocError>
     ensures { IfOk result (λ v. v.items ≡ map (λ r. r.blocked) all_progress.now) }
 {
     let mut counts = Vec::new(alloc);
@@ -101,7 +101,7 @@ fn given_up_in(progress: &BlockProgress) -> u64
 }
 
 /// Returns how many lines of each block were given up.
-fn all_given_up(alloc: Global, all_progress: &[BlockProgress]) -> Result<Vec<u64>, AllocError>
+fn given_up_counts(alloc: Global, all_progress: &[BlockProgress]) -> Result<Vec<u64>, AllocError>
     ensures { IfOk result (λ v. v.items ≡ map given_up_in all_progress.now) }
 {
     let mut counts = Vec::new(alloc);
@@ -117,7 +117,7 @@ pub fn summarize(alloc: Global, run: &Run, queries: &[Query<'_>]) -> Result<RunS
 {
     Ok(RunSummary {
         outcomes: all_outcomes(alloc, run, queries)?,
-        blocked: count_blocked(alloc, &run.all_progress)?,
-        given_up: all_given_up(alloc, &run.all_progress)?,
+        blocked: blocked_counts(alloc, &run.all_progress)?,
+        given_up: given_up_counts(alloc, &run.all_progress)?,
     })
 }

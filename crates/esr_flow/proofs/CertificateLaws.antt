@@ -7,7 +7,7 @@ use Rattle.std.proofs.lemmas.List.Folds.{concat-append}
 use Rattle.std.proofs.lemmas.List.Sums.{sum_by-cons, sum_by-append}
 use Rattle.esr_flow.specs.Types.{Arc}
 use Rattle.esr_cert.specs.declared.problem.Chain as code
-use Rattle.esr_cert.specs.Problem.{Chain, Problem, update_count, in_set, is_ascending, cost, IsSmallestLeastCostSet}
+use Rattle.esr_cert.specs.Problem.{Chain, Problem, update_count, in_set, is_strictly_ascending, cost, IsSmallestLeastCostSet}
 use Rattle.esr_cert.specs.Network.{path_arcs, arcs_of_chain, arcs_of_chains, predecessor_arcs, must_arcs, predecessor_arc, must_arc, network}
 use Rattle.esr_cert.specs.Flow.{are_within, IsFlow, worth}
 use Rattle.esr_cert.specs.Certificate.{Certificate, amounts, are_rows_matched, is_count_in_bound, Certifies}
@@ -119,7 +119,7 @@ certified p ok flow f has r s c set_is parts rows worth_is short =
     let tight : c.worth ≡ worth (network p) (amounts c) = worth_is ∙ ap (worth (network p)) (sym parts.whole) in
     let dear : c.worth ≡ cost p (in_set c.set) = worth_is ∙ reach_cost p ok flow has f r s ∙ same in
     certifies_from p c (record {
-      ascending = ap is_ascending set_is ∙ positions_ascend has (update_count p);
+      ascending = ap is_strictly_ascending set_is ∙ positions_ascend has (update_count p);
       known = ap (list_all (λ u. nat_lt u (update_count p))) set_is ∙ positions_below has (update_count p);
       closed = smallest.closed;
       within = and_from _ _ (and_from _ _ (and_from _ _ rows (eq-eqb _ _ parts.backs)) (eq-eqb _ _ parts.musts)) inside;

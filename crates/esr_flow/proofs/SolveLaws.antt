@@ -4,10 +4,10 @@ use Rattle.std.specs.List.{list_all}
 use Rattle.std.proofs.lemmas.Bool.{cases_eq, cases_Bool, or_left, or_from, and_parts, and_from, ltb-true}
 use Rattle.std.proofs.lemmas.List.Sums.{sum_by-cons}
 use Rattle.esr_flow.specs.Types.{Arc, ResidualArc, Forward, Backward}
-use Rattle.esr_cert.specs.Problem.{Chain, Problem, update_count, in_set, is_ascending, is_closed, chain_cost, cost, IsSmallestLeastCostSet}
+use Rattle.esr_cert.specs.Problem.{Chain, Problem, update_count, in_set, is_strictly_ascending, is_closed, chain_cost, cost, IsSmallestLeastCostSet}
 use Rattle.esr_cert.specs.Network.{arc_at, network}
 use Rattle.esr_cert.specs.Flow.{amount_at}
-use Rattle.esr_cert.specs.Cut.{with_source, IsLimited, AreLimited}
+use Rattle.esr_cert.specs.Cut.{with_source, IsFinite, HasFiniteCapacity}
 use Rattle.esr_cert.proofs.Sound.{here, there, IsClosed, IsChain, IsProblem, closed_facts, closed_from}
 use Rattle.esr_cert.proofs.Least.{with_the_source, without_sink, limited, version_same}
 use Rattle.esr_flow.specs.Residual.{left_of, finish, residual_capacity, bottleneck, smaller, IsPath}
@@ -21,7 +21,7 @@ none_parts (Some a) None h = cc
 none_parts (Some a) (Some b) h = cc
 
 -- a step with no limit does not leave a set that only limited arcs leave
-unlimited_stays : (arcs : List Arc) (flow : List ℕ) (has : ℕ → Bool) → AreLimited has arcs → (s : ResidualArc) → arc_of s < length arcs → residual_capacity arcs flow s ≡ None → has (start arcs s) ≡ true → has (finish arcs s) ≡ true
+unlimited_stays : (arcs : List Arc) (flow : List ℕ) (has : ℕ → Bool) → HasFiniteCapacity has arcs → (s : ResidualArc) → arc_of s < length arcs → residual_capacity arcs flow s ≡ None → has (start arcs s) ≡ true → has (finish arcs s) ≡ true
 unlimited_stays arcs flow has limited (Forward i) l e h =
     elim (cases_Bool (has (arc_at arcs i).to)) [
       | inl t ↦ t
@@ -33,12 +33,12 @@ unlimited_stays arcs flow has limited (Forward i) l e h =
     crossing true true p q = cc
     crossing false c p q = cc
 
-    no_limit : (o : Option ℕ) → IsLimited o → left_of o (amount_at flow i) ≡ None → ⊥
+    no_limit : (o : Option ℕ) → IsFinite o → left_of o (amount_at flow i) ≡ None → ⊥
     no_limit None l e = l
     no_limit (Some c) l e = cc
 unlimited_stays arcs flow has limited (Backward i) l e h = cc
 
-unlimited_path : (arcs : List Arc) (flow : List ℕ) (has : ℕ → Bool) → AreLimited has arcs → (path : List ResidualArc) (a b : ℕ) → IsPath arcs flow a path b → bottleneck arcs flow path ≡ None → has a ≡ true → has b ≡ true
+unlimited_path : (arcs : List Arc) (flow : List ℕ) (has : ℕ → Bool) → HasFiniteCapacity has arcs → (path : List ResidualArc) (a b : ℕ) → IsPath arcs flow a path b → bottleneck arcs flow path ≡ None → has a ≡ true → has b ≡ true
 unlimited_path arcs flow has limited [] a b h e t = sym (ap has h) ∙ t
 unlimited_path arcs flow has limited (s ∷ path) a b h e t =
     let p : (residual_capacity arcs flow s ≡ None) × (bottleneck arcs flow path ≡ None) = none_parts (residual_capacity arcs flow s) (bottleneck arcs flow path) e in
@@ -141,18 +141,18 @@ positions_below has (suc n) = go (has n) (all_less (members_below has n) n (posi
     go true h = all_push (members_below has n) n (suc n) h (omega arith)
     go false h = ap (list_all (λ x. ltb x (suc n))) (append-nil (members_below has n)) ∙ h
 
-ascending_push : (xs : List ℕ) (n : ℕ) → is_ascending xs ≡ true → list_all (λ x. ltb x n) xs ≡ true → is_ascending (xs ++ n ∷ []) ≡ true
+ascending_push : (xs : List ℕ) (n : ℕ) → is_strictly_ascending xs ≡ true → list_all (λ x. ltb x n) xs ≡ true → is_strictly_ascending (xs ++ n ∷ []) ≡ true
 ascending_push [] n a b = refl
 ascending_push (x ∷ []) n a b = and_from (ltb x n) true (and_parts (ltb x n) true b).0 refl
 ascending_push (x ∷ y ∷ rest) n a b =
-    let up : (ltb x y ≡ true) × (is_ascending (y ∷ rest) ≡ true) = and_parts (ltb x y) (is_ascending (y ∷ rest)) a in
+    let up : (ltb x y ≡ true) × (is_strictly_ascending (y ∷ rest) ≡ true) = and_parts (ltb x y) (is_strictly_ascending (y ∷ rest)) a in
     let below : (ltb x n ≡ true) × (list_all (λ x. ltb x n) (y ∷ rest) ≡ true) = and_parts (ltb x n) (list_all (λ x. ltb x n) (y ∷ rest)) b in
-    and_from (ltb x y) (is_ascending ((y ∷ rest) ++ n ∷ [])) up.0 (ascending_push (y ∷ rest) n up.1 below.1)
+    and_from (ltb x y) (is_strictly_ascending ((y ∷ rest) ++ n ∷ [])) up.0 (ascending_push (y ∷ rest) n up.1 below.1)
 
-pub positions_ascend : (has : ℕ → Bool) (n : ℕ) → is_ascending (members_below has n) ≡ true
+pub positions_ascend : (has : ℕ → Bool) (n : ℕ) → is_strictly_ascending (members_below has n) ≡ true
 positions_ascend has zero = refl
 positions_ascend has (suc n) = go (has n) (positions_ascend has n)
   where
-    go : (b : Bool) → is_ascending (members_below has n) ≡ true → is_ascending (members_below has n ++ cond b (n ∷ []) []) ≡ true
+    go : (b : Bool) → is_strictly_ascending (members_below has n) ≡ true → is_strictly_ascending (members_below has n ++ cond b (n ∷ []) []) ≡ true
     go true h = ascending_push (members_below has n) n h (positions_below has n)
-    go false h = ap is_ascending (append-nil (members_below has n)) ∙ h
+    go false h = ap is_strictly_ascending (append-nil (members_below has n)) ∙ h

@@ -84,7 +84,7 @@ fn shown_magnitudes(counts: &[u64]) -> usize {
     last.saturating_add(1)
 }
 
-/// Appends the rows of the magnitudes up to the greatest that occurs.
+/// Appends one row for each magnitude up to the greatest that occurs.
 fn push_rows(out: &mut String, counts: &[u64]) -> Result<(), AllocError> {
     let max_count = counts.iter().copied().max().unwrap_or(0);
     let mut least = 1u64;

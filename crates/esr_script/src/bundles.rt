@@ -15,7 +15,7 @@ ghost use Rattle.esr_script.specs.Text.{transaction_called};
 
 use crate::fault::RunFault;
 use crate::query_text::render_query;
-use esr_audit::{Finding, certify_with_augmentations};
+use esr_audit::{Finding, certify_with_augmentation_count};
 use esr_bundle::to_json;
 use esr_cert::{Certificate, Problem};
 use esr_history::Watched;
@@ -47,7 +47,7 @@ fn bundle_line(alloc: Global, finding: &Finding, steps: bool) -> Result<Vec<u8>,
     if !steps {
         return line_of(alloc, &finding.problem, &finding.certificate);
     }
-    let Ok(certificate) = certify_with_augmentations(alloc, &finding.problem) else {
+    let Ok(certificate) = certify_with_augmentation_count(alloc, &finding.problem) else {
         return Err(AllocError);
     };
     let line = line_of(alloc, &finding.problem, &certificate)?;

@@ -1,17 +1,17 @@
 //! The updates of a picture, and the arrows between them.
 
 use crate::elements::{close_text, open_centred, push_vertical};
-use crate::frame::{Frame, arch, is_straight};
+use crate::layout::{Layout, arch, is_straight};
 use crate::scene::{Arrow, Scene, Update};
 use std::alloc::AllocError;
 
 /// Appends the dotted lines below the updates.
-fn push_drops(out: &mut String, updates: &[Update<'_>], frame: &Frame) -> Result<(), AllocError> {
-    let top = frame.boxes().saturating_add(28);
+fn push_drops(out: &mut String, updates: &[Update<'_>], layout: &Layout) -> Result<(), AllocError> {
+    let top = layout.boxes_top().saturating_add(28);
     for update in updates {
         if update.reach > 0 {
-            let bottom = frame.y(update.reach.saturating_sub(1));
-            push_vertical(out, "d", frame.x(update.slot), top, bottom)?;
+            let bottom = layout.y(update.reach.saturating_sub(1));
+            push_vertical(out, "d", layout.x(update.slot), top, bottom)?;
             out.push_str("\n")?;
         }
     }
@@ -37,29 +37,29 @@ fn push_box(
     out: &mut String,
     update: &Update<'_>,
     line: u8,
-    frame: &Frame,
+    layout: &Layout,
 ) -> Result<(), AllocError> {
     let class = match (update.must, update.slot < line) {
         (true, _) => "b e",
         (false, true) => "b",
         (false, false) => "a",
     };
-    let x = frame.x(update.slot);
-    let top = frame.boxes();
+    let x = layout.x(update.slot);
+    let top = layout.boxes_top();
     out.push_str("<g><title>")?;
     out.push_str(&update.title)?;
     out.push_str("</title>")?;
-    let left = x.saturating_sub(frame.box_width / 2);
-    push_rect(out, class, left, top, frame.box_width)?;
+    let left = x.saturating_sub(layout.box_width / 2);
+    push_rect(out, class, left, top, layout.box_width)?;
     open_centred(out, "m", x, top.saturating_add(19))?;
     close_text(out, update.name)?;
     out.push_str("</g>\n")
 }
 
 /// Appends the boxes of the updates.
-fn push_boxes(out: &mut String, scene: &Scene<'_>, frame: &Frame) -> Result<(), AllocError> {
+fn push_boxes(out: &mut String, scene: &Scene<'_>, layout: &Layout) -> Result<(), AllocError> {
     for update in &scene.updates {
-        push_box(out, update, scene.line, frame)?;
+        push_box(out, update, scene.line, layout)?;
     }
     Ok(())
 }
@@ -80,12 +80,12 @@ fn push_arch(
 }
 
 /// Appends the way of an arrow from one box to another.
-fn push_way(out: &mut String, arrow: &Arrow, line: u8, frame: &Frame) -> Result<(), AllocError> {
-    let top = frame.boxes();
-    let from = frame.x(arrow.from);
-    let to = frame.x(arrow.to);
+fn push_way(out: &mut String, arrow: &Arrow, line: u8, layout: &Layout) -> Result<(), AllocError> {
+    let top = layout.boxes_top();
+    let from = layout.x(arrow.from);
+    let to = layout.x(arrow.to);
     if is_straight(arrow.from, arrow.to, line) {
-        let half = frame.box_width / 2;
+        let half = layout.box_width / 2;
         let start = from.saturating_add(half);
         let end = to.saturating_sub(half.saturating_add(3));
         let y = top.saturating_add(14);
@@ -98,11 +98,11 @@ fn push_way(out: &mut String, arrow: &Arrow, line: u8, frame: &Frame) -> Result<
 }
 
 /// Appends the arrows.
-fn push_arrows(out: &mut String, scene: &Scene<'_>, frame: &Frame) -> Result<(), AllocError> {
+fn push_arrows(out: &mut String, scene: &Scene<'_>, layout: &Layout) -> Result<(), AllocError> {
     let query = scene.query;
     for arrow in &scene.arrows {
         write!(out, "<path class='w' marker-end='url(#{query}-tip)' d='")?;
-        push_way(out, arrow, scene.line, frame)?;
+        push_way(out, arrow, scene.line, layout)?;
         out.push_str("'><title>")?;
         out.push_str(&arrow.title)?;
         out.push_str("</title></path>\n")?;
@@ -111,8 +111,12 @@ fn push_arrows(out: &mut String, scene: &Scene<'_>, frame: &Frame) -> Result<(),
 }
 
 /// Appends the updates with their arrows, and the lines from them to the lanes.
-pub fn push_updates(out: &mut String, scene: &Scene<'_>, frame: &Frame) -> Result<(), AllocError> {
-    push_drops(out, &scene.updates, frame)?;
-    push_arrows(out, scene, frame)?;
-    push_boxes(out, scene, frame)
+pub fn push_updates(
+    out: &mut String,
+    scene: &Scene<'_>,
+    layout: &Layout,
+) -> Result<(), AllocError> {
+    push_drops(out, &scene.updates, layout)?;
+    push_arrows(out, scene, layout)?;
+    push_boxes(out, scene, layout)
 }

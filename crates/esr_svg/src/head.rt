@@ -3,7 +3,7 @@
 //! also thick, and reads that are off have a circle and a text, for readers who do not see colours.
 
 use crate::elements::push_text;
-use crate::frame::{EDGE, ERROR_LINE, Frame, SENTENCE_LINE};
+use crate::layout::{ERROR_LINE_HEIGHT, Layout, MARGIN, SENTENCE_LINE_HEIGHT};
 use crate::scene::{Lane, Scene, Update};
 use crate::texts::ErrorLine;
 use esr_text::{first, push_number, push_sanitized, push_value};
@@ -51,25 +51,25 @@ text{fill:#e6edf3}.q{fill:#9aa4af}.g{fill:#4cc47c}.r{fill:#ff7b72}.o{stroke:#0d1
 .c{fill:#0d1117;stroke:#ff7b72}.x{stroke:#ff7b72}}\n\
 </style>\n";
 
-/// The attributes of the element, with a blank before each.
+/// Appends the attributes of the element, with a blank before each.
 pub fn push_attributes(
     out: &mut String,
     scene: &Scene<'_>,
-    frame: &Frame,
+    layout: &Layout,
 ) -> Result<(), AllocError> {
     let query = scene.query;
-    let width = frame.width;
-    let height = frame.height();
-    let above = frame.above();
-    let whole = height.saturating_add(above);
+    let width = layout.width;
+    let height = layout.height();
+    let error_box_height = layout.error_box_height();
+    let total_height = height.saturating_add(error_box_height);
     out.push_str(" xmlns='http://www.w3.org/2000/svg' viewBox='0 ")?;
-    push_upward(out, above)?;
-    write!(out, " {width} {whole}'")?;
-    write!(out, " width='{width}' height='{whole}' role='img'")?;
+    push_upward(out, error_box_height)?;
+    write!(out, " {width} {total_height}'")?;
+    write!(out, " width='{width}' height='{total_height}' role='img'")?;
     write!(out, " aria-labelledby='{query}-title {query}-desc'")
 }
 
-/// Appends the coordinate of a point above the origin.
+/// Appends the coordinate of a point at this distance above the origin.
 fn push_upward(out: &mut String, distance: u32) -> Result<(), AllocError> {
     if distance > 0 {
         out.push('-')?;
@@ -77,7 +77,7 @@ fn push_upward(out: &mut String, distance: u32) -> Result<(), AllocError> {
     write!(out, "{distance}")
 }
 
-/// The names of the updates before the line, for the description.
+/// Appends the names of the updates before the line, for the description.
 fn push_earlier(out: &mut String, updates: &[Update<'_>], line: u8) -> Result<(), AllocError> {
     for update in updates {
         if update.slot < line {
@@ -88,7 +88,7 @@ fn push_earlier(out: &mut String, updates: &[Update<'_>], line: u8) -> Result<()
     Ok(())
 }
 
-/// The names of the updates after the line.
+/// Appends the names of the updates after the line.
 fn push_later(out: &mut String, updates: &[Update<'_>], line: u8) -> Result<(), AllocError> {
     for update in updates {
         if update.slot > line {
@@ -99,7 +99,7 @@ fn push_later(out: &mut String, updates: &[Update<'_>], line: u8) -> Result<(), 
     Ok(())
 }
 
-/// The order of the updates and the line, for the description.
+/// Appends the order of the updates and the line, for the description.
 fn push_order(
     out: &mut String,
     query: &str,
@@ -113,7 +113,7 @@ fn push_order(
     out.push_str(".")
 }
 
-/// The first values that were read of an item, for the description.
+/// Appends the first values that were read of an item, for the description.
 fn push_values(out: &mut String, values: &[i64]) -> Result<(), AllocError> {
     for value in first(values, 2) {
         out.push_str(" read ")?;
@@ -124,7 +124,7 @@ fn push_values(out: &mut String, values: &[i64]) -> Result<(), AllocError> {
 }
 
 /// Appends the difference of an item's reads, for the description.
-fn push_off(out: &mut String, off: u64) -> Result<(), AllocError> {
+fn push_difference(out: &mut String, off: u64) -> Result<(), AllocError> {
     if off == 0 {
         out.push_str(" as at its place.")
     } else {
@@ -134,18 +134,18 @@ fn push_off(out: &mut String, off: u64) -> Result<(), AllocError> {
     }
 }
 
-/// The lanes in words, for the description.
-fn push_lanes_words(out: &mut String, lanes: &[Lane<'_>]) -> Result<(), AllocError> {
+/// Appends what was read of each item, for the description.
+fn push_reads(out: &mut String, lanes: &[Lane<'_>]) -> Result<(), AllocError> {
     for lane in lanes {
         let name = lane.name;
         write!(out, " {name}:")?;
         push_values(out, &lane.read.values)?;
-        push_off(out, lane.off)?;
+        push_difference(out, lane.off)?;
     }
     Ok(())
 }
 
-/// The title, and the start of the description.
+/// Appends the title, and the start of the description.
 fn push_title(out: &mut String, query: &str, distance: u64, import: u64) -> Result<(), AllocError> {
     write!(out, "<title id='{query}-title'>Audit of {query}</title>\n")?;
     write!(out, "<desc id='{query}-desc'>Distance ")?;
@@ -155,16 +155,16 @@ fn push_title(out: &mut String, query: &str, distance: u64, import: u64) -> Resu
     out.push('.')
 }
 
-/// The title and the description.
+/// Appends the title and the description.
 fn push_description(out: &mut String, scene: &Scene<'_>) -> Result<(), AllocError> {
     push_title(out, scene.query, scene.distance, scene.import)?;
     push_order(out, scene.query, &scene.updates, scene.line)?;
-    push_lanes_words(out, &scene.lanes)?;
+    push_reads(out, &scene.lanes)?;
     out.push_str("</desc>\n")
 }
 
-/// The tip of the arrows.
-fn push_tip(out: &mut String, query: &str) -> Result<(), AllocError> {
+/// Appends the definition of the head of arrows.
+fn push_arrowhead(out: &mut String, query: &str) -> Result<(), AllocError> {
     write!(
         out,
         "<defs><marker id='{query}-tip' markerWidth='8' markerHeight='8' refX='6' refY='4' orient='auto'>"
@@ -172,64 +172,64 @@ fn push_tip(out: &mut String, query: &str) -> Result<(), AllocError> {
     out.push_str("<path class='k' d='M0 1L7 4L0 7'/></marker></defs>\n")
 }
 
-/// The title and the description, the style and the paper.
-pub fn push_head(out: &mut String, scene: &Scene<'_>, frame: &Frame) -> Result<(), AllocError> {
-    let width = frame.width;
-    let height = frame.height();
+/// Appends the title and the description, the style sheet, the arrowhead, the background and the box of errors.
+pub fn push_head(out: &mut String, scene: &Scene<'_>, layout: &Layout) -> Result<(), AllocError> {
+    let width = layout.width;
+    let height = layout.height();
     out.push('\n')?;
     push_description(out, scene)?;
     out.push_str(STYLE)?;
-    push_tip(out, scene.query)?;
-    let above = frame.above();
-    if above == 0 {
+    push_arrowhead(out, scene.query)?;
+    let error_box_height = layout.error_box_height();
+    if error_box_height == 0 {
         return write!(
             out,
             "<rect class='p' width='{width}' height='{height}' rx='8'/>\n"
         );
     }
-    let whole = height.saturating_add(above);
+    let total_height = height.saturating_add(error_box_height);
     write!(
         out,
-        "<rect class='p' y='-{above}' width='{width}' height='{whole}' rx='8'/>\n"
+        "<rect class='p' y='-{error_box_height}' width='{width}' height='{total_height}' rx='8'/>\n"
     )?;
-    push_errors(out, &frame.texts.errors, width, above)
+    push_errors(out, &layout.texts.errors, width, error_box_height)
 }
 
-/// Appends a line in the box of errors, at this height above the picture. A continued line is indented.
+/// Appends a line in the box of errors, at this height above the origin. A continued line is indented.
 fn push_error(out: &mut String, line: &ErrorLine, up: u32) -> Result<(), AllocError> {
     let x = if line.is_continuation {
-        EDGE.saturating_add(16)
+        MARGIN.saturating_add(16)
     } else {
-        EDGE
+        MARGIN
     };
     write!(out, "<text class='r' x='{x}' y='-{up}'>")?;
     push_sanitized(out, &line.text)?;
     out.push_str("</text>\n")
 }
 
-/// Appends the box with the lines with errors, above the picture.
+/// Appends the box that lists the lines with errors, above the origin.
 fn push_errors(
     out: &mut String,
     errors: &[ErrorLine],
     width: u32,
-    above: u32,
+    error_box_height: u32,
 ) -> Result<(), AllocError> {
-    let top = above.saturating_sub(8);
+    let top = error_box_height.saturating_sub(8);
     let inner = width.saturating_sub(20);
-    let box_height = above.saturating_sub(10);
+    let box_height = error_box_height.saturating_sub(10);
     write!(
         out,
         "<rect class='x' x='10' y='-{top}' width='{inner}' height='{box_height}' rx='6'/>\n"
     )?;
-    let mut up = above.saturating_sub(24);
+    let mut up = error_box_height.saturating_sub(24);
     for error in errors {
         push_error(out, error, up)?;
-        up = up.saturating_sub(ERROR_LINE);
+        up = up.saturating_sub(ERROR_LINE_HEIGHT);
     }
     Ok(())
 }
 
-/// Appends some lines of a class, the first of them at this height.
+/// Appends lines of text of a class, the first at the height `start`.
 fn push_lines(
     out: &mut String,
     class: &str,
@@ -238,16 +238,16 @@ fn push_lines(
 ) -> Result<(), AllocError> {
     let mut y = start;
     for line in lines {
-        push_text(out, class, EDGE, y, line)?;
+        push_text(out, class, MARGIN, y, line)?;
         out.push_str("\n")?;
-        y = y.saturating_add(SENTENCE_LINE);
+        y = y.saturating_add(SENTENCE_LINE_HEIGHT);
     }
     Ok(())
 }
 
 /// Appends the heading, and the sentences below it.
-pub fn push_heading(out: &mut String, frame: &Frame) -> Result<(), AllocError> {
-    push_lines(out, "h", &frame.texts.heading, 28)?;
-    let start = frame.heading().saturating_add(30);
-    push_lines(out, "q", &frame.texts.sentences, start)
+pub fn push_heading(out: &mut String, layout: &Layout) -> Result<(), AllocError> {
+    push_lines(out, "h", &layout.texts.heading, 28)?;
+    let start = layout.heading_height().saturating_add(30);
+    push_lines(out, "q", &layout.texts.sentences, start)
 }

@@ -1,8 +1,8 @@
 //! The legend: what each colour and line means, of those that occur in the picture, in rows as wide as it is.
 
 use crate::elements::{push_horizontal, push_straight, push_text, push_vertical};
-use crate::frame::{EDGE, Frame, KEY_ROW};
 use crate::lanes::push_bar;
+use crate::layout::{LEGEND_ROW_HEIGHT, Layout, MARGIN};
 use crate::scene::{Lane, LanePart, Scene, have_transient_read};
 use std::alloc::AllocError;
 
@@ -96,7 +96,7 @@ fn occurs(scene: &Scene<'_>, key: Key) -> bool {
 /// Returns how many keys are in a row of a picture of this width.
 fn row_length(width: u32) -> u32 {
     width
-        .saturating_sub(EDGE)
+        .saturating_sub(MARGIN)
         .checked_div(KEY_WIDTH)
         .unwrap_or(1)
         .max(1)
@@ -156,15 +156,17 @@ fn push_sign(out: &mut String, query: &str, key: Key, x: u32, y: u32) -> Result<
 }
 
 /// Appends the keys that occur.
-pub fn push_keys(out: &mut String, scene: &Scene<'_>, frame: &Frame) -> Result<(), AllocError> {
-    let length = row_length(frame.width);
+pub fn push_keys(out: &mut String, scene: &Scene<'_>, layout: &Layout) -> Result<(), AllocError> {
+    let length = row_length(layout.width);
     let mut place = 0u32;
     for key in keys() {
         if occurs(scene, *key) {
             let column = place.checked_rem(length).unwrap_or(0);
             let row = place.checked_div(length).unwrap_or(0);
-            let x = EDGE.saturating_add(KEY_WIDTH.saturating_mul(column));
-            let y = frame.keys().saturating_add(KEY_ROW.saturating_mul(row));
+            let x = MARGIN.saturating_add(KEY_WIDTH.saturating_mul(column));
+            let y = layout
+                .legend_top()
+                .saturating_add(LEGEND_ROW_HEIGHT.saturating_mul(row));
             push_sign(out, scene.query, *key, x, y)?;
             push_text(out, "q", x.saturating_add(34), y, words_of(*key))?;
             place = place.saturating_add(1);

@@ -4,7 +4,7 @@ use crate::elements::{
     close_text, open_before, open_centred, open_text, push_horizontal, push_straight, push_text,
     push_vertical,
 };
-use crate::frame::{BEFORE_TRANSIENT_READ, EDGE, Frame, TransientReadLines};
+use crate::layout::{Layout, MARGIN, TRANSIENT_READ_INDENT, TransientReadLines};
 use crate::parts::push_segment;
 use crate::scene::{Lane, LaneReads, SameValue, Scene, TransientRead, TransientReads};
 use crate::slots::slot_after;
@@ -44,13 +44,13 @@ fn push_more(out: &mut String, read: &LaneReads, y: u32) -> Result<(), AllocErro
         return Ok(());
     }
     let more = read.values.len().saturating_sub(1);
-    open_text(out, "m g", EDGE, y)?;
+    open_text(out, "m g", MARGIN, y)?;
     push_rest(out, read.count, more, read.values.get(1).copied())
 }
 
 /// Appends the first value that was read of an item.
 fn push_first(out: &mut String, value: i64, y: u32) -> Result<(), AllocError> {
-    open_text(out, "m g", EDGE, y)?;
+    open_text(out, "m g", MARGIN, y)?;
     out.push_str("read ")?;
     push_value(out, value)?;
     out.push_str("</text>")
@@ -61,7 +61,7 @@ fn push_weight(out: &mut String, lane: &Lane<'_>, y: u32) -> Result<(), AllocErr
     if lane.weight == 1 {
         return Ok(());
     }
-    open_text(out, "m q", EDGE, y)?;
+    open_text(out, "m q", MARGIN, y)?;
     out.push_str("weight ")?;
     push_number(out, lane.weight)?;
     out.push_str("</text>")
@@ -105,15 +105,15 @@ fn push_share(
     lane: &Lane<'_>,
     distance: u64,
     y: u32,
-    frame: &Frame,
+    layout: &Layout,
 ) -> Result<(), AllocError> {
     if lane.off == 0 {
         return Ok(());
     }
-    push_bar(out, "j", EDGE, y, frame.label_width)?;
+    push_bar(out, "j", MARGIN, y, layout.label_width)?;
     out.push_str("</rect>")?;
-    let width = bar_width(lane.off, distance, frame.label_width);
-    push_bar(out, "i", EDGE, y, width)?;
+    let width = bar_width(lane.off, distance, layout.label_width);
+    push_bar(out, "i", MARGIN, y, width)?;
     let (name, percent) = (lane.name, percent(lane.off, distance));
     write!(
         out,
@@ -127,16 +127,16 @@ fn push_label(
     lane: &Lane<'_>,
     distance: u64,
     y: u32,
-    frame: &Frame,
+    layout: &Layout,
 ) -> Result<(), AllocError> {
-    push_text(out, "m n", EDGE, y.saturating_sub(6), lane.name)?;
+    push_text(out, "m n", MARGIN, y.saturating_sub(6), lane.name)?;
     push_weight(out, lane, y.saturating_sub(23))?;
     if let Some(value) = lane.read.values.first() {
         push_first(out, *value, y.saturating_add(12))?;
     }
     push_more(out, &lane.read, y.saturating_add(28))?;
     let below = if is_read_again(&lane.read) { 35 } else { 19 };
-    push_share(out, lane, distance, y.saturating_add(below), frame)
+    push_share(out, lane, distance, y.saturating_add(below), layout)
 }
 
 /// Appends a lane without the line.
@@ -146,14 +146,14 @@ fn push_lane(
     scene: &Scene<'_>,
     lane: &Lane<'_>,
     y: u32,
-    frame: &Frame,
+    layout: &Layout,
 ) -> Result<(), AllocError> {
-    push_label(out, lane, scene.distance, y, frame)?;
+    push_label(out, lane, scene.distance, y, layout)?;
     let mut index = 0usize;
     for segment in &lane.segments {
         let from = segment.from;
         if from > 0 {
-            let x = frame.x(from);
+            let x = layout.x(from);
             push_vertical(out, "t", x, y.saturating_sub(9), y.saturating_add(9))?;
         }
         let to = slot_after(&lane.segments, index, scene.last_slot());
@@ -164,7 +164,7 @@ fn push_lane(
             segment,
             (from, scene.line, to),
             y,
-            frame,
+            layout,
         )?;
         index = index.saturating_add(1);
     }
@@ -176,11 +176,11 @@ fn push_lanes(
     alloc: Global,
     out: &mut String,
     scene: &Scene<'_>,
-    frame: &Frame,
+    layout: &Layout,
 ) -> Result<(), AllocError> {
     let mut number = 0u8;
     for lane in &scene.lanes {
-        push_lane(alloc, out, scene, lane, frame.y(number), frame)?;
+        push_lane(alloc, out, scene, lane, layout.y(number), layout)?;
         number = number.saturating_add(1);
     }
     Ok(())
@@ -232,12 +232,12 @@ fn push_transient_reads(
     out: &mut String,
     transient_reads: &TransientReads<'_>,
     y: u32,
-    frame: &Frame,
+    layout: &Layout,
 ) -> Result<(), AllocError> {
     let Some(transient_read) = transient_reads.first else {
         return Ok(());
     };
-    let left = frame.x(0);
+    let left = layout.x(0);
     let top = y.saturating_sub(4);
     push_horizontal(
         out,
@@ -246,8 +246,8 @@ fn push_transient_reads(
         left.saturating_add(4),
         left.saturating_add(30),
     )?;
-    let x = left.saturating_add(BEFORE_TRANSIENT_READ);
-    let is_folded = frame.transient_reads == TransientReadLines::Two;
+    let x = left.saturating_add(TRANSIENT_READ_INDENT);
+    let is_folded = layout.transient_reads == TransientReadLines::Two;
     push_transient_read(out, transient_read, transient_reads.more, x, y, is_folded)
 }
 
@@ -255,15 +255,15 @@ fn push_transient_reads(
 fn push_all_transient_reads(
     out: &mut String,
     lanes: &[Lane<'_>],
-    frame: &Frame,
+    layout: &Layout,
 ) -> Result<(), AllocError> {
     let mut number = 0u8;
     for lane in lanes {
         push_transient_reads(
             out,
             &lane.transient_reads,
-            frame.y(number).saturating_add(44),
-            frame,
+            layout.y(number).saturating_add(44),
+            layout,
         )?;
         number = number.saturating_add(1);
     }
@@ -294,10 +294,10 @@ fn open_at_line(
     class: &str,
     x: u32,
     y: u32,
-    is_left: bool,
+    is_text_left_of_line: bool,
 ) -> Result<(), AllocError> {
     let y = y.saturating_add(24);
-    if is_left {
+    if is_text_left_of_line {
         open_before(out, class, x.saturating_sub(10), y)
     } else {
         open_text(out, class, x.saturating_add(10), y)
@@ -310,50 +310,50 @@ fn push_crossing(
     lane: &Lane<'_>,
     line: u8,
     y: u32,
-    frame: &Frame,
+    layout: &Layout,
 ) -> Result<(), AllocError> {
-    let x = frame.x(line);
-    let is_left = frame.is_left(line);
+    let x = layout.x(line);
+    let is_text_left_of_line = layout.is_text_left_of_line(line);
     if lane.off == 0 {
-        open_at_line(out, "m g o", x, y, is_left)?;
+        open_at_line(out, "m g o", x, y, is_text_left_of_line)?;
         return out.push_str("as read</text>\n");
     }
     write!(out, "<circle class='c' cx='{x}' cy='{y}' r='5'/>")?;
-    open_at_line(out, "m r o", x, y, is_left)?;
-    let has_weight_note = frame.has_space_for_weights(line);
+    open_at_line(out, "m r o", x, y, is_text_left_of_line)?;
+    let has_weight_note = layout.has_space_for_weights(line);
     push_off(out, lane.off, lane.weight, has_weight_note)
 }
 
 /// Appends the distance of each lane where the line crosses it.
-fn push_crossings(out: &mut String, scene: &Scene<'_>, frame: &Frame) -> Result<(), AllocError> {
+fn push_crossings(out: &mut String, scene: &Scene<'_>, layout: &Layout) -> Result<(), AllocError> {
     let mut number = 0u8;
     for lane in &scene.lanes {
-        push_crossing(out, lane, scene.line, frame.y(number), frame)?;
+        push_crossing(out, lane, scene.line, layout.y(number), layout)?;
         number = number.saturating_add(1);
     }
     Ok(())
 }
 
 /// Appends the line, and the name of the query below it.
-fn push_line(out: &mut String, scene: &Scene<'_>, frame: &Frame) -> Result<(), AllocError> {
-    let x = frame.x(scene.line);
-    let top = frame.boxes().saturating_sub(6);
-    let floor = frame.floor();
+fn push_line(out: &mut String, scene: &Scene<'_>, layout: &Layout) -> Result<(), AllocError> {
+    let x = layout.x(scene.line);
+    let top = layout.boxes_top().saturating_sub(6);
+    let floor = layout.lanes_bottom();
     let query = scene.query;
     write!(
         out,
         "<path class='l' d='M{x} {top}V{floor}'><title>the nearest placement of {query}</title></path>\n"
     )?;
-    let middle = frame.name_x(query, scene.line);
+    let middle = layout.name_x(query, scene.line);
     open_centred(out, "m n", middle, floor.saturating_add(16))?;
     close_text(out, query)?;
     out.push_str("\n")
 }
 
 /// Appends the axis: the updates one after another, from before all of them to after the last.
-fn push_axis(out: &mut String, scene: &Scene<'_>, frame: &Frame) -> Result<(), AllocError> {
-    let y = frame.floor().saturating_add(32);
-    let (start, end) = (frame.x(0), frame.end());
+fn push_axis(out: &mut String, scene: &Scene<'_>, layout: &Layout) -> Result<(), AllocError> {
+    let y = layout.lanes_bottom().saturating_add(32);
+    let (start, end) = (layout.x(0), layout.lanes_end());
     let has_updates = !scene.updates.is_empty() || scene.other_updates > 0;
     let first = if has_updates {
         "before all updates"
@@ -361,7 +361,7 @@ fn push_axis(out: &mut String, scene: &Scene<'_>, frame: &Frame) -> Result<(), A
         "the start"
     };
     push_straight(out, scene.query, y, start, end)?;
-    push_text(out, "q", EDGE, y.saturating_add(4), "serial order")?;
+    push_text(out, "q", MARGIN, y.saturating_add(4), "serial order")?;
     push_text(out, "q", start, y.saturating_add(18), first)?;
     if has_updates && end > start.saturating_add(280) {
         open_before(out, "q", end, y.saturating_add(18))?;
@@ -375,11 +375,11 @@ pub fn push_audit(
     alloc: Global,
     out: &mut String,
     scene: &Scene<'_>,
-    frame: &Frame,
+    layout: &Layout,
 ) -> Result<(), AllocError> {
-    push_lanes(alloc, out, scene, frame)?;
-    push_axis(out, scene, frame)?;
-    push_line(out, scene, frame)?;
-    push_all_transient_reads(out, &scene.lanes, frame)?;
-    push_crossings(out, scene, frame)
+    push_lanes(alloc, out, scene, layout)?;
+    push_axis(out, scene, layout)?;
+    push_line(out, scene, layout)?;
+    push_all_transient_reads(out, &scene.lanes, layout)?;
+    push_crossings(out, scene, layout)
 }

@@ -8,10 +8,10 @@
 
 mod boxes;
 mod elements;
-mod frame;
 mod head;
 mod keys;
 mod lanes;
+mod layout;
 mod parts;
 mod root;
 mod scene;
@@ -20,7 +20,7 @@ mod svg;
 mod texts;
 mod widths;
 
-pub use frame::fitting_updates;
+pub use layout::fitting_updates;
 pub use root::svg_element;
 pub use scene::{
     Arrow, Deciding, Lane, LanePart, LaneReads, LaneSegment, MAX_LANES, MAX_UPDATES, SameValue,

@@ -4,7 +4,7 @@
 //! their text counts those that were read. The version at the line is always drawn, so that its value can be compared.
 
 use crate::elements::{open_text, push_horizontal_titled};
-use crate::frame::Frame;
+use crate::layout::Layout;
 use crate::scene::{LanePart, LaneSegment};
 use crate::widths::{BEFORE_LINE, part_width};
 use esr_text::{push_count, push_number, push_value};
@@ -222,11 +222,11 @@ pub fn push_segment(
     segment: &LaneSegment,
     slots: (u8, u8, u8),
     y: u32,
-    frame: &Frame,
+    layout: &Layout,
 ) -> Result<(), AllocError> {
     let (from, line, to) = slots;
-    let line = frame.x(line);
-    let bounds = bounds_of(alloc, segment, frame.x(from), line, frame.x(to))?;
+    let line = layout.x(line);
+    let bounds = bounds_of(alloc, segment, layout.x(from), line, layout.x(to))?;
     let mut index = 0usize;
     for part in &segment.parts {
         let start = bounds.places.get(index).copied().unwrap_or(0);

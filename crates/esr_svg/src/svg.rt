@@ -5,10 +5,10 @@
 
 use crate::boxes::push_updates;
 use crate::elements::push_text;
-use crate::frame::{EDGE, Frame, SENTENCE_LINE};
 use crate::head::{push_attributes, push_head, push_heading};
 use crate::keys::push_keys;
 use crate::lanes::push_audit;
+use crate::layout::{Layout, MARGIN, SENTENCE_LINE_HEIGHT};
 use crate::scene::Scene;
 use std::alloc::{AllocError, Global};
 
@@ -20,12 +20,12 @@ pub struct Parts {
 }
 
 /// Appends the sentences on what is not drawn.
-fn push_others(out: &mut String, frame: &Frame) -> Result<(), AllocError> {
-    let mut y = frame.floor().saturating_add(74);
-    for line in &frame.texts.others {
-        push_text(out, "q", EDGE, y, line)?;
+fn push_others(out: &mut String, layout: &Layout) -> Result<(), AllocError> {
+    let mut y = layout.lanes_bottom().saturating_add(74);
+    for line in &layout.texts.others {
+        push_text(out, "q", MARGIN, y, line)?;
         out.push_str("\n")?;
-        y = y.saturating_add(SENTENCE_LINE);
+        y = y.saturating_add(SENTENCE_LINE_HEIGHT);
     }
     Ok(())
 }
@@ -35,22 +35,22 @@ fn push_body(
     alloc: Global,
     out: &mut String,
     scene: &Scene<'_>,
-    frame: &Frame,
+    layout: &Layout,
 ) -> Result<(), AllocError> {
-    push_head(out, scene, frame)?;
-    push_heading(out, frame)?;
-    push_updates(out, scene, frame)?;
-    push_audit(alloc, out, scene, frame)?;
-    push_others(out, frame)?;
-    push_keys(out, scene, frame)
+    push_head(out, scene, layout)?;
+    push_heading(out, layout)?;
+    push_updates(out, scene, layout)?;
+    push_audit(alloc, out, scene, layout)?;
+    push_others(out, layout)?;
+    push_keys(out, scene, layout)
 }
 
 /// Returns the attributes and the body of the element of a scene.
 pub fn parts_of(alloc: Global, scene: &Scene<'_>) -> Result<Parts, AllocError> {
-    let frame = Frame::of(alloc, scene)?;
+    let layout = Layout::of(alloc, scene)?;
     let mut attributes = String::new(alloc);
-    push_attributes(&mut attributes, scene, &frame)?;
+    push_attributes(&mut attributes, scene, &layout)?;
     let mut body = String::new(alloc);
-    push_body(alloc, &mut body, scene, &frame)?;
+    push_body(alloc, &mut body, scene, &layout)?;
     Ok(Parts { attributes, body })
 }

@@ -1,6 +1,6 @@
 //! The sentences of a picture, in lines as wide as it is.
 
-use crate::frame::EDGE;
+use crate::layout::MARGIN;
 use crate::scene::{Deciding, Scene};
 use esr_text::{first, push_count, push_number, wrap};
 use std::alloc::{AllocError, Global};
@@ -39,7 +39,7 @@ pub struct Texts {
 /// Returns how many letters there are in a line.
 fn letters_in(width: u32, letter: u32) -> usize {
     width
-        .saturating_sub(EDGE.saturating_mul(2))
+        .saturating_sub(MARGIN.saturating_mul(2))
         .checked_div(letter)
         .unwrap_or(0) as usize
 }

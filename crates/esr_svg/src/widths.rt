@@ -106,12 +106,12 @@ pub fn box_width(updates: &[Update<'_>]) -> u32 {
 }
 
 /// Returns the width of `off by` and the sum at the line.
-pub fn off_width(lane: &Lane<'_>) -> u32 {
+pub fn difference_width(lane: &Lane<'_>) -> u32 {
     width_of(number_letters(lane.off).saturating_add(7))
 }
 
 /// Returns the width of the same with the difference and the weight.
-pub fn factors_width(lane: &Lane<'_>) -> u32 {
+pub fn weighted_difference_width(lane: &Lane<'_>) -> u32 {
     let Some(difference) = lane.off.checked_div(lane.weight) else {
         return 0;
     };
@@ -121,7 +121,7 @@ pub fn factors_width(lane: &Lane<'_>) -> u32 {
     let factors = number_letters(difference)
         .saturating_add(number_letters(lane.weight))
         .saturating_add(6);
-    off_width(lane).saturating_add(width_of(factors))
+    difference_width(lane).saturating_add(width_of(factors))
 }
 
 /// The widths of the two parts of the text on a value that is not a version.

@@ -2,7 +2,7 @@
 
 use crate::elements::{close_text, open_centred, open_rect, open_text, push_text, push_vertical};
 use crate::head::prefix_of;
-use crate::layout::{Band, Column, EDGE, Layout, STEP_ROW, Span, charges_between, column_at};
+use crate::layout::{Band, Column, Layout, MARGIN, STEP_ROW, Span, charges_between, column_at};
 use crate::limits::push_limit;
 use crate::model::{Arrow, Lane, Scene};
 use crate::signs::push_marks_in;
@@ -15,7 +15,7 @@ use std::alloc::AllocError;
 
 /// Appends the limit of a transaction.
 fn push_limit_words(out: &mut String, limit: u64, y: u32) -> Result<(), AllocError> {
-    open_text(out, "lb gy", EDGE, y)?;
+    open_text(out, "lb gy", MARGIN, y)?;
     if limit >= MAX_LIMIT {
         out.push_str("no limit")?;
     } else {
@@ -28,7 +28,7 @@ fn push_limit_words(out: &mut String, limit: u64, y: u32) -> Result<(), AllocErr
 /// Appends the charges of a transaction.
 fn push_charged(out: &mut String, charged: u64, y: u32) -> Result<(), AllocError> {
     let class = if charged > 0 { "lb rd" } else { "lb gy" };
-    open_text(out, class, EDGE, y)?;
+    open_text(out, class, MARGIN, y)?;
     out.push_str("charged ")?;
     push_number(out, charged)?;
     close_text(out)
@@ -42,11 +42,11 @@ fn push_lane_head(
     top: u32,
     has_head: bool,
 ) -> Result<(), AllocError> {
-    push_text(out, "nm", EDGE, top.saturating_add(20), lane.name)?;
+    push_text(out, "nm", MARGIN, top.saturating_add(20), lane.name)?;
     if !has_head {
         return Ok(());
     }
-    push_text(out, "lb gy", EDGE, top.saturating_add(34), kind_of(lane))?;
+    push_text(out, "lb gy", MARGIN, top.saturating_add(34), kind_of(lane))?;
     push_limit_words(out, lane.limit, top.saturating_add(47))?;
     push_charged(out, lane.charged, top.saturating_add(60))
 }
@@ -241,7 +241,7 @@ fn push_step(out: &mut String, column: &Column<'_>, y: u32) -> Result<(), AllocE
 /// Appends the step of each column.
 fn push_axis(out: &mut String, band: &Band<'_>) -> Result<(), AllocError> {
     let y = band.floor().saturating_add(14);
-    push_text(out, "lb gy", EDGE, y, "step")?;
+    push_text(out, "lb gy", MARGIN, y, "step")?;
     for column in &band.columns {
         push_step(out, column, y)?;
     }

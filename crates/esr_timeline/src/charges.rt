@@ -11,19 +11,19 @@ use std::alloc::{AllocError, Global};
 
 /// The queries whose charges are drawn.
 #[derive(Clone, Copy)]
-pub enum Payers {
+pub enum ChargedQueries {
     /// One query.
     One(TxnId),
     /// All queries that have lanes.
     All,
 }
 
-impl Payers {
+impl ChargedQueries {
     /// Returns whether the charges to a query are drawn.
     fn contain(self, query: TxnId) -> bool {
         match self {
-            Payers::One(one) => one == query,
-            Payers::All => true,
+            ChargedQueries::One(one) => one == query,
+            ChargedQueries::All => true,
         }
     }
 }
@@ -63,12 +63,12 @@ fn push_charges<'a>(
     source: Source<'a>,
     causes: &Causes,
     lanes: &[Lane<'a>],
-    payers: Payers,
+    charged_queries: ChargedQueries,
     place: usize,
     charges: &[Charge],
 ) -> Result<(), AllocError> {
     for charge in charges {
-        if payers.contain(charge.query)
+        if charged_queries.contain(charge.query)
             && let Some(to) = lane_at(lanes, charge.query)
         {
             arrows.push(arrow_of(source, causes, lanes, to, place, charge))?;
@@ -78,11 +78,11 @@ fn push_charges<'a>(
 }
 
 /// Returns the number of entries up to the end of the queries.
-fn count_entries(source: Source<'_>, payers: Payers) -> usize {
+fn count_entries(source: Source<'_>, charged_queries: ChargedQueries) -> usize {
     let count = source.history.log().len();
-    let end = match payers {
-        Payers::One(query) => source.history.facts(query).and_then(|facts| facts.end),
-        Payers::All => None,
+    let end = match charged_queries {
+        ChargedQueries::One(query) => source.history.facts(query).and_then(|facts| facts.end),
+        ChargedQueries::All => None,
     };
     end.map_or(count, |end| count.min((end as usize).saturating_add(1)))
 }
@@ -93,13 +93,21 @@ pub fn charges_to<'a>(
     source: Source<'a>,
     causes: &Causes,
     lanes: &[Lane<'a>],
-    payers: Payers,
+    charged_queries: ChargedQueries,
 ) -> Result<Vec<Arrow<'a>>, AllocError> {
     let mut arrows = Vec::new(alloc);
     let mut charges = Charges::new(alloc, source.history)?;
-    for place in 0..count_entries(source, payers) {
+    for place in 0..count_entries(source, charged_queries) {
         let charges = charges.step(alloc)?;
-        push_charges(&mut arrows, source, causes, lanes, payers, place, &charges)?;
+        push_charges(
+            &mut arrows,
+            source,
+            causes,
+            lanes,
+            charged_queries,
+            place,
+            &charges,
+        )?;
     }
     Ok(arrows)
 }
@@ -147,7 +155,7 @@ fn sum_by(arrows: &[Arrow<'_>], update: TxnId) -> u64 {
     sum
 }
 
-/// Returns the lanes, those of updates with what was charged to them.
+/// Returns the lanes. The lane of an update has the sum of its charges.
 pub fn with_exports<'a>(
     alloc: Global,
     lanes: &[Lane<'a>],

@@ -9,7 +9,7 @@ use crate::fit::{Picture, Pictures};
 use crate::head::{
     Size, Sizes, open_narrow, prefix_of, push_attributes, push_background, push_head,
 };
-use crate::layout::EDGE;
+use crate::layout::MARGIN;
 use crate::legend::{legend_height, push_legend};
 use crate::sentences::{Line, LineClass, push_all_lines};
 use std::alloc::{AllocError, Global};
@@ -42,7 +42,7 @@ fn class_of(line: &Line) -> &'static str {
 fn push_lines(out: &mut String, lines: &[Line]) -> Result<(), AllocError> {
     let mut y = 28u32;
     for line in lines {
-        push_text(out, class_of(line), EDGE, y, &line.text)?;
+        push_text(out, class_of(line), MARGIN, y, &line.text)?;
         y = y.saturating_add(SENTENCE);
     }
     Ok(())
@@ -91,7 +91,7 @@ fn draw(
     errors: u64,
     least: u32,
 ) -> Result<Size, AllocError> {
-    let width = picture.layout.right.saturating_add(EDGE).max(least);
+    let width = picture.layout.right.saturating_add(MARGIN).max(least);
     let mut lines = Vec::new(alloc);
     push_all_lines(alloc, &mut lines, picture, errors, width)?;
     push_layout(alloc, out, picture, &lines, width)

@@ -3,7 +3,9 @@
 //! then with the first charges of a ranking only (`causes`). One band is tried first, unless labels would be omitted.
 
 use crate::causes::Causes;
-use crate::charges::{Payers, between, charges_to, drawable, greatest, sum_of, with_exports};
+use crate::charges::{
+    ChargedQueries, between, charges_to, drawable, greatest, sum_of, with_exports,
+};
 use crate::lanes::{MAX_LANES, concerned, farthest, first_begun, lanes_of};
 use crate::layout::{Drawn, Format, Layout, Spacing, layout_of};
 use crate::marks::{keys_of, mark_keys, mark_query_reads, marks_of, marks_on};
@@ -48,7 +50,7 @@ enum Detail {
     First(usize),
 }
 
-/// A step from all that could be drawn to less.
+/// What is drawn, and with which distances: one step from the whole timeline to less.
 #[derive(Clone, Copy)]
 struct Stage {
     detail: Detail,
@@ -80,60 +82,39 @@ const TIGHT: Spacing = Spacing {
     pitch: 14,
 };
 
+/// All events, with the largest distances between them that a layout has, then with less.
+const ALL_WIDE: Stage = Stage {
+    detail: Detail::All,
+    spacing: WIDE,
+};
+
+const ALL_CLOSE: Stage = Stage {
+    detail: Detail::All,
+    spacing: CLOSE,
+};
+
+const ALL_SNUG: Stage = Stage {
+    detail: Detail::All,
+    spacing: SNUG,
+};
+
+const ALL_TIGHT: Stage = Stage {
+    detail: Detail::All,
+    spacing: TIGHT,
+};
+
 /// The stages that omit nothing.
-static ALL: [Stage; 3] = [
-    Stage {
-        detail: Detail::All,
-        spacing: WIDE,
-    },
-    Stage {
-        detail: Detail::All,
-        spacing: CLOSE,
-    },
-    Stage {
-        detail: Detail::All,
-        spacing: SNUG,
-    },
-];
+static ALL: [Stage; 3] = [ALL_WIDE, ALL_CLOSE, ALL_SNUG];
 
 /// The stages of a whole script.
-static WHOLE: [Stage; 4] = [
-    Stage {
-        detail: Detail::All,
-        spacing: WIDE,
-    },
-    Stage {
-        detail: Detail::All,
-        spacing: CLOSE,
-    },
-    Stage {
-        detail: Detail::All,
-        spacing: SNUG,
-    },
-    Stage {
-        detail: Detail::All,
-        spacing: TIGHT,
-    },
-];
+static WHOLE: [Stage; 4] = [ALL_WIDE, ALL_CLOSE, ALL_SNUG, ALL_TIGHT];
 
 /// The stages of one query.
 static ONE: [Stage; 22] = [
-    Stage {
-        detail: Detail::All,
-        spacing: WIDE,
-    },
-    Stage {
-        detail: Detail::All,
-        spacing: CLOSE,
-    },
-    Stage {
-        detail: Detail::All,
-        spacing: SNUG,
-    },
-    Stage {
-        detail: Detail::All,
-        spacing: TIGHT,
-    },
+    ALL_WIDE,
+    ALL_CLOSE,
+    ALL_SNUG,
+    ALL_TIGHT,
     Stage {
         detail: Detail::Keys,
         spacing: LOOSE,
@@ -286,7 +267,7 @@ struct Choice<'a> {
 }
 
 impl<'a> Choice<'a> {
-    /// Returns it by reference.
+    /// Returns references to its parts.
     fn drawn(&self) -> Drawn<'a, '_> {
         Drawn {
             lanes: &self.lanes,
@@ -589,7 +570,7 @@ fn charges_of<'a>(
     own: &[Lane<'a>],
 ) -> Result<Vec<Arrow<'a>>, AllocError> {
     let causes = Causes::of(alloc, source, query, trace)?;
-    charges_to(alloc, source, &causes, own, Payers::One(query))
+    charges_to(alloc, source, &causes, own, ChargedQueries::One(query))
 }
 
 /// Returns the lanes of a query with these charges and of the transactions that concern it.
@@ -634,7 +615,13 @@ pub fn timeline_of_query<'a>(
 fn material_of_first<'a>(alloc: Global, source: Source<'a>) -> Result<Material<'a>, AllocError> {
     let chosen = first_begun(alloc, source, MAX_LANES)?;
     let lanes = lanes_of(alloc, source, &chosen)?;
-    let charges = charges_to(alloc, source, &Causes::none(alloc), &lanes, Payers::All)?;
+    let charges = charges_to(
+        alloc,
+        source,
+        &Causes::none(alloc),
+        &lanes,
+        ChargedQueries::All,
+    )?;
     material_on(alloc, source, None, lanes, charges)
 }
 

@@ -22,7 +22,7 @@ const NAME_LETTER: u32 = 8;
 pub const GAP: u32 = 8;
 
 /// The left edge of the picture.
-pub const EDGE: u32 = 20;
+pub const MARGIN: u32 = 20;
 
 /// The height of the lane of an update, and of that of a query.
 const UPDATE_HEIGHT: u32 = 66;
@@ -393,7 +393,7 @@ pub fn layout_of<'a>(
 ) -> Result<Layout<'a>, AllocError> {
     let lives = lives_of(alloc, drawn)?;
     let limit = format.width.saturating_sub(open_width(drawn.lanes, &lives));
-    let mut farthest = heads_width(drawn.lanes).saturating_add(EDGE + 4);
+    let mut farthest = heads_width(drawn.lanes).saturating_add(MARGIN + 4);
     let rule = (spacing, limit);
     let mut bands = bands_of(alloc, drawn, &mut farthest, rule, format.bands)?;
     let open_end = farthest.saturating_add(GAP);

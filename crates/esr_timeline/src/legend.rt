@@ -1,7 +1,7 @@
 //! The legend: what each sign means, of those that occur, in rows as wide as the picture.
 
 use crate::elements::{push_circle, push_cross, push_rect, push_square, push_text};
-use crate::layout::{Band, EDGE, Layout};
+use crate::layout::{Band, Layout, MARGIN};
 use crate::limits::has_bar;
 use crate::model::{Action, Lane, Scene};
 use esr_outcomes::TxnOutcome;
@@ -99,7 +99,7 @@ fn occurs(scene: &Scene<'_>, layout: &Layout<'_>, key: Key) -> bool {
 /// Returns how many keys there are in a row of a picture of this width.
 fn row_length(width: u32) -> u32 {
     width
-        .saturating_sub(EDGE)
+        .saturating_sub(MARGIN)
         .checked_div(KEY_WIDTH)
         .unwrap_or(1)
         .max(1)
@@ -167,7 +167,7 @@ pub fn push_legend(
         if occurs(scene, layout, *key) {
             let column = place.checked_rem(length).unwrap_or(0);
             let row = place.checked_div(length).unwrap_or(0);
-            let x = EDGE.saturating_add(KEY_WIDTH.saturating_mul(column));
+            let x = MARGIN.saturating_add(KEY_WIDTH.saturating_mul(column));
             let low = y.saturating_add(ROW.saturating_mul(row));
             push_sign(out, *key, x, low, tip)?;
             push_text(out, "gy", x.saturating_add(34), low, words_of(*key))?;

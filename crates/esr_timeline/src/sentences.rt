@@ -2,7 +2,7 @@
 
 use crate::fit::Picture;
 use crate::head::push_heading_words;
-use crate::layout::{Band, EDGE};
+use crate::layout::{Band, MARGIN};
 use crate::model::{Arrow, Order, Rest, Scene};
 use esr_text::{first, push_count, push_number, wrap};
 use std::alloc::{AllocError, Global};
@@ -122,7 +122,7 @@ fn push_errors(out: &mut String, errors: u64) -> Result<(), AllocError> {
 /// Returns how many letters fit in a line of a picture of this width.
 fn letters_in(width: u32, letter: u32) -> usize {
     width
-        .saturating_sub(EDGE.saturating_mul(2))
+        .saturating_sub(MARGIN.saturating_mul(2))
         .checked_div(letter)
         .unwrap_or(0) as usize
 }

@@ -5,9 +5,10 @@ use esr_drive::{DriveOutput, drive};
 use esr_history::Watched;
 use esr_lint::Unobserved;
 
-/// No clause states that blocks run concurrently: a sequential drive would leave the first waiting in the gate.
+/// No clause states that blocks run concurrently. A drive that ran one block after another would never end: the first
+/// block waits in the gate for the second.
 #[test]
-fn two_blocks_are_in_the_gate_at_once(rt: HostRuntime) {
+fn two_blocks_run_concurrently(rt: HostRuntime) {
     let gate = Meeting::new();
     let file = "session\nbegin u update 0\nsession\nbegin v update 0\n";
     let mut reader = Watched::new(file.as_bytes());

@@ -16,13 +16,13 @@ answer g c =
     let h = c.args.history.now.schedule in
     let legal = c.log-invariant.ensures.legal in
     let bound = import_bounds_distance d (λ w. record { same = g.met.M.Metric.same w; symmetric = g.met.M.Metric.symmetric w; triangle = g.met.M.Metric.triangle w }) h legal in
-    let a = answer_from d h c.args.q.0 c.log-invariant.ensures.range legal c.in_ok-problem.problem (certificate_of c.in_ok-certificate.certificate) c.in_ok-problem.ensures.is_problem c.updates.ensures.well_formed c.in_ok-certificate.ensures.certifies bound c.requires.committed c.in_ok-certificate.ensures.least in
+    let a = answer_from d h c.args.q.0 c.log-invariant.ensures.range legal c.in_ok-problem.problem (certificate_of c.in_ok-certificate.certificate) c.in_ok-problem.ensures.is_problem c.updates.ensures.well_formed c.in_ok-certificate.ensures.certifies bound c.requires.committed_query c.in_ok-certificate.ensures.least in
     subst (λ (n : ℕ). IsAnswer d h c.args.q.0 c.in_ok-certificate.certificate.worth n (map (λ (t : TxnId). t.0) c.in_ok-before.before.items)) (sym c.import-import.ensures)
     (subst (IsAnswer d h c.args.q.0 c.in_ok-certificate.certificate.worth _) (sym (found g c)) a)
 
 pub returns-clause-finding : goal.returns-clause-finding
 returns-clause-finding g c = record {
   answer = answer g c;
-  shown = record { is_problem = c.in_ok-problem.ensures.is_problem; certified = c.in_ok-certificate.ensures.certifies; set_is = found g c; worth_is = refl; smallest = c.in_ok-certificate.ensures.least; without_count = c.in_ok-certificate.ensures.without_count };
+  shown = record { is_problem = c.in_ok-problem.ensures.is_problem; certified = c.in_ok-certificate.ensures.certifies; set_is = found g c; worth_is = refl; smallest = c.in_ok-certificate.ensures.least; no_augmentation_count = c.in_ok-certificate.ensures.no_augmentation_count };
   relevant = c.in_ok-problem.ensures.relevant;
 }

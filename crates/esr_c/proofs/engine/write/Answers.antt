@@ -3,7 +3,7 @@ use Rattle.esr_items.specs.Weights.{weighted}
 use Rattle.esr_history.specs.declared.event.Event.TheVariants.{Write}
 use Rattle.esr_history.specs.Machine.{extended, reply_to}
 use Rattle.esr_engine.specs.Capacity.{is_full}
-use Rattle.esr_engine.specs.declared.engine.Unanswered.TheVariants as unanswered
+use Rattle.esr_engine.specs.declared.engine.EngineError.TheVariants as unanswered
 use Rattle.esr_c.proofs.Called.{called}
 use Rattle.esr_c.proofs.engine.write.Goals as goal
 

@@ -8,10 +8,10 @@ loop-turn-preserved c =
     let blocks = map (λ b. b.items) c.args.blocks.now in
     let rest = c.loop-turn.invariant.1.0 in
     let block = c.in-Some.block in (
-      c.turn.ensures.len ∙ c.loop-turn.invariant.0,
+      c.execute_turn.ensures.len ∙ c.loop-turn.invariant.0,
       (
         rest ++ block ∷ [],
-        c.in_ok-turn.ensures.run_state
+        c.in_ok-execute_turn.ensures.run_state
             ∙ (ap (λ (s : RunState). turn blocks s block) c.loop-turn.invariant.1.1
             ∙ sym (then_turn blocks (run_state c.args.machine.now c.args.all_progress.now.items) rest block)),
       ),

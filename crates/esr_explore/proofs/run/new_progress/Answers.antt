@@ -1,5 +1,5 @@
 use Rattle.esr_explore.proofs.Turning.{one_new_runner}
-use Rattle.esr_explore.proofs.run.new_runners.Goals as goal
+use Rattle.esr_explore.proofs.run.new_progress.Goals as goal
 
 pub loop-block-preserved : goal.loop-block-preserved
 loop-block-preserved c =

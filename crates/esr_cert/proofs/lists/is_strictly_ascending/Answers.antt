@@ -1,6 +1,6 @@
 use Rattle.std.proofs.Common.{arith, ◌-◌}
 use Rattle.esr_cert.proofs.Steps.{ascending_end}
-use Rattle.esr_cert.proofs.shape.is_ascending.Goals as goal
+use Rattle.esr_cert.proofs.lists.is_strictly_ascending.Goals as goal
 
 pub returns : goal.returns
 returns c =

@@ -4,7 +4,7 @@ use Rattle.esr_cert.specs.Network.{network}
 use Rattle.esr_cert.specs.Certificate.{amounts}
 use Rattle.esr_cert.specs.Views.{certificate_of}
 use Rattle.esr_flow.specs.Augmentation.{AugmentsFromZero}
-use Rattle.esr_audit.proofs.audit.certify_with_augmentations.Goals as goal
+use Rattle.esr_audit.proofs.audit.certify_with_augmentation_count.Goals as goal
 
 pub returns-clause-counted : goal.returns-clause-counted
 returns-clause-counted c =

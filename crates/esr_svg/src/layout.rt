@@ -1,0 +1,347 @@
+//! The layout of a picture: the places and sizes of its parts, in pixels, and its sentences, wrapped to its width.
+
+use crate::keys::count_rows;
+use crate::scene::{Arrow, Lane, MAX_LANES, Scene};
+use crate::slots::{Slots, left_of};
+use crate::texts::Texts;
+use crate::widths::{
+    box_width, difference_width, transient_read_widths, weighted_difference_width, width_of,
+};
+use std::alloc::{AllocError, Global};
+
+/// The maximum width of a picture. Only text that cannot be wrapped makes a picture wider.
+const MAX_WIDTH: u32 = 1100;
+
+/// The minimum width of a picture.
+const MIN_WIDTH: u32 = 480;
+
+/// The distance from the edge of the picture to its texts.
+pub const MARGIN: u32 = 20;
+
+/// The distance from line to line in the box of errors.
+pub const ERROR_LINE_HEIGHT: u32 = 18;
+
+/// The distance from line to line of sentences.
+pub const SENTENCE_LINE_HEIGHT: u32 = 20;
+
+/// The distance from lane to lane if no lane has a transient read or a weight.
+const LANE_PITCH: u32 = 76;
+
+/// What one line of text about transient reads adds to this distance.
+const ONE_TRANSIENT_READ_LINE_HEIGHT: u32 = 24;
+
+/// What two lines of text about transient reads add to it.
+const TWO_TRANSIENT_READ_LINES_HEIGHT: u32 = 40;
+
+/// What a line with the weight of an item adds to it.
+const WEIGHT_LINE_HEIGHT: u32 = 16;
+
+/// The distance from the start of a lane to the text about its transient read.
+pub const TRANSIENT_READ_INDENT: u32 = 38;
+
+/// The distance from row to row of the legend.
+pub const LEGEND_ROW_HEIGHT: u32 = 22;
+
+/// In how many lines the texts about transient reads are written.
+#[derive(Clone, Copy, PartialEq, Eq)]
+pub enum TransientReadLines {
+    None,
+    One,
+    Two,
+}
+
+/// The places, sizes and texts of a picture.
+#[derive(Drop)]
+pub struct Layout {
+    slots: Slots,
+    pub texts: Texts,
+    pub width: u32,
+    pub box_width: u32,
+    /// The width of the text in front of a lane.
+    pub label_width: u32,
+    pub transient_reads: TransientReadLines,
+    /// Whether an item has a weight.
+    has_weights: bool,
+    /// The height of the highest arrow that arches over boxes.
+    max_arch_height: u32,
+    lane_count: u8,
+    legend_rows: u32,
+    /// The width of the widest difference, which is written at the line.
+    difference_width: u32,
+    /// The width of the widest difference with the weight of its item.
+    weighted_difference_width: u32,
+}
+
+/// The width of the widest text of each sort in some lanes.
+#[derive(Clone, Copy)]
+struct Widths {
+    difference: u32,
+    weighted_difference: u32,
+    /// Of the text about transient reads, in one line.
+    transient_read: u32,
+    /// Of the same text, in two lines.
+    folded_transient_read: u32,
+}
+
+impl Widths {
+    /// Widens these to the texts of a lane.
+    fn add(&mut self, lane: &Lane<'_>) {
+        let transient_read = transient_read_widths(&lane.transient_reads);
+        self.difference = self.difference.max(difference_width(lane));
+        self.weighted_difference = self
+            .weighted_difference
+            .max(weighted_difference_width(lane));
+        self.transient_read = self
+            .transient_read
+            .max(transient_read.value.saturating_add(transient_read.reason));
+        self.folded_transient_read = self
+            .folded_transient_read
+            .max(transient_read.value.max(transient_read.reason));
+    }
+}
+
+/// Returns the width of the widest text of each sort in these lanes.
+fn widths_of(lanes: &[Lane<'_>]) -> Widths {
+    let mut widths = Widths {
+        difference: 0,
+        weighted_difference: 0,
+        transient_read: 0,
+        folded_transient_read: 0,
+    };
+    for lane in lanes {
+        widths.add(lane);
+    }
+    widths.weighted_difference = widths.weighted_difference.max(widths.difference);
+    widths
+}
+
+/// Returns the height of the arch of an arrow over the boxes between its ends, or 0 if there is none.
+pub fn arch(from: u8, to: u8) -> u32 {
+    let span = to.saturating_sub(from);
+    if span < 2 {
+        return 0;
+    }
+    u32::from(span).saturating_mul(8).saturating_add(10).min(90)
+}
+
+/// Returns whether an arrow leads from a box to the next one.
+pub fn is_straight(from: u8, to: u8, line: u8) -> bool {
+    let span = to.saturating_sub(from);
+    span < 2 || (span == 2 && to == line.saturating_add(1))
+}
+
+/// Returns the height of the highest arrow that arches over boxes.
+fn max_arch_height(arrows: &[Arrow], line: u8) -> u32 {
+    let mut highest = 0u32;
+    for arrow in arrows {
+        if !is_straight(arrow.from, arrow.to, line) {
+            highest = highest.max(arch(arrow.from, arrow.to));
+        }
+    }
+    highest
+}
+
+/// Returns whether a text of this width fits to the right of `x` in the widest picture.
+fn fits_after(x: u32, width: u32) -> bool {
+    x.saturating_add(width).saturating_add(30) <= MAX_WIDTH
+}
+
+/// Returns the width of the text to the right of the line at `x`, or 0 if the text is to its left.
+fn reach(x: u32, widths: Widths) -> u32 {
+    if fits_after(x, widths.weighted_difference) {
+        widths.weighted_difference
+    } else if fits_after(x, widths.difference) {
+        widths.difference
+    } else {
+        0
+    }
+}
+
+/// Returns half the width of the name of the query, which is below the line.
+fn half_name(query: &str) -> u32 {
+    width_of(query.len()) / 2
+}
+
+/// Returns the width that the lanes, the text at the line and the name of the query need. The name does not make a
+/// picture wider than [`MAX_WIDTH`]: if there is no space for half of it to the right of the line, it is shifted to the
+/// left.
+fn needed_width(scene: &Scene<'_>, slots: &Slots, widths: Widths) -> u32 {
+    let x = slots.x(scene.line);
+    let at_line = x.saturating_add(reach(x, widths)).saturating_add(30);
+    let name = x
+        .saturating_add(half_name(scene.query))
+        .saturating_add(30)
+        .min(MAX_WIDTH);
+    let transient_reads = slots
+        .x(0)
+        .saturating_add(TRANSIENT_READ_INDENT)
+        .saturating_add(widths.folded_transient_read);
+    slots
+        .end()
+        .max(transient_reads)
+        .saturating_add(MARGIN)
+        .max(at_line)
+        .max(name)
+        .max(MIN_WIDTH)
+}
+
+/// Returns in how many lines the texts about transient reads are written in a picture of this width.
+fn transient_read_lines(slots: &Slots, widths: Widths, width: u32) -> TransientReadLines {
+    let end = slots
+        .x(0)
+        .saturating_add(TRANSIENT_READ_INDENT)
+        .saturating_add(widths.transient_read)
+        .saturating_add(MARGIN);
+    if widths.transient_read == 0 {
+        TransientReadLines::None
+    } else if end <= width {
+        TransientReadLines::One
+    } else {
+        TransientReadLines::Two
+    }
+}
+
+impl Layout {
+    /// Lays out a scene.
+    pub fn of(alloc: Global, scene: &Scene<'_>) -> Result<Layout, AllocError> {
+        let mut slots = Slots::of(alloc, scene)?;
+        let widths = widths_of(&scene.lanes);
+        let width = needed_width(scene, &slots, widths);
+        slots.extend_to(width.saturating_sub(MARGIN));
+        let texts = Texts::of(alloc, scene, width)?;
+        Ok(Layout {
+            width,
+            box_width: box_width(&scene.updates),
+            label_width: left_of(&scene.lanes).saturating_sub(40),
+            transient_reads: transient_read_lines(&slots, widths, width),
+            has_weights: scene.lanes.iter().any(|lane| lane.weight > 1),
+            max_arch_height: max_arch_height(&scene.arrows, scene.line),
+            lane_count: scene.lanes.len().min(MAX_LANES) as u8,
+            legend_rows: count_rows(scene, width),
+            difference_width: widths.difference,
+            weighted_difference_width: widths.weighted_difference,
+            slots,
+            texts,
+        })
+    }
+
+    /// Returns the middle of a slot, from the left edge of the picture.
+    pub fn x(&self, slot: u8) -> u32 {
+        self.slots.x(slot)
+    }
+
+    /// Returns the right end of the lanes.
+    pub fn lanes_end(&self) -> u32 {
+        self.slots.end()
+    }
+
+    /// Returns the middle of the name of the query: at the line, or to its left if the name would be past the edge.
+    pub fn name_x(&self, query: &str, line: u8) -> u32 {
+        let last = self
+            .width
+            .saturating_sub(MARGIN.saturating_add(half_name(query)));
+        self.x(line).min(last)
+    }
+
+    /// Returns the height of the heading.
+    pub fn heading_height(&self) -> u32 {
+        lines_height(&self.texts.heading, SENTENCE_LINE_HEIGHT)
+    }
+
+    /// Returns the upper edge of the boxes.
+    pub fn boxes_top(&self) -> u32 {
+        self.max_arch_height
+            .saturating_add(34)
+            .saturating_add(self.heading_height())
+            .saturating_add(lines_height(&self.texts.sentences, SENTENCE_LINE_HEIGHT))
+    }
+
+    /// Returns the upper edge of the lanes.
+    fn lanes_top(&self) -> u32 {
+        self.boxes_top().saturating_add(42)
+    }
+
+    /// Returns the distance from lane to lane.
+    fn pitch(&self) -> u32 {
+        let transient_reads = match self.transient_reads {
+            TransientReadLines::None => 0,
+            TransientReadLines::One => ONE_TRANSIENT_READ_LINE_HEIGHT,
+            TransientReadLines::Two => TWO_TRANSIENT_READ_LINES_HEIGHT,
+        };
+        let weights = if self.has_weights {
+            WEIGHT_LINE_HEIGHT
+        } else {
+            0
+        };
+        LANE_PITCH
+            .saturating_add(transient_reads)
+            .saturating_add(weights)
+    }
+
+    /// Returns the middle of a lane.
+    pub fn y(&self, lane: u8) -> u32 {
+        self.lanes_top()
+            .saturating_add(36)
+            .saturating_add(self.pitch().saturating_mul(u32::from(lane)))
+    }
+
+    /// Returns the lower edge of the lanes.
+    pub fn lanes_bottom(&self) -> u32 {
+        self.lanes_top()
+            .saturating_add(8)
+            .saturating_add(self.pitch().saturating_mul(u32::from(self.lane_count)))
+    }
+
+    /// Returns whether there is space to the right of the line for the differences with their weights.
+    pub fn has_space_for_weights(&self, line: u8) -> bool {
+        fits_after(self.x(line), self.weighted_difference_width)
+    }
+
+    /// Returns whether the differences are written to the left of the line, because there is no space to its right even
+    /// without weights.
+    pub fn is_text_left_of_line(&self, line: u8) -> bool {
+        let x = self.x(line);
+        !fits_after(x, self.weighted_difference_width) && !fits_after(x, self.difference_width)
+    }
+
+    /// Returns the height of the box that lists the lines with errors, or 0 if there is none.
+    pub fn error_box_height(&self) -> u32 {
+        if self.texts.errors.is_empty() {
+            return 0;
+        }
+        let count = self.texts.errors.len().min(100) as u32;
+        count.saturating_mul(ERROR_LINE_HEIGHT).saturating_add(20)
+    }
+
+    /// Returns the baseline of the first row of the legend.
+    pub fn legend_top(&self) -> u32 {
+        self.lanes_bottom()
+            .saturating_add(78)
+            .saturating_add(lines_height(&self.texts.others, SENTENCE_LINE_HEIGHT))
+    }
+
+    /// Returns the height of the picture.
+    pub fn height(&self) -> u32 {
+        self.legend_top()
+            .saturating_add(LEGEND_ROW_HEIGHT.saturating_mul(self.legend_rows))
+    }
+}
+
+/// Returns the height of lines of text, given the distance from line to line.
+fn lines_height(lines: &[String], line: u32) -> u32 {
+    (lines.len().min(1000) as u32).saturating_mul(line)
+}
+
+/// Returns how many updates fit into a picture of the maximum width, or `None` if all fit.
+pub fn fitting_updates(alloc: Global, scene: &Scene<'_>) -> Result<Option<usize>, AllocError> {
+    let count = scene.updates.len();
+    let slots = Slots::of(alloc, scene)?;
+    let end = slots.end().saturating_add(MARGIN);
+    if end <= MAX_WIDTH {
+        return Ok(None);
+    }
+    let space = MAX_WIDTH.saturating_sub(slots.x(0).saturating_add(MARGIN)) as usize;
+    let used = end.saturating_sub(slots.x(0)) as usize;
+    let fitting = count.saturating_mul(space).checked_div(used).unwrap_or(0);
+    Ok(Some(fitting.min(count.saturating_sub(1))))
+}
