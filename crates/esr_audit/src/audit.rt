@@ -1,7 +1,7 @@
 //! Audits of one committed query, and of every committed query of a history.
 //!
 //! A finding contains the closure problem that was solved, so anyone can check its certificate. An audit fails only if the
-//! transaction is not a committed query or if an allocation fails: the engine's limits guarantee that the problem is valid.
+//! transaction is not a committed query or if an allocation fails: the limits on histories guarantee that the problem is valid.
 ghost use Rattle.std.specs.Prelude.{◌≡◌, ◌↔◌, false, List, None, map, All, IfOk, IfErr, IsErrOf, IsTrue, filter_map, slice_get};
 ghost use Rattle.esr_history.specs.declared.event.Entry.{Entry};
 ghost use Rattle.esr_history.specs.Legal.{continued};
@@ -43,7 +43,7 @@ fn updates_at(alloc: Global, updates: &[TxnId], set: &[u32]) -> Result<Vec<TxnId
         .collect(alloc)
 }
 
-/// Returns a certificate of the problem, with its smallest closed set of least cost and no augmentation count.
+/// Returns a certificate of the problem, with the smallest of its closed sets of least cost and no augmentation count.
 fn certify(alloc: Global, problem: &Problem) -> Result<Certificate, NoMemory>
     ensures certifies { IfOk result (λ c. Certifies problem.now (certificate_of c)) }
     ensures least { IfOk result (λ c. IsSmallestLeastCostSet problem.now (in_set c.set.items)) }
@@ -54,7 +54,7 @@ fn certify(alloc: Global, problem: &Problem) -> Result<Certificate, NoMemory>
     Ok(certificate)
 }
 
-/// Returns a certificate of the problem, with its smallest closed set of least cost. It contains the number of
+/// Returns a certificate of the problem, with the smallest of its closed sets of least cost. It contains the number of
 /// shortest-path augmentations that produced its flow.
 pub fn certify_with_augmentation_count(
     alloc: Global,
@@ -68,7 +68,7 @@ pub fn certify_with_augmentation_count(
     Ok(solve(alloc, &network)?.certificate)
 }
 
-/// Returns the finding of a committed query, given the conflict order of its relevant updates.
+/// Returns the result of the audit of a committed query, given its relevant updates and the conflicts that order them.
 fn finding_of<M: Metric>(
     alloc: Global,
     history: &History<M>,
@@ -81,7 +81,7 @@ fn finding_of<M: Metric>(
     ensures query { IfOk result (λ f. f.query ≡ q) }
     ensures finding { IfOk result (IsFindingOf M.distance_by history.now.schedule q.0) }
 {
-    let _invariant = history.log(); // brings the invariant into the proof
+    let _invariant = history.log(); // a call that returns the invariant, which brings it into the proof
     let import = history.import(q);
     let problem = problem_of(alloc, history, order, q)?;
     let certificate = certify(alloc, &problem)?;
@@ -96,8 +96,8 @@ fn finding_of<M: Metric>(
     })
 }
 
-/// Returns the minimum, over all serial placements of a committed query, of the distance between the values that it read
-/// and those at the placement, with a certificate. The result holds for every continuation of the history. The problem has
+/// Returns how far the values that a committed query read are from those that it would read at its nearest serial
+/// placement, with a certificate that no placement is nearer. The result holds for every continuation of the history. The problem has
 /// exactly the relevant updates of the query: those that wrote an item that it read, those from which a chain of conflicts
 /// leads to such an update, and, if the query is strict, those that committed before it began.
 ///
@@ -118,7 +118,7 @@ pub fn audit_query<M: Metric>(
         → IsAnswer M.distance_by (continued history.now.schedule rest) q.0 f.distance f.import
         (map (λ t. t.0) f.before.items)) }
 {
-    let _invariant = history.log(); // brings the invariant into the proof
+    let _invariant = history.log(); // a call that returns the invariant, which brings it into the proof
     let order = Order::relevant(alloc, history, q)?;
     Ok(finding_of(alloc, history, order, q)?)
 }
@@ -209,7 +209,7 @@ fn findings_of<M: Metric>(
 }
 
 /// Returns the committed updates of a history, and the findings of its committed queries.
-fn history_audit<M: Metric>(alloc: Global, history: &History<M>) -> Result<Book, AuditError>
+fn compute_book<M: Metric>(alloc: Global, history: &History<M>) -> Result<Book, AuditError>
     ensures book { IfOk result (IsBook M.distance_by history.now.schedule) }
     ensures err { IfErr result (λ e. e ≡ AuditError.NoMemory) }
 {
@@ -225,18 +225,18 @@ fn history_audit<M: Metric>(alloc: Global, history: &History<M>) -> Result<Book,
     })
 }
 
-/// Gives the proof of the caller the invariant of `History`: its schedule is sound. Does nothing at run time.
+/// A lemma: gives the proof of the caller the invariant of `History`, that its schedule is sound. Does nothing at run time.
 pub fn prove_sound<M: Metric>(history: &History<M>)
     ensures { IsSound M.distance_by history.now.schedule }
 {
-    let _invariant = history.log(); // brings the invariant into the proof
+    let _invariant = history.log(); // a call that returns the invariant, which brings it into the proof
 }
 
 /// Audits a history: returns a serial order of its committed updates, and the finding of each committed query.
 ///
-/// Each reply is the one that the machine gives. Its committed updates are conflict-serializable in commit order. No
-/// import and no export has exceeded its limit. For each committed query the result has the least distance between the
-/// values that it read and those of any serial placement, proved by a closed set and a flow of equal worth. This distance
+/// Each reply is the one that the machine gives. The committed updates of the history are conflict-serializable in commit
+/// order. No import and no export has exceeded its limit. For each committed query the result has the least distance between the
+/// values that it read and those of any serial placement, proved by a closed set whose cost is the value of a flow. This distance
 /// is at most the import charged. The findings hold for every continuation of the history.
 ///
 /// # Errors
@@ -250,5 +250,5 @@ pub fn audit_history<M: Metric>(alloc: Global, history: &History<M>) -> Result<B
         (map (λ t. t.0) f.before.items)) b.findings.items) }
 {
     prove_sound(history);
-    history_audit(alloc, history)
+    compute_book(alloc, history)
 }

@@ -6,7 +6,7 @@ ghost use Rattle.esr_history.specs.Machine.{accepted_in};
 ghost use Rattle.esr_c.specs.Answers.{IsAccount, account_fields, txn_status_number};
 
 use crate::engine::Status;
-use esr_engine::{Account, EmbeddedEngine, Kind, TxnStatus};
+use esr_engine::{Account, BeginKind, EmbeddedEngine, TxnStatus};
 use esr_history::TxnId;
 
 /// An account: whether it is a query's, its status (0 active, 4 committed, 5 aborted), its limit, and the charges to
@@ -35,7 +35,7 @@ fn fields(account: Account) -> EsrAccount
     ensures { result ≡ account_fields account }
 {
     EsrAccount {
-        query: matches!(account.kind, Kind::Query),
+        query: matches!(account.kind, BeginKind::Query),
         txn_status: txn_status_number(account.txn_status),
         limit: account.limit,
         charged: account.charged,

@@ -20,7 +20,7 @@ ghost use Rattle.esr_history.specs.Sound.{IsSound};
 ghost use Rattle.esr_history.specs.Totals.{IsWithinLimits};
 ghost use Rattle.esr_core.specs.Carried.{carried};
 ghost use Rattle.esr_core.specs.Renewed.{has_active, renewed};
-ghost use Rattle.esr_engine.specs.Capacity.{NeverStuck, active_count, counts_of};
+ghost use Rattle.esr_engine.specs.Capacity.{HasReservedEnds, active_count, counts_of};
 ghost use Rattle.esr_c.specs.Many.{AreAnswered, IsAnsweredStatus, IsEnd};
 ghost use Rattle.esr_svg.specs.Svg.{IsSvg};
 ghost use Rattle.esr_c.specs.HistoryTexts.{HasNameForEachItem, IsExplanationOf, IsLedgerOf, IsScriptOf, IsTextStatus, IsQueryTextStatus, IsTextInBuffer, IsTextLength, parsed_item_names};
@@ -51,7 +51,7 @@ use engine::{
     Status, end, open, open_engine, read, read_for_update, renew_engine, renew_engine_aborting,
     step, take_engine, write,
 };
-use esr_engine::Counts;
+use esr_engine::EngineCounts;
 use esr_history::{Event, TxnId};
 use esr_items::ItemId;
 use past::{show_ledger, show_script};
@@ -276,12 +276,16 @@ pub extern "C" fn esr_totals_of(
 /// Writes the counts of the history and its remaining capacity: 0, or 14 if the engine is closed. The history never
 /// deadlocks: every active transaction can be committed or aborted.
 #[unsafe(no_mangle)]
-pub extern "C" fn esr_counts_of(alloc: Global, engine: &mut EsrEngine, counts: &mut Counts) -> u32
+pub extern "C" fn esr_counts_of(
+    alloc: Global,
+    engine: &mut EsrEngine,
+    counts: &mut EngineCounts,
+) -> u32
     ensures closed { result ≡ 14 ↔ (engine.old.held.history ≡ None) }
     ensures done { result ≢ 14 → result ≡ 0 }
     ensures same { engine.new.held.history ≡ engine.old.held.history }
     ensures counts { result ≡ 0 → IfSome engine.old.held.history (λ h. counts.new ≡ counts_of h) }
-    ensures never_stuck { IfSome engine.old.held.history (NeverStuck weighted) }
+    ensures reserved_ends { IfSome engine.old.held.history (HasReservedEnds weighted) }
     ensures err { result ≢ 0 → counts.new ≡ counts.old }
 {
     let Some(inner) = take_engine(alloc, engine) else {

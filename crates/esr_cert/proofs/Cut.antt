@@ -3,7 +3,7 @@ use Rattle.std.proofs.Common.{◌≡◌, ℕ, zero, suc, ◌+◌, ◌<◌, ◌�
 use Rattle.std.proofs.lemmas.Bool.{cases_eq}
 use Rattle.esr_cert.specs.Network.{Arc, arc_at, Network, IsNetwork}
 use Rattle.esr_cert.specs.Flow.{within, amount_at, carried, inflow, outflow, IsFlow, worth}
-use Rattle.esr_cert.specs.Cut.{leaves, enters, capacity_or_zero, cut_capacity, IsFinite, HasFiniteCapacity}
+use Rattle.esr_cert.specs.Cut.{leaves, enters, finite_capacity_or_zero, cut_capacity, IsFinite, HasFiniteCapacity}
 
 abbrev pub pick : Bool → ℕ → ℕ
 pick b x = cond b x 0
@@ -102,7 +102,7 @@ cut net ok flow f has at_source at_sink =
               omega (arith, f.conserved v l ne (λ e. true≢false (sym h ∙ ap has e ∙ at_sink)), ap (λ b. pick b (worth net flow)) (ne_eqb net.source v (λ e. ne (sym e))))
         ]
 
-at_most_limit : (o : Option ℕ) (x : ℕ) → IsFinite o → within x o ≡ true → x ≤ capacity_or_zero o
+at_most_limit : (o : Option ℕ) (x : ℕ) → IsFinite o → within x o ≡ true → x ≤ finite_capacity_or_zero o
 at_most_limit None x l w = absurd l
 at_most_limit (Some c) x l w = leb-true x c w
 
@@ -116,36 +116,36 @@ carried_at_most has (a ∷ arcs) [] w l = omega arith
 carried_at_most has (a ∷ arcs) (x ∷ flow) w l =
     omega (
       arith,
-      pick_le (leaves has a) x (capacity_or_zero a.capacity) (λ c. at_most_limit a.capacity x (l 0 (omega arith) c) (w 0 (omega arith))),
+      pick_le (leaves has a) x (finite_capacity_or_zero a.capacity) (λ c. at_most_limit a.capacity x (l 0 (omega arith) c) (w 0 (omega arith))),
       carried_at_most has arcs flow (λ i k. w (suc i) (omega arith)) (λ i k. l (suc i) (omega arith)),
     )
 
 -- if every crossing arc is full, the amount that crosses is the capacity
-pub carried_full : (has : ℕ → Bool) (arcs : List Arc) (flow : List ℕ) → length flow ≡ length arcs → ((i : ℕ) → i < length arcs → leaves has (arc_at arcs i) ≡ true → amount_at flow i ≡ capacity_or_zero (arc_at arcs i).capacity) → carried (leaves has) arcs flow ≡ cut_capacity has arcs
+pub carried_full : (has : ℕ → Bool) (arcs : List Arc) (flow : List ℕ) → length flow ≡ length arcs → ((i : ℕ) → i < length arcs → leaves has (arc_at arcs i) ≡ true → amount_at flow i ≡ finite_capacity_or_zero (arc_at arcs i).capacity) → carried (leaves has) arcs flow ≡ cut_capacity has arcs
 carried_full has [] flow e h = refl
 carried_full has (a ∷ arcs) [] e h = absurd (omega arith)
 carried_full has (a ∷ arcs) (x ∷ flow) e h =
-    omega (arith, same (leaves has a) x (capacity_or_zero a.capacity) (h 0 (omega arith)), carried_full has arcs flow (omega arith) (λ i k. h (suc i) (omega arith)))
+    omega (arith, same (leaves has a) x (finite_capacity_or_zero a.capacity) (h 0 (omega arith)), carried_full has arcs flow (omega arith) (λ i k. h (suc i) (omega arith)))
   where
     same : (b : Bool) (x y : ℕ) → (b ≡ true → x ≡ y) → pick b x ≡ pick b y
     same true x y k = k refl
     same false x y k = refl
 
 -- and the other way round
-pub full_from : (has : ℕ → Bool) (arcs : List Arc) (flow : List ℕ) → length flow ≡ length arcs → ((i : ℕ) → i < length arcs → within (amount_at flow i) (arc_at arcs i).capacity ≡ true) → HasFiniteCapacity has arcs → cut_capacity has arcs ≤ carried (leaves has) arcs flow → (i : ℕ) → i < length arcs → leaves has (arc_at arcs i) ≡ true → amount_at flow i ≡ capacity_or_zero (arc_at arcs i).capacity
+pub full_from : (has : ℕ → Bool) (arcs : List Arc) (flow : List ℕ) → length flow ≡ length arcs → ((i : ℕ) → i < length arcs → within (amount_at flow i) (arc_at arcs i).capacity ≡ true) → HasFiniteCapacity has arcs → cut_capacity has arcs ≤ carried (leaves has) arcs flow → (i : ℕ) → i < length arcs → leaves has (arc_at arcs i) ≡ true → amount_at flow i ≡ finite_capacity_or_zero (arc_at arcs i).capacity
 full_from has [] flow e w l g i k c = absurd (omega arith)
 full_from has (a ∷ arcs) [] e w l g i k c = absurd (omega arith)
 full_from has (a ∷ arcs) (x ∷ flow) e w l g zero k c =
-    let upper_bound : x ≤ capacity_or_zero a.capacity = at_most_limit a.capacity x (l 0 (omega arith) c) (w 0 (omega arith)) in
+    let upper_bound : x ≤ finite_capacity_or_zero a.capacity = at_most_limit a.capacity x (l 0 (omega arith) c) (w 0 (omega arith)) in
     omega (
       arith,
       ap (λ b. pick b x) c,
-      ap (λ b. pick b (capacity_or_zero a.capacity)) c,
+      ap (λ b. pick b (finite_capacity_or_zero a.capacity)) c,
       carried_at_most has arcs flow (λ i k. w (suc i) (omega arith)) (λ i k. l (suc i) (omega arith)),
     )
 full_from has (a ∷ arcs) (x ∷ flow) e w l g (suc i) k c =
     full_from has arcs flow (omega arith) (λ i k. w (suc i) (omega arith)) (λ i k. l (suc i) (omega arith))
-    (omega (arith, pick_le (leaves has a) x (capacity_or_zero a.capacity) (λ c. at_most_limit a.capacity x (l 0 (omega arith) c) (w 0 (omega arith)))))
+    (omega (arith, pick_le (leaves has a) x (finite_capacity_or_zero a.capacity) (λ c. at_most_limit a.capacity x (l 0 (omega arith) c) (w 0 (omega arith)))))
     i (omega arith) c
 
 -- nothing returns if no returning arc carries anything

@@ -1,4 +1,4 @@
-//! Tests of lists of positions: whether a list is strictly ascending, whether all its numbers are below a bound, and
+//! Predicates on lists of positions: whether a list is strictly ascending, whether all its numbers are below a bound, and
 //! whether it contains a number.
 ghost use Rattle.std.specs.Prelude.{◌≡◌, nat_lt, true};
 ghost use Rattle.std.specs.List.{list_all};

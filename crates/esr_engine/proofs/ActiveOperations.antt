@@ -8,8 +8,8 @@ use Rattle.esr_items.specs.Weights.{weighted}
 use Rattle.esr_history.specs.declared.event.Event.{Event}
 use Rattle.esr_history.specs.declared.event.Event.TheVariants.{BeginUpdate, BeginQuery, Read, Write, Commit, Abort}
 use Rattle.esr_history.specs.declared.event.Entry.{Entry}
-use Rattle.esr_history.specs.declared.event.Kind.{Kind}
-use Rattle.esr_history.specs.declared.event.Kind.TheVariants.{Update, Query}
+use Rattle.esr_history.specs.declared.event.BeginKind.{BeginKind}
+use Rattle.esr_history.specs.declared.event.BeginKind.TheVariants.{Update, Query}
 use Rattle.esr_history.specs.declared.event.Reply.{Reply}
 use Rattle.esr_history.specs.Events.{begin_record_of, is_active, is_query, is_refusal, is_update}
 use Rattle.esr_history.specs.Machine.{Schedule, accepted_in}
@@ -94,7 +94,7 @@ idle h (BeginQuery l s) is = record { operation = λ r. refl; read = refl; charg
 idle h (Commit t) is = record { operation = λ r. refl; read = refl; charges = refl }
 idle h (Abort t) is = record { operation = λ r. refl; read = refl; charges = refl }
 
-pub no_entry : (h : Schedule) (kind : Kind) (e : Entry) → is_of_active h e ≡ false → carried_entry h kind e ≡ None
+pub no_entry : (h : Schedule) (kind : BeginKind) (e : Entry) → is_of_active h e ≡ false → carried_entry h kind e ≡ None
 no_entry h Update e is = at (is_refusal e.reply) is
   where
     at : (b : Bool) → (if b then false else is_active_operation h e.event) ≡ false → (if b then None else carried_operation h e.reply e.event) ≡ None

@@ -20,8 +20,8 @@ use Rattle.esr_history.specs.BackLinks.{accepted_item}
 use Rattle.esr_core.specs.States.{begin_event}
 use Rattle.esr_history.specs.declared.event.Reply.{Reply}
 use Rattle.esr_history.specs.declared.event.Reply.TheVariants.{Begun}
-use Rattle.esr_history.specs.declared.event.Kind.{Kind}
-use Rattle.esr_history.specs.declared.event.Kind.TheVariants.{Update, Query}
+use Rattle.esr_history.specs.declared.event.BeginKind.{BeginKind}
+use Rattle.esr_history.specs.declared.event.BeginKind.TheVariants.{Update, Query}
 use Rattle.esr_history.specs.Queries.{is_strict}
 use Rattle.esr_history.specs.Events.{BeginRecord, accepted, begin_record, begin_record_of, begin_records, limit_of, is_active, is_query, is_refusal, txn_numbers, committed_value, current_value}
 use Rattle.esr_history.specs.Machine.{Charge, DistanceFunction, IsLegal, Schedule, accepted_in, no_item, reasons, writer}
@@ -214,7 +214,7 @@ entries_are h operations are =
     ∙ (ap (λ l. (map (carried_begin weighted h) (active_numbers h) ++ filter_map (carried_entry h Update) h.entries) ++ l) (of_kind Query)
     ∙ all_entries h)
   where
-    of_kind : (kind : Kind) → filter_map (carried_entry h kind) operations ≡ filter_map (carried_entry h kind) h.entries
+    of_kind : (kind : BeginKind) → filter_map (carried_entry h kind) operations ≡ filter_map (carried_entry h kind) h.entries
     of_kind kind = ap (filter_map (carried_entry h kind)) are ∙ filtered (is_of_active h) (carried_entry h kind) (no_entry h kind) h.entries
 
 -- ---- the active transactions

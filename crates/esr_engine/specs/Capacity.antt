@@ -9,7 +9,7 @@ use Rattle.esr_history.specs.declared.event.Event.TheVariants.{BeginUpdate, Begi
 use Rattle.esr_history.specs.declared.event.Reply.TheVariants.{Begun, Committed, Aborted}
 use Rattle.esr_history.specs.Events.{begin_records, txn_numbers, is_active}
 use Rattle.esr_history.specs.Machine.{DistanceFunction, Schedule, accepted_in, reply_to}
-use Rattle.esr_engine.specs.declared.engine.Counts.{Counts}
+use Rattle.esr_engine.specs.declared.engine.EngineCounts.{EngineCounts}
 
 -- how many transactions are active
 abbrev pub active_count : List Event → ℕ
@@ -36,14 +36,14 @@ is_full h (Abort t) = not (is_active (accepted_in h) t.0) && nat_le MAX_ENTRIES 
 is_full h _ = nat_le MAX_ENTRIES (taken h)
 
 -- There is an entry left for the end of each active transaction, and either end is accepted.
-pub record NeverStuck (d : DistanceFunction) (h : Schedule) : Type 0 where
+pub record HasReservedEnds (d : DistanceFunction) (h : Schedule) : Type 0 where
   pub capacity : taken h ≤ MAX_ENTRIES
   pub fits : (t : TxnId) → is_active (accepted_in h) t.0 ≡ true → (is_full h (Commit t) ≡ false) × (is_full h (Abort t) ≡ false)
   pub commits : (t : TxnId) → is_active (accepted_in h) t.0 ≡ true → reply_to d h (Commit t) ≡ Committed
   pub aborts : (t : TxnId) → is_active (accepted_in h) t.0 ≡ true → reply_to d h (Abort t) ≡ Aborted
 
 -- the size of a history, and the capacity left
-abbrev pub counts_of : Schedule → Counts
+abbrev pub counts_of : Schedule → EngineCounts
 counts_of h = record {
   entries = length h.entries;
   transactions = transaction_count h;

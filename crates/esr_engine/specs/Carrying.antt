@@ -3,8 +3,8 @@ use Rattle.std.specs.Prelude.{ℕ, Bool, false, List, [], Option, None, filter, 
 use Rattle.esr_history.specs.declared.event.Event.{Event}
 use Rattle.esr_history.specs.declared.event.Entry.{Entry}
 use Rattle.esr_history.specs.declared.event.Event.TheVariants.{Read, Write}
-use Rattle.esr_history.specs.declared.event.Kind.{Kind}
-use Rattle.esr_history.specs.declared.event.Kind.TheVariants.{Update, Query}
+use Rattle.esr_history.specs.declared.event.BeginKind.{BeginKind}
+use Rattle.esr_history.specs.declared.event.BeginKind.TheVariants.{Update, Query}
 use Rattle.esr_history.specs.Events.{BeginRecord, begin_record_of, is_active, is_query, is_refusal, limit_of, committed_value, current_value}
 use Rattle.esr_history.specs.Machine.{DistanceFunction, Schedule, Charge, accepted_in, charge_of_read, export_in, import_in, value_distance, writer}
 use Rattle.esr_history.specs.Queries.{is_strict}
@@ -80,6 +80,6 @@ abbrev pub read_entry : Schedule → Entry → Option Entry
 read_entry h e = if is_refusal e.reply then None else carried_read h e.event
 
 -- either, by the kind of the transaction
-abbrev pub carried_entry : Schedule → Kind → Entry → Option Entry
+abbrev pub carried_entry : Schedule → BeginKind → Entry → Option Entry
 carried_entry h Update = operation_entry h
 carried_entry h Query = read_entry h

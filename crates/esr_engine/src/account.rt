@@ -9,7 +9,7 @@ ghost use Rattle.esr_engine.specs.Statuses.{status_at};
 ghost use Rattle.esr_order.specs.Scans.{commit_in};
 
 use crate::engine::EmbeddedEngine;
-use esr_history::{Entry, Event, Kind, Log, TxnId};
+use esr_history::{BeginKind, Entry, Event, Log, TxnId};
 
 /// Whether a transaction is active, and else how it ended.
 #[derive(Clone, Copy, PartialEq, Eq, Debug)]
@@ -23,16 +23,20 @@ pub enum TxnStatus {
 /// an active report has read may be shown with it: they are off by at most the amount charged.
 #[derive(Clone, Copy, PartialEq, Eq, Debug)]
 pub struct Account {
-    pub kind: Kind,
+    pub kind: BeginKind,
     pub limit: u64,
     pub charged: u64,
     pub txn_status: TxnStatus,
 }
 
-fn kind_of(query: bool) -> Kind
+fn kind_of(query: bool) -> BeginKind
     ensures { result ≡ kind_of query }
 {
-    if query { Kind::Query } else { Kind::Update }
+    if query {
+        BeginKind::Query
+    } else {
+        BeginKind::Update
+    }
 }
 
 /// Returns whether an entry is an accepted commit.

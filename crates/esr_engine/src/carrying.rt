@@ -21,7 +21,7 @@ ghost use Rattle.esr_engine.specs.Carrying.{active_in, active_operations, begun_
 
 use crate::engine::EmbeddedEngine;
 use esr_core::Machine;
-use esr_history::{Entry, Event, Kind, NoMemory, Reply, TxnId};
+use esr_history::{BeginKind, Entry, Event, NoMemory, Reply, TxnId};
 use esr_items::{ItemId, Metric, Weighted};
 use std::alloc::{AllocError, Global};
 
@@ -344,14 +344,14 @@ impl EmbeddedEngine {
     }
 
     /// Returns the entry of the new history for an accepted operation of an active transaction of a kind.
-    fn carried_entry(&self, active: &[ActiveTxn], kind: Kind, entry: Entry) -> Option<Entry>
+    fn carried_entry(&self, active: &[ActiveTxn], kind: BeginKind, entry: Entry) -> Option<Entry>
         requires active { active.now ≡ active_in self.now }
         requires item { IfSome (accepted_item entry) (λ x. x < length self.now.opening) }
         ensures { result ≡ carried_entry self.now kind entry }
     {
         match kind {
-            Kind::Update => self.operation_entry(active, entry),
-            Kind::Query => self.read_entry(active, entry),
+            BeginKind::Update => self.operation_entry(active, entry),
+            BeginKind::Query => self.read_entry(active, entry),
         }
     }
 
@@ -360,7 +360,7 @@ impl EmbeddedEngine {
         &self,
         active: &[ActiveTxn],
         operations: &[Entry],
-        kind: Kind,
+        kind: BeginKind,
         entries: &mut Vec<Entry>,
     ) -> Result<(), AllocError>
         requires active { active.now ≡ active_in self.now }
@@ -409,8 +409,8 @@ impl EmbeddedEngine {
         ensures { IfOk result (λ v. v.items ≡ carried_entries weighted self.now) }
     {
         let mut entries = self.begins(alloc, active, carried)?;
-        self.push_entries(active, operations, Kind::Update, &mut entries)?;
-        self.push_entries(active, operations, Kind::Query, &mut entries)?;
+        self.push_entries(active, operations, BeginKind::Update, &mut entries)?;
+        self.push_entries(active, operations, BeginKind::Query, &mut entries)?;
         Ok(entries)
     }
 

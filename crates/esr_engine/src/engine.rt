@@ -14,7 +14,7 @@ ghost use Rattle.esr_history.specs.Machine.{IsLegal, Schedule, accepted_in, exte
 ghost use Rattle.esr_history.specs.Sound.{IsSound};
 ghost use Rattle.esr_history.specs.Totals.{IsWithinLimits, all_imports, all_exports};
 ghost use Rattle.esr_order.specs.Index.{IsIndexOf};
-ghost use Rattle.esr_engine.specs.Capacity.{active_after, active_count, taken, transaction_count, is_end, is_full, NeverStuck, counts_of};
+ghost use Rattle.esr_engine.specs.Capacity.{active_after, active_count, taken, transaction_count, is_end, is_full, HasReservedEnds, counts_of};
 
 use esr_core::{Machine, StepError, Totals};
 use esr_history::{Event, History, MAX_ENTRIES, MAX_TRANSACTIONS, Reply, TxnId};
@@ -38,7 +38,7 @@ pub enum EngineError {
 /// directly.
 #[repr(C)]
 #[derive(Clone, Copy, PartialEq, Eq, Debug)]
-pub struct Counts {
+pub struct EngineCounts {
     pub entries: u64,
     pub transactions: u64,
     pub active: u64,
@@ -46,7 +46,7 @@ pub struct Counts {
     pub transactions_left: u64,
 }
 
-/// A machine that is never stuck. Contracts see its history.
+/// A machine that reserves one entry for the end of each active transaction. Contracts see its history.
 #[derive(Drop)]
 pub struct EmbeddedEngine {
     pub(crate) machine: Machine<Weighted>,
@@ -197,12 +197,12 @@ impl EmbeddedEngine {
 
     /// Returns the size of the history and the capacity left. The engine is never stuck: each active transaction can be
     /// committed or aborted.
-    pub fn counts(&self) -> Counts
+    pub fn counts(&self) -> EngineCounts
         ensures counts { result ≡ counts_of self.now }
-        ensures never_stuck { NeverStuck weighted self.now }
+        ensures reserved_ends { HasReservedEnds weighted self.now }
     {
         let transaction_count = self.count_begun();
-        Counts {
+        EngineCounts {
             entries: self.machine.log().len() as u64,
             transactions: transaction_count as u64,
             active: self.active as u64,

@@ -42,22 +42,22 @@ summary_among opening weights blocks queries (p ∷ orders) (u ∷ summaries) o 
     (rest.0, ((suc rest.1.0.0, omega (arith, rest.1.0.1), rest.1.0.2), rest.1.1))
 
 -- if all orders are run, the summaries are those of all
-pub outcomes_all : (opening : List ℤ) (weights : List ℕ) (blocks : List (List Call)) (queries : List Query) (counts : List ℕ) (orders : Option (List (List ℕ))) (summaries : List RunSummary)
+pub inconsistencies_all : (opening : List ℤ) (weights : List ℕ) (blocks : List (List Call)) (queries : List Query) (counts : List ℕ) (orders : Option (List (List ℕ))) (summaries : List RunSummary)
     → counts ≡ line_counts blocks → orders ≡ Some (first_turns counts (sum counts)) → IfSome orders (λ l. AreRunSummaries opening weights blocks queries l summaries)
     → AreRunSummaries opening weights blocks queries (all_orders blocks) summaries
-outcomes_all opening weights blocks queries counts orders summaries counted all outcomes =
+inconsistencies_all opening weights blocks queries counts orders summaries counted all inconsistencies =
     let own : AreRunSummaries opening weights blocks queries (first_turns counts (sum counts)) summaries =
-    subst (λ (o : Option (List (List ℕ))). IfSome o (λ l. AreRunSummaries opening weights blocks queries l summaries)) all outcomes in
+    subst (λ (o : Option (List (List ℕ))). IfSome o (λ l. AreRunSummaries opening weights blocks queries l summaries)) all inconsistencies in
     subst (λ (ks : List ℕ). AreRunSummaries opening weights blocks queries (first_turns ks (sum ks)) summaries) counted own
 
 -- and each order has one
-pub each_outcome : (opening : List ℤ) (weights : List ℕ) (blocks : List (List Call)) (queries : List Query) (counts : List ℕ) (summaries : List RunSummary)
+pub each_inconsistency : (opening : List ℤ) (weights : List ℕ) (blocks : List (List Call)) (queries : List Query) (counts : List ℕ) (summaries : List RunSummary)
     → counts ≡ line_counts blocks → AreRunSummaries opening weights blocks queries (all_orders blocks) summaries
     → (order : List ℕ) → IsOrder counts (sum counts) order → (t : RunSummary) × (Contains summaries t × IsSummary opening weights blocks queries order t)
-each_outcome opening weights blocks queries counts summaries counted outcomes order is =
+each_inconsistency opening weights blocks queries counts summaries counted inconsistencies order is =
     let among : Contains (all_orders blocks) order =
     subst (λ (ks : List ℕ). Contains (first_turns ks (sum ks)) order) counted (every counts (sum counts) order is) in
-    summary_among opening weights blocks queries (all_orders blocks) summaries order outcomes among
+    summary_among opening weights blocks queries (all_orders blocks) summaries order inconsistencies among
 
 -- the counts of blocks as they are held
 pub held_counts : (blocks : List (Vec Call Global)) → map (λ b. length b.items) blocks ≡ line_counts (map (λ b. b.items) blocks)
@@ -67,7 +67,7 @@ held_counts (b ∷ blocks) = ap (λ (l : List ℕ). length b.items ∷ l) (held_
 -- no order drawn yet
 pub drawn_none : (opening : List ℤ) (weights : List ℕ) (blocks : List (List Call)) (queries : List Query) (counts : List ℕ)
     → AreDrawn opening weights blocks queries counts 0 []
-drawn_none opening weights blocks queries counts = record { orders = []; number = refl; drawn = λ k d lt. absurd (omega (arith, lt)); outcomes = tt }
+drawn_none opening weights blocks queries counts = record { orders = []; number = refl; drawn = λ k d lt. absurd (omega (arith, lt)); inconsistencies = tt }
 
 -- one more order, and its tale
 pub drawn_more : (opening : List ℤ) (weights : List ℕ) (blocks : List (List Call)) (queries : List Query) (counts : List ℕ) (many : ℕ) (summaries new : List RunSummary) (o : List ℕ) (t : RunSummary)
@@ -77,5 +77,5 @@ drawn_more opening weights blocks queries counts many summaries new o t are orde
   orders = are.orders ++ o ∷ [];
   number = omega (arith, are.number, length-append are.orders (o ∷ []));
   drawn = All-push (IsOrder counts (sum counts)) are.orders o are.drawn order;
-  outcomes = subst (AreRunSummaries opening weights blocks queries (are.orders ++ o ∷ [])) (sym new_is) (one_more opening weights blocks queries are.orders summaries o t are.outcomes is);
+  inconsistencies = subst (AreRunSummaries opening weights blocks queries (are.orders ++ o ∷ [])) (sym new_is) (one_more opening weights blocks queries are.orders summaries o t are.inconsistencies is);
 }

@@ -2,20 +2,20 @@
 use Rattle.std.specs.Prelude.{ℕ, ◌-◌, ◌/◌, List, [], ◌∷◌, Bool, Option, count_by, if◌then◌else◌, length, nat_le, nat_lt, option_map, slice_get, slice_index}
 use Rattle.std.specs.List.{filter_map}
 use Rattle.std.specs.Option.{option_flatten}
-use Rattle.esr_explore.specs.declared.run_summary.QueryOutcome.{QueryOutcome}
+use Rattle.esr_explore.specs.declared.run_summary.QueryInconsistency.{QueryInconsistency}
 use Rattle.esr_explore.specs.declared.run_summary.RunSummary.{RunSummary}
 use Rattle.esr_explore.specs.declared.summary.Column.{Column}
 use Rattle.esr_explore.specs.declared.summary.Column.TheVariants as column
 
 -- the import and the distance of a query, by its index among those of the file, if it committed
-abbrev pub outcome_at : ℕ → RunSummary → Option QueryOutcome
-outcome_at query run_summary = option_flatten (slice_get run_summary.outcomes.items query)
+abbrev pub inconsistency_at : ℕ → RunSummary → Option QueryInconsistency
+inconsistency_at query run_summary = option_flatten (slice_get run_summary.inconsistencies.items query)
 
 -- the number of a run in a column, if it has one
 abbrev pub number_in : Column → RunSummary → Option ℕ
-number_in (column.Blocked block) run_summary = slice_get run_summary.blocked.items block
-number_in (column.Import query) run_summary = option_map (λ o. o.import) (outcome_at query run_summary)
-number_in (column.Distance query) run_summary = option_map (λ o. o.distance) (outcome_at query run_summary)
+number_in (column.Blocked block) run_summary = slice_get run_summary.blocked_counts.items block
+number_in (column.Import query) run_summary = option_map (λ o. o.import) (inconsistency_at query run_summary)
+number_in (column.Distance query) run_summary = option_map (λ o. o.distance) (inconsistency_at query run_summary)
 
 -- the numbers of the runs that have one
 abbrev pub numbers_of : Column → List RunSummary → List ℕ
@@ -37,7 +37,7 @@ median ns = slice_index (ascending ns) ((length ns - 1) / 2)
 
 -- whether a line of the block was given up
 abbrev pub has_given_up : (block : ℕ) → RunSummary → Bool
-has_given_up block run_summary = nat_lt 0 (slice_index run_summary.given_up.items block)
+has_given_up block run_summary = nat_lt 0 (slice_index run_summary.given_up_counts.items block)
 
 -- in how many runs one was
 abbrev pub runs_given_up : (block : ℕ) → List RunSummary → ℕ

@@ -39,4 +39,4 @@ pub record AreDrawn (opening : List ℤ) (weights : List ℕ) (blocks : List (Li
   pub orders : List (List ℕ)
   pub number : length orders ≡ many
   pub drawn : All (IsOrder counts (sum counts)) orders
-  pub outcomes : AreRunSummaries opening weights blocks queries orders summaries
+  pub inconsistencies : AreRunSummaries opening weights blocks queries orders summaries

@@ -7,7 +7,7 @@ use Rattle.esr_audit.specs.Findings.{IsAnswer}
 use Rattle.esr_plan.specs.Blocks.{number_in}
 use Rattle.esr_plan.specs.declared.call.Call.{Call}
 use Rattle.esr_explore.specs.declared.query.Query.{Query}
-use Rattle.esr_explore.specs.declared.run_summary.QueryOutcome.{QueryOutcome}
+use Rattle.esr_explore.specs.declared.run_summary.QueryInconsistency.{QueryInconsistency}
 use Rattle.esr_explore.specs.declared.run_summary.RunSummary.{RunSummary}
 use Rattle.esr_explore.specs.Turns.{IsRun, BlockProgressView, RunState, no_progress, is_blocked}
 
@@ -17,15 +17,15 @@ txn_id_of all_progress block place =
     unwrap_or (option_and_then number_in (slice_get (slice_index_or all_progress block no_progress).replies place)) 0
 
 -- a committed query's import, and its distance as audits find it; nothing of another transaction
-abbrev pub IsOutcome : Schedule → ℕ → Option QueryOutcome → Type 0
-IsOutcome h number None = is_committed_query h number ≡ false
-IsOutcome h number (Some outcomes) = (before : List ℕ) × IsAnswer weighted h number outcomes.distance outcomes.import before
+abbrev pub IsInconsistency : Schedule → ℕ → Option QueryInconsistency → Type 0
+IsInconsistency h number None = is_committed_query h number ≡ false
+IsInconsistency h number (Some inconsistencies) = (before : List ℕ) × IsAnswer weighted h number inconsistencies.distance inconsistencies.import before
 
 -- query by query
-abbrev pub AreOutcomes : Schedule → List BlockProgressView → List Query → List (Option QueryOutcome) → Type 0
-AreOutcomes h all_progress [] [] = Unit {0}
-AreOutcomes h all_progress (q ∷ queries) (outcomes ∷ more) = IsOutcome h (txn_id_of all_progress q.block q.place) outcomes × AreOutcomes h all_progress queries more
-AreOutcomes h all_progress _ _ = ⊥
+abbrev pub AreInconsistencies : Schedule → List BlockProgressView → List Query → List (Option QueryInconsistency) → Type 0
+AreInconsistencies h all_progress [] [] = Unit {0}
+AreInconsistencies h all_progress (q ∷ queries) (inconsistencies ∷ more) = IsInconsistency h (txn_id_of all_progress q.block q.place) inconsistencies × AreInconsistencies h all_progress queries more
+AreInconsistencies h all_progress _ _ = ⊥
 
 -- the number of lines of a block that were given up: their last reply is that they are blocked
 abbrev pub given_up_in : BlockProgressView → ℕ
@@ -33,9 +33,9 @@ given_up_in progress = count_by is_blocked progress.replies
 
 -- the summary of a run that ended so
 pub record IsSummaryOf (end : RunState) (queries : List Query) (run_summary : RunSummary) : Type 0 where
-  pub outcomes : AreOutcomes end.history end.blocks queries run_summary.outcomes.items
-  pub blocked : run_summary.blocked.items ≡ map (λ r. r.blocked) end.blocks
-  pub given_up : run_summary.given_up.items ≡ map given_up_in end.blocks
+  pub inconsistencies : AreInconsistencies end.history end.blocks queries run_summary.inconsistencies.items
+  pub blocked : run_summary.blocked_counts.items ≡ map (λ r. r.blocked) end.blocks
+  pub given_up : run_summary.given_up_counts.items ≡ map given_up_in end.blocks
 
 -- The tale is of a run of these blocks: legal, and taken in turns that began with this order.
 pub record IsSummary (opening : List ℤ) (weights : List ℕ) (blocks : List (List Call)) (queries : List Query) (order : List ℕ)

@@ -22,7 +22,7 @@ use crate::measure::Measure;
 use crate::progress::BlockProgress;
 use crate::query::{Query, queries_of};
 use crate::report::{push_blocks, push_head, push_queries};
-use crate::run::{Run, run_order};
+use crate::run::{Run, run_interleaving};
 use crate::run_summary::{RunSummary, summarize};
 use crate::summary::worst_run;
 use crate::ways::{ExploreFault, Ways, all_ways, line_counts};
@@ -91,7 +91,7 @@ fn summary_of(
     ensures { IfOk result (λ run_summary. IsSummary drive_plan.now.values.items (weights_of drive_plan.now.weights.items)
         (map (λ b. b.items) drive_plan.now.blocks.items) queries.now order.now run_summary) }
 {
-    let run = run_order(alloc, drive_plan, order)?;
+    let run = run_interleaving(alloc, drive_plan, order)?;
     let run_summary = summarize(alloc, &run, queries)?;
     Ok(run_summary)
 }
@@ -279,7 +279,11 @@ fn text_of(
         None => Ok(report_of(alloc, &queries, &summaries, &counts)?),
         Some(measure) => {
             let order = ways.order(alloc, &counts, worst_run(&summaries, measure))?;
-            Ok(script_of(alloc, drive_plan, run_order(alloc, drive_plan, &order)?)?)
+            Ok(script_of(
+                alloc,
+                drive_plan,
+                run_interleaving(alloc, drive_plan, &order)?,
+            )?)
         }
     }
 }

@@ -1,9 +1,9 @@
 //! Runs the blocks of a plan on one thread, one line at a time, in the order of a list of block numbers.
 //!
-//! A number in this list is a turn of its block: the block executes its next line. If the line is blocked, it is retried at
-//! the next turn of the block, up to 100 times, as in a drive; then the block continues with its next line. The list has one
-//! turn for each line, so each retry leaves a line over. These lines are executed at the end, in rounds: each block with a
-//! line left takes one turn.
+//! A block is the list of lines of one session of a drive. Each entry of the list names the block that takes the next turn;
+//! in a turn a block executes one line. A blocked line is retried at the next turn of its block, up to 100 times, as in a
+//! drive. The list has one turn for each line, so each retry takes a turn that a later line needs. Lines that are left over
+//! are executed afterwards, round-robin.
 
 ghost use Rattle.std.specs.Prelude.{◌≡◌, ℕ, List, [], ◌<◌, ◌≤◌, IfOk, IfNone, OnOk, length, map, slice_index_or};
 ghost use Rattle.std.specs.List.{range_with_len};
@@ -39,7 +39,7 @@ fn next_event(calls: &[Call<'_>], progress: &BlockProgress) -> Option<Event>
     }
 }
 
-/// Executes the next line of a block that has these lines, if one is left.
+/// Executes the next line of the block whose lines are `calls`, if one is left.
 fn execute_next_line(
     machine: &mut Machine<Weighted>,
     calls: &[Call<'_>],
@@ -97,7 +97,7 @@ fn take_turns(
     Ok(())
 }
 
-/// Returns the progress of this number of blocks before their first lines.
+/// Returns the progress of `count` blocks that have executed no line.
 fn new_progress(alloc: Global, count: usize) -> Result<Vec<BlockProgress>, AllocError>
     ensures { IfOk result (λ all_progress. all_progress.items ≡ map (λ _. no_progress) (range_with_len 0 count)) }
 {
@@ -108,7 +108,7 @@ fn new_progress(alloc: Global, count: usize) -> Result<Vec<BlockProgress>, Alloc
     Ok(all_progress)
 }
 
-/// Returns the first block with a line left, of those with at least this number.
+/// Returns the first block with a line left whose index is at least `from`.
 fn find_unfinished(
     blocks: &[Vec<Call<'_>>],
     all_progress: &[BlockProgress],
@@ -127,8 +127,8 @@ fn find_unfinished(
     None
 }
 
-/// Returns the block with the next turn of a round: the first with a line left of those with at least this number, or else
-/// the first with a line left of all.
+/// Returns the block with the next turn of a round: the first with a line left whose index is at least `from`, or else the
+/// first of all with a line left.
 fn next_in_round(
     blocks: &[Vec<Call<'_>>],
     all_progress: &[BlockProgress],
@@ -162,6 +162,7 @@ fn finish(
         execute_turn(machine, blocks, all_progress, block)?;
         from = block.saturating_add(1);
     }
+    // (not reached: each turn uses one of at most 100 tries of a line)
     Err(StepError::NoMemory)
 }
 
@@ -177,7 +178,7 @@ fn machine_of(alloc: Global, drive_plan: &DrivePlan<'_>) -> Result<Machine<Weigh
     Ok(machine)
 }
 
-/// Returns the fault of a run.
+/// Converts the error of a step to a fault of a drive.
 fn fault_of(error: StepError) -> DriveFault {
     match error {
         StepError::HistoryFull => DriveFault::HistoryFull,
@@ -185,8 +186,12 @@ fn fault_of(error: StepError) -> DriveFault {
     }
 }
 
-/// Runs the blocks of a plan: first these turns, then the remaining lines in rounds.
-pub fn run_order(alloc: Global, drive_plan: &DrivePlan<'_>, order: &[u8]) -> Result<Run, DriveFault>
+/// Runs the blocks of a plan: first the turns in `order`, then the remaining lines in rounds.
+pub fn run_interleaving(
+    alloc: Global,
+    drive_plan: &DrivePlan<'_>,
+    order: &[u8],
+) -> Result<Run, DriveFault>
     requires { IsSound drive_plan.now }
     ensures run { IfOk result (λ r. IsRun drive_plan.now.values.items (weights_of drive_plan.now.weights.items)
         (map (λ b. b.items) drive_plan.now.blocks.items) order.now (run_state r.history.schedule r.all_progress.items)) }

@@ -1,9 +1,9 @@
-//! Summarizes one run: the import and the distance of each query that committed, how often lines of each block were
-//! blocked, and how many of its lines were given up, that is, still blocked at the last try.
+//! Summarizes one run: for each query that committed, its import and its distance; for each block, which is the list of
+//! lines of one session, how often a line was blocked, and how many lines were given up, still blocked at their last try.
 
 ghost use Rattle.std.specs.Prelude.{◌≡◌, IfOk, map};
 ghost use Rattle.esr_explore.specs.Turns.{run_state};
-ghost use Rattle.esr_explore.specs.Summaries.{AreOutcomes, IsOutcome, IsSummaryOf, given_up_in, txn_id_of};
+ghost use Rattle.esr_explore.specs.Summaries.{AreInconsistencies, IsInconsistency, IsSummaryOf, given_up_in, txn_id_of};
 
 use crate::progress::{BlockProgress, is_blocked};
 use crate::query::Query;
@@ -15,7 +15,7 @@ use std::alloc::{AllocError, Global};
 
 /// The inconsistency charged to a committed query, and its distance from the nearest serial placement.
 #[derive(Clone, Copy)]
-pub struct QueryOutcome {
+pub struct QueryInconsistency {
     pub import: u64,
     pub distance: u64,
 }
@@ -23,12 +23,12 @@ pub struct QueryOutcome {
 /// The summary of a run.
 #[derive(Drop)]
 pub struct RunSummary {
-    /// The outcome of each query of the file, if it committed.
-    pub outcomes: Vec<Option<QueryOutcome>>,
+    /// The import and the distance of each query of the file, if it committed.
+    pub inconsistencies: Vec<Option<QueryInconsistency>>,
     /// The number of times that the lines of each block were blocked.
-    pub blocked: Vec<u64>,
+    pub blocked_counts: Vec<u64>,
     /// The number of lines of each block that were given up.
-    pub given_up: Vec<u64>,
+    pub given_up_counts: Vec<u64>,
 }
 
 /// Returns the id of the transaction that a query's begin created, or 0 if it was refused.
@@ -44,16 +44,16 @@ fn txn_id_of(all_progress: &[BlockProgress], query: Query<'_>) -> TxnId
     }
 }
 
-/// Returns the outcome of a transaction, if it is a committed query.
-fn outcome_of(
+/// Returns the import and the distance of a transaction, if it is a committed query.
+fn inconsistency_of(
     alloc: Global,
     history: &History<Weighted>,
     txn_id: TxnId,
-) -> Result<Option<QueryOutcome>, AllocError>
-    ensures { IfOk result (IsOutcome history.now.schedule txn_id.0) }
+) -> Result<Option<QueryInconsistency>, AllocError>
+    ensures { IfOk result (IsInconsistency history.now.schedule txn_id.0) }
 {
     match audit_query(alloc, history, txn_id) {
-        Ok(finding) => Ok(Some(QueryOutcome {
+        Ok(finding) => Ok(Some(QueryInconsistency {
             import: finding.import,
             distance: finding.distance,
         })),
@@ -62,20 +62,20 @@ fn outcome_of(
     }
 }
 
-/// Returns the outcomes of these queries.
-fn all_outcomes(
+/// Returns the import and the distance of each of these queries, if it committed.
+fn all_inconsistencies(
     alloc: Global,
     run: &Run,
     queries: &[Query<'_>],
-) -> Result<Vec<Option<QueryOutcome>>, AllocError>
-    ensures { IfOk result (λ outcomes. AreOutcomes run.now.history.schedule run.now.all_progress.items queries.now outcomes.items) }
+) -> Result<Vec<Option<QueryInconsistency>>, AllocError>
+    ensures { IfOk result (λ inconsistencies. AreInconsistencies run.now.history.schedule run.now.all_progress.items queries.now inconsistencies.items) }
 {
-    let mut outcomes = Vec::new(alloc);
+    let mut inconsistencies = Vec::new(alloc);
     for query in queries {
         let txn_id = txn_id_of(&run.all_progress, *query);
-        outcomes.push(outcome_of(alloc, &run.history, txn_id)?)?;
+        inconsistencies.push(inconsistency_of(alloc, &run.history, txn_id)?)?;
     }
-    Ok(outcomes)
+    Ok(inconsistencies)
 }
 
 /// Returns, for each block, the number of times that its lines were blocked.
@@ -89,7 +89,7 @@ fn blocked_counts(alloc: Global, all_progress: &[BlockProgress]) -> Result<Vec<u
     Ok(counts)
 }
 
-/// Returns how many lines of a block were given up: their last reply is that they are blocked.
+/// Returns how many lines of a block were given up: those whose last reply is that they are blocked.
 fn given_up_in(progress: &BlockProgress) -> u64
     ensures { result ≡ given_up_in progress.now }
 {
@@ -116,8 +116,8 @@ pub fn summarize(alloc: Global, run: &Run, queries: &[Query<'_>]) -> Result<RunS
     ensures { IfOk result (λ run_summary. IsSummaryOf (run_state run.now.history.schedule run.now.all_progress.items) queries.now run_summary) }
 {
     Ok(RunSummary {
-        outcomes: all_outcomes(alloc, run, queries)?,
-        blocked: blocked_counts(alloc, &run.all_progress)?,
-        given_up: given_up_counts(alloc, &run.all_progress)?,
+        inconsistencies: all_inconsistencies(alloc, run, queries)?,
+        blocked_counts: blocked_counts(alloc, &run.all_progress)?,
+        given_up_counts: given_up_counts(alloc, &run.all_progress)?,
     })
 }

@@ -2,12 +2,12 @@
 
 ghost use Rattle.std.specs.Prelude.{◌≡◌, ◌++◌, [], IfOk, OnOk, map, sum};
 ghost use Rattle.std.specs.List.{cons_option};
-ghost use Rattle.esr_explore.specs.Columns.{has_given_up, runs_given_up, median, number_in, numbers_of, outcome_at};
+ghost use Rattle.esr_explore.specs.Columns.{has_given_up, runs_given_up, median, number_in, numbers_of, inconsistency_at};
 ghost use Rattle.esr_explore.specs.Severity.{amount_of, greatest, severity_of, worst_run};
 ghost use Rattle.esr_explore.specs.Turns.{saturated_u64};
 
 use crate::measure::Measure;
-use crate::run_summary::{QueryOutcome, RunSummary};
+use crate::run_summary::{QueryInconsistency, RunSummary};
 use std::alloc::{AllocError, Global};
 
 /// The maximum and the lower median of some numbers.
@@ -46,10 +46,10 @@ pub enum Column {
 }
 
 /// Returns the outcome of a query, by its index among those of the file, if it committed.
-fn outcome_at(run_summary: &RunSummary, query: usize) -> Option<QueryOutcome>
-    ensures { result ≡ outcome_at query run_summary.now }
+fn inconsistency_at(run_summary: &RunSummary, query: usize) -> Option<QueryInconsistency>
+    ensures { result ≡ inconsistency_at query run_summary.now }
 {
-    run_summary.outcomes.get(query).copied().flatten()
+    run_summary.inconsistencies.get(query).copied().flatten()
 }
 
 /// Returns the value of a run in a column, if it has one.
@@ -57,13 +57,13 @@ fn number_in(run_summary: &RunSummary, column: Column) -> Option<u64>
     ensures { result ≡ number_in column run_summary.now }
 {
     match column {
-        Column::Blocked(session) => run_summary.blocked.get(session).copied(),
-        Column::Import(query) => match outcome_at(run_summary, query) {
-            Some(outcome) => Some(outcome.import),
+        Column::Blocked(session) => run_summary.blocked_counts.get(session).copied(),
+        Column::Import(query) => match inconsistency_at(run_summary, query) {
+            Some(inconsistency) => Some(inconsistency.import),
             None => None,
         },
-        Column::Distance(query) => match outcome_at(run_summary, query) {
-            Some(outcome) => Some(outcome.distance),
+        Column::Distance(query) => match inconsistency_at(run_summary, query) {
+            Some(inconsistency) => Some(inconsistency.distance),
             None => None,
         },
     }
@@ -99,7 +99,12 @@ pub fn column_values(
 fn has_given_up(run_summary: &RunSummary, session: usize) -> bool
     ensures { result ≡ has_given_up session run_summary.now }
 {
-    run_summary.given_up.get(session).copied().unwrap_or(0) > 0
+    run_summary
+        .given_up_counts
+        .get(session)
+        .copied()
+        .unwrap_or(0)
+        > 0
 }
 
 /// Returns in how many runs a line of the session was given up.
@@ -113,26 +118,26 @@ pub fn runs_given_up(summaries: &[RunSummary], session: usize) -> u64
 }
 
 /// Returns the import or the distance of a query, 0 if it did not commit.
-fn amount_of(outcome: Option<QueryOutcome>, measure: Measure) -> u64
-    ensures { result ≡ amount_of measure outcome }
+fn amount_of(inconsistency: Option<QueryInconsistency>, measure: Measure) -> u64
+    ensures { result ≡ amount_of measure inconsistency }
 {
-    let Some(outcome) = outcome else {
+    let Some(inconsistency) = inconsistency else {
         return 0;
     };
     match measure {
-        Measure::Import => outcome.import,
-        Measure::Distance => outcome.distance,
+        Measure::Import => inconsistency.import,
+        Measure::Distance => inconsistency.distance,
         Measure::Blocked => 0,
     }
 }
 
 /// Returns the maximum over the queries of a run.
-fn greatest(outcomes: &[Option<QueryOutcome>], measure: Measure) -> u64
-    ensures { result ≡ greatest (map (amount_of measure) outcomes.now) }
+fn greatest(inconsistencies: &[Option<QueryInconsistency>], measure: Measure) -> u64
+    ensures { result ≡ greatest (map (amount_of measure) inconsistencies.now) }
 {
     let mut greatest = 0u64;
-    for outcome in outcomes {
-        greatest = greatest.max(amount_of(*outcome, measure));
+    for inconsistency in inconsistencies {
+        greatest = greatest.max(amount_of(*inconsistency, measure));
     }
     greatest
 }
@@ -153,8 +158,8 @@ fn severity_of(run_summary: &RunSummary, measure: Measure) -> u64
     ensures { result ≡ severity_of measure run_summary.now }
 {
     match measure {
-        Measure::Blocked => sum_of(&run_summary.blocked),
-        Measure::Import | Measure::Distance => greatest(&run_summary.outcomes, measure),
+        Measure::Blocked => sum_of(&run_summary.blocked_counts),
+        Measure::Import | Measure::Distance => greatest(&run_summary.inconsistencies, measure),
     }
 }
 

@@ -3,7 +3,7 @@ use Rattle.std.proofs.Common.{◌≡◌, ℕ, ◌+◌, ◌-◌, ◌<◌, ◌≤�
 use Rattle.std.proofs.lemmas.Bool.{cases_Bool}
 use Rattle.esr_cert.specs.Network.{arc_at, Network, IsNetwork}
 use Rattle.esr_cert.specs.Flow.{within, amount_at, carried, IsFlow, worth}
-use Rattle.esr_cert.specs.Cut.{leaves, enters, capacity_or_zero, cut_capacity, IsFinite, HasFiniteCapacity}
+use Rattle.esr_cert.specs.Cut.{leaves, enters, finite_capacity_or_zero, cut_capacity, IsFinite, HasFiniteCapacity}
 use Rattle.esr_cert.proofs.Cut.{cut, carried_at_most, carried_full, full_from, nothing_back, nothing_from}
 use Rattle.esr_flow.specs.Types.{ResidualArc, Forward, Backward}
 use Rattle.esr_flow.specs.Residual.{left_of, finish, IsResidual, IsPath}
@@ -23,7 +23,7 @@ back_of false true h = (refl, refl)
 back_of false false h = cc
 back_of true c h = cc
 
-no_capacity_full : (o : Option ℕ) (x : ℕ) → within x o ≡ true → (within 1 (left_of o x) ≡ true → ⊥) → (IsFinite o) × (x ≡ capacity_or_zero o)
+no_capacity_full : (o : Option ℕ) (x : ℕ) → within x o ≡ true → (within 1 (left_of o x) ≡ true → ⊥) → (IsFinite o) × (x ≡ finite_capacity_or_zero o)
 no_capacity_full None x w h = absurd (h refl)
 no_capacity_full (Some c) x w h =
     let small : (1 ≤ c - x) → ⊥ = λ l. h (le-leb 1 (c - x) l) in
@@ -33,7 +33,7 @@ no_capacity_full (Some c) x w h =
 
 module _ (net : Network) (ok : IsNetwork net) (flow : List ℕ) (f : IsFlow net flow) (has : ℕ → Bool) where
   -- an arc that leaves a set which residual steps do not leave is limited and full
-  keeps_full : Keeps net flow has → (i : ℕ) → i < length net.arcs → leaves has (arc_at net.arcs i) ≡ true → (IsFinite (arc_at net.arcs i).capacity) × (amount_at flow i ≡ capacity_or_zero (arc_at net.arcs i).capacity)
+  keeps_full : Keeps net flow has → (i : ℕ) → i < length net.arcs → leaves has (arc_at net.arcs i) ≡ true → (IsFinite (arc_at net.arcs i).capacity) × (amount_at flow i ≡ finite_capacity_or_zero (arc_at net.arcs i).capacity)
   keeps_full keeps i l c =
       let ends : (has (arc_at net.arcs i).from ≡ true) × (has (arc_at net.arcs i).to ≡ false) = both_of (has (arc_at net.arcs i).from) (has (arc_at net.arcs i).to) c in
       no_capacity_full (arc_at net.arcs i).capacity (amount_at flow i) (f.within_capacity i l)
@@ -56,7 +56,7 @@ module _ (net : Network) (ok : IsNetwork net) (flow : List ℕ) (f : IsFlow net 
         nothing_back has net.arcs flow (keeps_empty keeps),
       )
 
-  full_no_capacity : (o : Option ℕ) (x : ℕ) → IsFinite o → x ≡ capacity_or_zero o → within 1 (left_of o x) ≡ true → ⊥
+  full_no_capacity : (o : Option ℕ) (x : ℕ) → IsFinite o → x ≡ finite_capacity_or_zero o → within 1 (left_of o x) ≡ true → ⊥
   full_no_capacity None x l e w = absurd l
   full_no_capacity (Some c) x l e w = let k : 1 ≤ c - x = leb-true 1 (c - x) w in omega arith
 
@@ -65,7 +65,7 @@ module _ (net : Network) (ok : IsNetwork net) (flow : List ℕ) (f : IsFlow net 
   keeps_from at_source at_sink limited least s res h =
       let whole : worth net flow + carried (enters has) net.arcs flow ≡ carried (leaves has) net.arcs flow = cut net ok flow f has at_source at_sink in
       let upper_bound : carried (leaves has) net.arcs flow ≤ cut_capacity has net.arcs = carried_at_most has net.arcs flow f.within_capacity limited in
-      let full : (i : ℕ) → i < length net.arcs → leaves has (arc_at net.arcs i) ≡ true → amount_at flow i ≡ capacity_or_zero (arc_at net.arcs i).capacity = full_from has net.arcs flow f.same_length f.within_capacity limited (omega arith) in
+      let full : (i : ℕ) → i < length net.arcs → leaves has (arc_at net.arcs i) ≡ true → amount_at flow i ≡ finite_capacity_or_zero (arc_at net.arcs i).capacity = full_from has net.arcs flow f.same_length f.within_capacity limited (omega arith) in
       let none : (i : ℕ) → i < length net.arcs → enters has (arc_at net.arcs i) ≡ true → amount_at flow i ≡ 0 = nothing_from has net.arcs flow f.same_length (omega arith) in
       stays full none s res h
     where
@@ -79,7 +79,7 @@ module _ (net : Network) (ok : IsNetwork net) (flow : List ℕ) (f : IsFlow net 
       returning false false e g = cc
       returning true c e g = cc
 
-      stays : ((i : ℕ) → i < length net.arcs → leaves has (arc_at net.arcs i) ≡ true → amount_at flow i ≡ capacity_or_zero (arc_at net.arcs i).capacity) → ((i : ℕ) → i < length net.arcs → enters has (arc_at net.arcs i) ≡ true → amount_at flow i ≡ 0) → (s : ResidualArc) → IsResidual net.arcs flow s → has (start net.arcs s) ≡ true → has (finish net.arcs s) ≡ true
+      stays : ((i : ℕ) → i < length net.arcs → leaves has (arc_at net.arcs i) ≡ true → amount_at flow i ≡ finite_capacity_or_zero (arc_at net.arcs i).capacity) → ((i : ℕ) → i < length net.arcs → enters has (arc_at net.arcs i) ≡ true → amount_at flow i ≡ 0) → (s : ResidualArc) → IsResidual net.arcs flow s → has (start net.arcs s) ≡ true → has (finish net.arcs s) ≡ true
       stays full none (Forward i) res h =
           elim (cases_Bool (has (arc_at net.arcs i).to)) [
             | inl e ↦ e

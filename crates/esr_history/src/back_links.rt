@@ -12,7 +12,7 @@ ghost use Rattle.std.specs.Prelude.{◌≡◌, ◌+◌, ◌^◌, ◌<◌, ◌≤
 ghost use Rattle.esr_history.specs.declared.event.Entry.{Entry};
 ghost use Rattle.esr_history.specs.BackLinks.{with_key, txns_after, ends_after, begins_after, IsNumbered, item_of, begun_by, txn_of, key_at, decoded, AreLinks, IsFit, HasCapacity, HasCapacityToBegin, begun_count, last_place, earlier, facts_of, accepted_item, accepted_txn, item_in, txn_in};
 
-use crate::event::{Entry, Event, Kind, Reply};
+use crate::event::{BeginKind, Entry, Event, Reply};
 use std::alloc::{AllocError, Global};
 
 /// How a transaction began, and the index of its accepted commit or abort.
@@ -25,7 +25,7 @@ pub struct Facts {
 
 #[derive(Clone, Copy)]
 struct Begin {
-    kind: Kind,
+    kind: BeginKind,
     limit: u64,
 }
 
@@ -206,7 +206,7 @@ impl BackLinks {
 
     /// Notes an accepted begin.
     #[inline(always)]
-    fn add_begin(&mut self, kind: Kind, limit: u64, code: u32)
+    fn add_begin(&mut self, kind: BeginKind, limit: u64, code: u32)
         requires { HasCapacityToBegin 1 self.old }
         ensures on_item { self.new.on_item ≡ self.old.on_item }
         ensures of_txn { self.new.of_txn ≡ self.old.of_txn }
@@ -239,8 +239,8 @@ impl BackLinks {
     {
         let begun = at_key(&self.txns, begun_by(reply));
         match event {
-            Event::BeginUpdate { limit } => self.add_begin(Kind::Update, limit, code),
-            Event::BeginQuery { limit, strict: _ } => self.add_begin(Kind::Query, limit, code),
+            Event::BeginUpdate { limit } => self.add_begin(BeginKind::Update, limit, code),
+            Event::BeginQuery { limit, strict: _ } => self.add_begin(BeginKind::Query, limit, code),
             Event::Read { txn, item }
             | Event::Write {
                 txn,

@@ -3,7 +3,7 @@ use Rattle.std.specs.Prelude.{◌≡◌, ℕ, ◌+◌, ◌<◌, ◌≤◌, ◌^�
 use Rattle.std.specs.List.{list_any, AllByRecursion}
 use Rattle.esr_base.specs.declared.numbers.TxnId.{TxnId}
 use Rattle.esr_history.specs.Ascending.{IsAscendingBy, upserted}
-use Rattle.esr_history.specs.declared.event.Kind.{Kind}
+use Rattle.esr_history.specs.declared.event.BeginKind.{BeginKind}
 use Rattle.esr_history.specs.Events.{is_query_kind}
 pub use Rattle.esr_ledgers.specs.declared.account.Account.{Account}
 use Rattle.esr_ledgers.specs.declared.ledgers.Quote.{Quote}
@@ -32,7 +32,7 @@ abbrev pub account_amount : List Account → ℕ → ℕ
 account_amount accounts t = unwrap_or (option_map (λ a. a.amount) (account_of accounts t)) 0
 
 -- the accounts with a new one, in the order of their numbers
-abbrev pub new_account : Kind → TxnId → ℕ → Account
+abbrev pub new_account : BeginKind → TxnId → ℕ → Account
 new_account kind t limit = record { number = t; kind = kind; limit = limit; amount = 0 }
 
 abbrev pub with_account : List Account → Account → List Account

@@ -7,13 +7,13 @@ ghost use Rattle.std.specs.Prelude.{◌≡◌, ◌+◌, ◌<◌, ◌^◌, true, 
 ghost use Rattle.esr_history.specs.Ascending.{IsAscendingBy, IsPlaceOf, IsGapFor};
 ghost use Rattle.esr_ledgers.specs.Books.{number, account_of, is_open, account_amount, raised};
 
-use esr_history::{Kind, TxnId};
+use esr_history::{BeginKind, TxnId};
 
 /// The amount that a query has imported, or an update exported, and its limit.
 #[derive(Clone, Copy, PartialEq, Eq, Debug)]
 pub struct Account {
     pub number: TxnId,
-    pub kind: Kind,
+    pub kind: BeginKind,
     pub limit: u64,
     pub amount: u64,
 }

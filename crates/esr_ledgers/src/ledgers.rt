@@ -9,7 +9,7 @@ ghost use Rattle.esr_history.specs.Ascending.{IsAscendingBy};
 ghost use Rattle.esr_ledgers.specs.Books.{number, is_open, is_open_query, is_open_update, account_amount, new_account, with_account, total_of, would_pass, quote_of, charged_to_queries, charged, AreCharges, imports, exports};
 
 use crate::account::{Account, find_account, place_of, raise};
-use esr_history::{Kind, NoMemory, TxnId};
+use esr_history::{BeginKind, NoMemory, TxnId};
 use std::alloc::{AllocError, Global};
 use std::marker::Model;
 
@@ -135,24 +135,24 @@ impl Ledgers {
     #[inline(always)]
     pub fn open_query(&mut self, q: TxnId, limit: u64) -> Result<(), NoMemory>
         requires { is_open self.old q.0 ≡ false }
-        ensures ok { OnOk result (self.new ≡ with_account self.old (new_account Kind.Query q limit)) }
+        ensures ok { OnOk result (self.new ≡ with_account self.old (new_account BeginKind.Query q limit)) }
         ensures err { OnErr result (self.new ≡ self.old) }
     {
-        self.open(Kind::Query, q, limit)
+        self.open(BeginKind::Query, q, limit)
     }
 
     /// Opens the account of an update, which may export up to this limit.
     #[inline(always)]
     pub fn open_update(&mut self, u: TxnId, limit: u64) -> Result<(), NoMemory>
         requires { is_open self.old u.0 ≡ false }
-        ensures ok { OnOk result (self.new ≡ with_account self.old (new_account Kind.Update u limit)) }
+        ensures ok { OnOk result (self.new ≡ with_account self.old (new_account BeginKind.Update u limit)) }
         ensures err { OnErr result (self.new ≡ self.old) }
     {
-        self.open(Kind::Update, u, limit)
+        self.open(BeginKind::Update, u, limit)
     }
 
     #[inline(always)]
-    fn open(&mut self, kind: Kind, number: TxnId, limit: u64) -> Result<(), NoMemory>
+    fn open(&mut self, kind: BeginKind, number: TxnId, limit: u64) -> Result<(), NoMemory>
         requires { is_open self.old number.0 ≡ false }
         ensures ok { OnOk result (self.new ≡ with_account self.old (new_account kind number limit)) }
         ensures err { OnErr result (self.new ≡ self.old) }

@@ -14,7 +14,7 @@ use esr_history::TxnId;
 use esr_items::Metric;
 use esr_report::name_of_transaction;
 use esr_svg::{
-    Arrow, Deciding, Lane, LaneReads, LaneSegment, MAX_UPDATES, Scene, Update, fitting_updates,
+    Arrow, Deciding, Lane, LaneReads, LaneSegment, MAX_UPDATES, Scene, Update, updates_to_keep,
 };
 use esr_text::first;
 use esr_trace::{Audited, QueryTrace, sentences_of};
@@ -352,7 +352,7 @@ impl<'a, 'b> SceneParts<'a, 'b> {
         let committed = self.source.trace.committed;
         Scene {
             errors: Vec::new(alloc),
-            query: name_of_transaction(audited.transactions, finding.query),
+            query_name: name_of_transaction(audited.transactions, finding.query),
             distance: finding.distance,
             import: finding.import,
             sentences: Vec::new(alloc),
@@ -366,7 +366,7 @@ impl<'a, 'b> SceneParts<'a, 'b> {
                 names: Vec::new(alloc),
                 count: 0,
             },
-            line: self.line,
+            query_slot: self.line,
             updates: Vec::new(alloc),
             lanes: Vec::new(alloc),
         }
@@ -412,7 +412,7 @@ pub fn scene_of<'a>(
     };
     let mut scene = scene_with(alloc, &source, extent)?;
     for tries in 1..MAX_TRIES + 3 {
-        let Some(fitting) = fitting_updates(alloc, &scene)? else {
+        let Some(fitting) = updates_to_keep(alloc, &scene)? else {
             break;
         };
         extent = extent.reduced(fitting, tries);

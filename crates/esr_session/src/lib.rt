@@ -1,5 +1,6 @@
 //! One machine protected by a lock, and the sessions through which threads call it. Each call that receives a reply
-//! appends one entry to a common history and leaves a receipt. Closing compares all receipts with the history.
+//! appends one entry to a common history and leaves a receipt: the place, the event and the reply. Closing the engine
+//! compares all receipts with the history.
 //!
 //! A step takes less than a microsecond, so finer locks would cost more than they save. A single lock makes the steps
 //! of all threads one list.

@@ -36,10 +36,10 @@ fn push_rect(
 fn push_box(
     out: &mut String,
     update: &Update<'_>,
-    line: u8,
+    query_slot: u8,
     layout: &Layout,
 ) -> Result<(), AllocError> {
-    let class = match (update.must, update.slot < line) {
+    let class = match (update.must, update.slot < query_slot) {
         (true, _) => "b e",
         (false, true) => "b",
         (false, false) => "a",
@@ -59,7 +59,7 @@ fn push_box(
 /// Appends the boxes of the updates.
 fn push_boxes(out: &mut String, scene: &Scene<'_>, layout: &Layout) -> Result<(), AllocError> {
     for update in &scene.updates {
-        push_box(out, update, scene.line, layout)?;
+        push_box(out, update, scene.query_slot, layout)?;
     }
     Ok(())
 }
@@ -80,11 +80,16 @@ fn push_arch(
 }
 
 /// Appends the way of an arrow from one box to another.
-fn push_way(out: &mut String, arrow: &Arrow, line: u8, layout: &Layout) -> Result<(), AllocError> {
+fn push_way(
+    out: &mut String,
+    arrow: &Arrow,
+    query_slot: u8,
+    layout: &Layout,
+) -> Result<(), AllocError> {
     let top = layout.boxes_top();
     let from = layout.x(arrow.from);
     let to = layout.x(arrow.to);
-    if is_straight(arrow.from, arrow.to, line) {
+    if is_straight(arrow.from, arrow.to, query_slot) {
         let half = layout.box_width / 2;
         let start = from.saturating_add(half);
         let end = to.saturating_sub(half.saturating_add(3));
@@ -99,10 +104,13 @@ fn push_way(out: &mut String, arrow: &Arrow, line: u8, layout: &Layout) -> Resul
 
 /// Appends the arrows.
 fn push_arrows(out: &mut String, scene: &Scene<'_>, layout: &Layout) -> Result<(), AllocError> {
-    let query = scene.query;
+    let query_name = scene.query_name;
     for arrow in &scene.arrows {
-        write!(out, "<path class='w' marker-end='url(#{query}-tip)' d='")?;
-        push_way(out, arrow, scene.line, layout)?;
+        write!(
+            out,
+            "<path class='w' marker-end='url(#{query_name}-tip)' d='"
+        )?;
+        push_way(out, arrow, scene.query_slot, layout)?;
         out.push_str("'><title>")?;
         out.push_str(&arrow.title)?;
         out.push_str("</title></path>\n")?;

@@ -77,13 +77,13 @@ pub fn push_vertical(
 /// Appends an arrow from the left to the right.
 pub fn push_straight(
     out: &mut String,
-    query: &str,
+    query_name: &str,
     y: u32,
     left: u32,
     right: u32,
 ) -> Result<(), AllocError> {
     write!(
         out,
-        "<path class='w' marker-end='url(#{query}-tip)' d='M{left} {y}H{right}'/>"
+        "<path class='w' marker-end='url(#{query_name}-tip)' d='M{left} {y}H{right}'/>"
     )
 }

@@ -1,6 +1,6 @@
 //! The head of a picture: its size, a description for screen readers, and its colours. The colours are in a `<style>`
 //! with `prefers-color-scheme`, and the picture has a background, so that it is legible in any page. Green parts are
-//! also thick, and reads that are off have a circle and a text, for readers who do not see colours.
+//! also thick, and reads that differ from the value at the query's place have a circle and a text, for readers who do not see colours.
 
 use crate::elements::push_text;
 use crate::layout::{ERROR_LINE_HEIGHT, Layout, MARGIN, SENTENCE_LINE_HEIGHT};
@@ -9,13 +9,13 @@ use crate::texts::ErrorLine;
 use esr_text::{first, push_number, push_sanitized, push_value};
 use std::alloc::AllocError;
 
-/// The style sheet. A page contains pictures and timelines, so their classes have different names, and short ones keep
-/// pictures of many parts small.
+/// The style sheet. Pictures and timelines share a page, so the names of their classes must differ. Short names keep large
+/// pictures small.
 ///
 /// Texts: `m` monospaced, `h` heading, `n` bold, `q` muted, `g` exact or good, `r` off or an error, `o` with a halo.
 /// Boxes of updates: `b` before the line, `a` after it, `e` must be before it. Lanes: `v` a version, `u` a version that
-/// the query read, `y` and `z` read twice or more than nine times, `s` several versions or a transient read, `t` a
-/// write, `j` and `i` the frame and the filling of a bar, `c` a read that is off. Others: `l` the line, `d` a guide,
+/// the query read, `y` a version read 2 to 9 times, `z` one read 10 times or more, `s` several versions or a transient read, `t` a
+/// write, `j` the track of a bar and `i` its filled part, `c` a read that is off. Others: `l` the line, `d` a guide,
 /// `w` an arrow, `k` its head, `p` the background, `x` the box of errors.
 const STYLE: &str = "<style>\n\
 text{font:12px sans-serif;fill:#1f2328}\n\
@@ -51,26 +51,29 @@ text{fill:#e6edf3}.q{fill:#9aa4af}.g{fill:#4cc47c}.r{fill:#ff7b72}.o{stroke:#0d1
 .c{fill:#0d1117;stroke:#ff7b72}.x{stroke:#ff7b72}}\n\
 </style>\n";
 
-/// Appends the attributes of the element, with a blank before each.
+/// Appends the attributes of the root `<svg>` element, with a blank before each.
 pub fn push_attributes(
     out: &mut String,
     scene: &Scene<'_>,
     layout: &Layout,
 ) -> Result<(), AllocError> {
-    let query = scene.query;
+    let query_name = scene.query_name;
     let width = layout.width;
     let height = layout.height();
     let error_box_height = layout.error_box_height();
     let total_height = height.saturating_add(error_box_height);
     out.push_str(" xmlns='http://www.w3.org/2000/svg' viewBox='0 ")?;
-    push_upward(out, error_box_height)?;
+    push_y_above_origin(out, error_box_height)?;
     write!(out, " {width} {total_height}'")?;
     write!(out, " width='{width}' height='{total_height}' role='img'")?;
-    write!(out, " aria-labelledby='{query}-title {query}-desc'")
+    write!(
+        out,
+        " aria-labelledby='{query_name}-title {query_name}-desc'"
+    )
 }
 
-/// Appends the coordinate of a point at this distance above the origin.
-fn push_upward(out: &mut String, distance: u32) -> Result<(), AllocError> {
+/// Appends the y coordinate of a point at this distance above the origin: its negative.
+fn push_y_above_origin(out: &mut String, distance: u32) -> Result<(), AllocError> {
     if distance > 0 {
         out.push('-')?;
     }
@@ -78,9 +81,13 @@ fn push_upward(out: &mut String, distance: u32) -> Result<(), AllocError> {
 }
 
 /// Appends the names of the updates before the line, for the description.
-fn push_earlier(out: &mut String, updates: &[Update<'_>], line: u8) -> Result<(), AllocError> {
+fn push_earlier(
+    out: &mut String,
+    updates: &[Update<'_>],
+    query_slot: u8,
+) -> Result<(), AllocError> {
     for update in updates {
-        if update.slot < line {
+        if update.slot < query_slot {
             let name = update.name;
             write!(out, " {name},")?;
         }
@@ -89,9 +96,9 @@ fn push_earlier(out: &mut String, updates: &[Update<'_>], line: u8) -> Result<()
 }
 
 /// Appends the names of the updates after the line.
-fn push_later(out: &mut String, updates: &[Update<'_>], line: u8) -> Result<(), AllocError> {
+fn push_later(out: &mut String, updates: &[Update<'_>], query_slot: u8) -> Result<(), AllocError> {
     for update in updates {
-        if update.slot > line {
+        if update.slot > query_slot {
             let name = update.name;
             write!(out, ", {name}")?;
         }
@@ -102,18 +109,18 @@ fn push_later(out: &mut String, updates: &[Update<'_>], line: u8) -> Result<(), 
 /// Appends the order of the updates and the line, for the description.
 fn push_order(
     out: &mut String,
-    query: &str,
+    query_name: &str,
     updates: &[Update<'_>],
-    line: u8,
+    query_slot: u8,
 ) -> Result<(), AllocError> {
     out.push_str(" In order:")?;
-    push_earlier(out, updates, line)?;
-    write!(out, " [{query}]")?;
-    push_later(out, updates, line)?;
+    push_earlier(out, updates, query_slot)?;
+    write!(out, " [{query_name}]")?;
+    push_later(out, updates, query_slot)?;
     out.push_str(".")
 }
 
-/// Appends the first values that were read of an item, for the description.
+/// Appends at most two of the values that were read of an item, for the description.
 fn push_values(out: &mut String, values: &[i64]) -> Result<(), AllocError> {
     for value in first(values, 2) {
         out.push_str(" read ")?;
@@ -123,13 +130,13 @@ fn push_values(out: &mut String, values: &[i64]) -> Result<(), AllocError> {
     Ok(())
 }
 
-/// Appends the difference of an item's reads, for the description.
-fn push_difference(out: &mut String, off: u64) -> Result<(), AllocError> {
-    if off == 0 {
+/// Appends the difference between the reads of an item and its value at the query's place, for the description.
+fn push_difference(out: &mut String, difference: u64) -> Result<(), AllocError> {
+    if difference == 0 {
         out.push_str(" as at its place.")
     } else {
         out.push_str(" off by ")?;
-        push_number(out, off)?;
+        push_number(out, difference)?;
         out.push_str(" from its place.")
     }
 }
@@ -145,10 +152,18 @@ fn push_reads(out: &mut String, lanes: &[Lane<'_>]) -> Result<(), AllocError> {
     Ok(())
 }
 
-/// Appends the title, and the start of the description.
-fn push_title(out: &mut String, query: &str, distance: u64, import: u64) -> Result<(), AllocError> {
-    write!(out, "<title id='{query}-title'>Audit of {query}</title>\n")?;
-    write!(out, "<desc id='{query}-desc'>Distance ")?;
+/// Appends the title, and opens the description, which begins with distance and import. The caller closes it.
+fn open_description(
+    out: &mut String,
+    query_name: &str,
+    distance: u64,
+    import: u64,
+) -> Result<(), AllocError> {
+    write!(
+        out,
+        "<title id='{query_name}-title'>Audit of {query_name}</title>\n"
+    )?;
+    write!(out, "<desc id='{query_name}-desc'>Distance ")?;
     push_number(out, distance)?;
     out.push_str(", import ")?;
     push_number(out, import)?;
@@ -157,17 +172,17 @@ fn push_title(out: &mut String, query: &str, distance: u64, import: u64) -> Resu
 
 /// Appends the title and the description.
 fn push_description(out: &mut String, scene: &Scene<'_>) -> Result<(), AllocError> {
-    push_title(out, scene.query, scene.distance, scene.import)?;
-    push_order(out, scene.query, &scene.updates, scene.line)?;
+    open_description(out, scene.query_name, scene.distance, scene.import)?;
+    push_order(out, scene.query_name, &scene.updates, scene.query_slot)?;
     push_reads(out, &scene.lanes)?;
     out.push_str("</desc>\n")
 }
 
-/// Appends the definition of the head of arrows.
-fn push_arrowhead(out: &mut String, query: &str) -> Result<(), AllocError> {
+/// Appends the marker of arrowheads.
+fn push_arrowhead(out: &mut String, query_name: &str) -> Result<(), AllocError> {
     write!(
         out,
-        "<defs><marker id='{query}-tip' markerWidth='8' markerHeight='8' refX='6' refY='4' orient='auto'>"
+        "<defs><marker id='{query_name}-tip' markerWidth='8' markerHeight='8' refX='6' refY='4' orient='auto'>"
     )?;
     out.push_str("<path class='k' d='M0 1L7 4L0 7'/></marker></defs>\n")
 }
@@ -179,7 +194,7 @@ pub fn push_head(out: &mut String, scene: &Scene<'_>, layout: &Layout) -> Result
     out.push('\n')?;
     push_description(out, scene)?;
     out.push_str(STYLE)?;
-    push_arrowhead(out, scene.query)?;
+    push_arrowhead(out, scene.query_name)?;
     let error_box_height = layout.error_box_height();
     if error_box_height == 0 {
         return write!(
@@ -195,19 +210,19 @@ pub fn push_head(out: &mut String, scene: &Scene<'_>, layout: &Layout) -> Result
     push_errors(out, &layout.texts.errors, width, error_box_height)
 }
 
-/// Appends a line in the box of errors, at this height above the origin. A continued line is indented.
-fn push_error(out: &mut String, line: &ErrorLine, up: u32) -> Result<(), AllocError> {
+/// Appends a line in the box of errors, with its baseline `height` pixels above the origin. A continuation line is indented.
+fn push_error(out: &mut String, line: &ErrorLine, height: u32) -> Result<(), AllocError> {
     let x = if line.is_continuation {
         MARGIN.saturating_add(16)
     } else {
         MARGIN
     };
-    write!(out, "<text class='r' x='{x}' y='-{up}'>")?;
+    write!(out, "<text class='r' x='{x}' y='-{height}'>")?;
     push_sanitized(out, &line.text)?;
     out.push_str("</text>\n")
 }
 
-/// Appends the box that lists the lines with errors, above the origin.
+/// Appends the box that lists the input lines with errors, above the origin.
 fn push_errors(
     out: &mut String,
     errors: &[ErrorLine],
@@ -221,22 +236,22 @@ fn push_errors(
         out,
         "<rect class='x' x='10' y='-{top}' width='{inner}' height='{box_height}' rx='6'/>\n"
     )?;
-    let mut up = error_box_height.saturating_sub(24);
+    let mut height = error_box_height.saturating_sub(24);
     for error in errors {
-        push_error(out, error, up)?;
-        up = up.saturating_sub(ERROR_LINE_HEIGHT);
+        push_error(out, error, height)?;
+        height = height.saturating_sub(ERROR_LINE_HEIGHT);
     }
     Ok(())
 }
 
-/// Appends lines of text of a class, the first at the height `start`.
+/// Appends lines of text in a class of the style sheet, the first with its baseline at `first_y`.
 fn push_lines(
     out: &mut String,
     class: &str,
     lines: &[String],
-    start: u32,
+    first_y: u32,
 ) -> Result<(), AllocError> {
-    let mut y = start;
+    let mut y = first_y;
     for line in lines {
         push_text(out, class, MARGIN, y, line)?;
         out.push_str("\n")?;
@@ -248,6 +263,6 @@ fn push_lines(
 /// Appends the heading, and the sentences below it.
 pub fn push_heading(out: &mut String, layout: &Layout) -> Result<(), AllocError> {
     push_lines(out, "h", &layout.texts.heading, 28)?;
-    let start = layout.heading_height().saturating_add(30);
-    push_lines(out, "q", &layout.texts.sentences, start)
+    let first_y = layout.heading_height().saturating_add(30);
+    push_lines(out, "q", &layout.texts.sentences, first_y)
 }

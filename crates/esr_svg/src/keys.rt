@@ -84,8 +84,14 @@ fn occurs(scene: &Scene<'_>, key: Key) -> bool {
             scene.lanes.iter().any(|lane| has_part(lane, key))
         }
         Key::TransientRead => have_transient_read(&scene.lanes),
-        Key::Before => scene.updates.iter().any(|update| update.slot < scene.line),
-        Key::After => scene.updates.iter().any(|update| update.slot > scene.line),
+        Key::Before => scene
+            .updates
+            .iter()
+            .any(|update| update.slot < scene.query_slot),
+        Key::After => scene
+            .updates
+            .iter()
+            .any(|update| update.slot > scene.query_slot),
         Key::Must => scene.updates.iter().any(|update| update.must),
         Key::First => !scene.arrows.is_empty(),
         Key::Nearest => !scene.lanes.is_empty(),
@@ -135,7 +141,13 @@ fn push_share(out: &mut String, x: u32, y: u32) -> Result<(), AllocError> {
 }
 
 /// Appends the sign of a key.
-fn push_sign(out: &mut String, query: &str, key: Key, x: u32, y: u32) -> Result<(), AllocError> {
+fn push_sign(
+    out: &mut String,
+    query_name: &str,
+    key: Key,
+    x: u32,
+    y: u32,
+) -> Result<(), AllocError> {
     let middle = y.saturating_sub(4);
     let right = x.saturating_add(26);
     match key {
@@ -146,7 +158,7 @@ fn push_sign(out: &mut String, query: &str, key: Key, x: u32, y: u32) -> Result<
         Key::Before => push_box(out, "b", x, y),
         Key::After => push_box(out, "a", x, y),
         Key::Must => push_box(out, "b e", x, y),
-        Key::First => push_straight(out, query, middle, x, x.saturating_add(24)),
+        Key::First => push_straight(out, query_name, middle, x, x.saturating_add(24)),
         Key::Nearest => {
             let top = y.saturating_sub(12);
             push_vertical(out, "l", x.saturating_add(13), top, y.saturating_add(2))
@@ -165,9 +177,9 @@ pub fn push_keys(out: &mut String, scene: &Scene<'_>, layout: &Layout) -> Result
             let row = place.checked_div(length).unwrap_or(0);
             let x = MARGIN.saturating_add(KEY_WIDTH.saturating_mul(column));
             let y = layout
-                .legend_top()
+                .legend_baseline()
                 .saturating_add(LEGEND_ROW_HEIGHT.saturating_mul(row));
-            push_sign(out, scene.query, *key, x, y)?;
+            push_sign(out, scene.query_name, *key, x, y)?;
             push_text(out, "q", x.saturating_add(34), y, words_of(*key))?;
             place = place.saturating_add(1);
         }

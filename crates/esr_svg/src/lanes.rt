@@ -4,7 +4,7 @@ use crate::elements::{
     close_text, open_before, open_centred, open_text, push_horizontal, push_straight, push_text,
     push_vertical,
 };
-use crate::layout::{Layout, MARGIN, TRANSIENT_READ_INDENT, TransientReadLines};
+use crate::layout::{Layout, MARGIN, TRANSIENT_READ_INDENT, TransientReadLineCount};
 use crate::parts::push_segment;
 use crate::scene::{Lane, LaneReads, SameValue, Scene, TransientRead, TransientReads};
 use crate::slots::slot_after;
@@ -162,7 +162,7 @@ fn push_lane(
             out,
             lane.name,
             segment,
-            (from, scene.line, to),
+            (from, scene.query_slot, to),
             y,
             layout,
         )?;
@@ -247,7 +247,7 @@ fn push_transient_reads(
         left.saturating_add(30),
     )?;
     let x = left.saturating_add(TRANSIENT_READ_INDENT);
-    let is_folded = layout.transient_reads == TransientReadLines::Two;
+    let is_folded = layout.transient_read_lines == TransientReadLineCount::Two;
     push_transient_read(out, transient_read, transient_reads.more, x, y, is_folded)
 }
 
@@ -308,19 +308,19 @@ fn open_at_line(
 fn push_crossing(
     out: &mut String,
     lane: &Lane<'_>,
-    line: u8,
+    query_slot: u8,
     y: u32,
     layout: &Layout,
 ) -> Result<(), AllocError> {
-    let x = layout.x(line);
-    let is_text_left_of_line = layout.is_text_left_of_line(line);
+    let x = layout.x(query_slot);
+    let is_text_left_of_line = layout.is_text_left_of_line(query_slot);
     if lane.off == 0 {
         open_at_line(out, "m g o", x, y, is_text_left_of_line)?;
         return out.push_str("as read</text>\n");
     }
     write!(out, "<circle class='c' cx='{x}' cy='{y}' r='5'/>")?;
     open_at_line(out, "m r o", x, y, is_text_left_of_line)?;
-    let has_weight_note = layout.has_space_for_weights(line);
+    let has_weight_note = layout.has_space_for_weights(query_slot);
     push_off(out, lane.off, lane.weight, has_weight_note)
 }
 
@@ -328,7 +328,7 @@ fn push_crossing(
 fn push_crossings(out: &mut String, scene: &Scene<'_>, layout: &Layout) -> Result<(), AllocError> {
     let mut number = 0u8;
     for lane in &scene.lanes {
-        push_crossing(out, lane, scene.line, layout.y(number), layout)?;
+        push_crossing(out, lane, scene.query_slot, layout.y(number), layout)?;
         number = number.saturating_add(1);
     }
     Ok(())
@@ -336,17 +336,17 @@ fn push_crossings(out: &mut String, scene: &Scene<'_>, layout: &Layout) -> Resul
 
 /// Appends the line, and the name of the query below it.
 fn push_line(out: &mut String, scene: &Scene<'_>, layout: &Layout) -> Result<(), AllocError> {
-    let x = layout.x(scene.line);
+    let x = layout.x(scene.query_slot);
     let top = layout.boxes_top().saturating_sub(6);
     let floor = layout.lanes_bottom();
-    let query = scene.query;
+    let query_name = scene.query_name;
     write!(
         out,
-        "<path class='l' d='M{x} {top}V{floor}'><title>the nearest placement of {query}</title></path>\n"
+        "<path class='l' d='M{x} {top}V{floor}'><title>the nearest placement of {query_name}</title></path>\n"
     )?;
-    let middle = layout.name_x(query, scene.line);
+    let middle = layout.name_x(query_name, scene.query_slot);
     open_centred(out, "m n", middle, floor.saturating_add(16))?;
-    close_text(out, query)?;
+    close_text(out, query_name)?;
     out.push_str("\n")
 }
 
@@ -360,7 +360,7 @@ fn push_axis(out: &mut String, scene: &Scene<'_>, layout: &Layout) -> Result<(),
     } else {
         "the start"
     };
-    push_straight(out, scene.query, y, start, end)?;
+    push_straight(out, scene.query_name, y, start, end)?;
     push_text(out, "q", MARGIN, y.saturating_add(4), "serial order")?;
     push_text(out, "q", start, y.saturating_add(18), first)?;
     if has_updates && end > start.saturating_add(280) {

@@ -9,8 +9,9 @@ use crate::widths::{
 };
 use std::alloc::{AllocError, Global};
 
-/// The maximum width of a picture. Only text that cannot be wrapped makes a picture wider.
-const MAX_WIDTH: u32 = 1100;
+/// The width that a picture should not exceed. It is exceeded if the slots of the updates, which the caller limits by
+/// [`updates_to_keep`], or a word that cannot be wrapped need more.
+const PREFERRED_MAX_WIDTH: u32 = 1100;
 
 /// The minimum width of a picture.
 const MIN_WIDTH: u32 = 480;
@@ -25,15 +26,15 @@ pub const ERROR_LINE_HEIGHT: u32 = 18;
 pub const SENTENCE_LINE_HEIGHT: u32 = 20;
 
 /// The distance from lane to lane if no lane has a transient read or a weight.
-const LANE_PITCH: u32 = 76;
+const BASE_LANE_PITCH: u32 = 76;
 
-/// What one line of text about transient reads adds to this distance.
+/// What one line of text about transient reads adds to the distance from lane to lane.
 const ONE_TRANSIENT_READ_LINE_HEIGHT: u32 = 24;
 
-/// What two lines of text about transient reads add to it.
+/// What two lines of text about transient reads add to the distance from lane to lane.
 const TWO_TRANSIENT_READ_LINES_HEIGHT: u32 = 40;
 
-/// What a line with the weight of an item adds to it.
+/// What a line with the weight of an item adds to the distance from lane to lane.
 const WEIGHT_LINE_HEIGHT: u32 = 16;
 
 /// The distance from the start of a lane to the text about its transient read.
@@ -44,7 +45,7 @@ pub const LEGEND_ROW_HEIGHT: u32 = 22;
 
 /// In how many lines the texts about transient reads are written.
 #[derive(Clone, Copy, PartialEq, Eq)]
-pub enum TransientReadLines {
+pub enum TransientReadLineCount {
     None,
     One,
     Two,
@@ -59,8 +60,8 @@ pub struct Layout {
     pub box_width: u32,
     /// The width of the text in front of a lane.
     pub label_width: u32,
-    pub transient_reads: TransientReadLines,
-    /// Whether an item has a weight.
+    pub transient_read_lines: TransientReadLineCount,
+    /// Whether the weight of some item is above 1.
     has_weights: bool,
     /// The height of the highest arrow that arches over boxes.
     max_arch_height: u32,
@@ -72,20 +73,20 @@ pub struct Layout {
     weighted_difference_width: u32,
 }
 
-/// The width of the widest text of each sort in some lanes.
+/// The maximum width of each kind of text over the lanes.
 #[derive(Clone, Copy)]
-struct Widths {
+struct MaxWidths {
     difference: u32,
     weighted_difference: u32,
-    /// Of the text about transient reads, in one line.
+    /// The width of the text about transient reads, in one line.
     transient_read: u32,
-    /// Of the same text, in two lines.
+    /// The width of the same text, in two lines.
     folded_transient_read: u32,
 }
 
-impl Widths {
-    /// Widens these to the texts of a lane.
-    fn add(&mut self, lane: &Lane<'_>) {
+impl MaxWidths {
+    /// Raises each maximum to the width of this lane's text.
+    fn include(&mut self, lane: &Lane<'_>) {
         let transient_read = transient_read_widths(&lane.transient_reads);
         self.difference = self.difference.max(difference_width(lane));
         self.weighted_difference = self
@@ -100,22 +101,22 @@ impl Widths {
     }
 }
 
-/// Returns the width of the widest text of each sort in these lanes.
-fn widths_of(lanes: &[Lane<'_>]) -> Widths {
-    let mut widths = Widths {
+/// Returns the maximum width of each kind of text over these lanes.
+fn max_widths(lanes: &[Lane<'_>]) -> MaxWidths {
+    let mut widths = MaxWidths {
         difference: 0,
         weighted_difference: 0,
         transient_read: 0,
         folded_transient_read: 0,
     };
     for lane in lanes {
-        widths.add(lane);
+        widths.include(lane);
     }
     widths.weighted_difference = widths.weighted_difference.max(widths.difference);
     widths
 }
 
-/// Returns the height of the arch of an arrow over the boxes between its ends, or 0 if there is none.
+/// Returns the height of the arch of an arrow over the boxes between its ends, or 0 if no box is between.
 pub fn arch(from: u8, to: u8) -> u32 {
     let span = to.saturating_sub(from);
     if span < 2 {
@@ -124,17 +125,17 @@ pub fn arch(from: u8, to: u8) -> u32 {
     u32::from(span).saturating_mul(8).saturating_add(10).min(90)
 }
 
-/// Returns whether an arrow leads from a box to the next one.
-pub fn is_straight(from: u8, to: u8, line: u8) -> bool {
+/// Returns whether an arrow leads from a box to the next one, possibly across the slot of the query.
+pub fn is_straight(from: u8, to: u8, query_slot: u8) -> bool {
     let span = to.saturating_sub(from);
-    span < 2 || (span == 2 && to == line.saturating_add(1))
+    span < 2 || (span == 2 && to == query_slot.saturating_add(1))
 }
 
 /// Returns the height of the highest arrow that arches over boxes.
-fn max_arch_height(arrows: &[Arrow], line: u8) -> u32 {
+fn max_arch_height(arrows: &[Arrow], query_slot: u8) -> u32 {
     let mut highest = 0u32;
     for arrow in arrows {
-        if !is_straight(arrow.from, arrow.to, line) {
+        if !is_straight(arrow.from, arrow.to, query_slot) {
             highest = highest.max(arch(arrow.from, arrow.to));
         }
     }
@@ -143,11 +144,11 @@ fn max_arch_height(arrows: &[Arrow], line: u8) -> u32 {
 
 /// Returns whether a text of this width fits to the right of `x` in the widest picture.
 fn fits_after(x: u32, width: u32) -> bool {
-    x.saturating_add(width).saturating_add(30) <= MAX_WIDTH
+    x.saturating_add(width).saturating_add(30) <= PREFERRED_MAX_WIDTH
 }
 
-/// Returns the width of the text to the right of the line at `x`, or 0 if the text is to its left.
-fn reach(x: u32, widths: Widths) -> u32 {
+/// Returns the space that the differences need to the right of the line at `x`, or 0 if they are written to its left.
+fn width_right_of_line(x: u32, widths: MaxWidths) -> u32 {
     if fits_after(x, widths.weighted_difference) {
         widths.weighted_difference
     } else if fits_after(x, widths.difference) {
@@ -157,21 +158,23 @@ fn reach(x: u32, widths: Widths) -> u32 {
     }
 }
 
-/// Returns half the width of the name of the query, which is below the line.
-fn half_name(query: &str) -> u32 {
-    width_of(query.len()) / 2
+/// Returns half the width of the name of the query, which is written below the line.
+fn half_name_width(query_name: &str) -> u32 {
+    width_of(query_name.len()) / 2
 }
 
 /// Returns the width that the lanes, the text at the line and the name of the query need. The name does not make a
-/// picture wider than [`MAX_WIDTH`]: if there is no space for half of it to the right of the line, it is shifted to the
+/// picture wider than [`PREFERRED_MAX_WIDTH`]: if there is no space for half of it to the right of the line, it is shifted to the
 /// left.
-fn needed_width(scene: &Scene<'_>, slots: &Slots, widths: Widths) -> u32 {
-    let x = slots.x(scene.line);
-    let at_line = x.saturating_add(reach(x, widths)).saturating_add(30);
+fn needed_width(scene: &Scene<'_>, slots: &Slots, widths: MaxWidths) -> u32 {
+    let x = slots.x(scene.query_slot);
+    let at_line = x
+        .saturating_add(width_right_of_line(x, widths))
+        .saturating_add(30);
     let name = x
-        .saturating_add(half_name(scene.query))
+        .saturating_add(half_name_width(scene.query_name))
         .saturating_add(30)
-        .min(MAX_WIDTH);
+        .min(PREFERRED_MAX_WIDTH);
     let transient_reads = slots
         .x(0)
         .saturating_add(TRANSIENT_READ_INDENT)
@@ -186,18 +189,22 @@ fn needed_width(scene: &Scene<'_>, slots: &Slots, widths: Widths) -> u32 {
 }
 
 /// Returns in how many lines the texts about transient reads are written in a picture of this width.
-fn transient_read_lines(slots: &Slots, widths: Widths, width: u32) -> TransientReadLines {
+fn transient_read_line_count(
+    slots: &Slots,
+    widths: MaxWidths,
+    width: u32,
+) -> TransientReadLineCount {
     let end = slots
         .x(0)
         .saturating_add(TRANSIENT_READ_INDENT)
         .saturating_add(widths.transient_read)
         .saturating_add(MARGIN);
     if widths.transient_read == 0 {
-        TransientReadLines::None
+        TransientReadLineCount::None
     } else if end <= width {
-        TransientReadLines::One
+        TransientReadLineCount::One
     } else {
-        TransientReadLines::Two
+        TransientReadLineCount::Two
     }
 }
 
@@ -205,7 +212,7 @@ impl Layout {
     /// Lays out a scene.
     pub fn of(alloc: Global, scene: &Scene<'_>) -> Result<Layout, AllocError> {
         let mut slots = Slots::of(alloc, scene)?;
-        let widths = widths_of(&scene.lanes);
+        let widths = max_widths(&scene.lanes);
         let width = needed_width(scene, &slots, widths);
         slots.extend_to(width.saturating_sub(MARGIN));
         let texts = Texts::of(alloc, scene, width)?;
@@ -213,9 +220,9 @@ impl Layout {
             width,
             box_width: box_width(&scene.updates),
             label_width: left_of(&scene.lanes).saturating_sub(40),
-            transient_reads: transient_read_lines(&slots, widths, width),
+            transient_read_lines: transient_read_line_count(&slots, widths, width),
             has_weights: scene.lanes.iter().any(|lane| lane.weight > 1),
-            max_arch_height: max_arch_height(&scene.arrows, scene.line),
+            max_arch_height: max_arch_height(&scene.arrows, scene.query_slot),
             lane_count: scene.lanes.len().min(MAX_LANES) as u8,
             legend_rows: count_rows(scene, width),
             difference_width: widths.difference,
@@ -236,11 +243,11 @@ impl Layout {
     }
 
     /// Returns the middle of the name of the query: at the line, or to its left if the name would be past the edge.
-    pub fn name_x(&self, query: &str, line: u8) -> u32 {
+    pub fn name_x(&self, query_name: &str, query_slot: u8) -> u32 {
         let last = self
             .width
-            .saturating_sub(MARGIN.saturating_add(half_name(query)));
-        self.x(line).min(last)
+            .saturating_sub(MARGIN.saturating_add(half_name_width(query_name)));
+        self.x(query_slot).min(last)
     }
 
     /// Returns the height of the heading.
@@ -263,17 +270,17 @@ impl Layout {
 
     /// Returns the distance from lane to lane.
     fn pitch(&self) -> u32 {
-        let transient_reads = match self.transient_reads {
-            TransientReadLines::None => 0,
-            TransientReadLines::One => ONE_TRANSIENT_READ_LINE_HEIGHT,
-            TransientReadLines::Two => TWO_TRANSIENT_READ_LINES_HEIGHT,
+        let transient_reads = match self.transient_read_lines {
+            TransientReadLineCount::None => 0,
+            TransientReadLineCount::One => ONE_TRANSIENT_READ_LINE_HEIGHT,
+            TransientReadLineCount::Two => TWO_TRANSIENT_READ_LINES_HEIGHT,
         };
         let weights = if self.has_weights {
             WEIGHT_LINE_HEIGHT
         } else {
             0
         };
-        LANE_PITCH
+        BASE_LANE_PITCH
             .saturating_add(transient_reads)
             .saturating_add(weights)
     }
@@ -293,14 +300,14 @@ impl Layout {
     }
 
     /// Returns whether there is space to the right of the line for the differences with their weights.
-    pub fn has_space_for_weights(&self, line: u8) -> bool {
-        fits_after(self.x(line), self.weighted_difference_width)
+    pub fn has_space_for_weights(&self, query_slot: u8) -> bool {
+        fits_after(self.x(query_slot), self.weighted_difference_width)
     }
 
     /// Returns whether the differences are written to the left of the line, because there is no space to its right even
     /// without weights.
-    pub fn is_text_left_of_line(&self, line: u8) -> bool {
-        let x = self.x(line);
+    pub fn is_text_left_of_line(&self, query_slot: u8) -> bool {
+        let x = self.x(query_slot);
         !fits_after(x, self.weighted_difference_width) && !fits_after(x, self.difference_width)
     }
 
@@ -314,7 +321,7 @@ impl Layout {
     }
 
     /// Returns the baseline of the first row of the legend.
-    pub fn legend_top(&self) -> u32 {
+    pub fn legend_baseline(&self) -> u32 {
         self.lanes_bottom()
             .saturating_add(78)
             .saturating_add(lines_height(&self.texts.others, SENTENCE_LINE_HEIGHT))
@@ -322,25 +329,26 @@ impl Layout {
 
     /// Returns the height of the picture.
     pub fn height(&self) -> u32 {
-        self.legend_top()
+        self.legend_baseline()
             .saturating_add(LEGEND_ROW_HEIGHT.saturating_mul(self.legend_rows))
     }
 }
 
-/// Returns the height of lines of text, given the distance from line to line.
-fn lines_height(lines: &[String], line: u32) -> u32 {
-    (lines.len().min(1000) as u32).saturating_mul(line)
+/// Returns the height of lines of text, given the height of one.
+fn lines_height(lines: &[String], line_height: u32) -> u32 {
+    (lines.len().min(1000) as u32).saturating_mul(line_height)
 }
 
-/// Returns how many updates fit into a picture of the maximum width, or `None` if all fit.
-pub fn fitting_updates(alloc: Global, scene: &Scene<'_>) -> Result<Option<usize>, AllocError> {
+/// Returns an estimate, from the average width, of how many updates fit into a picture of the preferred maximum width, or
+/// `None` if all fit.
+pub fn updates_to_keep(alloc: Global, scene: &Scene<'_>) -> Result<Option<usize>, AllocError> {
     let count = scene.updates.len();
     let slots = Slots::of(alloc, scene)?;
     let end = slots.end().saturating_add(MARGIN);
-    if end <= MAX_WIDTH {
+    if end <= PREFERRED_MAX_WIDTH {
         return Ok(None);
     }
-    let space = MAX_WIDTH.saturating_sub(slots.x(0).saturating_add(MARGIN)) as usize;
+    let space = PREFERRED_MAX_WIDTH.saturating_sub(slots.x(0).saturating_add(MARGIN)) as usize;
     let used = end.saturating_sub(slots.x(0)) as usize;
     let fitting = count.saturating_mul(space).checked_div(used).unwrap_or(0);
     Ok(Some(fitting.min(count.saturating_sub(1))))

@@ -20,7 +20,7 @@ mod svg;
 mod texts;
 mod widths;
 
-pub use layout::fitting_updates;
+pub use layout::updates_to_keep;
 pub use root::svg_element;
 pub use scene::{
     Arrow, Deciding, Lane, LanePart, LaneReads, LaneSegment, MAX_LANES, MAX_UPDATES, SameValue,

@@ -55,7 +55,7 @@ fn bounds_at_line(
     parts: &[LanePart],
     index: usize,
     start: u32,
-    line: u32,
+    line_x: u32,
     end: u32,
 ) -> Result<Vec<u32>, AllocError> {
     let mut places = Vec::new(alloc);
@@ -66,9 +66,9 @@ fn bounds_at_line(
     }
     // The first part, if the line crosses it, ends after the line; another one begins before it.
     let (count, middle) = if index == 0 {
-        (1, line.saturating_add(BEFORE_LINE))
+        (1, line_x.saturating_add(BEFORE_LINE))
     } else {
-        (index, line.saturating_sub(BEFORE_LINE))
+        (index, line_x.saturating_sub(BEFORE_LINE))
     };
     let (before, after) = match (parts.get(..count), parts.get(count..)) {
         (Some(before), Some(after)) => (before, after),
@@ -84,11 +84,11 @@ fn bounds_of(
     alloc: Global,
     segment: &LaneSegment,
     start: u32,
-    line: u32,
+    line_x: u32,
     end: u32,
 ) -> Result<Bounds, AllocError> {
     if let Some(index) = segment.at_line {
-        let places = bounds_at_line(alloc, &segment.parts, index, start, line, end)?;
+        let places = bounds_at_line(alloc, &segment.parts, index, start, line_x, end)?;
         return Ok(Bounds { places });
     }
     let mut places = Vec::new(alloc);
@@ -182,9 +182,9 @@ fn push_title(out: &mut String, item: &str, part: LanePart) -> Result<(), AllocE
 }
 
 /// Returns where the text of a part begins.
-fn text_start(segment: &LaneSegment, index: usize, start: u32, line: u32) -> u32 {
+fn text_start(segment: &LaneSegment, index: usize, start: u32, line_x: u32) -> u32 {
     if index > 0 && segment.at_line == Some(index) {
-        line.saturating_add(8)
+        line_x.saturating_add(8)
     } else {
         start.saturating_add(10)
     }
@@ -224,9 +224,9 @@ pub fn push_segment(
     y: u32,
     layout: &Layout,
 ) -> Result<(), AllocError> {
-    let (from, line, to) = slots;
-    let line = layout.x(line);
-    let bounds = bounds_of(alloc, segment, layout.x(from), line, layout.x(to))?;
+    let (from, query_slot, to) = slots;
+    let line_x = layout.x(query_slot);
+    let bounds = bounds_of(alloc, segment, layout.x(from), line_x, layout.x(to))?;
     let mut index = 0usize;
     for part in &segment.parts {
         let start = bounds.places.get(index).copied().unwrap_or(0);
@@ -236,7 +236,7 @@ pub fn push_segment(
             .copied()
             .unwrap_or(start);
         push_part(out, item, *part, y, start, end)?;
-        let x = text_start(segment, index, start, line);
+        let x = text_start(segment, index, start, line_x);
         let is_first = is_first_several(&segment.parts, index);
         push_part_text(out, *part, is_first, x, y.saturating_sub(13))?;
         index = index.saturating_add(1);

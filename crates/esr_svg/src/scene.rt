@@ -1,5 +1,5 @@
-//! The content of a picture as plain data: slots for the updates and the line, from left to right, and a lane for each
-//! item.
+//! The content of a picture as plain data: slots for the updates and the line of the query, from left to right, and a lane
+//! for each item.
 
 /// The maximum number of updates that are drawn.
 pub const MAX_UPDATES: usize = 30;
@@ -32,7 +32,8 @@ pub enum SameValue<'a> {
     Update(&'a str),
 }
 
-/// A value that was read and is not a version of its item.
+/// A transient read: a read of a value that is not a committed version of the item (an intermediate or aborted read in the
+/// terms of Adya).
 #[derive(Clone, Copy)]
 pub struct TransientRead<'a> {
     pub value: i64,
@@ -83,7 +84,7 @@ pub struct LaneSegment {
     pub at_line: Option<usize>,
 }
 
-/// A lane: an item that was read.
+/// The lane of an item that the query read: its versions along the serial order.
 #[derive(Drop)]
 pub struct Lane<'a> {
     pub name: &'a str,
@@ -96,7 +97,7 @@ pub struct Lane<'a> {
     pub transient_reads: TransientReads<'a>,
 }
 
-/// An update that is drawn.
+/// An update transaction that is drawn.
 #[derive(Drop)]
 pub struct Update<'a> {
     pub name: &'a str,
@@ -121,7 +122,7 @@ pub struct Deciding<'a> {
 /// The content of the picture of a query's audit.
 #[derive(Drop)]
 pub struct Scene<'a> {
-    pub query: &'a str,
+    pub query_name: &'a str,
     pub distance: u64,
     pub import: u64,
     /// The lines with errors of the script, in a box at the top.
@@ -131,8 +132,8 @@ pub struct Scene<'a> {
     pub updates: Vec<Update<'a>>,
     pub arrows: Vec<Arrow>,
     pub lanes: Vec<Lane<'a>>,
-    /// The slot of the line.
-    pub line: u8,
+    /// The slot of the line at the nearest serial placement of the query.
+    pub query_slot: u8,
     /// The number of items that were never written, of which the query read the opening value, and that have no lane.
     pub unwritten_items: usize,
     /// The numbers of updates before the query's commit that are not drawn, and of other items without a lane.

@@ -44,7 +44,7 @@ fn push_needs(
     needs: &mut Vec<Need>,
     segment: &LaneSegment,
     to: u8,
-    line: u8,
+    query_slot: u8,
 ) -> Result<(), AllocError> {
     let from = segment.from;
     match segment_widths(segment) {
@@ -52,11 +52,11 @@ fn push_needs(
         (before, Some(after)) => {
             needs.push(Need {
                 from,
-                to: line,
+                to: query_slot,
                 width: before,
             })?;
             needs.push(Need {
-                from: line,
+                from: query_slot,
                 to,
                 width: after,
             })?;
@@ -69,13 +69,13 @@ fn push_needs(
 fn push_lane_needs(
     needs: &mut Vec<Need>,
     lane: &Lane<'_>,
-    line: u8,
+    query_slot: u8,
     last: u8,
 ) -> Result<(), AllocError> {
     let mut index = 0usize;
     for segment in &lane.segments {
         let to = slot_after(&lane.segments, index, last);
-        push_needs(needs, segment, to, line)?;
+        push_needs(needs, segment, to, query_slot)?;
         index = index.saturating_add(1);
     }
     Ok(())
@@ -85,16 +85,16 @@ fn push_lane_needs(
 fn needs_of(alloc: Global, scene: &Scene<'_>) -> Result<Vec<Need>, AllocError> {
     let mut needs = Vec::new(alloc);
     for lane in &scene.lanes {
-        push_lane_needs(&mut needs, lane, scene.line, scene.last_slot())?;
+        push_lane_needs(&mut needs, lane, scene.query_slot, scene.last_slot())?;
     }
     Ok(needs)
 }
 
 /// Returns half the width of the box or the line at a slot.
-fn half_of(slot: u8, line: u8, last: u8, width: u32) -> u32 {
+fn half_of(slot: u8, query_slot: u8, last: u8, width: u32) -> u32 {
     if slot == 0 || slot == last {
         0
-    } else if slot == line {
+    } else if slot == query_slot {
         BEFORE_LINE
     } else {
         width / 2
@@ -123,9 +123,9 @@ impl Slots {
         let mut places = Vec::new(alloc);
         places.push(left_of(&scene.lanes))?;
         for slot in 1..last.saturating_add(1) {
-            let before = half_of(slot.saturating_sub(1), scene.line, last, width);
+            let before = half_of(slot.saturating_sub(1), scene.query_slot, last, width);
             let gap = before
-                .saturating_add(half_of(slot, scene.line, last, width))
+                .saturating_add(half_of(slot, scene.query_slot, last, width))
                 .saturating_add(GAP);
             places.push(place_of(&places, &needs, slot, gap))?;
         }

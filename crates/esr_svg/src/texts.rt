@@ -46,7 +46,7 @@ fn letters_in(width: u32, letter: u32) -> usize {
 
 /// Returns the lines of the heading.
 fn heading_of(alloc: Global, scene: &Scene<'_>, width: u32) -> Result<Vec<String>, AllocError> {
-    let mut words = String::from_str(alloc, scene.query)?;
+    let mut words = String::from_str(alloc, scene.query_name)?;
     words.push_str(": distance ")?;
     push_number(&mut words, scene.distance)?;
     words.push_str(", import ")?;

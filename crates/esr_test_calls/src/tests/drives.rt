@@ -1,12 +1,12 @@
-//! Blocks of a drive run concurrently.
+//! Tests that the blocks of a drive execute concurrently.
 
 use crate::tests::meeting::Meeting;
 use esr_drive::{DriveOutput, drive};
 use esr_history::Watched;
 use esr_lint::Unobserved;
 
-/// No clause states that blocks run concurrently. A drive that ran one block after another would never end: the first
-/// block waits in the gate for the second.
+/// No clause of a contract states it. A drive that executed one block after another would never end: the first block waits
+/// at the gate for the second.
 #[test]
 fn two_blocks_run_concurrently(rt: HostRuntime) {
     let gate = Meeting::new();

@@ -7,7 +7,7 @@ use Rattle.esr_core.specs.Carried.{IsCarriedOver}
 use Rattle.esr_core.specs.Renewed.{AreSerializableAsOne}
 use Rattle.esr_engine.specs.Capacity.{counts_of, taken}
 use Rattle.esr_engine.specs.Carrying.{carried_in}
-use Rattle.esr_engine.specs.declared.engine.Counts.{Counts}
+use Rattle.esr_engine.specs.declared.engine.EngineCounts.{EngineCounts}
 use Rattle.esr_c.specs.Answers.{carried_fields}
 use Rattle.esr_c.proofs.Carried.{carried_count}
 use Rattle.esr_c.proofs.carrying.renew_engine_carrying.Goals as goal
@@ -22,8 +22,8 @@ returns-in-Ok-clause-carried g c =
       room = subst (λ (k : Schedule). taken k ≤ taken h) g.in-Ok.ensures.ok g.in-Ok.ensures.room;
     }
 
-long : (h : Schedule) (k : Counts) (n : ℕ) → k ≡ counts_of h → n ≡ length (carried_in weighted h) → n ≡ k.active
-long h k n counts is = is ∙ (carried_count h ∙ sym (ap (λ (k : Counts). k.active) counts))
+long : (h : Schedule) (k : EngineCounts) (n : ℕ) → k ≡ counts_of h → n ≡ length (carried_in weighted h) → n ≡ k.active
+long h k n counts is = is ∙ (carried_count h ∙ sym (ap (λ (k : EngineCounts). k.active) counts))
 
 pub fill_carried-requires : goal.fill_carried-requires
 fill_carried-requires c =

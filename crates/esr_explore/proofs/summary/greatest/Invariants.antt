@@ -3,5 +3,5 @@ use Rattle.esr_explore.specs.Severity.{amount_of, greatest}
 use Rattle.esr_explore.proofs.summary.greatest.Given as goal
 
 -- it is the maximum over the queries so far
-abbrev pub invariant-loop-outcome : goal.invariant-loop-outcome
-invariant-loop-outcome l = l.greatest ≡ greatest (map (amount_of l.measure) (take l.outcome-index l.outcomes))
+abbrev pub invariant-loop-inconsistency : goal.invariant-loop-inconsistency
+invariant-loop-inconsistency l = l.greatest ≡ greatest (map (amount_of l.measure) (take l.inconsistency-index l.inconsistencies))

@@ -1,6 +1,6 @@
 use Rattle.std.proofs.Common.{◌∙◌, ◌++◌, ap}
 use Rattle.std.specs.List.{filter_map}
-use Rattle.esr_history.specs.declared.event.Kind.TheVariants.{Update, Query}
+use Rattle.esr_history.specs.declared.event.BeginKind.TheVariants.{Update, Query}
 use Rattle.esr_engine.specs.Carrying.{carried_entry}
 use Rattle.esr_engine.proofs.CarriedParts.{entries_are}
 use Rattle.esr_engine.proofs.engine.EmbeddedEngine.carried_entries.Goals as goal

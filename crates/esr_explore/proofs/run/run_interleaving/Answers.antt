@@ -4,7 +4,7 @@ use Rattle.std.proofs.lemmas.List.FromFn.{length-map-range_with_len}
 use Rattle.esr_plan.specs.Plan.{weights_of}
 use Rattle.esr_explore.specs.Turns.{no_progress, run_state}
 use Rattle.esr_explore.proofs.Turning.{ran, started}
-use Rattle.esr_explore.proofs.run.run_order.Goals as goal
+use Rattle.esr_explore.proofs.run.run_interleaving.Goals as goal
 
 pub take_turns-requires : goal.take_turns-requires
 take_turns-requires c =

@@ -2,7 +2,7 @@ use Rattle.std.proofs.Common.{rules, ◌≡◌, ◌∙◌, ap, map, List, [], �
 use Rattle.esr_base.specs.declared.numbers.TxnId.{TxnId}
 use Rattle.esr_audit.specs.Findings.{committed_queries, Finding}
 use Rattle.esr_audit.proofs.SummaryLaws.{all_summaries}
-use Rattle.esr_audit.proofs.audit.history_audit.Goals as goal
+use Rattle.esr_audit.proofs.audit.compute_book.Goals as goal
 
 mapped_twice : {X Y Z : Type 0} (f : Y → Z) (h : X → Y) (xs : List X) → map (λ (x : X). f (h x)) xs ≡ map f (map h xs)
 mapped_twice f h [] = refl
