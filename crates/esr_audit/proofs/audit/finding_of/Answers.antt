@@ -23,6 +23,6 @@ answer g c =
 pub returns-clause-finding : goal.returns-clause-finding
 returns-clause-finding g c = record {
   answer = answer g c;
-  shown = record { is_problem = c.in_ok-problem.ensures.is_problem; certified = c.in_ok-certificate.ensures.certifies; set_is = found g c; worth_is = refl; smallest = c.in_ok-certificate.ensures.least; no_augmentation_count = c.in_ok-certificate.ensures.no_augmentation_count };
+  shown = record { is_problem = c.in_ok-problem.ensures.is_problem; certified = c.in_ok-certificate.ensures.certifies; set_is = found g c; worth_is = refl; smallest = c.in_ok-certificate.ensures.least; without_count = c.in_ok-certificate.ensures.no_augmentation_count };
   relevant = c.in_ok-problem.ensures.relevant;
 }
