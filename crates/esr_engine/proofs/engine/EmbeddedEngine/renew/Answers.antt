@@ -1,6 +1,6 @@
 use Rattle.std.proofs.Common.{◌≡◌, ◌∙◌, ap, sym, true, false, true≢false, refl}
 use Rattle.esr_core.specs.Renewed.{has_active}
-use Rattle.esr_engine.proofs.Renewal.{has_some, has_none}
+use Rattle.esr_engine.proofs.RenewalLaws.{has_some, has_none}
 use Rattle.esr_engine.proofs.engine.EmbeddedEngine.renew.Goals as goal
 
 pub returns-then-self-gt0-clause-active : goal.returns-then-self-gt0-clause-active
