@@ -6,7 +6,7 @@ pub mod Ends
 pub mod Stepped
 pub mod Statuses
 pub mod Locking
-pub mod Renewal
+pub mod RenewalLaws
 pub mod Reports
 pub mod ActiveOperations
 pub mod CarriedParts
